@@ -1,0 +1,17 @@
+-- The place of a stream: the queue and the tag that SHA-256 gives.
+use Rattle.std.specs.Prelude.{ℕ, ◌%◌, List, ◌∷◌, ◌++◌, take, slice_index}
+use Rattle.std.specs.Int.{from_be_bytes, w64}
+use Rattle.sha2.specs.Sha256.{sha256}
+use Rattle.stream_ident.specs.declared.ident.StreamId.{StreamId}
+use Rattle.queue_mapper.specs.declared.target.Place.{Place}
+
+-- the namespace, one zero byte, the key
+abbrev pub message_of : StreamId → List ℕ
+message_of stream = stream.namespace ++ 0 ∷ stream.key
+
+-- from a digest: bytes 0 to 7, the highest first, modulo the number of queues; and byte 8
+abbrev pub place_in : List ℕ → ℕ → Place
+place_in digest queues = record { queue = from_be_bytes w64 (take 8 digest) % queues; tag = slice_index digest 8 }
+
+abbrev pub place_of : StreamId → ℕ → Place
+place_of stream queues = place_in (sha256 (message_of stream)) queues

@@ -1,0 +1,11 @@
+pub mod Reads
+pub mod Run
+pub use Rattle.stream_model.specs.Bounds
+pub use Rattle.stream_model.specs.History
+pub use Rattle.stream_model.specs.Looks
+pub use Rattle.stream_model.specs.Positions
+pub use Rattle.stream_model.specs.Publishing
+pub use Rattle.stream_model.specs.Pulling
+pub use Rattle.stream_model.specs.Step
+pub use Rattle.stream_model.specs.Turns
+pub use Rattle.stream_model.specs.Words

@@ -1,0 +1,5 @@
+pub mod NameLemmas
+pub mod NumberLemmas
+pub mod OrderLemmas
+pub mod SplitLemmas
+pub mod TokenLemmas

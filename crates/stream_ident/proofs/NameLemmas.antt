@@ -1,0 +1,68 @@
+-- Texts that have no wrong place, and rows that hold a text.
+use Rattle.std.specs.Prelude.{◌≡◌, ◌≢◌, ℕ, ◌-◌, ◌<◌, ◌≤◌, Bool, true, false, not, List, ◌++◌, length, Option, Some, None, position, take, replicate, nat_lt, cond, refl}
+use Rattle.std.specs.List.{list_all, position_or_len}
+use Rattle.std.proofs.Common.{ap, arith}
+use Rattle.std.proofs.lemmas.Bool.{not-false, le-ltb, ltb-false, ne_eqb, eqb-false}
+use Rattle.std.proofs.lemmas.List.{take_all, take_at, length-append, length-replicate}
+use Rattle.std.proofs.lemmas.List.Sums.{list_all-from_AllPass, fails_before_first}
+use Rattle.stream_ident.specs.Text.{or_else, wrong_place, IsPadded}
+use Rattle.stream_ident.specs.Alphabet.{is_name_byte, IsName, wrong_in_name, is_payload_byte, IsPayload, wrong_in_payload}
+
+or_else-None : {A : Type 0} (o : Option A) → or_else o None ≡ o
+or_else-None None = refl
+or_else-None (Some x) = refl
+
+none_parts : {A : Type 0} (o other : Option A) → or_else o other ≡ None → (o ≡ None) × (other ≡ None)
+none_parts None other e = (refl, e)
+none_parts (Some x) other e = cc
+
+cond_none : {A : Type 0} (b : Bool) (x : A) (other : Option A) → cond b (Some x) other ≡ None → (b ≡ false) × (other ≡ None)
+cond_none true x other e = cc
+cond_none false x other e = (refl, e)
+
+-- where no place is wrong each byte is good
+pub good_from_position : (good : ℕ → Bool) (bytes : List ℕ) → position (λ byte. not (good byte)) bytes ≡ None → list_all good bytes ≡ true
+good_from_position good bytes none =
+    let whole : length bytes ≤ position_or_len (λ byte. not (good byte)) bytes = ltb-false _ _ (cond_none _ _ _ none).0 in
+    list_all-from_AllPass good bytes (λ k d h. not-false _ (fails_before_first (λ byte. not (good byte)) bytes k d (omega arith)))
+
+-- of a text that is short enough the front is the whole
+pub wrong_place-short : (good : ℕ → Bool) (most : ℕ) (bytes : List ℕ) → length bytes ≤ most → wrong_place good most bytes ≡ position (λ byte. not (good byte)) bytes
+wrong_place-short good most bytes short =
+    rw (take_all most bytes short, le-ltb most (length bytes) short, or_else-None) refl
+
+pub wrong_in_name-short : (bytes : List ℕ) → 0 < length bytes → length bytes ≤ 64 → wrong_in_name bytes ≡ position (λ byte. not (is_name_byte byte)) bytes
+wrong_in_name-short bytes some short =
+    rw (ne_eqb (length bytes) 0 (λ e. omega arith)) (wrong_place-short is_name_byte 64 bytes short)
+
+-- a text with no wrong place is short enough, and each of its bytes is good
+pub right_everywhere : (good : ℕ → Bool) (most : ℕ) (bytes : List ℕ) → wrong_place good most bytes ≡ None → (length bytes ≤ most) × (list_all good bytes ≡ true)
+right_everywhere good most bytes none =
+    let parts = none_parts (position (λ byte. not (good byte)) (take most bytes)) (cond (nat_lt most (length bytes)) (Some most) None) none in
+    let short : length bytes ≤ most = ltb-false _ _ (cond_none _ _ _ parts.1).0 in
+    let nowhere = rw (take_all most bytes short) at parts.0 in
+    (short, good_from_position good bytes nowhere)
+
+pub IsName-from_right : (bytes : List ℕ) → wrong_in_name bytes ≡ None → IsName bytes
+IsName-from_right bytes none =
+    let tests = cond_none _ _ _ none in
+    let some : length bytes ≢ 0 = eqb-false _ _ tests.0 in
+    let parts = right_everywhere is_name_byte 64 bytes tests.1 in
+    record { some = omega arith; short = parts.0; good = parts.1 }
+
+pub IsPayload-from_right : (bytes : List ℕ) → wrong_in_payload bytes ≡ None → IsPayload bytes
+IsPayload-from_right bytes none =
+    let parts = right_everywhere is_payload_byte 256 bytes none in
+    record { short = parts.0; good = parts.1 }
+
+-- a row that is a text with zeros behind it holds the text
+pub IsPadded-from_row : (room : ℕ) (text row : List ℕ) → length text ≤ room → row ≡ text ++ replicate (room - length text) 0 → IsPadded room (length text) row × (take (length text) row ≡ text)
+IsPadded-from_row room text row fits e =
+    let front : take (length text) row ≡ text = rw e (take_at text _ (length text) refl) in (
+      record {
+        fits = fits;
+        whole = omega (arith, ap length e, length-append text (replicate (room - length text) 0), length-replicate {A = ℕ});
+        filled = rw front e;
+      },
+      front,
+    )

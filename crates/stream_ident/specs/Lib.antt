@@ -1,0 +1,6 @@
+pub mod Alphabet
+pub mod Name
+pub mod Number
+pub mod SubName
+pub mod Text
+pub mod Token

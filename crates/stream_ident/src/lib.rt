@@ -1,0 +1,26 @@
+//! The identities and values that the parts of a streaming cluster exchange: names, streams, grains,
+//! subscriptions, sequence tokens, payloads, batches and events.
+//!
+//! Each is a small value. A name, an id, a token, a payload and an event are `Copy` and take no memory.
+#![tactic(auto)]
+
+mod batch;
+mod event;
+mod ident;
+mod name;
+mod number;
+mod padded;
+mod payload;
+#[cfg(test)]
+mod tests;
+mod text;
+mod token;
+
+pub use batch::Batch;
+pub use event::Event;
+pub use ident::{BadName, GrainId, StreamId, SubName};
+pub use name::{Name, WrongByte};
+pub use number::parse_number;
+pub use payload::{BadPayload, Payload};
+pub use text::split_once;
+pub use token::{BadToken, Token};

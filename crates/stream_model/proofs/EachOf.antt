@@ -1,0 +1,16 @@
+-- What holds of each element of a list.
+use Rattle.std.proofs.Common.{List, [], ◌∷◌, ◌++◌}
+use Rattle.std.specs.List.{AllByRecursion, flat_map}
+
+-- a weaker fact
+pub All-weaken : {X : Type 0} (P Q : X → Type 0) → ((x : X) → P x → Q x) → (xs : List X) → AllByRecursion P xs → AllByRecursion Q xs
+All-weaken P Q weaker [] all = tt
+All-weaken P Q weaker (x ∷ xs) all = (weaker x all.0, All-weaken P Q weaker xs all.1)
+
+pub All-append : {X : Type 0} (Q : X → Type 0) (xs ys : List X) → AllByRecursion Q xs → AllByRecursion Q ys → AllByRecursion Q (xs ++ ys)
+All-append Q [] ys first second = second
+All-append Q (x ∷ xs) ys first second = (first.0, All-append Q xs ys first.1 second)
+
+pub All-flat_map : {X Y : Type 0} (Q : Y → Type 0) (made : X → List Y) → ((x : X) → AllByRecursion Q (made x)) → (xs : List X) → AllByRecursion Q (flat_map made xs)
+All-flat_map Q made each [] = tt
+All-flat_map Q made each (x ∷ xs) = All-append Q (made x) (flat_map made xs) (each x) (All-flat_map Q made each xs)

@@ -1,0 +1,100 @@
+-- The last of rising positions, and the front of a mailbox that a turn takes.
+use Rattle.std.proofs.Common.{◌≡◌, ℕ, zero, suc, ◌+◌, ◌-◌, ◌<◌, ◌≤◌, true, false, ◌&&◌, List, [], ◌∷◌, ◌++◌, length, get_or, drop, take, Some, refl, sym, ap, ◌∙◌, nat_le, nat_lt, arith, append-nil, append_assoc}
+use Rattle.std.proofs.lemmas.Bool.{and_from, le-leb, eq-eqb}
+use Rattle.std.proofs.lemmas.Bool.Decides.{nat_tests}
+use Rattle.std.proofs.lemmas.List.{drop_more, length_push, drop_all, take_rest}
+use Rattle.std.specs.Cmp.Lexicographic.{nat_list_eq_equiv}
+use Rattle.std.specs.List.{slice_get}
+use Rattle.stream_ident.specs.declared.ident.StreamId.{StreamId}
+use Rattle.stream_ident.specs.declared.ident.SubName.{SubName}
+use Rattle.stream_ident.specs.declared.ident.SubName.TheVariants.{Explicit, Implicit}
+use Rattle.stream_ident.specs.Name.{same_name, same_stream}
+use Rattle.stream_ident.specs.SubName.{same_sub}
+use Rattle.stream_model.specs.declared.plain.Delivery.{Delivery}
+use Rattle.stream_model.specs.Turns.{front_of}
+use Rattle.stream_model.specs.Words.{past, past_from}
+
+past_from-last : (n : ℕ) (xs : List ℕ) (k last : ℕ) → slice_get xs k ≡ Some last → suc k ≡ length xs → past_from n xs ≡ suc last
+past_from-last n [] k last e len = absurd (omega arith)
+past_from-last n (x ∷ []) zero last e len = let same : x ≡ last = cc in ap suc same
+past_from-last n (x ∷ y ∷ xs) zero last e len = absurd (omega arith)
+past_from-last n (x ∷ xs) (suc k) last e len = past_from-last (suc x) xs k last e (omega arith)
+
+-- one past rising positions is one past the last
+pub past-last : (xs : List ℕ) (last : ℕ) → 0 < length xs → slice_get xs (length xs - 1) ≡ Some last → past xs ≡ suc last
+past-last xs last some e = past_from-last 0 xs (length xs - 1) last e (omega arith)
+
+-- a position is below it where it isn't past the last
+pub leb-suc : (a b : ℕ) → nat_le a b ≡ nat_lt a (suc b)
+leb-suc a b = grind (arith, nat_tests)
+
+-- with no delivery left the front ends
+pub front_of-nil : (n : ℕ) (s : SubName) (from : ℕ) → front_of n s from [] ≡ []
+front_of-nil zero s from = refl
+front_of-nil (suc n) s from = refl
+
+-- each name is the same as itself
+pub same_name-refl : (a : List ℕ) → same_name a a ≡ true
+same_name-refl a = nat_list_eq_equiv.refl a
+
+pub same_stream-refl : (a : StreamId) → same_stream a a ≡ true
+same_stream-refl a = and_from _ _ (same_name-refl a.namespace) (same_name-refl a.key)
+
+pub same_sub-refl : (s : SubName) → same_sub s s ≡ true
+same_sub-refl (Explicit n) = eq-eqb n n refl
+same_sub-refl (Implicit kind stream) = and_from _ _ (same_name-refl kind) (same_stream-refl stream)
+
+-- the front of deliveries whose first goes on, and of those whose first doesn't
+front_of-cons : (n : ℕ) (s : SubName) (from : ℕ) (d : Delivery) (ds : List Delivery) → (same_sub s d.sub && nat_le from d.position) ≡ true → front_of (suc n) s from (d ∷ ds) ≡ d.position ∷ front_of n s (suc d.position) ds
+front_of-cons n s from d ds passes = rw passes refl
+
+front_of-cut : (n : ℕ) (s : SubName) (from : ℕ) (d : Delivery) (ds : List Delivery) → (same_sub s d.sub && nat_le from d.position) ≡ false → front_of n s from (d ∷ ds) ≡ []
+front_of-cut zero s from d ds fails = refl
+front_of-cut (suc n) s from d ds fails = rw fails refl
+
+drop-read : (ds : List Delivery) (i : ℕ) (d : Delivery) → i < length ds → d ≡ get_or ds i d → drop i ds ≡ d ∷ drop (i + 1) ds
+drop-read ds i d within read = drop_more ds i d within ∙ ap (λ x. x ∷ drop (i + 1) ds) (sym read)
+
+-- the front of deliveries that begin with its first
+pub front_of-start : (most : ℕ) (d : Delivery) (ds : List Delivery) (done : List ℕ) → 1 ≤ most → ds ≡ d ∷ drop 1 ds → done ≡ d.position ∷ [] → done ++ front_of (most - length done) d.sub (suc d.position) (take (length ds - 1) (drop 1 ds)) ≡ front_of most d.sub d.position ds
+front_of-start most d ds done some first is_first =
+    let n : ℕ = most - 1 in
+    let most_is : most ≡ suc n = omega arith in
+    let left : most - length done ≡ n = ap (λ xs. most - length xs) is_first in
+    let passes = and_from _ _ (same_sub-refl d.sub) (le-leb d.position d.position (omega arith)) in
+    ap (λ xs. xs ++ front_of (most - length done) d.sub (suc d.position) (take (length ds - 1) (drop 1 ds))) is_first
+    ∙ (ap (λ m. d.position ∷ front_of m d.sub (suc d.position) (take (length ds - 1) (drop 1 ds))) left
+    ∙ (ap (λ rest. d.position ∷ front_of n d.sub (suc d.position) rest) (take_rest ds 1)
+    ∙ (sym (front_of-cons n d.sub d.position d (drop 1 ds) passes)
+    ∙ (ap (λ m. front_of m d.sub d.position (d ∷ drop 1 ds)) (sym most_is)
+    ∙ ap (front_of most d.sub d.position) (sym first)))))
+
+-- one more delivery
+pub front_of-more : (done : List ℕ) (most : ℕ) (s : SubName) (from : ℕ) (ds : List Delivery) (i : ℕ) (d : Delivery) → i < length ds → d ≡ get_or ds i d → length done < most → (same_sub s d.sub && nat_le from d.position) ≡ true → (done ++ d.position ∷ []) ++ front_of (most - length (done ++ d.position ∷ [])) s (suc d.position) (drop (i + 1) ds) ≡ done ++ front_of (most - length done) s from (drop i ds)
+front_of-more done most s from ds i d within read room passes =
+    let n : ℕ = most - suc (length done) in
+    let left : most - length (done ++ d.position ∷ []) ≡ n = omega (arith, length_push done d.position) in
+    let left' : most - length done ≡ suc n = omega arith in
+    append_assoc done (d.position ∷ []) (front_of (most - length (done ++ d.position ∷ [])) s (suc d.position) (drop (i + 1) ds))
+    ∙ ap (λ xs. done ++ xs) (
+    ap (λ m. d.position ∷ front_of m s (suc d.position) (drop (i + 1) ds)) left
+    ∙ (sym (front_of-cons n s from d (drop (i + 1) ds) passes)
+    ∙ (ap (λ m. front_of m s from (d ∷ drop (i + 1) ds)) (sym left')
+    ∙ ap (front_of (most - length done) s from) (sym (drop-read ds i d within read)))))
+
+-- what is done is the front: all that it may have
+pub front_of-full : (done : List ℕ) (most : ℕ) (s : SubName) (from : ℕ) (ds : List Delivery) → length done ≡ most → done ++ front_of (most - length done) s from ds ≡ done
+front_of-full done most s from ds full =
+    let left : most - length done ≡ 0 = omega arith in
+    ap (λ m. done ++ front_of m s from ds) left ∙ append-nil done
+
+-- or all that there is
+pub front_of-end : (done : List ℕ) (n : ℕ) (s : SubName) (from : ℕ) (ds : List Delivery) (i : ℕ) → length ds ≤ i → done ++ front_of n s from (drop i ds) ≡ done
+front_of-end done n s from ds i past =
+    ap (λ rest. done ++ front_of n s from rest) (drop_all i ds past) ∙ (ap (λ xs. done ++ xs) (front_of-nil n s from) ∙ append-nil done)
+
+-- or the next isn't of the turn
+pub front_of-stop : (done : List ℕ) (n : ℕ) (s : SubName) (from : ℕ) (ds : List Delivery) (i : ℕ) (d : Delivery) → i < length ds → d ≡ get_or ds i d → (same_sub s d.sub && nat_le from d.position) ≡ false → done ++ front_of n s from (drop i ds) ≡ done
+front_of-stop done n s from ds i d within read fails =
+    ap (λ rest. done ++ front_of n s from rest) (drop-read ds i d within read)
+    ∙ (ap (λ xs. done ++ xs) (front_of-cut n s from d (drop (i + 1) ds) fails) ∙ append-nil done)

@@ -1,0 +1,91 @@
+-- Begin and Commit keep the limits.
+use Rattle.std.proofs.Common.{◌≡◌, ℕ, zero, suc, ◌<◌, ◌==◌, ◌&&◌, false, not, nat_le, nat_lt, List, [], ◌∷◌, ◌++◌, length, drop, Option, Some, None, is_some, refl, subst, arith}
+use Rattle.std.proofs.lemmas.Bool.{cond_both, leb-false}
+use Rattle.std.specs.List.{AllByRecursion}
+use Rattle.stream_ident.specs.declared.ident.GrainId.{GrainId}
+use Rattle.stream_ident.specs.declared.ident.SubName.{SubName}
+use Rattle.stream_ident.specs.SubName.{same_sub}
+use Rattle.stream_model.specs.declared.plain.Delivery.{Delivery}
+use Rattle.stream_model.specs.declared.plain.Grain.{Grain}
+use Rattle.stream_model.specs.declared.plain.PlainPartition.{PlainPartition}
+use Rattle.stream_model.specs.declared.plain.RunningTurn.{RunningTurn}
+use Rattle.stream_model.specs.declared.plain.Subscription.{Subscription}
+use Rattle.stream_model.specs.declared.reply.Reply.{Reply}
+use Rattle.stream_model.specs.Bounds.{AreIn, IsWithinLimits, running_positions}
+use Rattle.stream_model.specs.Positions.{grain_at, is_spent, sub_at}
+use Rattle.stream_model.specs.Turns.{begin, begin_for, begin_front, begin_in, begin_turn, commit, commit_for, commit_running, ended, front_of, turn_size}
+use Rattle.stream_model.specs.Words.{past}
+use Rattle.stream_model.proofs.EachOf.{All-append}
+use Rattle.stream_model.proofs.RecordBounds.{GrainFits, grain-fits, grain-set, handled-in, sub-set}
+
+abbrev Kept : PlainPartition × Reply → Type 0
+Kept out = IsWithinLimits out.0
+
+-- the deliveries behind some
+All-drop : {X : Type 0} (Q : X → Type 0) (n : ℕ) (xs : List X) → AllByRecursion Q xs → AllByRecursion Q (drop n xs)
+All-drop Q zero xs all = all
+All-drop Q (suc n) [] all = tt
+All-drop Q (suc n) (x ∷ xs) all = All-drop Q n xs all.1
+
+-- the front's positions are those of the deliveries
+All-front : (m n : ℕ) (s : SubName) (from : ℕ) (deliveries : List Delivery) → AllByRecursion (λ (d : Delivery). d.position < m) deliveries → AllByRecursion (λ position. position < m) (front_of n s from deliveries)
+All-front m zero s from deliveries all = tt
+All-front m (suc n) s from [] all = tt
+All-front m (suc n) s from (d ∷ deliveries) all =
+    cond_both (same_sub s d.sub && nat_le from d.position) _ _ (AllByRecursion (λ position. position < m)) (λ _. (all.0, All-front m n s (suc d.position) deliveries all.1)) (λ _. tt)
+
+bounds-begin_turn : (p : PlainPartition) (g : GrainId) (st : Grain) (s : SubName) (note : ℕ) (positions : List ℕ) → IsWithinLimits p → GrainFits p.log p.rises st → AreIn p.log positions → is_spent p ≡ false → IsWithinLimits (begin_turn p g st s note positions).0
+unfolding begin_turn
+bounds-begin_turn p g st s note positions within fits are_in left =
+    let room = leb-false p.limits.rises p.rises left in
+    grain-set p g (record st { mailbox = drop (length positions) st.mailbox; running = Some (record { sub = s; turn = suc p.turns; positions = positions }) }) (suc p.rises) (suc p.turns) within
+    (omega arith) (omega arith) (omega (arith, within.turns))
+    (omega (arith, fits.0), All-drop (λ (d : Delivery). d.position < length p.log) (length positions) st.mailbox fits.1, are_in)
+
+bounds-begin_for : (p : PlainPartition) (g : GrainId) (n : ℕ) (st : Grain) (d : Delivery) (deliveries : List Delivery) (found : Option Subscription) → IsWithinLimits p → GrainFits p.log p.rises st → AllByRecursion (λ (d : Delivery). d.position < length p.log) deliveries → IsWithinLimits (begin_for p g n st d deliveries found).0
+unfolding begin_for
+bounds-begin_for p g n st d deliveries None within fits rest = within
+bounds-begin_for p g n st d deliveries (Some r) within fits rest =
+    cond_both (nat_lt d.position (past r.handled)) _ _ Kept
+    (λ _. grain-set p g (record st { mailbox = deliveries }) p.rises p.turns within (omega arith) within.rises within.turns (fits.0, rest, fits.2))
+    (λ _. cond_both (is_spent p) _ _ Kept (λ _. within)
+    (λ left. bounds-begin_turn p g st d.sub r.note (front_of n d.sub d.position st.mailbox) within fits (All-front (length p.log) n d.sub d.position st.mailbox fits.1) left))
+
+bounds-begin_front : (p : PlainPartition) (g : GrainId) (n : ℕ) (st : Grain) (mailbox : List Delivery) → IsWithinLimits p → GrainFits p.log p.rises st → AllByRecursion (λ (d : Delivery). d.position < length p.log) mailbox → IsWithinLimits (begin_front p g n st mailbox).0
+unfolding begin_front
+bounds-begin_front p g n st [] within fits all = within
+bounds-begin_front p g n st (d ∷ deliveries) within fits all = bounds-begin_for p g n st d deliveries (sub_at p d.sub) within fits all.1
+
+pub bounds-begin : (p : PlainPartition) (g : GrainId) (max_events : ℕ) → IsWithinLimits p → IsWithinLimits (begin p g max_events).0
+unfolding begin begin_in
+bounds-begin p g max_events within =
+    let st = grain_at p g in
+    let fits = grain-fits p g within in
+    cond_both (is_some st.running) _ _ Kept (λ _. within)
+    (λ _. cond_both (not st.active) _ _ Kept (λ _. within) (λ _. bounds-begin_front p g (turn_size max_events) st st.mailbox within fits fits.1))
+
+bounds-ended : (p : PlainPartition) (g : GrainId) (st : Grain) → IsWithinLimits p → GrainFits p.log p.rises st → IsWithinLimits (ended p g st)
+bounds-ended p g st within fits = grain-set p g (record st { running = None }) p.rises p.turns within (omega arith) within.rises within.turns (fits.0, fits.1, tt)
+
+bounds-commit_for : (p : PlainPartition) (g : GrainId) (st : Grain) (run : RunningTurn) (note : ℕ) (found : Option Subscription) → IsWithinLimits p → GrainFits p.log p.rises st → AreIn p.log run.positions → sub_at p run.sub ≡ found → IsWithinLimits (commit_for p g st run note found).0
+unfolding commit_for
+bounds-commit_for p g st run note None within fits are_in is_found = within
+bounds-commit_for p g st run note (Some r) within fits are_in is_found =
+    let after = bounds-ended p g st within fits in
+    cond_both (not r.is_open) _ _ Kept (λ _. after)
+    (λ _. sub-set (ended p g st) run.sub r (record r { handled = r.handled ++ run.positions; note = note }) after is_found
+    (All-append (λ position. position < length p.log) r.handled run.positions (handled-in p run.sub r within is_found) are_in))
+
+bounds-commit_running : (p : PlainPartition) (g : GrainId) (st : Grain) (activation turn note : ℕ) (running : Option RunningTurn) → IsWithinLimits p → GrainFits p.log p.rises st → st.running ≡ running → IsWithinLimits (commit_running p g st activation turn note running).0
+unfolding commit_running
+bounds-commit_running p g st activation turn note None within fits is_running = within
+bounds-commit_running p g st activation turn note (Some run) within fits is_running =
+    let Runs : Option RunningTurn → Type 0 = λ o. AreIn p.log (running_positions o) in
+    cond_both ((activation == st.activation) && (turn == run.turn)) _ _ Kept
+    (λ _. bounds-commit_for p g st run note (sub_at p run.sub) within fits (subst Runs is_running fits.2) refl)
+    (λ _. within)
+
+pub bounds-commit : (p : PlainPartition) (g : GrainId) (activation turn note : ℕ) → IsWithinLimits p → IsWithinLimits (commit p g activation turn note).0
+unfolding commit
+bounds-commit p g activation turn note within =
+    bounds-commit_running p g (grain_at p g) activation turn note (grain_at p g).running within (grain-fits p g within) refl

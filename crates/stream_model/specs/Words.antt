@@ -1,0 +1,62 @@
+-- Words on lists that the definitions are written in.
+use Rattle.std.specs.Prelude.{ℕ, suc, Bool, List, [], ◌∷◌, Option, Some, None, map, filter, min, if◌then◌else◌}
+use Rattle.std.specs.Map.{lookup}
+
+-- the first where it is there, else the second
+abbrev pub or_else : {A : Type 0} → Option A → Option A → Option A
+or_else None other = other
+or_else (Some x) other = Some x
+
+-- the least place of an element that passes, in a list whose first element has place n
+abbrev pub first_at : {A : Type 0} → (A → Bool) → ℕ → List A → Option ℕ
+first_at passes n [] = None
+first_at passes n (x ∷ xs) = if passes x then Some n else first_at passes (suc n) xs
+
+-- one past the last of rising positions, or n where there is none
+abbrev pub past_from : ℕ → List ℕ → ℕ
+past_from n [] = n
+past_from n (position ∷ positions) = past_from (suc position) positions
+
+abbrev pub past : List ℕ → ℕ
+past positions = past_from 0 positions
+
+-- the least of these numbers and n
+abbrev pub least_with : ℕ → List ℕ → ℕ
+least_with n [] = n
+least_with n (x ∷ xs) = min x (least_with n xs)
+
+-- the least in an order
+abbrev pub lesser : {A : Type 0} → (A → A → Bool) → A → Option A → A
+lesser lt a None = a
+lesser lt a (Some b) = if lt b a then b else a
+
+abbrev pub least : {A : Type 0} → (A → A → Bool) → List A → Option A
+least lt [] = None
+least lt (x ∷ xs) = Some (lesser lt x (least lt xs))
+
+-- the elements that are greater than the given one, all where none is given
+abbrev pub above : {A : Type 0} → (A → A → Bool) → Option A → List A → List A
+above lt None xs = xs
+above lt (Some a) xs = filter (λ x. lt a x) xs
+
+-- the least that is greater than the given one, else the least of all
+abbrev pub next_after : {A : Type 0} → (A → A → Bool) → Option A → List A → Option A
+next_after lt after xs = or_else (least lt (above lt after xs)) (least lt xs)
+
+-- in a list of keys with their values: the value at a key
+abbrev pub value_at : {K V : Type 0} → (K → K → Bool) → K → List (K × V) → Option V
+value_at same key entries = lookup (same key) entries
+
+-- the value at a key set, in the place of the old one or else at the end
+abbrev pub with_value : {K V : Type 0} → (K → K → Bool) → K → V → List (K × V) → List (K × V)
+with_value same key value [] = (key, value) ∷ []
+with_value same key value (entry ∷ entries) =
+    if same key entry.0 then (entry.0, value) ∷ entries else entry ∷ with_value same key value entries
+
+-- each value changed
+abbrev pub each_value : {K V : Type 0} → (V → V) → List (K × V) → List (K × V)
+each_value change entries = map (λ entry. (entry.0, change entry.1)) entries
+
+-- the keys whose values pass
+abbrev pub keys_where : {K V : Type 0} → (V → Bool) → List (K × V) → List K
+keys_where passes entries = map (λ entry. entry.0) (filter (λ entry. passes entry.1) entries)

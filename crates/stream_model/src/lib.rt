@@ -1,0 +1,22 @@
+//! What a partition of a streaming cluster is: its operations and replies, the definitions that say what
+//! each operation does and what a history of them means, and a plain program that computes the
+//! definitions.
+//!
+//! The definitions stand in `specs/`, and everything above is measured by them. `reference` is slow and
+//! simple on purpose: it keeps one log, positions in it and lists of records.
+#![tactic(auto)]
+
+mod limits;
+mod op;
+mod plain;
+pub mod reference;
+mod reply;
+mod row;
+mod sequence;
+
+pub use limits::Limits;
+pub use op::{Op, Start};
+pub use plain::{Delivery, Grain, PlainPartition, Rule, RunningTurn, Subscription};
+pub use reply::{Events, Pending, Reply};
+pub use row::Row;
+pub use sequence::Sequence;

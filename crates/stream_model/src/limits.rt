@@ -1,0 +1,24 @@
+//! Limits of a partition.
+
+/// How much a partition holds at most. Each limit has a named refusal, which changes nothing.
+#[derive(Clone, Copy, Debug, PartialEq, Eq)]
+pub struct Limits {
+    /// Events in the log: up to 1,000,000.
+    pub events: usize,
+    /// Records of subscriptions, closed and implicit ones included: up to 10,000.
+    pub subs: usize,
+    /// Rules of implicit subscriptions: up to 64.
+    pub rules: usize,
+    /// Rises, which are turns handed out, activations and moves: up to 4,000,000.
+    pub rises: u64,
+}
+
+impl Limits {
+    /// The greatest limits.
+    pub const GREATEST: Limits = Limits {
+        events: 1_000_000,
+        subs: 10_000,
+        rules: 64,
+        rises: 4_000_000,
+    };
+}

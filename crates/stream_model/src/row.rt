@@ -1,0 +1,75 @@
+//! Short rows that take no memory.
+ghost use Rattle.std.specs.Prelude.{◌≡◌, ◌<◌, ◌≤◌, [], ◌∷◌, ◌++◌, length};
+
+use std::marker::Model;
+
+/// The places of a row.
+const PLACES: usize = 16;
+
+/// 1 to 16 values, in order, in a fixed row of sixteen places, so that a turn takes no memory.
+///
+/// A contract sees it as the list of its values.
+#[derive(Debug, Drop)]
+pub struct Row<T: Copy> {
+    len: usize,
+    places: [T; PLACES],
+}
+
+impl<T: Copy> Model for Row<T> {
+    ghost use Rattle.std.specs.Prelude.{◌≡◌, ◌≤◌, ◌<◌, List, length, take};
+
+    ghost Value = { List T };
+
+    ghost view = { λ r. take r.len r.places };
+
+    ghost invariant = { λ r. (0 < r.len) × (r.len ≤ 16) × (length r.places ≡ 16) };
+}
+
+impl<T: Copy> Row<T> {
+    /// The row of one value.
+    pub fn of(value: T) -> Row<T>
+        ensures { result ≡ value ∷ [] }
+    {
+        Row {
+            len: 1,
+            places: [value; PLACES],
+        }
+    }
+
+    /// How many values there are, 1 to 16.
+    pub fn len(&self) -> usize
+        ensures count { result ≡ length self.now }
+        ensures some { 0 < result }
+        ensures bound { result ≤ 16 }
+    {
+        self.len
+    }
+
+    /// Adds a value at the end.
+    pub fn push(&mut self, value: T)
+        requires { length self.old < 16 }
+        ensures { self.new ≡ self.old ++ value ∷ [] }
+    {
+        self.places[self.len] = value;
+        self.len += 1;
+    }
+
+    /// The values, in order.
+    pub fn as_slice(&self) -> &[T]
+        ensures values { result.now ≡ self.now }
+        ensures some { 0 < length self.now }
+        ensures bound { length self.now ≤ 16 }
+    {
+        &self.places[..self.len]
+    }
+
+    /// An equal row. It takes no memory.
+    pub fn copy(&self) -> Row<T>
+        ensures { result ≡ self.now }
+    {
+        Row {
+            len: self.len,
+            places: self.places,
+        }
+    }
+}

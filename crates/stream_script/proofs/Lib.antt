@@ -1,0 +1,13 @@
+pub mod AgainLemmas
+pub mod CutLemmas
+pub mod FieldLemmas
+pub mod FoundLemmas
+pub mod Known
+pub mod LineLemmas
+pub mod PieceLemmas
+pub mod ReadLemmas
+pub mod Running
+pub mod SimulatorLemmas
+pub mod Texts
+pub mod Whole
+pub mod WithinLemmas

@@ -1,0 +1,12 @@
+pub mod Fields
+pub mod Grammar
+pub mod Lexer
+pub mod Lines
+pub mod Pieces
+pub mod Reading
+pub mod Replies
+pub mod Simulation
+pub mod Spelling
+pub mod Transfers
+pub mod Writing
+pub use Rattle.stream_model.specs.Bounds

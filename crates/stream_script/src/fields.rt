@@ -1,0 +1,116 @@
+//! The fields of a command.
+ghost use Rattle.std.specs.Prelude.{◌≡◌, ◌^◌};
+ghost use Rattle.stream_script.specs.Fields.{number_field, queue_field, stream_field, grain_field, token_field, payload_field, explicit_field, implicit_field, name_field, sub_field};
+
+use crate::command::FaultKind;
+use stream_ident::{GrainId, Name, Payload, StreamId, SubName, Token, parse_number, split_once};
+
+/// A number in decimal, below 2^64.
+#[tactic(auto, unfolding(crate::specs::Fields::number_field))]
+pub(crate) fn number(bytes: &[u8]) -> Result<u64, FaultKind>
+    ensures { result ≡ number_field (2 ^ 64) bytes.now }
+{
+    parse_number(bytes).ok_or(FaultKind::BadNumber)
+}
+
+/// A number in decimal, below 2^32.
+#[tactic(auto, unfolding(crate::specs::Fields::number_field))]
+pub(crate) fn short_number(bytes: &[u8]) -> Result<u32, FaultKind>
+    ensures { result ≡ number_field (2 ^ 32) bytes.now }
+{
+    let number = parse_number(bytes).ok_or(FaultKind::BadNumber)?;
+    u32::try_from(number).map_err(|_| FaultKind::BadNumber)
+}
+
+/// The number of a queue.
+#[tactic(auto, unfolding(crate::specs::Fields::queue_field))]
+pub(crate) fn queue(bytes: &[u8], queues: usize) -> Result<usize, FaultKind>
+    ensures { result ≡ queue_field queues bytes.now }
+{
+    let queue = short_number(bytes)? as usize;
+    if queue >= queues {
+        return Err(FaultKind::NoQueue);
+    }
+    Ok(queue)
+}
+
+/// A stream, `NS/KEY`.
+#[tactic(auto, unfolding(crate::specs::Fields::stream_field))]
+pub(crate) fn stream(bytes: &[u8]) -> Result<StreamId, FaultKind>
+    ensures { result ≡ stream_field bytes.now }
+{
+    let (namespace, key) = split_once(bytes, b'/').ok_or(FaultKind::BadName)?;
+    StreamId::new(namespace, key).map_err(|_| FaultKind::BadName)
+}
+
+/// A grain, `KIND/KEY`.
+#[tactic(auto, unfolding(crate::specs::Fields::grain_field))]
+pub(crate) fn grain(bytes: &[u8]) -> Result<GrainId, FaultKind>
+    ensures { result ≡ grain_field bytes.now }
+{
+    let (kind, key) = split_once(bytes, b'/').ok_or(FaultKind::BadName)?;
+    GrainId::new(kind, key).map_err(|_| FaultKind::BadName)
+}
+
+/// A token, `SEQ.IDX`.
+#[tactic(auto, unfolding(crate::specs::Fields::token_field))]
+pub(crate) fn token(bytes: &[u8]) -> Result<Token, FaultKind>
+    ensures { result ≡ token_field bytes.now }
+{
+    Token::parse(bytes).map_err(|_| FaultKind::BadToken)
+}
+
+/// What a text carries.
+#[tactic(auto, unfolding(crate::specs::Fields::payload_field))]
+pub(crate) fn payload(bytes: &[u8]) -> Result<Payload, FaultKind>
+    ensures { result ≡ payload_field bytes.now }
+{
+    Payload::new(bytes).map_err(|_| FaultKind::BadText)
+}
+
+/// The number of an explicit subscription, 1 or more.
+#[tactic(auto, unfolding(crate::specs::Fields::explicit_field))]
+fn explicit(bytes: &[u8]) -> Result<SubName, FaultKind>
+    ensures { result ≡ explicit_field bytes.now }
+{
+    let number = short_number(bytes)?;
+    if number == 0 {
+        return Err(FaultKind::BadNumber);
+    }
+    Ok(SubName::Explicit(number))
+}
+
+/// The name of an implicit subscription, its kind and its stream cut at the `@`.
+#[tactic(auto, unfolding(crate::specs::Fields::implicit_field))]
+fn implicit(kind: &[u8], of: &[u8]) -> Result<SubName, FaultKind>
+    ensures { result ≡ implicit_field (kind.now, of.now) }
+{
+    let kind = Name::new(kind).map_err(|_| FaultKind::BadName)?;
+    let stream = stream(of)?;
+    Ok(SubName::Implicit { kind, stream })
+}
+
+/// The name of a subscription: a number, or `KIND@NS/KEY`.
+#[tactic(auto, unfolding(crate::specs::Fields::name_field))]
+fn name(bytes: &[u8]) -> Result<SubName, FaultKind>
+    ensures { result ≡ name_field bytes.now }
+{
+    match split_once(bytes, b'@') {
+        None => explicit(bytes),
+        Some((kind, of)) => implicit(kind, of),
+    }
+}
+
+/// A subscription with its queue, `Q:NAME`.
+#[tactic(auto, unfolding(crate::specs::Fields::sub_field))]
+pub(crate) fn sub(bytes: &[u8], queues: usize) -> Result<(usize, SubName), FaultKind>
+    ensures { result ≡ sub_field queues bytes.now }
+{
+    let (of, after) = split_once(bytes, b':').ok_or(FaultKind::BadName)?;
+    if after.contains(&b':') {
+        return Err(FaultKind::BadName);
+    }
+    let queue = queue(of, queues)?;
+    let name = name(after)?;
+    Ok((queue, name))
+}

@@ -1,0 +1,163 @@
+use super::*;
+use std::alloc::{AllocError, Global};
+use std::test::*;
+
+/// What a line reads as, the seventh of a script for one queue.
+fn parsed(alloc: Global, line: &[u8], mode: Mode) -> Result<Parsed, AllocError> {
+    parse_line(alloc, line, 7, 1, mode)
+}
+
+#[test]
+fn commands(rt: HostRuntime) -> Result<(), Fail> {
+    let lines = [
+        (
+            r#"pub o/k"#,
+            "Command(Step { queue: 0, op: Publish { stream: StreamId { namespace: o, key: k }, payloads: Batch { payloads: [] } } })",
+        ),
+        (
+            r#"  pub   o/k "a\"b\\c"  "" "#,
+            r#"Command(Step { queue: 0, op: Publish { stream: StreamId { namespace: o, key: k }, payloads: Batch { payloads: [a"b\c, ] } } })"#,
+        ),
+        (
+            "sub o/k g/x latest",
+            "Command(Step { queue: 0, op: Subscribe { stream: StreamId { namespace: o, key: k }, grain: GrainId { kind: g, key: x }, start: Latest } })",
+        ),
+        (
+            "sub o/k g/x from 7.2",
+            "Command(Step { queue: 0, op: Subscribe { stream: StreamId { namespace: o, key: k }, grain: GrainId { kind: g, key: x }, start: At(Token { seq: 7, idx: 2 }) } })",
+        ),
+        (
+            "pull 0 18446744073709551615 4294967295",
+            "Command(Step { queue: 0, op: Pull { generation: 18446744073709551615, max: 4294967295 } })",
+        ),
+        (
+            "deliver 3 0:1",
+            "Command(Step { queue: 0, op: Deliver { generation: 3, sub: Explicit(1) } })",
+        ),
+        (
+            "deliver 3 0:g@o/k",
+            "Command(Step { queue: 0, op: Deliver { generation: 3, sub: Implicit { kind: g, stream: StreamId { namespace: o, key: k } } } })",
+        ),
+        (
+            "begin 0 g/x",
+            "Command(Step { queue: 0, op: Begin { grain: GrainId { kind: g, key: x }, max: 1 } })",
+        ),
+        (
+            "begin 0 g/x 0",
+            "Command(Step { queue: 0, op: Begin { grain: GrainId { kind: g, key: x }, max: 0 } })",
+        ),
+        (
+            "commit 0 g/x 1 2 9",
+            "Command(Step { queue: 0, op: Commit { grain: GrainId { kind: g, key: x }, activation: 1, turn: 2, note: 9 } })",
+        ),
+    ];
+    for (line, command) in lines {
+        let shown = format!(in rt.alloc();
+            "{:?}",
+            parsed(rt.alloc(), line.as_bytes(), Mode::Sim)?
+        )?;
+        assert_eq!(rt; shown.as_str(), command, "at {line}");
+    }
+    Ok(())
+}
+
+#[test]
+fn skipped(rt: HostRuntime) -> Result<(), Fail> {
+    for line in ["", "   ", "#", "# pub", "#\tpub \"", "#pub o/k \"a\""] {
+        let skipped = parsed(rt.alloc(), line.as_bytes(), Mode::Run)?;
+        assert!(rt; matches!(skipped, Parsed::Skip), "at {line}");
+    }
+    Ok(())
+}
+
+#[test]
+fn faults(rt: HostRuntime) -> Result<(), Fail> {
+    let lines = [
+        ("pub o/k\t\"a\"", FaultKind::BadByte),
+        ("fly \"\x7f", FaultKind::BadByte),
+        ("pub o/k \"a", FaultKind::BadText),
+        ("pub o/k \"a\\", FaultKind::BadText),
+        ("pub o/k \"a\\x\"", FaultKind::BadText),
+        ("pub o/k a\"b\"", FaultKind::BadText),
+        ("pub o/k \"a\"b", FaultKind::BadText),
+        ("pub o/k \"a\"\"b\"", FaultKind::BadText),
+        ("fly", FaultKind::BadCommand),
+        (" # pub", FaultKind::BadCommand),
+        ("\"pub\"", FaultKind::BadCommand),
+        ("Pub o/k", FaultKind::BadCommand),
+        ("sub o/k g/x later", FaultKind::BadCommand),
+        ("sub o/k g/x latest 7.2", FaultKind::BadCommand),
+        ("sub o/k g/x from", FaultKind::BadCommand),
+        ("unsub 0:1", FaultKind::BadCommand),
+        ("pub", FaultKind::WordCount),
+        ("pub \"a\"", FaultKind::WordCount),
+        ("pub o!k a", FaultKind::WordCount),
+        ("sub o/k g/x", FaultKind::WordCount),
+        ("pull 0 0 \"32\"", FaultKind::WordCount),
+        ("pull 0 0", FaultKind::WordCount),
+        ("begin 0 g/x 1 1", FaultKind::WordCount),
+        ("pub o/k! \"b\"", FaultKind::BadName),
+        ("pub ok \"b\"", FaultKind::BadName),
+        ("pub o/k/l \"b\"", FaultKind::BadName),
+        ("sub o/k gx later", FaultKind::BadName),
+        ("deliver 0 01", FaultKind::BadName),
+        ("deliver 0 0:1:2", FaultKind::BadName),
+        ("deliver 0 0:k@o", FaultKind::BadName),
+        ("deliver 0 0:k@o/k@l", FaultKind::BadName),
+        ("pull 0 00 32", FaultKind::BadNumber),
+        ("pull 0 0 4294967296", FaultKind::BadNumber),
+        ("pull 4294967296 0 32", FaultKind::BadNumber),
+        ("pull 0 18446744073709551616 32", FaultKind::BadNumber),
+        ("deliver 0 0:0", FaultKind::BadNumber),
+        ("deliver 0 0:01", FaultKind::BadNumber),
+        ("sub o/k g/x from 7.02", FaultKind::BadToken),
+        ("deliver 0 1:1", FaultKind::NoQueue),
+        ("deliver 0 1:0", FaultKind::NoQueue),
+        ("pull 1 x 32", FaultKind::NoQueue),
+    ];
+    for (line, kind) in lines {
+        let Parsed::Fault(fault) = parsed(rt.alloc(), line.as_bytes(), Mode::Sim)? else {
+            return Err(Fail::from("no fault"));
+        };
+        assert_eq!(rt; fault, Fault { line: 7, kind }, "at {line}");
+    }
+    Ok(())
+}
+
+#[test]
+fn not_in_run(rt: HostRuntime) -> Result<(), Fail> {
+    for line in ["pull 0 0 32", "deliver", "begin \"0\"", "commit 9"] {
+        let Parsed::Fault(fault) = parsed(rt.alloc(), line.as_bytes(), Mode::Run)? else {
+            return Err(Fail::from("no fault"));
+        };
+        assert_eq!(rt; fault.kind, FaultKind::NotInRun, "at {line}");
+    }
+    for line in ["pub o/k", "sub o/k g/x latest"] {
+        let command = parsed(rt.alloc(), line.as_bytes(), Mode::Run)?;
+        assert!(rt; matches!(command, Parsed::Command(_)), "at {line}");
+    }
+    Ok(())
+}
+
+#[test]
+fn long_texts(rt: HostRuntime) -> Result<(), Fail> {
+    for (len, is_fault) in [(256, false), (257, true)] {
+        let mut line = Vec::from_slice(rt.alloc(), b"pub o/k \"")?;
+        for _ in 0..len {
+            line.extend_from_slice(b"\\\"")?;
+        }
+        line.push(b'"')?;
+        let parsed = parsed(rt.alloc(), &line, Mode::Sim)?;
+        assert_eq!(rt;
+            matches!(
+                parsed,
+                Parsed::Fault(Fault {
+                    kind: FaultKind::BadText,
+                    ..
+                })
+            ),
+            is_fault
+        );
+    }
+    Ok(())
+}

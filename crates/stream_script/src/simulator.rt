@@ -1,0 +1,80 @@
+//! The partitions of a simulation, and the lines that change them.
+ghost use Rattle.std.specs.Prelude.{◌≡◌, [], ◌<◌, ◌≤◌, IfOk, OnOk, vec_len, replicate, slice_index_or};
+ghost use Rattle.stream_model.specs.Positions.{empty};
+ghost use Rattle.stream_model.specs.Step.{step, IsSupported};
+ghost use Rattle.stream_script.specs.Simulation.{IsSimConfig, stepped, run_line, RunsLine};
+
+use crate::command::{Command, Fault, Mode, Parsed};
+use crate::parse::parse_line;
+use crate::simulate::SimConfig;
+use crate::text::reply_line;
+use std::alloc::{AllocError, Global};
+use step_core::Partition;
+use stream_model::Op;
+
+/// A partition for each queue.
+#[derive(Drop)]
+pub struct Simulator {
+    config: SimConfig,
+    partitions: Vec<Partition>,
+    ghost one_each: { vec_len partitions ≡ config.queues },
+    ghost some: { 1 ≤ config.queues },
+}
+
+impl Simulator {
+    /// New partitions.
+    pub fn new(alloc: Global, config: SimConfig) -> Result<Simulator, AllocError>
+        requires { IsSimConfig config }
+        ensures config { IfOk result (λ s. s.config ≡ config) }
+        ensures partitions { IfOk result (λ s. s.partitions.items ≡ replicate config.queues (empty config.blocks config.limits)) }
+    {
+        let mut partitions = Vec::new(alloc);
+        for _ in 0..config.queues {
+            partitions.push(Partition::new(alloc, config.blocks, config.limits)?)?;
+        }
+        Ok(Simulator { config, partitions })
+    }
+
+    /// Does a line and leaves its text, or gives its fault.
+    pub fn run_line(
+        &mut self,
+        alloc: Global,
+        line: &[u8],
+        number: usize,
+        text: &mut Vec<u8>,
+    ) -> Result<Option<Fault>, AllocError>
+        ensures config { self.new.config ≡ self.old.config }
+        ensures ran { RunsLine (run_line self.old.config number self.old.partitions.items line.now)
+            (self.new.partitions.items, text.new.items) result }
+    {
+        text.clear();
+        match parse_line(alloc, line, number, self.config.queues, Mode::Sim)? {
+            Parsed::Skip => Ok(None),
+            Parsed::Fault(fault) => Ok(Some(fault)),
+            Parsed::Command(Command::Step { queue, op }) => {
+                self.step(alloc, queue, op, text)?;
+                Ok(None)
+            }
+        }
+    }
+
+    /// Does an operation and leaves the line of its reply.
+    fn step(
+        &mut self,
+        alloc: Global,
+        queue: usize,
+        op: Op,
+        text: &mut Vec<u8>,
+    ) -> Result<(), AllocError>
+        requires queue { queue < self.old.config.queues }
+        requires supported { IsSupported op }
+        requires text { text.old.items ≡ [] }
+        ensures config { self.new.config ≡ self.old.config }
+        ensures text { OnOk result ((self.new.partitions.items, text.new.items) ≡
+            stepped self.old.partitions.items queue
+            (step (slice_index_or self.old.partitions.items queue (empty self.old.config.blocks self.old.config.limits)) op)) }
+    {
+        let reply = self.partitions[queue].step(alloc, op)?;
+        reply_line(queue, &reply, text)
+    }
+}

@@ -1,0 +1,116 @@
+//! The texts of replies, from outside.
+use crate::reply_text;
+use std::alloc::{AllocError, Global};
+use std::test::Fail;
+use stream_ident::{Event, GrainId, Name, Payload, StreamId, SubName, Token};
+use stream_model::{Events, Pending, Reply};
+
+fn text_of(alloc: Global, reply: &Reply) -> Result<Vec<u8>, AllocError> {
+    let mut text = Vec::new(alloc);
+    reply_text(reply, &mut text)?;
+    Ok(text)
+}
+
+fn implicit() -> Result<SubName, Fail> {
+    Ok(SubName::Implicit {
+        kind: Name::new(b"cart")?,
+        stream: StreamId::new(b"orders", b"k-1")?,
+    })
+}
+
+fn event(idx: u32, payload: &[u8]) -> Result<Event, Fail> {
+    Ok(Event {
+        stream: StreamId::new(b"orders", b"k-1")?,
+        token: Token { seq: 12, idx },
+        payload: Payload::new(payload)?,
+    })
+}
+
+#[test]
+fn a_turn_has_its_events_in_quotes(rt: HostRuntime) -> Result<(), Fail> {
+    let mut events = Events::of(event(0, br#"a "b" \c"#)?);
+    events.push(event(1, b"")?);
+    let reply = Reply::Turn {
+        sub: implicit()?,
+        activation: 3,
+        turn: 18446744073709551615,
+        events,
+        note: 7,
+    };
+    assert_eq!(rt;
+        text_of(rt.alloc(), &reply)?.as_slice(),
+        &br#"turn 18446744073709551615 sub cart@orders/k-1 activation 3 event 12.0 "a \"b\" \\c" event 12.1 "" note 7"#[..]
+    );
+    Ok(())
+}
+
+#[test]
+fn each_form_of_reply_has_its_text(rt: HostRuntime) -> Result<(), Fail> {
+    let low = Token { seq: 0, idx: 0 };
+    let high = Token { seq: 2, idx: 63 };
+    let grain = GrainId::new(b"cart", b"k-1")?;
+    let sub = SubName::Explicit(4294967295);
+    let cases: [(Reply, &[u8]); 16] = [
+        (Reply::QueueFull, b"queue-full"),
+        (Reply::Subscribed { number: 1 }, b"subscribed 1"),
+        (
+            Reply::Miss {
+                requested: low,
+                low: high,
+                high: Token { seq: 9, idx: 1 },
+            },
+            b"miss 0.0 low 2.63 high 9.1",
+        ),
+        (
+            Reply::Unsubscribed { handled: 1000000 },
+            b"unsubscribed 1000000",
+        ),
+        (
+            Reply::Pulled {
+                count: 32,
+                low,
+                high,
+            },
+            b"pulled 32 low 0.0 high 2.63",
+        ),
+        (
+            Reply::Pressed { by: implicit()? },
+            b"pressed cart@orders/k-1",
+        ),
+        (Reply::Purged { low: high }, b"purged low 2.63"),
+        (
+            Reply::Dropped { sub, token: high },
+            b"dropped 4294967295 2.63",
+        ),
+        (
+            Reply::Committed {
+                sub: implicit()?,
+                token: low,
+            },
+            b"committed cart@orders/k-1 0.0",
+        ),
+        (Reply::Moved { generation: 2, low }, b"moved 2 low 0.0"),
+        (Reply::Next(grain), b"next cart/k-1"),
+        (Reply::DueSub { sub, ack: None }, b"due 4294967295 ack -"),
+        (
+            Reply::DueSub {
+                sub: implicit()?,
+                ack: Some(high),
+            },
+            b"due cart@orders/k-1 ack 2.63",
+        ),
+        (Reply::NotQuiet(Pending::Behind), b"behind"),
+        (
+            Reply::NotQuiet(Pending::Deliverable(sub)),
+            b"deliverable 4294967295",
+        ),
+        (
+            Reply::NotQuiet(Pending::Running(grain)),
+            b"running cart/k-1",
+        ),
+    ];
+    for (reply, text) in cases {
+        assert_eq!(rt; text_of(rt.alloc(), &reply)?.as_slice(), text);
+    }
+    Ok(())
+}
