@@ -25,7 +25,7 @@ impl ProgramFault {
                 ExitCode::from(if error.exit_code() == 0 { 0 } else { 2 })
             }
             ProgramFault::Simulation(error) => {
-                let _ = eprintln!(rt; "streams: {error}");
+                let _ = eprintln!(rt; "{self}");
                 ExitCode::from(status(*error))
             }
         }
@@ -65,5 +65,89 @@ impl From<io::Error> for ProgramFault {
     // Only making a buffer and asking for the words end here, which fail for want of memory.
     fn from(_: io::Error) -> ProgramFault {
         ProgramFault::Simulation(SimError::Memory)
+    }
+}
+
+#[cfg(test)]
+mod tests {
+    use crate::fault::{ProgramFault, status};
+    use std::alloc::{AllocError, Global};
+    use std::test::Fail;
+    use stream_script::{Fault, FaultKind, SimError};
+
+    /// Whether the error is told so, and ends with this status.
+    fn is_told(alloc: Global, error: SimError, text: &str, code: u8) -> Result<bool, AllocError> {
+        let told = format!(in alloc; "{}", ProgramFault::Simulation(error))?;
+        Ok(told.as_str() == text && status(error) == code)
+    }
+
+    #[test]
+    fn faults_have_their_texts_and_statuses(rt: HostRuntime) -> Result<(), Fail> {
+        let script = |line, kind| SimError::ScriptFault(Fault { line, kind });
+        let cases = [
+            (SimError::ReadFault, "streams: read fault", 3),
+            (SimError::WriteFault, "streams: write fault", 3),
+            (SimError::Memory, "streams: out of memory", 3),
+            (
+                script(0, FaultKind::TooLong),
+                "streams: line 0: too long",
+                1,
+            ),
+            (
+                script(2, FaultKind::BadByte),
+                "streams: line 2: bad byte",
+                1,
+            ),
+            (
+                script(2, FaultKind::BadText),
+                "streams: line 2: bad text",
+                1,
+            ),
+            (
+                script(2, FaultKind::BadCommand),
+                "streams: line 2: bad command",
+                1,
+            ),
+            (
+                script(2, FaultKind::NotInSim),
+                "streams: line 2: not in sim",
+                1,
+            ),
+            (
+                script(2, FaultKind::NotInRun),
+                "streams: line 2: not in run",
+                1,
+            ),
+            (
+                script(2, FaultKind::WordCount),
+                "streams: line 2: word count",
+                1,
+            ),
+            (
+                script(2, FaultKind::BadName),
+                "streams: line 2: bad name",
+                1,
+            ),
+            (
+                script(2, FaultKind::BadNumber),
+                "streams: line 2: bad number",
+                1,
+            ),
+            (
+                script(2, FaultKind::BadToken),
+                "streams: line 2: bad token",
+                1,
+            ),
+            (
+                script(2, FaultKind::NoQueue),
+                "streams: line 2: no queue",
+                1,
+            ),
+        ];
+        for (error, text, code) in cases {
+            let same = is_told(rt.alloc(), error, text, code)?;
+            assert!(rt; same, "{text}");
+        }
+        Ok(())
     }
 }

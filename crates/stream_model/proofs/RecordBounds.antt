@@ -1,5 +1,5 @@
 -- Changes of records keep the limits.
-use Rattle.std.proofs.Common.{◌≡◌, ℕ, suc, ◌+◌, ◌-◌, ◌<◌, ◌≤◌, Bool, true, false, List, [], ◌∷◌, length, drop, Option, Some, None, unwrap_or, if◌then◌else◌, is_some, refl, arith, ap, subst, length-drop}
+use Rattle.std.proofs.Common.{◌≡◌, ℕ, suc, ◌+◌, ◌-◌, ◌<◌, ◌≤◌, Bool, true, false, List, [], ◌∷◌, length, drop, Option, Some, None, unwrap_or, if◌then◌else◌, is_some, refl, arith, ap, length-drop}
 use Rattle.std.proofs.lemmas.Bool.{cond_both}
 use Rattle.std.proofs.lemmas.List.{length-take}
 use Rattle.std.specs.List.{AllByRecursion}
@@ -15,6 +15,7 @@ use Rattle.stream_model.specs.declared.plain.Subscription.{Subscription}
 use Rattle.stream_model.specs.Bounds.{AreIn, IsWithinLimits, running_positions}
 use Rattle.stream_model.specs.Positions.{between, grain_at, new_grain, sub_at}
 use Rattle.stream_model.specs.Words.{first_at, value_at, with_value}
+use Rattle.stream_model.proofs.Beginning.{All-value_at}
 use Rattle.stream_model.proofs.EachOf.{All-weaken}
 use Rattle.stream_model.proofs.SubNames.{AreGiven, AreGiven-with_value, length-with_value}
 
@@ -38,17 +39,7 @@ joined log rises (entry ∷ grains) a w r = ((a.0, w.0, r.0), joined log rises g
 pub grains-fit : (p : PlainPartition) → IsWithinLimits p → GrainsFit p.log p.rises p.grains
 grains-fit p within = joined p.log p.rises p.grains within.activations within.waiting within.running
 
--- a fact of the values holds of one that is found
-pub All-found : {K V : Type 0} (P : V → Type 0) (same : K → K → Bool) (key : K) (v : V) (entries : List (K × V))
-    → AllByRecursion (λ (entry : K × V). P entry.1) entries → value_at same key entries ≡ Some v → P v
-All-found P same key v [] all found = absurd (cc)
-All-found P same key v (entry ∷ entries) all found =
-    (elim (same key entry.0) as (λ b. (if b then Some entry.1 else value_at same key entries) ≡ Some v → P v) [
-      | true ↦ λ here. let is_v : entry.1 ≡ v = cc in subst P is_v all.0
-      | false ↦ λ later. All-found P same key v entries all.1 later
-    ]) found
-
--- and of the values after one is set
+-- a fact of the values holds of them after one is set
 pub All-set : {K V : Type 0} (P : V → Type 0) (same : K → K → Bool) (key : K) (v : V) (entries : List (K × V))
     → AllByRecursion (λ (entry : K × V). P entry.1) entries → P v → AllByRecursion (λ (entry : K × V). P entry.1) (with_value same key v entries)
 All-set P same key v [] all here = (here, tt)
@@ -57,7 +48,7 @@ All-set {K} {V} P same key v (entry ∷ entries) all here =
 
 -- the grain that an operation names, one that was never active among them
 pub grain-fits : (p : PlainPartition) (g : GrainId) → IsWithinLimits p → GrainFits p.log p.rises (grain_at p g)
-grain-fits p g within = by (value_at same_grain g p.grains) (λ st found. All-found (GrainFits p.log p.rises) same_grain g st p.grains (grains-fit p within) found)
+grain-fits p g within = by (value_at same_grain g p.grains) (λ st found. All-value_at (GrainFits p.log p.rises) same_grain g st p.grains (grains-fit p within) found)
   where
     by : (o : Option Grain) → ((st : Grain) → o ≡ Some st → GrainFits p.log p.rises st) → GrainFits p.log p.rises (unwrap_or o new_grain)
     by None found = (omega arith, tt, tt)
@@ -110,7 +101,7 @@ sub-set p s found r within there handled =
 
 -- what a subscription that is there has handled is in the log
 pub handled-in : (p : PlainPartition) (s : SubName) (r : Subscription) → IsWithinLimits p → sub_at p s ≡ Some r → AreIn p.log r.handled
-handled-in p s r within there = All-found (λ (r : Subscription). AreIn p.log r.handled) same_sub s r p.subs within.handled there
+handled-in p s r within there = All-value_at (λ (r : Subscription). AreIn p.log r.handled) same_sub s r p.subs within.handled there
 
 -- where an element that passes is found
 first_at-bounds : {A : Type 0} (passes : A → Bool) (n i : ℕ) (xs : List A) → first_at passes n xs ≡ Some i → (n ≤ i) × (i < n + length xs)

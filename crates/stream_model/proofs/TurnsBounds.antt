@@ -1,10 +1,9 @@
 -- Begin and Commit keep the limits.
-use Rattle.std.proofs.Common.{◌≡◌, ℕ, zero, suc, ◌<◌, ◌==◌, ◌&&◌, false, not, nat_le, nat_lt, List, [], ◌∷◌, ◌++◌, length, drop, Option, Some, None, is_some, refl, subst, arith}
+use Rattle.std.proofs.Common.{◌≡◌, ℕ, zero, suc, ◌<◌, ◌==◌, ◌&&◌, false, not, nat_lt, List, [], ◌∷◌, ◌++◌, length, drop, Option, Some, None, is_some, refl, subst, arith}
 use Rattle.std.proofs.lemmas.Bool.{cond_both, leb-false}
 use Rattle.std.specs.List.{AllByRecursion}
 use Rattle.stream_ident.specs.declared.ident.GrainId.{GrainId}
 use Rattle.stream_ident.specs.declared.ident.SubName.{SubName}
-use Rattle.stream_ident.specs.SubName.{same_sub}
 use Rattle.stream_model.specs.declared.plain.Delivery.{Delivery}
 use Rattle.stream_model.specs.declared.plain.Grain.{Grain}
 use Rattle.stream_model.specs.declared.plain.PlainPartition.{PlainPartition}
@@ -15,6 +14,7 @@ use Rattle.stream_model.specs.Bounds.{AreIn, IsWithinLimits, running_positions}
 use Rattle.stream_model.specs.Positions.{grain_at, is_spent, sub_at}
 use Rattle.stream_model.specs.Turns.{begin, begin_for, begin_front, begin_in, begin_turn, commit, commit_for, commit_running, ended, front_of, turn_size}
 use Rattle.stream_model.specs.Words.{past}
+use Rattle.stream_model.proofs.Beginning.{All-front_of}
 use Rattle.stream_model.proofs.EachOf.{All-append}
 use Rattle.stream_model.proofs.RecordBounds.{GrainFits, grain-fits, grain-set, handled-in, sub-set}
 
@@ -26,13 +26,6 @@ All-drop : {X : Type 0} (Q : X → Type 0) (n : ℕ) (xs : List X) → AllByRecu
 All-drop Q zero xs all = all
 All-drop Q (suc n) [] all = tt
 All-drop Q (suc n) (x ∷ xs) all = All-drop Q n xs all.1
-
--- the front's positions are those of the deliveries
-All-front : (m n : ℕ) (s : SubName) (from : ℕ) (deliveries : List Delivery) → AllByRecursion (λ (d : Delivery). d.position < m) deliveries → AllByRecursion (λ position. position < m) (front_of n s from deliveries)
-All-front m zero s from deliveries all = tt
-All-front m (suc n) s from [] all = tt
-All-front m (suc n) s from (d ∷ deliveries) all =
-    cond_both (same_sub s d.sub && nat_le from d.position) _ _ (AllByRecursion (λ position. position < m)) (λ _. (all.0, All-front m n s (suc d.position) deliveries all.1)) (λ _. tt)
 
 bounds-begin_turn : (p : PlainPartition) (g : GrainId) (st : Grain) (s : SubName) (note : ℕ) (positions : List ℕ) → IsWithinLimits p → GrainFits p.log p.rises st → AreIn p.log positions → is_spent p ≡ false → IsWithinLimits (begin_turn p g st s note positions).0
 unfolding begin_turn
@@ -49,7 +42,7 @@ bounds-begin_for p g n st d deliveries (Some r) within fits rest =
     cond_both (nat_lt d.position (past r.handled)) _ _ Kept
     (λ _. grain-set p g (record st { mailbox = deliveries }) p.rises p.turns within (omega arith) within.rises within.turns (fits.0, rest, fits.2))
     (λ _. cond_both (is_spent p) _ _ Kept (λ _. within)
-    (λ left. bounds-begin_turn p g st d.sub r.note (front_of n d.sub d.position st.mailbox) within fits (All-front (length p.log) n d.sub d.position st.mailbox fits.1) left))
+    (λ left. bounds-begin_turn p g st d.sub r.note (front_of n d.sub d.position st.mailbox) within fits (All-front_of (length p.log) n d.sub d.position st.mailbox fits.1) left))
 
 bounds-begin_front : (p : PlainPartition) (g : GrainId) (n : ℕ) (st : Grain) (mailbox : List Delivery) → IsWithinLimits p → GrainFits p.log p.rises st → AllByRecursion (λ (d : Delivery). d.position < length p.log) mailbox → IsWithinLimits (begin_front p g n st mailbox).0
 unfolding begin_front

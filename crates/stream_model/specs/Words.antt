@@ -1,11 +1,7 @@
 -- Words on lists that the definitions are written in.
 use Rattle.std.specs.Prelude.{ℕ, suc, Bool, List, [], ◌∷◌, Option, Some, None, map, filter, min, if◌then◌else◌}
 use Rattle.std.specs.Map.{lookup}
-
--- the first where it is there, else the second
-abbrev pub or_else : {A : Type 0} → Option A → Option A → Option A
-or_else None other = other
-or_else (Some x) other = Some x
+pub use Rattle.stream_ident.specs.Text.{or_else}
 
 -- the least place of an element that passes, in a list whose first element has place n
 abbrev pub first_at : {A : Type 0} → (A → Bool) → ℕ → List A → Option ℕ

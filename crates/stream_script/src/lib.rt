@@ -12,6 +12,8 @@ mod parse;
 mod parse_tests;
 mod pieces;
 #[cfg(test)]
+mod script_tests;
+#[cfg(test)]
 mod sim_tests;
 mod simulate;
 mod simulator;
