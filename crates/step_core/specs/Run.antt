@@ -1,13 +1,9 @@
 -- Several operations one after another.
 use Rattle.std.specs.Prelude.{◌≡◌, ℕ, ◌≤◌, List, ◌++◌, length, take}
-use Rattle.std.specs.List.{AllByRecursion}
 use Rattle.stream_model.specs.declared.op.Op.{Op}
 use Rattle.stream_model.specs.declared.plain.PlainPartition.{PlainPartition}
 use Rattle.stream_model.specs.declared.reply.Reply.{Reply}
-use Rattle.stream_model.specs.Step.{after_steps, replies_of, IsSupported}
-
-abbrev pub AreSupported : List Op → Type 0
-AreSupported ops = AllByRecursion IsSupported ops
+use Rattle.stream_model.specs.Step.{after_steps, replies_of}
 
 -- the operations were done in order, and their replies appended
 pub record Does (ops : List Op) (old new : PlainPartition) (before after : List Reply) : Type 0 where

@@ -4,17 +4,18 @@ ghost use Rattle.std.specs.List.Sorted.{IsPermutation, IsSortedBy};
 ghost use Rattle.std.specs.Option.{option_copied};
 ghost use Rattle.stream_ident.specs.SubName.{same_sub};
 ghost use Rattle.stream_model.specs.Bounds.{AreLimits, IsWithinLimits};
+ghost use Rattle.stream_model.specs.Looks.{pending_in};
 ghost use Rattle.stream_model.specs.Positions.{empty, low_token, high_token, token_at, events_at};
-ghost use Rattle.stream_model.specs.Step.{step, takes_memory, IsSupported, Performs};
+ghost use Rattle.stream_model.specs.Step.{step, takes_memory, Performs};
 ghost use Rattle.stream_model.specs.Words.{value_at};
 ghost use Rattle.step_core.specs.Reads.{summary_of, summaries_of, is_named_before, handled_of};
-ghost use Rattle.step_core.specs.Run.{AreSupported, Does, DoesFront};
+ghost use Rattle.step_core.specs.Run.{Does, DoesFront};
 
 use crate::summary::SubSummary;
 use std::alloc::{AllocError, Global};
 use std::marker::Model;
 use stream_ident::{Event, SubName, Token};
-use stream_model::{Limits, Op, PlainPartition, Reply, Subscription, reference};
+use stream_model::{Limits, Op, Pending, PlainPartition, Reply, Subscription, reference};
 
 /// A partition.
 ///
@@ -55,7 +56,6 @@ impl Partition {
     /// Memory, and then nothing has changed. It comes only where the operation would be done and would keep
     /// more than before: each refusal is given without memory.
     pub fn step(&mut self, alloc: Global, op: Op) -> Result<Reply, AllocError>
-        requires supported { IsSupported op }
         ensures performs { Performs self.old self.new result (step self.old op) }
         ensures memory { OnErr result (takes_memory (step self.old op).1 ≡ true) }
     {
@@ -72,7 +72,6 @@ impl Partition {
         mut ops: Vec<Op>,
         replies: &mut Vec<Reply>,
     ) -> Result<(), AllocError>
-        requires supported { AreSupported ops.items }
         ensures done { OnOk result (Does ops.items self.old self.new replies.old.items replies.new.items) }
         ensures front { DoesFront ops.items self.old self.new replies.old.items replies.new.items }
     {
@@ -83,6 +82,14 @@ impl Partition {
             replies.push(reply)?;
         }
         Ok(())
+    }
+
+    /// Why the partition isn't quiet, the first reason that holds, or none where everything is pulled,
+    /// delivered and handled. It takes no memory.
+    pub fn quiet(&self) -> Option<Pending>
+        ensures { result ≡ pending_in self.now }
+    {
+        self.inner.quiet()
     }
 
     /// The token of the first event that the cache keeps, or would keep next.

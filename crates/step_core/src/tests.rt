@@ -21,6 +21,7 @@ fn operations_run_and_show(rt: HostRuntime) -> Result<(), Fail> {
     let subs = partition.subs(alloc)?;
     assert_eq!(rt; subs.len(), 1);
     assert!(rt; subs[0].name == SubName::Explicit(1) && subs[0].start == start && subs[0].is_open);
+    assert!(rt; partition.quiet().is_none());
     assert!(rt; partition.handled(alloc, &SubName::Explicit(1))?.is_empty());
     Ok(())
 }

@@ -1,5 +1,6 @@
 -- What holds of each element of a list.
-use Rattle.std.proofs.Common.{List, [], ◌∷◌, ◌++◌}
+use Rattle.std.proofs.Common.{ℕ, zero, suc, Bool, List, [], ◌∷◌, ◌++◌, drop, filter}
+use Rattle.std.proofs.lemmas.Bool.{cond_both}
 use Rattle.std.specs.List.{AllByRecursion, flat_map}
 
 -- a weaker fact
@@ -14,3 +15,13 @@ All-append Q (x ∷ xs) ys first second = (first.0, All-append Q xs ys first.1 s
 pub All-flat_map : {X Y : Type 0} (Q : Y → Type 0) (made : X → List Y) → ((x : X) → AllByRecursion Q (made x)) → (xs : List X) → AllByRecursion Q (flat_map made xs)
 All-flat_map Q made each [] = tt
 All-flat_map Q made each (x ∷ xs) = All-append Q (made x) (flat_map made xs) (each x) (All-flat_map Q made each xs)
+
+pub All-drop : {X : Type 0} (Q : X → Type 0) (n : ℕ) (xs : List X) → AllByRecursion Q xs → AllByRecursion Q (drop n xs)
+All-drop Q zero xs all = all
+All-drop Q (suc n) [] all = tt
+All-drop Q (suc n) (x ∷ xs) all = All-drop Q n xs all.1
+
+pub All-filter : {X : Type 0} (Q : X → Type 0) (passes : X → Bool) (xs : List X) → AllByRecursion Q xs → AllByRecursion Q (filter passes xs)
+All-filter Q passes [] all = tt
+All-filter Q passes (x ∷ xs) all =
+    cond_both (passes x) _ _ (AllByRecursion Q) (λ _. (all.0, All-filter Q passes xs all.1)) (λ _. All-filter Q passes xs all.1)

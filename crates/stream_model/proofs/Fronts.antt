@@ -1,18 +1,15 @@
 -- The last of rising positions, and the front of a mailbox that a turn takes.
 use Rattle.std.proofs.Common.{◌≡◌, ℕ, zero, suc, ◌+◌, ◌-◌, ◌<◌, ◌≤◌, true, false, ◌&&◌, List, [], ◌∷◌, ◌++◌, length, get_or, drop, take, Some, refl, sym, ap, ◌∙◌, nat_le, nat_lt, arith, append-nil, append_assoc}
-use Rattle.std.proofs.lemmas.Bool.{and_from, le-leb, eq-eqb}
+use Rattle.std.proofs.lemmas.Bool.{and_from, le-leb}
 use Rattle.std.proofs.lemmas.Bool.Decides.{nat_tests}
 use Rattle.std.proofs.lemmas.List.{drop_more, length_push, drop_all, take_rest}
-use Rattle.std.specs.Cmp.Lexicographic.{nat_list_eq_equiv}
 use Rattle.std.specs.List.{slice_get}
-use Rattle.stream_ident.specs.declared.ident.StreamId.{StreamId}
 use Rattle.stream_ident.specs.declared.ident.SubName.{SubName}
-use Rattle.stream_ident.specs.declared.ident.SubName.TheVariants.{Explicit, Implicit}
-use Rattle.stream_ident.specs.Name.{same_name, same_stream}
 use Rattle.stream_ident.specs.SubName.{same_sub}
 use Rattle.stream_model.specs.declared.plain.Delivery.{Delivery}
 use Rattle.stream_model.specs.Turns.{front_of}
 use Rattle.stream_model.specs.Words.{past, past_from}
+use Rattle.stream_model.proofs.Values.{same_sub-refl}
 
 past_from-last : (n : ℕ) (xs : List ℕ) (k last : ℕ) → slice_get xs k ≡ Some last → suc k ≡ length xs → past_from n xs ≡ suc last
 past_from-last n [] k last e len = absurd (omega arith)
@@ -32,17 +29,6 @@ leb-suc a b = grind (arith, nat_tests)
 pub front_of-nil : (n : ℕ) (s : SubName) (from : ℕ) → front_of n s from [] ≡ []
 front_of-nil zero s from = refl
 front_of-nil (suc n) s from = refl
-
--- each name is the same as itself
-pub same_name-refl : (a : List ℕ) → same_name a a ≡ true
-same_name-refl a = nat_list_eq_equiv.refl a
-
-pub same_stream-refl : (a : StreamId) → same_stream a a ≡ true
-same_stream-refl a = and_from _ _ (same_name-refl a.namespace) (same_name-refl a.key)
-
-pub same_sub-refl : (s : SubName) → same_sub s s ≡ true
-same_sub-refl (Explicit n) = eq-eqb n n refl
-same_sub-refl (Implicit kind stream) = and_from _ _ (same_name-refl kind) (same_stream-refl stream)
 
 -- the front of deliveries whose first goes on, and of those whose first doesn't
 front_of-cons : (n : ℕ) (s : SubName) (from : ℕ) (d : Delivery) (ds : List Delivery) → (same_sub s d.sub && nat_le from d.position) ≡ true → front_of (suc n) s from (d ∷ ds) ≡ d.position ∷ front_of n s (suc d.position) ds

@@ -1,16 +1,14 @@
 -- Which names are in a list of subscriptions, and which come to be in it.
 use Rattle.std.proofs.Common.{◌≡◌, ◌∙◌, ap, sym, refl, ℕ, ◌+◌, ◌<◌, ◌&&◌, ◌||◌, not, Bool, true, false, List, [], ◌∷◌, ◌++◌, length, take, drop, get_or, Some, is_some, fold, if◌then◌else◌, arith}
-use Rattle.std.proofs.lemmas.Bool.{false≢true, eqb-true, and_parts, not-true, not-false}
+use Rattle.std.proofs.lemmas.Bool.{not-true, not-false}
 use Rattle.std.proofs.lemmas.Grind.{fold-append}
 use Rattle.std.proofs.lemmas.List.{append-nil, at_drop_more, length_push, take_more}
 use Rattle.std.proofs.lemmas.List.Concat.{flat_map-append}
 use Rattle.std.specs.List.{flat_map}
-use Rattle.std.specs.Cmp.Lexicographic.{bytes_decides}
 use Rattle.stream_ident.specs.declared.event.Event.{Event}
-use Rattle.stream_ident.specs.declared.ident.StreamId.{StreamId}
 use Rattle.stream_ident.specs.declared.ident.SubName.{SubName}
-use Rattle.stream_ident.specs.declared.ident.SubName.TheVariants.{Explicit, Implicit}
-use Rattle.stream_ident.specs.Name.{same_name, same_stream}
+use Rattle.stream_ident.specs.declared.ident.SubName.TheVariants.{Implicit}
+use Rattle.stream_ident.specs.Name.{same_name}
 use Rattle.stream_ident.specs.SubName.{same_sub}
 use Rattle.stream_ident.specs.Token.{token_lt}
 use Rattle.stream_model.specs.declared.plain.Subscription.{Subscription}
@@ -18,27 +16,7 @@ use Rattle.stream_model.specs.declared.plain.Rule.{Rule}
 use Rattle.stream_model.specs.History.{batch_token}
 use Rattle.stream_model.specs.Pulling.{added, implied}
 use Rattle.stream_model.specs.Words.{value_at}
-
--- names that are the same by their bytes are equal
-same_name-equal : (a b : List ℕ) → same_name a b ≡ true → a ≡ b
-same_name-equal a b same = (bytes_decides a b).0 same
-
-same_stream-equal : (a b : StreamId) → same_stream a b ≡ true → a ≡ b
-same_stream-equal a b same =
-    let parts = and_parts (same_name a.namespace b.namespace) (same_name a.key b.key) same in
-    let namespaces = same_name-equal a.namespace b.namespace parts.0 in
-    let keys = same_name-equal a.key b.key parts.1 in
-    λ i. record { namespace = namespaces i; key = keys i }
-
-same_sub-equal : (s t : SubName) → same_sub s t ≡ true → s ≡ t
-same_sub-equal (Explicit m) (Explicit n) same = ap Explicit (eqb-true m n same)
-same_sub-equal (Implicit k a) (Implicit l b) same =
-    let parts = and_parts (same_name k l) (same_stream a b) same in
-    let kinds = same_name-equal k l parts.0 in
-    let streams = same_stream-equal a b parts.1 in
-    λ i. Implicit (kinds i) (streams i)
-same_sub-equal (Explicit m) (Implicit l b) same = absurd (false≢true same)
-same_sub-equal (Implicit k a) (Explicit n) same = absurd (false≢true same)
+use Rattle.stream_model.proofs.Values.{same_sub-equal}
 
 or_false : (x : Bool) → x || false ≡ x
 or_false true = refl

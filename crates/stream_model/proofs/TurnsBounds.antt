@@ -1,5 +1,5 @@
 -- Begin and Commit keep the limits.
-use Rattle.std.proofs.Common.{◌≡◌, ℕ, zero, suc, ◌<◌, ◌==◌, ◌&&◌, false, not, nat_lt, List, [], ◌∷◌, ◌++◌, length, drop, Option, Some, None, is_some, refl, subst, arith}
+use Rattle.std.proofs.Common.{◌≡◌, ℕ, suc, ◌<◌, ◌==◌, ◌&&◌, false, not, nat_lt, List, [], ◌∷◌, ◌++◌, length, drop, Option, Some, None, is_some, refl, subst, arith}
 use Rattle.std.proofs.lemmas.Bool.{cond_both, leb-false}
 use Rattle.std.specs.List.{AllByRecursion}
 use Rattle.stream_ident.specs.declared.ident.GrainId.{GrainId}
@@ -15,17 +15,11 @@ use Rattle.stream_model.specs.Positions.{grain_at, is_spent, sub_at}
 use Rattle.stream_model.specs.Turns.{begin, begin_for, begin_front, begin_in, begin_turn, commit, commit_for, commit_running, ended, front_of, turn_size}
 use Rattle.stream_model.specs.Words.{past}
 use Rattle.stream_model.proofs.Beginning.{All-front_of}
-use Rattle.stream_model.proofs.EachOf.{All-append}
+use Rattle.stream_model.proofs.EachOf.{All-append, All-drop}
 use Rattle.stream_model.proofs.RecordBounds.{GrainFits, grain-fits, grain-set, handled-in, sub-set}
 
 abbrev Kept : PlainPartition × Reply → Type 0
 Kept out = IsWithinLimits out.0
-
--- the deliveries behind some
-All-drop : {X : Type 0} (Q : X → Type 0) (n : ℕ) (xs : List X) → AllByRecursion Q xs → AllByRecursion Q (drop n xs)
-All-drop Q zero xs all = all
-All-drop Q (suc n) [] all = tt
-All-drop Q (suc n) (x ∷ xs) all = All-drop Q n xs all.1
 
 bounds-begin_turn : (p : PlainPartition) (g : GrainId) (st : Grain) (s : SubName) (note : ℕ) (positions : List ℕ) → IsWithinLimits p → GrainFits p.log p.rises st → AreIn p.log positions → is_spent p ≡ false → IsWithinLimits (begin_turn p g st s note positions).0
 unfolding begin_turn

@@ -137,3 +137,21 @@ low_after old _ = old
 abbrev pub low_told : List Entry → Token
 low_told [] = batch_token 0
 low_told (e ∷ before) = low_after (low_told before) e.reply
+
+abbrev pub begun_after : ℕ → ℕ → Reply → ℕ
+begun_after k n (Turn sub activation turn events note) = if turn == k then suc n else n
+begun_after k n _ = n
+
+-- how often a turn of this number was handed out
+abbrev pub times_begun : List Entry → ℕ → ℕ
+times_begun [] k = 0
+times_begun (e ∷ before) k = begun_after k (times_begun before k) e.reply
+
+abbrev pub committed_after : ℕ → ℕ → Op → Reply → ℕ
+committed_after k n (Commit grain activation turn note) (Committed sub token) = if turn == k then suc n else n
+committed_after k n _ _ = n
+
+-- how often a turn of this number was committed
+abbrev pub times_committed : List Entry → ℕ → ℕ
+times_committed [] k = 0
+times_committed (e ∷ before) k = committed_after k (times_committed before k) e.op e.reply

@@ -1,5 +1,9 @@
 pub mod Bounds
+pub mod DrainLaws
+pub mod Draining
 pub mod History
+pub mod Laws
+pub mod Least
 pub mod Looks
 pub mod Places
 pub mod Positions

@@ -6,7 +6,7 @@ use Rattle.stream_ident.specs.declared.ident.StreamId.{StreamId}
 use Rattle.stream_ident.specs.declared.ident.SubName.{SubName}
 use Rattle.stream_ident.specs.declared.ident.SubName.TheVariants as name
 use Rattle.stream_ident.specs.declared.token.Token.{Token}
-use Rattle.stream_ident.specs.Name.{same_name}
+use Rattle.stream_ident.specs.Name.{same_grain, same_name}
 use Rattle.stream_ident.specs.SubName.{same_sub}
 use Rattle.stream_ident.specs.Token.{token_lt}
 use Rattle.stream_model.specs.declared.op.Start.{Start}
@@ -18,7 +18,8 @@ use Rattle.stream_model.specs.declared.plain.Subscription.{Subscription}
 use Rattle.stream_model.specs.declared.reply.Reply.{Reply}
 use Rattle.stream_model.specs.declared.reply.Reply.TheVariants as reply
 use Rattle.stream_model.specs.History.{batch_token, events_of}
-use Rattle.stream_model.specs.Positions.{low_token, high_token, lower_bound, sub_at, grain_at, with_sub, with_grain, new_subscription}
+use Rattle.stream_model.specs.Positions.{low_token, high_token, lower_bound, sub_at, with_sub, new_subscription}
+use Rattle.stream_model.specs.Words.{changed_value}
 
 -- A batch has 1 to 64 payloads.
 unfoldable pub publish : PlainPartition → StreamId → List (List ℕ) → PlainPartition × Reply
@@ -46,16 +47,18 @@ subscribe p stream grain (At token) =
 abbrev pub without : SubName → Grain → Grain
 without s st = record st { mailbox = filter (λ d. not (same_sub s d.sub)) st.mailbox }
 
+-- the subscription closed, and its deliveries out of its grain's mailbox; a running turn stays
+abbrev pub unsubscribed : PlainPartition → SubName → Subscription → PlainPartition
+unsubscribed p s r =
+    record (with_sub p s (record r { is_open = false })) { grains = changed_value same_grain r.grain (without s) p.grains }
+
 unfoldable pub unsubscribe_from : PlainPartition → SubName → Option Subscription → PlainPartition × Reply
 unsubscribe_from p (name.Explicit n) None = (p, reply.NoSuch)
 unsubscribe_from p (name.Implicit kind stream) None = (p, reply.NoSuch)
 unsubscribe_from p (name.Implicit kind stream) (Some r) = (p, reply.Implicit)
 unsubscribe_from p (name.Explicit n) (Some r) =
     if not r.is_open then (p, reply.Closed)
-    else (
-      with_grain (with_sub p (name.Explicit n) (record r { is_open = false })) r.grain (without (name.Explicit n) (grain_at p r.grain)),
-      reply.Unsubscribed (length r.handled),
-    )
+    else (unsubscribed p (name.Explicit n) r, reply.Unsubscribed (length r.handled))
 
 unfoldable pub unsubscribe : PlainPartition → SubName → PlainPartition × Reply
 unsubscribe p s = unsubscribe_from p s (sub_at p s)

@@ -1,6 +1,6 @@
 -- One operation on a plain partition: what it leaves, and its reply. A history is legal where each reply
 -- is that of its step.
-use Rattle.std.specs.Prelude.{◌≡◌, ℕ, Bool, true, false, List, [], ◌∷◌, Result, Ok, Err, ⊤}
+use Rattle.std.specs.Prelude.{◌≡◌, ℕ, ◌≤◌, Bool, true, false, List, [], ◌∷◌, Result, Ok, Err}
 use Rattle.std.specs.declared.alloc.AllocError.{AllocError}
 use Rattle.stream_model.specs.declared.limits.Limits.{Limits}
 use Rattle.stream_model.specs.declared.op.Op.{Op}
@@ -51,6 +51,14 @@ Leads p (e ∷ entries) q = ((step p e.op).1 ≡ e.reply) × Leads (step p e.op)
 abbrev pub Stands : ℕ → Limits → List Entry → PlainPartition → Type 0
 Stands blocks limits history p = Leads (empty blocks limits) history p
 
+-- a legal history leads to the partition
+pub record IsReached (p : PlainPartition) : Type 0 where
+  pub blocks : ℕ
+  pub limits : Limits
+  pub history : List Entry
+  pub some_blocks : 1 ≤ blocks
+  pub stands : Stands blocks limits history p
+
 -- The replies of steps that keep more than before. Only these may want memory, and all others, each
 -- refusal among them, are given without it.
 abbrev pub takes_memory : Reply → Bool
@@ -62,15 +70,10 @@ takes_memory (reply.Delivered token) = true
 takes_memory (reply.Committed sub token) = true
 takes_memory _ = false
 
--- the operations that the reference program does so far
-abbrev pub IsSupported : Op → Type 0
-IsSupported (Publish stream payloads) = ⊤
-IsSupported (Subscribe stream grain start) = ⊤
-IsSupported (Pull generation max_events) = ⊤
-IsSupported (Deliver generation sub) = ⊤
-IsSupported (Begin grain max_events) = ⊤
-IsSupported (Commit grain activation turn note) = ⊤
-IsSupported _ = ⊥
+-- The operations that carry payloads. Only a copy of these may want memory.
+abbrev pub has_payloads : Op → Bool
+has_payloads (Publish stream payloads) = true
+has_payloads _ = false
 
 -- a call did what the definition says, or memory was wanting and nothing has changed
 abbrev pub Performs : PlainPartition → PlainPartition → Result Reply AllocError → PlainPartition × Reply → Type 0

@@ -49,6 +49,12 @@ with_value same key value [] = (key, value) ∷ []
 with_value same key value (entry ∷ entries) =
     if same key entry.0 then (entry.0, value) ∷ entries else entry ∷ with_value same key value entries
 
+-- the value at a key changed, where there is one
+abbrev pub changed_value : {K V : Type 0} → (K → K → Bool) → K → (V → V) → List (K × V) → List (K × V)
+changed_value same key change [] = []
+changed_value same key change (entry ∷ entries) =
+    if same key entry.0 then (entry.0, change entry.1) ∷ entries else entry ∷ changed_value same key change entries
+
 -- each value changed
 abbrev pub each_value : {K V : Type 0} → (V → V) → List (K × V) → List (K × V)
 each_value change entries = map (λ entry. (entry.0, change entry.1)) entries

@@ -6,6 +6,8 @@
 //! simple on purpose: it keeps one log, positions in it and lists of records.
 #![tactic(auto)]
 
+mod drain_end;
+pub mod laws;
 mod limits;
 mod op;
 mod plain;
@@ -14,6 +16,7 @@ mod reply;
 mod row;
 mod sequence;
 
+pub use drain_end::DrainEnd;
 pub use limits::Limits;
 pub use op::{Op, Start};
 pub use plain::{Delivery, Grain, PlainPartition, Rule, RunningTurn, Subscription};

@@ -1,4 +1,8 @@
 //! The operations of a partition.
+ghost use Rattle.std.specs.Prelude.{◌≡◌, true, IfOk, OnErr};
+ghost use Rattle.stream_model.specs.Step.{has_payloads};
+
+use std::alloc::{AllocError, Global};
 use stream_ident::{Batch, GrainId, Name, StreamId, SubName, Token};
 
 /// Where a subscription starts.
@@ -119,4 +123,64 @@ pub enum Op {
     },
     /// Asks whether everything is pulled, delivered and handled.
     Quiet,
+}
+
+impl Op {
+    /// An equal operation. Only the payloads of a publish take memory, and where it is wanting this one
+    /// stays as it is.
+    pub fn copy(&self, alloc: Global) -> Result<Op, AllocError>
+        ensures same { IfOk result (λ copied. copied ≡ self.now) }
+        ensures memory { OnErr result (has_payloads self.now ≡ true) }
+    {
+        Ok(match *self {
+            Op::Publish {
+                stream,
+                ref payloads,
+            } => Op::Publish {
+                stream,
+                payloads: payloads.copy(alloc)?,
+            },
+            Op::Subscribe {
+                stream,
+                grain,
+                start,
+            } => Op::Subscribe {
+                stream,
+                grain,
+                start,
+            },
+            Op::Unsubscribe { sub } => Op::Unsubscribe { sub },
+            Op::AddRule { kind, namespace } => Op::AddRule { kind, namespace },
+            Op::Pull { generation, max } => Op::Pull { generation, max },
+            Op::Deliver { generation, sub } => Op::Deliver { generation, sub },
+            Op::Retry { generation, sub } => Op::Retry { generation, sub },
+            Op::Ack {
+                generation,
+                sub,
+                token,
+            } => Op::Ack {
+                generation,
+                sub,
+                token,
+            },
+            Op::Purge { generation, keep } => Op::Purge { generation, keep },
+            Op::Begin { grain, max } => Op::Begin { grain, max },
+            Op::Commit {
+                grain,
+                activation,
+                turn,
+                note,
+            } => Op::Commit {
+                grain,
+                activation,
+                turn,
+                note,
+            },
+            Op::Deactivate { grain } => Op::Deactivate { grain },
+            Op::Move { silo } => Op::Move { silo },
+            Op::Ready { after } => Op::Ready { after },
+            Op::Due { after } => Op::Due { after },
+            Op::Quiet => Op::Quiet,
+        })
+    }
 }

@@ -1,31 +1,46 @@
 //! A plain program that computes the definitions.
 ghost use Rattle.std.specs.Prelude.{◌≡◌, ◌≤◌, true, OnErr};
 ghost use Rattle.stream_model.specs.Bounds.{AreLimits, IsWithinLimits};
+ghost use Rattle.stream_model.specs.Looks.{pending_in};
 ghost use Rattle.stream_model.specs.Positions.{empty};
-ghost use Rattle.stream_model.specs.Step.{step, takes_memory, IsSupported, Performs};
+ghost use Rattle.stream_model.specs.Step.{step, takes_memory, IsReached, Performs};
 
+mod acknowledging;
+mod deactivating;
 mod delivering;
+mod looking;
+mod moving;
 mod positions;
 mod publishing;
 mod pulling;
+mod purging;
 mod records;
+mod rules;
 mod turns;
+mod unsubscribing;
 
 use crate::limits::Limits;
 use crate::op::Op;
 use crate::plain::PlainPartition;
-use crate::reply::Reply;
+use crate::reply::{Pending, Reply};
 use crate::sequence::Sequence;
+use acknowledging::{ack, retry};
+use deactivating::deactivate;
 use delivering::deliver;
+use looking::{due, pending, quiet, ready};
+use moving::move_queue;
 use publishing::{publish, subscribe};
 use pulling::pull;
+use purging::purge;
+use rules::add_rule;
 use std::alloc::{AllocError, Global};
 use std::marker::Model;
 use turns::{begin, commit};
+use unsubscribing::unsubscribe;
 
 /// A partition that keeps the plain data and does each operation as the definition says it.
 ///
-/// A contract sees it as its plain data.
+/// A contract sees it as its plain data, which a legal history leads to.
 #[derive(Debug, Drop)]
 pub struct Partition {
     plain: PlainPartition,
@@ -37,10 +52,11 @@ impl Model for Partition {
     ghost Value = { PlainPartition };
 
     ghost use Rattle.stream_model.specs.Bounds.{IsWithinLimits};
+    ghost use Rattle.stream_model.specs.Step.{IsReached};
 
     ghost view = { λ r. r.plain };
 
-    ghost invariant = { λ r. IsWithinLimits r.plain };
+    ghost invariant = { λ r. IsWithinLimits r.plain × IsReached r.plain };
 }
 
 impl Partition {
@@ -74,17 +90,25 @@ impl Partition {
     /// One operation: its reply, refusals included. Where memory is wanting nothing has changed, and that
     /// comes only where the step keeps more than before.
     pub fn step(&mut self, alloc: Global, op: Op) -> Result<Reply, AllocError>
-        requires supported { IsSupported op }
         ensures performs { Performs self.old self.new result (step self.old op) }
         ensures memory { OnErr result (takes_memory (step self.old op).1 ≡ true) }
     {
         step_plain(&mut self.plain, alloc, op)
     }
 
+    /// Why the partition isn't quiet, the first reason that holds, or none where everything is pulled,
+    /// delivered and handled. It takes no memory and changes nothing.
+    pub fn quiet(&self) -> Option<Pending>
+        ensures { result ≡ pending_in self.now }
+    {
+        pending(&self.plain)
+    }
+
     /// The plain data.
     pub fn plain(&self) -> &PlainPartition
         ensures state { result.now ≡ self.now }
         ensures limits { IsWithinLimits self.now }
+        ensures reached { IsReached self.now }
     {
         &self.plain
     }
@@ -93,7 +117,6 @@ impl Partition {
 /// One operation on the plain data.
 fn step_plain(p: &mut PlainPartition, alloc: Global, op: Op) -> Result<Reply, AllocError>
     requires within { IsWithinLimits p.old }
-    requires supported { IsSupported op }
     ensures performs { Performs p.old p.new result (step p.old op) }
     ensures memory { OnErr result (takes_memory (step p.old op).1 ≡ true) }
 {
@@ -113,15 +136,19 @@ fn step_plain(p: &mut PlainPartition, alloc: Global, op: Op) -> Result<Reply, Al
             turn,
             note,
         } => commit(p, grain, activation, turn, note),
-        Op::Unsubscribe { .. }
-        | Op::AddRule { .. }
-        | Op::Retry { .. }
-        | Op::Ack { .. }
-        | Op::Purge { .. }
-        | Op::Deactivate { .. }
-        | Op::Move { .. }
-        | Op::Ready { .. }
-        | Op::Due { .. }
-        | Op::Quiet => unreachable!(),
+        Op::Retry { generation, sub } => Ok(retry(p, generation, sub)),
+        Op::Ack {
+            generation,
+            sub,
+            token,
+        } => Ok(ack(p, generation, sub, token)),
+        Op::Purge { generation, keep } => Ok(purge(p, generation, keep)),
+        Op::Move { silo } => Ok(move_queue(p, silo)),
+        Op::Ready { after } => Ok(ready(p, after)),
+        Op::Due { after } => Ok(due(p, after)),
+        Op::Quiet => Ok(quiet(p)),
+        Op::Unsubscribe { sub } => Ok(unsubscribe(p, sub)),
+        Op::AddRule { kind, namespace } => add_rule(p, kind, namespace),
+        Op::Deactivate { grain } => Ok(deactivate(p, grain)),
     }
 }

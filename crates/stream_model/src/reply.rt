@@ -1,4 +1,6 @@
 //! The replies of a partition.
+ghost use Rattle.std.specs.Prelude.{◌≡◌};
+
 use crate::row::Row;
 use stream_ident::{Event, GrainId, SubName, Token};
 
@@ -173,4 +175,73 @@ pub enum Reply {
     IsQuiet,
     /// Something is left to do.
     NotQuiet(Pending),
+}
+
+impl Reply {
+    /// An equal reply. It takes no memory.
+    pub fn copy(&self) -> Reply
+        ensures { result ≡ self.now }
+    {
+        match *self {
+            Reply::Published { seq } => Reply::Published { seq },
+            Reply::QueueFull => Reply::QueueFull,
+            Reply::BadBatch => Reply::BadBatch,
+            Reply::Subscribed { number } => Reply::Subscribed { number },
+            Reply::Miss {
+                requested,
+                low,
+                high,
+            } => Reply::Miss {
+                requested,
+                low,
+                high,
+            },
+            Reply::TooMany => Reply::TooMany,
+            Reply::Unsubscribed { handled } => Reply::Unsubscribed { handled },
+            Reply::NoSuch => Reply::NoSuch,
+            Reply::Closed => Reply::Closed,
+            Reply::Implicit => Reply::Implicit,
+            Reply::RuleAdded { from } => Reply::RuleAdded { from },
+            Reply::RuleThere => Reply::RuleThere,
+            Reply::Pulled { count, low, high } => Reply::Pulled { count, low, high },
+            Reply::Pressed { by } => Reply::Pressed { by },
+            Reply::Dry => Reply::Dry,
+            Reply::StaleAgent { now } => Reply::StaleAgent { now },
+            Reply::Delivered { token } => Reply::Delivered { token },
+            Reply::Nothing => Reply::Nothing,
+            Reply::MailboxFull => Reply::MailboxFull,
+            Reply::Rewound => Reply::Rewound,
+            Reply::Acked => Reply::Acked,
+            Reply::NotHandled => Reply::NotHandled,
+            Reply::Purged { low } => Reply::Purged { low },
+            Reply::Turn {
+                sub,
+                activation,
+                turn,
+                ref events,
+                note,
+            } => Reply::Turn {
+                sub,
+                activation,
+                turn,
+                events: events.copy(),
+                note,
+            },
+            Reply::Dropped { sub, token } => Reply::Dropped { sub, token },
+            Reply::Empty => Reply::Empty,
+            Reply::Busy => Reply::Busy,
+            Reply::Committed { sub, token } => Reply::Committed { sub, token },
+            Reply::Stale => Reply::Stale,
+            Reply::Deactivated { lost } => Reply::Deactivated { lost },
+            Reply::NotActive => Reply::NotActive,
+            Reply::Moved { generation, low } => Reply::Moved { generation, low },
+            Reply::Next(grain) => Reply::Next(grain),
+            Reply::NoneReady => Reply::NoneReady,
+            Reply::DueSub { sub, ack } => Reply::DueSub { sub, ack },
+            Reply::NoneDue => Reply::NoneDue,
+            Reply::Spent => Reply::Spent,
+            Reply::IsQuiet => Reply::IsQuiet,
+            Reply::NotQuiet(why) => Reply::NotQuiet(why),
+        }
+    }
 }

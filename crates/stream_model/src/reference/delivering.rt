@@ -163,7 +163,7 @@ fn is_owed(sub: &Subscription, event: &Event) -> bool
 }
 
 /// The least position at or past the cursor that the cache has and the subscription is owed.
-fn next_position(log: &Sequence<Event>, sub: &Subscription, high: usize) -> Option<usize>
+pub fn next_position(log: &Sequence<Event>, sub: &Subscription, high: usize) -> Option<usize>
     ensures exact { result
         ≡ first_at (λ event. is_owed sub.now.stream sub.now.start event) sub.now.cursor (between log.now sub.now.cursor high) }
     ensures within { IfSome result (λ position. position < length log.now) }
@@ -200,7 +200,7 @@ fn runs_in(sub: &SubName, running: &Option<RunningTurn>) -> bool
 }
 
 /// Whether a handled position is at or past the resume.
-fn is_unacknowledged(sub: &Subscription) -> bool
+pub fn is_unacknowledged(sub: &Subscription) -> bool
     ensures { result ≡ is_unacknowledged sub.now }
 {
     is_handled(&sub.handled, sub.resume)

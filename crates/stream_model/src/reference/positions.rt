@@ -142,7 +142,7 @@ fn is_open_at(sub: &Subscription, resume: usize) -> bool
 }
 
 /// The lesser of two names, where there are two.
-fn lesser_name(name: &SubName, other: &Option<SubName>) -> SubName
+pub fn lesser_name(name: &SubName, other: &Option<SubName>) -> SubName
     ensures { result ≡ words.lesser sub_lt name.now other.now }
 {
     match other {

@@ -23,7 +23,7 @@ use std::alloc::{AllocError, Global};
 use stream_ident::{Event, GrainId, SubName};
 
 /// The events of a block of the cache.
-const BLOCK: usize = 64;
+pub const BLOCK: usize = 64;
 
 /// The most events of a pull.
 const PULL_MAX: u32 = 256;

@@ -1,5 +1,5 @@
 //! Look-ups in the records of a partition, and changes of one record in place.
-ghost use Rattle.std.specs.Prelude.{◌≡◌, ◌<◌, ◌≤◌, [], ◌∷◌, ◌++◌, Some, drop, is_ok, length, nat_lt, if◌then◌else◌};
+ghost use Rattle.std.specs.Prelude.{◌≡◌, ◌<◌, ◌≤◌, [], ◌∷◌, ◌++◌, Some, drop, is_ok, length, nat_lt, pred, if◌then◌else◌};
 ghost use Rattle.std.specs.List.{AllByRecursion};
 ghost use Rattle.stream_ident.specs.Name.{same_grain};
 ghost use Rattle.stream_ident.specs.SubName.{same_sub};
@@ -30,6 +30,16 @@ pub fn is_handled(handled: &Sequence<usize>, position: usize) -> bool
     match handled.as_slice().last() {
         Some(last) => position <= *last,
         None => false,
+    }
+}
+
+/// The last handled position, 0 where there is none.
+pub fn last_handled(handled: &Sequence<usize>) -> usize
+    ensures { result ≡ pred (past handled.now) }
+{
+    match handled.as_slice().last() {
+        Some(last) => *last,
+        None => 0,
     }
 }
 

@@ -1,4 +1,6 @@
 use Rattle.std.proofs.Common.{sym, ap, ◌∙◌}
+use Rattle.stream_model.specs.declared.plain.PlainPartition.{PlainPartition}
+use Rattle.stream_model.specs.declared.reply.Reply.{Reply}
 use Rattle.stream_model.specs.Step.{step}
 use Rattle.stream_model.proofs.Answering.{performs-along, memory-along}
 use Rattle.stream_model.proofs.reference.step_plain.Goals as goal
@@ -46,3 +48,50 @@ returns-in-Commit-clause-memory c = memory-along c.commit.result _ _ (ap (step c
 pub returns-in-Begin-clause-performs : goal.returns-in-Begin-clause-performs
 unfolding step
 returns-in-Begin-clause-performs c = c.begin.ensures ∙ ap (step c.args.p.now) (sym c.in-Begin.is)
+
+pub returns-in-Retry-clause-performs : goal.returns-in-Retry-clause-performs
+unfolding step
+returns-in-Retry-clause-performs c = c.retry.ensures ∙ ap (step c.args.p.now) (sym c.in-Retry.is)
+
+pub returns-in-Ack-clause-performs : goal.returns-in-Ack-clause-performs
+unfolding step
+returns-in-Ack-clause-performs c = c.ack.ensures ∙ ap (step c.args.p.now) (sym c.in-Ack.is)
+
+pub returns-in-Purge-clause-performs : goal.returns-in-Purge-clause-performs
+unfolding step
+returns-in-Purge-clause-performs c = c.purge.ensures ∙ ap (step c.args.p.now) (sym c.in-Purge.is)
+
+pub returns-in-Move-clause-performs : goal.returns-in-Move-clause-performs
+unfolding step
+returns-in-Move-clause-performs c = c.move_queue.ensures ∙ ap (step c.args.p.now) (sym c.in-Move.is)
+
+pub returns-in-Ready-clause-performs : goal.returns-in-Ready-clause-performs
+unfolding step
+returns-in-Ready-clause-performs c =
+    ap {B = PlainPartition × Reply} (λ told. (c.args.p.now, told)) c.ready.ensures ∙ ap (step c.args.p.now) (sym c.in-Ready.is)
+
+pub returns-in-Due-clause-performs : goal.returns-in-Due-clause-performs
+unfolding step
+returns-in-Due-clause-performs c =
+    ap {B = PlainPartition × Reply} (λ told. (c.args.p.now, told)) c.due.ensures ∙ ap (step c.args.p.now) (sym c.in-Due.is)
+
+pub returns-in-Quiet-clause-performs : goal.returns-in-Quiet-clause-performs
+unfolding step
+returns-in-Quiet-clause-performs c =
+    ap {B = PlainPartition × Reply} (λ told. (c.args.p.now, told)) c.quiet.ensures ∙ ap (step c.args.p.now) (sym c.in-Quiet.is)
+
+pub returns-in-Unsubscribe-clause-performs : goal.returns-in-Unsubscribe-clause-performs
+unfolding step
+returns-in-Unsubscribe-clause-performs c = c.unsubscribe.ensures ∙ ap (step c.args.p.now) (sym c.in-Unsubscribe.is)
+
+pub returns-in-AddRule-clause-performs : goal.returns-in-AddRule-clause-performs
+unfolding step
+returns-in-AddRule-clause-performs c = performs-along c.args.p.now c.add_rule.new.p c.add_rule.result _ _ (ap (step c.args.p.now) (sym c.in-AddRule.is)) c.add_rule.ensures.performs
+
+pub returns-in-AddRule-clause-memory : goal.returns-in-AddRule-clause-memory
+unfolding step
+returns-in-AddRule-clause-memory c = memory-along c.add_rule.result _ _ (ap (step c.args.p.now) (sym c.in-AddRule.is)) c.add_rule.ensures.memory
+
+pub returns-in-Deactivate-clause-performs : goal.returns-in-Deactivate-clause-performs
+unfolding step
+returns-in-Deactivate-clause-performs c = c.deactivate.ensures ∙ ap (step c.args.p.now) (sym c.in-Deactivate.is)

@@ -2,7 +2,7 @@ use Rattle.std.proofs.Common.{◌≡◌, ℕ, take, ◌+◌, ◌≤◌, List, []
 use Rattle.std.proofs.lemmas.List.{reverse-append}
 use Rattle.stream_model.specs.declared.op.Op.{Op}
 use Rattle.stream_model.specs.declared.reply.Reply.{Reply}
-use Rattle.step_core.specs.Run.{Does, AreSupported}
+use Rattle.step_core.specs.Run.{Does}
 use Rattle.step_core.proofs.RunLemmas.{Does-more, Does-front}
 use Rattle.step_core.proofs.partition.Partition.run.Goals as goal
 
@@ -17,11 +17,9 @@ loop-op-preserved c =
     let whole : c.args.ops.items ≡ (done ++ op ∷ []) ++ reverse rest =
     so_far.1 ∙ ap (λ left. done ++ left) reversed ∙ sym (append_assoc done (op ∷ []) (reverse rest)) in
     let does : Does (done ++ op ∷ []) c.args.self.now c.step.new.self c.args.replies.now.items (c.loop-op.replies.items ++ c.in_ok-reply.reply ∷ []) =
-    Does-more done op c.args.self.now c.loop-op.self c.step.new.self c.args.replies.now.items c.loop-op.replies.items c.in_ok-reply.reply so_far.2 c.in_ok-reply.ensures.performs in
-    let supported : AreSupported (op ∷ reverse rest) = subst AreSupported reversed c.loop-op.invariant.1 in (
+    Does-more done op c.args.self.now c.loop-op.self c.step.new.self c.args.replies.now.items c.loop-op.replies.items c.in_ok-reply.reply so_far.2 c.in_ok-reply.ensures.performs in (
       (done ++ op ∷ [], whole, subst (λ replies. Does (done ++ op ∷ []) c.args.self.now c.step.new.self c.args.replies.now.items replies) (sym c.in_ok-push.ensures.items) does),
-      supported.1,
-      omega (arith, ap length c.in_ok-push.ensures.items, length-append c.loop-op.replies.items (c.in_ok-reply.reply ∷ []), c.in-Some.ensures.len, c.push.ensures.capacity, c.loop-op.invariant.2),
+      omega (arith, ap length c.in_ok-push.ensures.items, length-append c.loop-op.replies.items (c.in_ok-reply.reply ∷ []), c.in-Some.ensures.len, c.push.ensures.capacity, c.loop-op.invariant.1),
     )
 
 pub returns-in_err-reply-clause-front : goal.returns-in_err-reply-clause-front

@@ -1,0 +1,64 @@
+-- The least key of a list whose value passes, found from the last to the first.
+use Rattle.std.proofs.Common.{◌≡◌, ◌∙◌, ap, sym, refl, ℕ, ◌+◌, ◌-◌, ◌<◌, ◌≤◌, ◌&&◌, Bool, true, false, List, [], ◌∷◌, Option, Some, None, length, map, filter, drop, get_or, arith}
+use Rattle.std.specs.Prelude.{if◌then◌else◌}
+use Rattle.std.proofs.lemmas.List.{drop_all, drop_more}
+use Rattle.stream_model.specs.Least.{is_above, least_key}
+use Rattle.stream_model.specs.Words.{above, keys_where, least, lesser}
+
+-- a key that is above the given one, and one that isn't
+above-there : {K : Type 0} (lt : K → K → Bool) (after : Option K) (key : K) (keys : List K) → is_above lt after key ≡ true → above lt after (key ∷ keys) ≡ key ∷ above lt after keys
+above-there lt None key keys is_there = refl
+above-there lt (Some a) key keys is_there = rw is_there refl
+
+above-not : {K : Type 0} (lt : K → K → Bool) (after : Option K) (key : K) (keys : List K) → is_above lt after key ≡ false → above lt after (key ∷ keys) ≡ above lt after keys
+above-not lt None key keys is_not = absurd (cc)
+above-not lt (Some a) key keys is_not = rw is_not refl
+
+-- the keys that pass, by whether the first does
+abbrev keys_by : {K V : Type 0} → (V → Bool) → K × V → List (K × V) → Bool → List K
+keys_by passes entry rest b =
+    map (λ entry. entry.0) (if b then entry ∷ filter (λ entry. passes entry.1) rest else filter (λ entry. passes entry.1) rest)
+
+-- a key that passes, and one that doesn't
+there : {K V : Type 0} (lt : K → K → Bool) (after : Option K) (passes : V → Bool) (entry : K × V) (rest : List (K × V)) → (passes entry.1 && is_above lt after entry.0) ≡ true → least_key lt after passes (entry ∷ rest) ≡ Some (lesser lt entry.0 (least_key lt after passes rest))
+there lt after passes entry rest is_there =
+    (elim (passes entry.1) as (λ b. (b && is_above lt after entry.0) ≡ true → least lt (above lt after (keys_by passes entry rest b)) ≡ Some (lesser lt entry.0 (least_key lt after passes rest))) [
+      | true ↦ λ is_there. ap (least lt) (above-there lt after entry.0 (keys_where passes rest) is_there)
+      | false ↦ λ is_there. absurd (cc)
+    ]) is_there
+
+not-there : {K V : Type 0} (lt : K → K → Bool) (after : Option K) (passes : V → Bool) (entry : K × V) (rest : List (K × V)) → (passes entry.1 && is_above lt after entry.0) ≡ false → least_key lt after passes (entry ∷ rest) ≡ least_key lt after passes rest
+not-there lt after passes entry rest is_not =
+    (elim (passes entry.1) as (λ b. (b && is_above lt after entry.0) ≡ false → least lt (above lt after (keys_by passes entry rest b)) ≡ least_key lt after passes rest) [
+      | true ↦ λ is_not. ap (least lt) (above-not lt after entry.0 (keys_where passes rest) is_not)
+      | false ↦ λ is_not. refl
+    ]) is_not
+
+-- where none is given each key is above
+pub of-all : (passes is : Bool) → passes ≡ is → (passes && true) ≡ is
+of-all true is e = e
+of-all false is e = e
+
+-- what is left from the item before this place on
+split : {K V : Type 0} (entries : List (K × V)) (i : ℕ) (entry : K × V) → 0 < i → i - 1 < length entries → entry ≡ get_or entries (i - 1) entry → drop (i - 1) entries ≡ entry ∷ drop i entries
+split entries i entry some within is =
+    let next : i - 1 + 1 ≡ i = omega arith in
+    drop_more entries (i - 1) entry within ∙ ap (λ first. first ∷ drop (i - 1 + 1) entries) (sym is) ∙ ap (λ n. entry ∷ drop n entries) next
+
+-- past the end there is none
+least_key-nil : {K V : Type 0} (lt : K → K → Bool) (after : Option K) (passes : V → Bool) (entries : List (K × V)) → entries ≡ [] → None ≡ least_key lt after passes entries
+least_key-nil lt None passes entries none = sym (ap (least_key lt None passes) none)
+least_key-nil lt (Some a) passes entries none = sym (ap (least_key lt (Some a) passes) none)
+
+pub least_key-end : {K V : Type 0} (lt : K → K → Bool) (after : Option K) (passes : V → Bool) (entries : List (K × V)) (n : ℕ) → length entries ≤ n → None ≡ least_key lt after passes (drop n entries)
+least_key-end lt after passes entries n past = least_key-nil lt after passes (drop n entries) (drop_all n entries past)
+
+-- one place down, at such a key
+pub least_key-there : {K V : Type 0} (lt : K → K → Bool) (after : Option K) (passes : V → Bool) (entries : List (K × V)) (i : ℕ) (entry : K × V) (found : Option K) → 0 < i → i - 1 < length entries → entry ≡ get_or entries (i - 1) entry → (passes entry.1 && is_above lt after entry.0) ≡ true → found ≡ least_key lt after passes (drop i entries) → Some (lesser lt entry.0 found) ≡ least_key lt after passes (drop (i - 1) entries)
+least_key-there {K} {V} lt after passes entries i entry found some within is is_there was =
+    ap {B = Option K} (λ name. Some (lesser lt entry.0 name)) was ∙ sym (there lt after passes entry (drop i entries) is_there) ∙ ap (least_key lt after passes) (sym (split entries i entry some within is))
+
+-- one place down, at another
+pub least_key-not : {K V : Type 0} (lt : K → K → Bool) (after : Option K) (passes : V → Bool) (entries : List (K × V)) (i : ℕ) (entry : K × V) (found : Option K) → 0 < i → i - 1 < length entries → entry ≡ get_or entries (i - 1) entry → (passes entry.1 && is_above lt after entry.0) ≡ false → found ≡ least_key lt after passes (drop i entries) → found ≡ least_key lt after passes (drop (i - 1) entries)
+least_key-not lt after passes entries i entry found some within is is_not was =
+    was ∙ sym (not-there lt after passes entry (drop i entries) is_not) ∙ ap (least_key lt after passes) (sym (split entries i entry some within is))

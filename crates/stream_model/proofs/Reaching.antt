@@ -1,0 +1,64 @@
+-- A legal history and what it leads to, one step further.
+use Rattle.std.proofs.Common.{◌≡◌, ℕ, ◌≤◌, List, [], ◌∷◌, ◌++◌, Result, Ok, Err, refl, sym, ap, subst, ◌∙◌, arith}
+use Rattle.std.specs.declared.alloc.AllocError.{AllocError}
+use Rattle.stream_ident.specs.declared.event.Event.{Event}
+use Rattle.stream_ident.specs.declared.ident.GrainId.{GrainId}
+use Rattle.stream_ident.specs.declared.ident.SubName.{SubName}
+use Rattle.stream_model.specs.declared.limits.Limits.{Limits}
+use Rattle.stream_model.specs.declared.op.Op.{Op}
+use Rattle.stream_model.specs.declared.plain.Grain.{Grain}
+use Rattle.stream_model.specs.declared.plain.PlainPartition.{PlainPartition}
+use Rattle.stream_model.specs.declared.plain.Rule.{Rule}
+use Rattle.stream_model.specs.declared.plain.Subscription.{Subscription}
+use Rattle.stream_model.specs.declared.reply.Reply.{Reply}
+use Rattle.stream_model.specs.Bounds.{AreLimits, IsWithinLimits}
+use Rattle.stream_model.specs.History.{Entry}
+use Rattle.stream_model.specs.Positions.{empty}
+use Rattle.stream_model.specs.Step.{step, Leads, IsReached, Performs}
+use Rattle.stream_model.proofs.DrainLeads.{leads-append}
+
+reached-empty : (blocks : ℕ) (limits : Limits) → 1 ≤ blocks → IsReached (empty blocks limits)
+reached-empty blocks limits some = record { blocks = blocks; limits = limits; history = []; some_blocks = some; stands = refl }
+
+within-empty : (blocks : ℕ) (limits : Limits) → blocks ≤ 64 → AreLimits limits → IsWithinLimits (empty blocks limits)
+within-empty blocks limits bound are = record {
+  limits = are;
+  events = omega arith;
+  batches = omega arith;
+  subs = omega arith;
+  explicit = omega arith;
+  names = tt;
+  handled = tt;
+  blocks = bound;
+  rules = omega arith;
+  rises = omega arith;
+  turns = omega arith;
+  generation = omega arith;
+  activations = tt;
+  waiting = tt;
+  running = tt;
+}
+
+-- a new partition, whose lists are empty
+pub new-partition : (blocks : ℕ) (limits : Limits) (log : List Event) (subs : List (SubName × Subscription)) (rules : List Rule) (grains : List (GrainId × Grain))
+    → log ≡ [] → subs ≡ [] → rules ≡ [] → grains ≡ [] → 1 ≤ blocks → blocks ≤ 64 → AreLimits limits
+    → (p : PlainPartition) → p ≡ record (empty blocks limits) { log = log; subs = subs; rules = rules; grains = grains } → IsWithinLimits p × IsReached p
+new-partition blocks limits log subs rules grains no_log no_subs no_rules no_grains some bound are p is =
+    let same : p ≡ empty blocks limits = is ∙ (λ i. record (empty blocks limits) { log = no_log i; subs = no_subs i; rules = no_rules i; grains = no_grains i }) in
+    subst (λ (q : PlainPartition). IsWithinLimits q × IsReached q) (sym same) (within-empty blocks limits bound are, reached-empty blocks limits some)
+
+pub reached-leads : (p : PlainPartition) (entries : List Entry) (q : PlainPartition) → IsReached p → Leads p entries q → IsReached q
+reached-leads p entries q reached leads = record {
+  blocks = reached.blocks;
+  limits = reached.limits;
+  history = reached.history ++ entries;
+  some_blocks = reached.some_blocks;
+  stands = leads-append (empty reached.blocks reached.limits) p q reached.history entries reached.stands leads;
+}
+
+-- what an operation leaves is reached
+pub reached-after : (old new : PlainPartition) (op : Op) (r : Result Reply AllocError) → Performs old new r (step old op) → IsReached old → IsReached new
+reached-after old new op (Ok told) performs reached =
+    let left : new ≡ (step old op).0 = ap (λ out. out.0) performs in
+    reached-leads old (record { op = op; reply = (step old op).1 } ∷ []) new reached (refl, left)
+reached-after old new op (Err e) unchanged reached = subst IsReached (sym unchanged) reached

@@ -1,0 +1,133 @@
+-- Names that are the same, and look-ups in lists of keys with their values after a change.
+use Rattle.std.proofs.Common.{◌≡◌, ℕ, Bool, true, false, List, [], ◌∷◌, ◌++◌, Option, Some, None, if◌then◌else◌, refl, ap, subst}
+use Rattle.std.proofs.lemmas.Bool.{and_from, and_parts, eqb-true, eq-eqb, false≢true}
+use Rattle.std.specs.Cmp.Lexicographic.{bytes_decides}
+use Rattle.stream_ident.specs.declared.ident.GrainId.{GrainId}
+use Rattle.stream_ident.specs.declared.ident.StreamId.{StreamId}
+use Rattle.stream_ident.specs.declared.ident.SubName.{SubName}
+use Rattle.stream_ident.specs.declared.ident.SubName.TheVariants.{Explicit, Implicit}
+use Rattle.stream_ident.specs.Name.{same_name, same_stream, same_grain}
+use Rattle.stream_ident.specs.SubName.{same_sub}
+use Rattle.stream_model.specs.Words.{value_at, with_value, changed_value, each_value, or_else}
+
+pub same_name-equal : (a b : List ℕ) → same_name a b ≡ true → a ≡ b
+same_name-equal a b same = (bytes_decides a b).0 same
+
+pub same_name-refl : (a : List ℕ) → same_name a a ≡ true
+same_name-refl a = (bytes_decides a a).1 refl
+
+pub same_stream-equal : (a b : StreamId) → same_stream a b ≡ true → a ≡ b
+same_stream-equal a b same =
+    let parts = and_parts (same_name a.namespace b.namespace) (same_name a.key b.key) same in
+    let namespaces = same_name-equal a.namespace b.namespace parts.0 in
+    let keys = same_name-equal a.key b.key parts.1 in
+    λ i. record { namespace = namespaces i; key = keys i }
+
+pub same_stream-refl : (a : StreamId) → same_stream a a ≡ true
+same_stream-refl a = and_from (same_name a.namespace a.namespace) (same_name a.key a.key) (same_name-refl a.namespace) (same_name-refl a.key)
+
+pub same_grain-equal : (a b : GrainId) → same_grain a b ≡ true → a ≡ b
+same_grain-equal a b same =
+    let parts = and_parts (same_name a.kind b.kind) (same_name a.key b.key) same in
+    let kinds = same_name-equal a.kind b.kind parts.0 in
+    let keys = same_name-equal a.key b.key parts.1 in
+    λ i. record { kind = kinds i; key = keys i }
+
+pub same_grain-refl : (a : GrainId) → same_grain a a ≡ true
+same_grain-refl a = and_from (same_name a.kind a.kind) (same_name a.key a.key) (same_name-refl a.kind) (same_name-refl a.key)
+
+pub same_sub-equal : (a b : SubName) → same_sub a b ≡ true → a ≡ b
+same_sub-equal (Explicit m) (Explicit n) same = ap Explicit (eqb-true m n same)
+same_sub-equal (Explicit m) (Implicit kind stream) same = absurd (false≢true same)
+same_sub-equal (Implicit kind stream) (Explicit n) same = absurd (false≢true same)
+same_sub-equal (Implicit kind stream) (Implicit other_kind other_stream) same =
+    let parts = and_parts (same_name kind other_kind) (same_stream stream other_stream) same in
+    let kinds = same_name-equal kind other_kind parts.0 in
+    let streams = same_stream-equal stream other_stream parts.1 in
+    λ i. Implicit (kinds i) (streams i)
+
+pub same_sub-refl : (a : SubName) → same_sub a a ≡ true
+same_sub-refl (Explicit m) = eq-eqb m m refl
+same_sub-refl (Implicit kind stream) = and_from (same_name kind kind) (same_stream stream stream) (same_name-refl kind) (same_stream-refl stream)
+
+-- a test of keys that holds of equal ones alone
+pub record IsEquality {K : Type 0} (same : K → K → Bool) : Type 0 where
+  pub equal : (a b : K) → same a b ≡ true → a ≡ b
+  pub reflexive : (a : K) → same a a ≡ true
+
+pub sub_equality : IsEquality same_sub
+sub_equality = record { equal = same_sub-equal; reflexive = same_sub-refl }
+
+pub grain_equality : IsEquality same_grain
+grain_equality = record { equal = same_grain-equal; reflexive = same_grain-refl }
+
+-- the value at the key that was set
+pub with_value-at : {K V : Type 0} (same : K → K → Bool) → IsEquality same → (k : K) (v : V) (entries : List (K × V)) → value_at same k (with_value same k v entries) ≡ Some v
+with_value-at same is k v [] = rw (is.reflexive k) refl
+with_value-at {K} {V} same is k v (entry ∷ entries) =
+    (elim (same k entry.0) as (λ b. same k entry.0 ≡ b → value_at same k (if b then (entry.0, v) ∷ entries else entry ∷ with_value same k v entries) ≡ Some v) [
+      | true ↦ λ here. rw here refl
+      | false ↦ λ there. rw there (with_value-at same is k v entries)
+    ]) refl
+
+-- and at another key
+pub with_value-other : {K V : Type 0} (same : K → K → Bool) → IsEquality same → (q k : K) (v : V) (entries : List (K × V)) → same q k ≡ false → value_at same q (with_value same k v entries) ≡ value_at same q entries
+with_value-other same is q k v [] other = rw other refl
+with_value-other {K} {V} same is q k v (entry ∷ entries) other =
+    (elim (same k entry.0) as (λ b. same k entry.0 ≡ b → value_at same q (if b then (entry.0, v) ∷ entries else entry ∷ with_value same k v entries) ≡ value_at same q (entry ∷ entries)) [
+      | true ↦ λ here.
+          let away : same q entry.0 ≡ false = subst (λ x. same q x ≡ false) (is.equal k entry.0 here) other in
+          rw away refl
+      | false ↦ λ there.
+          (elim (same q entry.0) as (λ c. (if c then Some entry.1 else value_at same q (with_value same k v entries)) ≡ (if c then Some entry.1 else value_at same q entries)) [
+            | true ↦ refl
+            | false ↦ with_value-other same is q k v entries other
+          ])
+    ]) refl
+
+-- a value that was found, changed
+abbrev pub changed_option : {V : Type 0} → (V → V) → Option V → Option V
+changed_option change None = None
+changed_option change (Some v) = Some (change v)
+
+-- the value at the key that was changed, where there is one
+pub changed_value-at : {K V : Type 0} (same : K → K → Bool) (k : K) (change : V → V) (entries : List (K × V)) → value_at same k (changed_value same k change entries) ≡ changed_option change (value_at same k entries)
+changed_value-at same k change [] = refl
+changed_value-at {K} {V} same k change (entry ∷ entries) =
+    (elim (same k entry.0) as (λ b. same k entry.0 ≡ b → value_at same k (if b then (entry.0, change entry.1) ∷ entries else entry ∷ changed_value same k change entries) ≡ changed_option change (if b then Some entry.1 else value_at same k entries)) [
+      | true ↦ λ here. rw here refl
+      | false ↦ λ there. rw there (changed_value-at same k change entries)
+    ]) refl
+
+-- and at another key
+pub changed_value-other : {K V : Type 0} (same : K → K → Bool) → IsEquality same → (q k : K) (change : V → V) (entries : List (K × V)) → same q k ≡ false → value_at same q (changed_value same k change entries) ≡ value_at same q entries
+changed_value-other same is q k change [] other = refl
+changed_value-other {K} {V} same is q k change (entry ∷ entries) other =
+    (elim (same k entry.0) as (λ b. same k entry.0 ≡ b → value_at same q (if b then (entry.0, change entry.1) ∷ entries else entry ∷ changed_value same k change entries) ≡ value_at same q (entry ∷ entries)) [
+      | true ↦ λ here.
+          let away : same q entry.0 ≡ false = subst (λ x. same q x ≡ false) (is.equal k entry.0 here) other in
+          rw away refl
+      | false ↦ λ there.
+          (elim (same q entry.0) as (λ c. (if c then Some entry.1 else value_at same q (changed_value same k change entries)) ≡ (if c then Some entry.1 else value_at same q entries)) [
+            | true ↦ refl
+            | false ↦ changed_value-other same is q k change entries other
+          ])
+    ]) refl
+
+-- each value changed
+pub each_value-at : {K V : Type 0} (same : K → K → Bool) (q : K) (change : V → V) (entries : List (K × V)) → value_at same q (each_value change entries) ≡ changed_option change (value_at same q entries)
+each_value-at same q change [] = refl
+each_value-at {K} {V} same q change (entry ∷ entries) =
+    elim (same q entry.0) as (λ b. (if b then Some (change entry.1) else value_at same q (each_value change entries)) ≡ changed_option change (if b then Some entry.1 else value_at same q entries)) [
+      | true ↦ refl
+      | false ↦ each_value-at same q change entries
+    ]
+
+-- entries at the end
+pub append-at : {K V : Type 0} (same : K → K → Bool) (q : K) (entries more : List (K × V)) → value_at same q (entries ++ more) ≡ or_else (value_at same q entries) (value_at same q more)
+append-at same q [] more = refl
+append-at {K} {V} same q (entry ∷ entries) more =
+    elim (same q entry.0) as (λ b. (if b then Some entry.1 else value_at same q (entries ++ more)) ≡ or_else (if b then Some entry.1 else value_at same q entries) (value_at same q more)) [
+      | true ↦ refl
+      | false ↦ append-at same q entries more
+    ]
