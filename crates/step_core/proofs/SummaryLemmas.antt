@@ -1,26 +1,40 @@
 -- Summaries in the order of their names.
-use Rattle.std.specs.Prelude.{◌≡◌, Bool, true, false, refl}
-use Rattle.std.proofs.Common.{Ordering, Less, Equal, Greater, sym, ◌∙◌, ap}
-use Rattle.std.specs.Ordering.{is_lt, ordering_then, is_some_and}
+use denote.Param.Members.{Mut}
+use Rattle.std.specs.Prelude.{◌≡◌, Bool, List}
+use Rattle.std.proofs.Common.{Bor, sym, ◌∙◌, ap, subst}
+use Rattle.std.proofs.lemmas.Fn.{always_returns_same}
+use Rattle.std.proofs.lemmas.List.MinMax.{ranks_by}
+use Rattle.std.specs.Cmp.{IsStrictWeakOrder}
+use Rattle.std.specs.Fn.{Called}
+use Rattle.std.specs.List.Sorted.{IsSortedBy, IsSortedByKeyClosure, IsStableBy, IsStableByKeyClosure}
+use Rattle.std.specs.Ordering.{is_lt, is_some_and}
 use Rattle.stream_ident.proofs.OrderLemmas.{sub_before}
 use Rattle.stream_ident.specs.declared.ident.SubName.{SubName}
-use Rattle.stream_ident.specs.declared.ident.SubName.TheVariants.{Explicit, Implicit}
 use Rattle.stream_ident.specs.SubName.{sub_lt}
 use Rattle.stream_ident.specs.contracts.ident.SubNameOrd.TheImpl as name_order
-use Rattle.stream_ident.specs.contracts.ident.SubNameOrd.TheImpl.Laws.{matches_partial_cmp-law}
-use Rattle.stream_ident.specs.contracts.ident.SubNamePartialOrd.TheImpl as name_partial_order
+use Rattle.stream_ident.specs.contracts.ident.SubNameOrd.TheImpl.Laws.{matches_partial_cmp-law, total-law}
+use Rattle.stream_model.specs.Draining.{in_order}
 use Rattle.step_core.specs.declared.summary.SubSummary.{SubSummary}
 use Rattle.step_core.specs.Reads.{is_named_before}
-use Rattle.step_core.specs.contracts.summary.SubSummaryOrd.TheImpl as order
-
--- what isn't less isn't named before
-then_not_lt : (first later : Ordering) → is_lt (ordering_then first later) ≡ false → is_lt first ≡ false
-then_not_lt Less later h = h
-then_not_lt Equal later h = refl
-then_not_lt Greater later h = refl
+use Rattle.step_core.proofs.SortedOnce.{sorted-stable}
 
 name_before : (a b : SubName) → is_lt (name_order.ghosts.cmp a b) ≡ sub_lt a b
 name_before a b = ap (is_some_and is_lt) (sym (matches_partial_cmp-law a b)) ∙ sub_before a b
 
-pub not_named_before : (a b : SubSummary) → is_lt (order.ghosts.cmp a b) ≡ false → is_named_before a b ≡ false
-not_named_before a b h = sym (name_before a.name b.name) ∙ then_not_lt (name_order.ghosts.cmp a.name b.name) _ h
+abbrev has_lesser_name : SubSummary → SubSummary → Bool
+has_lesser_name a b = is_lt (name_order.ghosts.cmp a.name b.name)
+
+named_before : has_lesser_name ≡ is_named_before
+named_before = λ i a b. name_before a.name b.name i
+
+-- what a stable sort gives whose key is the name
+pub in_name_order : {F : Type 0} {g : Mut F (Bor SubSummary × Unit {0}) SubName} {f : F} (xs ys : List SubSummary)
+    → IsSortedByKeyClosure g name_order.ghosts.cmp f ys → IsStableByKeyClosure g name_order.ghosts.cmp f xs ys
+    → ((a : Bor SubSummary × Unit {0}) (r : SubName) (f' : F) → Called g f a r f' → (r ≡ a.0.now.name) × (f' ≡ f))
+    → ys ≡ in_order is_named_before xs
+in_name_order {g = g} {f = f} xs ys up same gives =
+    let name : SubSummary → SubName = λ summary. summary.name in
+    let keyed = always_returns_same g (λ a r. r ≡ name a.0.now) f gives in
+    sorted-stable is_named_before (subst IsStrictWeakOrder named_before (ranks_by total-law name)) xs ys
+    (subst (λ lt. IsSortedBy lt ys) named_before (up name keyed))
+    (subst (λ lt. IsStableBy lt xs ys) named_before (same name keyed))

@@ -1,7 +1,10 @@
 pub mod Reads
 pub mod Run
 pub use Rattle.stream_model.specs.Bounds
+pub use Rattle.stream_model.specs.DrainLaws
+pub use Rattle.stream_model.specs.Draining
 pub use Rattle.stream_model.specs.History
+pub use Rattle.stream_model.specs.Laws
 pub use Rattle.stream_model.specs.Looks
 pub use Rattle.stream_model.specs.Positions
 pub use Rattle.stream_model.specs.Publishing

@@ -1,10 +1,11 @@
 -- What a partition tells of itself.
-use Rattle.std.specs.Prelude.{◌≡◌, ℕ, Bool, List, [], Option, Some, None, map}
+use Rattle.std.specs.Prelude.{Bool, List, [], Option, Some, None, map}
 use Rattle.stream_ident.specs.declared.event.Event.{Event}
 use Rattle.stream_ident.specs.declared.ident.SubName.{SubName}
 use Rattle.stream_ident.specs.SubName.{sub_lt}
 use Rattle.stream_model.specs.declared.plain.PlainPartition.{PlainPartition}
 use Rattle.stream_model.specs.declared.plain.Subscription.{Subscription}
+use Rattle.stream_model.specs.Draining.{in_order}
 use Rattle.stream_model.specs.Positions.{events_at, sub_at}
 use Rattle.step_core.specs.declared.summary.SubSummary.{SubSummary}
 
@@ -19,6 +20,10 @@ summaries_of p = map summary_of p.subs
 -- by the order of names
 abbrev pub is_named_before : SubSummary → SubSummary → Bool
 is_named_before a b = sub_lt a.name b.name
+
+-- the summaries from the least name to the greatest
+abbrev pub summaries_in_order : PlainPartition → List SubSummary
+summaries_in_order p = in_order is_named_before (summaries_of p)
 
 abbrev pub handled_by : PlainPartition → Option Subscription → List Event
 handled_by p None = []

@@ -10,5 +10,5 @@ mod summary;
 mod tests;
 
 pub use partition::Partition;
-pub use stream_model::{Events, Limits, Op, Pending, Reply, Start};
+pub use stream_model::{DrainEnd, Events, Limits, Op, Pending, Reply, Start, laws};
 pub use summary::SubSummary;

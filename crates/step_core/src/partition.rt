@@ -1,21 +1,21 @@
 //! The partition.
 ghost use Rattle.std.specs.Prelude.{◌≡◌, ◌≤◌, ◌<◌, ◌++◌, true, length, All, IfOk, OnOk, OnErr, map};
-ghost use Rattle.std.specs.List.Sorted.{IsPermutation, IsSortedBy};
 ghost use Rattle.std.specs.Option.{option_copied};
 ghost use Rattle.stream_ident.specs.SubName.{same_sub};
 ghost use Rattle.stream_model.specs.Bounds.{AreLimits, IsWithinLimits};
+ghost use Rattle.stream_model.specs.Draining.{DrainsTo};
 ghost use Rattle.stream_model.specs.Looks.{pending_in};
 ghost use Rattle.stream_model.specs.Positions.{empty, low_token, high_token, token_at, events_at};
 ghost use Rattle.stream_model.specs.Step.{step, takes_memory, Performs};
 ghost use Rattle.stream_model.specs.Words.{value_at};
-ghost use Rattle.step_core.specs.Reads.{summary_of, summaries_of, is_named_before, handled_of};
+ghost use Rattle.step_core.specs.Reads.{summary_of, summaries_in_order, handled_of};
 ghost use Rattle.step_core.specs.Run.{Does, DoesFront};
 
 use crate::summary::SubSummary;
 use std::alloc::{AllocError, Global};
 use std::marker::Model;
 use stream_ident::{Event, SubName, Token};
-use stream_model::{Limits, Op, Pending, PlainPartition, Reply, Subscription, reference};
+use stream_model::{DrainEnd, Limits, Op, Pending, PlainPartition, Reply, Subscription, reference};
 
 /// A partition.
 ///
@@ -84,6 +84,19 @@ impl Partition {
         Ok(())
     }
 
+    /// Does all that is left to do: what waits is handled, each open subscription is delivered to and its
+    /// events handled, one at a time, and more is pulled, until the queue has nothing more. The note of each
+    /// turn is one more than that before. Nothing is done where a turn runs.
+    ///
+    /// # Errors
+    /// Memory. The first of the operations are done, and no other; a turn that was begun may run then, and
+    /// the next drain is stuck until it is committed or its grain deactivated.
+    pub fn drain(&mut self, alloc: Global) -> Result<DrainEnd, AllocError>
+        ensures drains { DrainsTo self.old self.new result }
+    {
+        self.inner.drain(alloc)
+    }
+
     /// Why the partition isn't quiet, the first reason that holds, or none where everything is pulled,
     /// delivered and handled. It takes no memory.
     pub fn quiet(&self) -> Option<Pending>
@@ -122,11 +135,10 @@ impl Partition {
     /// # Errors
     /// Memory.
     pub fn subs(&self, alloc: Global) -> Result<Vec<SubSummary>, AllocError>
-        ensures each { IfOk result (λ subs. IsPermutation (summaries_of self.now) subs.items) }
-        ensures ordered { IfOk result (λ subs. IsSortedBy is_named_before subs.items) }
+        ensures { IfOk result (λ subs. subs.items ≡ summaries_in_order self.now) }
     {
         let mut subs = summaries(alloc, self.inner.plain().subs.as_slice())?;
-        subs.sort()?;
+        subs.sort_by_key(|summary| summary.name)?;
         Ok(subs)
     }
 

@@ -1,6 +1,6 @@
 use crate::{Limits, Op, Partition, Reply, Start};
 use std::test::Fail;
-use stream_ident::{GrainId, StreamId, SubName, Token};
+use stream_ident::{Batch, GrainId, Name, Payload, StreamId, SubName, Token};
 
 #[test]
 fn operations_run_and_show(rt: HostRuntime) -> Result<(), Fail> {
@@ -23,5 +23,34 @@ fn operations_run_and_show(rt: HostRuntime) -> Result<(), Fail> {
     assert!(rt; subs[0].name == SubName::Explicit(1) && subs[0].start == start && subs[0].is_open);
     assert!(rt; partition.quiet().is_none());
     assert!(rt; partition.handled(alloc, &SubName::Explicit(1))?.is_empty());
+    Ok(())
+}
+
+/// The rule's subscription has its record first, and its name comes last.
+#[test]
+fn names_stand_in_order(rt: HostRuntime) -> Result<(), Fail> {
+    let alloc = rt.alloc();
+    let (kind, namespace) = (Name::new(b"g")?, Name::new(b"o")?);
+    let (stream, grain) = (StreamId::new(b"o", b"k")?, GrainId::new(b"g", b"k")?);
+    let payloads = Batch::of(vec![in alloc; Payload::new(b"a")?]?);
+    let ops = vec![in alloc;
+        Op::AddRule { kind, namespace },
+        Op::Publish { stream, payloads },
+        Op::Pull {
+            generation: 0,
+            max: 1
+        },
+        Op::Subscribe {
+            stream,
+            grain,
+            start: Start::Latest
+        },
+    ]?;
+    let mut partition = Partition::new(alloc, 4, Limits::GREATEST)?;
+    partition.run(alloc, ops, &mut Vec::new(alloc))?;
+    let subs = partition.subs(alloc)?;
+    assert_eq!(rt; subs.len(), 2);
+    assert!(rt; subs[0].name == SubName::Explicit(1));
+    assert!(rt; subs[1].name == SubName::Implicit { kind, stream });
     Ok(())
 }

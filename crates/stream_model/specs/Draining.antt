@@ -1,5 +1,6 @@
 -- Draining a partition: the operations that it makes, and how it ends.
-use Rattle.std.specs.Prelude.{ℕ, zero, suc, pred, ◌-◌, min, true, false, Bool, List, [], ◌∷◌, ◌++◌, length, filter, Option, Some, None, nat_lt, if◌then◌else◌}
+use Rattle.std.specs.Prelude.{◌≡◌, ℕ, zero, suc, pred, ◌-◌, min, true, false, Bool, List, [], ◌∷◌, ◌++◌, length, filter, Option, Some, None, Result, Ok, Err, nat_lt, if◌then◌else◌}
+use Rattle.std.specs.declared.alloc.AllocError.{AllocError}
 use Rattle.std.specs.List.{flat_map}
 use Rattle.stream_ident.specs.declared.ident.GrainId.{GrainId}
 use Rattle.stream_ident.specs.declared.ident.SubName.{SubName}
@@ -17,7 +18,7 @@ use Rattle.stream_model.specs.declared.reply.Reply.TheVariants as reply
 use Rattle.stream_model.specs.History.{Entry}
 use Rattle.stream_model.specs.Looks.{is_running, is_waiting}
 use Rattle.stream_model.specs.Positions.{sub_at, token_at}
-use Rattle.stream_model.specs.Step.{step}
+use Rattle.stream_model.specs.Step.{step, Leads}
 use Rattle.stream_model.specs.Words.{keys_where, least, past}
 
 -- the elements from the least to the greatest
@@ -177,3 +178,18 @@ drain_where p None = (drain_all p, drain_end (drain_all p).stop (commits (drain_
 -- Stuck, with nothing changed, where a turn runs
 unfoldable pub drain : PlainPartition → Progress × Option DrainEnd
 drain p = drain_where p (least grain_lt (keys_where is_running p.grains))
+
+-- the first of these entries
+abbrev pub IsFrontOf : List Entry → List Entry → Type 0
+IsFrontOf entries whole = (rest : List Entry) × (entries ++ rest ≡ whole)
+
+-- A drain was done as the definition says, or memory was wanting: then the first of its operations are
+-- done, and no other.
+abbrev pub Drains : PlainPartition → PlainPartition → Result (Option DrainEnd) AllocError → Type 0
+Drains old new (Ok end) = (new ≡ (drain old).0.now) × (end ≡ (drain old).1)
+Drains old new (Err e) = (entries : List Entry) × IsFrontOf entries (drain old).0.entries × Leads old entries new
+
+-- the same of a partition that a legal history leads to: no drain of it goes astray
+abbrev pub DrainsTo : PlainPartition → PlainPartition → Result DrainEnd AllocError → Type 0
+DrainsTo old new (Ok end) = (new ≡ (drain old).0.now) × ((drain old).1 ≡ Some end)
+DrainsTo old new (Err e) = (entries : List Entry) × IsFrontOf entries (drain old).0.entries × Leads old entries new

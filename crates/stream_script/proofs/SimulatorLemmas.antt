@@ -1,5 +1,5 @@
 -- A line on the partitions.
-use Rattle.std.proofs.Common.{◌≡◌, ℕ, ◌<◌, List, [], ◌++◌, length, get_or, set, Result, Ok, Err, ap, ◌∙◌}
+use Rattle.std.proofs.Common.{◌≡◌, ℕ, ◌+◌, ◌<◌, ◌≤◌, List, [], ◌++◌, length, get_or, set, take, drop, Result, Ok, Err, refl, ap, ◌∙◌}
 use Rattle.std.specs.Prelude.{OnOk}
 use Rattle.std.proofs.lemmas.List.{get_or_read}
 use Rattle.stream_model.specs.declared.op.Op.{Op}
@@ -7,16 +7,36 @@ use Rattle.stream_model.specs.declared.plain.PlainPartition.{PlainPartition}
 use Rattle.stream_model.specs.declared.reply.Reply.{Reply}
 use Rattle.stream_model.specs.Step.{step}
 use Rattle.stream_script.specs.Replies.{reply_line}
-use Rattle.stream_script.specs.Simulation.{stepped}
+use Rattle.stream_script.specs.Simulation.{behind, stepped, stepped_each}
 use Rattle.stream_script.specs.Writing.{Writes}
+use Rattle.stream_script.proofs.EachLemmas.{next_done, all_done}
 
--- the partition of the queue was stepped, and the line of its reply was written behind nothing
+-- the partition of the queue was stepped, and the line of its reply was appended
 pub steps : {T E : Type 0} (partitions : List PlainPartition) (queue : ℕ) (old new missing : PlainPartition) (told : Reply) (op : Op) (result : Result T E) (before text : List ℕ)
-    → queue < length partitions → old ≡ get_or partitions queue old → (new, told) ≡ step old op → before ≡ [] → Writes before text result (reply_line queue told)
-    → OnOk result ((set partitions queue new, text) ≡ stepped partitions queue (step (get_or partitions queue missing) op))
-steps partitions queue old new missing told op (Ok done) before text within read performs none written =
-    let line : text ≡ reply_line queue told = written ∙ ap (λ front. front ++ reply_line queue told) none in
+    → queue < length partitions → old ≡ get_or partitions queue old → (new, told) ≡ step old op → Writes before text result (reply_line queue told)
+    → OnOk result ((set partitions queue new, text) ≡ behind before (stepped partitions queue (step (get_or partitions queue missing) op)))
+steps partitions queue old new missing told op (Ok done) before text within read performs written =
     let at_queue : old ≡ get_or partitions queue missing = get_or_read partitions queue old within read missing in
-    let done : (set partitions queue new, reply_line queue told) ≡ stepped partitions queue (step old op) = ap (stepped partitions queue) performs in
-    ap (λ bytes. (set partitions queue new, bytes)) line ∙ done ∙ ap (λ partition. stepped partitions queue (step partition op)) at_queue
-steps partitions queue old new missing told op (Err e) before text within read performs none written = tt
+    let done : behind before (set partitions queue new, reply_line queue told) ≡ behind before (stepped partitions queue (step old op)) = ap (λ d. behind before (stepped partitions queue d)) performs in
+    ap (λ bytes. (set partitions queue new, bytes)) written ∙ done ∙ ap (λ partition. behind before (stepped partitions queue (step partition op))) at_queue
+steps partitions queue old new missing told op (Err e) before text within read performs written = tt
+
+-- the partitions before this queue were stepped: they and their text, and then what is left, are the whole
+abbrev pub EachSoFar : ℕ → List PlainPartition → List PlainPartition → List ℕ → Op → Type 0
+EachSoFar queue old now text o =
+    let left = stepped_each queue (drop queue now) o in (take queue now ++ left.0, text ++ left.1) ≡ stepped_each 0 old o
+
+pub each_begun : (partitions : List PlainPartition) (text : List ℕ) (o : Op) → text ≡ [] → EachSoFar 0 partitions partitions text o
+each_begun partitions text o none = ap (λ bytes. behind bytes (stepped_each 0 partitions o)) none
+
+-- the next partition was stepped
+pub each_more : (queue : ℕ) (old now after : List PlainPartition) (text more : List ℕ) (missing : PlainPartition) (done_op o : Op) → queue < length now
+    → EachSoFar queue old now text o → done_op ≡ o → (after, more) ≡ behind text (stepped now queue (step (get_or now queue missing) done_op)) → EachSoFar (queue + 1) old after more o
+each_more queue old now after text more missing done_op o within so_far same stepped_op =
+    let p = get_or now queue missing in
+    let next = stepped_op ∙ ap (λ x. behind text (stepped now queue (step p x))) same in
+    next_done (λ n q. ((step q o).0, reply_line n (step q o).1)) (λ n ps. stepped_each n ps o) (λ n q ps. refl) queue old now after text more missing within so_far next
+
+-- all were
+pub each_done : (queue : ℕ) (old now : List PlainPartition) (text : List ℕ) (o : Op) → length now ≤ queue → EachSoFar queue old now text o → (now, text) ≡ stepped_each 0 old o
+each_done queue old now text o all so_far = all_done (λ n ps. stepped_each n ps o) (λ n. refl) queue old now text all so_far

@@ -51,6 +51,10 @@ grain_field bytes = do
   parts ← or_fault kind.BadName (split_once 47 bytes)
   as_fault kind.BadName (grain_of parts.0 parts.1)
 
+-- a name by itself
+unfoldable pub bare_name_field : List ℕ → Result (List ℕ) FaultKind
+bare_name_field bytes = as_fault kind.BadName (name_of bytes)
+
 -- SEQ.IDX
 unfoldable pub token_field : List ℕ → Result Token FaultKind
 token_field bytes = as_fault kind.BadToken (token_of bytes)
@@ -80,11 +84,24 @@ name_from bytes (Some parts) = implicit_field parts
 unfoldable pub name_field : List ℕ → Result SubName FaultKind
 name_field bytes = name_from bytes (split_once 64 bytes)
 
--- Q:NAME, with exactly one `:`
-unfoldable pub sub_field : ℕ → List ℕ → Result (ℕ × SubName) FaultKind
-sub_field queues bytes = do
+-- the queue, and what stands behind exactly one `:`
+unfoldable pub sub_parts : ℕ → List ℕ → Result (ℕ × List ℕ) FaultKind
+sub_parts queues bytes = do
   parts ← or_fault kind.BadName (split_once 58 bytes)
   after ← guard kind.BadName (if list_any (λ byte. byte == 58) parts.1 then false else true) parts.1
   queue ← queue_field queues parts.0
-  sub ← name_field after
-  Ok (queue, sub)
+  Ok (queue, after)
+
+-- Q:NAME
+unfoldable pub sub_field : ℕ → List ℕ → Result (ℕ × SubName) FaultKind
+sub_field queues bytes = do
+  parts ← sub_parts queues bytes
+  sub ← name_field parts.1
+  Ok (parts.0, sub)
+
+-- Q:NAME, of this queue
+unfoldable pub own_sub_field : ℕ → ℕ → List ℕ → Result SubName FaultKind
+own_sub_field queues queue bytes = do
+  parts ← sub_parts queues bytes
+  after ← guard kind.NoQueue (parts.0 == queue) parts.1
+  name_field after

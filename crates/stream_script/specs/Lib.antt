@@ -1,12 +1,15 @@
 pub mod Fields
+pub mod Forms
 pub mod Grammar
 pub mod Lexer
 pub mod Lines
 pub mod Pieces
 pub mod Reading
 pub mod Replies
+pub mod Report
 pub mod Simulation
 pub mod Spelling
 pub mod Transfers
+pub mod Verbs
 pub mod Writing
 pub use Rattle.stream_model.specs.Bounds

@@ -5,6 +5,8 @@ use Rattle.std.specs.List.{flat_map}
 use Rattle.stream_ident.specs.declared.event.Event.{Event}
 use Rattle.stream_ident.specs.declared.token.Token.{Token}
 use Rattle.stream_ident.specs.Token.{token_text}
+use Rattle.stream_model.specs.declared.drain_end.DrainEnd.{DrainEnd}
+use Rattle.stream_model.specs.declared.drain_end.DrainEnd.TheVariants as ending
 use Rattle.stream_model.specs.declared.reply.Pending.{Pending}
 use Rattle.stream_model.specs.declared.reply.Pending.TheVariants as pending
 use Rattle.stream_model.specs.declared.reply.Reply.{Reply}
@@ -75,3 +77,14 @@ reply_text (reply.NotQuiet why) = pending_text why
 -- the line of a reply: the queue, a space, the text
 abbrev pub reply_line : ℕ → Reply → List ℕ
 reply_line queue told = decimal queue ++ 32 ∷ reply_text told ++ 10 ∷ []
+
+-- the text of how a drain ended
+unfoldable pub drain_text : DrainEnd → List ℕ
+drain_text (ending.Drained turns) = codes "drained " ++ decimal turns
+drain_text (ending.Stuck grain) = codes "stuck " ++ grain_text grain
+drain_text ending.TooMany = codes "too-many"
+drain_text ending.Spent = codes "spent"
+
+-- the line of a drain: the queue, a space, the text
+abbrev pub drain_line : ℕ → DrainEnd → List ℕ
+drain_line queue end = decimal queue ++ 32 ∷ drain_text end ++ 10 ∷ []

@@ -5,8 +5,11 @@ use Rattle.std.specs.Global.{Vec}
 use Rattle.std.specs.Io.KnownBytes.{Appends, Consumes, IsAtEnd}
 use Rattle.std.specs.declared.alloc.AllocError.{AllocError}
 use Rattle.stream_model.specs.Bounds.{AreLimits}
+use Rattle.stream_model.specs.declared.drain_end.DrainEnd.{DrainEnd}
+use Rattle.stream_model.specs.declared.op.Op.{Op}
 use Rattle.stream_model.specs.declared.plain.PlainPartition.{PlainPartition}
 use Rattle.stream_model.specs.declared.reply.Reply.{Reply}
+use Rattle.stream_model.specs.Draining.{Progress, drain}
 use Rattle.stream_model.specs.Positions.{empty}
 use Rattle.stream_model.specs.Step.{step}
 use Rattle.stream_script.specs.declared.command.Command.TheVariants as command
@@ -19,9 +22,11 @@ use Rattle.stream_script.specs.declared.simulate.SimConfig.{SimConfig}
 use Rattle.stream_script.specs.declared.simulate.SimError.{SimError}
 use Rattle.stream_script.specs.declared.simulate.SimError.TheVariants as error
 use Rattle.stream_script.specs.Transfers.{AppendsFront}
+use Rattle.stream_script.specs.Forms.{op_of}
 use Rattle.stream_script.specs.Lines.{lines_of}
 use Rattle.stream_script.specs.Reading.{reading}
-use Rattle.stream_script.specs.Replies.{reply_line}
+use Rattle.stream_script.specs.Replies.{reply_line, drain_line}
+use Rattle.stream_script.specs.Report.{report_of}
 
 -- what the simulation may be asked for
 pub record IsSimConfig (config : SimConfig) : Type 0 where
@@ -43,12 +48,48 @@ with_text text rest = record { text = text ++ rest.text; fault = rest.fault }
 abbrev pub stepped : List PlainPartition → ℕ → PlainPartition × Reply → List PlainPartition × List ℕ
 stepped partitions queue done = (slice_set partitions queue done.0, reply_line queue done.1)
 
+-- a text in front of what was done
+abbrev pub behind : List ℕ → List PlainPartition × List ℕ → List PlainPartition × List ℕ
+behind text done = (done.0, text ++ done.1)
+
+-- one partition and its line in front of what was done
+abbrev pub with_stepped : ℕ → PlainPartition × Reply → List PlainPartition × List ℕ → List PlainPartition × List ℕ
+with_stepped queue stepped done = (stepped.0 ∷ done.0, reply_line queue stepped.1 ++ done.1)
+
+-- One operation on each of the partitions, the first of which has this queue: what they leave, and their
+-- lines in order.
+abbrev pub stepped_each : ℕ → List PlainPartition → Op → List PlainPartition × List ℕ
+stepped_each queue [] o = ([], [])
+stepped_each queue (p ∷ partitions) o = with_stepped queue (step p o) (stepped_each (suc queue) partitions o)
+
+-- the line of a drain, and none where it went astray: then it has no end, and that is never so
+abbrev pub end_line : ℕ → Option DrainEnd → List ℕ
+end_line queue None = []
+end_line queue (Some end) = drain_line queue end
+
+-- one of the partitions drained: what that leaves, and its line
+abbrev pub drained : List PlainPartition → ℕ → Progress × Option DrainEnd → List PlainPartition × List ℕ
+drained partitions queue done = (slice_set partitions queue done.0.now, end_line queue done.1)
+
+-- one drained partition and its line in front of what was done
+abbrev pub with_drained : ℕ → Progress × Option DrainEnd → List PlainPartition × List ℕ → List PlainPartition × List ℕ
+with_drained queue drained done = (drained.0.now ∷ done.0, end_line queue drained.1 ++ done.1)
+
+-- Each of the partitions drained, the first of which has this queue: what that leaves, and their lines in
+-- order.
+abbrev pub drained_each : ℕ → List PlainPartition → List PlainPartition × List ℕ
+drained_each queue [] = ([], [])
+drained_each queue (p ∷ partitions) = with_drained queue (drain p) (drained_each (suc queue) partitions)
+
 -- what a line does: the partitions after it and its text, or its fault
 abbrev pub run_parsed : SimConfig → List PlainPartition → Parsed → Result (List PlainPartition × List ℕ) Fault
 run_parsed config partitions parsed.Skip = Ok (partitions, [])
 run_parsed config partitions (parsed.Fault fault) = Err fault
-run_parsed config partitions (parsed.Command (command.Step queue op)) =
-    Ok (stepped partitions queue (step (slice_index_or partitions queue (empty config.blocks config.limits)) op))
+run_parsed config partitions (parsed.Command (command.Step queue o)) =
+    Ok (stepped partitions queue (step (slice_index_or partitions queue (empty config.blocks config.limits)) o))
+run_parsed config partitions (parsed.Command (command.Each each)) = Ok (stepped_each 0 partitions (op_of each))
+run_parsed config partitions (parsed.Command command.Drain) = Ok (drained_each 0 partitions)
+run_parsed config partitions (parsed.Command command.Report) = Ok (partitions, report_of partitions)
 
 abbrev pub run_line : SimConfig → ℕ → List PlainPartition → List ℕ → Result (List PlainPartition × List ℕ) Fault
 run_line config number partitions line = run_parsed config partitions (reading config.queues mode.Sim number line)

@@ -1,5 +1,9 @@
 //! What a line of a script says.
+ghost use Rattle.std.specs.Prelude.{◌≡◌};
+ghost use Rattle.stream_script.specs.Forms.{op_of};
+
 use std::fmt;
+use stream_ident::Name;
 use stream_model::Op;
 
 /// What a script is for.
@@ -9,6 +13,20 @@ pub enum Mode {
     Sim,
     /// To be done by one producer, while silos run.
     Run,
+}
+
+/// An operation on each queue.
+#[derive(Clone, Copy, Debug)]
+pub enum EachOp {
+    /// Grains of a kind shall consume the streams of a namespace.
+    Rule {
+        /// The kind of the grains.
+        kind: Name,
+        /// The namespace of the streams.
+        namespace: Name,
+    },
+    /// Whether everything is pulled, delivered and handled.
+    Quiet,
 }
 
 /// A command.
@@ -21,6 +39,12 @@ pub enum Command {
         /// The operation.
         op: Op,
     },
+    /// One operation on each queue, in order.
+    Each(EachOp),
+    /// A drain of each queue, in order.
+    Drain,
+    /// What each subscription has handled.
+    Report,
 }
 
 /// What is wrong with a line.
@@ -69,6 +93,21 @@ pub enum Parsed {
     Skip,
     /// A fault.
     Fault(Fault),
+}
+
+impl EachOp {
+    /// The operation.
+    pub fn op(&self) -> Op
+        ensures { result ≡ op_of self.now }
+    {
+        match self {
+            EachOp::Rule { kind, namespace } => Op::AddRule {
+                kind: *kind,
+                namespace: *namespace,
+            },
+            EachOp::Quiet => Op::Quiet,
+        }
+    }
 }
 
 impl fmt::Display for FaultKind {

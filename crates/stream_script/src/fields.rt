@@ -1,6 +1,6 @@
 //! The fields of a command.
-ghost use Rattle.std.specs.Prelude.{◌≡◌, ◌^◌};
-ghost use Rattle.stream_script.specs.Fields.{number_field, queue_field, stream_field, grain_field, token_field, payload_field, explicit_field, implicit_field, name_field, sub_field};
+ghost use Rattle.std.specs.Prelude.{◌≡◌, ◌^◌, MatchResult, Ok, Err};
+ghost use Rattle.stream_script.specs.Fields.{number_field, queue_field, stream_field, grain_field, token_field, payload_field, bare_name_field, explicit_field, implicit_field, name_field, sub_parts, sub_field, own_sub_field};
 
 use crate::command::FaultKind;
 use stream_ident::{GrainId, Name, Payload, StreamId, SubName, Token, parse_number, split_once};
@@ -20,6 +20,18 @@ pub(crate) fn short_number(bytes: &[u8]) -> Result<u32, FaultKind>
 {
     let number = parse_number(bytes).ok_or(FaultKind::BadNumber)?;
     u32::try_from(number).map_err(|_| FaultKind::BadNumber)
+}
+
+/// The number of a silo, 0 to 15.
+#[tactic(auto, unfolding(crate::specs::Fields::number_field))]
+pub(crate) fn silo(bytes: &[u8]) -> Result<u8, FaultKind>
+    ensures { result ≡ number_field 16 bytes.now }
+{
+    let number = parse_number(bytes).ok_or(FaultKind::BadNumber)?;
+    if number >= 16 {
+        return Err(FaultKind::BadNumber);
+    }
+    Ok(number as u8)
 }
 
 /// The number of a queue.
@@ -50,6 +62,14 @@ pub(crate) fn grain(bytes: &[u8]) -> Result<GrainId, FaultKind>
 {
     let (kind, key) = split_once(bytes, b'/').ok_or(FaultKind::BadName)?;
     GrainId::new(kind, key).map_err(|_| FaultKind::BadName)
+}
+
+/// A name, of a kind or of a namespace.
+#[tactic(auto, unfolding(crate::specs::Fields::bare_name_field))]
+pub(crate) fn bare_name(bytes: &[u8]) -> Result<Name, FaultKind>
+    ensures { result ≡ bare_name_field bytes.now }
+{
+    Name::new(bytes).map_err(|_| FaultKind::BadName)
 }
 
 /// A token, `SEQ.IDX`.
@@ -101,16 +121,37 @@ fn name(bytes: &[u8]) -> Result<SubName, FaultKind>
     }
 }
 
-/// A subscription with its queue, `Q:NAME`.
-#[tactic(auto, unfolding(crate::specs::Fields::sub_field))]
-pub(crate) fn sub(bytes: &[u8], queues: usize) -> Result<(usize, SubName), FaultKind>
-    ensures { result ≡ sub_field queues bytes.now }
+/// A subscription's queue, and what stands behind its one `:`.
+#[tactic(auto, unfolding(crate::specs::Fields::sub_parts))]
+fn sub_parts(bytes: &[u8], queues: usize) -> Result<(usize, &[u8]), FaultKind>
+    ensures { MatchResult result (λ parts. sub_parts queues bytes.entry.now ≡ Ok (parts.0, parts.1.now)) (λ fault. sub_parts queues bytes.entry.now ≡ Err fault) }
 {
     let (of, after) = split_once(bytes, b':').ok_or(FaultKind::BadName)?;
     if after.contains(&b':') {
         return Err(FaultKind::BadName);
     }
     let queue = queue(of, queues)?;
+    Ok((queue, after))
+}
+
+/// A subscription with its queue, `Q:NAME`.
+#[tactic(auto, unfolding(crate::specs::Fields::sub_field))]
+pub(crate) fn sub(bytes: &[u8], queues: usize) -> Result<(usize, SubName), FaultKind>
+    ensures { result ≡ sub_field queues bytes.now }
+{
+    let (queue, after) = sub_parts(bytes, queues)?;
     let name = name(after)?;
     Ok((queue, name))
+}
+
+/// A subscription of this queue, `Q:NAME`.
+#[tactic(auto, unfolding(crate::specs::Fields::own_sub_field))]
+pub(crate) fn own_sub(bytes: &[u8], queue: usize, queues: usize) -> Result<SubName, FaultKind>
+    ensures { result ≡ own_sub_field queues queue bytes.now }
+{
+    let (of, after) = sub_parts(bytes, queues)?;
+    if of != queue {
+        return Err(FaultKind::NoQueue);
+    }
+    name(after)
 }

@@ -2,15 +2,21 @@
 //! does a script from a reader to a writer on one thread.
 #![tactic(auto)]
 
+mod agent_forms;
 mod command;
 mod error;
+#[cfg(test)]
+mod example_tests;
 mod fields;
 mod forms;
 mod lines;
+mod look_forms;
 mod parse;
 #[cfg(test)]
 mod parse_tests;
 mod pieces;
+mod producer_forms;
+mod report;
 #[cfg(test)]
 mod script_tests;
 #[cfg(test)]
@@ -22,9 +28,11 @@ mod text;
 #[cfg(test)]
 mod text_tests;
 mod verb;
+mod worker_forms;
 
-pub use command::{Command, Fault, FaultKind, Mode, Parsed};
+pub use command::{Command, EachOp, Fault, FaultKind, Mode, Parsed};
 pub use parse::parse_line;
+pub use report::report_text;
 pub use simulate::{SimConfig, SimError, sim};
 pub use source_sink::{Counted, Failed, Sink, Source};
-pub use text::reply_text;
+pub use text::{drain_text, reply_text};

@@ -88,7 +88,7 @@ fn faults(rt: HostRuntime) -> Result<(), Fail> {
         ("sub o/k g/x later", FaultKind::BadCommand),
         ("sub o/k g/x latest 7.2", FaultKind::BadCommand),
         ("sub o/k g/x from", FaultKind::BadCommand),
-        ("unsub 0:1", FaultKind::BadCommand),
+        ("up 0", FaultKind::BadCommand),
         ("pub", FaultKind::WordCount),
         ("pub \"a\"", FaultKind::WordCount),
         ("pub o!k a", FaultKind::WordCount),
@@ -125,16 +125,137 @@ fn faults(rt: HostRuntime) -> Result<(), Fail> {
 }
 
 #[test]
+fn agent_commands(rt: HostRuntime) -> Result<(), Fail> {
+    let lines = [
+        (
+            "unsub 0:2",
+            "Command(Step { queue: 0, op: Unsubscribe { sub: Explicit(2) } })",
+        ),
+        (
+            "retry 3 0:1",
+            "Command(Step { queue: 0, op: Retry { generation: 3, sub: Explicit(1) } })",
+        ),
+        (
+            "ack 3 0:1 7.2",
+            "Command(Step { queue: 0, op: Ack { generation: 3, sub: Explicit(1), token: Token { seq: 7, idx: 2 } } })",
+        ),
+        (
+            "purge 0 3 4294967295",
+            "Command(Step { queue: 0, op: Purge { generation: 3, keep: 4294967295 } })",
+        ),
+        (
+            "move 0 15",
+            "Command(Step { queue: 0, op: Move { silo: 15 } })",
+        ),
+    ];
+    for (line, command) in lines {
+        let shown = format!(in rt.alloc();
+            "{:?}",
+            parsed(rt.alloc(), line.as_bytes(), Mode::Sim)?
+        )?;
+        assert_eq!(rt; shown.as_str(), command, "at {line}");
+    }
+    Ok(())
+}
+
+#[test]
+fn looks(rt: HostRuntime) -> Result<(), Fail> {
+    let lines = [
+        (
+            "deactivate 0 g/x",
+            "Command(Step { queue: 0, op: Deactivate { grain: GrainId { kind: g, key: x } } })",
+        ),
+        (
+            "ready 0",
+            "Command(Step { queue: 0, op: Ready { after: None } })",
+        ),
+        (
+            "ready 0 g/x",
+            "Command(Step { queue: 0, op: Ready { after: Some(GrainId { kind: g, key: x }) } })",
+        ),
+        (
+            "due 0",
+            "Command(Step { queue: 0, op: Due { after: None } })",
+        ),
+        (
+            "due 0 0:1",
+            "Command(Step { queue: 0, op: Due { after: Some(Explicit(1)) } })",
+        ),
+        ("rule g o", "Command(Each(Rule { kind: g, namespace: o }))"),
+        ("quiet", "Command(Each(Quiet))"),
+        ("report", "Command(Report)"),
+    ];
+    for (line, command) in lines {
+        let shown = format!(in rt.alloc();
+            "{:?}",
+            parsed(rt.alloc(), line.as_bytes(), Mode::Sim)?
+        )?;
+        assert_eq!(rt; shown.as_str(), command, "at {line}");
+    }
+    Ok(())
+}
+
+/// The fault of a line of a script for two queues.
+fn fault_of_two(alloc: Global, line: &[u8]) -> Result<Option<FaultKind>, AllocError> {
+    match parse_line(alloc, line, 7, 2, Mode::Sim)? {
+        Parsed::Fault(fault) => Ok(Some(fault.kind)),
+        _ => Ok(None),
+    }
+}
+
+#[test]
+fn later_faults(rt: HostRuntime) -> Result<(), Fail> {
+    let lines = [
+        ("unsub", FaultKind::WordCount),
+        ("unsub 0:1 0:2", FaultKind::WordCount),
+        ("rule g", FaultKind::WordCount),
+        ("quiet 0", FaultKind::WordCount),
+        ("drain x", FaultKind::WordCount),
+        ("report 0", FaultKind::WordCount),
+        ("ready", FaultKind::WordCount),
+        ("due 0 0:1 0:2", FaultKind::WordCount),
+        ("move 0 \"1\"", FaultKind::WordCount),
+        ("unsub 2:0", FaultKind::NoQueue),
+        ("move 2 16", FaultKind::NoQueue),
+        ("due 1 0:0", FaultKind::NoQueue),
+        ("due 1 2:0", FaultKind::NoQueue),
+        ("move 0 16", FaultKind::BadNumber),
+        ("purge 0 0 4294967296", FaultKind::BadNumber),
+        ("retry x 0", FaultKind::BadNumber),
+        ("due 1 1:0", FaultKind::BadNumber),
+        ("due 1 0:1:1", FaultKind::BadName),
+        ("ack 0 0:k@o x", FaultKind::BadName),
+        ("ack 0 0:1 7", FaultKind::BadToken),
+        ("deactivate 0 gx", FaultKind::BadName),
+        ("rule g o!", FaultKind::BadName),
+    ];
+    for (line, kind) in lines {
+        let fault = fault_of_two(rt.alloc(), line.as_bytes())?;
+        assert_eq!(rt; fault, Some(kind), "at {line}");
+    }
+    Ok(())
+}
+
+#[test]
 fn not_in_run(rt: HostRuntime) -> Result<(), Fail> {
-    for line in ["pull 0 0 32", "deliver", "begin \"0\"", "commit 9"] {
+    for line in ["pull 0 0 32", "deliver", "begin \"0\"", "report", "due 9"] {
         let Parsed::Fault(fault) = parsed(rt.alloc(), line.as_bytes(), Mode::Run)? else {
             return Err(Fail::from("no fault"));
         };
         assert_eq!(rt; fault.kind, FaultKind::NotInRun, "at {line}");
     }
-    for line in ["pub o/k", "sub o/k g/x latest"] {
+    for line in ["pub o/k", "sub o/k g/x latest", "unsub 0:1", "rule g o"] {
         let command = parsed(rt.alloc(), line.as_bytes(), Mode::Run)?;
         assert!(rt; matches!(command, Parsed::Command(_)), "at {line}");
+    }
+    Ok(())
+}
+
+#[test]
+fn drain_may_stand_in_both(rt: HostRuntime) -> Result<(), Fail> {
+    for mode in [Mode::Sim, Mode::Run] {
+        let command = parsed(rt.alloc(), b"drain", mode)?;
+        assert!(rt; matches!(command, Parsed::Command(Command::Drain)));
     }
     Ok(())
 }

@@ -1,13 +1,16 @@
 //! The partitions of a simulation, and the lines that change them.
 ghost use Rattle.std.specs.Prelude.{◌≡◌, [], ◌<◌, ◌≤◌, IfOk, OnOk, vec_len, replicate, slice_index_or};
+ghost use Rattle.stream_model.specs.Draining.{drain};
 ghost use Rattle.stream_model.specs.Positions.{empty};
-ghost use Rattle.stream_model.specs.Step.{step, IsSupported};
-ghost use Rattle.stream_script.specs.Simulation.{IsSimConfig, stepped, run_line, RunsLine};
+ghost use Rattle.stream_model.specs.Step.{step};
+ghost use Rattle.stream_script.specs.Forms.{op_of};
+ghost use Rattle.stream_script.specs.Simulation.{IsSimConfig, behind, stepped, stepped_each, drained, drained_each, run_line, RunsLine};
 
-use crate::command::{Command, Fault, Mode, Parsed};
+use crate::command::{Command, EachOp, Fault, Mode, Parsed};
 use crate::parse::parse_line;
+use crate::report::report_text;
 use crate::simulate::SimConfig;
-use crate::text::reply_line;
+use crate::text::{drain_line, reply_line};
 use std::alloc::{AllocError, Global};
 use step_core::Partition;
 use stream_model::Op;
@@ -55,10 +58,39 @@ impl Simulator {
                 self.step(alloc, queue, op, text)?;
                 Ok(None)
             }
+            Parsed::Command(Command::Each(each)) => {
+                self.step_each(alloc, &each, text)?;
+                Ok(None)
+            }
+            Parsed::Command(Command::Drain) => {
+                self.drain_each(alloc, text)?;
+                Ok(None)
+            }
+            Parsed::Command(Command::Report) => {
+                report_text(alloc, &self.partitions, text)?;
+                Ok(None)
+            }
         }
     }
 
-    /// Does an operation and leaves the line of its reply.
+    /// Does an operation on each queue, in order, and leaves the lines of their replies.
+    fn step_each(
+        &mut self,
+        alloc: Global,
+        each: &EachOp,
+        text: &mut Vec<u8>,
+    ) -> Result<(), AllocError>
+        requires { text.old.items ≡ [] }
+        ensures config { self.new.config ≡ self.old.config }
+        ensures text { OnOk result ((self.new.partitions.items, text.new.items) ≡ stepped_each 0 self.old.partitions.items (op_of each.now)) }
+    {
+        for queue in 0..self.config.queues {
+            self.step(alloc, queue, each.op(), text)?;
+        }
+        Ok(())
+    }
+
+    /// Does an operation and appends the line of its reply.
     fn step(
         &mut self,
         alloc: Global,
@@ -66,15 +98,38 @@ impl Simulator {
         op: Op,
         text: &mut Vec<u8>,
     ) -> Result<(), AllocError>
-        requires queue { queue < self.old.config.queues }
-        requires supported { IsSupported op }
-        requires text { text.old.items ≡ [] }
+        requires { queue < self.old.config.queues }
         ensures config { self.new.config ≡ self.old.config }
         ensures text { OnOk result ((self.new.partitions.items, text.new.items) ≡
-            stepped self.old.partitions.items queue
-            (step (slice_index_or self.old.partitions.items queue (empty self.old.config.blocks self.old.config.limits)) op)) }
+            behind text.old.items (stepped self.old.partitions.items queue
+            (step (slice_index_or self.old.partitions.items queue (empty self.old.config.blocks self.old.config.limits)) op))) }
     {
         let reply = self.partitions[queue].step(alloc, op)?;
         reply_line(queue, &reply, text)
+    }
+
+    /// Drains each queue, in order, and leaves the lines of how that ended.
+    fn drain_each(&mut self, alloc: Global, text: &mut Vec<u8>) -> Result<(), AllocError>
+        requires { text.old.items ≡ [] }
+        ensures config { self.new.config ≡ self.old.config }
+        ensures text { OnOk result ((self.new.partitions.items, text.new.items) ≡ drained_each 0 self.old.partitions.items) }
+    {
+        let queues = self.config.queues;
+        for queue in 0..queues {
+            self.drain(alloc, queue, text)?;
+        }
+        Ok(())
+    }
+
+    /// Drains a queue and appends the line of how that ended.
+    fn drain(&mut self, alloc: Global, queue: usize, text: &mut Vec<u8>) -> Result<(), AllocError>
+        requires { queue < self.old.config.queues }
+        ensures config { self.new.config ≡ self.old.config }
+        ensures text { OnOk result ((self.new.partitions.items, text.new.items) ≡
+            behind text.old.items (drained self.old.partitions.items queue
+            (drain (slice_index_or self.old.partitions.items queue (empty self.old.config.blocks self.old.config.limits))))) }
+    {
+        let end = self.partitions[queue].drain(alloc)?;
+        drain_line(queue, &end, text)
     }
 }

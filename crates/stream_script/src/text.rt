@@ -4,14 +4,14 @@ ghost use Rattle.std.specs.Fmt.{decimal};
 ghost use Rattle.std.specs.List.{flat_map};
 ghost use Rattle.stream_ident.specs.Token.{token_text};
 ghost use Rattle.stream_script.specs.Pieces.{Text, spelling, escaped};
-ghost use Rattle.stream_script.specs.Replies.{reply_text, reply_line, event_text, ack_text, pending_text};
+ghost use Rattle.stream_script.specs.Replies.{reply_text, reply_line, drain_text, drain_line, event_text, ack_text, pending_text};
 ghost use Rattle.stream_script.specs.Spelling.{stream_text, grain_text, name_text};
 ghost use Rattle.stream_script.specs.Writing.{Writes};
 
 use itoa::Buffer;
 use std::alloc::AllocError;
 use stream_ident::{Event, GrainId, Name, Payload, StreamId, SubName, Token};
-use stream_model::{Pending, Reply};
+use stream_model::{DrainEnd, Pending, Reply};
 
 /// Appends the text of a reply.
 ///
@@ -101,7 +101,7 @@ fn push_reply(reply: &Reply, out: &mut Vec<u8>) -> Result<(), AllocError>
 }
 
 /// A number in decimal behind a text.
-fn push_count(before: &[u8], count: u64, out: &mut Vec<u8>) -> Result<(), AllocError>
+pub(crate) fn push_count(before: &[u8], count: u64, out: &mut Vec<u8>) -> Result<(), AllocError>
     ensures { Writes out.old.items out.new.items result (before.now ++ decimal count) }
 {
     out.extend_from_slice(before)?;
@@ -110,7 +110,7 @@ fn push_count(before: &[u8], count: u64, out: &mut Vec<u8>) -> Result<(), AllocE
 }
 
 /// A token behind a text.
-fn push_placed(before: &[u8], token: Token, out: &mut Vec<u8>) -> Result<(), AllocError>
+pub(crate) fn push_placed(before: &[u8], token: Token, out: &mut Vec<u8>) -> Result<(), AllocError>
     ensures { Writes out.old.items out.new.items result (before.now ++ token_text token) }
 {
     push_count(before, token.seq, out)?;
@@ -144,7 +144,7 @@ fn push_moved(generation: u64, low: Token, out: &mut Vec<u8>) -> Result<(), Allo
 }
 
 /// Two names behind a text, joined by `/`.
-fn push_pair(
+pub(crate) fn push_pair(
     before: &[u8],
     first: &Name,
     second: &Name,
@@ -159,14 +159,18 @@ fn push_pair(
 }
 
 /// A grain behind a text.
-fn push_grain(before: &[u8], grain: &GrainId, out: &mut Vec<u8>) -> Result<(), AllocError>
+pub(crate) fn push_grain(
+    before: &[u8],
+    grain: &GrainId,
+    out: &mut Vec<u8>,
+) -> Result<(), AllocError>
     ensures { Writes out.old.items out.new.items result (before.now ++ grain_text grain.now) }
 {
     push_pair(before, &grain.kind, &grain.key, out)
 }
 
 /// The name of a subscription behind a text.
-fn push_named(before: &[u8], sub: &SubName, out: &mut Vec<u8>) -> Result<(), AllocError>
+pub(crate) fn push_named(before: &[u8], sub: &SubName, out: &mut Vec<u8>) -> Result<(), AllocError>
     ensures { Writes out.old.items out.new.items result (before.now ++ name_text sub.now) }
 {
     match sub {
@@ -258,7 +262,7 @@ fn push_event(event: &Event, out: &mut Vec<u8>) -> Result<(), AllocError>
 }
 
 /// A payload as it stands in a line: in quotes, behind a space.
-fn push_quoted(payload: &Payload, out: &mut Vec<u8>) -> Result<(), AllocError>
+pub(crate) fn push_quoted(payload: &Payload, out: &mut Vec<u8>) -> Result<(), AllocError>
     ensures { Writes out.old.items out.new.items result (32 ∷ spelling (Text payload.now)) }
 {
     out.extend_from_slice(b" \"")?;
@@ -312,5 +316,47 @@ fn push_pending(why: &Pending, out: &mut Vec<u8>) -> Result<(), AllocError>
         Pending::Deliverable(sub) => push_named(b"deliverable ", sub, out),
         Pending::Waiting(grain) => push_grain(b"waiting ", grain, out),
         Pending::Running(grain) => push_grain(b"running ", grain, out),
+    }
+}
+
+/// Appends the text of how a drain ended.
+///
+/// # Errors
+/// Memory, and then nothing stays of the text.
+pub fn drain_text(end: &DrainEnd, out: &mut Vec<u8>) -> Result<(), AllocError>
+    ensures ok { OnOk result (out.new.items ≡ out.old.items ++ drain_text end.now) }
+    ensures err { OnErr result (out.new.items ≡ out.old.items) }
+{
+    let before = out.len();
+    let written = push_end(end, out);
+    if written.is_err() {
+        out.truncate(before);
+    }
+    written
+}
+
+/// Appends the line of a drain: the queue, a space and the text.
+///
+/// # Errors
+/// Memory.
+pub fn drain_line(queue: usize, end: &DrainEnd, out: &mut Vec<u8>) -> Result<(), AllocError>
+    ensures { Writes out.old.items out.new.items result (drain_line queue end.now) }
+{
+    push_count(b"", queue as u64, out)?;
+    out.extend_from_slice(b" ")?;
+    push_end(end, out)?;
+    out.extend_from_slice(b"\n")
+}
+
+/// Appends the text of how a drain ended, or a front of it where memory is wanting.
+#[tactic(auto, unfolding(crate::specs::Replies::drain_text))]
+fn push_end(end: &DrainEnd, out: &mut Vec<u8>) -> Result<(), AllocError>
+    ensures { Writes out.old.items out.new.items result (drain_text end.now) }
+{
+    match end {
+        DrainEnd::Drained { turns } => push_count(b"drained ", *turns as u64, out),
+        DrainEnd::Stuck { grain } => push_grain(b"stuck ", grain, out),
+        DrainEnd::TooMany => out.extend_from_slice(b"too-many"),
+        DrainEnd::Spent => out.extend_from_slice(b"spent"),
     }
 }

@@ -1,9 +1,9 @@
 //! The texts of replies, from outside.
-use crate::reply_text;
+use crate::{drain_text, reply_text};
 use std::alloc::{AllocError, Global};
 use std::test::Fail;
 use stream_ident::{Event, GrainId, Name, Payload, StreamId, SubName, Token};
-use stream_model::{Events, Pending, Reply};
+use stream_model::{DrainEnd, Events, Pending, Reply};
 
 fn text_of(alloc: Global, reply: &Reply) -> Result<Vec<u8>, AllocError> {
     let mut text = Vec::new(alloc);
@@ -111,6 +111,23 @@ fn each_form_of_reply_has_its_text(rt: HostRuntime) -> Result<(), Fail> {
     ];
     for (reply, text) in cases {
         assert_eq!(rt; text_of(rt.alloc(), &reply)?.as_slice(), text);
+    }
+    Ok(())
+}
+
+#[test]
+fn each_end_of_a_drain_has_its_text(rt: HostRuntime) -> Result<(), Fail> {
+    let grain = GrainId::new(b"cart", b"k-1")?;
+    let cases: [(DrainEnd, &[u8]); 4] = [
+        (DrainEnd::Drained { turns: 12 }, b"drained 12"),
+        (DrainEnd::Stuck { grain }, b"stuck cart/k-1"),
+        (DrainEnd::TooMany, b"too-many"),
+        (DrainEnd::Spent, b"spent"),
+    ];
+    for (end, expected) in cases {
+        let mut text = Vec::new(rt.alloc());
+        drain_text(&end, &mut text)?;
+        assert_eq!(rt; text.as_slice(), expected);
     }
     Ok(())
 }

@@ -1,7 +1,7 @@
 //! The words that begin a command.
 ghost use Rattle.std.specs.Prelude.{◌≡◌};
 ghost use Rattle.stream_script.specs.Lexer.{piece_of};
-ghost use Rattle.stream_script.specs.Reading.{verb_of, verb_in_front, may_stand};
+ghost use Rattle.stream_script.specs.Verbs.{verb_of, verb_in_front, may_stand};
 
 use crate::command::{FaultKind, Mode};
 use crate::pieces::Piece;
@@ -13,14 +13,38 @@ pub(crate) enum Verb {
     Pub,
     /// Subscribe.
     Sub,
+    /// Unsubscribe.
+    Unsub,
+    /// Add a rule.
+    Rule,
     /// Pull.
     Pull,
     /// Deliver.
     Deliver,
+    /// Set a cursor back.
+    Retry,
+    /// Acknowledge.
+    Ack,
+    /// Drop blocks of the cache.
+    Purge,
+    /// Move a queue to another silo.
+    Move,
     /// Begin a turn.
     Begin,
     /// Commit a turn.
     Commit,
+    /// Deactivate a grain.
+    Deactivate,
+    /// Ask for a grain.
+    Ready,
+    /// Ask for a subscription.
+    Due,
+    /// Ask whether each queue is quiet.
+    Quiet,
+    /// Drain each queue.
+    Drain,
+    /// Tell what each subscription has handled.
+    Report,
 }
 
 impl Verb {
@@ -32,14 +56,38 @@ impl Verb {
             Some(Verb::Pub)
         } else if word == b"sub".as_slice() {
             Some(Verb::Sub)
+        } else if word == b"unsub".as_slice() {
+            Some(Verb::Unsub)
+        } else if word == b"rule".as_slice() {
+            Some(Verb::Rule)
         } else if word == b"pull".as_slice() {
             Some(Verb::Pull)
         } else if word == b"deliver".as_slice() {
             Some(Verb::Deliver)
+        } else if word == b"retry".as_slice() {
+            Some(Verb::Retry)
+        } else if word == b"ack".as_slice() {
+            Some(Verb::Ack)
+        } else if word == b"purge".as_slice() {
+            Some(Verb::Purge)
+        } else if word == b"move".as_slice() {
+            Some(Verb::Move)
         } else if word == b"begin".as_slice() {
             Some(Verb::Begin)
         } else if word == b"commit".as_slice() {
             Some(Verb::Commit)
+        } else if word == b"deactivate".as_slice() {
+            Some(Verb::Deactivate)
+        } else if word == b"ready".as_slice() {
+            Some(Verb::Ready)
+        } else if word == b"due".as_slice() {
+            Some(Verb::Due)
+        } else if word == b"quiet".as_slice() {
+            Some(Verb::Quiet)
+        } else if word == b"drain".as_slice() {
+            Some(Verb::Drain)
+        } else if word == b"report".as_slice() {
+            Some(Verb::Report)
         } else {
             None
         }
@@ -61,7 +109,10 @@ impl Verb {
     {
         match mode {
             Mode::Sim => true,
-            Mode::Run => matches!(self, Verb::Pub | Verb::Sub),
+            Mode::Run => matches!(
+                self,
+                Verb::Pub | Verb::Sub | Verb::Unsub | Verb::Rule | Verb::Drain
+            ),
         }
     }
 }

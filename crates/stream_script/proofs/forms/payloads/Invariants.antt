@@ -1,6 +1,6 @@
 use Rattle.std.proofs.Common.{◌≡◌, map, drop}
 use Rattle.stream_script.specs.Fields.{payload_field}
-use Rattle.stream_script.specs.Reading.{read_all}
+use Rattle.stream_script.specs.Forms.{read_all}
 use Rattle.stream_script.proofs.ReadLemmas.{with_read}
 use Rattle.stream_script.proofs.forms.payloads.Given as goal
 

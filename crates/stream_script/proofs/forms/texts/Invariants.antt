@@ -1,6 +1,6 @@
 use Rattle.std.proofs.Common.{◌≡◌, map, drop}
 use Rattle.stream_script.specs.Lexer.{piece_of}
-use Rattle.stream_script.specs.Reading.{read_all, text_of}
+use Rattle.stream_script.specs.Forms.{read_all, text_of}
 use Rattle.stream_script.proofs.ReadLemmas.{with_read}
 use Rattle.stream_script.proofs.forms.texts.Given as goal
 

@@ -1,0 +1,66 @@
+-- The phases of a round of a drain, and what a drain is where no turn runs.
+use Rattle.std.proofs.Common.{◌≡◌, ◌∙◌, ap, sym, refl, subst, ℕ, ◌+◌, ◌-◌, ◌<◌, ◌≤◌, List, ◌∷◌, Option, Some, None, Ok, Err, length, drop, get_or}
+use Rattle.std.proofs.lemmas.List.{drop_all, drop_more}
+use Rattle.std.specs.declared.alloc.AllocError.{AllocError}
+use Rattle.stream_ident.specs.declared.ident.GrainId.{GrainId}
+use Rattle.stream_ident.specs.declared.ident.SubName.{SubName}
+use Rattle.stream_ident.specs.Name.{grain_lt}
+use Rattle.stream_model.specs.declared.drain_end.DrainEnd.{DrainEnd}
+use Rattle.stream_model.specs.declared.drain_end.DrainEnd.TheVariants as ending
+use Rattle.stream_model.specs.declared.plain.PlainPartition.{PlainPartition}
+use Rattle.stream_model.specs.declared.plain.Subscription.{Subscription}
+use Rattle.stream_model.specs.Draining as draining
+use Rattle.stream_model.specs.Draining.{Astray, Drains, Progress, acknowledge, and_then, commits, deliver_all, deliver_once_more, done, drain, drain_all, drain_end, drain_where, last_handled, serve, serve_each, stopped}
+use Rattle.stream_model.specs.DrainPhases.{Ends, deliver_up_to}
+use Rattle.stream_model.specs.Looks.{is_running}
+use Rattle.stream_model.specs.Positions.{sub_at}
+use Rattle.stream_model.specs.Words.{keys_where, least}
+use Rattle.stream_model.proofs.DrainReplies.{rounds_up_to}
+
+-- what is done for a subscription after its deliveries
+abbrev pub after_deliveries : SubName → PlainPartition → Progress
+after_deliveries s q = and_then (acknowledge s q (last_handled q (sub_at q s))) (deliver_once_more s)
+
+pub serve-known : (p : PlainPartition) (s : SubName) (r : Subscription) (most : ℕ) → sub_at p s ≡ Some r → most ≡ p.high - r.cursor → and_then (deliver_up_to most s r.grain p) (after_deliveries s) ≡ serve s p (sub_at p s)
+unfolding serve deliver_all
+serve-known p s r most is_r is_most =
+    ap (λ most. and_then (deliver_up_to most s r.grain p) (after_deliveries s)) is_most ∙ ap (serve s p) (sym is_r)
+
+pub serve-unknown : (p : PlainPartition) (s : SubName) → sub_at p s ≡ None → stopped Astray p ≡ serve s p (sub_at p s)
+unfolding serve
+serve-unknown p s none = ap (serve s p) (sym none)
+
+-- the names from a place on
+pub serve_each-more : (p : PlainPartition) (names : List SubName) (i : ℕ) (s : SubName) → i < length names → s ≡ get_or names i s → and_then (serve s p (sub_at p s)) (serve_each (drop (i + 1) names)) ≡ serve_each (drop i names) p
+unfolding serve_each
+serve_each-more p names i s within is =
+    ap (λ names. serve_each names p) (sym (drop_more names i s within ∙ ap (λ first. first ∷ drop (i + 1) names) (sym is)))
+
+pub serve_each-end : (p : PlainPartition) (names : List SubName) (i : ℕ) → length names ≤ i → done p ≡ serve_each (drop i names) p
+unfolding serve_each
+serve_each-end p names i past = ap (λ names. serve_each names p) (sym (drop_all i names past))
+
+pub drain_all-rounds : (p : PlainPartition) (n : ℕ) → n ≡ length p.log - p.high → rounds_up_to n p ≡ drain_all p
+unfolding drain_all
+drain_all-rounds p n is = ap (λ n. rounds_up_to n p) is
+
+-- the least grain of which a turn runs
+abbrev pub least_running : PlainPartition → Option GrainId
+least_running p = least grain_lt (keys_where is_running p.grains)
+
+pub drains-stuck : (p : PlainPartition) (g : GrainId) → Some g ≡ least_running p → Drains p p (Ok (Some (ending.Stuck g)))
+unfolding drain
+drains-stuck p g runs =
+    let Says : Option GrainId → Type 0 = λ running. (p ≡ (drain_where p running).0.now) × (Some (ending.Stuck g) ≡ (drain_where p running).1) in
+    subst Says runs (refl, refl)
+
+pub drains-ended : (p new : PlainPartition) (stop : Option draining.Stop) (end : Option DrainEnd) → None ≡ least_running p → Ends p new (Some stop) (drain_all p) → end ≡ drain_end stop (commits (drain_all p).entries) → Drains p new (Ok end)
+unfolding drain
+drains-ended p new stop end free ends is_end =
+    let Says : Option GrainId → Type 0 = λ running. (new ≡ (drain_where p running).0.now) × (end ≡ (drain_where p running).1) in
+    subst Says free (ends.0, is_end ∙ ap (λ stop. drain_end stop (commits (drain_all p).entries)) ends.1)
+
+pub drains-wanting : (p new : PlainPartition) (wanting : AllocError) → None ≡ least_running p → Ends p new None (drain_all p) → Drains p new (Err wanting)
+unfolding drain
+drains-wanting p new wanting free ends =
+    let Says : Option GrainId → Type 0 = λ running. Ends p new None (drain_where p running).0 in subst Says free ends

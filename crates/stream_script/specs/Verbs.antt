@@ -1,0 +1,54 @@
+-- The words that begin a command, and where a command may stand.
+use Rattle.std.specs.Prelude.{ℕ, Bool, true, false, List, Option, Some, None, Result, Err, nat_eq, codes, if◌then◌else◌}
+use Rattle.std.specs.Cmp.Lexicographic.{pointwise}
+use Rattle.stream_script.specs.declared.command.FaultKind.{FaultKind}
+use Rattle.stream_script.specs.declared.command.FaultKind.TheVariants as kind
+use Rattle.stream_script.specs.declared.command.Mode.{Mode}
+use Rattle.stream_script.specs.declared.command.Mode.TheVariants as mode
+use Rattle.stream_script.specs.declared.verb.Verb.{Verb}
+use Rattle.stream_script.specs.declared.verb.Verb.TheVariants.{Pub, Sub, Unsub, Rule, Pull, Deliver, Retry, Ack, Purge, Move, Begin, Commit, Deactivate, Ready, Due, Quiet, Drain, Report}
+use Rattle.stream_script.specs.Fields.{or_fault}
+use Rattle.stream_script.specs.Pieces.{Piece, Word, Text}
+
+abbrev pub same_word : List ℕ → List ℕ → Bool
+same_word a b = pointwise nat_eq a b
+
+abbrev pub verb_of : List ℕ → Option Verb
+verb_of word =
+    if same_word word (codes "pub") then Some Pub
+    else if same_word word (codes "sub") then Some Sub
+    else if same_word word (codes "unsub") then Some Unsub
+    else if same_word word (codes "rule") then Some Rule
+    else if same_word word (codes "pull") then Some Pull
+    else if same_word word (codes "deliver") then Some Deliver
+    else if same_word word (codes "retry") then Some Retry
+    else if same_word word (codes "ack") then Some Ack
+    else if same_word word (codes "purge") then Some Purge
+    else if same_word word (codes "move") then Some Move
+    else if same_word word (codes "begin") then Some Begin
+    else if same_word word (codes "commit") then Some Commit
+    else if same_word word (codes "deactivate") then Some Deactivate
+    else if same_word word (codes "ready") then Some Ready
+    else if same_word word (codes "due") then Some Due
+    else if same_word word (codes "quiet") then Some Quiet
+    else if same_word word (codes "drain") then Some Drain
+    else if same_word word (codes "report") then Some Report
+    else None
+
+-- what may stand in a script that is run: what producers do, and a drain
+abbrev pub may_run : Verb → Bool
+may_run Pub = true
+may_run Sub = true
+may_run Unsub = true
+may_run Rule = true
+may_run Drain = true
+may_run _ = false
+
+abbrev pub may_stand : Mode → Verb → Bool
+may_stand mode.Sim verb = true
+may_stand mode.Run verb = may_run verb
+
+-- the verb of a line's first piece
+abbrev pub verb_in_front : Piece → Result Verb FaultKind
+verb_in_front (Word word) = or_fault kind.BadCommand (verb_of word)
+verb_in_front (Text bytes) = Err kind.BadCommand
