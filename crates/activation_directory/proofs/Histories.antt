@@ -1,0 +1,29 @@
+-- A legal history in two parts, and what an entry of it adds to what is found in it.
+use Rattle.std.proofs.Common.{◌≡◌, ℕ, List, [], ◌∷◌, ◌++◌, refl, subst, Contains, arith}
+use Rattle.std.proofs.lemmas.List.Elements.{Contains-get_or, Contains-append_right}
+use Rattle.stream_ident.specs.declared.ident.GrainId.{GrainId}
+use Rattle.activation_directory.specs.Laws.{IsFreed, left, released}
+use Rattle.activation_directory.specs.Plain.{PlainDirectory}
+use Rattle.activation_directory.specs.Step.{Entry, Leads, step}
+use mathlib.Core.Logic.{inl, inr}
+
+-- the directory between two parts
+pub Leads-split : (d : PlainDirectory) (entries later : List Entry) (e : PlainDirectory) → Leads d (entries ++ later) e → (m : PlainDirectory) × Leads d entries m × Leads m later e
+Leads-split d [] later e leads = (d, refl, leads)
+Leads-split d (x ∷ xs) later e leads =
+    let rest = Leads-split (step d x.op).0 xs later e leads.1 in
+    (rest.0, (leads.0, rest.1), rest.2)
+
+Contains-first : (x y : Entry) (xs : List Entry) → x ≡ y → Contains (x ∷ xs) y
+Contains-first x y xs same = subst (Contains (x ∷ xs)) same (Contains-get_or (x ∷ xs) 0 x (omega arith))
+
+pub IsFreed-left : (x : Entry) (xs : List Entry) (grain : GrainId) (silo permit : ℕ) → x ≡ left grain permit → IsFreed (x ∷ xs) grain silo permit
+IsFreed-left x xs grain silo permit same = inl (Contains-first x (left grain permit) xs same)
+
+pub IsFreed-released : (x : Entry) (xs : List Entry) (grain : GrainId) (silo permit count : ℕ) → x ≡ released grain silo count → IsFreed (x ∷ xs) grain silo permit
+IsFreed-released x xs grain silo permit count same = inr (count, Contains-first x (released grain silo count) xs same)
+
+pub IsFreed-later : (x : Entry) (xs : List Entry) (grain : GrainId) (silo permit : ℕ) → IsFreed xs grain silo permit → IsFreed (x ∷ xs) grain silo permit
+IsFreed-later x xs grain silo permit (inl there) = inl (Contains-append_right (x ∷ []) xs (left grain permit) there)
+IsFreed-later x xs grain silo permit (inr there) =
+    inr (there.0, Contains-append_right (x ∷ []) xs (released grain silo there.0) there.1)

@@ -1,0 +1,9 @@
+mod Cases
+mod GrainLemmas
+mod Histories
+mod Holding
+mod Numbers
+mod Others
+mod PlacedLemmas
+mod Unique
+mod Walk

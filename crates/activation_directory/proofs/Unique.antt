@@ -1,0 +1,116 @@
+-- In each directory that a legal history leaves, a grain is placed once. So the least grain of a silo is
+-- placed on that silo.
+use Rattle.std.proofs.Common.{◌≡◌, ◌∙◌, ℕ, true, false, List, [], ◌∷◌, Option, Some, None, is_some, refl, sym, ap, subst, true≢false}
+use Rattle.std.specs.Prelude.{nat_lt, ◌==◌, if◌then◌else◌}
+use Rattle.stream_ident.specs.declared.ident.GrainId.{GrainId}
+use Rattle.stream_ident.specs.Name.{grain_lt, same_grain}
+use Rattle.activation_directory.specs.declared.op.DirectoryOp.{DirectoryOp}
+use Rattle.activation_directory.specs.declared.op.DirectoryOp.TheVariants.{Enter, Leave, Unplace, Down}
+use Rattle.activation_directory.specs.declared.place.Place.{Place}
+use Rattle.activation_directory.specs.declared.reply.DirectoryReply.{DirectoryReply}
+use Rattle.activation_directory.specs.Least.{lesser}
+use Rattle.activation_directory.specs.Placed.{Placed, place_in, with_place, without, least_on}
+use Rattle.activation_directory.specs.Plain.{PlainDirectory}
+use Rattle.activation_directory.specs.Step.{Entry, Leads, admit, enter, is_out, leave, unplace, down, step}
+use Rattle.activation_directory.proofs.Cases.{if-cases}
+use Rattle.activation_directory.proofs.GrainLemmas.{same_grain-equal, same_grain-refl}
+use Rattle.activation_directory.proofs.PlacedLemmas.{place_in-other, place_in-without}
+use Rattle.activation_directory.proofs.Walk.{least_on-yes, least_on-no}
+
+-- no grain has a second entry
+abbrev pub IsUnique : Placed → Type 0
+IsUnique [] = Unit {0}
+IsUnique (entry ∷ entries) = (place_in entries entry.0 ≡ None) × IsUnique entries
+
+apart-sym : (a b : GrainId) → same_grain a b ≡ false → same_grain b a ≡ false
+apart-sym a b apart =
+    (elim (same_grain b a) as (λ c. same_grain b a ≡ c → c ≡ false) [
+      | true ↦ λ same. absurd (true≢false (sym (same_grain-refl a) ∙ ap (λ g. same_grain a g) (sym (same_grain-equal b a same)) ∙ apart))
+      | false ↦ λ other. refl
+    ]) refl
+
+unique-with : (placed : Placed) (grain : GrainId) (place : Place) → IsUnique placed → IsUnique (with_place placed grain place)
+unique-with [] grain place unique = (refl, tt)
+unique-with (entry ∷ entries) grain place unique =
+    (elim (same_grain grain entry.0) as (λ b. same_grain grain entry.0 ≡ b → IsUnique (if b then (entry.0, place) ∷ entries else entry ∷ with_place entries grain place)) [
+      | true ↦ λ here. unique
+      | false ↦ λ there. (place_in-other entries entry.0 grain place (apart-sym grain entry.0 there) ∙ unique.0, unique-with entries grain place unique.1)
+    ]) refl
+
+unique-without : (placed : Placed) (grain : GrainId) → IsUnique placed → IsUnique (without placed grain)
+unique-without [] grain unique = unique
+unique-without (entry ∷ entries) grain unique =
+    (elim (same_grain grain entry.0) as (λ b. same_grain grain entry.0 ≡ b → IsUnique (if b then entries else entry ∷ without entries grain)) [
+      | true ↦ λ here. unique.1
+      | false ↦ λ there. (place_in-without entries entry.0 grain (apart-sym grain entry.0 there) ∙ unique.0, unique-without entries grain unique.1)
+    ]) refl
+
+abbrev KeepsUnique : PlainDirectory × DirectoryReply → Type 0
+KeepsUnique stepped = IsUnique stepped.0.placed
+
+module _ (d : PlainDirectory) (unique : IsUnique d.placed) where
+  unique-admit : (grain : GrainId) (silo : ℕ) → KeepsUnique (admit d grain silo)
+  unique-admit grain silo = if-cases KeepsUnique (nat_lt d.given d.permits) _ _ (λ more. unique-with d.placed grain _ unique) (λ spent. unique)
+
+  unique-enter : (grain : GrainId) (silo : ℕ) (found : Option Place) → KeepsUnique (enter d grain silo found)
+  unique-enter grain silo None = unique-admit grain silo
+  unique-enter grain silo (Some place) =
+      if-cases KeepsUnique (place.silo == silo) _ _
+      (λ here. if-cases KeepsUnique (is_some place.permit) _ _ (λ busy. unique) (λ free. unique-admit grain silo)) (λ elsewhere. unique)
+
+  unique-leave : (grain : GrainId) (permit : ℕ) (found : Option Place) → KeepsUnique (leave d grain permit found)
+  unique-leave grain permit None = unique
+  unique-leave grain permit (Some place) =
+      if-cases KeepsUnique (is_out permit place.permit) _ _ (λ is. unique-with d.placed grain _ unique) (λ isnt. unique)
+
+  unique-unplace : (grain : GrainId) (found : Option Place) → KeepsUnique (unplace d grain found)
+  unique-unplace grain None = unique
+  unique-unplace grain (Some place) =
+      if-cases KeepsUnique (is_some place.permit) _ _ (λ busy. unique) (λ free. unique-without d.placed grain unique)
+
+  unique-down : (silo : ℕ) (found : Option GrainId) → KeepsUnique (down d silo found)
+  unique-down silo None = unique
+  unique-down silo (Some grain) = unique-without d.placed grain unique
+
+  pub unique-step : (op : DirectoryOp) → KeepsUnique (step d op)
+  unique-step (Enter grain silo) = unique-enter grain silo (place_in d.placed grain)
+  unique-step (Leave grain permit) = unique-leave grain permit (place_in d.placed grain)
+  unique-step (Unplace grain) = unique-unplace grain (place_in d.placed grain)
+  unique-step (Down silo) = unique-down silo (least_on silo d.placed)
+
+-- along a history
+pub unique-leads : (d : PlainDirectory) (entries : List Entry) (e : PlainDirectory) → IsUnique d.placed → Leads d entries e → IsUnique e.placed
+unique-leads d [] e unique same = subst (λ x. IsUnique x.placed) (sym same) unique
+unique-leads d (x ∷ xs) e unique leads = unique-leads (step d x.op).0 xs e (unique-step d unique x.op) leads.1
+
+-- the grain is placed on the silo
+abbrev pub IsPlacedOn : ℕ → Placed → GrainId → Type 0
+IsPlacedOn silo placed grain = (place : Place) × (place_in placed grain ≡ Some place) × ((place.silo == silo) ≡ true)
+
+-- so it is with an entry of another grain in front
+placed-later : (silo : ℕ) (entry : GrainId × Place) (entries : Placed) (grain : GrainId) → place_in entries entry.0 ≡ None → IsPlacedOn silo entries grain → IsPlacedOn silo (entry ∷ entries) grain
+placed-later silo entry entries grain none on =
+    (elim (same_grain grain entry.0) as (λ b. same_grain grain entry.0 ≡ b → IsPlacedOn silo (entry ∷ entries) grain) [
+      | true ↦ λ same. let found : Some on.0 ≡ None = sym on.1 ∙ ap (place_in entries) (same_grain-equal grain entry.0 same) ∙ none in absurd (cc)
+      | false ↦ λ other. (on.0, rw other on.1, on.2)
+    ]) refl
+
+-- the lesser of the first grain and the least of the rest
+lesser-on : (silo : ℕ) (entry : GrainId × Place) (entries : Placed) (rest : Option GrainId) (grain : GrainId) → place_in entries entry.0 ≡ None → (entry.1.silo == silo) ≡ true
+    → ((other : GrainId) → rest ≡ Some other → IsPlacedOn silo entries other) → Some (lesser grain_lt entry.0 rest) ≡ Some grain → IsPlacedOn silo (entry ∷ entries) grain
+lesser-on silo entry entries None grain none here on is =
+    let same : entry.0 ≡ grain = cc in
+    subst (IsPlacedOn silo (entry ∷ entries)) same (entry.1, rw (same_grain-refl entry.0) refl, here)
+lesser-on silo entry entries (Some other) grain none here on is =
+    (elim (grain_lt other entry.0) as (λ b. Some (if b then other else entry.0) ≡ Some grain → IsPlacedOn silo (entry ∷ entries) grain) [
+      | true ↦ λ is. let same : other ≡ grain = cc in placed-later silo entry entries grain none (on grain (ap {B = Option GrainId} Some same))
+      | false ↦ λ is. let same : entry.0 ≡ grain = cc in subst (IsPlacedOn silo (entry ∷ entries)) same (entry.1, rw (same_grain-refl entry.0) refl, here)
+    ]) is
+
+pub least_on-placed : (silo : ℕ) (placed : Placed) (grain : GrainId) → IsUnique placed → least_on silo placed ≡ Some grain → IsPlacedOn silo placed grain
+least_on-placed silo [] grain unique is = absurd (cc)
+least_on-placed silo (entry ∷ entries) grain unique is =
+    (elim (entry.1.silo == silo) as (λ b. (entry.1.silo == silo) ≡ b → IsPlacedOn silo (entry ∷ entries) grain) [
+      | true ↦ λ here. lesser-on silo entry entries (least_on silo entries) grain unique.0 here (λ other found. least_on-placed silo entries other unique.1 found) (least_on-yes silo entry entries here ∙ is)
+      | false ↦ λ there. placed-later silo entry entries grain unique.0 (least_on-placed silo entries grain unique.1 (least_on-no silo entry entries there ∙ is))
+    ]) refl

@@ -1,0 +1,3 @@
+pub mod BalanceLemmas
+pub mod CountLemmas
+pub mod PlacesLemmas
