@@ -15,3 +15,7 @@ place_in digest queues = record { queue = from_be_bytes w64 (take 8 digest) % qu
 
 abbrev pub place_of : StreamId → ℕ → Place
 place_of stream queues = place_in (sha256 (message_of stream)) queues
+
+-- the tag of a stream, whichever the number of queues
+abbrev pub tag_of : StreamId → ℕ
+tag_of stream = (place_of stream 1).tag

@@ -11,4 +11,4 @@ pub use Rattle.stream_model.specs.Publishing
 pub use Rattle.stream_model.specs.Pulling
 pub use Rattle.stream_model.specs.Step
 pub use Rattle.stream_model.specs.Turns
-pub use Rattle.stream_model.specs.Words
+pub use Rattle.stream_ident.specs.Words

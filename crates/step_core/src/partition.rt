@@ -7,7 +7,7 @@ ghost use Rattle.stream_model.specs.Draining.{DrainsTo};
 ghost use Rattle.stream_model.specs.Looks.{pending_in};
 ghost use Rattle.stream_model.specs.Positions.{empty, low_token, high_token, token_at, events_at};
 ghost use Rattle.stream_model.specs.Step.{step, takes_memory, Performs};
-ghost use Rattle.stream_model.specs.Words.{value_at};
+ghost use Rattle.stream_ident.specs.Words.{value_at};
 ghost use Rattle.step_core.specs.Reads.{summary_of, summaries_in_order, handled_of};
 ghost use Rattle.step_core.specs.Run.{Does, DoesFront};
 

@@ -12,7 +12,7 @@ use Rattle.stream_model.specs.declared.reply.Reply.TheVariants as reply
 use Rattle.stream_model.specs.Places.{place_of}
 use Rattle.stream_model.specs.Positions.{sub_at, with_sub}
 use Rattle.stream_model.specs.Pulling.{ack, ack_of, ack_position, acknowledged, handled_at, is_stale, retry, retry_of, rewound}
-use Rattle.stream_model.specs.Words.{with_value}
+use Rattle.stream_ident.specs.Words.{with_value}
 use Rattle.stream_model.proofs.Lookups.{place_of-none}
 
 pub retry-stale : (p : PlainPartition) (generation : ℕ) (s : SubName) → is_stale p generation ≡ true → (p, reply.StaleAgent p.generation) ≡ retry p generation s

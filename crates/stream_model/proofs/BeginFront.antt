@@ -9,7 +9,7 @@ use Rattle.stream_model.specs.declared.plain.RunningTurn.{RunningTurn}
 use Rattle.stream_model.specs.declared.plain.Subscription.{Subscription}
 use Rattle.stream_model.specs.Positions.{grain_at, running_in, sub_at, waiting_in}
 use Rattle.stream_model.specs.Turns.{dropped}
-use Rattle.stream_model.specs.Words.{past}
+use Rattle.stream_ident.specs.Words.{past}
 use Rattle.stream_model.proofs.Deliveries.{waiting-other, waiting-own}
 use Rattle.stream_model.proofs.FitsOne.{Fits-grain, IsToldOf-refl}
 use Rattle.stream_model.proofs.Invariant.{Fits, GrainsFit, IsBoxed, SubFits, marks_of}

@@ -16,7 +16,7 @@ use Rattle.stream_model.specs.Places.{place_of, handled_also}
 use Rattle.stream_model.specs.Positions.{grain_at, new_grain, sub_at, token_at}
 use Rattle.stream_model.specs.Step.{takes_memory}
 use Rattle.stream_model.specs.Turns.{commit, commit_running, commit_for, ended, committed}
-use Rattle.stream_model.specs.Words.{past, with_value}
+use Rattle.stream_ident.specs.Words.{past, with_value}
 use Rattle.stream_model.proofs.Beginning.{grain_at-new}
 use Rattle.stream_model.proofs.Lookups.{place_of-none}
 

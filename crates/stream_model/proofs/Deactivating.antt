@@ -12,7 +12,7 @@ use Rattle.stream_model.specs.Places.{place_of}
 use Rattle.stream_model.specs.Positions.{grain_at, new_grain}
 use Rattle.stream_model.specs.Pulling.{rewound_where}
 use Rattle.stream_model.specs.Turns.{deactivate, deactivate_in, deactivated, running_count}
-use Rattle.stream_model.specs.Words.{each_value, with_value}
+use Rattle.stream_ident.specs.Words.{each_value, with_value}
 use Rattle.stream_model.proofs.Beginning.{grain_at-new}
 
 -- the grain's record decides

@@ -13,7 +13,7 @@ use Rattle.stream_model.specs.Bounds.{AreIn, IsGiven, IsWithinLimits}
 use Rattle.stream_model.specs.Positions.{grain_at, with_grain}
 use Rattle.stream_model.specs.Pulling.{rewound_where}
 use Rattle.stream_model.specs.Turns.{deactivate, deactivate_in, deactivated}
-use Rattle.stream_model.specs.Words.{each_value}
+use Rattle.stream_ident.specs.Words.{each_value}
 use Rattle.stream_model.proofs.EachValue.{All-each_value}
 use Rattle.stream_model.proofs.RecordBounds.{GrainFits, changed, grain-fits, grain-set, grains-fit}
 

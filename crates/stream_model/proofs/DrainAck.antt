@@ -15,7 +15,7 @@ use Rattle.stream_model.specs.Draining.{acknowledge, after_ack, after_last_deliv
 use Rattle.stream_model.specs.Positions.{grain_at, is_outstanding, is_unacknowledged, running_in, sub_at, token_at, waiting_in, with_sub}
 use Rattle.stream_model.specs.Pulling.{ack, ack_of, ack_position, acknowledged, caught_up, handled_at}
 use Rattle.stream_model.specs.Step.{step}
-use Rattle.stream_model.specs.Words.{past}
+use Rattle.stream_ident.specs.Words.{past}
 use Rattle.stream_model.proofs.DrainBase.{IsSound, handled_since, told-step}
 use Rattle.stream_model.proofs.DrainDeliver.{deliver-nothing, next-none, set-sound}
 use Rattle.stream_model.proofs.DrainRule.{Meets, Tally, meets-ask, tally_after}

@@ -14,7 +14,7 @@ use Rattle.stream_model.specs.declared.reply.Reply.TheVariants as reply
 use Rattle.stream_model.specs.Positions.{events_at, grain_at, is_spent, sub_at, token_at}
 use Rattle.stream_model.specs.Step.{step}
 use Rattle.stream_model.specs.Turns.{begin, begin_for, begin_front, begin_in, begin_turn, begun, commit, commit_for, commit_running, committed, dropped, ended, front_of}
-use Rattle.stream_model.specs.Words.{past}
+use Rattle.stream_ident.specs.Words.{past}
 use Rattle.stream_model.proofs.Values.{same_sub-refl}
 
 -- a grain with a delivery, and no turn that runs

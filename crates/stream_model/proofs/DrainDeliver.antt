@@ -15,7 +15,7 @@ use Rattle.stream_model.specs.History.{is_owed}
 use Rattle.stream_model.specs.Positions.{between, grain_at, is_spent, next_position, sub_at, token_at, with_sub}
 use Rattle.stream_model.specs.Pulling.{caught_up, deliver, deliver_position, deliver_to, delivered, woken}
 use Rattle.stream_model.specs.Step.{step}
-use Rattle.stream_model.specs.Words.{first_at, value_at}
+use Rattle.stream_ident.specs.Words.{first_at, value_at}
 use Rattle.stream_model.proofs.DrainBase.{IsSound, handled_since, told-step}
 use Rattle.stream_model.proofs.DrainBegin.{ready_grain}
 use Rattle.stream_model.proofs.DrainRule.{Tally, tally_after}

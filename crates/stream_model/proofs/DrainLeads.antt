@@ -16,7 +16,7 @@ use Rattle.stream_model.specs.History.{Entry}
 use Rattle.stream_model.specs.Looks.{is_running}
 use Rattle.stream_model.specs.Positions.{empty, sub_at}
 use Rattle.stream_model.specs.Step.{Leads, step}
-use Rattle.stream_model.specs.Words.{keys_where, least}
+use Rattle.stream_ident.specs.Words.{keys_where, least}
 
 -- one run after another
 pub leads-append : (p q r : PlainPartition) (first second : List Entry) → Leads p first q → Leads q second r → Leads p (first ++ second) r

@@ -9,7 +9,7 @@ use Rattle.stream_model.specs.declared.plain.PlainPartition.{PlainPartition}
 use Rattle.stream_model.specs.Draining.{all_waiting, empty_mailboxes, least_waiting, take_turn, take_turns}
 use Rattle.stream_model.specs.Looks.{is_waiting}
 use Rattle.stream_model.specs.Positions.{grain_at, new_grain}
-use Rattle.stream_model.specs.Words.{keys_where, value_at}
+use Rattle.stream_ident.specs.Words.{keys_where, value_at}
 use Rattle.stream_model.proofs.DrainBase.{IsSound}
 use Rattle.stream_model.proofs.DrainBegin.{ready_grain}
 use Rattle.stream_model.proofs.IdleGrains.{IsEmptied, emptied-of}

@@ -15,7 +15,7 @@ use Rattle.stream_model.specs.Draining.{Progress, after_pull, ask, drain_all, dr
 use Rattle.stream_model.specs.Positions.{between, least_or, open_resumes, slowest, slowest_name, token_at}
 use Rattle.stream_model.specs.Pulling.{all_implied, drops, pull, pull_count, pull_events, pull_want, room, subs_with}
 use Rattle.stream_model.specs.Step.{step}
-use Rattle.stream_model.specs.Words.{least_with, value_at}
+use Rattle.stream_ident.specs.Words.{least_with, value_at}
 use Rattle.stream_model.proofs.DrainBase.{IsSound, handled_since, told-step}
 use Rattle.stream_model.proofs.IdleGrains.{IsEmptied}
 use Rattle.stream_model.proofs.KeyLists.{each-entry}

@@ -14,7 +14,7 @@ use Rattle.stream_model.specs.Draining.{Astray, Drains, Progress, acknowledge, a
 use Rattle.stream_model.specs.DrainPhases.{Ends, deliver_up_to}
 use Rattle.stream_model.specs.Looks.{is_running}
 use Rattle.stream_model.specs.Positions.{sub_at}
-use Rattle.stream_model.specs.Words.{keys_where, least}
+use Rattle.stream_ident.specs.Words.{keys_where, least}
 use Rattle.stream_model.proofs.DrainReplies.{rounds_up_to}
 
 -- what is done for a subscription after its deliveries

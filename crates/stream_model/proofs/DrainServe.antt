@@ -8,7 +8,7 @@ use Rattle.stream_model.specs.declared.plain.PlainPartition.{PlainPartition}
 use Rattle.stream_model.specs.declared.plain.Subscription.{Subscription}
 use Rattle.stream_model.specs.Draining.{acknowledge, and_then, deliver_all, deliver_once_more, drain_round, empty_mailboxes, last_handled, open_names, serve, serve_each}
 use Rattle.stream_model.specs.Positions.{sub_at}
-use Rattle.stream_model.specs.Words.{keys_where}
+use Rattle.stream_ident.specs.Words.{keys_where}
 use Rattle.stream_model.proofs.DrainAck.{IsAcked, IsSettled, meets-acknowledge, meets-deliver_once_more}
 use Rattle.stream_model.proofs.DrainBase.{IsSound}
 use Rattle.stream_model.proofs.IdleGrains.{IsEmptied}

@@ -18,7 +18,7 @@ use Rattle.stream_model.specs.Draining.{after_begin, after_commit, all_waiting, 
 use Rattle.stream_model.specs.Positions.{events_at, grain_at, is_spent, new_grain, sub_at, token_at}
 use Rattle.stream_model.specs.Step.{step}
 use Rattle.stream_model.specs.Turns.{begun, committed, dropped}
-use Rattle.stream_model.specs.Words.{past, value_at}
+use Rattle.stream_ident.specs.Words.{past, value_at}
 use Rattle.stream_model.proofs.DrainBase.{IsSound, IsTold, handled_since, told-step}
 use Rattle.stream_model.proofs.DrainBegin.{begin-dropped, begin-spent, begin-turn, busy_grain, commit-turn, ready_grain, turn_of}
 use Rattle.stream_model.proofs.DrainRule.{Meets, Tally, meets-ask, tally_after}

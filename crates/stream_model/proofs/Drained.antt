@@ -22,7 +22,7 @@ use Rattle.stream_model.specs.History.{Entry, is_owed, owed_of}
 use Rattle.stream_model.specs.Looks.{behind, deliverable, is_running, is_waiting, quiet, quiet_reply, running, waiting}
 use Rattle.stream_model.specs.Positions.{next_position, sub_at}
 use Rattle.stream_model.specs.Step.{Stands}
-use Rattle.stream_model.specs.Words.{keys_where, least, or_else, past}
+use Rattle.stream_ident.specs.Words.{keys_where, least, or_else, past}
 use Rattle.stream_model.proofs.DrainBase.{IsSound, handled_since}
 use Rattle.stream_model.proofs.DrainDeliver.{next-none}
 use Rattle.stream_model.proofs.IdleGrains.{IsIdle, each-found, idle-of}

@@ -9,7 +9,7 @@ use Rattle.stream_model.specs.declared.plain.PlainPartition.{PlainPartition}
 use Rattle.stream_model.specs.declared.plain.Subscription.{Subscription}
 use Rattle.stream_model.specs.Positions.{grain_at, sub_at}
 use Rattle.stream_model.specs.Pulling.{rewound_where}
-use Rattle.stream_model.specs.Words.{each_value, value_at}
+use Rattle.stream_ident.specs.Words.{each_value, value_at}
 use Rattle.stream_model.proofs.Invariant.{GrainsFit, NamesFit, NumbersFit, RulesDiffer, UnmadeFit, bound_by_rules, marks_of}
 use Rattle.stream_model.proofs.MarkLemmas.{IsClear-within}
 use Rattle.stream_model.proofs.Marks.{IsClear, IsServed}

@@ -2,7 +2,7 @@
 use Rattle.std.proofs.Common.{◌≡◌, ℕ, zero, suc, ◌+◌, List, [], ◌∷◌, length, refl, ap, ◌∙◌, arith}
 use Rattle.std.specs.List.{AllByRecursion}
 use Rattle.stream_model.specs.Places.{change_at}
-use Rattle.stream_model.specs.Words.{each_value}
+use Rattle.stream_ident.specs.Words.{each_value}
 
 -- so many values changed
 abbrev pub changed_front : {K V : Type 0} → (V → V) → ℕ → List (K × V) → List (K × V)

@@ -7,7 +7,7 @@ use Rattle.std.proofs.lemmas.List.Elements.{filter-append}
 use Rattle.std.specs.List.{AllByRecursion}
 use Rattle.stream_ident.specs.declared.event.Event.{Event}
 use Rattle.stream_model.specs.Positions.{events_at, no_event}
-use Rattle.stream_model.specs.Words.{past, past_from}
+use Rattle.stream_ident.specs.Words.{past, past_from}
 use Rattle.stream_model.proofs.MarkLemmas.{marked-within}
 use Rattle.stream_model.proofs.Marks.{IsClear, IsInTurn, IsNext, marked_below}
 

@@ -8,7 +8,7 @@ use Rattle.stream_model.specs.declared.plain.Grain.{Grain}
 use Rattle.stream_model.specs.declared.plain.PlainPartition.{PlainPartition}
 use Rattle.stream_model.specs.declared.plain.Subscription.{Subscription}
 use Rattle.stream_model.specs.Positions.{grain_at, new_grain, running_in, sub_at, waiting_in, with_sub}
-use Rattle.stream_model.specs.Words.{value_at, with_value}
+use Rattle.stream_ident.specs.Words.{value_at, with_value}
 use Rattle.std.specs.Prelude.{unwrap_or}
 use Rattle.stream_model.proofs.Invariant.{Fits, LogFits, NumbersFit, SubFits, running_of, waiting_of}
 use Rattle.stream_model.proofs.OneChanged.{FitsHere, GrainsFit-carried_to, GrainsFit-one, IsCarried, IsCarried-one, IsGrainChanged, IsOneChanged, IsSeenAlike, IsSeenAlike-grain, IsToldAlike, IsToldAlike-refl, IsTurnAlike-refl, NamesFit-one, SubsFit-one, UnmadeFit-one}

@@ -8,7 +8,7 @@ use Rattle.stream_ident.specs.declared.ident.SubName.{SubName}
 use Rattle.stream_ident.specs.SubName.{same_sub}
 use Rattle.stream_model.specs.declared.plain.Delivery.{Delivery}
 use Rattle.stream_model.specs.Turns.{front_of}
-use Rattle.stream_model.specs.Words.{past, past_from}
+use Rattle.stream_ident.specs.Words.{past, past_from}
 use Rattle.stream_model.proofs.Values.{same_sub-refl}
 
 past_from-last : (n : ℕ) (xs : List ℕ) (k last : ℕ) → slice_get xs k ≡ Some last → suc k ≡ length xs → past_from n xs ≡ suc last

@@ -22,7 +22,7 @@ use Rattle.stream_model.specs.Places.{place_of}
 use Rattle.stream_model.specs.Positions.{between, grain_at, is_outstanding, is_spent, is_unacknowledged, next_position, running_in, sub_at, token_at, waiting_in, with_grain, with_sub}
 use Rattle.stream_model.specs.Pulling.{caught_up, deliver, deliver_to, deliver_position, delivered, woken}
 use Rattle.stream_model.specs.Step.{takes_memory}
-use Rattle.stream_model.specs.Words.{first_at, with_value}
+use Rattle.stream_ident.specs.Words.{first_at, with_value}
 use Rattle.stream_model.proofs.Beginning.{grain_at-new}
 use Rattle.stream_model.proofs.Lookups.{place_of-none}
 use Rattle.stream_model.proofs.EachOf.{All-weaken}

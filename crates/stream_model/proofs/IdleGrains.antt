@@ -10,7 +10,7 @@ use Rattle.stream_model.specs.declared.plain.PlainPartition.{PlainPartition}
 use Rattle.stream_model.specs.declared.plain.RunningTurn.{RunningTurn}
 use Rattle.stream_model.specs.Looks.{is_running, is_waiting}
 use Rattle.stream_model.specs.Positions.{grain_at, new_grain}
-use Rattle.stream_model.specs.Words.{keys_where, value_at, with_value}
+use Rattle.stream_ident.specs.Words.{keys_where, value_at, with_value}
 use Rattle.stream_model.proofs.KeyLists.{each-entry, entry-found, keys_where-none}
 use Rattle.stream_model.proofs.Unique.{AreUnique}
 use Rattle.stream_model.proofs.Values.{grain_equality, same_grain-equal, with_value-at, with_value-other}

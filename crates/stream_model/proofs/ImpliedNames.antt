@@ -12,10 +12,10 @@ use Rattle.stream_ident.specs.Name.{same_name}
 use Rattle.stream_ident.specs.SubName.{same_sub}
 use Rattle.stream_ident.specs.Token.{token_lt}
 use Rattle.stream_model.specs.declared.plain.Subscription.{Subscription}
-use Rattle.stream_model.specs.declared.plain.Rule.{Rule}
+use Rattle.stream_ident.specs.declared.rule.Rule.{Rule}
 use Rattle.stream_model.specs.History.{batch_token}
 use Rattle.stream_model.specs.Pulling.{added, implied}
-use Rattle.stream_model.specs.Words.{value_at}
+use Rattle.stream_ident.specs.Words.{value_at}
 use Rattle.stream_model.proofs.Values.{same_sub-equal}
 
 or_false : (x : Bool) → x || false ≡ x

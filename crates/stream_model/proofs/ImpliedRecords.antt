@@ -10,12 +10,12 @@ use Rattle.stream_ident.specs.declared.ident.SubName.TheVariants.{Implicit}
 use Rattle.stream_ident.specs.Name.{same_name}
 use Rattle.stream_ident.specs.SubName.{same_sub}
 use Rattle.stream_ident.specs.Token.{token_lt}
-use Rattle.stream_model.specs.declared.plain.Rule.{Rule}
+use Rattle.stream_ident.specs.declared.rule.Rule.{Rule}
 use Rattle.stream_model.specs.declared.plain.Subscription.{Subscription}
 use Rattle.stream_model.specs.History.{batch_token}
 use Rattle.stream_model.specs.Positions.{new_subscription, no_event}
 use Rattle.stream_model.specs.Pulling.{added, all_implied, implied}
-use Rattle.stream_model.specs.Words.{or_else, value_at}
+use Rattle.stream_ident.specs.Words.{or_else, value_at}
 use Rattle.stream_model.proofs.EachOf.{All-append}
 use Rattle.stream_model.proofs.Invariant.{RulesDiffer, bound_by_rules}
 use Rattle.stream_model.proofs.RuleLemmas.{IsFirstRule, RulesDiffer-first, or_else-assoc, or_else-none}

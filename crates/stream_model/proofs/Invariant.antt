@@ -12,13 +12,13 @@ use Rattle.stream_ident.specs.Token.{token_lt}
 use Rattle.stream_model.specs.declared.op.Op.{Op}
 use Rattle.stream_model.specs.declared.plain.Delivery.{Delivery}
 use Rattle.stream_model.specs.declared.plain.PlainPartition.{PlainPartition}
-use Rattle.stream_model.specs.declared.plain.Rule.{Rule}
+use Rattle.stream_ident.specs.declared.rule.Rule.{Rule}
 use Rattle.stream_model.specs.declared.plain.RunningTurn.{RunningTurn}
 use Rattle.stream_model.specs.declared.plain.Subscription.{Subscription}
 use Rattle.stream_model.specs.declared.reply.Reply.{Reply}
 use Rattle.stream_model.specs.History.{Binding, batch_token, bound_by_rule, is_owed}
 use Rattle.stream_model.specs.Positions.{events_at, grain_at, low_token, no_event, running_in, sub_at, waiting_in}
-use Rattle.stream_model.specs.Words.{or_else}
+use Rattle.stream_ident.specs.Words.{or_else}
 use Rattle.stream_model.proofs.Marks.{IsClear, IsInTurn, IsServed}
 use Rattle.stream_model.proofs.Summary.{Promise, Summary, after}
 

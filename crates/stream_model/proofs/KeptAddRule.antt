@@ -8,12 +8,12 @@ use Rattle.stream_ident.specs.Name.{same_name}
 use Rattle.stream_ident.specs.Token.{token_lt}
 use Rattle.stream_model.specs.declared.op.Op.TheVariants as op
 use Rattle.stream_model.specs.declared.plain.PlainPartition.{PlainPartition}
-use Rattle.stream_model.specs.declared.plain.Rule.{Rule}
+use Rattle.stream_ident.specs.declared.rule.Rule.{Rule}
 use Rattle.stream_model.specs.declared.reply.Reply.TheVariants as reply
 use Rattle.stream_model.specs.History.{Binding, batch_token, bound_by_rule}
 use Rattle.stream_model.specs.Positions.{no_event}
 use Rattle.stream_model.specs.Publishing.{add_rule}
-use Rattle.stream_model.specs.Words.{or_else}
+use Rattle.stream_ident.specs.Words.{or_else}
 use Rattle.stream_model.proofs.Invariant.{Fits, GrainsFit, Kept, LogFits, NamesFit, NumbersFit, SubsFit, UnmadeFit, marks_of}
 use Rattle.stream_model.proofs.LogLemmas.{clear-before}
 use Rattle.stream_model.proofs.Marks.{IsClear}

@@ -15,7 +15,7 @@ use Rattle.stream_model.specs.declared.reply.Reply.TheVariants as reply
 use Rattle.stream_model.specs.History.{is_owed, owed_of}
 use Rattle.stream_model.specs.Positions.{events_at, grain_at, is_spent, running_in, sub_at, waiting_in}
 use Rattle.stream_model.specs.Turns.{begin, begin_for, begin_front, begin_in, begin_turn, begun, front_of, turn_size}
-use Rattle.stream_model.specs.Words.{past}
+use Rattle.stream_ident.specs.Words.{past}
 use Rattle.stream_model.proofs.BeginFront.{Fits-dropped, IsFront, is_front}
 use Rattle.stream_model.proofs.EachOf.{All-drop}
 use Rattle.stream_model.proofs.Deliveries.{front-length, front-next, front-other, front-rest, front-some}

@@ -13,7 +13,7 @@ use Rattle.stream_model.specs.declared.plain.Subscription.{Subscription}
 use Rattle.stream_model.specs.declared.reply.Reply.TheVariants as reply
 use Rattle.stream_model.specs.Positions.{events_at, grain_at, running_in, sub_at, token_at, waiting_in}
 use Rattle.stream_model.specs.Turns.{commit, commit_for, commit_running, committed, ended}
-use Rattle.stream_model.specs.Words.{past}
+use Rattle.stream_ident.specs.Words.{past}
 use Rattle.stream_model.proofs.EventLemmas.{events_at-append}
 use Rattle.stream_model.proofs.FitsOne.{Fits-both, Fits-grain, IsToldOf, IsToldOf-refl}
 use Rattle.stream_model.proofs.Invariant.{Fits, IsRunning, Kept, NumbersFit, SubFits, marks_of}

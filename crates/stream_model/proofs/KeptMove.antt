@@ -7,7 +7,7 @@ use Rattle.stream_model.specs.declared.plain.PlainPartition.{PlainPartition}
 use Rattle.stream_model.specs.declared.plain.Subscription.{Subscription}
 use Rattle.stream_model.specs.Positions.{is_spent, open_resumes, sub_at, token_at}
 use Rattle.stream_model.specs.Pulling.{move, move_to, rewound_where}
-use Rattle.stream_model.specs.Words.{each_value, least_with}
+use Rattle.stream_ident.specs.Words.{each_value, least_with}
 use Rattle.stream_model.proofs.EachChanged.{GrainsFit-each, IsEachRewound, NamesFit-each, NumbersFit-each, UnmadeFit-each, each-was, rewound_if, served-low, served-rewound_where, told_low}
 use Rattle.stream_model.proofs.Invariant.{Fits, Kept, SubFits, SubsFit, marks_of, running_of, waiting_of}
 use Rattle.stream_model.proofs.PassedPositions.{IsPassed, passed-least}

@@ -13,7 +13,7 @@ use Rattle.stream_model.specs.declared.reply.Reply.TheVariants as reply
 use Rattle.stream_model.specs.History.{Binding, batch_token, is_owed}
 use Rattle.stream_model.specs.Positions.{between, new_subscription, no_event, sub_at, token_at}
 use Rattle.stream_model.specs.Pulling.{all_implied, drops, implied, is_stale, pull, pull_count, pull_events, pull_size, pull_want, room, subs_with}
-use Rattle.stream_model.specs.Words.{or_else, value_at}
+use Rattle.stream_ident.specs.Words.{or_else, value_at}
 use Rattle.stream_model.proofs.EachChanged.{served-low}
 use Rattle.stream_model.proofs.EventLemmas.{mark-at}
 use Rattle.stream_model.proofs.ImpliedRecords.{All-made, IsMade, fold-added-at, found-of-all, none-made-at}

@@ -17,7 +17,7 @@ use Rattle.stream_model.specs.declared.reply.Reply.TheVariants as reply
 use Rattle.stream_model.specs.History.{Binding, batch_token, start_token}
 use Rattle.stream_model.specs.Positions.{low_token, lower_bound, new_subscription, sub_at, with_sub}
 use Rattle.stream_model.specs.Publishing.{subscribe, subscribe_at}
-use Rattle.stream_model.specs.Words.{or_else}
+use Rattle.stream_ident.specs.Words.{or_else}
 use Rattle.stream_model.proofs.Invariant.{Fits, GrainsFit, Kept, LogFits, NamesFit, NumbersFit, SubsFit, marks_of, running_of, waiting_of}
 use Rattle.stream_model.proofs.LogLemmas.{clear-before}
 use Rattle.stream_model.proofs.LowerBound.{lower_bound-clear, lower_bound-high, lower_bound-low}

@@ -3,7 +3,7 @@ use Rattle.std.proofs.Common.{◌≡◌, Bool, true, false, ◌||◌, List, [], 
 use Rattle.std.proofs.lemmas.Bool.{cond_both}
 use Rattle.std.specs.List.{AllByRecursion, list_any}
 use Rattle.stream_model.specs.Draining.{in_order, insert_in_order}
-use Rattle.stream_model.specs.Words.{keys_where, least, lesser, value_at}
+use Rattle.stream_ident.specs.Words.{keys_where, least, lesser, value_at}
 use Rattle.stream_model.proofs.Unique.{AreUnique}
 use Rattle.stream_model.proofs.Values.{IsEquality}
 

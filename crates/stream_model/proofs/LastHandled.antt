@@ -11,7 +11,7 @@ use Rattle.stream_model.specs.declared.plain.Subscription.{Subscription}
 use Rattle.stream_model.specs.History.{batch_token}
 use Rattle.stream_model.specs.Positions.{no_event, token_at}
 use Rattle.stream_model.specs.Pulling.{handled_at}
-use Rattle.stream_model.specs.Words.{past, past_from}
+use Rattle.stream_ident.specs.Words.{past, past_from}
 use Rattle.stream_model.proofs.EachOf.{All-weaken}
 use Rattle.stream_model.proofs.Invariant.{LogFits, marks_of}
 use Rattle.stream_model.proofs.LogLemmas.{length-marks_of, token_lt-same}

@@ -11,7 +11,7 @@ use Rattle.stream_model.specs.declared.plain.Subscription.{Subscription}
 use Rattle.stream_model.specs.History.{Binding, batch_token, is_owed, owed_of}
 use Rattle.stream_model.specs.Laws.{HandledInOrder, IsPrefixOf, LogIsPublished, OwedIsKept, RecordsAgree}
 use Rattle.stream_model.specs.Positions.{no_event, sub_at}
-use Rattle.stream_model.specs.Words.{past}
+use Rattle.stream_ident.specs.Words.{past}
 use Rattle.stream_model.proofs.EventLemmas.{All-owed, mark-at, owed-rest, owed-split}
 use Rattle.stream_model.proofs.Invariant.{Fits, IsUnmade, LogFits, SubFits, running_of, waiting_of}
 use Rattle.stream_model.proofs.Legal.{StepsKeep, fits-stands}

@@ -17,7 +17,7 @@ use Rattle.stream_model.specs.History.{is_owed, owed_of}
 use Rattle.stream_model.specs.Laws.{QuietIsDone, QuietOwesNoOther}
 use Rattle.stream_model.specs.Looks.{behind, deliverable, is_running, is_waiting, pending_in, quiet, quiet_reply, running, waiting}
 use Rattle.stream_model.specs.Positions.{grain_at, new_grain, next_position, running_in, sub_at, waiting_in}
-use Rattle.stream_model.specs.Words.{keys_where, past, value_at}
+use Rattle.stream_ident.specs.Words.{keys_where, past, value_at}
 use Rattle.stream_model.proofs.EventLemmas.{filter-drop-none}
 use Rattle.stream_model.proofs.IdleGrains.{none-runs, none-waits}
 use Rattle.stream_model.proofs.KeyLists.{least-none}

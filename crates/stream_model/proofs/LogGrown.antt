@@ -9,7 +9,7 @@ use Rattle.stream_ident.specs.declared.token.Token.{Token}
 use Rattle.stream_model.specs.Bounds.{AreIn}
 use Rattle.stream_model.specs.History.{is_owed}
 use Rattle.stream_model.specs.Positions.{events_at, no_event}
-use Rattle.stream_model.specs.Words.{past, past_from}
+use Rattle.stream_ident.specs.Words.{past, past_from}
 use Rattle.stream_model.proofs.EachOf.{All-append}
 use Rattle.stream_model.proofs.Invariant.{marks_of}
 use Rattle.stream_model.proofs.MarkLemmas.{IsClear-marks, IsCovering-marks, IsNext-marks, marked-within, marked_below-marks}

@@ -10,7 +10,7 @@ use Rattle.stream_ident.specs.Token.{token_lt}
 use Rattle.stream_ident.specs.Name.{same_stream}
 use Rattle.stream_model.specs.History.{is_owed}
 use Rattle.stream_model.specs.Positions.{between, no_event}
-use Rattle.stream_model.specs.Words.{first_at}
+use Rattle.stream_ident.specs.Words.{first_at}
 use Rattle.stream_model.proofs.EventLemmas.{mark-at}
 use Rattle.stream_model.proofs.Invariant.{marks_of}
 use Rattle.stream_model.proofs.Marks.{IsClear}

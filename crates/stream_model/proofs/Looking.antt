@@ -13,7 +13,7 @@ use Rattle.stream_model.specs.declared.reply.Reply.TheVariants as reply
 use Rattle.stream_model.specs.Least.{least_key}
 use Rattle.stream_model.specs.Looks.{due, due_reply, is_due, is_running, is_waiting, pending_in, quiet, quiet_reply, ready, ready_reply, to_acknowledge}
 use Rattle.stream_model.specs.Positions.{sub_at}
-use Rattle.stream_model.specs.Words.{keys_where, next_after, or_else}
+use Rattle.stream_ident.specs.Words.{keys_where, next_after, or_else}
 
 or-else : {A : Type 0} (first second : Option A) → option_or first second ≡ or_else first second
 or-else None second = refl

@@ -2,7 +2,7 @@
 use Rattle.std.proofs.Common.{◌≡◌, ℕ, zero, suc, ◌+◌, ◌<◌, ◌≤◌, Bool, true, false, List, [], ◌∷◌, ◌++◌, length, get_or, set, Option, Some, None, refl, sym, ap, ◌∙◌, arith}
 use Rattle.std.proofs.lemmas.List.{set-get_or}
 use Rattle.std.specs.Prelude.{if◌then◌else◌}
-use Rattle.stream_model.specs.Words.{first_at, value_at, with_value}
+use Rattle.stream_ident.specs.Words.{first_at, value_at, with_value}
 use Rattle.stream_model.specs.Places.{place_of, change_at}
 
 -- a first place isn't below that of the list's first element

@@ -9,7 +9,7 @@ use Rattle.stream_ident.specs.Token.{token_lt}
 use Rattle.stream_model.specs.declared.plain.PlainPartition.{PlainPartition}
 use Rattle.stream_model.specs.History.{batch_token}
 use Rattle.stream_model.specs.Positions.{between, low_token, lower_bound, no_event, token_at}
-use Rattle.stream_model.specs.Words.{first_at}
+use Rattle.stream_ident.specs.Words.{first_at}
 use Rattle.stream_model.proofs.Invariant.{LogFits, marks_of}
 use Rattle.stream_model.proofs.LogLemmas.{between-at, clear-before, first_at-found, first_at-none, length-between, token_lt-before}
 use Rattle.stream_model.proofs.Marks.{IsClear}

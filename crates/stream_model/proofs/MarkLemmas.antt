@@ -4,7 +4,7 @@ use Rattle.std.proofs.Math.ListN.{get_or-append}
 use Rattle.std.proofs.lemmas.List.{append-nil}
 use Rattle.std.proofs.lemmas.Bool.{cond-true, cond-false, false≢true}
 use Rattle.std.specs.List.{AllByRecursion}
-use Rattle.stream_model.specs.Words.{past, past_from}
+use Rattle.stream_ident.specs.Words.{past, past_from}
 use Rattle.stream_model.proofs.EachOf.{All-weaken, All-append}
 use Rattle.stream_model.proofs.Marks.{IsClear, IsCovering, IsNext, marked_below, reach}
 

@@ -9,7 +9,7 @@ use Rattle.stream_model.specs.declared.reply.Reply.{Reply}
 use Rattle.stream_model.specs.declared.reply.Reply.TheVariants as reply
 use Rattle.stream_model.specs.Positions.{is_spent, least_or, open_resumes, slowest, token_at}
 use Rattle.stream_model.specs.Pulling.{move, move_to, rewound_where}
-use Rattle.stream_model.specs.Words.{each_value, least_with}
+use Rattle.stream_ident.specs.Words.{each_value, least_with}
 
 pub move-spent : (p : PlainPartition) (silo : ℕ) → is_spent p ≡ true → (p, reply.Spent) ≡ move p silo
 unfolding move

@@ -6,7 +6,7 @@ use Rattle.stream_ident.specs.declared.ident.SubName.{SubName}
 use Rattle.stream_ident.specs.SubName.{sub_lt}
 use Rattle.stream_model.specs.declared.plain.Subscription.{Subscription}
 use Rattle.stream_model.specs.Draining.{in_order, insert_in_order}
-use Rattle.stream_model.specs.Words.{keys_where}
+use Rattle.stream_ident.specs.Words.{keys_where}
 use Rattle.stream_model.proofs.LeastKey.{split}
 
 -- the place where an element is put, looked for from this place on

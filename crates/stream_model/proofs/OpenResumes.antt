@@ -7,7 +7,7 @@ use Rattle.stream_model.specs.declared.plain.PlainPartition.{PlainPartition}
 use Rattle.stream_model.specs.declared.plain.Subscription.{Subscription}
 use Rattle.stream_model.specs.Positions.{least_or, open_resumes, slowest, sub_at}
 use Rattle.stream_model.specs.Pulling.{free_blocks}
-use Rattle.stream_model.specs.Words.{least_with, value_at}
+use Rattle.stream_ident.specs.Words.{least_with, value_at}
 
 -- the least isn't more than the number that it is compared with
 pub least_with-first : (n : ℕ) (xs : List ℕ) → least_with n xs ≤ n

@@ -5,7 +5,7 @@ use Rattle.stream_model.specs.declared.plain.PlainPartition.{PlainPartition}
 use Rattle.stream_model.specs.declared.plain.Subscription.{Subscription}
 use Rattle.stream_model.specs.Positions.{open_resumes, sub_at}
 use Rattle.stream_model.specs.Pulling.{free_blocks}
-use Rattle.stream_model.specs.Words.{least_with}
+use Rattle.stream_ident.specs.Words.{least_with}
 use Rattle.stream_model.proofs.Invariant.{Fits}
 use Rattle.stream_model.proofs.OpenResumes.{least-resume-le, least_with-first, low-moved-le, slowest-le}
 use Rattle.stream_model.proofs.Summary.{Summary}

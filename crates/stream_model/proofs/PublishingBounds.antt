@@ -19,7 +19,7 @@ use Rattle.stream_model.specs.Bounds.{AreIn, IsWithinLimits, running_positions}
 use Rattle.stream_model.specs.History.{batch_token, events_of}
 use Rattle.stream_model.specs.Positions.{low_token, lower_bound, new_subscription, with_sub}
 use Rattle.stream_model.specs.Publishing.{publish, subscribe, subscribe_at}
-use Rattle.stream_model.specs.Words.{with_value}
+use Rattle.stream_ident.specs.Words.{with_value}
 use Rattle.stream_model.specs.declared.plain.Delivery.{Delivery}
 use Rattle.stream_model.specs.declared.plain.Grain.{Grain}
 use Rattle.stream_model.proofs.EachOf.{All-append, All-weaken}

@@ -14,7 +14,7 @@ use Rattle.stream_model.specs.declared.plain.PlainPartition.{PlainPartition}
 use Rattle.stream_model.specs.declared.plain.Subscription.{Subscription}
 use Rattle.stream_model.specs.Bounds.{AreIn, IsWithinLimits, running_positions}
 use Rattle.stream_model.specs.Positions.{between, grain_at, new_grain, sub_at}
-use Rattle.stream_model.specs.Words.{first_at, value_at, with_value}
+use Rattle.stream_ident.specs.Words.{first_at, value_at, with_value}
 use Rattle.stream_model.proofs.Beginning.{All-value_at}
 use Rattle.stream_model.proofs.EachOf.{All-weaken}
 use Rattle.stream_model.proofs.SubNames.{AreGiven, AreGiven-with_value, length-with_value}

@@ -9,10 +9,10 @@ use Rattle.stream_ident.specs.declared.ident.SubName.TheVariants.{Explicit, Impl
 use Rattle.stream_ident.specs.Name.{same_name, same_stream}
 use Rattle.stream_ident.specs.SubName.{same_sub}
 use Rattle.stream_ident.specs.Token.{token_lt}
-use Rattle.stream_model.specs.declared.plain.Rule.{Rule}
+use Rattle.stream_ident.specs.declared.rule.Rule.{Rule}
 use Rattle.stream_model.specs.History.{Binding, batch_token, bound_by_rule, is_owed}
 use Rattle.stream_model.specs.Pulling.{implied}
-use Rattle.stream_model.specs.Words.{or_else, value_at}
+use Rattle.stream_ident.specs.Words.{or_else, value_at}
 use Rattle.stream_model.proofs.Invariant.{IsOtherRule, RulesDiffer, bound_by_rules}
 use Rattle.stream_model.proofs.Values.{append-at, same_name-equal, same_name-refl, same_stream-equal}
 

@@ -11,7 +11,7 @@ use Rattle.stream_model.specs.declared.plain.PlainPartition.{PlainPartition}
 use Rattle.stream_model.specs.declared.plain.RunningTurn.{RunningTurn}
 use Rattle.stream_model.specs.Bounds.{AreIn}
 use Rattle.stream_model.specs.Positions.{grain_at, running_in}
-use Rattle.stream_model.specs.Words.{past}
+use Rattle.stream_ident.specs.Words.{past}
 use Rattle.stream_model.proofs.Invariant.{IsRunning, SubsFit, marks_of, running_of}
 use Rattle.stream_model.proofs.LogGrown.{within-handled, within-next}
 use Rattle.stream_model.proofs.LogLemmas.{length-marks_of}

@@ -4,7 +4,7 @@ use Rattle.stream_ident.specs.declared.ident.SubName.{SubName}
 use Rattle.stream_ident.specs.SubName.{sub_lt}
 use Rattle.stream_model.specs.declared.plain.Subscription.{Subscription}
 use Rattle.stream_model.specs.Least.{least_key}
-use Rattle.stream_model.specs.Words.{lesser}
+use Rattle.stream_ident.specs.Words.{lesser}
 use Rattle.stream_model.proofs.LeastKey.{least_key-there, least_key-not, of-all}
 
 -- open, with this resume

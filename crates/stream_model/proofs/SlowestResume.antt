@@ -4,7 +4,7 @@ use Rattle.std.proofs.lemmas.List.{at_drop_more}
 use Rattle.stream_ident.specs.declared.ident.SubName.{SubName}
 use Rattle.stream_model.specs.declared.plain.Subscription.{Subscription}
 use Rattle.stream_model.specs.Positions.{least_or}
-use Rattle.stream_model.specs.Words.{least_with}
+use Rattle.stream_ident.specs.Words.{least_with}
 
 -- the resumes of the open ones
 abbrev pub resumes : List (SubName × Subscription) → List ℕ

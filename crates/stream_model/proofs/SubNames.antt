@@ -7,7 +7,7 @@ use Rattle.stream_ident.specs.declared.ident.SubName.TheVariants.{Explicit, Impl
 use Rattle.stream_ident.specs.SubName.{same_sub}
 use Rattle.stream_model.specs.declared.plain.Subscription.{Subscription}
 use Rattle.stream_model.specs.Bounds.{IsGiven}
-use Rattle.stream_model.specs.Words.{value_at, with_value}
+use Rattle.stream_ident.specs.Words.{value_at, with_value}
 
 -- the names of the list were given out
 abbrev pub AreGiven : ℕ → List (SubName × Subscription) → Type 0

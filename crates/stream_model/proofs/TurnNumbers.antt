@@ -14,7 +14,7 @@ use Rattle.stream_model.specs.declared.reply.Reply.TheVariants as reply
 use Rattle.stream_model.specs.Positions.{between, grain_at, is_spent, next_position, sub_at}
 use Rattle.stream_model.specs.Pulling.{ack, ack_of, ack_position, deliver, deliver_position, deliver_to, drops, handled_at, is_stale, pull, pull_count, pull_events, pull_size, pull_want, room, subs_with}
 use Rattle.stream_model.specs.Turns.{begin, begin_for, begin_front, begin_in, begin_turn, commit, commit_for, commit_running, turn_size}
-use Rattle.stream_model.specs.Words.{past}
+use Rattle.stream_ident.specs.Words.{past}
 
 -- how many turns a reply hands out
 abbrev pub handed_out : Reply → ℕ

@@ -1,7 +1,7 @@
 -- In the lists of subscriptions and of grains no key stands twice.
 use Rattle.std.proofs.Common.{◌≡◌, Bool, true, false, List, [], ◌∷◌, ◌++◌, Some, None, if◌then◌else◌, refl, sym, ap, subst, ◌∙◌}
 use Rattle.std.proofs.lemmas.Bool.{cond_both, both_ways, false_from_ne_true}
-use Rattle.stream_model.specs.Words.{value_at, with_value, changed_value, each_value}
+use Rattle.stream_ident.specs.Words.{value_at, with_value, changed_value, each_value}
 use Rattle.stream_model.proofs.Values.{IsEquality, append-at, changed_option, each_value-at, with_value-other}
 
 -- no key stands twice

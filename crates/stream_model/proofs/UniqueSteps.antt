@@ -18,7 +18,7 @@ use Rattle.stream_model.specs.declared.op.Start.TheVariants.{Latest, At}
 use Rattle.stream_model.specs.declared.plain.Delivery.{Delivery}
 use Rattle.stream_model.specs.declared.plain.Grain.{Grain}
 use Rattle.stream_model.specs.declared.plain.PlainPartition.{PlainPartition}
-use Rattle.stream_model.specs.declared.plain.Rule.{Rule}
+use Rattle.stream_ident.specs.declared.rule.Rule.{Rule}
 use Rattle.stream_model.specs.declared.plain.RunningTurn.{RunningTurn}
 use Rattle.stream_model.specs.declared.plain.Subscription.{Subscription}
 use Rattle.stream_model.specs.declared.reply.Reply.{Reply}
@@ -28,7 +28,7 @@ use Rattle.stream_model.specs.Publishing.{add_rule, publish, subscribe, subscrib
 use Rattle.stream_model.specs.Pulling.{ack, ack_of, ack_position, acknowledged, added, all_implied, caught_up, deliver, deliver_position, deliver_to, handled_at, is_stale, move, move_to, pull, pull_count, pull_events, pull_want, purge, purge_to, retry, retry_of, rewound, rewound_where, subs_with, woken}
 use Rattle.stream_model.specs.Step.{Leads, Stands, step}
 use Rattle.stream_model.specs.Turns.{begin, begin_for, begin_front, begin_in, begin_turn, commit, commit_for, commit_running, deactivate, deactivate_in, ended, turn_size}
-use Rattle.stream_model.specs.Words.{past, value_at, with_value}
+use Rattle.stream_ident.specs.Words.{past, value_at, with_value}
 use Rattle.stream_model.proofs.Unique.{AreUnique, unique-changed_value, unique-each_value, unique-push, unique-with_value}
 use Rattle.stream_model.proofs.Values.{grain_equality, sub_equality}
 

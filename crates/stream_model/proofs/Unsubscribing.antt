@@ -14,7 +14,7 @@ use Rattle.stream_model.specs.declared.reply.Reply.TheVariants as reply
 use Rattle.stream_model.specs.Places.{place_of}
 use Rattle.stream_model.specs.Positions.{sub_at}
 use Rattle.stream_model.specs.Publishing.{unsubscribe, unsubscribe_from, unsubscribed, without}
-use Rattle.stream_model.specs.Words.{changed_value, with_value}
+use Rattle.stream_ident.specs.Words.{changed_value, with_value}
 use Rattle.stream_model.proofs.Lookups.{place_of-none}
 
 -- the name's record decides

@@ -12,7 +12,7 @@ use Rattle.stream_model.specs.declared.reply.Reply.{Reply}
 use Rattle.stream_model.specs.Bounds.{IsWithinLimits}
 use Rattle.stream_model.specs.Positions.{sub_at, with_sub}
 use Rattle.stream_model.specs.Publishing.{unsubscribe, unsubscribe_from, unsubscribed, without}
-use Rattle.stream_model.specs.Words.{changed_value}
+use Rattle.stream_ident.specs.Words.{changed_value}
 use Rattle.stream_model.proofs.ChangedValues.{All-changed}
 use Rattle.stream_model.proofs.EachOf.{All-filter}
 use Rattle.stream_model.proofs.RecordBounds.{GrainFits, changed, grains-fit, handled-in, sub-set}

@@ -8,7 +8,7 @@ use Rattle.stream_ident.specs.declared.ident.SubName.{SubName}
 use Rattle.stream_ident.specs.declared.ident.SubName.TheVariants.{Explicit, Implicit}
 use Rattle.stream_ident.specs.Name.{same_name, same_stream, same_grain}
 use Rattle.stream_ident.specs.SubName.{same_sub}
-use Rattle.stream_model.specs.Words.{value_at, with_value, changed_value, each_value, or_else}
+use Rattle.stream_ident.specs.Words.{value_at, with_value, changed_value, each_value, or_else}
 
 pub same_name-equal : (a b : List ℕ) → same_name a b ≡ true → a ≡ b
 same_name-equal a b same = (bytes_decides a b).0 same

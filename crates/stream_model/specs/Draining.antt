@@ -19,7 +19,7 @@ use Rattle.stream_model.specs.History.{Entry}
 use Rattle.stream_model.specs.Looks.{is_running, is_waiting}
 use Rattle.stream_model.specs.Positions.{sub_at, token_at}
 use Rattle.stream_model.specs.Step.{step, Leads}
-use Rattle.stream_model.specs.Words.{keys_where, least, past}
+use Rattle.stream_ident.specs.Words.{keys_where, least, past}
 
 -- the elements from the least to the greatest
 abbrev pub insert_in_order : {A : Type 0} → (A → A → Bool) → A → List A → List A

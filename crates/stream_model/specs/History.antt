@@ -7,6 +7,7 @@ use Rattle.stream_ident.specs.declared.ident.SubName.{SubName}
 use Rattle.stream_ident.specs.declared.ident.SubName.TheVariants as name
 use Rattle.stream_ident.specs.declared.token.Token.{Token}
 use Rattle.stream_ident.specs.Name.{same_name, same_stream}
+pub use Rattle.stream_ident.specs.Event.{batch_token, events_of, is_owed}
 use Rattle.stream_ident.specs.SubName.{same_sub}
 use Rattle.stream_ident.specs.Token.{token_lt}
 use Rattle.stream_model.specs.declared.op.Op.{Op}
@@ -15,19 +16,12 @@ use Rattle.stream_model.specs.declared.op.Start.{Start}
 use Rattle.stream_model.specs.declared.op.Start.TheVariants.{Latest, At}
 use Rattle.stream_model.specs.declared.reply.Reply.{Reply}
 use Rattle.stream_model.specs.declared.reply.Reply.TheVariants.{Published, Subscribed, Unsubscribed, RuleAdded, Pulled, Purged, Moved, Turn, Committed}
-use Rattle.stream_model.specs.Words.{or_else}
+use Rattle.stream_ident.specs.Words.{or_else}
 
 -- an operation and its reply
 pub record Entry : Type 0 where
   pub op : Op
   pub reply : Reply
-
--- the events of a batch, from this place in it on: the n-th accepted batch has the number n, counted from
--- 0, and its events have the indexes 0, 1, 2 and so on (Orleans, Streaming: event sequence tokens)
-abbrev pub events_of : StreamId → ℕ → ℕ → List (List ℕ) → List Event
-events_of stream seq idx [] = []
-events_of stream seq idx (payload ∷ payloads) =
-    record { stream = stream; token = record { seq = seq; idx = idx }; payload = payload } ∷ events_of stream seq (suc idx) payloads
 
 abbrev pub published_after : List Event → Op → Reply → List Event
 published_after events (Publish stream payloads) (Published seq) = events ++ events_of stream seq 0 payloads
@@ -52,10 +46,6 @@ pub record Binding : Type 0 where
   pub stream : StreamId
   pub start : Token
 
--- the first token of the batch with this number
-abbrev pub batch_token : ℕ → Token
-batch_token seq = record { seq = seq; idx = 0 }
-
 -- the start token of a subscription that is made after n batches
 abbrev pub start_token : Start → ℕ → Token
 start_token Latest n = batch_token n
@@ -77,10 +67,6 @@ binding_after s old n _ _ = old
 abbrev pub binding_of : List Entry → SubName → Option Binding
 binding_of [] s = None
 binding_of (e ∷ before) s = binding_after s (binding_of before s) (batch_count before) e.op e.reply
-
--- an event that a subscription is owed: of its stream, and not before its start
-abbrev pub is_owed : StreamId → Token → Event → Bool
-is_owed stream start event = same_stream stream event.stream && not (token_lt event.token start)
 
 abbrev pub owed_of : List Event → Option Binding → List Event
 owed_of events None = []

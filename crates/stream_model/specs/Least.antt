@@ -1,6 +1,6 @@
 -- The least key of a list of keys with their values.
 use Rattle.std.specs.Prelude.{Bool, true, List, Option, Some, None}
-use Rattle.stream_model.specs.Words.{least, above, keys_where}
+use Rattle.stream_ident.specs.Words.{least, above, keys_where}
 
 -- greater than the given one, always where none is given
 abbrev pub is_above : {A : Type 0} → (A → A → Bool) → Option A → A → Bool

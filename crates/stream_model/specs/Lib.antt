@@ -12,10 +12,11 @@ pub mod Publishing
 pub mod Pulling
 pub mod Step
 pub mod Turns
-pub mod Words
 pub use Rattle.stream_ident.specs.Alphabet
+pub use Rattle.stream_ident.specs.Event
 pub use Rattle.stream_ident.specs.Name
 pub use Rattle.stream_ident.specs.Number
 pub use Rattle.stream_ident.specs.SubName
 pub use Rattle.stream_ident.specs.Text
 pub use Rattle.stream_ident.specs.Token
+pub use Rattle.stream_ident.specs.Words

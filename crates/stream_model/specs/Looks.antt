@@ -13,7 +13,7 @@ use Rattle.stream_model.specs.declared.reply.Pending.TheVariants as pending
 use Rattle.stream_model.specs.declared.reply.Reply.{Reply}
 use Rattle.stream_model.specs.declared.reply.Reply.TheVariants as reply
 use Rattle.stream_model.specs.Positions.{token_at, next_position, sub_at, is_unacknowledged}
-use Rattle.stream_model.specs.Words.{or_else, least, next_after, past, keys_where}
+use Rattle.stream_ident.specs.Words.{or_else, least, next_after, past, keys_where}
 
 abbrev pub is_waiting : Grain → Bool
 is_waiting st = nat_lt 0 (length st.mailbox)

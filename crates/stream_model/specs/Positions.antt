@@ -5,6 +5,7 @@ use Rattle.stream_ident.specs.declared.ident.GrainId.{GrainId}
 use Rattle.stream_ident.specs.declared.ident.StreamId.{StreamId}
 use Rattle.stream_ident.specs.declared.ident.SubName.{SubName}
 use Rattle.stream_ident.specs.declared.token.Token.{Token}
+pub use Rattle.stream_ident.specs.Event.{no_event, events_at}
 use Rattle.stream_ident.specs.Name.{same_grain}
 use Rattle.stream_ident.specs.SubName.{same_sub, sub_lt}
 use Rattle.stream_ident.specs.Token.{token_lt}
@@ -15,7 +16,7 @@ use Rattle.stream_model.specs.declared.plain.PlainPartition.{PlainPartition}
 use Rattle.stream_model.specs.declared.plain.RunningTurn.{RunningTurn}
 use Rattle.stream_model.specs.declared.plain.Subscription.{Subscription}
 use Rattle.stream_model.specs.History.{batch_token, is_owed}
-use Rattle.stream_model.specs.Words.{first_at, least, least_with, past, value_at, with_value, keys_where}
+use Rattle.stream_ident.specs.Words.{first_at, least, least_with, past, value_at, with_value, keys_where}
 
 -- the partition before the first operation
 abbrev pub empty : ℕ → Limits → PlainPartition
@@ -46,13 +47,6 @@ low_token p = token_at p p.low
 
 abbrev pub high_token : PlainPartition → Token
 high_token p = token_at p p.high
-
--- what stands for an event where there is none
-abbrev pub no_event : Event
-no_event = record { stream = record { namespace = []; key = [] }; token = batch_token 0; payload = [] }
-
-abbrev pub events_at : List Event → List ℕ → List Event
-events_at log positions = map (λ position. get_or log position no_event) positions
 
 -- the events at the positions from one up to another
 abbrev pub between : List Event → ℕ → ℕ → List Event

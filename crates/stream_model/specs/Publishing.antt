@@ -13,13 +13,13 @@ use Rattle.stream_model.specs.declared.op.Start.{Start}
 use Rattle.stream_model.specs.declared.op.Start.TheVariants.{Latest, At}
 use Rattle.stream_model.specs.declared.plain.Grain.{Grain}
 use Rattle.stream_model.specs.declared.plain.PlainPartition.{PlainPartition}
-use Rattle.stream_model.specs.declared.plain.Rule.{Rule}
+use Rattle.stream_ident.specs.declared.rule.Rule.{Rule}
 use Rattle.stream_model.specs.declared.plain.Subscription.{Subscription}
 use Rattle.stream_model.specs.declared.reply.Reply.{Reply}
 use Rattle.stream_model.specs.declared.reply.Reply.TheVariants as reply
 use Rattle.stream_model.specs.History.{batch_token, events_of}
 use Rattle.stream_model.specs.Positions.{low_token, high_token, lower_bound, sub_at, with_sub, new_subscription}
-use Rattle.stream_model.specs.Words.{changed_value}
+use Rattle.stream_ident.specs.Words.{changed_value}
 
 -- A batch has 1 to 64 payloads.
 unfoldable pub publish : PlainPartition → StreamId → List (List ℕ) → PlainPartition × Reply

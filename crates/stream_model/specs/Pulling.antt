@@ -10,13 +10,13 @@ use Rattle.stream_ident.specs.SubName.{same_sub}
 use Rattle.stream_ident.specs.Token.{token_lt, same_token}
 use Rattle.stream_model.specs.declared.plain.Grain.{Grain}
 use Rattle.stream_model.specs.declared.plain.PlainPartition.{PlainPartition}
-use Rattle.stream_model.specs.declared.plain.Rule.{Rule}
+use Rattle.stream_ident.specs.declared.rule.Rule.{Rule}
 use Rattle.stream_model.specs.declared.plain.Subscription.{Subscription}
 use Rattle.stream_model.specs.declared.reply.Reply.{Reply}
 use Rattle.stream_model.specs.declared.reply.Reply.TheVariants as reply
 use Rattle.stream_model.specs.History.{batch_token}
 use Rattle.stream_model.specs.Positions.{token_at, between, next_position, sub_at, grain_at, with_sub, with_grain, new_subscription, is_outstanding, open_resumes, slowest, slowest_name, is_spent}
-use Rattle.stream_model.specs.Words.{least_with, value_at, each_value}
+use Rattle.stream_ident.specs.Words.{least_with, value_at, each_value}
 
 abbrev pub is_stale : PlainPartition → ℕ → Bool
 is_stale p generation = not (generation == p.generation)

@@ -14,7 +14,7 @@ use Rattle.stream_model.specs.declared.reply.Reply.{Reply}
 use Rattle.stream_model.specs.declared.reply.Reply.TheVariants as reply
 use Rattle.stream_model.specs.Positions.{token_at, events_at, sub_at, grain_at, with_sub, with_grain, is_spent}
 use Rattle.stream_model.specs.Pulling.{rewound_where}
-use Rattle.stream_model.specs.Words.{past, each_value}
+use Rattle.stream_ident.specs.Words.{past, each_value}
 
 -- the positions of the longest front of the deliveries, at most n, that are all of one subscription and
 -- rise from this position on

@@ -13,13 +13,12 @@ mod op;
 mod plain;
 pub mod reference;
 mod reply;
-mod row;
 mod sequence;
 
 pub use drain_end::DrainEnd;
 pub use limits::Limits;
 pub use op::{Op, Start};
-pub use plain::{Delivery, Grain, PlainPartition, Rule, RunningTurn, Subscription};
+pub use plain::{Delivery, Grain, PlainPartition, RunningTurn, Subscription};
 pub use reply::{Events, Pending, Reply};
-pub use row::Row;
 pub use sequence::Sequence;
+pub use stream_ident::{Row, Rule};

@@ -1,8 +1,7 @@
 //! A partition as plain data: one log, and positions in it.
 use crate::limits::Limits;
-use crate::row::Row;
 use crate::sequence::Sequence;
-use stream_ident::{Event, GrainId, Name, StreamId, SubName, Token};
+use stream_ident::{Event, GrainId, Row, Rule, StreamId, SubName, Token};
 
 /// A subscription. Positions are places in the log, counted from 0.
 #[derive(Debug, Drop)]
@@ -56,17 +55,6 @@ pub struct Grain {
     pub mailbox: Sequence<Delivery>,
     /// The turn that runs.
     pub running: Option<RunningTurn>,
-}
-
-/// Grains of a kind consume the streams of a namespace, from a batch on.
-#[derive(Clone, Copy, Debug, PartialEq, Eq)]
-pub struct Rule {
-    /// The kind.
-    pub kind: Name,
-    /// The namespace.
-    pub namespace: Name,
-    /// The number of the first batch that it holds for.
-    pub from: u64,
 }
 
 /// The state of a partition. The cache has the positions from `low` up to `high`, in blocks of 64 that

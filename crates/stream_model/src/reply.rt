@@ -1,8 +1,7 @@
 //! The replies of a partition.
 ghost use Rattle.std.specs.Prelude.{◌≡◌};
 
-use crate::row::Row;
-use stream_ident::{Event, GrainId, SubName, Token};
+use stream_ident::{Event, GrainId, Row, SubName, Token};
 
 /// The events of a turn: 1 to 16, in order.
 pub type Events = Row<Event>;

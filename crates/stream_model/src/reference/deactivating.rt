@@ -5,7 +5,7 @@ ghost use Rattle.stream_model.specs.declared.plain.Grain.{Grain};
 ghost use Rattle.stream_model.specs.Places.{change_at};
 ghost use Rattle.stream_model.specs.Pulling.{rewound_where};
 ghost use Rattle.stream_model.specs.Turns.{deactivate, running_count};
-ghost use Rattle.stream_model.specs.Words.{each_value};
+ghost use Rattle.stream_ident.specs.Words.{each_value};
 
 use crate::plain::{Delivery, Grain, PlainPartition, RunningTurn, Subscription};
 use crate::reference::records::{grain_in, is_same_grain, place_of_grain};

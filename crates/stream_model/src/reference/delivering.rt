@@ -10,7 +10,7 @@ ghost use Rattle.stream_model.specs.Places.{place_of};
 ghost use Rattle.stream_model.specs.Positions.{between, grain_at, is_outstanding, is_spent, is_unacknowledged, new_grain, running_in, sub_at, waiting_in, with_sub};
 ghost use Rattle.stream_model.specs.Pulling.{caught_up, deliver, deliver_position};
 ghost use Rattle.stream_model.specs.Step.{Performs, takes_memory};
-ghost use Rattle.stream_model.specs.Words.{first_at};
+ghost use Rattle.stream_ident.specs.Words.{first_at};
 
 use crate::plain::{Delivery, Grain, PlainPartition, RunningTurn, Subscription};
 use crate::reference::positions::{is_same_sub, is_spent, is_token_before, token_at};

@@ -6,7 +6,7 @@ ghost use Rattle.stream_model.specs.declared.plain.Subscription.{Subscription};
 ghost use Rattle.stream_model.specs.Least.{is_above, least_key};
 ghost use Rattle.stream_model.specs.Looks.{due, is_due, is_running, is_waiting, pending_in, quiet, ready, to_acknowledge};
 ghost use Rattle.stream_model.specs.Positions.{next_position, sub_at};
-ghost use Rattle.stream_model.specs.Words as words;
+ghost use Rattle.stream_ident.specs.Words as words;
 
 use crate::plain::{Grain, PlainPartition, Subscription};
 use crate::reference::delivering::{is_unacknowledged, next_position};

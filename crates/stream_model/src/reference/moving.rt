@@ -4,7 +4,7 @@ ghost use Rattle.stream_model.specs.declared.plain.Subscription.{Subscription};
 ghost use Rattle.stream_model.specs.Bounds.{IsWithinLimits};
 ghost use Rattle.stream_model.specs.Places.{change_at};
 ghost use Rattle.stream_model.specs.Pulling.{move, rewound_where};
-ghost use Rattle.stream_model.specs.Words.{each_value};
+ghost use Rattle.stream_ident.specs.Words.{each_value};
 
 use crate::plain::{PlainPartition, Subscription};
 use crate::reference::positions::{is_spent, slowest, token_at};

@@ -4,7 +4,7 @@ ghost use Rattle.stream_ident.specs.Name.{same_name, same_stream};
 ghost use Rattle.stream_ident.specs.SubName.{same_sub, sub_lt};
 ghost use Rattle.stream_ident.specs.Token.{token_lt};
 ghost use Rattle.stream_model.specs.History.{batch_token};
-ghost use Rattle.stream_model.specs.Words as words;
+ghost use Rattle.stream_ident.specs.Words as words;
 ghost use Rattle.stream_model.specs.Positions.{between, high_token, is_spent, low_token, lower_bound, slowest, slowest_name, token_at};
 
 use crate::plain::{PlainPartition, Subscription};

@@ -9,9 +9,9 @@ ghost use Rattle.stream_model.specs.History.{batch_token};
 ghost use Rattle.stream_model.specs.Positions.{between};
 ghost use Rattle.stream_model.specs.Pulling.{added, all_implied, drops, free_blocks, implied, is_stale, pull, pull_events, pull_size, pull_want, room, subs_with};
 ghost use Rattle.stream_model.specs.Step.{takes_memory, Performs};
-ghost use Rattle.stream_model.specs.Words.{value_at};
+ghost use Rattle.stream_ident.specs.Words.{value_at};
 
-use crate::plain::{PlainPartition, Rule, Subscription};
+use crate::plain::{PlainPartition, Subscription};
 use crate::reference::positions::{
     between, first_token, is_same_name, is_same_sub, is_token_before, slowest, slowest_name,
     token_at,
@@ -20,7 +20,7 @@ use crate::reference::publishing::new_subscription;
 use crate::reply::Reply;
 use crate::sequence::Sequence;
 use std::alloc::{AllocError, Global};
-use stream_ident::{Event, GrainId, SubName};
+use stream_ident::{Event, GrainId, Rule, SubName};
 
 /// The events of a block of the cache.
 pub const BLOCK: usize = 64;

@@ -8,7 +8,7 @@ ghost use Rattle.stream_model.specs.declared.plain.Subscription.{Subscription};
 ghost use Rattle.stream_model.specs.Places.{change_at, handled_also, place_of, started};
 ghost use Rattle.stream_model.specs.Positions.{is_spent, new_grain, token_at};
 ghost use Rattle.stream_model.specs.Pulling.{woken};
-ghost use Rattle.stream_model.specs.Words.{past, value_at};
+ghost use Rattle.stream_ident.specs.Words.{past, value_at};
 
 use crate::plain::{Delivery, Grain, RunningTurn, Subscription};
 use crate::reference::positions::is_same_sub;

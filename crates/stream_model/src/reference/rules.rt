@@ -2,15 +2,15 @@
 ghost use Rattle.std.specs.Prelude.{◌≡◌, ◌&&◌, OnErr, true};
 ghost use Rattle.std.specs.List.{list_any};
 ghost use Rattle.stream_ident.specs.Name.{same_name};
-ghost use Rattle.stream_model.specs.declared.plain.Rule.{Rule};
+ghost use Rattle.stream_ident.specs.declared.rule.Rule.{Rule};
 ghost use Rattle.stream_model.specs.Publishing.{add_rule};
 ghost use Rattle.stream_model.specs.Step.{Performs, takes_memory};
 
-use crate::plain::{PlainPartition, Rule};
+use crate::plain::PlainPartition;
 use crate::reference::positions::is_same_name;
 use crate::reply::Reply;
 use std::alloc::AllocError;
-use stream_ident::Name;
+use stream_ident::{Name, Rule};
 
 /// Grains of a kind shall consume the streams of a namespace: the rule goes to the end of the list. Where
 /// memory is wanting nothing has changed.

@@ -8,7 +8,7 @@ ghost use Rattle.stream_model.specs.Places.{place_of};
 ghost use Rattle.stream_model.specs.Positions.{events_at, grain_at, is_spent, sub_at, token_at};
 ghost use Rattle.stream_model.specs.Step.{Performs, takes_memory};
 ghost use Rattle.stream_model.specs.Turns.{begin, begin_front, begin_in, begin_turn, commit, commit_for, front_of, turn_size};
-ghost use Rattle.stream_model.specs.Words.{past};
+ghost use Rattle.stream_ident.specs.Words.{past};
 
 use crate::plain::{Delivery, Grain, PlainPartition, RunningTurn};
 use crate::reference::positions::{is_same_sub, is_spent, token_at};
@@ -17,10 +17,9 @@ use crate::reference::records::{
     start_turn, sub_in,
 };
 use crate::reply::{Events, Reply};
-use crate::row::Row;
 use crate::sequence::Sequence;
 use std::alloc::AllocError;
-use stream_ident::{Event, GrainId, SubName};
+use stream_ident::{Event, GrainId, Row, SubName};
 
 /// A worker begins a turn of a grain. It takes no memory.
 pub fn begin(p: &mut PlainPartition, grain: GrainId, max: u32) -> Reply

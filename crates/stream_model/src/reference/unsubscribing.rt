@@ -5,7 +5,7 @@ ghost use Rattle.stream_ident.specs.SubName.{same_sub};
 ghost use Rattle.stream_model.specs.declared.plain.Subscription.{Subscription};
 ghost use Rattle.stream_model.specs.Places.{change_at};
 ghost use Rattle.stream_model.specs.Publishing.{unsubscribe, without};
-ghost use Rattle.stream_model.specs.Words.{changed_value};
+ghost use Rattle.stream_ident.specs.Words.{changed_value};
 
 use crate::plain::{Delivery, Grain, PlainPartition, Subscription};
 use crate::reference::positions::is_same_sub;

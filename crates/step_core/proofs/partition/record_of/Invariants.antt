@@ -1,6 +1,6 @@
 use Rattle.std.proofs.Common.{◌≡◌, drop}
 use Rattle.stream_ident.specs.SubName.{same_sub}
-use Rattle.stream_model.specs.Words.{value_at}
+use Rattle.stream_ident.specs.Words.{value_at}
 use Rattle.step_core.proofs.partition.record_of.Given as goal
 
 abbrev pub invariant-loop-other : goal.invariant-loop-other

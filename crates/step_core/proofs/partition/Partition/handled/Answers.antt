@@ -3,7 +3,7 @@ use Rattle.std.proofs.lemmas.List.Elements.{All-from_recursion}
 use Rattle.stream_ident.specs.SubName.{same_sub}
 use Rattle.stream_model.specs.Bounds.{IsWithinLimits}
 use Rattle.stream_model.specs.Positions.{sub_at}
-use Rattle.stream_model.specs.Words.{value_at}
+use Rattle.stream_ident.specs.Words.{value_at}
 use Rattle.stream_model.proofs.RecordBounds.{handled-in}
 use Rattle.step_core.proofs.partition.Partition.handled.Goals as goal
 

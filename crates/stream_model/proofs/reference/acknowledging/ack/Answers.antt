@@ -1,7 +1,7 @@
 use Rattle.std.proofs.Common.{sym, ap, ◌∙◌}
 use Rattle.stream_ident.specs.SubName.{same_sub}
 use Rattle.stream_model.specs.declared.plain.Subscription.{Subscription}
-use Rattle.stream_model.specs.Words.{with_value}
+use Rattle.stream_ident.specs.Words.{with_value}
 use Rattle.stream_model.proofs.Acknowledging.{ack-stale, ack-unknown, ack-closed, ack-nothing, ack-done, acknowledged-marks}
 use Rattle.stream_model.proofs.Lookups.{place_of-within, place_of-change}
 use Rattle.stream_model.proofs.RecordBounds.{handled-in}

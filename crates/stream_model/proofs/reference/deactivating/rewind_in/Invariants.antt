@@ -1,7 +1,7 @@
 use Rattle.std.proofs.Common.{◌≡◌, ◌++◌, ◌&&◌, drop, take}
 use Rattle.stream_ident.specs.Name.{same_grain}
 use Rattle.stream_model.specs.Pulling.{rewound_where}
-use Rattle.stream_model.specs.Words.{each_value}
+use Rattle.stream_ident.specs.Words.{each_value}
 use Rattle.stream_model.proofs.reference.deactivating.rewind_in.Given as goal
 
 abbrev pub invariant-loop-entry : goal.invariant-loop-entry

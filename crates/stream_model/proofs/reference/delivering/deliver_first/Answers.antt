@@ -4,7 +4,7 @@ use Rattle.stream_ident.specs.SubName.{same_sub}
 use Rattle.stream_model.specs.declared.plain.Subscription.{Subscription}
 use Rattle.stream_model.specs.Positions.{new_grain}
 use Rattle.stream_model.specs.Pulling.{woken}
-use Rattle.stream_model.specs.Words.{with_value}
+use Rattle.stream_ident.specs.Words.{with_value}
 use Rattle.stream_model.proofs.Committing.{OnErr-since}
 use Rattle.stream_model.proofs.Handing.{deliver_position-spent, deliver_position-done, deliver_position-takes}
 use Rattle.stream_model.proofs.Lookups.{place_of-within, place_of-change, place_of-added}

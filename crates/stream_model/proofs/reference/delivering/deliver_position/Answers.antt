@@ -7,7 +7,7 @@ use Rattle.stream_model.specs.declared.reply.Reply.TheVariants as reply
 use Rattle.stream_model.specs.Positions.{grain_at}
 use Rattle.stream_model.specs.Pulling.{deliver_position, woken}
 use Rattle.stream_model.specs.Step.{Performs, takes_memory}
-use Rattle.stream_model.specs.Words.{with_value}
+use Rattle.stream_ident.specs.Words.{with_value}
 use Rattle.stream_model.proofs.Beginning.{grain_at-is, grain_at-new}
 use Rattle.stream_model.proofs.Committing.{OnErr-since}
 use Rattle.stream_model.proofs.Handing.{activations-fit, at-found, deliver_position-full, deliver_position-spent, deliver_position-done, deliver_position-takes, rises-woken}

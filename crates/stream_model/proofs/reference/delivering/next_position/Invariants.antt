@@ -1,7 +1,7 @@
 use Rattle.std.proofs.Common.{◌≡◌}
 use Rattle.stream_model.specs.History.{is_owed}
 use Rattle.stream_model.specs.Positions.{between}
-use Rattle.stream_model.specs.Words.{first_at}
+use Rattle.stream_ident.specs.Words.{first_at}
 use Rattle.stream_model.proofs.reference.delivering.next_position.Given as goal
 
 abbrev pub invariant-loop-position : goal.invariant-loop-position

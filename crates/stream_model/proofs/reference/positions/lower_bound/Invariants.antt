@@ -1,6 +1,6 @@
 use Rattle.std.proofs.Common.{◌≡◌, ◌+◌, drop, not}
 use Rattle.stream_ident.specs.Token.{token_lt}
-use Rattle.stream_model.specs.Words.{first_at}
+use Rattle.stream_ident.specs.Words.{first_at}
 use Rattle.stream_model.proofs.reference.positions.lower_bound.Given as goal
 
 abbrev pub invariant-loop-index : goal.invariant-loop-index

@@ -1,7 +1,7 @@
 use Rattle.std.proofs.Common.{◌≡◌, ◌-◌, length, Some, sym, ap, ◌∙◌, nat_lt, arith}
 use Rattle.std.proofs.lemmas.Option.{slice_get_within}
 use Rattle.std.specs.List.{slice_get}
-use Rattle.stream_model.specs.Words.{past}
+use Rattle.stream_ident.specs.Words.{past}
 use Rattle.stream_model.proofs.Fronts.{past-last, leb-suc}
 use Rattle.stream_model.proofs.reference.records.is_handled.Goals as goal
 

@@ -1,6 +1,6 @@
 use Rattle.std.proofs.Common.{◌≡◌, drop}
 use Rattle.stream_ident.specs.SubName.{same_sub}
-use Rattle.stream_model.specs.Words.{first_at}
+use Rattle.stream_ident.specs.Words.{first_at}
 use Rattle.stream_model.specs.Places.{place_of}
 use Rattle.stream_model.proofs.reference.records.place_of_sub.Given as goal
 

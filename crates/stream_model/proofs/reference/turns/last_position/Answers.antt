@@ -1,6 +1,6 @@
 use Rattle.std.proofs.Common.{◌-◌, ◌<◌, length, pred, get_or, sym, ap, ◌∙◌, arith}
 use Rattle.std.proofs.lemmas.Option.{slice_get-get_or}
-use Rattle.stream_model.specs.Words.{past}
+use Rattle.stream_ident.specs.Words.{past}
 use Rattle.stream_model.proofs.Fronts.{past-last}
 use Rattle.stream_model.proofs.reference.turns.last_position.Goals as goal
 
