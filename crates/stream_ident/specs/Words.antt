@@ -1,5 +1,5 @@
 -- Words on lists that the definitions are written in.
-use Rattle.std.specs.Prelude.{ℕ, suc, Bool, List, [], ◌∷◌, Option, Some, None, map, filter, min, if◌then◌else◌}
+use Rattle.std.specs.Prelude.{ℕ, zero, suc, Bool, List, [], ◌∷◌, Option, Some, None, map, filter, min, if◌then◌else◌}
 use Rattle.std.specs.Map.{lookup}
 pub use Rattle.stream_ident.specs.Text.{or_else}
 
@@ -62,3 +62,13 @@ each_value change entries = map (λ entry. (entry.0, change entry.1)) entries
 -- the keys whose values pass
 abbrev pub keys_where : {K V : Type 0} → (V → Bool) → List (K × V) → List K
 keys_where passes entries = map (λ entry. entry.0) (filter (λ entry. passes entry.1) entries)
+
+-- the least place of a key
+abbrev pub place_of : {K V : Type 0} → (K → K → Bool) → K → List (K × V) → Option ℕ
+place_of same key entries = first_at (λ entry. same key entry.0) 0 entries
+
+-- the value at a place changed
+abbrev pub change_at : {K V : Type 0} → (V → V) → ℕ → List (K × V) → List (K × V)
+change_at change n [] = []
+change_at change zero (entry ∷ entries) = (entry.0, change entry.1) ∷ entries
+change_at change (suc n) (entry ∷ entries) = entry ∷ change_at change n entries
