@@ -1,0 +1,243 @@
+-- Each step on the words of a turnstile keeps its rule, and tells what it says.
+use Rattle.std.proofs.Common.{◌≡◌, ℕ, ◌+◌, ◌%◌, ◌<◌, ◌≤◌, eqb, eq-eqb, ne_eqb, Bool, true, false, List, [], ◌∷◌, ◌++◌, length, get_or, set, Option, Some, None, refl, sym, ap, ◌∙◌, subst, arith}
+use Rattle.std.proofs.Math.Nat.{mod-add-mod}
+use mathlib.Core.Logic.{dite}
+use mathlib.Core.Option as maybe
+use mathlib.Core.Option.{some-injective}
+use native.Mathlib.Decide.{ℕ_discrete}
+use lib.ListN.{get_elem?}
+use prog.Atomic.{either}
+use Rattle.atomic_table.specs.Table.{State, Step, step, Act, keeps, takes, gives, put_back, homes_after, carried_after, Valid, Allows, Splits, Joins, opening, Final, Seen}
+use Rattle.atomic_table.proofs.Lists.{set_again}
+use Rattle.turnstile.specs.declared.history.Entry.{Entry}
+use Rattle.turnstile.specs.declared.view.Held.{Held}
+use Rattle.turnstile.specs.declared.view.Start.{Start}
+use Rattle.turnstile.specs.declared.view.View.{View}
+use Rattle.turnstile.specs.History.{times, replay, IsLegal, Own, Claims}
+use Rattle.turnstile.specs.Plays.{Sat, history_of, first_of, drew, looked, noted, left, numbered, counted, told}
+use Rattle.turnstile.specs.Turns.{opening_view, spent_view, unnumbered, joined, AtHome, Stands, Turning}
+use Rattle.turnstile.proofs.Ending.{ended}
+use Rattle.turnstile.proofs.Members as members
+use Rattle.turnstile.proofs.Stands as stands
+
+abbrev pub held_or : {X H : Type 0} → Held X H → Option (Held X H) → Held X H
+held_or x (Some y) = y
+held_or x None = x
+
+module _ {X H S O R : Type 0} (entries : H → List (Entry O R)) (state : X → S) (reply : S → O → R) (after : S → O → S) (start : Start S) where
+  abbrev Homes : Type 0
+  Homes = List (maybe.Option (Option (Held X H)))
+
+  abbrev Views : Type 0
+  Views = List (View S O R)
+
+  abbrev Log : Type 0
+  Log = List (Entry O R)
+
+  abbrev M : Type 0
+  M = Sat X H S O R
+
+  abbrev Slot : Type 0
+  Slot = Option (Held X H)
+
+  abbrev Rule : ℕ → ℕ → ℕ → Log → Homes → Views → Type 0
+  Rule = Stands entries state reply after start
+
+  abbrev Holds : State Slot (View S O R) → Type 0
+  Holds = Turning entries state reply after start
+
+  -- what most steps tell doesn't depend on their operands
+  abbrev pub any_step : Step Slot
+  any_step = step 0 0 0 0 maybe.none
+
+  abbrev words_of : ℕ → ℕ → ℕ → Log → List ℕ
+  words_of p d s log = p ∷ (d % 18446744073709551616) ∷ (s % 18446744073709551616) ∷ length log ∷ []
+
+  holds_at : (p d s : ℕ) (log : Log) (homes : Homes) (views : Views) (ws : List ℕ) → ws ≡ words_of p d s log → Rule p d s log homes views → Holds record { words = ws; homes = homes; views = views }
+  holds_at p d s log homes views ws e st = record { passes = p; drawn = d; serving = s; log = log; words = e; stands = st }
+
+  -- the seat has a new view and an act that keep the rule, and `then` holds, where the words are these
+  abbrev Goes : ℕ → M → ℕ → (ℕ → ℕ) → (ℕ → M → Type 0) → Homes → Views → List ℕ → Type 0
+  Goes id m i f then homes views ws = (w : View S O R) × (a : Act Slot) × Valid homes m.1 a
+      × Holds record { words = set ws i (f (get_or ws i 0)); homes = homes_after homes m.1 a; views = set views id w }
+      × then (get_or ws i 0) (w, carried_after m.1 a)
+
+  moves : (slots id : ℕ) (m : M) (i : ℕ) (f : ℕ → ℕ) (then : ℕ → M → Type 0)
+      → ((p d s : ℕ) (log : Log) (homes : Homes) (views : Views) → Rule p d s log homes views → length homes ≡ slots → get_elem? views id ≡ maybe.some m.0 → Goes id m i f then homes views (words_of p d s log))
+      → Allows Holds slots id m i f then
+  moves slots id m i f then each s h len at fits = subst (Goes id m i f then s.homes s.views) (sym h.words) (each h.passes h.drawn h.serving h.log s.homes s.views h.stands len at)
+
+  pub makes : (xs : List Slot) (held : Held X H) → xs ≡ Some held ∷ [] → entries held.history ≡ [] → state held.object ≡ start.state → Holds (opening (1 ∷ 0 ∷ 0 ∷ 0 ∷ []) xs (opening_view start))
+  makes xs held is none same = subst (λ ys. Holds (opening (1 ∷ 0 ∷ 0 ∷ 0 ∷ []) ys (opening_view start))) (sym is)
+      (holds_at 1 0 0 [] (maybe.some (Some held) ∷ []) (opening_view start ∷ []) (1 ∷ 0 ∷ 0 ∷ 0 ∷ []) refl (stands.made entries state reply after start held none same))
+
+  pub draws : (slots id : ℕ) (m : M) → m.0.tickets ≡ [] → m.0.come ≡ false → 0 < length m.0.names → Allows Holds slots id m 1 (λ n. (n + 1) % 18446744073709551616) (drew any_step m)
+  draws slots id m none idle some = moves slots id m 1 (λ n. (n + 1) % 18446744073709551616) (drew any_step m) (λ p d s log homes views rule len at. (
+    record m.0 { tickets = d ∷ [] },
+    keeps,
+    tt,
+    holds_at p (d + 1) s log homes (set views id (record m.0 { tickets = d ∷ [] })) _ (ap (λ (n : ℕ). p ∷ n ∷ (s % 18446744073709551616) ∷ length log ∷ []) (mod-add-mod d 18446744073709551616 1))
+        (stands.drawn entries state reply after start p d s log homes views id m.0 at none idle some rule),
+    (d, refl, refl),
+  ))
+
+  legal_here : (x : Start S) (held : Held X H) (log : Log) → x ≡ start → entries held.history ≡ log → IsLegal reply after start.state log → state held.object ≡ replay reply after start.state log → length log ≤ start.limit
+      → IsLegal reply after x.state (entries held.history) × (state held.object ≡ replay reply after x.state (entries held.history)) × (length (entries held.history) ≤ x.limit)
+  legal_here x held log begins history legal object bounded =
+      subst (λ (z : Start S). IsLegal reply after z.state (entries held.history) × (state held.object ≡ replay reply after z.state (entries held.history)) × (length (entries held.history) ≤ z.limit)) (sym begins)
+      (subst (λ (l : Log). IsLegal reply after start.state l × (state held.object ≡ replay reply after start.state l) × (length l ≤ start.limit)) (sym history) (legal, object, bounded))
+
+  pub looks : (slots id : ℕ) (m : M) (t : ℕ) → m.1 ≡ [] → m.0.tickets ≡ t ∷ [] → m.0.come ≡ false → Allows Holds slots id m 2 (λ n. n) (looked entries state reply after any_step m)
+  looks slots id m t empty ticket idle = moves slots id m 2 (λ n. n) (looked entries state reply after any_step m) (λ p d s log homes views rule len at.
+      dite (ℕ_discrete (s % 18446744073709551616) (first_of m.0.tickets % 18446744073709551616))
+      (λ same.
+      let mine : t ≡ s = stands.is_served entries state reply after start p d s t log homes views id m.0 at ticket (same ∙ ap (λ (ts : List ℕ). first_of ts % 18446744073709551616) ticket) rule in
+      let now : m.0.tickets ≡ s ∷ [] = ticket ∙ ap (λ (n : ℕ). n ∷ []) mine in
+      let h : AtHome entries state reply after start homes log = stands.home_of entries state reply after start p d s log homes views id m.0 at now idle rule in
+      let k = rule.each id m.0 at in (
+        record m.0 { seen = entries h.held.history; come = true },
+        takes 0 (Some h.held),
+        ap (λ (hs : Homes). get_elem? hs 0) h.is,
+        holds_at p d s log (set homes 0 maybe.none) (set views id (record m.0 { seen = entries h.held.history; come = true })) _ refl
+            (stands.came entries state reply after start p d s log homes (set homes 0 maybe.none) views id m.0 h.held at now h.history rule),
+        (
+          (λ _. record {
+            held = h.held;
+            slot = ap (λ (c : List (ℕ × Slot)). (0, Some h.held) ∷ c) empty;
+            view = refl;
+            claims = subst (Claims m.0.names m.0.seen) (sym h.history) k.seen;
+            legal = λ x is. legal_here x h.held log (k.begins x is) h.history rule.legal h.object rule.bounded;
+          }),
+          (λ other. absurd (other same)),
+        ),
+      ))
+      (λ other. (
+        m.0,
+        keeps,
+        tt,
+        holds_at p d s log homes (set views id m.0) _ refl (subst (Rule p d s log homes) (sym (set_again views id m.0 at)) rule),
+        ((λ same. absurd (other same)), (λ _. refl)),
+      )))
+
+  pub serves : (slots id : ℕ) (m : M) (held : Held X H) → slots ≡ 1 → m.0.come ≡ true → m.1 ≡ (0, Some held) ∷ [] → entries held.history ≡ m.0.seen → state held.object ≡ replay reply after start.state m.0.seen
+      → Allows Holds slots id m 2 (λ n. (n + 1) % 18446744073709551616) (left any_step m)
+  serves slots id m held one turn slot history object = moves slots id m 2 (λ n. (n + 1) % 18446744073709551616) (left any_step m) (λ p d s log homes views rule len at. (
+    record m.0 { tickets = []; come = false },
+    gives,
+    tt,
+    holds_at p d (s + 1) log (put_back homes m.1) (set views id (record m.0 { tickets = []; come = false })) _ (ap (λ (n : ℕ). p ∷ (d % 18446744073709551616) ∷ n ∷ length log ∷ []) (mod-add-mod s 18446744073709551616 1))
+        (subst (λ (hs : Homes). Rule p d (s + 1) log hs (set views id (record m.0 { tickets = []; come = false }))) (sym (ap (put_back homes) slot))
+        (stands.serve entries state reply after start p d s log homes views id m.0 held at turn (len ∙ one) history object rule)),
+    refl,
+  ))
+
+  pub notes : (slots id : ℕ) (m : M) (held : Held X H) (e : Entry O R) (n : ℕ) → m.0.come ≡ true → m.0.past ≡ [] → m.1 ≡ (0, Some held) ∷ [] → entries held.history ≡ m.0.seen ++ e ∷ [] → 0 < times e.number m.0.names
+      → e.reply ≡ reply (replay reply after start.state m.0.seen) e.op → length m.0.seen < start.limit → n ≡ length (entries held.history)
+      → Allows Holds slots id m 3 (λ _. n) (λ _. noted entries any_step m n)
+  notes slots id m held e n turn past slot history own right room is = moves slots id m 3 (λ _. n) (λ _. noted entries any_step m n) (λ p d s log homes views rule len at.
+      let k = rule.each id m.0 at in
+      let whole : history_of entries m.1 ≡ m.0.seen ++ e ∷ [] = ap (history_of entries) slot ∙ history in (
+        record m.0 { seen = history_of entries m.1 },
+        keeps,
+        tt,
+        holds_at p d s (log ++ e ∷ []) homes (set views id (record m.0 { seen = history_of entries m.1 })) _
+            (ap (λ (c : ℕ). p ∷ (d % 18446744073709551616) ∷ (s % 18446744073709551616) ∷ c ∷ []) (is ∙ ap length (history ∙ ap (λ (l : Log). l ++ e ∷ []) (k.come turn).1)))
+            (stands.note entries state reply after start p d s log homes views id m.0 e (history_of entries m.1) at turn past whole own right room rule),
+        refl,
+      ))
+
+  pub counts : (slots id : ℕ) (m : M) → m.0.come ≡ false → Allows Holds slots id m 0 (λ n. n) (counted any_step m)
+  counts slots id m idle = moves slots id m 0 (λ n. n) (counted any_step m) (λ p d s log homes views rule len at. (
+    record m.0 { made = p },
+    keeps,
+    tt,
+    holds_at p d s log homes (set views id (record m.0 { made = p })) _ refl (members.count entries state reply after start p d s log homes views id m.0 at idle rule),
+    (refl, (rule.each id m.0 at).made),
+  ))
+
+  pub tells : (slots id : ℕ) (m : M) → m.0.come ≡ false → Allows Holds slots id m 0 (λ n. n) (told any_step m)
+  tells slots id m idle = moves slots id m 0 (λ n. n) (told any_step m) (λ p d s log homes views rule len at. (
+    record m.0 { past = [] },
+    keeps,
+    tt,
+    holds_at p d s log homes (set views id (record m.0 { past = [] })) _ refl (members.tell entries state reply after start p d s log homes views id m.0 at idle rule),
+    (refl, members.tells entries state reply after start p d s log homes views id m.0 at rule),
+  ))
+
+  pub numbers : (slots id : ℕ) (m : M) (old : ℕ) → m.0.names ≡ [] → m.0.tickets ≡ [] → m.0.past ≡ [] → m.0.come ≡ false → m.0.made ≡ old → old < 4294967296
+      → Allows Holds slots id m 0 (λ n. either (eqb n old) (old + 1) n) (numbered (step 0 0 old 0 maybe.none) m)
+  numbers slots id m old none free past idle made few = moves slots id m 0 (λ n. either (eqb n old) (old + 1) n) (numbered (step 0 0 old 0 maybe.none) m) (λ p d s log homes views rule len at.
+      dite (ℕ_discrete p old)
+      (λ same. (
+        record m.0 { names = p ∷ []; made = p + 1 },
+        keeps,
+        tt,
+        holds_at (p + 1) d s log homes (set views id (record m.0 { names = p ∷ []; made = p + 1 })) _
+            (ap (λ (n : ℕ). n ∷ (d % 18446744073709551616) ∷ (s % 18446744073709551616) ∷ length log ∷ []) (ap (λ (b : Bool). either b (old + 1) p) (eq-eqb p old same) ∙ ap (λ (n : ℕ). n + 1) (sym same)))
+            (members.number entries state reply after start p d s log homes views id m.0 at none free past idle (omega (arith, same, few)) rule),
+        ((λ _. (refl, members.unseen entries state reply after start p d s log homes views id m.0 at rule)), (λ other. absurd (other same))),
+      ))
+      (λ other. (
+        record m.0 { made = p },
+        keeps,
+        tt,
+        holds_at p d s log homes (set views id (record m.0 { made = p })) _
+            (ap (λ (n : ℕ). n ∷ (d % 18446744073709551616) ∷ (s % 18446744073709551616) ∷ length log ∷ []) (ap (λ (b : Bool). either b (old + 1) p) (ne_eqb p old other)))
+            (members.count entries state reply after start p d s log homes views id m.0 at idle rule),
+        ((λ same. absurd (other same)), (λ _. (refl, (let le : m.0.made ≤ p = (rule.each id m.0 at).made in omega (arith, le, made, other))))),
+      )))
+
+  pub splits : (id : ℕ) (v : View S O R) → v.come ≡ false → Splits Holds id v v (unnumbered v)
+  splits id v idle s h at = record {
+    passes = h.passes;
+    drawn = h.drawn;
+    serving = h.serving;
+    log = h.log;
+    words = h.words;
+    stands = subst (λ (vs : Views). Rule h.passes h.drawn h.serving h.log s.homes (vs ++ unnumbered v ∷ [])) (sym (set_again s.views id v at))
+        (members.split entries state reply after start h.passes h.drawn h.serving h.log s.homes s.views id v at idle h.stands);
+  }
+
+  pub joins : (id other : ℕ) (v w : View S O R) → v.come ≡ false → w.tickets ≡ [] → w.come ≡ false → Joins Holds id v other w (joined v w) spent_view
+  joins id other v w idle free not_come s h at apart there = record {
+    passes = h.passes;
+    drawn = h.drawn;
+    serving = h.serving;
+    log = h.log;
+    words = h.words;
+    stands = members.join entries state reply after start h.passes h.drawn h.serving h.log s.homes s.views id other v w at apart there idle free not_come h.stands;
+  }
+
+  -- what the last look at a table shows, where all numbers are this seat's and no ticket is out
+  pub record Shows (v : View S O R) (held : Held X H) : Type 0 where
+    pub whole : entries held.history ≡ v.seen
+    pub legal : IsLegal reply after start.state (entries held.history)
+    pub object : state held.object ≡ replay reply after start.state (entries held.history)
+    pub bounded : length (entries held.history) ≤ start.limit
+    pub own : Own v.names (entries held.history)
+    pub differ : (k : ℕ) → times k v.names ≤ 1
+    pub most : v.made ≤ length v.names
+
+  pub shows : (id : ℕ) (v : View S O R) (ws : List ℕ) (xs : List Slot) (all d s : ℕ) (held : Held X H) → Final (Seen Holds id v) ws xs
+      → get_elem? ws 0 ≡ maybe.some all → get_elem? ws 1 ≡ maybe.some d → get_elem? ws 2 ≡ maybe.some s → get_elem? xs 0 ≡ maybe.some (Some held) → d ≡ s → all ≤ length v.names → Shows v held
+  shows id v ws xs all d s held final first second third here same few =
+      let h = final.1.0 in
+      let words : ws ≡ words_of h.passes h.drawn h.serving h.log = sym final.2 ∙ h.words in
+      let p_is : h.passes ≡ all = some-injective h.passes all (sym (ap (λ (l : List ℕ). get_elem? l 0) words) ∙ first) in
+      let d_is : h.drawn % 18446744073709551616 ≡ d = some-injective (h.drawn % 18446744073709551616) d (sym (ap (λ (l : List ℕ). get_elem? l 1) words) ∙ second) in
+      let s_is : h.serving % 18446744073709551616 ≡ s = some-injective (h.serving % 18446744073709551616) s (sym (ap (λ (l : List ℕ). get_elem? l 2) words) ∙ third) in
+      let e = ended entries state reply after start h.passes h.drawn h.serving h.log final.0.homes final.0.views id v final.1.1 (d_is ∙ (same ∙ sym s_is)) (omega (arith, p_is, few)) h.stands in
+      let home : AtHome entries state reply after start final.0.homes h.log = e.home in
+      let is : Some home.held ≡ Some held = some-injective (Some home.held) (Some held) (sym (final.4 0 (Some home.held) (ap (λ (hs : Homes). get_elem? hs 0) home.is)) ∙ here) in
+      let same_held : home.held ≡ held = ap (held_or held) is in
+      let history : entries held.history ≡ h.log = ap (λ (z : Held X H). entries z.history) (sym same_held) ∙ home.history in
+      let made : v.made ≤ h.passes = (h.stands.each id v final.1.1).made in
+      record {
+        whole = history ∙ sym e.whole;
+        legal = subst (IsLegal reply after start.state) (sym history) e.legal;
+        object = ap (λ (z : Held X H). state z.object) (sym same_held) ∙ (home.object ∙ ap (replay reply after start.state) (sym history));
+        bounded = subst (λ (l : Log). length l ≤ start.limit) (sym history) e.bounded;
+        own = subst (Own v.names) (sym history) e.own;
+        differ = e.differ;
+        most = omega (arith, made, p_is, few);
+      }

@@ -1,0 +1,10 @@
+pub mod Ending
+pub mod Gathering
+pub mod Histories
+pub mod Joining
+pub mod Keeps
+pub mod Members
+pub mod Phases
+pub mod Rolls
+pub mod Stands
+pub mod Totals

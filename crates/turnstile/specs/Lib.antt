@@ -1,0 +1,5 @@
+pub mod Calls
+pub mod Closing
+pub mod History
+pub mod Plays
+pub mod Turns

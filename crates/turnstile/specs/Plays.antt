@@ -1,0 +1,110 @@
+-- What each step tells: of the step, the seat before, the number found and the seat after.
+use Rattle.std.specs.Prelude.{◌≡◌, ◌≢◌, ℕ, ◌+◌, ◌%◌, ◌^◌, ◌<◌, ◌≤◌, List, [], ◌∷◌, ◌++◌, length, true, false, Option, Some, None}
+use Rattle.atomic_table.specs.Table.{Me, Step, rest}
+use Rattle.turnstile.specs.declared.history.Entry.{Entry}
+use Rattle.turnstile.specs.declared.view.Held.{Held}
+use Rattle.turnstile.specs.declared.view.Start.{Start}
+use Rattle.turnstile.specs.declared.view.View.{View}
+use Rattle.turnstile.specs.History.{times, replay, IsLegal, Foreign, Claims}
+use Rattle.turnstile.specs.Turns.{AllClaim}
+
+abbrev pub Sat : Type 0 → Type 0 → Type 0 → Type 0 → Type 0 → Type 0
+Sat X H S O R = Me (Option (Held X H)) (View S O R)
+
+module _ {X H O R : Type 0} (entries : H → List (Entry O R)) where
+  abbrev pub items_of : Option (Held X H) → List (Entry O R)
+  items_of (Some held) = entries held.history
+  items_of None = []
+
+  -- the entries of the slot in hand
+  abbrev pub history_of : List (ℕ × Option (Held X H)) → List (Entry O R)
+  history_of [] = []
+  history_of (p ∷ ps) = items_of p.1
+
+abbrev pub first_of : List ℕ → ℕ
+first_of [] = 0
+first_of (t ∷ ts) = t
+
+module _ {X H S O R : Type 0} where
+  -- a ticket was drawn, whose word was found
+  abbrev pub drew : Step (Option (Held X H)) → Sat X H S O R → ℕ → Sat X H S O R → Type 0
+  drew st m r n = (t : ℕ) × (r ≡ t % 2 ^ 64) × (n ≡ (record m.0 { tickets = t ∷ [] }, m.1))
+
+  abbrev pub left : Step (Option (Held X H)) → Sat X H S O R → ℕ → Sat X H S O R → Type 0
+  left st m r n = n ≡ (record m.0 { tickets = []; come = false }, rest m.1)
+
+  -- a number was drawn, or more passes were made than was known
+  abbrev pub numbered : Step (Option (Held X H)) → Sat X H S O R → ℕ → Sat X H S O R → Type 0
+  numbered st m r n = (r ≡ st.first → (n ≡ (record m.0 { names = r ∷ []; made = r + 1 }, m.1)) × Foreign (r ∷ []) m.0.seen)
+      × (r ≢ st.first → (n ≡ (record m.0 { made = r }, m.1)) × (st.first < r))
+
+  abbrev pub counted : Step (Option (Held X H)) → Sat X H S O R → ℕ → Sat X H S O R → Type 0
+  counted st m r n = (n ≡ (record m.0 { made = r }, m.1)) × (m.0.made ≤ r)
+
+module _ {X H S O R : Type 0} (entries : H → List (Entry O R)) where
+  -- the history is now that of the slot in hand
+  abbrev pub noted : Step (Option (Held X H)) → Sat X H S O R → ℕ → Sat X H S O R → Type 0
+  noted st m r n = n ≡ (record m.0 { seen = history_of entries m.1 }, m.1)
+
+module _ {X H S O R : Type 0} (entries : H → List (Entry O R)) (state : X → S) (reply : S → O → R) (after : S → O → S) where
+  -- the slot is here, with all that was done so far
+  pub record Turn (v : View S O R) (n : Sat X H S O R) : Type 0 where
+    pub held : Held X H
+    pub slot : n.1 ≡ (0, Some held) ∷ []
+    pub view : n.0 ≡ record v { seen = entries held.history; come = true }
+    pub claims : Claims v.names v.seen (entries held.history)
+    pub legal : (x : Start S) → v.start ≡ Some x → IsLegal reply after x.state (entries held.history) × (state held.object ≡ replay reply after x.state (entries held.history)) × (length (entries held.history) ≤ x.limit)
+
+  -- where its ticket is served, the seat has its turn; otherwise nothing changed
+  abbrev pub looked : Step (Option (Held X H)) → Sat X H S O R → ℕ → Sat X H S O R → Type 0
+  looked st m r n = (r ≡ first_of m.0.tickets % 2 ^ 64 → Turn m.0 n) × (r ≢ first_of m.0.tickets % 2 ^ 64 → n ≡ m)
+
+module _ {S O R : Type 0} where
+  -- what a look shows of a view
+  pub record Told (v : View S O R) : Type 0 where
+    pub log : List (Entry O R)
+    pub past : AllClaim v.names v.past log
+    pub seen : Claims v.names v.seen log
+    pub once : (k : ℕ) → times k v.names ≤ 1
+    pub few : length v.names ≤ 2 ^ 32
+
+module _ {X H S O R : Type 0} where
+  -- what was claimed before holds, and is then forgotten
+  abbrev pub told : Step (Option (Held X H)) → Sat X H S O R → ℕ → Sat X H S O R → Type 0
+  told st m r n = (n ≡ (record m.0 { past = [] }, m.1)) × Told m.0
+
+module _ {X H S O R : Type 0} (entries : H → List (Entry O R)) (state : X → S) (reply : S → O → R) (after : S → O → S) (x : Start S) where
+  -- the turn has come, and the value is in hand
+  pub record Begun (v : View S O R) (held : Held X H) (m : Sat X H S O R) : Type 0 where
+    pub ticket : ℕ
+    pub seat : m ≡ (record v { seen = entries held.history; tickets = ticket ∷ []; come = true }, (0, None) ∷ [])
+    pub claims : Claims v.names v.seen (entries held.history)
+    pub legal : IsLegal reply after x.state (entries held.history)
+    pub object : state held.object ≡ replay reply after x.state (entries held.history)
+    pub bounded : length (entries held.history) ≤ x.limit
+
+  -- the seat may leave with this value, to whose history nothing was added
+  pub record MayLeave (held : Held X H) (m : Sat X H S O R) : Type 0 where
+    pub begins : m.0.start ≡ Some x
+    pub come : m.0.come ≡ true
+    pub slot : m.1 ≡ (0, None) ∷ []
+    pub history : entries held.history ≡ m.0.seen
+    pub object : state held.object ≡ replay reply after x.state m.0.seen
+
+  -- the same, where an entry was added
+  pub record MayNote (held : Held X H) (m : Sat X H S O R) : Type 0 where
+    pub begins : m.0.start ≡ Some x
+    pub come : m.0.come ≡ true
+    pub past : m.0.past ≡ []
+    pub slot : m.1 ≡ (0, None) ∷ []
+    pub entry : Entry O R
+    pub history : entries held.history ≡ m.0.seen ++ entry ∷ []
+    pub own : 0 < times entry.number m.0.names
+    pub right : entry.reply ≡ reply (replay reply after x.state m.0.seen) entry.op
+    pub object : state held.object ≡ after (replay reply after x.state m.0.seen) entry.op
+    pub room : length m.0.seen < x.limit
+
+module _ {X H S O R : Type 0} (entries : H → List (Entry O R)) where
+  -- the seat once it has given up its turn
+  abbrev pub gone : Held X H → Sat X H S O R → Sat X H S O R
+  gone held m = (record m.0 { seen = entries held.history; tickets = []; come = false }, [])

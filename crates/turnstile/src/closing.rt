@@ -1,0 +1,136 @@
+//! The end of a turnstile.
+ghost use Rattle.std.specs.Prelude.{◌≡◌, ◌+◌, ◌-◌, ◌^◌, ◌<◌, ◌≤◌, min, IfSome, All, vec_len};
+
+use crate::pass::{Pass, PassOf};
+use crate::replays::Replays;
+use crate::turnstile::{PASSES, SERVING, TICKET, Turnstile};
+use crate::view::Held;
+
+/// The history of a turnstile, and the object at its end.
+#[derive(Drop)]
+pub struct Traced<T: Replays> {
+    /// Every call that was made, in order.
+    pub history: T::History,
+    /// What the calls made of the object.
+    pub object: T,
+}
+
+/// What was given to `close`, where a pass is missing.
+#[derive(Drop)]
+pub struct NotAll<T: Replays> {
+    /// The turnstile as it was.
+    pub turnstile: Turnstile<T>,
+    /// The passes as they were given, save that the first now knows how many passes were made.
+    pub passes: Vec<PassOf<T>>,
+    /// How many passes are neither given nor joined to one that is.
+    pub missing: u64,
+}
+
+/// What `close` answers.
+#[derive(Drop)]
+pub enum Closed<T: Replays> {
+    /// All passes were given, and this is what was done.
+    Traced(Traced<T>),
+    /// A pass that was made was neither given nor joined to one that was.
+    NotAll(NotAll<T>),
+    /// A pass or a ticket is still out.
+    InUse,
+}
+
+impl<T: Replays> Turnstile<T> {
+    ghost use Rattle.turnstile.specs.Calls.{began, claims_of, given, Each, IsOf, IsTrace, FirstCounted, Gathered};
+    ghost use Rattle.turnstile.specs.Closing.{IsClosed};
+
+    /// Ends a turnstile to which all passes came back, and gives its history and its object.
+    ///
+    /// Where a pass is missing, it gives the turnstile and the passes back, and the first pass then knows
+    /// how many passes were made. It answers `InUse` where the words show another count of passes than it
+    /// found, or a ticket that was not served; no run is known to meet that. It takes no memory.
+    pub fn close(self, mut passes: Vec<PassOf<T>>) -> Closed<T>
+        requires some { 0 < vec_len passes }
+        requires passes { All (IsOf T.state_of self) passes.items }
+        ensures { IsClosed T.History.entries T.replied T.after T.state_of self passes.items result }
+    {
+        let made = self.count_first(&mut passes);
+        let given = Turnstile::numbers_of(&passes);
+        if given < made {
+            return Closed::NotAll(NotAll {
+                turnstile: self,
+                passes,
+                missing: made - given,
+            });
+        }
+        let kept = self.gather(passes);
+        match self.end(kept, made) {
+            Some(traced) => Closed::Traced(traced),
+            None => Closed::InUse,
+        }
+    }
+
+    // Asks, for the first pass, how many passes were made.
+    fn count_first(&self, passes: &mut Vec<PassOf<T>>) -> u64
+        requires some { 0 < vec_len passes.old }
+        requires passes { All (IsOf T.state_of self.now) passes.old.items }
+        ensures passes { All (IsOf T.state_of self.now) passes.new.items }
+        ensures counted { FirstCounted passes.old.items passes.new.items result }
+    {
+        let first = &mut passes[0];
+        self.count(first);
+        first.made
+    }
+
+    // Joins all passes into one.
+    fn gather(&self, mut passes: Vec<PassOf<T>>) -> PassOf<T>
+        requires some { 0 < vec_len passes }
+        requires passes { All (IsOf T.state_of self.now) passes.items }
+        ensures pass { IsOf T.state_of self.now result }
+        ensures gathered { Gathered (claims_of passes.items) result }
+        ensures most { Each (λ q. q.made ≤ result.made) passes.items }
+    {
+        let Some(mut kept) = passes.pop() else {
+            unreachable!()
+        };
+        while let Some(other) = passes.pop() {
+            self.join(&mut kept, other);
+        }
+        kept
+    }
+
+    // The history and the object, unless a pass or a ticket is out.
+    fn end(self, pass: PassOf<T>, made: u64) -> Option<Traced<T>>
+        requires pass { IsOf T.state_of self pass }
+        requires all { made ≤ pass.joined + 1 }
+        ensures { IfSome result (λ t. IsTrace T.replied T.after T.state_of (began T.state_of self) pass (T.History.entries t.history) t.object) }
+    {
+        let Turnstile { table, limit: _ } = self;
+        let Pass {
+            seat,
+            number: _,
+            made: _,
+            joined: _,
+            len: _,
+        } = pass;
+        let mut closed = table.close_with(seat);
+        let all = closed.word(PASSES);
+        let drawn = closed.word(TICKET);
+        let served = closed.word(SERVING);
+        let slot = closed.take(0);
+        closed.free();
+        if all != made || drawn != served {
+            return None;
+        }
+        let Held { history, object } = slot?;
+        Some(Traced { history, object })
+    }
+
+    // How many numbers the passes have, or the most that fit.
+    fn numbers_of(passes: &Vec<PassOf<T>>) -> u64
+        ensures { result ≡ min (given passes.now.items) (2 ^ 64 - 1) }
+    {
+        let mut count: u64 = 0;
+        for pass in passes {
+            count = count.saturating_add(pass.joined).saturating_add(1);
+        }
+        count
+    }
+}

@@ -1,0 +1,91 @@
+//! The history of a turnstile as it is stored.
+ghost use Rattle.std.specs.Prelude.{◌≡◌, ◌++◌, ◌∷◌, [], List, Bool, true, length, nat_lt, vec_capacity, OnOk};
+
+use std::alloc::{AllocError, Global};
+
+/// A call in a history: the number of the pass that made it, the op and its reply.
+#[derive(Drop)]
+pub struct Entry<O, R> {
+    /// The number of the pass.
+    pub number: u64,
+    /// What was asked.
+    pub op: O,
+    /// What was answered.
+    pub reply: R,
+}
+
+/// A history as it is stored. Contracts see it as the list of its entries, in the order of the calls.
+pub trait StoredHistory<O, R>: Drop {
+    ghost use Rattle.turnstile.specs.declared.history.Entry.{Entry};
+
+    // The entries, in order.
+    ghost entries: { Self → List (Entry O R) };
+
+    // Whether there is room for one more entry.
+    ghost has_room: { Self → Bool };
+
+    /// A history without entries. It takes no memory.
+    fn empty(alloc: Global) -> Self
+        ensures { entries result ≡ [] };
+
+    /// How many entries there are.
+    fn len(&self) -> usize
+        ensures { result ≡ length (entries self.now) };
+
+    /// Takes room for one more entry.
+    ///
+    /// # Errors
+    /// Memory. The entries are as before.
+    fn reserve(&mut self) -> Result<(), AllocError>
+        ensures same { entries self.new ≡ entries self.old }
+        ensures room { OnOk result (has_room self.new ≡ true) };
+
+    /// Adds an entry at the end. It takes no memory.
+    fn push(&mut self, entry: Entry<O, R>)
+        requires { has_room self.old ≡ true }
+        ensures { entries self.new ≡ entries self.old ++ entry ∷ [] };
+}
+
+/// A history that is stored as it stands, entry after entry.
+///
+/// A contract sees it as its entries, and whether there is room for one more.
+#[derive(Drop)]
+pub struct PlainHistory<O, R> {
+    entries: Vec<Entry<O, R>>,
+}
+
+impl<O, R> PlainHistory<O, R> {
+    /// The entries, in order.
+    pub fn as_slice(&self) -> &[Entry<O, R>]
+        ensures { result.now ≡ self.now.entries.items }
+    {
+        self.entries.as_slice()
+    }
+}
+
+impl<O: Drop, R: Drop> StoredHistory<O, R> for PlainHistory<O, R> {
+    ghost entries = { λ h. h.entries.items };
+
+    ghost has_room = { λ h. nat_lt (length h.entries.items) (vec_capacity h.entries) };
+
+    fn empty(alloc: Global) -> PlainHistory<O, R> {
+        PlainHistory {
+            entries: Vec::new(alloc),
+        }
+    }
+
+    fn len(&self) -> usize {
+        self.entries.len()
+    }
+
+    fn reserve(&mut self) -> Result<(), AllocError> {
+        self.entries.reserve(1)
+    }
+
+    fn push(&mut self, entry: Entry<O, R>)
+        requires { nat_lt (length self.old.entries.items) (vec_capacity self.old.entries) ≡ true }
+        ensures { self.new.entries.items ≡ self.old.entries.items ++ entry ∷ [] }
+    {
+        self.entries.push_reserved(entry);
+    }
+}

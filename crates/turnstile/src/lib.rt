@@ -1,0 +1,28 @@
+//! A lock under which threads share an object, and which keeps one history of all calls.
+//!
+//! A [`Turnstile`] holds an object and the list of the calls that were made on it. A thread calls it
+//! through a [`Pass`], which knows how much of the history it has seen. All that any pass has seen is a
+//! beginning of one history, in which each call got the reply that the object gives there, and at the end
+//! the object is what these calls make of it.
+//!
+//! Calls take turns in the order in which they drew a ticket. Not claimed: that a turn comes, that a
+//! thread which waits gets on, and any order in time between passes that never met.
+#![tactic(auto)]
+
+mod closing;
+mod history;
+mod pass;
+mod passes;
+mod replays;
+mod rule;
+#[cfg(test)]
+mod tests;
+mod turnstile;
+mod view;
+
+pub use closing::{Closed, NotAll, Traced};
+pub use history::{Entry, PlainHistory, StoredHistory};
+pub use pass::{Pass, PassOf};
+pub use replays::Replays;
+pub use turnstile::{Refusal, Turnstile};
+pub use view::{Claim, Held, Opening, Start, View};
