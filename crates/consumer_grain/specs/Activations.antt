@@ -1,0 +1,128 @@
+-- A grain's mailbox and its turn.
+use Rattle.std.specs.Prelude.{◌≡◌, ℕ, zero, suc, ◌+◌, min, max, Bool, true, false, ◌&&◌, ◌||◌, not, List, [], ◌∷◌, ◌++◌, length, drop, filter, Option, Some, None, is_some, Result, Ok, Err, ◌==◌, nat_lt, nat_le, if◌then◌else◌}
+use Rattle.std.specs.List.{list_any}
+use Rattle.std.specs.declared.alloc.AllocError.{AllocError}
+use Rattle.consumer_grain.specs.declared.delivery.Delivery.{Delivery}
+use Rattle.consumer_grain.specs.declared.turn.RunningTurn.{RunningTurn}
+use Rattle.consumer_grain.specs.declared.told.Offered.{Offered}
+use Rattle.consumer_grain.specs.declared.told.Offered.TheVariants as offer
+use Rattle.consumer_grain.specs.declared.told.Begun.{Begun}
+use Rattle.consumer_grain.specs.declared.told.Begun.TheVariants as begun
+use Rattle.consumer_grain.specs.declared.told.TurnEnd.{TurnEnd}
+use Rattle.consumer_grain.specs.declared.told.TurnEnd.TheVariants as turn_end
+
+-- how often it was activated, whether it is active, what waits for it, the oldest first, the turn that
+-- runs, and the subscriptions that something was offered for, from the least number to the greatest
+pub record PlainActivation : Type 0 where
+  pub number : ℕ
+  pub active : Bool
+  pub mailbox : List Delivery
+  pub running : Option RunningTurn
+  pub subs : List ℕ
+
+-- a grain that was never active
+abbrev pub new_activation : PlainActivation
+new_activation = record { number = 0; active = false; mailbox = []; running = None; subs = [] }
+
+-- rising numbers with one more, unless it is there
+abbrev pub with_number : ℕ → List ℕ → List ℕ
+with_number n [] = n ∷ []
+with_number n (m ∷ ms) = if nat_lt n m then n ∷ m ∷ ms else if n == m then m ∷ ms else m ∷ with_number n ms
+
+abbrev pub without_number : ℕ → List ℕ → List ℕ
+without_number n ms = filter (λ m. not (n == m)) ms
+
+-- active, with one more delivery; the activation's number rises where it wasn't active
+abbrev pub woken : PlainActivation → Delivery → PlainActivation
+woken a delivery =
+    record {
+      number = if a.active then a.number else suc a.number;
+      active = true;
+      mailbox = a.mailbox ++ delivery ∷ [];
+      running = a.running;
+      subs = with_number delivery.sub a.subs;
+    }
+
+-- sixteen deliveries wait at most
+abbrev pub offered : PlainActivation → Delivery → PlainActivation × Offered
+offered a delivery = if nat_le 16 (length a.mailbox) then (a, offer.MailboxFull) else (woken a delivery, offer.Delivered)
+
+-- Only a delivery that is taken may want memory.
+abbrev pub offer_takes_memory : Offered → Bool
+offer_takes_memory offer.Delivered = true
+offer_takes_memory offer.MailboxFull = false
+
+-- a call did what the definition says, or memory was wanting and nothing has changed
+abbrev pub Offers : PlainActivation → PlainActivation → Result Offered AllocError → PlainActivation × Offered → Type 0
+Offers old new (Ok told) stepped = (new, told) ≡ stepped
+Offers old new (Err e) stepped = new ≡ old
+
+-- the positions of the longest front of the deliveries, at most n, that are all of one subscription and
+-- rise from this position on
+abbrev pub front_of : ℕ → ℕ → ℕ → List Delivery → List ℕ
+front_of zero sub from deliveries = []
+front_of (suc n) sub from [] = []
+front_of (suc n) sub from (d ∷ deliveries) =
+    if (sub == d.sub) && nat_le from d.position then d.position ∷ front_of n sub (suc d.position) deliveries else []
+
+-- a turn has 1 to 16 events
+abbrev pub turn_size : ℕ → ℕ
+turn_size max_events = min 16 (max 1 max_events)
+
+abbrev pub started : PlainActivation → ℕ → ℕ → List ℕ → PlainActivation
+started a sub turn positions =
+    record a {
+      mailbox = drop (length positions) a.mailbox;
+      running = Some (record { sub = sub; turn = turn; positions = positions });
+    }
+
+-- with this number for the turn, or none where no turn may be handed out
+abbrev pub begin_turn : PlainActivation → ℕ → List ℕ → Option ℕ → PlainActivation × Begun
+begin_turn a sub positions None = (a, begun.Spent)
+begin_turn a sub positions (Some turn) = (started a sub turn positions, begun.Turn sub positions)
+
+-- a repeat, which isn't past what its subscription has handled, leaves the mailbox alone
+abbrev pub begin_front : PlainActivation → ℕ → Option ℕ → ℕ → List Delivery → PlainActivation × Begun
+begin_front a past turn size [] = (a, begun.Empty)
+begin_front a past turn size (d ∷ deliveries) =
+    if nat_lt d.position past then (record a { mailbox = deliveries }, begun.Dropped d)
+    else begin_turn a d.sub (front_of size d.sub d.position a.mailbox) turn
+
+-- past is one past the last position that the subscription of the front delivery has handled
+abbrev pub begin : PlainActivation → ℕ → Option ℕ → ℕ → PlainActivation × Begun
+begin a past turn max_events =
+    if is_some a.running then (a, begun.Busy)
+    else if not a.active then (a, begun.Empty)
+    else begin_front a past turn (turn_size max_events) a.mailbox
+
+abbrev pub is_turn : ℕ → ℕ → ℕ → Option RunningTurn → Bool
+is_turn own activation turn None = false
+is_turn own activation turn (Some run) = (activation == own) && (turn == run.turn)
+
+-- exactly that turn of that activation ends
+abbrev pub commit : PlainActivation → ℕ → ℕ → PlainActivation × TurnEnd
+commit a activation turn =
+    if is_turn a.number activation turn a.running then (record a { running = None }, turn_end.Ended) else (a, turn_end.Stale)
+
+-- the deliveries of a subscription leave the mailbox; a running turn stays
+abbrev pub forgotten : ℕ → PlainActivation → PlainActivation
+forgotten sub a = record a { mailbox = filter (λ d. not (sub == d.sub)) a.mailbox; subs = without_number sub a.subs }
+
+abbrev pub running_count : Option RunningTurn → ℕ
+running_count None = 0
+running_count (Some run) = length run.positions
+
+-- how many deliveries are lost where the grain is deactivated
+abbrev pub lost : PlainActivation → ℕ
+lost a = length a.mailbox + running_count a.running
+
+abbrev pub deactivated : PlainActivation → PlainActivation
+deactivated a = record a { active = false; mailbox = []; running = None }
+
+abbrev pub runs : ℕ → Option RunningTurn → Bool
+runs sub None = false
+runs sub (Some run) = sub == run.sub
+
+-- a delivery of the subscription waits or runs
+abbrev pub holds : ℕ → PlainActivation → Bool
+holds sub a = list_any (λ (d : Delivery). sub == d.sub) a.mailbox || runs sub a.running

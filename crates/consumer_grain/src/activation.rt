@@ -1,0 +1,253 @@
+//! A grain's mailbox and its turn.
+ghost use Rattle.std.specs.Prelude.{◌≡◌, ◌+◌, ◌^◌, ◌<◌, ◌≤◌, ◌∷◌, true, length, drop, Some, None, is_some, OnErr, IfOk, IfSome};
+ghost use Rattle.std.specs.List.{slice_get};
+ghost use Rattle.std.specs.Option.{option_copied};
+ghost use Rattle.stream_ident.specs.Words.{past};
+ghost use Rattle.consumer_grain.specs.Activations.{begin, begin_front, commit, deactivated, forgotten, holds, is_turn, lost, new_activation, offered, offer_takes_memory, running_count, runs, Offers};
+ghost use Rattle.consumer_grain.specs.Begins.{RisesFrom};
+ghost use Rattle.consumer_grain.specs.Subscriptions.{rises_from};
+
+use crate::delivery::Delivery;
+use crate::front::{turn_positions, turn_size};
+use crate::mailbox::{Mailbox, has_sub};
+use crate::numbers::{add_number, remove_number};
+use crate::told::{Begun, Offered, TurnEnd};
+use crate::turn::RunningTurn;
+use std::alloc::{AllocError, Global};
+use std::marker::Model;
+
+/// A grain as its partition knows it: whether it is in memory, what waits for it, and its turn.
+///
+/// A contract sees it as how often it was activated, whether it is active, the deliveries that wait, the
+/// oldest first, the turn that runs, and the subscriptions that something was offered for, by rising
+/// numbers. The room that these have in memory is no part of it.
+#[derive(Debug, Drop)]
+pub struct Activation {
+    number: u64,
+    is_active: bool,
+    mailbox: Mailbox,
+    running: Option<RunningTurn>,
+    subs: Vec<usize>,
+}
+
+impl Model for Activation {
+    ghost use Rattle.consumer_grain.specs.Activations.{PlainActivation};
+    ghost use Rattle.consumer_grain.specs.Standing.{IsStanding};
+
+    ghost Value = { PlainActivation };
+
+    ghost view = { λ a. record { number = a.number; active = a.is_active; mailbox = a.mailbox; running = a.running; subs = a.subs.items } };
+
+    ghost invariant = { λ a. IsStanding a.running a.subs.items };
+}
+
+impl Activation {
+    /// A grain that was never active. It takes the memory of its mailbox.
+    ///
+    /// # Errors
+    /// Memory.
+    pub fn new(alloc: Global) -> Result<Activation, AllocError>
+        ensures { IfOk result (λ a. a ≡ new_activation) }
+    {
+        Ok(Activation {
+            number: 0,
+            is_active: false,
+            mailbox: Mailbox::new(alloc)?,
+            running: None,
+            subs: Vec::new(alloc),
+        })
+    }
+
+    /// How often it was activated: the number of its activation, 0 before the first.
+    pub fn number(&self) -> u64
+        ensures { result ≡ self.now.number }
+    {
+        self.number
+    }
+
+    /// Whether it is in memory.
+    pub fn is_active(&self) -> bool
+        ensures { result ≡ self.now.active }
+    {
+        self.is_active
+    }
+
+    /// How many deliveries wait, at most 16.
+    pub fn waiting(&self) -> usize
+        ensures count { result ≡ length self.now.mailbox }
+        ensures bound { result ≤ 16 }
+    {
+        self.mailbox.as_slice().len()
+    }
+
+    /// The oldest delivery that waits.
+    pub fn front(&self) -> Option<Delivery>
+        ensures front { result ≡ slice_get self.now.mailbox 0 }
+        ensures room { IfSome result (λ d. d.position + 1 < 2 ^ 64) }
+    {
+        self.mailbox.as_slice().first().copied()
+    }
+
+    /// The turn that runs. Its positions leave room for the number past the last.
+    pub fn running(&self) -> Option<&RunningTurn>
+        ensures running { option_copied result ≡ self.now.running }
+        ensures room { IfSome self.now.running (λ run. past run.positions < 2 ^ 64) }
+    {
+        self.running.as_ref()
+    }
+
+    /// The numbers of the subscriptions that something was offered for and that weren't forgotten, rising.
+    pub fn subs(&self) -> &[usize]
+        ensures subs { result.now ≡ self.now.subs }
+        ensures rising { rises_from 0 self.now.subs ≡ true }
+    {
+        self.subs.as_slice()
+    }
+
+    /// Whether a delivery of a subscription waits or runs. It looks at the mailbox once.
+    pub fn holds(&self, sub: usize) -> bool
+        ensures { result ≡ holds sub self.now }
+    {
+        has_sub(self.mailbox.as_slice(), sub) || runs(&self.running, sub)
+    }
+
+    /// Offers a delivery, which wakes the grain where it isn't active: the activation's number rises.
+    /// Sixteen deliveries wait at most, and one more is refused.
+    ///
+    /// A binary search looks the subscription up. The first delivery of each is inserted among the numbers,
+    /// which moves those after it.
+    ///
+    /// # Errors
+    /// Memory, and then nothing has changed. It comes only at a delivery that would be taken.
+    pub fn offer(&mut self, _alloc: Global, delivery: Delivery) -> Result<Offered, AllocError>
+        requires number { self.old.number + 1 < 2 ^ 64 }
+        requires position { delivery.position + 1 < 2 ^ 64 }
+        ensures performs { Offers self.old self.new result (offered self.old delivery) }
+        ensures memory { OnErr result (offer_takes_memory (offered self.old delivery).1 ≡ true) }
+    {
+        if self.mailbox.is_full() {
+            return Ok(Offered::MailboxFull);
+        }
+        add_number(&mut self.subs, delivery.sub)?;
+        if !self.is_active {
+            self.number += 1;
+            self.is_active = true;
+        }
+        self.mailbox.push(delivery);
+        Ok(Offered::Delivered)
+    }
+
+    /// Begins a turn with the front of the mailbox: the longest front, at most `max_events` and at most 16,
+    /// at least 1, that is all of one subscription and whose positions rise. A front delivery that isn't
+    /// past what its subscription has handled is dropped, and begins none.
+    ///
+    /// `past` is one past the last position that the subscription of the front delivery has handled, and
+    /// `turn` the number of the turn, where one is left. It takes no memory.
+    pub fn begin(&mut self, past: usize, turn: Option<u64>, max_events: usize) -> Begun
+        ensures begun { (self.new, result) ≡ begin self.old past turn max_events }
+        ensures rising { RisesFrom past result }
+    {
+        if self.running.is_some() {
+            return Begun::Busy;
+        }
+        if !self.is_active {
+            return Begun::Empty;
+        }
+        self.begin_front(past, turn, turn_size(max_events))
+    }
+
+    /// Begins with the front delivery, where there is one.
+    fn begin_front(&mut self, past: usize, turn: Option<u64>, most: usize) -> Begun
+        requires some { 1 ≤ most }
+        requires bound { most ≤ 16 }
+        ensures begun { (self.new, result) ≡ begin_front self.old past turn most self.old.mailbox }
+        ensures rising { RisesFrom past result }
+    {
+        let Some(front) = self.mailbox.as_slice().first() else {
+            return Begun::Empty;
+        };
+        let front = *front;
+        if front.position < past {
+            self.mailbox.drop_front(1);
+            return Begun::Dropped(front);
+        }
+        let Some(turn) = turn else {
+            return Begun::Spent;
+        };
+        let positions = turn_positions(self.mailbox.as_slice(), front, most);
+        self.mailbox.drop_front(positions.len());
+        self.running = Some(RunningTurn {
+            sub: front.sub,
+            turn,
+            positions: positions.copy(),
+        });
+        Begun::Turn {
+            sub: front.sub,
+            positions,
+        }
+    }
+
+    /// Ends the turn that runs, if it is this turn of this activation. It takes no memory.
+    pub fn commit(&mut self, activation: u64, turn: u64) -> TurnEnd
+        ensures { (self.new, result) ≡ commit self.old activation turn }
+    {
+        if !is_turn(&self.running, self.number, activation, turn) {
+            return TurnEnd::Stale;
+        }
+        self.running = None;
+        TurnEnd::Ended
+    }
+
+    /// The deliveries of a subscription leave the mailbox, and its number leaves the numbers. A turn that
+    /// runs stays. It takes no memory.
+    pub fn forget(&mut self, sub: usize)
+        ensures { self.new ≡ forgotten sub self.old }
+    {
+        self.mailbox.drop_sub(sub);
+        remove_number(&mut self.subs, sub);
+    }
+
+    /// The grain leaves memory: what waits and what runs is lost. Gives how many deliveries that are. The
+    /// activation's number stays, and so do the subscriptions. It takes no memory.
+    pub fn deactivate(&mut self) -> usize
+        ensures state { self.new ≡ deactivated self.old }
+        ensures lost { result ≡ lost self.old }
+    {
+        let lost = self.mailbox.as_slice().len() + running_count(&self.running);
+        self.is_active = false;
+        self.mailbox.clear();
+        self.running = None;
+        lost
+    }
+}
+
+/// Whether the turn that runs is one of this subscription.
+fn runs(running: &Option<RunningTurn>, sub: usize) -> bool
+    ensures { result ≡ runs sub running.now }
+{
+    match running {
+        Some(run) => sub == run.sub,
+        None => false,
+    }
+}
+
+/// Whether the turn that runs is this turn of this activation, where the own activation has this number.
+fn is_turn(running: &Option<RunningTurn>, own: u64, activation: u64, turn: u64) -> bool
+    ensures { result ≡ is_turn own activation turn running.now }
+{
+    match running {
+        Some(run) => activation == own && turn == run.turn,
+        None => false,
+    }
+}
+
+/// How many events run.
+fn running_count(running: &Option<RunningTurn>) -> usize
+    ensures count { result ≡ running_count running.now }
+    ensures bound { result ≤ 16 }
+{
+    match running {
+        Some(run) => run.positions.len(),
+        None => 0,
+    }
+}

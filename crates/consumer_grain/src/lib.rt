@@ -1,0 +1,25 @@
+//! What a partition keeps of its consumers: how far each subscription is, and each grain's mailbox and
+//! turn (Orleans: *Streaming*, subscriptions and sequence tokens; *Grains*, turns of one grain).
+//!
+//! A subscription goes by the number of its record, and an event by its position in the log. What is kept is
+//! in the memory of one process: nothing is claimed of what is lost when the process ends.
+#![tactic(auto)]
+
+mod activation;
+#[cfg(test)]
+mod activation_tests;
+mod delivery;
+mod front;
+mod mailbox;
+mod numbers;
+mod sub_state;
+#[cfg(test)]
+mod sub_state_tests;
+mod told;
+mod turn;
+
+pub use activation::Activation;
+pub use delivery::Delivery;
+pub use sub_state::SubState;
+pub use told::{Begun, Offered, TurnEnd};
+pub use turn::RunningTurn;

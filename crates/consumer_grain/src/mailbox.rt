@@ -1,0 +1,116 @@
+//! Mailboxes.
+ghost use Rattle.std.specs.Prelude.{◌≡◌, ◌+◌, ◌^◌, ◌<◌, ◌≤◌, [], ◌∷◌, ◌++◌, ◌==◌, not, length, drop, filter, nat_le, vec_capacity, All, IfOk};
+ghost use Rattle.std.specs.List.{list_any};
+ghost use Rattle.consumer_grain.specs.declared.delivery.Delivery.{Delivery};
+
+use crate::delivery::Delivery;
+use std::alloc::{AllocError, Global};
+use std::marker::Model;
+
+/// How many deliveries wait at most.
+const PLACES: usize = 16;
+
+/// The deliveries that wait for a grain, at most sixteen, the oldest first.
+///
+/// A contract sees it as the list of them. Its places are taken once, when it is made, so that nothing
+/// after that takes memory.
+#[derive(Debug, Drop)]
+pub struct Mailbox {
+    deliveries: Vec<Delivery>,
+}
+
+impl Model for Mailbox {
+    ghost use Rattle.std.specs.Prelude.{List, ◌+◌, ◌^◌, ◌<◌, ◌≤◌, length, vec_capacity, All};
+    ghost use Rattle.consumer_grain.specs.declared.delivery.Delivery.{Delivery};
+    ghost use Rattle.consumer_grain.specs.Mailboxes.{IsMailbox};
+
+    ghost Value = { List Delivery };
+
+    ghost view = { λ m. m.deliveries.items };
+
+    ghost invariant = { λ m. (16 ≤ vec_capacity m.deliveries) × IsMailbox m.deliveries.items };
+}
+
+impl Mailbox {
+    /// A mailbox in which nothing waits.
+    ///
+    /// # Errors
+    /// Memory for its places.
+    pub fn new(alloc: Global) -> Result<Mailbox, AllocError>
+        ensures { IfOk result (λ mailbox. mailbox ≡ []) }
+    {
+        Ok(Mailbox {
+            deliveries: Vec::with_capacity(alloc, PLACES)?,
+        })
+    }
+
+    /// Whether no place is left.
+    pub fn is_full(&self) -> bool
+        ensures { result ≡ nat_le 16 (length self.now) }
+    {
+        self.deliveries.len() >= PLACES
+    }
+
+    /// The deliveries, the oldest first.
+    pub fn as_slice(&self) -> &[Delivery]
+        ensures deliveries { result.now ≡ self.now }
+        ensures few { length self.now ≤ 16 }
+        ensures room { All (λ d. d.position + 1 < 2 ^ 64) self.now }
+    {
+        self.deliveries.as_slice()
+    }
+
+    /// Adds a delivery behind the others.
+    pub fn push(&mut self, delivery: Delivery)
+        requires place { length self.old < 16 }
+        requires room { delivery.position + 1 < 2 ^ 64 }
+        ensures { self.new ≡ self.old ++ delivery ∷ [] }
+    {
+        self.deliveries.push_reserved(delivery);
+    }
+
+    /// Takes the oldest `count` deliveries out, or all where there are fewer.
+    pub fn drop_front(&mut self, count: usize)
+        ensures { self.new ≡ drop count self.old }
+    {
+        drop_front(&mut self.deliveries, count);
+    }
+
+    /// Takes the deliveries of a subscription out.
+    pub fn drop_sub(&mut self, sub: usize)
+        ensures { self.new ≡ filter (λ d. not (sub == d.sub)) self.old }
+    {
+        keep_others(&mut self.deliveries, sub);
+    }
+
+    /// Takes all deliveries out.
+    pub fn clear(&mut self)
+        ensures { self.new ≡ [] }
+    {
+        self.deliveries.clear();
+    }
+}
+
+/// Takes the first `count` deliveries out, or all where there are fewer.
+fn drop_front(deliveries: &mut Vec<Delivery>, count: usize)
+    ensures items { deliveries.new.items ≡ drop count deliveries.old.items }
+    ensures capacity { vec_capacity deliveries.new ≡ vec_capacity deliveries.old }
+{
+    let count = count.min(deliveries.len());
+    let _ = deliveries.drain(..count);
+}
+
+/// Keeps the deliveries of other subscriptions, in their order.
+fn keep_others(deliveries: &mut Vec<Delivery>, sub: usize)
+    ensures items { deliveries.new.items ≡ filter (λ d. not (sub == d.sub)) deliveries.old.items }
+    ensures capacity { vec_capacity deliveries.new ≡ vec_capacity deliveries.old }
+{
+    deliveries.retain(|delivery| sub != delivery.sub);
+}
+
+/// Whether one of the deliveries is of this subscription.
+pub fn has_sub(deliveries: &[Delivery], sub: usize) -> bool
+    ensures { result ≡ list_any (λ (d : Delivery). sub == d.sub) deliveries.now }
+{
+    deliveries.iter().any(|delivery| sub == delivery.sub)
+}

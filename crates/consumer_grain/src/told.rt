@@ -1,0 +1,42 @@
+//! What an activation answers.
+
+use crate::delivery::Delivery;
+use stream_ident::Row;
+
+/// What becomes of a delivery that is offered to a grain.
+#[derive(Clone, Copy, Debug, PartialEq, Eq)]
+pub enum Offered {
+    /// It waits in the mailbox, as the last one, and the grain is active.
+    Delivered,
+    /// Refused: sixteen deliveries wait already. Nothing has changed.
+    MailboxFull,
+}
+
+/// What a grain begins with.
+#[derive(Debug, Drop)]
+pub enum Begun {
+    /// Refused: a turn runs already. Nothing has changed.
+    Busy,
+    /// Nothing waits, or the grain isn't active. Nothing has changed.
+    Empty,
+    /// The front delivery was handled before: it has left the mailbox, alone, and no turn has begun.
+    Dropped(Delivery),
+    /// Refused: no number is left for a turn. Nothing has changed.
+    Spent,
+    /// A turn runs, and its deliveries have left the mailbox.
+    Turn {
+        /// The number of the record of the subscription whose events it has.
+        sub: usize,
+        /// The positions of its events, 1 to 16 that rise.
+        positions: Row<usize>,
+    },
+}
+
+/// What becomes of a turn that is to end.
+#[derive(Clone, Copy, Debug, PartialEq, Eq)]
+pub enum TurnEnd {
+    /// It ran, and runs no longer.
+    Ended,
+    /// Refused: no turn runs, or another one, or one of another activation. Nothing has changed.
+    Stale,
+}

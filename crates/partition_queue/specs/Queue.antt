@@ -1,0 +1,61 @@
+-- The log of a partition as plain data, and what a publish does to it.
+use Rattle.std.specs.Prelude.{◌≡◌, ℕ, suc, ◌+◌, ◌<◌, ◌≤◌, Bool, true, false, ◌||◌, ◌==◌, nat_lt, List, [], ◌++◌, length, get_or, map, take, drop, ◌-◌, Result, Ok, Err, if◌then◌else◌}
+use Rattle.std.specs.declared.alloc.AllocError.{AllocError}
+use Rattle.stream_ident.specs.declared.event.Event.{Event}
+use Rattle.stream_ident.specs.declared.ident.StreamId.{StreamId}
+use Rattle.stream_ident.specs.declared.token.Token.{Token}
+use Rattle.stream_ident.specs.Event.{batch_token, events_of, no_event}
+use Rattle.stream_ident.specs.Token.{token_lt}
+use Rattle.partition_queue.specs.declared.appended.Appended.{Appended}
+use Rattle.partition_queue.specs.declared.appended.Appended.TheVariants.{Accepted, BadBatch, QueueFull}
+
+-- the events in the order of the queue, how many batches were accepted, and how many events there may be
+pub record PlainQueue : Type 0 where
+  pub events : List Event
+  pub batches : ℕ
+  pub limit : ℕ
+
+-- before the first publish
+abbrev pub empty : ℕ → PlainQueue
+empty limit = record { events = []; batches = 0; limit = limit }
+
+-- the event at a position
+abbrev pub event_at : PlainQueue → ℕ → Event
+event_at q position = get_or q.events position no_event
+
+-- the token at a position, and at the end that of the next batch
+abbrev pub token_at : PlainQueue → ℕ → Token
+token_at q position = get_or (map (λ event. event.token) q.events) position (batch_token q.batches)
+
+-- the events from one position up to another
+abbrev pub between : PlainQueue → ℕ → ℕ → List Event
+between q from to = take (to - from) (drop from q.events)
+
+-- A batch has 1 to 64 payloads.
+abbrev pub append : PlainQueue → StreamId → List (List ℕ) → PlainQueue × Appended
+append q stream payloads =
+    if (length payloads == 0) || nat_lt 64 (length payloads) then (q, BadBatch)
+    else if nat_lt q.limit (length q.events + length payloads) then (q, QueueFull)
+    else (record { events = q.events ++ events_of stream q.batches 0 payloads; batches = suc q.batches; limit = q.limit }, Accepted q.batches)
+
+-- Only a batch that is accepted may want memory.
+abbrev pub takes_memory : Appended → Bool
+takes_memory (Accepted seq) = true
+takes_memory _ = false
+
+-- a call did what the definition says, or memory was wanting and nothing has changed
+abbrev pub Performs : PlainQueue → PlainQueue → Result Appended AllocError → PlainQueue × Appended → Type 0
+Performs old new (Ok told) stepped = (new, told) ≡ stepped
+Performs old new (Err e) stepped = new ≡ old
+
+-- Tokens rise along the queue, and each is of a batch that was accepted.
+pub record TokensRise (q : PlainQueue) : Type 0 where
+  pub rising : (i j : ℕ) → i < j → j < length q.events → token_lt (event_at q i).token (event_at q j).token ≡ true
+  pub accepted : (i : ℕ) → i < length q.events → (event_at q i).token.seq < q.batches
+
+-- what is so of every queue
+pub record IsLog (q : PlainQueue) : Type 0 where
+  pub within : length q.events ≤ q.limit
+  pub limit : q.limit ≤ 1000000
+  pub batches : q.batches ≤ length q.events
+  pub tokens : TokensRise q

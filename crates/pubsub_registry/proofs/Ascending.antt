@@ -1,0 +1,66 @@
+-- Rows of names from the least to the greatest, with a name put in and with names taken out.
+use Rattle.std.proofs.Common.{◌≡◌, ℕ, zero, suc, ◌≤◌, Bool, true, false, List, [], ◌∷◌, ◌++◌, length, take, drop, get_or, filter, insert, if◌then◌else◌, refl, sym, ap, subst, arith, All, Contains}
+use Rattle.std.proofs.lemmas.List.Elements.{All-nil, All-cons, All-head, All-tail, All-append, All-take, All-drop, All-filter, Contains-get_or}
+use Rattle.std.proofs.lemmas.Bool.{false_from_ne_true}
+use Rattle.stream_ident.specs.SubName.{same_sub, sub_lt}
+use Rattle.stream_ident.specs.declared.ident.SubName.{SubName}
+use Rattle.pubsub_registry.specs.Ascending.{IsAscending, IsPlaceOf}
+use Rattle.pubsub_registry.specs.Registry.{Rises}
+use Rattle.pubsub_registry.proofs.NameOrder.{same_sub-equal, sub_lt-trans, sub_lt-other}
+
+All-insert : (P : SubName → Type 0) (names : List SubName) (at : ℕ) (s : SubName) → All P names → P s → All P (insert names at s)
+All-insert P names at s all here =
+    All-append P (take at names) (s ∷ drop at names) (All-take P at names all) (All-cons P s (drop at names) here (All-drop P at names all))
+
+pub ascending-insert : (names : List SubName) (s : SubName) (at : ℕ) → IsAscending names → IsPlaceOf names s at → IsAscending (insert names at s)
+ascending-insert names s zero ascending place = (place.after, ascending)
+ascending-insert [] s (suc at) ascending place = absurd (let no = place.within in omega arith)
+ascending-insert (x ∷ xs) s (suc at) ascending place =
+    let first = All-head (λ a. sub_lt a s ≡ true) x (take at xs) place.before in
+    let within : at ≤ length xs = let more = place.within in omega arith in (
+      All-insert (λ b. sub_lt x b ≡ true) xs at s ascending.0 first,
+      ascending-insert xs s at ascending.1
+          (record { within = within; before = All-tail (λ a. sub_lt a s ≡ true) x (take at xs) place.before; after = place.after }),
+    )
+
+pub ascending-filter : (test : SubName → Bool) (names : List SubName) → IsAscending names → IsAscending (filter test names)
+ascending-filter test [] ascending = tt
+ascending-filter test (x ∷ xs) ascending =
+    elim (test x) as (λ b. IsAscending (if b then x ∷ filter test xs else filter test xs)) [
+      | true ↦ (All-filter test (λ b. sub_lt x b ≡ true) xs ascending.0, ascending-filter test xs ascending.1)
+      | false ↦ ascending-filter test xs ascending.1
+    ]
+
+rises-at : (before after : List SubName) (a b : SubName) → IsAscending (before ++ a ∷ (b ∷ after)) → sub_lt a b ≡ true
+rises-at [] after a b ascending = All-head (λ b. sub_lt a b ≡ true) b after ascending.0
+rises-at (x ∷ xs) after a b ascending = rises-at xs after a b ascending.1
+
+pub rises : (names : List SubName) → IsAscending names → Rises names
+rises names ascending before after a b is = rises-at before after a b (subst IsAscending is ascending)
+
+-- the names in front of a place are less than s where the last of them is
+all-before : (names : List SubName) (s : SubName) (at : ℕ) → IsAscending names → at ≤ length names
+    → ((k : ℕ) → suc k ≡ at → sub_lt (get_or names k s) s ≡ true) → All (λ a. sub_lt a s ≡ true) (take at names)
+all-before names s zero ascending within last = All-nil (λ a. sub_lt a s ≡ true)
+all-before [] s (suc at) ascending within last = absurd (omega arith)
+all-before (x ∷ xs) s (suc at) ascending within last =
+    let rest : at ≤ length xs = omega arith in
+    All-cons (λ a. sub_lt a s ≡ true) x (take at xs) (first at rest last)
+    (all-before xs s at ascending.1 rest (λ k is. last (suc k) (ap suc is)))
+  where
+    first : (at : ℕ) → at ≤ length xs → ((k : ℕ) → suc k ≡ suc at → sub_lt (get_or (x ∷ xs) k s) s ≡ true) → sub_lt x s ≡ true
+    first zero rest last = last zero refl
+    first (suc m) rest last =
+        sub_lt-trans x (get_or xs m s) s (ascending.0 m s (omega arith)) (last (suc m) refl)
+
+-- where the walk from the end stops
+pub place-from : (names : List SubName) (s : SubName) (at : ℕ) → IsAscending names → (Contains names s → ⊥) → at ≤ length names
+    → All (λ b. sub_lt s b ≡ true) (drop at names) → ((k : ℕ) → suc k ≡ at → sub_lt s (get_or names k s) ≡ false) → IsPlaceOf names s at
+place-from names s at ascending new within after last = record {
+  within = within;
+  before = all-before names s at ascending within (λ k is.
+      let there : Contains names (get_or names k s) = Contains-get_or names k s (omega arith) in
+      sub_lt-other s (get_or names k s) (last k is)
+      (false_from_ne_true (same_sub s (get_or names k s)) (λ same. new (subst (Contains names) (sym (same_sub-equal s (get_or names k s) same)) there))));
+  after = after;
+}

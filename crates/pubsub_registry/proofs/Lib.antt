@@ -1,0 +1,9 @@
+pub mod Ascending
+pub mod Elements
+pub mod Entries
+pub mod IndexLemmas
+pub mod NameOrder
+pub mod RowLemmas
+pub mod RuleLemmas
+pub mod SoundLemmas
+pub mod SubsLemmas

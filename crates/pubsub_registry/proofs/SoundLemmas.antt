@@ -1,0 +1,85 @@
+-- Registries that are sound after a change of the subscriptions.
+use Rattle.std.proofs.Common.{◌≡◌, ◌∙◌, ℕ, ◌+◌, ◌≤◌, ◌<◌, false, [], ◌∷◌, ◌++◌, length, take, drop, Option, Some, None, refl, sym, ap, subst, arith, Contains, length-append}
+use Rattle.std.specs.Prelude.{◌⊎◌}
+use Rattle.std.specs.List.{take-map}
+use Rattle.std.specs.Map.{lookup}
+use Rattle.std.proofs.lemmas.Bool.{leb-false}
+use Rattle.std.proofs.lemmas.List.{take-append-drop}
+use Rattle.std.proofs.lemmas.List.Elements.{Contains-append_left, Contains-push_cases}
+use mathlib.Core.Logic.{inl, inr}
+use Rattle.stream_ident.specs.SubName.{same_sub}
+use Rattle.stream_ident.specs.Words.{changed_value, value_at}
+use Rattle.stream_ident.specs.declared.ident.StreamId.{StreamId}
+use Rattle.stream_ident.specs.declared.ident.SubName.{SubName}
+use Rattle.stream_ident.specs.declared.ident.SubName.TheVariants as name
+use Rattle.pubsub_registry.specs.Index.{streams_of}
+use Rattle.pubsub_registry.specs.Registry.{PlainRegistry, is_full, shut}
+use Rattle.pubsub_registry.specs.Sound.{IsSound}
+use Rattle.pubsub_registry.specs.declared.registration.Registration.{Registration}
+use Rattle.pubsub_registry.proofs.Entries.{Names, streams_of-found, streams_of-shut, length-shut}
+use Rattle.pubsub_registry.proofs.IndexLemmas.{Same, name-of, streams_of-push}
+
+-- each explicit number is at most this one
+abbrev IsNumbered : Names → ℕ → Type 0
+IsNumbered names most = (number : ℕ) (stream : StreamId) → Contains (streams_of names) (name.Explicit number, stream) → number ≤ most
+
+-- a greater number was not given
+pub new-number : (r : PlainRegistry) → IsSound r → (number : ℕ) → r.explicit < number → value_at same_sub (name.Explicit number) r.names ≡ None
+new-number r sound number greater = by (lookup (same_sub (name.Explicit number)) r.names) refl
+  where
+    by : (found : Option Registration) → lookup (same_sub (name.Explicit number)) r.names ≡ found → lookup (same_sub (name.Explicit number)) r.names ≡ None
+    by None is = is
+    by (Some registration) is =
+        let within : number ≤ r.explicit = sound.numbered number registration.stream (streams_of-found r.names (name.Explicit number) registration is) in
+        absurd (omega arith)
+
+numbered-push : (names : Names) (s : SubName) (registration : Registration) (most more : ℕ) → IsNumbered names most → most ≤ more
+    → ((number : ℕ) → s ≡ name.Explicit number → number ≤ more) → IsNumbered (names ++ (s, registration) ∷ []) more
+numbered-push names s registration most more numbered rises own number stream there =
+    by (Contains-push_cases (streams_of names) (s, registration.stream) (name.Explicit number, stream) (subst (λ streams. Contains streams (name.Explicit number, stream)) (streams_of-push names s registration) there))
+  where
+    by : Contains (streams_of names) (name.Explicit number, stream) ⊎ Same s registration.stream (name.Explicit number) stream → number ≤ more
+    by (inl before) = let within : number ≤ most = numbered number stream before in omega arith
+    by (inr same) = own number (name-of s (name.Explicit number) registration.stream stream same)
+
+module _ (r : PlainRegistry) (sound : IsSound r) where
+  -- one more subscription
+  pub sound-push : is_full r ≡ false → (names : Names) (explicit : ℕ) (s : SubName) (registration : Registration) → names ≡ r.names ++ (s, registration) ∷ [] → r.explicit ≤ explicit
+      → ((number : ℕ) → s ≡ name.Explicit number → number ≤ explicit) → IsSound (record r { names = names; explicit = explicit })
+  sound-push room names explicit s registration is rises own =
+      let below : length r.names < r.most_names = leb-false _ _ room in
+      let more : length names ≡ length r.names + 1 = ap length is ∙ length-append r.names ((s, registration) ∷ []) in
+      record {
+        names_fit = omega (arith, more);
+        few_names = sound.few_names;
+        rules_fit = sound.rules_fit;
+        few_rules = sound.few_rules;
+        numbered = subst (λ names. IsNumbered names explicit) (sym is) (numbered-push r.names s registration r.explicit explicit sound.numbered rises own);
+      }
+
+  -- one is closed
+  pub sound-shut : (names : Names) (s : SubName) → names ≡ changed_value same_sub s shut r.names → IsSound (record r { names = names })
+  sound-shut names s is = record {
+    names_fit = let same = ap length is ∙ length-shut r.names s in let fits = sound.names_fit in omega (arith, same);
+    few_names = sound.few_names;
+    rules_fit = sound.rules_fit;
+    few_rules = sound.few_rules;
+    numbered = λ number stream there. sound.numbered number stream (subst (λ streams. Contains streams (name.Explicit number, stream)) (ap streams_of is ∙ streams_of-shut r.names s) there);
+  }
+
+  -- the last ones are taken back
+  pub sound-take : (names : Names) (len : ℕ) → names ≡ take len r.names → IsSound (record r { names = names })
+  sound-take names len is =
+      let parts : length (take len r.names) + length (drop len r.names) ≡ length r.names = sym (length-append (take len r.names) (drop len r.names)) ∙ ap length (take-append-drop len r.names) in
+      let same = ap length is in
+      let fits = sound.names_fit in
+      let streams = ap streams_of is ∙ sym (take-map (λ (entry : SubName × Registration). (entry.0, entry.1.stream)) len r.names) in
+      record {
+        names_fit = omega (arith, parts, same);
+        few_names = sound.few_names;
+        rules_fit = sound.rules_fit;
+        few_rules = sound.few_rules;
+        numbered = λ number stream there. sound.numbered number stream
+            (subst (λ streams. Contains streams (name.Explicit number, stream)) (take-append-drop len (streams_of r.names))
+            (Contains-append_left (take len (streams_of r.names)) (drop len (streams_of r.names)) (name.Explicit number, stream) (subst (λ streams. Contains streams (name.Explicit number, stream)) streams there)));
+      }

@@ -1,0 +1,14 @@
+use Rattle.std.proofs.Common.{◌≡◌, ◌∙◌, ◌+◌, false, sym, subst, arith}
+use Rattle.stream_ident.specs.declared.ident.SubName.TheVariants.{Explicit}
+use Rattle.pubsub_registry.specs.Registry.{PlainRegistry, is_full}
+use Rattle.pubsub_registry.proofs.SoundLemmas.{new-number, sound-push}
+use Rattle.pubsub_registry.proofs.registry.Registry.add.Goals as goal
+
+pub push-requires : goal.push-requires
+push-requires c = new-number _ c.self.invariant (c.self.inside.explicit + 1) (omega arith)
+
+pub invariant_of-self-2 : goal.invariant_of-self-2
+invariant_of-self-2 c =
+    let room = subst (λ (r : PlainRegistry). is_full r ≡ false) (sym c.self.view_is) (sym c.is_full.ensures ∙ c.if-is_full.false) in
+    sound-push _ c.self.invariant room c.push.new.self (c.self.inside.explicit + 1) (Explicit (c.self.inside.explicit + 1)) c.opened-registration.result c.in_ok-push.ensures.ok (omega arith)
+    (λ number is. let same : c.self.inside.explicit + 1 ≡ number = cc in omega (arith, same))

@@ -1,0 +1,5 @@
+pub mod Ascending
+pub mod Index
+pub mod Registry
+pub mod Rows
+pub mod Sound

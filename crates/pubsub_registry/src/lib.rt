@@ -1,0 +1,20 @@
+//! The subscriptions and rules of one partition of a stream provider, as a pub-sub system keeps them
+//! (Orleans: *Streaming, quickstart*, explicit and implicit subscriptions): each subscription under its
+//! name, the names of a stream's subscriptions, and the rules on a stream's namespace.
+//!
+//! It is a value in the memory of one process. Nothing is claimed of how fast a call is.
+#![tactic(auto)]
+
+mod place;
+mod registration;
+mod registry;
+mod rows;
+mod rules;
+mod subscriptions;
+#[cfg(test)]
+mod tests;
+mod told;
+
+pub use registration::Registration;
+pub use registry::Registry;
+pub use told::{Added, Closing, Implied, RuleAdded};

@@ -1,0 +1,46 @@
+//! The replies of a registry. Each refusal leaves the registry as it was.
+
+/// What a grain that subscribes is told.
+#[derive(Clone, Copy, Debug, PartialEq, Eq)]
+pub enum Added {
+    /// The subscription is there, and open.
+    Added {
+        /// Its number: 1 for the first that a grain makes in the partition, and one more each time.
+        number: u32,
+    },
+    /// There are as many subscriptions as there may be, closed and implicit ones counted.
+    TooMany,
+}
+
+/// What becomes of a subscription that a rule makes of a stream.
+#[derive(Clone, Copy, Debug, PartialEq, Eq)]
+pub enum Implied {
+    /// The subscription is there, and open.
+    Implied,
+    /// There are as many subscriptions as there may be, closed and explicit ones counted.
+    TooMany,
+}
+
+/// What a grain that unsubscribes is told.
+#[derive(Clone, Copy, Debug, PartialEq, Eq)]
+pub enum Closing {
+    /// The subscription is closed.
+    Done,
+    /// No subscription has this name.
+    NoSuch,
+    /// An implicit subscription isn't closed.
+    Implicit,
+    /// It was closed before.
+    Closed,
+}
+
+/// What becomes of a rule.
+#[derive(Clone, Copy, Debug, PartialEq, Eq)]
+pub enum RuleAdded {
+    /// The rule is there, behind the others.
+    Added,
+    /// A rule for this kind and namespace is there, from whatever batch on.
+    RuleThere,
+    /// There are as many rules as there may be.
+    TooMany,
+}

@@ -1,0 +1,2 @@
+pub mod Agent
+pub mod Handled

@@ -1,0 +1,46 @@
+-- The cache of a queue as plain data.
+use Rattle.std.specs.Prelude.{ℕ, ◌+◌, ◌-◌, ◌*◌, ◌/◌, List, [], ◌++◌, length, get_or, map, take, drop}
+use Rattle.stream_ident.specs.declared.event.Event.{Event}
+use Rattle.stream_ident.specs.Event.{no_event}
+use Rattle.queue_mapper.specs.Place.{tag_of}
+
+-- the events that it keeps, the position of the first of them, and how many blocks of 64 it has room for
+pub record PlainCache : Type 0 where
+  pub events : List Event
+  pub low : ℕ
+  pub blocks : ℕ
+
+-- empty, at a position
+abbrev pub empty : ℕ → ℕ → PlainCache
+empty blocks at = record { events = []; low = at; blocks = blocks }
+
+-- one past the position of the last event
+abbrev pub high : PlainCache → ℕ
+high c = c.low + length c.events
+
+-- how many more events it takes
+abbrev pub room : PlainCache → ℕ
+room c = 64 * c.blocks - length c.events
+
+abbrev pub event_at : PlainCache → ℕ → Event
+event_at c position = get_or c.events (position - c.low) no_event
+
+-- with these events at the end
+abbrev pub with_events : PlainCache → List Event → PlainCache
+with_events c events = record c { events = c.events ++ events }
+
+-- without the first block
+abbrev pub without_front : PlainCache → PlainCache
+without_front c = record c { events = drop 64 c.events; low = c.low + 64 }
+
+-- how many blocks hold events; a part of a block counts as one
+abbrev pub block_count : PlainCache → ℕ
+block_count c = (length c.events + 63) / 64
+
+-- the events of a block
+abbrev pub block_events : PlainCache → ℕ → List Event
+block_events c index = take 64 (drop (64 * index) c.events)
+
+-- the tag of each event's stream
+abbrev pub tags_of : List Event → List ℕ
+tags_of events = map (λ event. tag_of event.stream) events
