@@ -19,7 +19,7 @@ use stream_ident::{GrainId, Name, Rule, StreamId, SubName, Token};
 /// A contract sees it as the registrations by name in the order in which they were made, the number of
 /// the last explicit one, the rules in the order in which they were added, and how many of each there may
 /// be. Its room in memory is no part of it.
-#[derive(Drop)]
+#[derive(Debug, Drop)]
 pub struct Registry {
     subscriptions: Subscriptions,
     rules: Rules,

@@ -13,7 +13,7 @@ use stream_ident::{Name, Rule};
 /// The rules in the order in which they were added, with those on each namespace.
 ///
 /// A contract sees it as the rules, in that order.
-#[derive(Drop)]
+#[derive(Debug, Drop)]
 pub(crate) struct Rules {
     rules: Vec<Rule>,
     by_namespace: IndexMap<Name, Vec<Rule>>,

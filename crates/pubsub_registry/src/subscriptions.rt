@@ -18,7 +18,7 @@ use stream_ident::{StreamId, SubName};
 /// The subscriptions by name, in the order in which they were made, with the names of each stream.
 ///
 /// A contract sees it as the names with their registrations, in that order.
-#[derive(Drop)]
+#[derive(Debug, Drop)]
 pub(crate) struct Subscriptions {
     names: IndexMap<SubName, Registration>,
     by_stream: IndexMap<StreamId, Vec<SubName>>,

@@ -1,5 +1,5 @@
 -- What a drain leaves is what a legal history leads to.
-use Rattle.std.proofs.Common.{◌≡◌, ◌++◌, sym, subst, ◌∙◌, Option, Some, None, Result, Ok, Err}
+use Rattle.std.proofs.Common.{◌≡◌, ◌++◌, sym, subst, ◌∙◌, Option, None, Result, Ok, Err}
 use Rattle.std.specs.declared.alloc.AllocError.{AllocError}
 use Rattle.stream_model.specs.declared.drain_end.DrainEnd.{DrainEnd}
 use Rattle.stream_model.specs.declared.plain.PlainPartition.{PlainPartition}

@@ -1,15 +1,14 @@
 -- What a history says, from its operations and replies alone. Here a history stands with its newest entry
 -- first, so that the entries before an entry are the rest of the list.
-use Rattle.std.specs.Prelude.{ℕ, suc, Bool, false, ◌&&◌, ◌||◌, not, List, [], ◌∷◌, ◌++◌, Option, Some, None, filter, ◌==◌, if◌then◌else◌}
+use Rattle.std.specs.Prelude.{ℕ, suc, Bool, false, ◌&&◌, ◌||◌, List, [], ◌∷◌, ◌++◌, Option, Some, None, filter, ◌==◌, if◌then◌else◌}
 use Rattle.stream_ident.specs.declared.event.Event.{Event}
 use Rattle.stream_ident.specs.declared.ident.StreamId.{StreamId}
 use Rattle.stream_ident.specs.declared.ident.SubName.{SubName}
 use Rattle.stream_ident.specs.declared.ident.SubName.TheVariants as name
 use Rattle.stream_ident.specs.declared.token.Token.{Token}
-use Rattle.stream_ident.specs.Name.{same_name, same_stream}
+use Rattle.stream_ident.specs.Name.{same_name}
 pub use Rattle.stream_ident.specs.Event.{batch_token, events_of, is_owed}
 use Rattle.stream_ident.specs.SubName.{same_sub}
-use Rattle.stream_ident.specs.Token.{token_lt}
 use Rattle.stream_model.specs.declared.op.Op.{Op}
 use Rattle.stream_model.specs.declared.op.Op.TheVariants.{Publish, Subscribe, Unsubscribe, AddRule, Commit}
 use Rattle.stream_model.specs.declared.op.Start.{Start}
