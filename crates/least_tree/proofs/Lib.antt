@@ -1,0 +1,6 @@
+pub mod Doubled
+pub mod KeyLemmas
+pub mod LeafLemmas
+pub mod RemoveLemmas
+pub mod SettleLemmas
+pub mod TreeLemmas

@@ -1,0 +1,38 @@
+-- Keys in a row, none at a place that has nothing, and what is asked of them.
+use Rattle.std.specs.Prelude.{ℕ, suc, Bool, false, List, [], ◌∷◌, ◌++◌, take, drop, Option, Some, None, nat_le, min}
+use Rattle.stream_ident.specs.Words.{first_at}
+
+abbrev pub lesser_key : Option ℕ → Option ℕ → Option ℕ
+lesser_key None other = other
+lesser_key (Some key) None = Some key
+lesser_key (Some key) (Some other) = Some (min key other)
+
+-- the least key, none where there is none
+abbrev pub least_key : List (Option ℕ) → Option ℕ
+least_key [] = None
+least_key (key ∷ keys) = lesser_key key (least_key keys)
+
+-- there is a key, and it is at most this
+abbrev pub is_at_most : ℕ → Option ℕ → Bool
+is_at_most bound None = false
+is_at_most bound (Some key) = nat_le key bound
+
+-- the least place at or past this one whose key is at most the bound
+abbrev pub first_at_most : ℕ → ℕ → List (Option ℕ) → Option ℕ
+first_at_most from bound keys = first_at (is_at_most bound) from (drop from keys)
+
+-- the least place of the least key
+abbrev pub place_of_least : Option ℕ → List (Option ℕ) → Option ℕ
+place_of_least None keys = None
+place_of_least (Some key) keys = first_at_most 0 key keys
+
+abbrev pub least_place : List (Option ℕ) → Option ℕ
+least_place keys = place_of_least (least_key keys) keys
+
+-- with a key at a place, and those from there on one further
+abbrev pub inserted : ℕ → Option ℕ → List (Option ℕ) → List (Option ℕ)
+inserted place key keys = take place keys ++ key ∷ drop place keys
+
+-- without the key at a place, and those past it one back
+abbrev pub removed : ℕ → List (Option ℕ) → List (Option ℕ)
+removed place keys = take place keys ++ drop (suc place) keys
