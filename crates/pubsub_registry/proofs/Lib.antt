@@ -1,6 +1,10 @@
 pub mod Ascending
 pub mod Elements
 pub mod Entries
+pub mod ImpliedLists
+pub mod ImpliedNames
+pub mod ImpliedSound
+pub mod ImpliedSteps
 pub mod IndexLemmas
 pub mod NameOrder
 pub mod RowLemmas

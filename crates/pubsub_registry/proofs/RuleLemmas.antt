@@ -8,7 +8,7 @@ use Rattle.stream_ident.specs.Name.{same_name}
 use Rattle.stream_ident.specs.declared.rule.Rule.{Rule}
 use Rattle.pubsub_registry.proofs.NameOrder.{same_name-equal, same_name-refl}
 
-abbrev on : List ℕ → List Rule → List Rule
+abbrev pub on : List ℕ → List Rule → List Rule
 on namespace rules = filter (λ (rule : Rule). same_name namespace rule.namespace) rules
 
 pub ruled-push : (old new : List ℕ → List Rule) (rules : List Rule) (rule : Rule) (at : ℕ) → ((namespace : List ℕ) → old namespace ≡ on namespace rules) → at ≡ length (old rule.namespace)

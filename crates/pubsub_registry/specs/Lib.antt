@@ -1,4 +1,5 @@
 pub mod Ascending
+pub mod Implying
 pub mod Index
 pub mod Registry
 pub mod Rows

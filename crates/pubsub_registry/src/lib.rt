@@ -1,10 +1,14 @@
 //! The subscriptions and rules of one partition of a stream provider, as a pub-sub system keeps them
 //! (Orleans: *Streaming, quickstart*, explicit and implicit subscriptions): each subscription under its
-//! name, the names of a stream's subscriptions, and the rules on a stream's namespace.
+//! name, the names of a stream's subscriptions, and the rules on a stream's namespace, which make the
+//! implicit subscriptions of the events that an agent pulls.
 //!
 //! It is a value in the memory of one process. Nothing is claimed of how fast a call is.
 #![tactic(auto)]
 
+mod implying;
+#[cfg(test)]
+mod implying_tests;
 mod place;
 mod registration;
 mod registry;

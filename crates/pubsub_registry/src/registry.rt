@@ -21,10 +21,10 @@ use stream_ident::{GrainId, Name, Rule, StreamId, SubName, Token};
 /// be. Its room in memory is no part of it.
 #[derive(Debug, Drop)]
 pub struct Registry {
-    subscriptions: Subscriptions,
-    rules: Rules,
+    pub(crate) subscriptions: Subscriptions,
+    pub(crate) rules: Rules,
     explicit: u32,
-    most_names: usize,
+    pub(crate) most_names: usize,
     most_rules: usize,
 }
 
@@ -243,7 +243,7 @@ impl Registry {
 }
 
 /// The grain of a kind with the stream's key.
-fn implied_grain(kind: Name, stream: &StreamId) -> GrainId
+pub(crate) fn implied_grain(kind: Name, stream: &StreamId) -> GrainId
     ensures { result ≡ record { kind = kind; key = stream.now.key } }
 {
     GrainId {
@@ -253,7 +253,7 @@ fn implied_grain(kind: Name, stream: &StreamId) -> GrainId
 }
 
 /// An open subscription.
-fn opened(stream: StreamId, grain: GrainId, start: Token) -> Registration
+pub(crate) fn opened(stream: StreamId, grain: GrainId, start: Token) -> Registration
     ensures { result ≡ registered stream grain start }
 {
     Registration {

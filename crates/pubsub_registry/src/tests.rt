@@ -3,13 +3,13 @@ use std::alloc::{AllocError, Global};
 use std::process::Abort;
 use stream_ident::{GrainId, Name, Rule, StreamId, SubName, Token};
 
-const START: Token = Token { seq: 3, idx: 1 };
+pub(crate) const START: Token = Token { seq: 3, idx: 1 };
 
-fn name(rt: &impl Abort, bytes: &[u8]) -> Name {
+pub(crate) fn name(rt: &impl Abort, bytes: &[u8]) -> Name {
     Name::new(bytes).expect(rt, "a name")
 }
 
-fn stream(rt: &impl Abort, namespace: &[u8], key: &[u8]) -> StreamId {
+pub(crate) fn stream(rt: &impl Abort, namespace: &[u8], key: &[u8]) -> StreamId {
     StreamId::new(namespace, key).expect(rt, "two names")
 }
 
@@ -17,7 +17,7 @@ fn grain(rt: &impl Abort, kind: &[u8], key: &[u8]) -> GrainId {
     GrainId::new(kind, key).expect(rt, "two names")
 }
 
-fn implicit(kind: &Name, stream: &StreamId) -> SubName {
+pub(crate) fn implicit(kind: &Name, stream: &StreamId) -> SubName {
     SubName::Implicit {
         kind: *kind,
         stream: *stream,
@@ -85,7 +85,7 @@ fn add(
     }
 }
 
-fn add_implied(
+pub(crate) fn add_implied(
     rt: &impl Abort,
     registry: &mut Registry,
     alloc: Global,
@@ -98,7 +98,7 @@ fn add_implied(
     }
 }
 
-fn add_rule(
+pub(crate) fn add_rule(
     rt: &impl Abort,
     registry: &mut Registry,
     alloc: Global,
@@ -264,7 +264,12 @@ fn numbers_stay_given(rt: HostRuntime) {
 }
 
 /// Each read of one registry is that of another.
-fn assert_same(rt: &impl Abort, registry: &Registry, twin: &Registry, stream: &StreamId) {
+pub(crate) fn assert_same(
+    rt: &impl Abort,
+    registry: &Registry,
+    twin: &Registry,
+    stream: &StreamId,
+) {
     let len = registry.len();
     assert_eq!(rt; twin.len(), len);
     assert_eq!(rt; registry.explicit(), twin.explicit());

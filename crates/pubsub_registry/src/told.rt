@@ -12,12 +12,12 @@ pub enum Added {
     TooMany,
 }
 
-/// What becomes of a subscription that a rule makes of a stream.
+/// What becomes of subscriptions that rules make of streams.
 #[derive(Clone, Copy, Debug, PartialEq, Eq)]
 pub enum Implied {
-    /// The subscription is there, and open.
+    /// They are there, and open.
     Implied,
-    /// There are as many subscriptions as there may be, closed and explicit ones counted.
+    /// There would be more subscriptions than there may be, closed and explicit ones counted.
     TooMany,
 }
 

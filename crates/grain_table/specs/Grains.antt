@@ -1,0 +1,47 @@
+-- The grains of a partition, in the order of their first activation, and what is asked of them.
+use Rattle.std.specs.Prelude.{◌≡◌, ℕ, ◌<◌, Bool, true, ◌&&◌, not, List, [], ◌∷◌, ◌++◌, length, get_or, Option, is_some, nat_lt}
+use Rattle.stream_ident.specs.declared.ident.GrainId.{GrainId}
+use Rattle.stream_ident.specs.Name.{same_grain, grain_lt}
+use Rattle.stream_ident.specs.Words.{keys_where, least, next_after, place_of}
+use Rattle.consumer_grain.specs.declared.delivery.Delivery.{Delivery}
+use Rattle.consumer_grain.specs.Activations.{PlainActivation, new_activation, woken}
+
+-- the grains by their numbers, each with its activation
+abbrev pub PlainGrains : Type 0
+PlainGrains = List (GrainId × PlainActivation)
+
+-- the number of a grain
+abbrev pub number_of : PlainGrains → GrainId → Option ℕ
+number_of grains grain = place_of same_grain grain grains
+
+-- a grain more, active, with one delivery
+abbrev pub with_grain : PlainGrains → GrainId → Delivery → PlainGrains
+with_grain grains grain delivery = grains ++ (grain, woken new_activation delivery) ∷ []
+
+-- something waits
+abbrev pub is_waiting : PlainActivation → Bool
+is_waiting a = nat_lt 0 (length a.mailbox)
+
+-- a turn runs
+abbrev pub is_running : PlainActivation → Bool
+is_running a = is_some a.running
+
+-- something waits, and no turn runs
+abbrev pub is_ready : PlainActivation → Bool
+is_ready a = is_waiting a && not (is_running a)
+
+-- the least ready grain after the given one, else the least
+abbrev pub ready_after : PlainGrains → Option GrainId → Option GrainId
+ready_after grains after = next_after grain_lt after (keys_where is_ready grains)
+
+-- the least grain for which something waits, none where nothing does
+abbrev pub least_waiting : PlainGrains → Option GrainId
+least_waiting grains = least grain_lt (keys_where is_waiting grains)
+
+-- the least grain that a turn runs for, none where none runs
+abbrev pub least_running : PlainGrains → Option GrainId
+least_running grains = least grain_lt (keys_where is_running grains)
+
+-- no grain stands under two numbers
+abbrev pub AreDistinct : PlainGrains → Type 0
+AreDistinct grains = (i j : ℕ) (d : GrainId × PlainActivation) → i < length grains → j < length grains → same_grain (get_or grains i d).0 (get_or grains j d).0 ≡ true → i ≡ j

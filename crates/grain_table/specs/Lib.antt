@@ -1,0 +1,3 @@
+pub mod Grains
+pub mod Changes
+pub mod Table

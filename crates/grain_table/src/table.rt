@@ -1,0 +1,260 @@
+//! The table.
+ghost use Rattle.std.specs.Prelude.{◌≡◌, ◌+◌, ◌^◌, ◌<◌, ◌≤◌, ◌↔◌, [], None, true, length, is_ok, IfOk, IfSome, IsTrue, OnErr, if◌then◌else◌};
+ghost use Rattle.std.specs.Option.{option_copied};
+ghost use Rattle.stream_ident.specs.Words.{change_at, past};
+ghost use Rattle.consumer_grain.specs.Activations.{begin, commit, deactivated, forgotten, lost, new_activation, offered, offer_takes_memory, woken};
+ghost use Rattle.consumer_grain.specs.Begins.{RisesFrom};
+ghost use Rattle.consumer_grain.specs.Subscriptions.{rises_from};
+ghost use Rattle.grain_table.specs.Changes.{activation_at, grain_at, OffersAt};
+ghost use Rattle.grain_table.specs.Grains.{least_running, least_waiting, number_of, ready_after, with_grain, AreDistinct};
+
+use crate::order::{
+    first_running, first_waiting, insert_number, mark, next_key, raise, rank_above, rank_of,
+    stands_at,
+};
+use consumer_grain::{Activation, Begun, Delivery, Offered, TurnEnd};
+use least_tree::LeastTree;
+use std::alloc::{AllocError, Global};
+use std::marker::Model;
+use stream_ident::GrainId;
+
+/// The grains that were ever active in a partition, each with its activation.
+///
+/// A grain goes by its number, which is its place in the order of first activation and never changes. A
+/// contract sees the table as the list of the grains with their activations, in that order. The order of
+/// the names, the ready grains in it, and the room that all take in memory are no part of it.
+#[derive(Debug, Drop)]
+pub struct GrainTable {
+    entries: Vec<(GrainId, Activation)>,
+    order: Vec<usize>,
+    ranks: Vec<usize>,
+    ready: LeastTree,
+}
+
+impl Model for GrainTable {
+    ghost use Rattle.grain_table.specs.Grains.{PlainGrains};
+    ghost use Rattle.grain_table.specs.Table.{IsTable};
+
+    ghost Value = { PlainGrains };
+
+    ghost view = { λ t. t.entries.items };
+
+    ghost invariant = { λ t. IsTable t.entries.items t.order.items t.ranks.items t.ready };
+}
+
+impl GrainTable {
+    /// The table of no grain. It takes no memory.
+    pub fn new(alloc: Global) -> GrainTable
+        ensures { result ≡ [] }
+    {
+        GrainTable {
+            entries: Vec::new(alloc),
+            order: Vec::new(alloc),
+            ranks: Vec::new(alloc),
+            ready: LeastTree::new(alloc),
+        }
+    }
+
+    /// How many grains there are. No grain stands under two numbers.
+    pub fn len(&self) -> usize
+        ensures count { result ≡ length self.now }
+        ensures distinct { AreDistinct self.now }
+    {
+        self.entries.len()
+    }
+
+    /// Whether there is no grain.
+    pub fn is_empty(&self) -> bool
+        ensures { IsTrue result ↔ (self.now ≡ []) }
+    {
+        self.entries.is_empty()
+    }
+
+    /// The number of a grain, where it was ever active. It costs the logarithm of the length.
+    pub fn find(&self, grain: &GrainId) -> Option<usize>
+        ensures number { result ≡ number_of self.now grain.now }
+        ensures within { IfSome result (λ number. number < length self.now) }
+    {
+        let entries = self.entries.as_slice();
+        let order = self.order.as_slice();
+        let rank = rank_of(entries, order, grain);
+        if stands_at(entries, order, rank, grain) {
+            Some(order[rank])
+        } else {
+            None
+        }
+    }
+
+    /// The grain with a number.
+    pub fn grain_at(&self, number: usize) -> GrainId
+        requires { number < length self.now }
+        ensures { result ≡ grain_at self.now number }
+    {
+        self.entries[number].0
+    }
+
+    /// The activation of the grain with a number. At most 16 deliveries wait for it, its subscriptions rise,
+    /// and the positions of its turn leave room for the number past the last.
+    pub fn at(&self, number: usize) -> &Activation
+        requires { number < length self.now }
+        ensures activation { result.now ≡ activation_at self.now number }
+        ensures few { length (activation_at self.now number).mailbox ≤ 16 }
+        ensures rising { rises_from 0 (activation_at self.now number).subs ≡ true }
+        ensures room { IfSome (activation_at self.now number).running (λ run. past run.positions < 2 ^ 64) }
+    {
+        let activation = &self.entries[number].1;
+        // What each of these promises is what is promised here.
+        let _waiting = activation.waiting();
+        let _subs = activation.subs();
+        let _running = activation.running();
+        activation
+    }
+
+    /// Adds a grain that was never active: it is active now, with one delivery, whose position leaves room
+    /// for one more. Its number is the length before. It costs a walk over the ranks of all grains, and where
+    /// a row has to grow as much once more.
+    ///
+    /// # Errors
+    /// Memory, and then nothing has changed.
+    pub fn add(
+        &mut self,
+        alloc: Global,
+        grain: GrainId,
+        delivery: Delivery,
+    ) -> Result<(), AllocError>
+        requires absent { number_of self.old grain ≡ None }
+        requires position { delivery.position + 1 < 2 ^ 64 }
+        ensures { self.new ≡ (if is_ok result then with_grain self.old grain delivery else self.old) }
+    {
+        let activation = activated(alloc, delivery)?;
+        self.entries.reserve(1)?;
+        self.order.reserve(1)?;
+        self.ranks.reserve(1)?;
+        let number = self.entries.len();
+        let rank = rank_of(self.entries.as_slice(), self.order.as_slice(), &grain);
+        self.ready.insert(alloc, rank, Some(0))?;
+        insert_number(&mut self.order, rank, number);
+        raise(self.ranks.as_mut_slice(), rank);
+        self.ranks.push_reserved(rank);
+        self.entries.push_reserved((grain, activation));
+        Ok(())
+    }
+
+    /// Offers a delivery to the grain with a number, as `Activation::offer` says. The position of the
+    /// delivery and the number of the activation leave room for one more. It costs what that does, and the
+    /// logarithm of the length.
+    ///
+    /// # Errors
+    /// Memory, and then nothing has changed. It comes only at a delivery that would be taken.
+    pub fn offer(
+        &mut self,
+        alloc: Global,
+        number: usize,
+        delivery: Delivery,
+    ) -> Result<Offered, AllocError>
+        requires number { number < length self.old }
+        requires activation { (activation_at self.old number).number + 1 < 2 ^ 64 }
+        requires position { delivery.position + 1 < 2 ^ 64 }
+        ensures performs { OffersAt number self.old self.new result delivery }
+        ensures memory { OnErr result (offer_takes_memory (offered (activation_at self.old number) delivery).1 ≡ true) }
+    {
+        let offered = self.entries[number].1.offer(alloc, delivery)?;
+        mark(&self.entries, &self.ranks, &mut self.ready, number);
+        Ok(offered)
+    }
+
+    /// Begins a turn of the grain with a number, as `Activation::begin` says. It takes no memory, and costs
+    /// the logarithm of the length.
+    pub fn begin(
+        &mut self,
+        number: usize,
+        past: usize,
+        turn: Option<u64>,
+        max_events: usize,
+    ) -> Begun
+        requires { number < length self.old }
+        ensures grains { self.new ≡ change_at (λ a. (begin a past turn max_events).0) number self.old }
+        ensures begun { result ≡ (begin (activation_at self.old number) past turn max_events).1 }
+        ensures rising { RisesFrom past result }
+    {
+        let begun = self.entries[number].1.begin(past, turn, max_events);
+        mark(&self.entries, &self.ranks, &mut self.ready, number);
+        begun
+    }
+
+    /// Ends a turn of the grain with a number, as `Activation::commit` says. It takes no memory, and costs
+    /// the logarithm of the length.
+    pub fn commit(&mut self, number: usize, activation: u64, turn: u64) -> TurnEnd
+        requires { number < length self.old }
+        ensures grains { self.new ≡ change_at (λ a. (commit a activation turn).0) number self.old }
+        ensures ended { result ≡ (commit (activation_at self.old number) activation turn).1 }
+    {
+        let ended = self.entries[number].1.commit(activation, turn);
+        mark(&self.entries, &self.ranks, &mut self.ready, number);
+        ended
+    }
+
+    /// The deliveries of a subscription leave the mailbox of the grain with a number, as
+    /// `Activation::forget` says. It takes no memory, and costs the logarithm of the length.
+    pub fn forget(&mut self, number: usize, sub: usize)
+        requires { number < length self.old }
+        ensures { self.new ≡ change_at (forgotten sub) number self.old }
+    {
+        self.entries[number].1.forget(sub);
+        mark(&self.entries, &self.ranks, &mut self.ready, number);
+    }
+
+    /// The grain with a number leaves memory, as `Activation::deactivate` says: it gives how many
+    /// deliveries are lost. It takes no memory, and costs the logarithm of the length.
+    pub fn deactivate(&mut self, number: usize) -> usize
+        requires { number < length self.old }
+        ensures grains { self.new ≡ change_at deactivated number self.old }
+        ensures lost { result ≡ lost (activation_at self.old number) }
+    {
+        let lost = self.entries[number].1.deactivate();
+        mark(&self.entries, &self.ranks, &mut self.ready, number);
+        lost
+    }
+
+    /// The least grain after the given one that something waits for and no turn runs for; where there is
+    /// none after it or none is given, the least of all such grains, if there is one. The given one may be
+    /// a grain that was never active. It costs the logarithm of the length.
+    pub fn ready_after(&self, after: Option<&GrainId>) -> Option<GrainId>
+        ensures { result ≡ ready_after self.now (option_copied after.entry) }
+    {
+        let entries = self.entries.as_slice();
+        let order = self.order.as_slice();
+        let from = rank_above(entries, order, after);
+        let rank = next_key(&self.ready, from)?;
+        Some(entries[order[rank]].0)
+    }
+
+    /// The least grain that something waits for, if there is one. It walks over the order of the names, once
+    /// at most.
+    pub fn least_waiting(&self) -> Option<GrainId>
+        ensures { result ≡ least_waiting self.now }
+    {
+        first_waiting(self.entries.as_slice(), self.order.as_slice())
+    }
+
+    /// The least grain that a turn runs for, if there is one. It walks over the order of the names, once at
+    /// most.
+    pub fn least_running(&self) -> Option<GrainId>
+        ensures { result ≡ least_running self.now }
+    {
+        first_running(self.entries.as_slice(), self.order.as_slice())
+    }
+}
+
+/// The activation of a grain that becomes active with a first delivery.
+///
+/// # Errors
+/// Memory.
+fn activated(alloc: Global, delivery: Delivery) -> Result<Activation, AllocError>
+    requires { delivery.position + 1 < 2 ^ 64 }
+    ensures { IfOk result (λ a. a ≡ woken new_activation delivery) }
+{
+    let mut activation = Activation::new(alloc)?;
+    activation.offer(alloc, delivery)?;
+    Ok(activation)
+}

@@ -1,0 +1,113 @@
+-- The names with those that the rules make of events: their front, and how many they are.
+use Rattle.std.proofs.Common.{◌≡◌, ◌∙◌, ℕ, ◌+◌, ◌*◌, ◌<◌, ◌≤◌, not, Bool, true, false, List, [], ◌∷◌, ◌++◌, length, take, filter, fold, is_some, if◌then◌else◌, refl, sym, ap, arith, length-append}
+use Rattle.std.proofs.Math.Seq.{take-length, take-append_seam}
+use Rattle.std.proofs.lemmas.List.{length-take, take-take}
+use Rattle.std.proofs.lemmas.List.Concat.{length-flat_map}
+use Rattle.std.proofs.lemmas.List.Filters.{length-filter_both}
+use Rattle.std.proofs.lemmas.List.Sums.{fold-append}
+use Rattle.std.specs.List.{flat_map}
+use Rattle.stream_ident.specs.declared.event.Event.{Event}
+use Rattle.stream_ident.specs.declared.ident.SubName.{SubName}
+use Rattle.stream_ident.specs.declared.rule.Rule.{Rule}
+use Rattle.stream_ident.specs.Event.{batch_token}
+use Rattle.stream_ident.specs.Name.{same_name}
+use Rattle.stream_ident.specs.SubName.{same_sub}
+use Rattle.stream_ident.specs.Token.{token_lt}
+use Rattle.stream_ident.specs.Words.{value_at}
+use Rattle.pubsub_registry.specs.Implying.{added, all_implied, implied, made, names_with, rule_count}
+use Rattle.pubsub_registry.specs.declared.registration.Registration.{Registration}
+use Rattle.pubsub_registry.proofs.Entries.{Names}
+use Rattle.pubsub_registry.proofs.ImpliedNames.{has, implied-on}
+use Rattle.pubsub_registry.proofs.RuleLemmas.{on}
+
+-- ---- the front
+
+-- a front of a front
+pub front-of-front : {X : Type 0} (xs ys zs : List X) → take (length xs) ys ≡ xs → take (length ys) zs ≡ ys → take (length xs) zs ≡ xs
+front-of-front xs ys zs first second =
+    let size = ap length first in
+    let short : length xs ≤ length ys = omega (arith, length-take (length xs) ys, size) in
+    sym (take-take (length xs) (length ys) zs short) ∙ ap (take (length xs)) second ∙ first
+
+added-front : (names : Names) (entry : SubName × Registration) → take (length names) (added names entry) ≡ names
+added-front names entry = by (has entry.0 names)
+  where
+    by : (there : Bool) → take (length names) (if there then names else names ++ entry ∷ []) ≡ names
+    by true = take-length names
+    by false = take-append_seam names (entry ∷ [])
+
+pub fold-front : (names entries : Names) → take (length names) (fold added names entries) ≡ names
+fold-front names [] = take-length names
+fold-front names (entry ∷ entries) =
+    front-of-front names (added names entry) (fold added (added names entry) entries) (added-front names entry) (fold-front (added names entry) entries)
+
+-- the names stay where they are, and the new ones follow
+pub names-front : (rules : List Rule) (names : Names) (events : List Event) → take (length names) (names_with rules names events) ≡ names
+names-front rules names events = fold-front names (all_implied rules events)
+
+-- ---- how many there are
+
+pub length-fold : (names entries : Names) → length names ≤ length (fold added names entries)
+length-fold names entries =
+    let size = ap length (fold-front names entries) in
+    omega (arith, length-take (length names) (fold added names entries), size)
+
+pub length-names_with : (rules : List Rule) (names : Names) (events : List Event) → length names ≤ length (names_with rules names events)
+length-names_with rules names events = length-fold names (all_implied rules events)
+
+length-added : (names : Names) (entry : SubName × Registration) → length (added names entry) ≤ length names + 1
+length-added names entry = by (has entry.0 names)
+  where
+    by : (there : Bool) → length (if there then names else names ++ entry ∷ []) ≤ length names + 1
+    by true = omega arith
+    by false = omega (arith, length-append names (entry ∷ []))
+
+most-fold : (names entries : Names) → length (fold added names entries) ≤ length names + length entries
+most-fold names [] = omega arith
+most-fold names (entry ∷ entries) = omega (arith, most-fold (added names entry) entries, length-added names entry)
+
+most-made : (event : Event) (rules : List Rule) → length (flat_map (made event) rules) ≤ length rules
+most-made event [] = omega arith
+most-made event (rule ∷ rules) = omega (arith, most-made event rules, one, length-append (made event rule) (flat_map (made event) rules))
+  where
+    by : (holds : Bool) (entry : SubName × Registration) → length (if holds then entry ∷ [] else []) ≤ 1
+    by true entry = omega arith
+    by false entry = omega arith
+
+    one : length (made event rule) ≤ 1
+    one = by (not (token_lt event.token (batch_token rule.from))) _
+
+most-implied : (rules : List Rule) (events : List Event) → length (all_implied rules events) ≤ length (flat_map (λ (event : Event). on event.stream.namespace rules) events)
+most-implied rules [] = omega arith
+most-implied rules (event ∷ events) =
+    omega (
+      arith,
+      most-implied rules events,
+      most-made event (on event.stream.namespace rules),
+      ap length (implied-on event rules),
+      length-append (flat_map (implied event) rules) (all_implied rules events),
+      length-append (on event.stream.namespace rules) (flat_map (λ (event : Event). on event.stream.namespace rules) events),
+    )
+
+-- at most one for each rule on the namespace of each event
+pub most-names_with : (rules : List Rule) (names : Names) (events : List Event) → length (names_with rules names events) ≤ length names + rule_count rules events
+most-names_with rules names events =
+    omega (arith, most-fold names (all_implied rules events), most-implied rules events, length-flat_map (λ (event : Event). on event.stream.namespace rules) events)
+
+pub length-on : (namespace : List ℕ) (rules : List Rule) → length (on namespace rules) ≤ length rules
+length-on namespace rules =
+    omega (arith, length-filter_both (λ (rule : Rule). same_name namespace rule.namespace) (λ (rule : Rule). not (same_name namespace rule.namespace)) (λ _. refl) rules)
+
+few-on : (rules : List Rule) (events : List Event) → length rules ≤ 64 → length (flat_map (λ (event : Event). on event.stream.namespace rules) events) ≤ 64 * length events
+few-on rules [] few = omega arith
+few-on rules (event ∷ events) few =
+    omega (
+      arith,
+      few-on rules events few,
+      length-on event.stream.namespace rules,
+      length-append (on event.stream.namespace rules) (flat_map (λ (event : Event). on event.stream.namespace rules) events),
+    )
+
+pub few-rule_count : (rules : List Rule) (events : List Event) → length rules ≤ 64 → rule_count rules events ≤ 64 * length events
+few-rule_count rules events few =
+    omega (arith, few-on rules events few, length-flat_map (λ (event : Event). on event.stream.namespace rules) events)

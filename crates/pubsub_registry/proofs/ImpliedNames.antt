@@ -1,0 +1,172 @@
+-- Which names are there, and which the rules make of events.
+use Rattle.std.proofs.Common.{◌≡◌, ◌∙◌, ℕ, ◌&&◌, ◌||◌, not, Bool, true, false, List, [], ◌∷◌, ◌++◌, Some, is_some, fold, if◌then◌else◌, refl, sym, ap}
+use Rattle.std.specs.List.{flat_map, list_any}
+use Rattle.stream_ident.specs.declared.event.Event.{Event}
+use Rattle.stream_ident.specs.declared.ident.StreamId.{StreamId}
+use Rattle.stream_ident.specs.declared.ident.SubName.{SubName}
+use Rattle.stream_ident.specs.declared.ident.SubName.TheVariants.{Explicit, Implicit}
+use Rattle.stream_ident.specs.declared.rule.Rule.{Rule}
+use Rattle.stream_ident.specs.Event.{batch_token}
+use Rattle.stream_ident.specs.Name.{same_name, same_stream}
+use Rattle.stream_ident.specs.SubName.{same_sub}
+use Rattle.stream_ident.specs.Token.{token_lt}
+use Rattle.stream_ident.specs.Words.{value_at}
+use Rattle.pubsub_registry.specs.Implying.{added, all_implied, implied, made, makes_any, names_with}
+use Rattle.pubsub_registry.specs.Registry.{registered}
+use Rattle.pubsub_registry.specs.declared.registration.Registration.{Registration}
+use Rattle.pubsub_registry.proofs.Entries.{Names}
+use Rattle.pubsub_registry.proofs.NameOrder.{same_stream-equal, same_stream-refl, same_sub-equal}
+use Rattle.pubsub_registry.proofs.RuleLemmas.{on}
+
+-- ---- names that are there
+
+abbrev pub has : SubName → Names → Bool
+has s names = is_some (value_at same_sub s names)
+
+or_false : (x : Bool) → x || false ≡ x
+or_false true = refl
+or_false false = refl
+
+or_assoc : (x y z : Bool) → x || (y || z) ≡ (x || y) || z
+or_assoc true y z = refl
+or_assoc false y z = refl
+
+has-cons : (s : SubName) (entry : SubName × Registration) (names : Names) → has s (entry ∷ names) ≡ same_sub s entry.0 || has s names
+has-cons s entry names = by (same_sub s entry.0)
+  where
+    by : (same : Bool) → is_some (if same then Some entry.1 else value_at same_sub s names) ≡ same || has s names
+    by true = refl
+    by false = refl
+
+has-append : (s : SubName) (xs ys : Names) → has s (xs ++ ys) ≡ has s xs || has s ys
+has-append s [] ys = refl
+has-append s (x ∷ xs) ys =
+    has-cons s x (xs ++ ys) ∙ ap (λ rest. same_sub s x.0 || rest) (has-append s xs ys)
+    ∙ or_assoc (same_sub s x.0) (has s xs) (has s ys) ∙ ap (λ first. first || has s ys) (sym (has-cons s x xs))
+
+-- a name is there after one is added where it was, or is that one
+has-added : (s : SubName) (names : Names) (entry : SubName × Registration) → has s (added names entry) ≡ has s names || same_sub s entry.0
+has-added s names entry = by (has entry.0 names) refl
+  where
+    same-there : has entry.0 names ≡ true → (same : Bool) → same_sub s entry.0 ≡ same → has s names ≡ has s names || same
+    same-there there true same =
+        let is : has s names ≡ true = ap (λ name. has name names) (same_sub-equal s entry.0 same) ∙ there in
+        is ∙ sym (ap (λ b. b || true) is)
+    same-there there false apart = sym (or_false (has s names))
+
+    by : (there : Bool) → has entry.0 names ≡ there → has s (if there then names else names ++ entry ∷ []) ≡ has s names || same_sub s entry.0
+    by true there = same-there there (same_sub s entry.0) refl
+    by false absent =
+        has-append s names (entry ∷ []) ∙ ap (λ last. has s names || last) (has-cons s entry [] ∙ or_false (same_sub s entry.0))
+
+-- a name is there after these are added where it was, or is one of them
+pub has-fold : (s : SubName) (names entries : Names) → has s (fold added names entries) ≡ has s names || has s entries
+has-fold s names [] = sym (or_false (has s names))
+has-fold s names (entry ∷ entries) =
+    has-fold s (added names entry) entries ∙ ap (λ first. first || has s entries) (has-added s names entry)
+    ∙ sym (or_assoc (has s names) (same_sub s entry.0) (has s entries)) ∙ ap (λ rest. has s names || rest) (sym (has-cons s entry entries))
+
+-- ---- names that rules make
+
+abbrev pub entry : Event → Rule → SubName × Registration
+entry event rule = (Implicit rule.kind event.stream, registered event.stream (record { kind = rule.kind; key = event.stream.key }) (batch_token rule.from))
+
+-- what the rules on an event's namespace make of it is what all make
+pub implied-on : (event : Event) (rules : List Rule) → flat_map (implied event) rules ≡ flat_map (made event) (on event.stream.namespace rules)
+implied-on event [] = refl
+implied-on event (rule ∷ rules) = by (same_name event.stream.namespace rule.namespace) (implied-on event rules)
+  where
+    by : (b : Bool) → flat_map (implied event) rules ≡ flat_map (made event) (on event.stream.namespace rules)
+        → (if b && not (token_lt event.token (batch_token rule.from)) then entry event rule ∷ [] else []) ++ flat_map (implied event) rules ≡ flat_map (made event) (if b then rule ∷ on event.stream.namespace rules else on event.stream.namespace rules)
+    by true rest = ap (λ more. made event rule ++ more) rest
+    by false rest = rest
+
+-- a rule on the event's namespace makes the subscription of a kind
+abbrev makes : List ℕ → Event → Rule → Bool
+makes kind event rule = same_name kind rule.kind && not (token_lt event.token (batch_token rule.from))
+
+has-rule : (kind : List ℕ) (stream : StreamId) (event : Event) (rule : Rule) → has (Implicit kind stream) (made event rule) ≡ same_stream stream event.stream && makes kind event rule
+has-rule kind stream event rule = by (not (token_lt event.token (batch_token rule.from)))
+  where
+    both : (kinds streams : Bool) → kinds && streams ≡ streams && (kinds && true)
+    both true true = refl
+    both true false = refl
+    both false true = refl
+    both false false = refl
+
+    none : (kinds streams : Bool) → false ≡ streams && (kinds && false)
+    none true true = refl
+    none true false = refl
+    none false true = refl
+    none false false = refl
+
+    by : (holds : Bool) → has (Implicit kind stream) (if holds then entry event rule ∷ [] else []) ≡ same_stream stream event.stream && (same_name kind rule.kind && holds)
+    by true = has-cons (Implicit kind stream) (entry event rule) [] ∙ or_false _ ∙ both (same_name kind rule.kind) (same_stream stream event.stream)
+    by false = none (same_name kind rule.kind) (same_stream stream event.stream)
+
+-- some rule on the event's namespace makes a stream's subscription of a kind
+has-made : (kind : List ℕ) (stream : StreamId) (event : Event) (rules : List Rule) → has (Implicit kind stream) (flat_map (made event) rules) ≡ same_stream stream event.stream && makes_any kind event rules
+has-made kind stream event [] = none (same_stream stream event.stream)
+  where
+    none : (streams : Bool) → false ≡ streams && false
+    none true = refl
+    none false = refl
+has-made kind stream event (rule ∷ rules) =
+    has-append (Implicit kind stream) (made event rule) (flat_map (made event) rules)
+    ∙ (λ i. has-rule kind stream event rule i || has-made kind stream event rules i)
+    ∙ share (same_stream stream event.stream) (makes kind event rule) (makes_any kind event rules)
+  where
+    share : (s x y : Bool) → (s && x) || (s && y) ≡ s && (x || y)
+    share true x y = refl
+    share false x y = refl
+
+-- of an event of the stream
+pub has-of_event : (kind : List ℕ) (event : Event) (rules : List Rule) → has (Implicit kind event.stream) (flat_map (made event) rules) ≡ makes_any kind event rules
+has-of_event kind event rules =
+    has-made kind event.stream event rules ∙ ap (λ same. same && makes_any kind event rules) (same_stream-refl event.stream)
+
+-- of one of these events: it is the stream's, so that the rules on the stream's namespace are those on the event's
+pub has-of_any : (kind : List ℕ) (stream : StreamId) (rules : List Rule) (events : List Event) → has (Implicit kind stream) (all_implied rules events) ≡ list_any (λ (event : Event). same_stream stream event.stream && makes_any kind event (on stream.namespace rules)) events
+has-of_any kind stream rules [] = refl
+has-of_any kind stream rules (event ∷ events) =
+    has-append (Implicit kind stream) (flat_map (implied event) rules) (all_implied rules events)
+    ∙ (λ i. (ap (has (Implicit kind stream)) (implied-on event rules) ∙ has-made kind stream event (on event.stream.namespace rules) ∙ by (same_stream stream event.stream) refl) i || has-of_any kind stream rules events i)
+  where
+    by : (same : Bool) → same_stream stream event.stream ≡ same → same && makes_any kind event (on event.stream.namespace rules) ≡ same && makes_any kind event (on stream.namespace rules)
+    by true same = ap (λ (s : StreamId). makes_any kind event (on s.namespace rules)) (sym (same_stream-equal stream event.stream same))
+    by false apart = refl
+
+-- no explicit name is made
+pub has-explicit : (number : ℕ) (rules : List Rule) (events : List Event) → has (Explicit number) (all_implied rules events) ≡ false
+has-explicit number rules [] = refl
+has-explicit number rules (event ∷ events) =
+    has-append (Explicit number) (flat_map (implied event) rules) (all_implied rules events)
+    ∙ (λ i. of_event rules i || has-explicit number rules events i)
+  where
+    of_rule : (event : Event) (rule : Rule) (holds : Bool) → has (Explicit number) (if holds then entry event rule ∷ [] else []) ≡ false
+    of_rule event rule true = refl
+    of_rule event rule false = refl
+
+    of_event : (rules : List Rule) → has (Explicit number) (flat_map (implied event) rules) ≡ false
+    of_event [] = refl
+    of_event (rule ∷ rules) =
+        has-append (Explicit number) (implied event rule) (flat_map (implied event) rules)
+        ∙ (λ i. of_rule event rule (same_name event.stream.namespace rule.namespace && not (token_lt event.token (batch_token rule.from))) i || of_event rules i)
+
+-- a name is there after the earlier events and the rules before where it was, or is made of this event, or of an earlier one
+pub has-so_far : (names : Names) (rules before : List Rule) (earlier : List Event) (event : Event) (kind : List ℕ)
+    → has (Implicit kind event.stream) (fold added (names_with rules names earlier) (flat_map (made event) before))
+    ≡ has (Implicit kind event.stream) names
+    || (makes_any kind event before || list_any (λ (other : Event). same_stream event.stream other.stream && makes_any kind other (on event.stream.namespace rules)) earlier)
+has-so_far names rules before earlier event kind =
+    has-fold (Implicit kind event.stream) (names_with rules names earlier) (flat_map (made event) before)
+    ∙ (λ i. has-fold (Implicit kind event.stream) names (all_implied rules earlier) i || has-of_event kind event before i)
+    ∙ (λ i. (has (Implicit kind event.stream) names || has-of_any kind event.stream rules earlier i) || makes_any kind event before)
+    ∙ by (has (Implicit kind event.stream) names) _ (makes_any kind event before)
+  where
+    by : (x y z : Bool) → (x || y) || z ≡ x || (z || y)
+    by true y z = refl
+    by false true true = refl
+    by false true false = refl
+    by false false true = refl
+    by false false false = refl

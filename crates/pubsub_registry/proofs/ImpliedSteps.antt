@@ -1,0 +1,102 @@
+-- What one more rule, or one more event, adds to the names.
+use Rattle.std.proofs.Common.{◌≡◌, ◌∙◌, ℕ, ◌+◌, ◌<◌, ◌&&◌, ◌||◌, not, Bool, true, false, List, [], ◌∷◌, ◌++◌, length, take, get_or, fold, if◌then◌else◌, refl, sym, ap, arith, length-append}
+use Rattle.std.proofs.lemmas.List.{append-nil, take_more}
+use Rattle.std.proofs.lemmas.List.Concat.{flat_map-append}
+use Rattle.std.proofs.lemmas.List.Sums.{fold-append}
+use Rattle.std.specs.List.{flat_map, list_any}
+use Rattle.stream_ident.specs.declared.event.Event.{Event}
+use Rattle.stream_ident.specs.declared.ident.SubName.TheVariants.{Implicit}
+use Rattle.stream_ident.specs.declared.rule.Rule.{Rule}
+use Rattle.stream_ident.specs.Event.{batch_token}
+use Rattle.stream_ident.specs.Name.{same_stream}
+use Rattle.stream_ident.specs.Token.{token_lt}
+use Rattle.pubsub_registry.specs.Implying.{added, implied, made, makes_any, names_with}
+use Rattle.pubsub_registry.proofs.Entries.{Names}
+use Rattle.pubsub_registry.proofs.ImpliedNames.{entry, has, has-so_far, implied-on}
+use Rattle.pubsub_registry.proofs.RuleLemmas.{on}
+
+added-last : {X : Type 0} (make : X → Names) (names : Names) (xs : List X) (x : X) → fold added names (flat_map make (xs ++ x ∷ [])) ≡ fold added (fold added names (flat_map make xs)) (make x)
+added-last make names xs x =
+    ap (fold added names) (flat_map-append make xs (x ∷ []) ∙ ap (λ last. flat_map make xs ++ last) (append-nil (make x)))
+    ∙ fold-append added names (flat_map make xs) (make x)
+
+-- one more item of a list that is walked through
+pub added-more : {X : Type 0} (make : X → Names) (names : Names) (xs : List X) (i : ℕ) (x : X) → i < length xs → x ≡ get_or xs i x
+    → fold added names (flat_map make (take (i + 1) xs)) ≡ fold added (fold added names (flat_map make (take i xs))) (make x)
+added-more make names xs i x within is =
+    ap (λ front. fold added names (flat_map make front)) (take_more xs i x within ∙ ap (λ last. take i xs ++ last ∷ []) (sym is))
+    ∙ added-last make names (take i xs) x
+
+-- one more event
+pub event-last : (rules : List Rule) (names : Names) (events : List Event) (event : Event)
+    → names_with rules names (events ++ event ∷ []) ≡ fold added (names_with rules names events) (flat_map (made event) (on event.stream.namespace rules))
+event-last rules names events event =
+    added-last (λ event. flat_map (implied event) rules) names events event ∙ ap (fold added (names_with rules names events)) (implied-on event rules)
+
+pub event-more : (rules : List Rule) (names : Names) (events : List Event) (i : ℕ) (event : Event) → i < length events → event ≡ get_or events i event
+    → names_with rules names (take (i + 1) events) ≡ fold added (names_with rules names (take i events)) (flat_map (made event) (on event.stream.namespace rules))
+event-more rules names events i event within is =
+    added-more (λ event. flat_map (implied event) rules) names events i event within is ∙ ap (fold added (names_with rules names (take i events))) (implied-on event rules)
+
+-- ---- how many
+
+abbrev pub one_if : Bool → ℕ
+one_if true = 1
+one_if false = 0
+
+-- one more name where the rule holds for the event and the name isn't there, and else none
+rule-adds : (names : Names) (event : Event) (rule : Rule)
+    → length (fold added names (made event rule)) ≡ length names + one_if (not (token_lt event.token (batch_token rule.from)) && not (has (Implicit rule.kind event.stream) names))
+rule-adds names event rule = by (not (token_lt event.token (batch_token rule.from)))
+  where
+    more : (there : Bool) → length (if there then names else names ++ entry event rule ∷ []) ≡ length names + one_if (not there)
+    more true = omega arith
+    more false = length-append names (entry event rule ∷ [])
+
+    by : (holds : Bool) → length (fold added names (if holds then entry event rule ∷ [] else [])) ≡ length names + one_if (holds && not (has (Implicit rule.kind event.stream) names))
+    by true = more (has (Implicit rule.kind event.stream) names)
+    by false = omega arith
+
+-- one of the rules before makes the subscription of a kind of the event, or one on its namespace of an earlier one
+abbrev repeats : List Rule → List Rule → List Event → Event → List ℕ → Bool
+repeats rules before earlier event kind =
+    makes_any kind event before || list_any (λ (other : Event). same_stream event.stream other.stream && makes_any kind other rules) earlier
+
+-- so where it is missing at first and is no repeat
+counts-on : (rules : List Rule) (names : Names) (earlier : List Event) (event : Event) (before : List Rule) (rule : Rule) (missing repeat : Bool)
+    → missing ≡ not (token_lt event.token (batch_token rule.from)) && not (has (Implicit rule.kind event.stream) names)
+    → repeat ≡ repeats (on event.stream.namespace rules) before earlier event rule.kind
+    → length (fold added (fold added (names_with rules names earlier) (flat_map (made event) before)) (made event rule))
+    ≡ length (fold added (names_with rules names earlier) (flat_map (made event) before)) + one_if (missing && not repeat)
+counts-on rules names earlier event before rule missing repeat is_missing is_repeat =
+    let so_far = fold added (names_with rules names earlier) (flat_map (made event) before) in
+    rule-adds so_far event rule
+    ∙ ap (λ new. length so_far + one_if new) (
+    ap (λ there. not (token_lt event.token (batch_token rule.from)) && not there) (has-so_far names rules before earlier event rule.kind)
+    ∙ by (not (token_lt event.token (batch_token rule.from))) (has (Implicit rule.kind event.stream) names) (repeats (on event.stream.namespace rules) before earlier event rule.kind)
+    ∙ (λ i. sym is_missing i && not (sym is_repeat i))
+    )
+  where
+    by : (holds there again : Bool) → holds && not (there || again) ≡ (holds && not there) && not again
+    by true true again = refl
+    by true false again = refl
+    by false there again = refl
+
+-- at a step of the walk through the rules on the event's namespace
+pub step-counts : (all : List Rule) (names : Names) (earlier : List Event) (event : Event) (rules : List Rule) (i : ℕ) (rule : Rule) (missing repeat : Bool)
+    → rules ≡ on event.stream.namespace all → i < length rules → rule ≡ get_or rules i rule
+    → missing ≡ not (token_lt event.token (batch_token rule.from)) && not (has (Implicit rule.kind event.stream) names)
+    → (missing ≡ true → repeat ≡ repeats rules (take i rules) earlier event rule.kind)
+    → length (fold added (names_with all names earlier) (flat_map (made event) (take (i + 1) rules)))
+    ≡ length (fold added (names_with all names earlier) (flat_map (made event) (take i rules))) + one_if (missing && not repeat)
+step-counts all names earlier event rules i rule missing repeat are_on within is is_missing is_repeat =
+    ap length (added-more (made event) (names_with all names earlier) rules i rule within is) ∙ by missing refl
+  where
+    by : (b : Bool) → missing ≡ b → length (fold added (fold added (names_with all names earlier) (flat_map (made event) (take i rules))) (made event rule))
+        ≡ length (fold added (names_with all names earlier) (flat_map (made event) (take i rules))) + one_if (missing && not repeat)
+    by true asked =
+        counts-on all names earlier event (take i rules) rule missing repeat is_missing (is_repeat asked ∙ ap (λ rules'. repeats rules' (take i rules) earlier event rule.kind) are_on)
+    by false unasked =
+        counts-on all names earlier event (take i rules) rule missing (repeats (on event.stream.namespace all) (take i rules) earlier event rule.kind) is_missing refl
+        ∙ ap (λ b. length (fold added (names_with all names earlier) (flat_map (made event) (take i rules))) + one_if (b && not (repeats (on event.stream.namespace all) (take i rules) earlier event rule.kind))) unasked
+        ∙ ap (λ b. length (fold added (names_with all names earlier) (flat_map (made event) (take i rules))) + one_if (b && not repeat)) (sym unasked)

@@ -1,0 +1,11 @@
+use Rattle.std.proofs.Common.{◌≡◌, ◌≤◌, ◌+◌, fold, length, take}
+use Rattle.std.specs.List.{flat_map}
+use Rattle.pubsub_registry.specs.Implying.{added, made, names_with}
+use Rattle.pubsub_registry.proofs.implying.count_for_event.Given as goal
+
+abbrev pub invariant-loop-index : goal.invariant-loop-index
+invariant-loop-index l =
+    record {
+      count : length (fold added (names_with l.fn.rules l.subscriptions l.earlier) (flat_map (made l.event) (take l.index l.rules))) ≡ length (names_with l.fn.rules l.subscriptions l.earlier) + l.count;
+      bound : l.count ≤ l.index;
+    }

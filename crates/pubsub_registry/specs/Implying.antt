@@ -1,0 +1,56 @@
+-- The subscriptions that the rules make of events.
+use Rattle.std.specs.Prelude.{ℕ, Bool, ◌&&◌, not, List, [], ◌∷◌, ◌++◌, length, filter, fold, is_some, nat_lt, if◌then◌else◌}
+use Rattle.std.specs.List.{flat_map, list_any, sum_by}
+use Rattle.stream_ident.specs.declared.event.Event.{Event}
+use Rattle.stream_ident.specs.declared.ident.SubName.{SubName}
+use Rattle.stream_ident.specs.declared.ident.SubName.TheVariants as name
+use Rattle.stream_ident.specs.declared.rule.Rule.{Rule}
+use Rattle.stream_ident.specs.Event.{batch_token}
+use Rattle.stream_ident.specs.Name.{same_name}
+use Rattle.stream_ident.specs.SubName.{same_sub}
+use Rattle.stream_ident.specs.Token.{token_lt}
+use Rattle.stream_ident.specs.Words.{value_at}
+use Rattle.pubsub_registry.specs.declared.registration.Registration.{Registration}
+use Rattle.pubsub_registry.specs.declared.told.Implied.{Implied}
+use Rattle.pubsub_registry.specs.declared.told.Implied.TheVariants as implied_told
+use Rattle.pubsub_registry.specs.Registry.{PlainRegistry, registered}
+
+-- what a rule makes of an event: nothing, or a subscription that starts at the rule's batch
+abbrev pub implied : Event → Rule → List (SubName × Registration)
+implied event rule =
+    if same_name event.stream.namespace rule.namespace && not (token_lt event.token (batch_token rule.from))
+    then (name.Implicit rule.kind event.stream, registered event.stream (record { kind = rule.kind; key = event.stream.key }) (batch_token rule.from)) ∷ []
+    else []
+
+-- the same of a rule that is on the event's namespace
+abbrev pub made : Event → Rule → List (SubName × Registration)
+made event rule =
+    if not (token_lt event.token (batch_token rule.from))
+    then (name.Implicit rule.kind event.stream, registered event.stream (record { kind = rule.kind; key = event.stream.key }) (batch_token rule.from)) ∷ []
+    else []
+
+-- whether one of the rules on the event's namespace makes the subscription of a kind
+abbrev pub makes_any : List ℕ → Event → List Rule → Bool
+makes_any kind event rules = list_any (λ (rule : Rule). same_name kind rule.kind && not (token_lt event.token (batch_token rule.from))) rules
+
+-- what the rules make of the events, in order, repeats included
+abbrev pub all_implied : List Rule → List Event → List (SubName × Registration)
+all_implied rules events = flat_map (λ event. flat_map (implied event) rules) events
+
+-- the name and its registration, unless the name is there
+abbrev pub added : List (SubName × Registration) → SubName × Registration → List (SubName × Registration)
+added names entry = if is_some (value_at same_sub entry.0 names) then names else names ++ entry ∷ []
+
+-- the names, with those that the rules make of these events
+abbrev pub names_with : List Rule → List (SubName × Registration) → List Event → List (SubName × Registration)
+names_with rules names events = fold added names (all_implied rules events)
+
+-- how many rules there are on the namespaces of the events, counted for each event
+abbrev pub rule_count : List Rule → List Event → ℕ
+rule_count rules events = sum_by (λ (event : Event). length (filter (λ (rule : Rule). same_name event.stream.namespace rule.namespace) rules)) events
+
+-- all of them, or none where there would be more than may be
+abbrev pub imply : PlainRegistry → List Event → PlainRegistry × Implied
+imply r events =
+    if nat_lt r.most_names (length (names_with r.rules r.names events)) then (r, implied_told.TooMany)
+    else (record r { names = names_with r.rules r.names events }, implied_told.Implied)

@@ -1,0 +1,235 @@
+//! The subscriptions that the rules make of events.
+ghost use Rattle.std.specs.Prelude.{◌≡◌, ◌<◌, ◌≤◌, ◌+◌, ◌^◌, ◌↔◌, ◌&&◌, ◌||◌, [], ◌∷◌, ◌++◌, not, length, take, fold, is_some, IsTrue, OnOk, OnErr};
+ghost use Rattle.std.specs.List.{flat_map, list_any};
+ghost use Rattle.stream_ident.specs.Event.{batch_token};
+ghost use Rattle.stream_ident.specs.Name.{same_stream};
+ghost use Rattle.stream_ident.specs.SubName.{same_sub};
+ghost use Rattle.stream_ident.specs.Token.{token_lt};
+ghost use Rattle.stream_ident.specs.Words.{value_at};
+ghost use Rattle.stream_ident.specs.declared.event.Event.{Event};
+ghost use Rattle.pubsub_registry.specs.Implying.{added, imply, made, makes_any, names_with, rule_count};
+ghost use Rattle.pubsub_registry.specs.Registry.{Performs};
+
+use crate::registry::{Registry, implied_grain, opened};
+use crate::rules::Rules;
+use crate::subscriptions::Subscriptions;
+use crate::told::Implied;
+use std::alloc::{AllocError, Global};
+use stream_ident::{Event, Name, Rule, StreamId, SubName, Token};
+
+impl Registry {
+    /// The rules make subscriptions of these events, in their order. Each rule on the namespace of an event
+    /// makes one of its stream, unless the event is before the rule's batch or the name is there: the grain
+    /// of the rule's kind with the stream's key consumes the stream, from the rule's batch on.
+    ///
+    /// All are made, or none where there would be more subscriptions than there may be.
+    ///
+    /// The cost is two look-ups for each event, one for each rule on its namespace that makes a subscription
+    /// of it, and that of `add_implied` for each new one. Only where there are more rules on the namespaces
+    /// of the events than places are left are the new ones counted first, each at a look-up and a walk over
+    /// the earlier events.
+    ///
+    /// # Errors
+    /// Memory, and then nothing has changed. It comes only where the subscriptions would all be made.
+    pub fn imply(&mut self, alloc: Global, events: &[Event]) -> Result<Implied, AllocError>
+        requires few { length events.now ≤ 256 }
+        ensures performs { Performs self.old self.new result (imply self.old events.now) }
+        ensures memory { OnErr result ((imply self.old events.now).1 ≡ Implied.Implied) }
+    {
+        if !has_room(&self.subscriptions, &self.rules, self.most_names, events) {
+            return Ok(Implied::TooMany);
+        }
+        add_all(&mut self.subscriptions, alloc, &self.rules, events)?;
+        Ok(Implied::Implied)
+    }
+}
+
+/// Whether there may be as many subscriptions as there are with those that the rules make of these events.
+///
+/// Mostly there is room for one by each rule on the namespaces of the events, and none is looked up.
+fn has_room(subscriptions: &Subscriptions, rules: &Rules, most: usize, events: &[Event]) -> bool
+    requires fits { length subscriptions.now ≤ most }
+    requires rules { length rules.now ≤ 64 }
+    requires events { length events.now ≤ 256 }
+    ensures { IsTrue result ↔ (length (names_with rules.now subscriptions.now events.now) ≤ most) }
+{
+    let room = most - subscriptions.len();
+    rule_count(rules, events) <= room || count_new(subscriptions, rules, events) <= room
+}
+
+/// How many rules there are on the namespaces of these events, counted for each event.
+fn rule_count(rules: &Rules, events: &[Event]) -> usize
+    requires { rule_count rules.now events.now < 2 ^ 64 }
+    ensures { result ≡ rule_count rules.now events.now }
+{
+    events
+        .iter()
+        .map(|event| rules.on_namespace(&event.stream.namespace).len())
+        .sum()
+}
+
+/// How many new subscriptions the rules make of these events. It takes no memory.
+fn count_new(subscriptions: &Subscriptions, rules: &Rules, events: &[Event]) -> usize
+    requires rules { length rules.now ≤ 64 }
+    requires events { length events.now ≤ 256 }
+    ensures { length (names_with rules.now subscriptions.now events.now) ≡ length subscriptions.now + result }
+{
+    let mut count = 0;
+    for (index, event) in events.iter().enumerate() {
+        count += count_for_event(subscriptions, rules, &events[..index], event);
+    }
+    count
+}
+
+/// How many new subscriptions the rules make of an event, beyond those that they make of earlier ones.
+fn count_for_event(
+    subscriptions: &Subscriptions,
+    rules: &Rules,
+    earlier: &[Event],
+    event: &Event,
+) -> usize
+    requires { length rules.now ≤ 64 }
+    ensures count { length (names_with rules.now subscriptions.now (earlier.now ++ event.now ∷ [])) ≡ length (names_with rules.now subscriptions.now earlier.now) + result }
+    ensures bound { result ≤ 64 }
+{
+    let rules = rules.on_namespace(&event.stream.namespace);
+    let mut count = 0;
+    for (index, rule) in rules.iter().enumerate() {
+        if is_missing(subscriptions, rule, event)
+            && !is_repeat(rules, &rules[..index], earlier, event, &rule.kind)
+        {
+            count += 1;
+        }
+    }
+    count
+}
+
+/// Whether a rule on its namespace makes a subscription of an event, and the name isn't there.
+fn is_missing(subscriptions: &Subscriptions, rule: &Rule, event: &Event) -> bool
+    ensures { result ≡ (not (token_lt event.now.token (batch_token rule.now.from))
+        && not (is_some (value_at same_sub (SubName.Implicit rule.now.kind event.now.stream) subscriptions.now))) }
+{
+    holds_for(rule, event) && subscriptions.find(&implied_name(rule, event)).is_none()
+}
+
+/// Whether the rules before make the subscription of a kind of an event, or the rules on its namespace make
+/// it of an earlier event.
+fn is_repeat(rules: &[Rule], before: &[Rule], earlier: &[Event], event: &Event, kind: &Name) -> bool
+    ensures { result ≡ (makes_any kind.now event.now before.now
+        || list_any (λ (other : Event). same_stream event.now.stream other.stream && makes_any kind.now other rules.now) earlier.now) }
+{
+    makes(before, event, kind) || makes_of_any(rules, earlier, &event.stream, kind)
+}
+
+/// Whether the rules, which are on a stream's namespace, make its subscription of a kind of any of these
+/// events.
+fn makes_of_any(rules: &[Rule], events: &[Event], stream: &StreamId, kind: &Name) -> bool
+    ensures { result ≡ list_any (λ (event : Event). same_stream stream.now event.stream && makes_any kind.now event rules.now) events.now }
+{
+    events.iter().any(|event| *stream == event.stream && makes(rules, event, kind))
+}
+
+/// Whether the rules, which are on an event's namespace, make the subscription of a kind of it.
+fn makes(rules: &[Rule], event: &Event, kind: &Name) -> bool
+    ensures { result ≡ makes_any kind.now event.now rules.now }
+{
+    rules
+        .iter()
+        .any(|rule| *kind == rule.kind && holds_for(rule, event))
+}
+
+/// Adds what the rules make of these events.
+///
+/// # Errors
+/// Memory, and then nothing has changed.
+fn add_all(
+    subscriptions: &mut Subscriptions,
+    alloc: Global,
+    rules: &Rules,
+    events: &[Event],
+) -> Result<(), AllocError>
+    ensures ok { OnOk result (subscriptions.new ≡ names_with rules.now subscriptions.old events.now) }
+    ensures err { OnErr result (subscriptions.new ≡ subscriptions.old) }
+{
+    let len = subscriptions.len();
+    let pushed = push_all(subscriptions, alloc, rules, events);
+    if pushed.is_err() {
+        subscriptions.truncate(len);
+    }
+    pushed
+}
+
+/// Adds what the rules make of these events, as far as there is memory.
+fn push_all(
+    subscriptions: &mut Subscriptions,
+    alloc: Global,
+    rules: &Rules,
+    events: &[Event],
+) -> Result<(), AllocError>
+    ensures all { OnOk result (subscriptions.new ≡ names_with rules.now subscriptions.old events.now) }
+    ensures front { take (length subscriptions.old) subscriptions.new ≡ subscriptions.old }
+{
+    for event in events {
+        let rules = rules.on_namespace(&event.stream.namespace);
+        push_for_event(subscriptions, alloc, rules, event)?;
+    }
+    Ok(())
+}
+
+/// Adds what the rules on its namespace make of an event, as far as there is memory.
+fn push_for_event(
+    subscriptions: &mut Subscriptions,
+    alloc: Global,
+    rules: &[Rule],
+    event: &Event,
+) -> Result<(), AllocError>
+    ensures all { OnOk result (subscriptions.new ≡ fold added subscriptions.old (flat_map (made event.now) rules.now)) }
+    ensures front { take (length subscriptions.old) subscriptions.new ≡ subscriptions.old }
+{
+    for rule in rules {
+        push_by_rule(subscriptions, alloc, rule, event)?;
+    }
+    Ok(())
+}
+
+/// Adds what a rule on its namespace makes of an event, unless the name is there.
+///
+/// # Errors
+/// Memory, and then nothing has changed.
+fn push_by_rule(
+    subscriptions: &mut Subscriptions,
+    alloc: Global,
+    rule: &Rule,
+    event: &Event,
+) -> Result<(), AllocError>
+    ensures ok { OnOk result (subscriptions.new ≡ fold added subscriptions.old (made event.now rule.now)) }
+    ensures err { OnErr result (subscriptions.new ≡ subscriptions.old) }
+{
+    let sub = implied_name(rule, event);
+    if !holds_for(rule, event) || subscriptions.find(&sub).is_some() {
+        return Ok(());
+    }
+    let grain = implied_grain(rule.kind, &event.stream);
+    let start = Token {
+        seq: rule.from,
+        idx: 0,
+    };
+    subscriptions.push(alloc, sub, opened(event.stream, grain, start))
+}
+
+/// The name of the subscription that a rule makes of an event.
+fn implied_name(rule: &Rule, event: &Event) -> SubName
+    ensures { result ≡ SubName.Implicit rule.now.kind event.now.stream }
+{
+    SubName::Implicit {
+        kind: rule.kind,
+        stream: event.stream,
+    }
+}
+
+/// Whether an event isn't before a rule's batch.
+fn holds_for(rule: &Rule, event: &Event) -> bool
+    ensures { result ≡ not (token_lt event.now.token (batch_token rule.now.from)) }
+{
+    rule.from <= event.token.seq
+}

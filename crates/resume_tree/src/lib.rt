@@ -1,0 +1,13 @@
+//! The resumes of the subscriptions of a partition: which open one holds the cache back, and which is the
+//! next that is due, in logarithmic time.
+#![tactic(auto)]
+
+mod keys;
+mod leaf;
+mod ranking;
+mod resumes;
+#[cfg(test)]
+mod tests;
+
+pub use leaf::Leaf;
+pub use resumes::Resumes;

@@ -1,0 +1,175 @@
+//! The resumes of a partition.
+ghost use Rattle.std.specs.Prelude.{◌≡◌, ◌+◌, ◌-◌, ◌^◌, ◌<◌, ◌≤◌, ◌↔◌, [], ◌∷◌, ◌++◌, length, take, get_or, set, is_ok, IsTrue, IfSome, IfNone, None, if◌then◌else◌};
+ghost use Rattle.std.specs.Option.{option_copied};
+ghost use Rattle.resume_tree.specs.declared.leaf.Leaf.{Leaf};
+ghost use Rattle.resume_tree.specs.Leaves.{changed, due_after, least_resume, open_leaf, slowest, AreDistinct, IsNameAt, IsNew};
+
+use crate::keys::{due_at, insert_keys};
+use crate::leaf::Leaf;
+use crate::ranking::{first_past, insert_number, remove_last};
+use least_tree::LeastTree;
+use std::alloc::{AllocError, Global};
+use std::marker::Model;
+use stream_ident::SubName;
+
+/// The leaves of the subscriptions of a partition, by the number of their records, counted from 0.
+///
+/// No name stands twice, and each resume is below `usize::MAX - 1`. A contract sees the list of the leaves.
+#[derive(Debug, Drop)]
+pub struct Resumes {
+    leaves: Vec<Leaf>,
+    order: Vec<usize>,
+    ranks: Vec<usize>,
+    resumes: LeastTree,
+    due: LeastTree,
+}
+
+impl Model for Resumes {
+    ghost use Rattle.std.specs.Prelude.{List};
+    ghost use Rattle.resume_tree.specs.declared.leaf.Leaf.{Leaf};
+
+    ghost Value = { List Leaf };
+
+    ghost use Rattle.resume_tree.specs.Ranks.{AreRanked};
+
+    ghost view = { λ r. r.leaves.items };
+
+    ghost invariant = { λ r. AreRanked r.leaves.items r.order.items r.ranks.items r.resumes r.due };
+}
+
+impl Resumes {
+    /// No leaves. It takes no memory.
+    pub fn new(alloc: Global) -> Resumes
+        ensures { result ≡ [] }
+    {
+        Resumes {
+            leaves: Vec::new(alloc),
+            order: Vec::new(alloc),
+            ranks: Vec::new(alloc),
+            resumes: LeastTree::new(alloc),
+            due: LeastTree::new(alloc),
+        }
+    }
+
+    /// How many leaves there are.
+    pub fn len(&self) -> usize
+        ensures len { result ≡ length self.now }
+        ensures distinct { AreDistinct self.now }
+    {
+        self.leaves.len()
+    }
+
+    /// Whether there is no leaf.
+    pub fn is_empty(&self) -> bool
+        ensures { IsTrue result ↔ (self.now ≡ []) }
+    {
+        self.leaves.is_empty()
+    }
+
+    /// The leaf with a number.
+    pub fn leaf(&self, number: usize) -> &Leaf
+        requires { number < length self.now }
+        ensures leaf { (d : Leaf) → result.now ≡ get_or self.now number d }
+        ensures below { IfSome result.now.resume (λ resume. resume + 2 < 2 ^ 64) }
+    {
+        &self.leaves[number]
+    }
+
+    /// Adds an open leaf with nothing to acknowledge, which has the next number, under a name that none has.
+    /// It costs the logarithm of the length and the leaves whose names are greater; where a row has to grow,
+    /// once as much as all.
+    ///
+    /// # Errors
+    /// Memory. All is then as before.
+    pub fn push(&mut self, alloc: Global, name: SubName, resume: usize) -> Result<(), AllocError>
+        requires new { IsNew name self.old }
+        requires below { resume + 2 < 2 ^ 64 }
+        ensures { self.new ≡ (if is_ok result then self.old ++ open_leaf name resume ∷ [] else self.old) }
+    {
+        self.leaves.reserve(1)?;
+        self.order.reserve(1)?;
+        self.ranks.reserve(1)?;
+        let rank = first_past(self.leaves.as_slice(), self.order.as_slice(), &name);
+        insert_keys(alloc, &mut self.resumes, &mut self.due, rank, resume)?;
+        insert_number(&mut self.order, &mut self.ranks, rank);
+        self.leaves.push_reserved(Leaf {
+            name,
+            resume: Some(resume),
+            is_unacknowledged: false,
+        });
+        Ok(())
+    }
+
+    /// Changes the resume of a leaf, none to close it, and whether it has something to acknowledge. It costs
+    /// the logarithm of the length, and takes no memory.
+    pub fn set(&mut self, number: usize, resume: Option<usize>, is_unacknowledged: bool)
+        requires within { number < length self.old }
+        requires below { IfSome resume (λ position. position + 2 < 2 ^ 64) }
+        ensures { (d : Leaf) → self.new ≡ set self.old number (changed resume is_unacknowledged (get_or self.old number d)) }
+    {
+        let rank = self.ranks[number];
+        let name = self.leaves[number].name;
+        self.resumes.set(rank, resume);
+        self.due.set(rank, due_at(resume, is_unacknowledged));
+        self.leaves[number] = Leaf {
+            name,
+            resume,
+            is_unacknowledged,
+        };
+    }
+
+    /// Takes the last leaf out.
+    fn pop(&mut self)
+        requires { 0 < length self.old }
+        ensures { self.new ≡ take (length self.old - 1) self.old }
+    {
+        let rank = remove_last(&mut self.order, &mut self.ranks);
+        self.resumes.remove(rank);
+        self.due.remove(rank);
+        self.leaves.truncate(self.leaves.len() - 1);
+    }
+
+    /// Keeps the first `len` leaves, and takes the later ones back, where there are more. It costs the length
+    /// for each that it takes back, and takes no memory.
+    pub fn truncate(&mut self, len: usize)
+        ensures { self.new ≡ take len self.old }
+    {
+        while self.len() > len {
+            self.pop();
+        }
+    }
+
+    /// The least resume of the open leaves, where one is open. It costs a constant.
+    pub fn least_resume(&self) -> Option<usize>
+        ensures { result ≡ least_resume self.now }
+    {
+        self.resumes.least_key()
+    }
+
+    /// The number of the open leaf with the least resume, and of those with the least name, where one is
+    /// open. It costs the logarithm of the length.
+    pub fn top(&self) -> Option<usize>
+        ensures none { IfNone result (slowest self.now ≡ None) }
+        ensures some { IfSome result (IsNameAt (slowest self.now) self.now) }
+    {
+        let rank = self.resumes.least()?;
+        Some(self.order[rank])
+    }
+
+    /// The number of the next leaf that is due: open, with something to acknowledge or a resume below
+    /// `high`. It is the one with the least name that is greater than `after`, else the least of all; `after`
+    /// may be the name of no leaf. It costs the logarithm of the length.
+    pub fn due_after(&self, after: Option<&SubName>, high: usize) -> Option<usize>
+        ensures none { IfNone result (due_after high (option_copied after.entry) self.now ≡ None) }
+        ensures some { IfSome result (IsNameAt (due_after high (option_copied after.entry) self.now) self.now) }
+    {
+        if let Some(name) = after {
+            let from = first_past(self.leaves.as_slice(), self.order.as_slice(), name);
+            if let Some(rank) = self.due.first_at_most(from, high) {
+                return Some(self.order[rank]);
+            }
+        }
+        let rank = self.due.first_at_most(0, high)?;
+        Some(self.order[rank])
+    }
+}

@@ -1,0 +1,199 @@
+-- A table with more subscriptions, which have handled nothing.
+use Rattle.std.proofs.Common.{◌≡◌, ◌∙◌, ℕ, suc, ◌+◌, ◌-◌, ◌^◌, ◌<◌, ◌≤◌, ◌⊎◌, inl, inr, Bool, true, false, List, [], ◌∷◌, ◌++◌, length, get_or, take, drop, map, Some, if◌then◌else◌, refl, sym, ap, subst, arith, All, length-append, true≢false}
+use Rattle.std.specs.Prelude.{fold, is_some, nat_lt, ◌&&◌, not}
+use Rattle.std.specs.List.{flat_map}
+use Rattle.std.proofs.lemmas.Bool.{cases_lt}
+use Rattle.std.proofs.lemmas.List.{append-nil, append_assoc, drop_at, get_or-append_right, get_or-map, get_or_append_left, length-map, map-append, take_all, take_at}
+use Rattle.std.proofs.lemmas.List.Elements.{All-append, All-cons, All-get_or, All-head, All-nil, All-tail}
+use Rattle.stream_ident.specs.Event.{batch_token}
+use Rattle.stream_ident.specs.Name.{same_name}
+use Rattle.stream_ident.specs.SubName.{same_sub}
+use Rattle.stream_ident.specs.Token.{token_lt}
+use Rattle.stream_ident.specs.Words.{value_at}
+use Rattle.stream_ident.specs.declared.event.Event.{Event}
+use Rattle.stream_ident.specs.declared.ident.GrainId.{GrainId}
+use Rattle.stream_ident.specs.declared.ident.StreamId.{StreamId}
+use Rattle.stream_ident.specs.declared.ident.SubName.TheVariants as name
+use Rattle.stream_ident.specs.declared.rule.Rule.{Rule}
+use Rattle.stream_ident.specs.declared.token.Token.{Token}
+use Rattle.queue_mapper.specs.Place.{tag_of}
+use Rattle.consumer_grain.specs.Subscriptions.{PlainState, new_state}
+use Rattle.pubsub_registry.specs.Implying.{added, all_implied, implied, imply, names_with}
+use Rattle.pubsub_registry.specs.Registry.{PlainRegistry, add, is_full, registered, truncated, with_name}
+use Rattle.pubsub_registry.specs.declared.told.Added.{Added}
+use Rattle.pubsub_registry.specs.declared.told.Added.TheVariants as add_told
+use Rattle.pubsub_registry.specs.declared.told.Implied.{Implied}
+use Rattle.pubsub_registry.specs.declared.told.Implied.TheVariants as implied_told
+use Rattle.resume_tree.specs.Leaves.{open_leaf}
+use Rattle.resume_tree.specs.declared.leaf.Leaf.{Leaf}
+use Rattle.subscription_table.specs.LeavesOf.{leaves_of}
+use Rattle.subscription_table.specs.Rows.{new_leaves, AreNamed}
+use Rattle.subscription_table.specs.Standing.{AreRecords, IsTable, tags_of}
+use Rattle.subscription_table.specs.Table.{PlainTable, new_states, no_entry, no_state}
+use Rattle.subscription_table.proofs.LeafLemmas.{Entry, Names, leaves_of-append, leaves_of-new}
+
+abbrev pub AreOpen : Names → Type 0
+AreOpen names = All (λ (entry : Entry). entry.1.is_open ≡ true) names
+
+-- what holds of each name and its state, with those of more names
+each-grown : (P : Entry → PlainState → Type 0) (names more : Names) (states : List PlainState) (position : ℕ) → length states ≡ length names
+    → ((i : ℕ) → i < length states → P (get_or names i no_entry) (get_or states i no_state))
+    → ((j : ℕ) → j < length more → P (get_or more j no_entry) (new_state (get_or more j no_entry).1.start position))
+    → (i : ℕ) → i < length (states ++ new_states position more) → P (get_or (names ++ more) i no_entry) (get_or (states ++ new_states position more) i no_state)
+each-grown P names more states position long old new i within = by (cases_lt i (length states))
+  where
+    entry-left : i < length states → get_or (names ++ more) i no_entry ≡ get_or names i no_entry
+    entry-left left = get_or_append_left names more no_entry i (omega arith)
+
+    entry-right : length states ≤ i → get_or (names ++ more) i no_entry ≡ get_or more (i - length states) no_entry
+    entry-right right = get_or-append_right names more (length states) i no_entry (sym long) right
+
+    state-right : length states ≤ i → i - length states < length more → get_or (states ++ new_states position more) i no_state ≡ new_state (get_or more (i - length states) no_entry).1.start position
+    state-right right there =
+        get_or-append_right states (new_states position more) (length states) i no_state refl right
+        ∙ get_or-map (λ (entry : Entry). new_state entry.1.start position) more (i - length states) no_entry no_state there
+
+    by : (i < length states) ⊎ (length states ≤ i) → P (get_or (names ++ more) i no_entry) (get_or (states ++ new_states position more) i no_state)
+    by (inl left) =
+        subst (λ (e : Entry). P e (get_or (states ++ new_states position more) i no_state)) (sym (entry-left left))
+        (subst (P (get_or names i no_entry)) (sym (get_or_append_left states (new_states position more) no_state i left)) (old i left))
+    by (inr right) =
+        let there : i - length states < length more = omega (arith, length-append states (new_states position more), length-map more (λ (entry : Entry). new_state entry.1.start position)) in
+        subst (λ (e : Entry). P e (get_or (states ++ new_states position more) i no_state)) (sym (entry-right right))
+        (subst (P (get_or more (i - length states) no_entry)) (sym (state-right right there)) (new (i - length states) there))
+
+module _ (t : PlainTable) (r : PlainRegistry) (more : Names) (names : r.names ≡ t.registry.names ++ more) (opened : AreOpen more) (position : ℕ) (room : position + 2 < 2 ^ 64) where
+  abbrev grown : PlainTable
+  grown = record { registry = r; states = t.states ++ new_states position more }
+
+  records-grown : AreRecords t → AreRecords grown
+  records-grown is = record {
+    long = length-append t.states (new_states position more) ∙ (let many = length-map more (λ (entry : Entry). new_state entry.1.start position) in
+        let all : length r.names ≡ length t.registry.names + length more = ap length names ∙ length-append t.registry.names more in
+        let old = is.long in omega (arith, many, all, old));
+    starts = λ i within. subst (λ (all : Names). (get_or grown.states i no_state).start ≡ (get_or all i no_entry).1.start) (sym names)
+        (each-grown (λ entry state. state.start ≡ entry.1.start) t.registry.names more t.states position is.long is.starts (λ j there. refl) i within);
+    openness = λ i within. subst (λ (all : Names). (get_or grown.states i no_state).is_open ≡ (get_or all i no_entry).1.is_open) (sym names)
+        (each-grown (λ entry state. state.is_open ≡ entry.1.is_open) t.registry.names more t.states position is.long is.openness (λ j there. sym (opened j no_entry there)) i within);
+    cursors = each-grown (λ entry state. state.cursor + 2 < 2 ^ 64) t.registry.names more t.states position is.long is.cursors (λ j there. room);
+    resumes = each-grown (λ entry state. state.resume + 2 < 2 ^ 64) t.registry.names more t.states position is.long is.resumes (λ j there. room);
+  }
+
+  -- the rows with those of the new names
+  pub table-grown : (tags new_tags : List ℕ) (leaves added_leaves : List Leaf) → IsTable t tags leaves → new_tags ≡ tags ++ tags_of more → added_leaves ≡ leaves ++ new_leaves position more → IsTable grown new_tags added_leaves
+  table-grown tags new_tags leaves added_leaves is tagged leaved = record {
+    records = records-grown is.records;
+    tagged = tagged ∙ ap (λ (old : List ℕ). old ++ tags_of more) is.tagged
+        ∙ sym (ap tags_of names ∙ map-append (λ (entry : Entry). _) t.registry.names more);
+    leaved = leaved ∙ ap (λ (old : List Leaf). old ++ new_leaves position more) is.leaved
+        ∙ ap (λ (new : List Leaf). leaves_of t.registry.names t.states ++ new) (sym (leaves_of-new position more))
+        ∙ sym (ap (λ (all : Names). leaves_of all grown.states) names ∙ leaves_of-append t.registry.names more t.states (new_states position more) is.records.long);
+  }
+
+-- names with open ones behind them
+pub record IsGrown (old new : Names) : Type 0 where
+  pub more : Names
+  pub is : new ≡ old ++ more
+  pub opened : AreOpen more
+
+one-grown : (entry : Entry) (old new : Names) → entry.1.is_open ≡ true → IsGrown (old ++ entry ∷ []) new → IsGrown old new
+one-grown entry old new first rest = record {
+  more = entry ∷ rest.more;
+  is = rest.is ∙ append_assoc old (entry ∷ []) rest.more;
+  opened = All-cons (λ (entry : Entry). entry.1.is_open ≡ true) entry rest.more first rest.opened;
+}
+
+names-grown : (entries old : Names) → AreOpen entries → IsGrown old (fold added old entries)
+names-grown [] old opened = record { more = []; is = sym (append-nil old); opened = All-nil (λ (entry : Entry). entry.1.is_open ≡ true) }
+names-grown (entry ∷ entries) old opened =
+    let rest = All-tail (λ (entry : Entry). entry.1.is_open ≡ true) entry entries opened in
+    by (is_some (value_at same_sub entry.0 old)) (names-grown entries old rest)
+    (one-grown entry old (fold added (old ++ entry ∷ []) entries) (All-head (λ (entry : Entry). entry.1.is_open ≡ true) entry entries opened) (names-grown entries (old ++ entry ∷ []) rest))
+  where
+    by : (b : Bool) → IsGrown old (fold added old entries) → IsGrown old (fold added (old ++ entry ∷ []) entries) → IsGrown old (fold added (if b then old else old ++ entry ∷ []) entries)
+    by true there new = there
+    by false there new = new
+
+-- rules make open subscriptions
+implied-open : (event : Event) (rule : Rule) → AreOpen (implied event rule)
+implied-open event rule =
+    by (same_name event.stream.namespace rule.namespace && not (token_lt event.token (batch_token rule.from)))
+    (name.Implicit rule.kind event.stream, registered event.stream (record { kind = rule.kind; key = event.stream.key }) (batch_token rule.from)) refl
+  where
+    by : (b : Bool) (entry : Entry) → entry.1.is_open ≡ true → AreOpen (if b then entry ∷ [] else [])
+    by true entry opened = All-cons (λ (entry : Entry). entry.1.is_open ≡ true) entry [] opened (All-nil (λ (entry : Entry). entry.1.is_open ≡ true))
+    by false entry opened = All-nil (λ (entry : Entry). entry.1.is_open ≡ true)
+
+each-open : {A : Type 0} (make : A → Names) → ((x : A) → AreOpen (make x)) → (xs : List A) → AreOpen (flat_map make xs)
+each-open make opened [] = All-nil (λ (entry : Entry). entry.1.is_open ≡ true)
+each-open make opened (x ∷ xs) = All-append (λ (entry : Entry). entry.1.is_open ≡ true) (make x) (flat_map make xs) (opened x) (each-open make opened xs)
+
+pub implied-grown : (rules : List Rule) (names : Names) (events : List Event) → IsGrown names (names_with rules names events)
+implied-grown rules names events =
+    names-grown (all_implied rules events) names
+    (each-open (λ event. flat_map (implied event) rules) (λ event. each-open (implied event) (implied-open event) rules) events)
+
+-- a registry that rules added to, which has its old names in front
+pub record Implies (old new : PlainRegistry) : Type 0 where
+  pub grown : IsGrown old.names new.names
+  pub back : truncated new (length old.names) ≡ old
+
+pub implies : (old new : PlainRegistry) (events : List Event) (told : Implied) → ◌≡◌ {A = PlainRegistry × Implied} (new, told) (imply old events) → Implies old new
+implies old new events told is = by (nat_lt old.most_names (length (names_with old.rules old.names events))) is
+  where
+    by : (b : Bool) → ◌≡◌ {A = PlainRegistry × Implied} (new, told) (if b then (old, implied_told.TooMany) else (record old { names = names_with old.rules old.names events }, implied_told.Implied)) → Implies old new
+    by true is = subst (Implies old) (sym (ap (λ (r : PlainRegistry × Implied). r.0) is)) (record {
+      grown = record { more = []; is = sym (append-nil old.names); opened = All-nil (λ (entry : Entry). entry.1.is_open ≡ true) };
+      back = ap (λ (names : Names). record old { names = names }) (take_all (length old.names) old.names (omega arith));
+    })
+    by false is = subst (Implies old) (sym (ap (λ (r : PlainRegistry × Implied). r.0) is)) (
+        let grown = implied-grown old.rules old.names events in
+        record {
+          grown = grown;
+          back = ap (λ (names : Names). record old { names = names }) (ap (take (length old.names)) grown.is ∙ take_at old.names grown.more (length old.names) refl);
+        })
+
+-- leaves that have the names with their numbers, also where more names stand behind
+pub named-grown : (leaves : List Leaf) (old new : Names) → AreNamed leaves old → IsGrown old new → AreNamed leaves new
+named-grown leaves old new named grown =
+    let all : length new ≡ length old + length grown.more = ap length grown.is ∙ length-append old grown.more in
+    let most = named.within in
+    record {
+      within = omega arith;
+      name_of = λ i d within. named.name_of i d within
+          ∙ sym (ap (λ (names : Names). (get_or names i no_entry).0) grown.is ∙ ap (λ (e : Entry). e.0) (get_or_append_left old grown.more no_entry i (omega arith)));
+    }
+
+-- what is behind the old names
+pub grown-rest : (old new : Names) (grown : IsGrown old new) (len : ℕ) → len ≡ length old → drop len new ≡ grown.more
+grown-rest old new grown len is = ap (drop len) grown.is ∙ drop_at old grown.more len (sym is)
+
+module _ (t : PlainTable) (tags : List ℕ) (leaves : List Leaf) (is : IsTable t tags leaves) (position : ℕ) (room : position + 2 < 2 ^ 64) where
+  -- all that the rules made
+  pub table-implied : (new : PlainRegistry) → Implies t.registry new → (states : List PlainState) (new_tags : List ℕ) (added_leaves : List Leaf)
+      → states ≡ t.states ++ new_states position (drop (length t.states) new.names) → new_tags ≡ tags ++ tags_of (drop (length t.states) new.names)
+      → added_leaves ≡ leaves ++ new_leaves position (drop (length t.states) new.names) → IsTable (record { registry = new; states = states }) new_tags added_leaves
+  table-implied new implies states new_tags added_leaves stated tagged leaved =
+      let more = implies.grown.more in
+      let rest : drop (length t.states) new.names ≡ more = grown-rest t.registry.names new.names implies.grown (length t.states) is.records.long in
+      subst (λ (all : List PlainState). IsTable (record { registry = new; states = all }) new_tags added_leaves) (sym (stated ∙ ap (λ (names : Names). t.states ++ new_states position names) rest))
+      (table-grown t new more implies.grown.is implies.grown.opened position room tags new_tags leaves added_leaves is
+      (tagged ∙ ap (λ (names : Names). tags ++ tags_of names) rest) (leaved ∙ ap (λ (names : Names). leaves ++ new_leaves position names) rest))
+
+  -- one that a grain made
+  pub table-subscribed : (new : PlainRegistry) (stream : StreamId) (grain : GrainId) (start : Token) (told : Added) → is_full t.registry ≡ false → ◌≡◌ {A = PlainRegistry × Added} (new, told) (add t.registry stream grain start)
+      → (number : ℕ) → number ≡ t.registry.explicit → (states : List PlainState) (new_tags : List ℕ) (added_leaves : List Leaf) → states ≡ t.states ++ new_state start position ∷ [] → new_tags ≡ tags ++ tag_of stream ∷ []
+      → added_leaves ≡ leaves ++ open_leaf (name.Explicit (number + 1)) position ∷ [] → IsTable (record { registry = new; states = states }) new_tags added_leaves
+  table-subscribed new stream grain start told not_full adds number numbered states new_tags added_leaves stated tagged leaved =
+      let more : Names = (name.Explicit (suc t.registry.explicit), registered stream grain start) ∷ [] in
+      let next : number + 1 ≡ suc t.registry.explicit = omega (arith, numbered) in
+      subst (λ (all : List PlainState). IsTable (record { registry = new; states = all }) new_tags added_leaves) (sym stated)
+      (table-grown t new more (by (is_full t.registry) not_full adds) (All-cons (λ (entry : Entry). entry.1.is_open ≡ true) _ [] refl (All-nil (λ (entry : Entry). entry.1.is_open ≡ true)))
+      position room tags new_tags leaves added_leaves is tagged (leaved ∙ ap (λ (n : ℕ). leaves ++ open_leaf (name.Explicit n) position ∷ []) next))
+    where
+      by : (b : Bool) → b ≡ false
+          → ◌≡◌ {A = PlainRegistry × Added} (new, told)
+          (if b then (t.registry, add_told.TooMany) else (record (with_name t.registry (name.Explicit (suc t.registry.explicit)) (registered stream grain start)) { explicit = suc t.registry.explicit }, add_told.Added (suc t.registry.explicit)))
+          → new.names ≡ t.registry.names ++ (name.Explicit (suc t.registry.explicit), registered stream grain start) ∷ []
+      by true not_full is = absurd (true≢false not_full)
+      by false not_full is = ap (λ (r : PlainRegistry × Added). r.0.names) is

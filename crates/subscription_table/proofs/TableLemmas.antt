@@ -1,0 +1,106 @@
+-- A table with one state changed.
+use Rattle.std.proofs.Common.{◌≡◌, ◌≢◌, ◌∙◌, ℕ, ◌+◌, ◌^◌, ◌<◌, ◌⊎◌, inl, inr, List, length, get_or, set, refl, sym, ap, subst, arith, length-set, get_or-set_same, get_or-set_other}
+use Rattle.std.proofs.lemmas.Bool.{cases_eq}
+use Rattle.std.proofs.lemmas.List.{length-map, get_or_read}
+use Rattle.consumer_grain.specs.Subscriptions.{PlainState, is_unacknowledged}
+use Rattle.resume_tree.specs.declared.leaf.Leaf.{Leaf}
+use Rattle.resume_tree.specs.Leaves.{changed}
+use Rattle.subscription_table.specs.LeavesOf.{leaf_of, leaves_of, open_resume}
+use Rattle.subscription_table.specs.Standing.{AreRecords, IsTable}
+use Rattle.subscription_table.specs.Table.{PlainTable, no_entry, no_state, state_at, with_state}
+use Rattle.subscription_table.proofs.LeafLemmas.{Entry, length-leaves_of, leaf-changed, leaf-kept}
+
+-- a state that agrees with the registration of another, and leaves room for two more positions
+pub record Fits (old new : PlainState) : Type 0 where
+  pub start : new.start ≡ old.start
+  pub openness : new.is_open ≡ old.is_open
+  pub cursor : new.cursor + 2 < 2 ^ 64
+  pub resume : new.resume + 2 < 2 ^ 64
+
+-- what holds of a new state and of the old ones holds of all
+at-each : (P : ℕ → PlainState → Type 0) (states : List PlainState) (number : ℕ) (state : PlainState) → P number state
+    → ((i : ℕ) → i < length states → P i (get_or states i no_state)) → (i : ℕ) → i < length (set states number state) → P i (get_or (set states number state) i no_state)
+at-each P states number state here each i within =
+    let old : i < length states = omega (arith, length-set states number state) in
+    by old (cases_eq i number)
+  where
+    by : i < length states → (i ≡ number) ⊎ (i ≡ number → ⊥) → P i (get_or (set states number state) i no_state)
+    by old (inl same) =
+        let there : number < length states = omega arith in
+        subst (λ (k : ℕ). P k (get_or (set states number state) k no_state)) (sym same) (subst (P number) (sym (get_or-set_same states number state no_state there)) here)
+    by old (inr other) = subst (P i) (sym (get_or-set_other states number i state no_state other)) (each i old)
+
+module _ (t : PlainTable) (r : AreRecords t) (number : ℕ) (within : number < length t.registry.names) (state : PlainState) (fits : Fits (state_at t number) state) where
+  there : number < length t.states
+  there = omega (arith, r.long)
+
+  pub records-with : AreRecords (with_state t number state)
+  records-with = record {
+    long = length-set t.states number state ∙ r.long;
+    starts = at-each (λ i s. s.start ≡ (get_or t.registry.names i no_entry).1.start) t.states number state (fits.start ∙ r.starts number there) r.starts;
+    openness = at-each (λ i s. s.is_open ≡ (get_or t.registry.names i no_entry).1.is_open) t.states number state (fits.openness ∙ r.openness number there) r.openness;
+    cursors = at-each (λ i s. s.cursor + 2 < 2 ^ 64) t.states number state fits.cursor r.cursors;
+    resumes = at-each (λ i s. s.resume + 2 < 2 ^ 64) t.states number state fits.resume r.resumes;
+  }
+
+module _ (t : PlainTable) (tags : List ℕ) (leaves : List Leaf) (is : IsTable t tags leaves) (number : ℕ) (within : number < length t.registry.names) (state : PlainState) (fits : Fits (state_at t number) state) where
+  -- a state changed, and its leaf with it
+  pub table-changed : (new : List Leaf) → ((d : Leaf) → new ≡ set leaves number (changed (open_resume state.is_open state.resume) (is_unacknowledged state) (get_or leaves number d)))
+      → IsTable (with_state t number state) tags new
+  table-changed new set_to = record {
+    records = records-with t is.records number within state fits;
+    tagged = is.tagged;
+    leaved = set_to (leaf_of no_entry no_state) ∙ leaf-changed t.registry.names t.states leaves number state is.leaved is.records.long within;
+  }
+
+  -- a state changed to one with the same leaf
+  pub table-kept : leaf_of (get_or t.registry.names number no_entry) state ≡ leaf_of (get_or t.registry.names number no_entry) (state_at t number)
+      → IsTable (with_state t number state) tags leaves
+  table-kept same = record {
+    records = records-with t is.records number within state fits;
+    tagged = is.tagged;
+    leaved = is.leaved ∙ sym (leaf-kept t.registry.names t.states number state is.records.long within same);
+  }
+
+-- a state that was read and written: what it was, what it is now, and what is seen of it then
+module _ (t old : PlainTable) (tags : List ℕ) (leaves : List Leaf) (is : IsTable t tags leaves) (same : t ≡ old) (number : ℕ) (within : number < length old.registry.names)
+    (was now : PlainState) (read : was ≡ get_or t.states number was) (fits : Fits was was → Fits was now) where
+  named : number < length t.registry.names
+  named = omega (arith, ap (λ (t : PlainTable). length t.registry.names) same)
+
+  stated : number < length t.states
+  stated = let more = named in omega (arith, is.records.long)
+
+  was-is : was ≡ state_at t number
+  was-is = get_or_read t.states number was stated read no_state
+
+  pub now-fits : Fits was now
+  now-fits = fits (subst (λ (s : PlainState). Fits s s) (sym was-is)
+      (record { start = refl; openness = refl; cursor = is.records.cursors number stated; resume = is.records.resumes number stated }))
+
+  here-fits : Fits (state_at t number) now
+  here-fits = subst (λ (s : PlainState). Fits s now) was-is now-fits
+
+  pub kept : ((entry : Entry) → leaf_of entry now ≡ leaf_of entry was) → IsTable (with_state t number now) tags leaves
+  kept leaf =
+      table-kept t tags leaves is number named now here-fits
+      (leaf (get_or t.registry.names number no_entry) ∙ ap (leaf_of (get_or t.registry.names number no_entry)) was-is)
+
+  module _ (seen : PlainState) (look : seen ≡ get_or (set t.states number now) number seen) where
+    seen-is : seen ≡ now
+    seen-is = look ∙ get_or-set_same t.states number now seen stated
+
+    pub seen-below : seen.resume + 2 < 2 ^ 64
+    seen-below = subst (λ (s : PlainState). s.resume + 2 < 2 ^ 64) (sym seen-is) now-fits.resume
+
+    pub refreshed : (new : List Leaf) → ((d : Leaf) → new ≡ set leaves number (changed (open_resume seen.is_open seen.resume) (is_unacknowledged seen) (get_or leaves number d)))
+        → IsTable (with_state t number now) tags new
+    refreshed new set_to =
+        table-changed t tags leaves is number named now here-fits new
+        (subst (λ (s : PlainState). (d : Leaf) → new ≡ set leaves number (changed (open_resume s.is_open s.resume) (is_unacknowledged s) (get_or leaves number d))) seen-is set_to)
+
+-- equal parts
+pub same-table : (t new : PlainTable) (tags new_tags : List ℕ) (leaves new_leaves : List Leaf) → new ≡ t → new_tags ≡ tags → new_leaves ≡ leaves → IsTable t tags leaves → IsTable new new_tags new_leaves
+same-table t new tags new_tags leaves new_leaves same tagged leaved is =
+    subst (λ (t : PlainTable). IsTable t new_tags new_leaves) (sym same)
+    (subst (λ (tags : List ℕ). IsTable t tags new_leaves) (sym tagged) (subst (λ (leaves : List Leaf). IsTable t tags leaves) (sym leaved) is))

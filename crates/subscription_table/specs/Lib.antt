@@ -1,0 +1,4 @@
+pub mod LeavesOf
+pub mod Rows
+pub mod Standing
+pub mod Table

@@ -1,0 +1,27 @@
+-- What holds of every table.
+use Rattle.std.specs.Prelude.{◌≡◌, ℕ, ◌+◌, ◌^◌, ◌<◌, List, length, map}
+use Rattle.stream_ident.specs.declared.ident.SubName.{SubName}
+use Rattle.queue_mapper.specs.Place.{tag_of}
+use Rattle.consumer_grain.specs.Subscriptions.{PlainState}
+use Rattle.pubsub_registry.specs.declared.registration.Registration.{Registration}
+use Rattle.resume_tree.specs.declared.leaf.Leaf.{Leaf}
+use Rattle.subscription_table.specs.LeavesOf.{leaves_of}
+use Rattle.subscription_table.specs.Table.{PlainTable, registration_at, state_at}
+
+-- each name has a state, which agrees with its registration, and its positions leave room for two more
+pub record AreRecords (t : PlainTable) : Type 0 where
+  pub long : length t.states ≡ length t.registry.names
+  pub starts : (i : ℕ) → i < length t.states → (state_at t i).start ≡ (registration_at t i).start
+  pub openness : (i : ℕ) → i < length t.states → (state_at t i).is_open ≡ (registration_at t i).is_open
+  pub cursors : (i : ℕ) → i < length t.states → (state_at t i).cursor + 2 < 2 ^ 64
+  pub resumes : (i : ℕ) → i < length t.states → (state_at t i).resume + 2 < 2 ^ 64
+
+-- the tag of each stream
+abbrev pub tags_of : List (SubName × Registration) → List ℕ
+tags_of names = map (λ entry. tag_of entry.1.stream) names
+
+-- what is kept beside the records fits them
+pub record IsTable (t : PlainTable) (tags : List ℕ) (leaves : List Leaf) : Type 0 where
+  pub records : AreRecords t
+  pub tagged : tags ≡ tags_of t.registry.names
+  pub leaved : leaves ≡ leaves_of t.registry.names t.states

@@ -1,0 +1,13 @@
+//! The subscriptions of a partition by number: each with its name and registration, how far it is, and which
+//! of them is the slowest or due (Orleans: *Streaming, implementation details*, subscriptions of a pulling
+//! agent).
+#![tactic(auto)]
+
+mod leaves;
+mod rewinds;
+mod rows;
+mod table;
+#[cfg(test)]
+mod tests;
+
+pub use table::SubscriptionTable;

@@ -1,0 +1,146 @@
+//! The calls that make, close and commit to subscriptions.
+ghost use Rattle.std.specs.Prelude.{◌≡◌, ◌+◌, ◌^◌, ◌<◌, ◌≤◌, true, false, length, is_ok, OnErr, if◌then◌else◌};
+ghost use Rattle.stream_ident.specs.Words.{past};
+ghost use Rattle.consumer_grain.specs.Subscriptions.{committed, rises_from};
+ghost use Rattle.pubsub_registry.specs.Registry.{is_full};
+ghost use Rattle.subscription_table.specs.Table.{add_rule, close, imply, state_at, subscribe, with_state, Performs};
+
+use super::SubscriptionTable;
+use crate::leaves::refresh;
+use crate::rows::add_rows;
+use consumer_grain::SubState;
+use pubsub_registry::{Added, Closing, Implied, RuleAdded};
+use queue_mapper::place;
+use std::alloc::{AllocError, Global};
+use stream_ident::{Event, GrainId, Name, Row, StreamId, SubName, Token};
+
+impl SubscriptionTable {
+    /// A grain subscribes to a stream, from a token on, whose first event is sought from a position on. The
+    /// subscription has the next number of the table, and the next explicit number for its name.
+    ///
+    /// # Errors
+    /// Memory, and then nothing has changed. It comes only where a subscription would be added.
+    pub fn subscribe(
+        &mut self,
+        alloc: Global,
+        stream: StreamId,
+        grain: GrainId,
+        start: Token,
+        position: usize,
+    ) -> Result<Added, AllocError>
+        requires number { self.old.registry.explicit + 1 < 2 ^ 32 }
+        requires position { position + 2 < 2 ^ 64 }
+        ensures performs { Performs self.old self.new result (subscribe self.old stream grain start position) }
+        ensures memory { OnErr result (is_full self.old.registry ≡ false) }
+    {
+        if self.is_full() {
+            return Ok(Added::TooMany);
+        }
+        self.states.reserve(1)?;
+        self.tags.reserve(1)?;
+        let len = self.resumes.len();
+        let sub = SubName::Explicit(self.registry.explicit() + 1);
+        self.resumes.push(alloc, sub, position)?;
+        match self.registry.add(alloc, stream, grain, start) {
+            Ok(added) => {
+                self.states
+                    .push_reserved(SubState::new(alloc, start, position));
+                self.tags.push_reserved(place(&stream, 1).tag);
+                Ok(added)
+            }
+            Err(error) => {
+                self.resumes.truncate(len);
+                Err(error)
+            }
+        }
+    }
+
+    /// The rules make subscriptions of events, which are sought from a position on: all of those whose names
+    /// aren't there, or none.
+    ///
+    /// # Errors
+    /// Memory, and then nothing has changed. It comes only where all would be made.
+    pub fn imply(
+        &mut self,
+        alloc: Global,
+        events: &[Event],
+        position: usize,
+    ) -> Result<Implied, AllocError>
+        requires few { length events.now ≤ 256 }
+        requires position { position + 2 < 2 ^ 64 }
+        ensures performs { Performs self.old self.new result (imply self.old events.now position) }
+        ensures memory { OnErr result ((imply self.old events.now position).1 ≡ Implied.Implied) }
+    {
+        let len = self.registry.len();
+        if let Implied::TooMany = self.registry.imply(alloc, events)? {
+            return Ok(Implied::TooMany);
+        }
+        let added = add_rows(
+            alloc,
+            &self.registry,
+            position,
+            &mut self.states,
+            &mut self.tags,
+            &mut self.resumes,
+        );
+        if let Err(error) = added {
+            self.registry.truncate(len);
+            return Err(error);
+        }
+        Ok(Implied::Implied)
+    }
+
+    /// From a batch on, grains of a kind consume the streams of a namespace.
+    ///
+    /// # Errors
+    /// Memory, and then nothing has changed. It comes only where the rule would be added.
+    pub fn add_rule(
+        &mut self,
+        alloc: Global,
+        kind: Name,
+        namespace: Name,
+        seq: u64,
+    ) -> Result<RuleAdded, AllocError>
+        ensures performs { Performs self.old self.new result (add_rule self.old kind namespace seq) }
+        ensures memory { OnErr result ((add_rule self.old kind namespace seq).1 ≡ RuleAdded.Added) }
+    {
+        self.registry.add_rule(alloc, kind, namespace, seq)
+    }
+
+    /// The grain of the subscription with a number unsubscribes. It takes no memory.
+    pub fn close(&mut self, number: usize) -> Closing
+        requires { number < length self.old.registry.names }
+        ensures { (self.new, result) ≡ close self.old number }
+    {
+        // No name stands twice, so that the name has this number.
+        prove!(number < self.registry.len());
+        let sub = *self.registry.at(number).0;
+        let closing = self.registry.close(&sub);
+        if let Closing::Done = closing {
+            self.states[number].close();
+            refresh(&mut self.resumes, number, &self.states[number]);
+        }
+        closing
+    }
+
+    /// The positions of a turn are handled too, as `SubState::commit` says.
+    ///
+    /// # Errors
+    /// Memory, and then nothing has changed.
+    pub fn commit(
+        &mut self,
+        alloc: Global,
+        number: usize,
+        positions: &Row<usize>,
+        note: u64,
+    ) -> Result<(), AllocError>
+        requires within { number < length self.old.registry.names }
+        requires rising { rises_from (past (state_at self.old number).handled) positions.now ≡ true }
+        requires room { past positions.now < 2 ^ 64 }
+        ensures { self.new ≡ (if is_ok result then with_state self.old number (committed positions.now note (state_at self.old number)) else self.old) }
+    {
+        self.states[number].commit(alloc, positions, note)?;
+        refresh(&mut self.resumes, number, &self.states[number]);
+        Ok(())
+    }
+}
