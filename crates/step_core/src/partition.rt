@@ -1,28 +1,37 @@
 //! The partition.
-ghost use Rattle.std.specs.Prelude.{◌≡◌, ◌≤◌, ◌<◌, ◌++◌, true, length, All, IfOk, OnOk, OnErr, map};
-ghost use Rattle.std.specs.Option.{option_copied};
-ghost use Rattle.stream_ident.specs.SubName.{same_sub};
+ghost use Rattle.std.specs.Prelude.{◌≡◌, ◌≤◌, true, length, IfOk, OnErr};
+ghost use Rattle.std.specs.Option.{option_map};
+ghost use Rattle.stream_ident.specs.Name.{grain_lt};
+ghost use Rattle.stream_ident.specs.Words.{keys_where, least};
 ghost use Rattle.stream_model.specs.Bounds.{AreLimits, IsWithinLimits};
-ghost use Rattle.stream_model.specs.Draining.{DrainsTo};
-ghost use Rattle.stream_model.specs.Looks.{pending_in};
-ghost use Rattle.stream_model.specs.Positions.{empty, low_token, high_token, token_at, events_at};
-ghost use Rattle.stream_model.specs.Step.{step, takes_memory, Performs};
-ghost use Rattle.stream_ident.specs.Words.{value_at};
-ghost use Rattle.step_core.specs.Reads.{summary_of, summaries_in_order, handled_of};
-ghost use Rattle.step_core.specs.Run.{Does, DoesFront};
+ghost use Rattle.stream_model.specs.Draining.{all_waiting, last_handled, least_waiting, open_names};
+ghost use Rattle.stream_model.specs.Looks.{is_running, pending_in};
+ghost use Rattle.stream_model.specs.Positions.{empty, high_token, low_token, sub_at};
+ghost use Rattle.stream_model.specs.Step.{step, takes_memory, IsReached, Performs};
+ghost use Rattle.step_core.specs.Reads.{handled_of, summaries_in_order};
+ghost use Rattle.step_core.specs.Serving.{served_of};
 
+use crate::looking::{all_waiting, least_running, least_waiting, pending};
+use crate::parts::Parts;
+use crate::reading::{handled, high_token, last_handled, low_token, open_names, served, summaries};
+use crate::serving::Served;
+use crate::stepping::step;
 use crate::summary::SubSummary;
+use grain_table::GrainTable;
+use partition_queue::PartitionQueue;
+use pulling_agent::Agent;
 use std::alloc::{AllocError, Global};
 use std::marker::Model;
-use stream_ident::{Event, SubName, Token};
-use stream_model::{DrainEnd, Limits, Op, Pending, PlainPartition, Reply, Subscription, reference};
+use stream_ident::{Event, GrainId, SubName, Token};
+use stream_model::{Limits, Op, Pending, Reply};
+use subscription_table::SubscriptionTable;
 
 /// A partition.
 ///
 /// A contract sees it as the plain partition of the definitions.
-#[derive(Debug, Drop)]
+#[derive(Drop)]
 pub struct Partition {
-    inner: reference::Partition,
+    parts: Parts,
 }
 
 impl Model for Partition {
@@ -30,7 +39,12 @@ impl Model for Partition {
 
     ghost Value = { PlainPartition };
 
-    ghost view = { λ p. p.inner };
+    ghost use Rattle.step_core.specs.Assembly.{Agrees};
+    ghost use Rattle.step_core.specs.PlainOf.{plain_of};
+
+    ghost view = { λ p. plain_of p.parts };
+
+    ghost invariant = { λ p. Agrees p.parts };
 }
 
 impl Partition {
@@ -45,7 +59,15 @@ impl Partition {
         ensures { IfOk result (λ p. p ≡ empty blocks limits) }
     {
         Ok(Partition {
-            inner: reference::Partition::new(alloc, blocks, limits),
+            parts: Parts {
+                queue: PartitionQueue::new(alloc, limits.events),
+                agent: Agent::new(alloc, blocks)?,
+                subs: SubscriptionTable::new(alloc, limits.subs, limits.rules),
+                grains: GrainTable::new(alloc),
+                rises: 0,
+                turns: 0,
+                limits,
+            },
         })
     }
 
@@ -59,42 +81,89 @@ impl Partition {
         ensures performs { Performs self.old self.new result (step self.old op) }
         ensures memory { OnErr result (takes_memory (step self.old op).1 ≡ true) }
     {
-        self.inner.step(alloc, op)
+        step(&mut self.parts, alloc, op)
     }
 
-    /// Does the operations in order, and appends their replies.
-    ///
-    /// # Errors
-    /// Memory. The operations whose replies were appended are done, and no other.
-    pub fn run(
-        &mut self,
-        alloc: Global,
-        mut ops: Vec<Op>,
-        replies: &mut Vec<Reply>,
-    ) -> Result<(), AllocError>
-        ensures done { OnOk result (Does ops.items self.old self.new replies.old.items replies.new.items) }
-        ensures front { DoesFront ops.items self.old self.new replies.old.items replies.new.items }
+    /// The facts that hold of every partition: its numbers are within the limits, and a legal history leads
+    /// to it.
+    pub(crate) fn facts(&self)
+        ensures within { IsWithinLimits self.now }
+        ensures reached { IsReached self.now }
     {
-        replies.reserve(ops.len())?;
-        ops.reverse();
-        while let Some(op) = ops.pop() {
-            let reply = self.step(alloc, op)?;
-            replies.push(reply)?;
-        }
-        Ok(())
+        let _queue = &self.parts.queue;
     }
 
-    /// Does all that is left to do: what waits is handled, each open subscription is delivered to and its
-    /// events handled, one at a time, and more is pulled, until the queue has nothing more. The note of each
-    /// turn is one more than that before. Nothing is done where a turn runs.
+    /// The generation of the current pulling agent.
+    pub(crate) fn generation(&self) -> u64
+        ensures { result ≡ self.now.generation }
+    {
+        self.parts.agent.generation()
+    }
+
+    /// One past the last position that the cache has.
+    pub(crate) fn high(&self) -> usize
+        ensures { result ≡ self.now.high }
+    {
+        self.parts.agent.cache().high()
+    }
+
+    /// How many events the queue has.
+    pub(crate) fn queued(&self) -> usize
+        ensures { result ≡ length self.now.log }
+    {
+        self.parts.queue.len()
+    }
+
+    /// The number of the last turn, 0 before the first.
+    pub(crate) fn turns(&self) -> u64
+        ensures { result ≡ self.now.turns }
+    {
+        self.parts.turns
+    }
+
+    /// The least grain that a turn runs for.
+    pub(crate) fn least_running(&self) -> Option<GrainId>
+        ensures { result ≡ least grain_lt (keys_where is_running self.now.grains) }
+    {
+        least_running(&self.parts)
+    }
+
+    /// The least grain that something waits for.
+    pub(crate) fn least_waiting(&self) -> Option<GrainId>
+        ensures { result ≡ least_waiting self.now }
+    {
+        least_waiting(&self.parts)
+    }
+
+    /// How many deliveries wait.
+    pub(crate) fn all_waiting(&self) -> u128
+        ensures { result ≡ all_waiting self.now }
+    {
+        all_waiting(&self.parts)
+    }
+
+    /// The names of the open subscriptions, from the least to the greatest.
     ///
     /// # Errors
-    /// Memory. The first of the operations are done, and no other; a turn that was begun may run then, and
-    /// the next drain is stuck until it is committed or its grain deactivated.
-    pub fn drain(&mut self, alloc: Global) -> Result<DrainEnd, AllocError>
-        ensures drains { DrainsTo self.old self.new result }
+    /// Memory.
+    pub(crate) fn open_names(&self, alloc: Global) -> Result<Vec<SubName>, AllocError>
+        ensures { IfOk result (λ names. names.items ≡ open_names self.now) }
     {
-        self.inner.drain(alloc)
+        open_names(&self.parts.subs, alloc)
+    }
+
+    /// The grain and the cursor of a subscription.
+    pub(crate) fn served(&self, sub: &SubName) -> Option<Served>
+        ensures { result ≡ option_map served_of (sub_at self.now sub.now) }
+    {
+        served(&self.parts, sub)
+    }
+
+    /// The token of the last event that a subscription has handled.
+    pub(crate) fn last_handled(&self, sub: &SubName) -> Option<Token>
+        ensures { result ≡ last_handled self.now (sub_at self.now sub.now) }
+    {
+        last_handled(&self.parts, sub)
     }
 
     /// Why the partition isn't quiet, the first reason that holds, or none where everything is pulled,
@@ -102,23 +171,21 @@ impl Partition {
     pub fn quiet(&self) -> Option<Pending>
         ensures { result ≡ pending_in self.now }
     {
-        self.inner.quiet()
+        pending(&self.parts)
     }
 
     /// The token of the first event that the cache keeps, or would keep next.
     pub fn low_token(&self) -> Token
         ensures { result ≡ low_token self.now }
     {
-        let plain = self.inner.plain();
-        token_at(plain, plain.low)
+        low_token(&self.parts)
     }
 
     /// The token after the last event that the cache has.
     pub fn high_token(&self) -> Token
         ensures { result ≡ high_token self.now }
     {
-        let plain = self.inner.plain();
-        token_at(plain, plain.high)
+        high_token(&self.parts)
     }
 
     /// The generation of the current pulling agent, and its silo.
@@ -126,8 +193,8 @@ impl Partition {
         ensures generation { result.0 ≡ self.now.generation }
         ensures silo { result.1 ≡ self.now.silo }
     {
-        let plain = self.inner.plain();
-        (plain.generation, plain.silo)
+        let agent = &self.parts.agent;
+        (agent.generation(), agent.silo())
     }
 
     /// The subscriptions that have a record, in the order of their names.
@@ -137,7 +204,7 @@ impl Partition {
     pub fn subs(&self, alloc: Global) -> Result<Vec<SubSummary>, AllocError>
         ensures { IfOk result (λ subs. subs.items ≡ summaries_in_order self.now) }
     {
-        let mut subs = summaries(alloc, self.inner.plain().subs.as_slice())?;
+        let mut subs = summaries(&self.parts.subs, alloc)?;
         subs.sort_by_key(|summary| summary.name)?;
         Ok(subs)
     }
@@ -150,68 +217,6 @@ impl Partition {
     pub fn handled(&self, alloc: Global, sub: &SubName) -> Result<Vec<Event>, AllocError>
         ensures { IfOk result (λ events. events.items ≡ handled_of self.now sub.now) }
     {
-        let plain = self.inner.plain();
-        match record_of(plain.subs.as_slice(), sub) {
-            Some(record) => events_at(alloc, plain.log.as_slice(), record.handled.as_slice()),
-            None => Ok(Vec::new(alloc)),
-        }
+        handled(&self.parts, alloc, sub)
     }
-}
-
-/// The token at a position of the log, or at its end that of the next batch.
-fn token_at(plain: &PlainPartition, position: usize) -> Token
-    ensures { result ≡ token_at plain.now position }
-{
-    match plain.log.as_slice().get(position) {
-        Some(event) => event.token,
-        None => Token {
-            seq: plain.batches,
-            idx: 0,
-        },
-    }
-}
-
-/// The record of a subscription.
-fn record_of<'a>(subs: &'a [(SubName, Subscription)], name: &SubName) -> Option<&'a Subscription>
-    ensures { option_copied result ≡ value_at same_sub name.now subs.now }
-{
-    for (other, record) in subs {
-        if name == other {
-            return Some(record);
-        }
-    }
-    None
-}
-
-/// The summary of a record.
-fn summary_of(entry: &(SubName, Subscription)) -> SubSummary
-    ensures { result ≡ summary_of entry.now }
-{
-    let (name, record) = entry;
-    SubSummary {
-        name: *name,
-        stream: record.stream,
-        grain: record.grain,
-        start: record.start,
-        is_open: record.is_open,
-    }
-}
-
-/// The summary of each record.
-fn summaries(alloc: Global, subs: &[(SubName, Subscription)]) -> Result<Vec<SubSummary>, AllocError>
-    ensures { IfOk result (λ summaries. summaries.items ≡ map summary_of subs.now) }
-{
-    subs.iter().map(summary_of).collect(alloc)
-}
-
-/// The events at these positions of the log.
-fn events_at(alloc: Global, log: &[Event], positions: &[usize]) -> Result<Vec<Event>, AllocError>
-    requires { All (λ position. position < length log.now) positions.now }
-    ensures { IfOk result (λ events. events.items ≡ events_at log.now positions.now) }
-{
-    let mut events = Vec::with_capacity(alloc, positions.len())?;
-    for position in positions {
-        events.push(log[*position])?;
-    }
-    Ok(events)
 }

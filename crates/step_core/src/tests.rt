@@ -1,28 +1,69 @@
-use crate::{Limits, Op, Partition, Reply, Start};
+use crate::{Limits, Op, Partition, Reply, Start, SubSummary};
+use std::alloc::Global;
+use std::process::Abort;
 use std::test::Fail;
 use stream_ident::{Batch, GrainId, Name, Payload, StreamId, SubName, Token};
+
+const FIRST: Token = Token { seq: 0, idx: 0 };
+
+fn name(rt: &impl Abort, bytes: &[u8]) -> Name {
+    Name::new(bytes).expect(rt, "a name")
+}
+
+fn stream(rt: &impl Abort) -> StreamId {
+    StreamId::new(b"o", b"k").expect(rt, "a stream")
+}
+
+/// A partition with the greatest limits.
+fn partition(rt: &impl Abort, alloc: Global) -> Partition {
+    Partition::new(alloc, 4, Limits::GREATEST).expect(rt, "memory")
+}
+
+/// Does one operation.
+fn step(rt: &impl Abort, alloc: Global, partition: &mut Partition, op: Op) -> Reply {
+    partition.step(alloc, op).expect(rt, "memory")
+}
+
+fn subscription(rt: &impl Abort) -> Op {
+    Op::Subscribe {
+        stream: stream(rt),
+        grain: GrainId::new(b"g", b"x").expect(rt, "a grain"),
+        start: Start::Latest,
+    }
+}
+
+fn publication(rt: &impl Abort, alloc: Global) -> Op {
+    let payload = Payload::new(b"a").expect(rt, "a payload");
+    Op::Publish {
+        stream: stream(rt),
+        payloads: Batch::of(vec![in alloc; payload].expect(rt, "memory")),
+    }
+}
+
+fn subs(rt: &impl Abort, alloc: Global, partition: &Partition) -> Vec<SubSummary> {
+    partition.subs(alloc).expect(rt, "memory")
+}
+
+/// Runs one subscription, and gives its reply.
+fn run_one(rt: &impl Abort, alloc: Global, partition: &mut Partition) -> Vec<Reply> {
+    let mut replies = Vec::new(alloc);
+    let ops = vec![in alloc; subscription(rt)].expect(rt, "memory");
+    partition.run(alloc, ops, &mut replies).expect(rt, "memory");
+    replies
+}
 
 #[test]
 fn operations_run_and_show(rt: HostRuntime) -> Result<(), Fail> {
     let alloc = rt.alloc();
-    let op = Op::Subscribe {
-        stream: StreamId::new(b"o", b"k")?,
-        grain: GrainId::new(b"g", b"x")?,
-        start: Start::Latest,
-    };
-    let mut replies = Vec::new(alloc);
-    let mut partition = Partition::new(alloc, 4, Limits::GREATEST)?;
-    partition.run(alloc, vec![in alloc; op]?, &mut replies)?;
-    assert_eq!(rt; replies.len(), 1);
-    assert!(rt; matches!(replies[0], Reply::Subscribed { number: 1 }));
-    let start = Token { seq: 0, idx: 0 };
-    assert!(rt; partition.low_token() == start && partition.high_token() == start);
+    let mut partition = partition(&rt, alloc);
+    let replies = run_one(&rt, alloc, &mut partition);
+    assert!(rt; matches!(replies.as_slice(), [Reply::Subscribed { number: 1 }]));
+    assert!(rt; partition.low_token() == FIRST && partition.high_token() == FIRST);
     assert_eq!(rt; partition.agent(), (0, 0));
-    let subs = partition.subs(alloc)?;
+    let subs = subs(&rt, alloc, &partition);
     assert_eq!(rt; subs.len(), 1);
-    assert!(rt; subs[0].name == SubName::Explicit(1) && subs[0].start == start && subs[0].is_open);
+    assert!(rt; subs[0].name == SubName::Explicit(1) && subs[0].start == FIRST && subs[0].is_open);
     assert!(rt; partition.quiet().is_none());
-    assert!(rt; partition.handled(alloc, &SubName::Explicit(1))?.is_empty());
     Ok(())
 }
 
@@ -30,27 +71,21 @@ fn operations_run_and_show(rt: HostRuntime) -> Result<(), Fail> {
 #[test]
 fn names_stand_in_order(rt: HostRuntime) -> Result<(), Fail> {
     let alloc = rt.alloc();
-    let (kind, namespace) = (Name::new(b"g")?, Name::new(b"o")?);
-    let (stream, grain) = (StreamId::new(b"o", b"k")?, GrainId::new(b"g", b"k")?);
-    let payloads = Batch::of(vec![in alloc; Payload::new(b"a")?]?);
-    let ops = vec![in alloc;
-        Op::AddRule { kind, namespace },
-        Op::Publish { stream, payloads },
-        Op::Pull {
-            generation: 0,
-            max: 1
-        },
-        Op::Subscribe {
-            stream,
-            grain,
-            start: Start::Latest
-        },
-    ]?;
-    let mut partition = Partition::new(alloc, 4, Limits::GREATEST)?;
-    partition.run(alloc, ops, &mut Vec::new(alloc))?;
-    let subs = partition.subs(alloc)?;
+    let mut partition = partition(&rt, alloc);
+    let kind = name(&rt, b"g");
+    let namespace = name(&rt, b"o");
+    let _ = step(&rt, alloc, &mut partition, Op::AddRule { kind, namespace });
+    let _ = step(&rt, alloc, &mut partition, publication(&rt, alloc));
+    let pull = Op::Pull {
+        generation: 0,
+        max: 1,
+    };
+    let _ = step(&rt, alloc, &mut partition, pull);
+    let _ = step(&rt, alloc, &mut partition, subscription(&rt));
+    let subs = subs(&rt, alloc, &partition);
     assert_eq!(rt; subs.len(), 2);
     assert!(rt; subs[0].name == SubName::Explicit(1));
+    let stream = stream(&rt);
     assert!(rt; subs[1].name == SubName::Implicit { kind, stream });
     Ok(())
 }

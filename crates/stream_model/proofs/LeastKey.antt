@@ -40,7 +40,7 @@ of-all true is e = e
 of-all false is e = e
 
 -- what is left from the item before this place on
-pub split : {K V : Type 0} (entries : List (K × V)) (i : ℕ) (entry : K × V) → 0 < i → i - 1 < length entries → entry ≡ get_or entries (i - 1) entry → drop (i - 1) entries ≡ entry ∷ drop i entries
+split : {K V : Type 0} (entries : List (K × V)) (i : ℕ) (entry : K × V) → 0 < i → i - 1 < length entries → entry ≡ get_or entries (i - 1) entry → drop (i - 1) entries ≡ entry ∷ drop i entries
 split entries i entry some within is =
     let next : i - 1 + 1 ≡ i = omega arith in
     drop_more entries (i - 1) entry within ∙ ap (λ first. first ∷ drop (i - 1 + 1) entries) (sym is) ∙ ap (λ n. entry ∷ drop n entries) next

@@ -98,11 +98,5 @@ pub mod Unsubscribing
 pub mod UnsubscribingBounds
 pub mod Values
 pub mod WorkedExamples
-pub mod NamesInOrder
-pub mod DrainSteps
-pub mod DrainReplies
-pub mod DrainLoops
-pub mod DrainRounds
 pub mod TurnNumbers
 pub mod DrainTurns
-pub mod DrainReached

@@ -184,12 +184,7 @@ abbrev pub IsFrontOf : List Entry → List Entry → Type 0
 IsFrontOf entries whole = (rest : List Entry) × (entries ++ rest ≡ whole)
 
 -- A drain was done as the definition says, or memory was wanting: then the first of its operations are
--- done, and no other.
-abbrev pub Drains : PlainPartition → PlainPartition → Result (Option DrainEnd) AllocError → Type 0
-Drains old new (Ok end) = (new ≡ (drain old).0.now) × (end ≡ (drain old).1)
-Drains old new (Err e) = (entries : List Entry) × IsFrontOf entries (drain old).0.entries × Leads old entries new
-
--- the same of a partition that a legal history leads to: no drain of it goes astray
+-- done, and no other. Where a legal history leads to the partition no drain goes astray.
 abbrev pub DrainsTo : PlainPartition → PlainPartition → Result DrainEnd AllocError → Type 0
 DrainsTo old new (Ok end) = (new ≡ (drain old).0.now) × ((drain old).1 ≡ Some end)
 DrainsTo old new (Err e) = (entries : List Entry) × IsFrontOf entries (drain old).0.entries × Leads old entries new

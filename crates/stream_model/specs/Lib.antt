@@ -1,6 +1,5 @@
 pub mod Bounds
 pub mod DrainLaws
-pub mod DrainPhases
 pub mod Draining
 pub mod History
 pub mod Laws

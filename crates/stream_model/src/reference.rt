@@ -1,7 +1,6 @@
 //! A plain program that computes the definitions.
 ghost use Rattle.std.specs.Prelude.{◌≡◌, ◌≤◌, true, OnErr};
 ghost use Rattle.stream_model.specs.Bounds.{AreLimits, IsWithinLimits};
-ghost use Rattle.stream_model.specs.Draining.{DrainsTo};
 ghost use Rattle.stream_model.specs.Looks.{pending_in};
 ghost use Rattle.stream_model.specs.Positions.{empty};
 ghost use Rattle.stream_model.specs.Step.{step, takes_memory, IsReached, Performs};
@@ -9,10 +8,8 @@ ghost use Rattle.stream_model.specs.Step.{step, takes_memory, IsReached, Perform
 mod acknowledging;
 mod deactivating;
 mod delivering;
-mod draining;
 mod looking;
 mod moving;
-mod ordering;
 mod positions;
 mod publishing;
 mod pulling;
@@ -22,7 +19,6 @@ mod rules;
 mod turns;
 mod unsubscribing;
 
-use crate::drain_end::DrainEnd;
 use crate::limits::Limits;
 use crate::op::Op;
 use crate::plain::PlainPartition;
@@ -31,7 +27,6 @@ use crate::sequence::Sequence;
 use acknowledging::{ack, retry};
 use deactivating::deactivate;
 use delivering::deliver;
-use draining::drain;
 use looking::{due, pending, quiet, ready};
 use moving::move_queue;
 use publishing::{publish, subscribe};
@@ -99,20 +94,6 @@ impl Partition {
         ensures memory { OnErr result (takes_memory (step self.old op).1 ≡ true) }
     {
         step_plain(&mut self.plain, alloc, op)
-    }
-
-    /// Drains the partition: operations, one after another, until nothing is left to do. Nothing is done
-    /// where a turn runs.
-    ///
-    /// # Errors
-    /// Memory. The first of the operations are done, and no other; a turn that was begun may run then.
-    pub fn drain(&mut self, alloc: Global) -> Result<DrainEnd, AllocError>
-        ensures drains { DrainsTo self.old self.new result }
-    {
-        match drain(&mut self.plain, alloc)? {
-            Some(end) => Ok(end),
-            None => unreachable!(),
-        }
     }
 
     /// Why the partition isn't quiet, the first reason that holds, or none where everything is pulled,

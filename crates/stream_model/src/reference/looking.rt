@@ -86,7 +86,7 @@ fn least_ready(grains: &[(GrainId, Grain)], after: &Option<GrainId>) -> Option<G
 }
 
 /// The least grain for which deliveries wait.
-pub fn least_waiting(grains: &[(GrainId, Grain)]) -> Option<GrainId>
+fn least_waiting(grains: &[(GrainId, Grain)]) -> Option<GrainId>
     ensures { result ≡ least_key grain_lt None is_waiting grains.now }
 {
     let mut least = None;
@@ -100,7 +100,7 @@ pub fn least_waiting(grains: &[(GrainId, Grain)]) -> Option<GrainId>
 }
 
 /// The least grain of which a turn runs.
-pub fn least_running(grains: &[(GrainId, Grain)]) -> Option<GrainId>
+fn least_running(grains: &[(GrainId, Grain)]) -> Option<GrainId>
     ensures { result ≡ least_key grain_lt None is_running grains.now }
 {
     let mut least = None;

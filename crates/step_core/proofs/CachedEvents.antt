@@ -1,0 +1,27 @@
+-- The events of the log at the positions of the cache, where the log grows and where the cache begins anew.
+use Rattle.std.proofs.Common.{◌≡◌, ◌∙◌, ap, ℕ, ◌+◌, ◌-◌, ◌≤◌, List, ◌++◌, length, take, drop, arith}
+use Rattle.std.proofs.lemmas.List.{drop-append-le, drop-drop, drop-take, length-drop, take-append-le}
+use Rattle.stream_ident.specs.declared.event.Event.{Event}
+use Rattle.stream_model.specs.Positions.{between}
+use Rattle.queue_cache.specs.Cache.{high}
+use Rattle.step_core.specs.Assembly.{Agrees}
+use Rattle.step_core.specs.PlainOf.{plain_of}
+use Rattle.step_core.specs.declared.parts.Parts.{Parts}
+use Rattle.step_core.proofs.Shared.{history-of}
+
+-- the cache has nothing that isn't in the log
+pub high-end : (parts : Parts) → Agrees parts → high parts.agent.cache ≤ length parts.queue.events
+high-end parts agrees = (history-of (plain_of parts) agrees.reached).fits.log.high_end
+
+-- a longer log has the same events at the positions before
+pub between-longer : (log more : List Event) (from to : ℕ) → from ≤ to → to ≤ length log → between (log ++ more) from to ≡ between log from to
+between-longer log more from to order within =
+    ap (take (to - from)) (drop-append-le from log more (omega arith))
+    ∙ take-append-le (to - from) (drop from log) more (omega (arith, length-drop from log))
+
+-- without the first events it begins as many positions further on
+pub between-drop : (log : List Event) (from to count : ℕ) → from + count ≤ to → drop count (between log from to) ≡ between log (from + count) to
+between-drop log from to count order =
+    ap (λ n. drop count (take n (drop from log))) {x = to - from} {y = count + (to - (from + count))} (omega arith)
+    ∙ drop-take count (to - (from + count)) (drop from log)
+    ∙ ap (take (to - (from + count))) (drop-drop count from log)

@@ -1,0 +1,247 @@
+-- A subscription that is closed, and the grain that forgets it.
+use Rattle.std.proofs.Common.{◌≡◌, ◌∙◌, ap, sym, subst, refl, ℕ, ◌<◌, Bool, true, false, not, List, [], ◌∷◌, length, filter, get_or, set, Option, Some, None, ◌==◌, arith}
+use Rattle.std.specs.Prelude.{if◌then◌else◌}
+use Rattle.std.specs.List.{AllByRecursion}
+use Rattle.std.proofs.lemmas.Bool.{cond_both, false≢true}
+use Rattle.std.proofs.lemmas.List.{get_or-set_same}
+use Rattle.stream_ident.specs.declared.ident.GrainId.{GrainId}
+use Rattle.stream_ident.specs.declared.ident.SubName.{SubName}
+use Rattle.stream_ident.specs.declared.ident.SubName.TheVariants as name
+use Rattle.stream_ident.specs.Name.{same_grain}
+use Rattle.stream_ident.specs.SubName.{same_sub}
+use Rattle.stream_ident.specs.Words.{changed_value, place_of, value_at}
+use Rattle.stream_model.specs.declared.plain.Grain.{Grain}
+use Rattle.stream_model.specs.declared.plain.PlainPartition.{PlainPartition}
+use Rattle.stream_model.specs.declared.reply.Reply.{Reply}
+use Rattle.stream_model.specs.declared.reply.Reply.TheVariants as reply
+use Rattle.stream_model.specs.Publishing as plain
+use Rattle.stream_model.proofs.ChangedValues.{All-changed, place_of-changed, place_of-unchanged}
+use Rattle.stream_model.proofs.LogLemmas.{first_at-found}
+use Rattle.stream_model.proofs.Lookups.{place_of-value, place_of-within}
+use Rattle.stream_model.proofs.Values.{same_sub-equal}
+use Rattle.consumer_grain.specs.declared.delivery.Delivery.{Delivery}
+use Rattle.consumer_grain.specs.Activations.{PlainActivation, forgotten}
+use Rattle.consumer_grain.specs.Subscriptions.{PlainState, closed}
+use Rattle.pubsub_registry.specs.declared.registration.Registration.{Registration}
+use Rattle.pubsub_registry.specs.declared.told.Closing.{Closing}
+use Rattle.pubsub_registry.specs.declared.told.Closing.TheVariants as close_told
+use Rattle.pubsub_registry.specs.Index.{AreUnique}
+use Rattle.pubsub_registry.specs.Registry.{PlainRegistry, close_found, shut}
+use Rattle.subscription_table.specs.Standing.{AreRecords}
+use Rattle.subscription_table.specs.Table.{PlainTable, close, closed_by, no_entry, no_state, number_of, registration_at, state_at}
+use Rattle.step_core.specs.Assembly.{Agrees, IsAssembled}
+use Rattle.step_core.specs.Known.{AreKnown}
+use Rattle.step_core.specs.Numbers.{AreDistinct, IsBelow}
+use Rattle.step_core.specs.PlainOf.{plain_of}
+use Rattle.step_core.specs.View.{grain_of, grains_of, name_at}
+use Rattle.step_core.specs.declared.parts.Parts.{Parts}
+use Rattle.step_core.proofs.AssembledTable.{IsAsLarge, assembled-subs}
+use Rattle.step_core.proofs.KnownMore.{known-forgotten, known-names, shut-grain, shut-length}
+use Rattle.step_core.proofs.KnownOps.{known-state}
+use Rattle.step_core.proofs.NamesOps.{name-of-entry}
+use Rattle.step_core.proofs.Shared.{distinct-of-unique}
+use Rattle.step_core.proofs.SubscriberOps.{forgotten-is, unsubscribe-implicit, unsubscribe-parts, with_shut}
+
+-- the entry with the number of a name has the name
+pub name-found : (s : SubName) (names : List (SubName × Registration)) (number : ℕ) (d : SubName × Registration) → place_of same_sub s names ≡ Some number → (get_or names number d).0 ≡ s
+name-found s names number d found =
+    let first = first_at-found (λ (entry : SubName × Registration). same_sub s entry.0) 0 names d number found in
+    let place : number ≡ first.0 = omega (arith, first.1) in
+    ap (λ n. (get_or names n d).0) place ∙ sym (same_sub-equal s (get_or names first.0 d).0 first.2.1)
+
+-- ---- the grain forgets the record
+
+All-filter : {A : Type 0} (P : A → Type 0) (passes : A → Bool) (xs : List A) → AllByRecursion P xs → AllByRecursion P (filter passes xs)
+All-filter P passes [] all = tt
+All-filter P passes (x ∷ xs) all =
+    cond_both (passes x) _ _ (AllByRecursion P) (λ _. (all.0, All-filter P passes xs all.1)) (λ _. All-filter P passes xs all.1)
+
+forgotten-below : (n number : ℕ) (a : PlainActivation) → IsBelow n a → IsBelow n (forgotten number a)
+forgotten-below n number a below =
+    record {
+      waiting = All-filter (λ (d : Delivery). d.sub < n) (λ (d : Delivery). not (number == d.sub)) a.mailbox below.waiting;
+      running = below.running;
+      subs = All-filter (λ sub. sub < n) (λ sub. not (number == sub)) a.subs below.subs;
+    }
+
+-- its grain without what is kept of a record
+abbrev pub forgotten_by : GrainId → ℕ → List (GrainId × PlainActivation) → List (GrainId × PlainActivation)
+forgotten_by g number grains = changed_value same_grain g (forgotten number) grains
+
+pub forgotten-numbered : (n : ℕ) (g : GrainId) (number : ℕ) (grains : List (GrainId × PlainActivation)) → AllByRecursion (λ (entry : GrainId × PlainActivation). IsBelow n entry.1) grains → AllByRecursion (λ (entry : GrainId × PlainActivation). IsBelow n entry.1) (forgotten_by g number grains)
+forgotten-numbered n g number grains all = All-changed (IsBelow n) same_grain g (forgotten number) (forgotten-below n number) grains all
+
+-- by the record's name it is the plain grain without it
+forgotten-names : (names : List (SubName × Registration)) (g : GrainId) (number : ℕ) (grains : List (GrainId × PlainActivation)) → AreDistinct names → number < length names → AllByRecursion (λ (entry : GrainId × PlainActivation). IsBelow (length names) entry.1) grains
+    → changed_value same_grain g (plain.without (name_at names number)) (grains_of names grains) ≡ grains_of names (forgotten_by g number grains)
+forgotten-names names g number [] distinct within all = refl
+forgotten-names names g number (entry ∷ grains) distinct within all =
+    by (same_grain g entry.0) (forgotten-names names g number grains distinct within all.1)
+  where
+    without : Grain → Grain
+    without = plain.without (name_at names number)
+
+    by : (b : Bool) → changed_value same_grain g without (grains_of names grains) ≡ grains_of names (forgotten_by g number grains)
+        → (if b then (entry.0, without (grain_of names entry.1)) ∷ grains_of names grains else (entry.0, grain_of names entry.1) ∷ changed_value same_grain g without (grains_of names grains))
+        ≡ grains_of names (if b then (entry.0, forgotten number entry.1) ∷ grains else entry ∷ forgotten_by g number grains)
+    by true rest = ap (λ (st : Grain). (entry.0, st) ∷ grains_of names grains) (sym (forgotten-is names number entry.1 distinct within all.0))
+    by false rest = ap (λ gs. (entry.0, grain_of names entry.1) ∷ gs) rest
+
+-- ---- the table closes the record
+
+abbrev with_shut_name : PlainTable → ℕ → ℕ → PlainTable
+with_shut_name t n number =
+    record { registry = record t.registry { names = changed_value same_sub (name.Explicit n) shut t.registry.names }; states = set t.states number (closed (state_at t number)) }
+
+close-found : (t : PlainTable) (s : SubName) (number : ℕ) → place_of same_sub s t.registry.names ≡ Some number → close t number ≡ closed_by t number (close_found t.registry s (Some (registration_at t number)))
+close-found t s number found =
+    ap (λ s. closed_by t number (close_found t.registry s (value_at same_sub s t.registry.names))) (name-found s t.registry.names number no_entry found)
+    ∙ ap (λ (o : Option Registration). closed_by t number (close_found t.registry s o)) (place_of-value same_sub s number t.registry.names no_entry found)
+
+close-explicit : (t : PlainTable) (n number : ℕ) → AreRecords t → place_of same_sub (name.Explicit n) t.registry.names ≡ Some number
+    → close t number ≡ (if (state_at t number).is_open then (with_shut_name t n number, close_told.Done) else (t, close_told.Closed))
+close-explicit t n number records found =
+    close-found t (name.Explicit n) number found
+    ∙ ap (λ is_open. closed_by t number (picked is_open)) (sym (records.openness number within))
+    ∙ by (state_at t number).is_open
+  where
+    within : number < length t.states
+    within = omega (arith, place_of-within same_sub (name.Explicit n) number t.registry.names found, records.long)
+
+    picked : Bool → PlainRegistry × Closing
+    picked is_open = if is_open then (record t.registry { names = changed_value same_sub (name.Explicit n) shut t.registry.names }, close_told.Done) else (t.registry, close_told.Closed)
+
+    by : (is_open : Bool) → closed_by t number (picked is_open) ≡ (if is_open then (with_shut_name t n number, close_told.Done) else (t, close_told.Closed))
+    by true = refl
+    by false = refl
+
+close-large : (t : PlainTable) (s : SubName) (number : ℕ) → AreRecords t → place_of same_sub s t.registry.names ≡ Some number → IsAsLarge t (close t number).0
+close-large t (name.Implicit kind stream) number records found =
+    subst (λ (stepped : PlainTable × Closing). IsAsLarge t stepped.0) (sym (close-found t (name.Implicit kind stream) number found)) (record { names = refl; most_names = refl; most_rules = refl })
+close-large t (name.Explicit n) number records found =
+    subst (λ (stepped : PlainTable × Closing). IsAsLarge t stepped.0) (sym (close-explicit t n number records found)) (by (state_at t number).is_open)
+  where
+    picked : Bool → PlainTable × Closing
+    picked is_open = if is_open then (with_shut_name t n number, close_told.Done) else (t, close_told.Closed)
+
+    by : (is_open : Bool) → IsAsLarge t (picked is_open).0
+    by true = record { names = shut-length (name.Explicit n) t.registry.names; most_names = refl; most_rules = refl }
+    by false = record { names = refl; most_names = refl; most_rules = refl }
+
+-- what the grains know stays so
+close-known : (t : PlainTable) (grains : List (GrainId × PlainActivation)) (s : SubName) (number : ℕ) → AreRecords t → place_of same_sub s t.registry.names ≡ Some number → AreKnown t.registry.names t.states grains
+    → AreKnown (close t number).0.registry.names (close t number).0.states grains
+close-known t grains (name.Implicit kind stream) number records found known =
+    subst (λ (stepped : PlainTable × Closing). AreKnown stepped.0.registry.names stepped.0.states grains) (sym (close-found t (name.Implicit kind stream) number found)) known
+close-known t grains (name.Explicit n) number records found known =
+    subst (λ (stepped : PlainTable × Closing). AreKnown stepped.0.registry.names stepped.0.states grains) (sym (close-explicit t n number records found)) (by (state_at t number).is_open)
+  where
+    within : number < length t.states
+    within = omega (arith, place_of-within same_sub (name.Explicit n) number t.registry.names found, records.long)
+
+    picked : Bool → PlainTable × Closing
+    picked is_open = if is_open then (with_shut_name t n number, close_told.Done) else (t, close_told.Closed)
+
+    by : (is_open : Bool) → AreKnown (picked is_open).0.registry.names (picked is_open).0.states grains
+    by true =
+        known-names t.registry.names (changed_value same_sub (name.Explicit n) shut t.registry.names) (set t.states number (closed (state_at t number))) grains
+        (known-state t.registry.names t.states grains number (closed (state_at t number)) known within (λ is_open. absurd (false≢true is_open)) (λ at none unheld. (at, none)))
+        (shut-length (name.Explicit n) t.registry.names) (shut-grain (name.Explicit n) t.registry.names)
+    by false = known
+
+-- a record that was closed now is so
+close-shut : (t : PlainTable) (s : SubName) (number : ℕ) → AreRecords t → place_of same_sub s t.registry.names ≡ Some number → (close t number).1 ≡ close_told.Done → (state_at (close t number).0 number).is_open ≡ false
+close-shut t (name.Implicit kind stream) number records found =
+    subst (λ (stepped : PlainTable × Closing). stepped.1 ≡ close_told.Done → (state_at stepped.0 number).is_open ≡ false) (sym (close-found t (name.Implicit kind stream) number found)) (λ is. absurd (cc))
+close-shut t (name.Explicit n) number records found =
+    subst (λ (stepped : PlainTable × Closing). stepped.1 ≡ close_told.Done → (state_at stepped.0 number).is_open ≡ false) (sym (close-explicit t n number records found)) (by (state_at t number).is_open)
+  where
+    within : number < length t.states
+    within = omega (arith, place_of-within same_sub (name.Explicit n) number t.registry.names found, records.long)
+
+    picked : Bool → PlainTable × Closing
+    picked is_open = if is_open then (with_shut_name t n number, close_told.Done) else (t, close_told.Closed)
+
+    by : (is_open : Bool) → (picked is_open).1 ≡ close_told.Done → (state_at (picked is_open).0 number).is_open ≡ false
+    by true is = ap (λ (state : PlainState). state.is_open) (get_or-set_same t.states number (closed (state_at t number)) no_state within)
+    by false is = absurd (cc)
+
+module _ (parts : Parts) (number : ℕ) where
+  -- the grains without what is kept of the record
+  abbrev pub left_grains : List (GrainId × PlainActivation)
+  left_grains = forgotten_by (registration_at parts.subs number).grain number parts.grains
+
+  -- what a grain is told, and what the table and the grains are then
+  abbrev pub closed_as : PlainTable × Closing → PlainPartition × Reply
+  closed_as (t, close_told.Done) = (plain_of (record parts { subs = t; grains = left_grains }), reply.Unsubscribed (length (state_at parts.subs number).handled))
+  closed_as (t, close_told.NoSuch) = (plain_of (record parts { subs = t }), reply.NoSuch)
+  closed_as (t, close_told.Implicit) = (plain_of (record parts { subs = t }), reply.Implicit)
+  closed_as (t, close_told.Closed) = (plain_of (record parts { subs = t }), reply.Closed)
+
+  module _ (s : SubName) (records : AreRecords parts.subs) (found : Some number ≡ number_of parts.subs s) where
+    -- what the table did is the plain operation
+    pub closed-same : Agrees parts → AreUnique parts.subs.registry.names → closed_as (close parts.subs number) ≡ plain.unsubscribe (plain_of parts) s
+    closed-same agrees unique = by s (sym found)
+      where
+        names : List (SubName × Registration)
+        names = parts.subs.registry.names
+
+        lengths : length names ≡ length parts.subs.states
+        lengths = sym records.long
+
+        forgets : (n : ℕ) → place_of same_sub (name.Explicit n) names ≡ Some number → changed_value same_grain (registration_at parts.subs number).grain (plain.without (name.Explicit n)) (grains_of names parts.grains) ≡ grains_of names left_grains
+        forgets n found =
+            let within = place_of-within same_sub (name.Explicit n) number names found in
+            let is_name : name_at names number ≡ name.Explicit n = name-of-entry names number no_entry within ∙ name-found (name.Explicit n) names number no_entry found in
+            subst (λ s. changed_value same_grain (registration_at parts.subs number).grain (plain.without s) (grains_of names parts.grains) ≡ grains_of names left_grains) is_name
+            (forgotten-names names (registration_at parts.subs number).grain number parts.grains (distinct-of-unique names unique) within agrees.assembled.numbered)
+
+        explicit : (n : ℕ) (is_open : Bool)
+            → closed_as (if is_open then (with_shut_name parts.subs n number, close_told.Done) else (parts.subs, close_told.Closed))
+            ≡ (if not is_open then (plain_of parts, reply.Closed)
+            else (plain_of (with_shut parts (name.Explicit n) (set parts.subs.states number (closed (state_at parts.subs number))) left_grains), reply.Unsubscribed (length (state_at parts.subs number).handled)))
+        explicit n true = refl
+        explicit n false = refl
+
+        by : (s : SubName) → place_of same_sub s names ≡ Some number → closed_as (close parts.subs number) ≡ plain.unsubscribe (plain_of parts) s
+        by (name.Implicit kind stream) found =
+            ap closed_as (close-found parts.subs (name.Implicit kind stream) number found)
+            ∙ sym (unsubscribe-implicit parts kind stream number no_entry no_state lengths found)
+        by (name.Explicit n) found =
+            ap closed_as (close-explicit parts.subs n number records found)
+            ∙ explicit n (state_at parts.subs number).is_open
+            ∙ sym (unsubscribe-parts parts n number no_entry no_state left_grains lengths found (forgets n found))
+
+    pub closed-performs : (new : PlainTable) (told : Closing) → Agrees parts → AreUnique parts.subs.registry.names → (new, told) ≡ close parts.subs number → closed_as (new, told) ≡ plain.unsubscribe (plain_of parts) s
+    closed-performs new told agrees unique done = ap closed_as done ∙ closed-same agrees unique
+
+    pub closed-assembled : (new : PlainTable) (told : Closing) → IsAssembled parts → (new, told) ≡ close parts.subs number → IsAssembled (record parts { subs = new })
+    closed-assembled new told assembled done =
+        subst (λ (stepped : PlainTable × Closing). IsAssembled (record parts { subs = stepped.0 })) (sym done)
+        (assembled-subs parts (close parts.subs number).0 (close-large parts.subs s number records (sym found)) (close-known parts.subs parts.grains s number records (sym found) assembled.known) assembled)
+
+    pub closed-shut : (new : PlainTable) → (new, close_told.Done) ≡ close parts.subs number → (state_at new number).is_open ≡ false
+    closed-shut new done =
+        subst (λ (t : PlainTable). (state_at t number).is_open ≡ false) (sym (ap (λ (stepped : PlainTable × Closing). stepped.0) done))
+        (close-shut parts.subs s number records (sym found) (sym (ap (λ (stepped : PlainTable × Closing). stepped.1) done)))
+
+-- a grain that forgets a closed record knows no other numbers, and all that are open
+forgotten-known : (parts : Parts) (g : GrainId) (number : ℕ) → IsAssembled parts → (state_at parts.subs number).is_open ≡ false → AreKnown parts.subs.registry.names parts.subs.states (forgotten_by g number parts.grains)
+forgotten-known parts g number assembled is_closed = by (place_of same_grain g parts.grains) refl
+  where
+    by : (at : Option ℕ) → place_of same_grain g parts.grains ≡ at → AreKnown parts.subs.registry.names parts.subs.states (forgotten_by g number parts.grains)
+    by None none = subst (AreKnown parts.subs.registry.names parts.subs.states) (place_of-unchanged same_grain g (forgotten number) parts.grains none) assembled.known
+    by (Some j) found =
+        subst (AreKnown parts.subs.registry.names parts.subs.states) (place_of-changed same_grain g (forgotten number) j parts.grains found)
+        (known-forgotten parts.subs.registry.names parts.subs.states parts.grains number j assembled.known is_closed (place_of-within same_grain g j parts.grains found))
+
+pub forgotten-assembled : (parts : Parts) (g : GrainId) (number : ℕ) → IsAssembled parts → (state_at parts.subs number).is_open ≡ false → IsAssembled (record parts { grains = forgotten_by g number parts.grains })
+forgotten-assembled parts g number assembled is_closed =
+    record {
+      most_subs = assembled.most_subs;
+      most_rules = assembled.most_rules;
+      most_events = assembled.most_events;
+      cached = assembled.cached;
+      numbered = forgotten-numbered (length parts.subs.registry.names) g number parts.grains assembled.numbered;
+      known = forgotten-known parts g number assembled is_closed;
+    }

@@ -1,0 +1,95 @@
+-- The phases of a round of a drain, and what a drain is where no turn runs.
+use Rattle.std.proofs.Common.{◌≡◌, ◌∙◌, ap, sym, refl, subst, ℕ, ◌+◌, ◌-◌, ◌<◌, ◌≤◌, List, ◌∷◌, Option, Some, None, Ok, Err, length, drop, get_or}
+use Rattle.std.proofs.lemmas.List.{drop_all, drop_more}
+use Rattle.std.specs.declared.alloc.AllocError.{AllocError}
+use Rattle.std.specs.Option.{option_map}
+use Rattle.stream_ident.specs.declared.ident.GrainId.{GrainId}
+use Rattle.stream_ident.specs.declared.ident.SubName.{SubName}
+use Rattle.stream_ident.specs.Name.{grain_lt}
+use Rattle.stream_ident.specs.Words.{keys_where, least}
+use Rattle.stream_model.specs.declared.drain_end.DrainEnd.{DrainEnd}
+use Rattle.stream_model.specs.declared.drain_end.DrainEnd.TheVariants as ending
+use Rattle.stream_model.specs.declared.plain.PlainPartition.{PlainPartition}
+use Rattle.stream_model.specs.declared.plain.Subscription.{Subscription}
+use Rattle.stream_model.specs.Draining as draining
+use Rattle.stream_model.specs.Draining.{Astray, DrainsTo, Progress, acknowledge, and_then, commits, deliver_all, deliver_once_more, done, drain, drain_all, drain_end, drain_where, last_handled, serve, serve_each, stopped}
+use Rattle.stream_model.specs.Looks.{is_running}
+use Rattle.stream_model.specs.Positions.{sub_at}
+use Rattle.stream_model.specs.Step.{IsReached}
+use Rattle.stream_model.proofs.Drained.{drain-ends}
+use Rattle.step_core.specs.declared.serving.Served.{Served}
+use Rattle.step_core.specs.DrainPhases.{Ends, deliver_up_to}
+use Rattle.step_core.specs.Serving.{served_of}
+use Rattle.step_core.proofs.DrainReplies.{rounds_up_to}
+
+-- what is done for a subscription after its deliveries
+abbrev pub after_deliveries : SubName → PlainPartition → Progress
+after_deliveries s q = and_then (acknowledge s q (last_handled q (sub_at q s))) (deliver_once_more s)
+
+-- a subscription that has a record is delivered to from its cursor on
+serve-found : (p : PlainPartition) (s : SubName) (served : Served) (most : ℕ) (found : Option Subscription) → Some served ≡ option_map served_of found → most ≡ p.high - served.cursor
+    → and_then (deliver_up_to most s served.grain p) (after_deliveries s) ≡ serve s p found
+unfolding serve deliver_all
+serve-found p s served most None is is_most = absurd (cc)
+serve-found p s served most (Some r) is is_most =
+    let same : served ≡ served_of r = cc in
+    ap (λ n. and_then (deliver_up_to n s served.grain p) (after_deliveries s)) is_most
+    ∙ ap (λ (of : Served). and_then (deliver_up_to (p.high - of.cursor) s of.grain p) (after_deliveries s)) same
+
+pub serve-known : (p : PlainPartition) (s : SubName) (served : Served) (most : ℕ) → Some served ≡ option_map served_of (sub_at p s) → most ≡ p.high - served.cursor
+    → and_then (deliver_up_to most s served.grain p) (after_deliveries s) ≡ serve s p (sub_at p s)
+serve-known p s served most is is_most = serve-found p s served most (sub_at p s) is is_most
+
+-- and nothing is done without one
+serve-none : (p : PlainPartition) (s : SubName) (found : Option Subscription) → None ≡ option_map served_of found → stopped Astray p ≡ serve s p found
+unfolding serve
+serve-none p s None none = refl
+serve-none p s (Some r) none = absurd (cc)
+
+pub serve-unknown : (p : PlainPartition) (s : SubName) → None ≡ option_map served_of (sub_at p s) → stopped Astray p ≡ serve s p (sub_at p s)
+serve-unknown p s none = serve-none p s (sub_at p s) none
+
+-- the names from a place on
+pub serve_each-more : (p : PlainPartition) (names : List SubName) (i : ℕ) (s : SubName) → i < length names → s ≡ get_or names i s → and_then (serve s p (sub_at p s)) (serve_each (drop (i + 1) names)) ≡ serve_each (drop i names) p
+unfolding serve_each
+serve_each-more p names i s within is =
+    ap (λ names. serve_each names p) (sym (drop_more names i s within ∙ ap (λ first. first ∷ drop (i + 1) names) (sym is)))
+
+pub serve_each-end : (p : PlainPartition) (names : List SubName) (i : ℕ) → length names ≤ i → done p ≡ serve_each (drop i names) p
+unfolding serve_each
+serve_each-end p names i past = ap (λ names. serve_each names p) (sym (drop_all i names past))
+
+pub drain_all-rounds : (p : PlainPartition) (n : ℕ) → n ≡ length p.log - p.high → rounds_up_to n p ≡ drain_all p
+unfolding drain_all
+drain_all-rounds p n is = ap (λ n. rounds_up_to n p) is
+
+-- the least grain of which a turn runs
+abbrev pub least_running : PlainPartition → Option GrainId
+least_running p = least grain_lt (keys_where is_running p.grains)
+
+pub drains-stuck : (p : PlainPartition) (g : GrainId) → Some g ≡ least_running p → DrainsTo p p (Ok (ending.Stuck g))
+unfolding drain
+drains-stuck p g runs =
+    let Says : Option GrainId → Type 0 = λ running. (p ≡ (drain_where p running).0.now) × ((drain_where p running).1 ≡ Some (ending.Stuck g)) in
+    subst Says runs (refl, refl)
+
+pub drains-ended : (p new : PlainPartition) (stop : Option draining.Stop) (end : DrainEnd) → None ≡ least_running p → Ends p new (Some stop) (drain_all p) → drain_end stop (commits (drain_all p).entries) ≡ Some end → DrainsTo p new (Ok end)
+unfolding drain
+drains-ended p new stop end free ends is_end =
+    let Says : Option GrainId → Type 0 = λ running. (new ≡ (drain_where p running).0.now) × ((drain_where p running).1 ≡ Some end) in
+    subst Says free (ends.0, ap (λ stop. drain_end stop (commits (drain_all p).entries)) (sym ends.1) ∙ is_end)
+
+pub drains-wanting : (p new : PlainPartition) (wanting : AllocError) → None ≡ least_running p → Ends p new None (drain_all p) → DrainsTo p new (Err wanting)
+unfolding drain
+drains-wanting p new wanting free ends =
+    let Says : Option GrainId → Type 0 = λ running. Ends p new None (drain_where p running).0 in subst Says free ends
+
+astray-none : (p new : PlainPartition) → None ≡ least_running p → Ends p new (Some (Some Astray)) (drain_all p) → (drain p).1 ≡ None
+unfolding drain
+astray-none p new free ends =
+    let Says : Option GrainId → Type 0 = λ running. (drain_where p running).1 ≡ None in
+    subst Says free (ap (λ stop. drain_end stop (commits (drain_all p).entries)) (sym ends.1))
+
+-- no drain of a partition that a legal history leads to goes astray
+pub never-astray : (p new : PlainPartition) → IsReached p → None ≡ least_running p → Ends p new (Some (Some Astray)) (drain_all p) → ⊥
+never-astray p new reached free ends = drain-ends reached.blocks reached.limits reached.history p reached.some_blocks reached.stands (astray-none p new free ends)

@@ -1,0 +1,123 @@
+-- One grain of the parts found by its identity, and changed; and what it holds of a record.
+use Rattle.std.proofs.Common.{◌≡◌, ◌∙◌, ap, sym, subst, refl, ℕ, zero, suc, ◌+◌, ◌<◌, Bool, true, false, ◌&&◌, ◌||◌, List, [], ◌∷◌, ◌++◌, length, map, filter, get_or, Option, Some, None, nat_lt, ◌==◌, arith}
+use Rattle.std.proofs.lemmas.Bool.{lt-ltb}
+use Rattle.std.specs.Prelude.{if◌then◌else◌, unwrap_or}
+use Rattle.std.specs.List.{list_any, AllByRecursion}
+use Rattle.std.specs.Option.{option_map}
+use Rattle.stream_ident.specs.declared.ident.GrainId.{GrainId}
+use Rattle.stream_ident.specs.declared.ident.SubName.{SubName}
+use Rattle.stream_ident.specs.Name.{same_grain}
+use Rattle.stream_ident.specs.SubName.{same_sub}
+use Rattle.stream_ident.specs.Words.{change_at, first_at, place_of, value_at, with_value}
+use Rattle.stream_model.specs.declared.plain.Grain.{Grain}
+use Rattle.stream_model.specs.declared.plain.PlainPartition.{PlainPartition}
+use Rattle.stream_model.specs.Positions.{grain_at, is_outstanding, is_unacknowledged, new_grain, running_in, waiting_in, with_grain}
+use Rattle.stream_model.proofs.Lookups.{place_of-added, place_of-change, place_of-none, place_of-value, place_of-within}
+use Rattle.consumer_grain.specs.declared.delivery.Delivery.{Delivery}
+use Rattle.consumer_grain.specs.declared.turn.RunningTurn.{RunningTurn}
+use Rattle.consumer_grain.specs.Activations.{PlainActivation, holds, new_activation, runs}
+use Rattle.pubsub_registry.specs.declared.registration.Registration.{Registration}
+use Rattle.step_core.specs.Numbers.{AreDistinct, IsBelow, TurnIsBelow}
+use Rattle.step_core.specs.declared.parts.Parts.{Parts}
+use Rattle.step_core.specs.PlainOf.{plain_of}
+use Rattle.step_core.specs.View.{delivery_of, grain_of, grains_of, name_at, turn_of}
+use Rattle.step_core.proofs.NumberLemmas.{own-deliveries, same-number}
+
+-- a grain has the same place among the activations and among the plain grains
+pub place_of_grain : (names : List (SubName × Registration)) (passes : GrainId → Bool) (n : ℕ) (grains : List (GrainId × PlainActivation)) → first_at (λ entry. passes entry.0) n (grains_of names grains) ≡ first_at (λ entry. passes entry.0) n grains
+place_of_grain names passes n [] = refl
+place_of_grain names passes n (entry ∷ entries) = rw (place_of_grain names passes (suc n) entries) refl
+
+pub grains-length : (names : List (SubName × Registration)) (grains : List (GrainId × PlainActivation)) → length (grains_of names grains) ≡ length grains
+grains-length names [] = refl
+grains-length names (entry ∷ entries) = ap suc (grains-length names entries)
+
+pub activation-at : (names : List (SubName × Registration)) (grains : List (GrainId × PlainActivation)) (i : ℕ) (d : GrainId × PlainActivation) → get_or (grains_of names grains) i (d.0, grain_of names d.1) ≡ ((get_or grains i d).0, grain_of names (get_or grains i d).1)
+activation-at names [] i d = refl
+activation-at names (entry ∷ entries) zero d = refl
+activation-at names (entry ∷ entries) (suc i) d = activation-at names entries i d
+
+pub activation-changed : (names : List (SubName × Registration)) (change : PlainActivation → PlainActivation) (step : Grain → Grain) (i : ℕ) (grains : List (GrainId × PlainActivation)) (d : GrainId × PlainActivation) → i < length grains → grain_of names (change (get_or grains i d).1) ≡ step (grain_of names (get_or grains i d).1) → change_at step i (grains_of names grains) ≡ grains_of names (change_at change i grains)
+activation-changed names change step i [] d within changed = absurd (omega (arith, within))
+activation-changed names change step zero (entry ∷ entries) d within changed = ap (λ st. (entry.0, st) ∷ grains_of names entries) (sym changed)
+activation-changed names change step (suc i) (entry ∷ entries) d within changed =
+    ap (λ rest. (entry.0, grain_of names entry.1) ∷ rest) (activation-changed names change step i entries d (omega (arith, within)) changed)
+
+abbrev pub activation_at : Parts → ℕ → GrainId × PlainActivation → PlainActivation
+activation_at parts i d = (get_or parts.grains i d).1
+
+placed : (parts : Parts) (g : GrainId) (i : ℕ) → place_of same_grain g parts.grains ≡ Some i → place_of same_grain g (grains_of parts.subs.registry.names parts.grains) ≡ Some i
+placed parts g i found = place_of_grain parts.subs.registry.names (same_grain g) 0 parts.grains ∙ found
+
+value-found : (parts : Parts) (g : GrainId) (i : ℕ) (d : GrainId × PlainActivation) → place_of same_grain g parts.grains ≡ Some i → value_at same_grain g (grains_of parts.subs.registry.names parts.grains) ≡ Some (grain_of parts.subs.registry.names (activation_at parts i d))
+value-found parts g i d found =
+    place_of-value same_grain g i (grains_of parts.subs.registry.names parts.grains) (d.0, grain_of parts.subs.registry.names d.1) (placed parts g i found)
+    ∙ ap {B = Option Grain} (λ (entry : GrainId × Grain). Some entry.1) (activation-at parts.subs.registry.names parts.grains i d)
+
+-- the grain with a number
+pub grain-found : (parts : Parts) (g : GrainId) (i : ℕ) (d : GrainId × PlainActivation) → place_of same_grain g parts.grains ≡ Some i → grain_at (plain_of parts) g ≡ grain_of parts.subs.registry.names (activation_at parts i d)
+grain-found parts g i d found = ap (λ o. unwrap_or o new_grain) (value-found parts g i d found)
+
+-- one that was never active
+pub grain-new : (parts : Parts) (g : GrainId) → place_of same_grain g parts.grains ≡ None → grain_at (plain_of parts) g ≡ grain_of parts.subs.registry.names new_activation
+grain-new parts g none =
+    ap (λ o. unwrap_or o new_grain) (place_of-none same_grain g (grains_of parts.subs.registry.names parts.grains) (place_of_grain parts.subs.registry.names (same_grain g) 0 parts.grains ∙ none))
+
+-- its activation changed
+pub grain-set : (parts : Parts) (g : GrainId) (i : ℕ) (d : GrainId × PlainActivation) (change : PlainActivation → PlainActivation) (step : Grain → Grain) → place_of same_grain g parts.grains ≡ Some i → grain_of parts.subs.registry.names (change (activation_at parts i d)) ≡ step (grain_of parts.subs.registry.names (activation_at parts i d)) → with_grain (plain_of parts) g (step (grain_of parts.subs.registry.names (activation_at parts i d))) ≡ plain_of (record parts { grains = change_at change i parts.grains })
+grain-set parts g i d change step found changed =
+    let within = place_of-within same_grain g i parts.grains found in
+    let written = place_of-change same_grain g step (grain_of parts.subs.registry.names (activation_at parts i d)) i (grains_of parts.subs.registry.names parts.grains) (placed parts g i found) (value-found parts g i d found) in
+    let moved = activation-changed parts.subs.registry.names change step i parts.grains d within changed in
+    ap (λ grains. record (plain_of parts) { grains = grains }) (sym written ∙ moved)
+
+grains-push : (names : List (SubName × Registration)) (grains : List (GrainId × PlainActivation)) (entry : GrainId × PlainActivation) → grains_of names (grains ++ entry ∷ []) ≡ grains_of names grains ++ (entry.0, grain_of names entry.1) ∷ []
+grains-push names [] entry = refl
+grains-push names (first ∷ grains) entry = ap (λ rest. (first.0, grain_of names first.1) ∷ rest) (grains-push names grains entry)
+
+-- a grain more
+pub grain-added : (parts : Parts) (g : GrainId) (a : PlainActivation) → place_of same_grain g parts.grains ≡ None → with_grain (plain_of parts) g (grain_of parts.subs.registry.names a) ≡ plain_of (record parts { grains = parts.grains ++ (g, a) ∷ [] })
+grain-added parts g a none =
+    ap (λ grains. record (plain_of parts) { grains = grains })
+    (place_of-added same_grain g (grain_of parts.subs.registry.names a) (grains_of parts.subs.registry.names parts.grains) (place_of_grain parts.subs.registry.names (same_grain g) 0 parts.grains ∙ none)
+    ∙ sym (grains-push parts.subs.registry.names parts.grains (g, a)))
+
+-- ---- what a grain holds of a record
+
+some-length : {A B : Type 0} (f : A → B) (test : A → Bool) (xs : List A) → nat_lt 0 (length (map f (filter test xs))) ≡ list_any test xs
+some-length f test [] = refl
+some-length f test (x ∷ xs) = by (test x) (some-length f test xs)
+  where
+    by : (b : Bool) → nat_lt 0 (length (map f (filter test xs))) ≡ list_any test xs → nat_lt 0 (length (map f (if b then x ∷ filter test xs else filter test xs))) ≡ (b || list_any test xs)
+    by true rest = lt-ltb 0 (suc (length (map f (filter test xs)))) (omega arith)
+    by false rest = rest
+
+map-twice : {A B C : Type 0} (g : B → C) (f : A → B) (xs : List A) → map g (map f xs) ≡ map (λ x. g (f x)) xs
+map-twice g f [] = refl
+map-twice g f (x ∷ xs) = ap (λ rest. g (f x) ∷ rest) (map-twice g f xs)
+
+waiting-is : (names : List (SubName × Registration)) (sub : ℕ) (deliveries : List Delivery) → AreDistinct names → sub < length names → AllByRecursion (λ (d : Delivery). d.sub < length names) deliveries → nat_lt 0 (length (waiting_in (name_at names sub) (map (delivery_of names) deliveries))) ≡ list_any (λ (d : Delivery). sub == d.sub) deliveries
+waiting-is names sub deliveries distinct within all =
+    ap (λ ds. nat_lt 0 (length (map (λ d. d.position) ds))) (own-deliveries names sub deliveries distinct within all)
+    ∙ ap (λ positions. nat_lt 0 (length positions)) (map-twice (λ d. d.position) (delivery_of names) (filter (λ (d : Delivery). sub == d.sub) deliveries))
+    ∙ some-length (λ (d : Delivery). d.position) (λ (d : Delivery). sub == d.sub) deliveries
+
+abbrev pub AreSome : Option RunningTurn → Type 0
+AreSome None = Unit {0}
+AreSome (Some run) = 0 < length run.positions
+
+running-is : (names : List (SubName × Registration)) (sub : ℕ) (running : Option RunningTurn) → AreDistinct names → sub < length names → TurnIsBelow (length names) running → AreSome running → nat_lt 0 (length (running_in (name_at names sub) (option_map (turn_of names) running))) ≡ runs sub running
+running-is names sub None distinct within below some = refl
+running-is names sub (Some run) distinct within below some =
+    rw (same-number names sub run.sub distinct within below) (by (sub == run.sub) run.positions some)
+  where
+    by : (b : Bool) (positions : List ℕ) → 0 < length positions → nat_lt 0 (length (if b then positions else [])) ≡ b
+    by false positions more = refl
+    by true [] more = absurd (omega (arith, more))
+    by true (position ∷ positions) more = lt-ltb 0 (suc (length positions)) (omega arith)
+
+-- something of the record is on its way, or handled and not acknowledged
+pub outstanding-is : (parts : Parts) (sub : ℕ) (a : PlainActivation) → AreDistinct parts.subs.registry.names → sub < length parts.subs.registry.names → IsBelow (length parts.subs.registry.names) a → AreSome a.running
+    → (nat_lt 0 (length (waiting_in (name_at parts.subs.registry.names sub) (grain_of parts.subs.registry.names a).mailbox)) || nat_lt 0 (length (running_in (name_at parts.subs.registry.names sub) (grain_of parts.subs.registry.names a).running))) ≡ holds sub a
+outstanding-is parts sub a distinct within below some =
+    rw (waiting-is parts.subs.registry.names sub a.mailbox distinct within below.waiting, running-is parts.subs.registry.names sub a.running distinct within below.running some) refl

@@ -1,0 +1,275 @@
+-- What grains know where records are added, where turns begin and end, and where a grain leaves memory.
+use Rattle.std.proofs.Common.{◌≡◌, ◌≢◌, ◌∙◌, ap, sym, subst, refl, ℕ, zero, suc, ◌+◌, ◌-◌, ◌<◌, ◌≤◌, Bool, true, false, ◌||◌, ◌&&◌, not, List, [], ◌∷◌, ◌++◌, length, map, drop, get_or, Option, Some, None, nat_lt, arith}
+use Rattle.std.proofs.lemmas.Bool.{eq-eqb, false≢true, ne_eqb}
+use Rattle.std.proofs.lemmas.List.{get_or-append-add, get_or-map, get_or_append_left, length-append}
+use Rattle.std.specs.List.{AllByRecursion, list_any}
+use Rattle.std.specs.Prelude.{if◌then◌else◌, ◌==◌, is_some}
+use Rattle.stream_ident.specs.declared.ident.GrainId.{GrainId}
+use Rattle.stream_ident.specs.declared.ident.SubName.{SubName}
+use Rattle.stream_ident.specs.Name.{same_grain}
+use Rattle.stream_ident.specs.Words.{place_of}
+use Rattle.stream_model.proofs.Lookups.{place_of-within}
+use Rattle.stream_model.proofs.Values.{same_grain-equal, same_grain-refl}
+use Rattle.stream_model.specs.declared.plain.Subscription.{Subscription}
+use Rattle.stream_model.specs.Pulling.{rewound_where}
+use Rattle.consumer_grain.specs.Activations.{PlainActivation, begin, begin_front, begin_turn, front_of, holds, runs, turn_size}
+use Rattle.consumer_grain.specs.declared.delivery.Delivery.{Delivery}
+use Rattle.consumer_grain.specs.declared.turn.RunningTurn.{RunningTurn}
+use Rattle.consumer_grain.specs.Subscriptions.{PlainState}
+use Rattle.grain_table.proofs.FirstLemmas.{first_at-Some}
+use Rattle.grain_table.specs.Changes.{activation_at, grain_at, no_grain}
+use Rattle.grain_table.specs.Grains as table
+use Rattle.pubsub_registry.specs.declared.registration.Registration.{Registration}
+use Rattle.subscription_table.specs.Table.{PlainTable, is_in, new_states, no_entry, no_state, rewound_open, state_at, AreRewound}
+use Rattle.step_core.specs.declared.parts.Parts.{Parts}
+use Rattle.step_core.specs.Known.{AreKnown, IsOf, IsUnheld, IsUnknown, IsUntouched}
+use Rattle.step_core.specs.Numbers.{IsBelow, TurnIsBelow}
+use Rattle.step_core.specs.View.{sub_of}
+use Rattle.step_core.proofs.DeactivateOps as deactivating
+use Rattle.step_core.proofs.DeactivateOps.{is_its}
+use Rattle.step_core.proofs.KnownOps.{Either, Left, Right, known-states, none-or, or-none, same-or}
+use Rattle.step_core.proofs.RecordOps.{record_at}
+
+-- ---- records more
+
+mail-below : (m n : ℕ) (ds : List Delivery) → m ≤ n → AllByRecursion (λ (d : Delivery). d.sub < m) ds → list_any (λ (d : Delivery). n == d.sub) ds ≡ false
+mail-below m n [] le below = refl
+mail-below m n (d ∷ ds) le below =
+    none-or (n == d.sub) (list_any (λ (e : Delivery). n == e.sub) ds) (ne_eqb n d.sub (λ same. absurd (omega (arith, same, below.0, le)))) (mail-below m n ds le below.1)
+
+runs-below : (m n : ℕ) (running : Option RunningTurn) → m ≤ n → TurnIsBelow m running → runs n running ≡ false
+runs-below m n None le below = refl
+runs-below m n (Some run) le below = ne_eqb n run.sub (λ same. absurd (omega (arith, same, below, le)))
+
+holds-below : (m n : ℕ) (a : PlainActivation) → m ≤ n → IsBelow m a → holds n a ≡ false
+holds-below m n a le below =
+    none-or (list_any (λ (d : Delivery). n == d.sub) a.mailbox) (runs n a.running) (mail-below m n a.mailbox le below.waiting) (runs-below m n a.running le below.running)
+
+below-at : (m j : ℕ) (grains : List (GrainId × PlainActivation)) → j < length grains → AllByRecursion (λ (e : GrainId × PlainActivation). IsBelow m e.1) grains → IsBelow m (activation_at grains j)
+below-at m j [] within all = absurd (omega (arith, within))
+below-at m zero (e ∷ grains) within all = all.0
+below-at m (suc j) (e ∷ grains) within all = below-at m j grains (omega (arith, within)) all.1
+
+-- records that have handled nothing, at a position
+pub known-grown : (names entries : List (SubName × Registration)) (states : List PlainState) (position : ℕ) (grains : List (GrainId × PlainActivation)) → AreKnown names states grains → length states ≡ length names
+    → AllByRecursion (λ (e : GrainId × PlainActivation). IsBelow (length names) e.1) grains
+    → AreKnown (names ++ entries) (states ++ new_states position entries) grains
+known-grown names entries states position grains known lengths below = record {
+  within = λ k n within is. let old = known.within k n within is in omega (arith, old, long);
+  theirs = λ k n within is. of_there k n (known.within k n within is) (known.theirs k n within is);
+  untouched = λ n within is_open unknown. by n within is_open unknown (side n (length names));
+}
+  where
+    long : length (names ++ entries) ≡ length names + length entries
+    long = length-append names entries
+
+    side : (a b : ℕ) → Either (a < b) (b ≤ a)
+    side a zero = Right (omega arith)
+    side zero (suc b) = Left (omega arith)
+    side (suc a) (suc b) = next (side a b)
+      where
+        next : Either (a < b) (b ≤ a) → Either (suc a < suc b) (suc b ≤ suc a)
+        next (Left less) = Left (omega (arith, less))
+        next (Right le) = Right (omega (arith, le))
+
+    of_there : (k n : ℕ) → n < length names → IsOf names grains n k → IsOf (names ++ entries) grains n k
+    of_there k n within is = subst (λ (e : SubName × Registration). same_grain e.1.grain (grain_at grains k) ≡ true) (sym (get_or_append_left names entries no_entry n within)) is
+
+    of_back : (k n : ℕ) → n < length names → IsOf (names ++ entries) grains n k → IsOf names grains n k
+    of_back k n within is = subst (λ (e : SubName × Registration). same_grain e.1.grain (grain_at grains k) ≡ true) (get_or_append_left names entries no_entry n within) is
+
+    New : List PlainState
+    New = states ++ new_states position entries
+
+    is_new : (n : ℕ) → length names ≤ n → n < length (names ++ entries) → ((get_or New n no_state).cursor ≡ (get_or New n no_state).resume) × ((get_or New n no_state).handled ≡ [])
+    is_new n past within =
+        let P : PlainState → Type 0 = λ s. (s.cursor ≡ s.resume) × (s.handled ≡ []) in
+        let is : get_or New n no_state ≡ get_or (new_states position entries) (n - length states) no_state =
+        ap (λ m. get_or New m no_state) {x = n} {y = length states + (n - length states)} (omega (arith, past, lengths)) ∙ get_or-append-add states (new_states position entries) (n - length states) no_state in
+        subst P (sym (is ∙ get_or-map (λ (e : SubName × Registration). new_one e) entries (n - length states) no_entry no_state (omega (arith, past, within, long, lengths)))) (refl, refl)
+      where
+        new_one : SubName × Registration → PlainState
+        new_one e = record { start = e.1.start; handled = []; note = 0; resume = position; cursor = position; is_open = true }
+
+    by : (n : ℕ) → n < length (names ++ entries) → (get_or New n no_state).is_open ≡ true → IsUnknown (names ++ entries) grains n → Either (n < length names) (length names ≤ n) → IsUntouched (names ++ entries) New grains n
+    by n within is_open unknown (Left old) =
+        let kept : get_or New n no_state ≡ get_or states n no_state = get_or_append_left states (new_states position entries) no_state n (omega (arith, old, lengths)) in
+        let was = known.untouched n old (subst (λ s. s.is_open ≡ true) kept is_open) (λ k in_k of_k. unknown k in_k (of_there k n old of_k)) in
+        record {
+          at_resume = ap (λ s. s.cursor) kept ∙ was.at_resume ∙ sym (ap (λ s. s.resume) kept);
+          unhandled = ap (λ s. s.handled) kept ∙ was.unhandled;
+          unheld = λ k in_k of_k. was.unheld k in_k (of_back k n old of_k);
+        }
+    by n within is_open unknown (Right past) =
+        let is = is_new n past within in
+        record { at_resume = is.0; unhandled = is.1; unheld = λ k in_k of_k. holds-below (length names) n (activation_at grains k) past (below-at (length names) k grains in_k below) }
+
+-- ---- turns
+
+any-dropped : (p : Delivery → Bool) (k : ℕ) (ds : List Delivery) → list_any p ds ≡ false → list_any p (drop k ds) ≡ false
+any-dropped p zero ds none = none
+any-dropped p (suc k) [] none = refl
+any-dropped p (suc k) (d ∷ ds) none = any-dropped p k ds (or-none (p d) (list_any p ds) none).1
+
+begin-turn-holds : (n : ℕ) (a : PlainActivation) (d : Delivery) (ds : List Delivery) (positions : List ℕ) (turn : Option ℕ) → a.mailbox ≡ d ∷ ds → holds n a ≡ false → holds n (begin_turn a d.sub positions turn).0 ≡ false
+begin-turn-holds n a d ds positions None front none = none
+begin-turn-holds n a d ds positions (Some turn) front none =
+    let parts = or-none (list_any (λ (e : Delivery). n == e.sub) a.mailbox) (runs n a.running) none in
+    let first = or-none (n == d.sub) (list_any (λ (e : Delivery). n == e.sub) ds) (sym (ap (list_any (λ (e : Delivery). n == e.sub)) front) ∙ parts.0) in
+    none-or (list_any (λ (e : Delivery). n == e.sub) (drop (length positions) a.mailbox)) (n == d.sub) (any-dropped (λ e. n == e.sub) (length positions) a.mailbox parts.0) first.0
+
+begin-front-holds : (n : ℕ) (a : PlainActivation) (past : ℕ) (turn : Option ℕ) (size : ℕ) (ds : List Delivery) → a.mailbox ≡ ds → holds n a ≡ false → holds n (begin_front a past turn size ds).0 ≡ false
+begin-front-holds n a past turn size [] mail none = none
+begin-front-holds n a past turn size (d ∷ ds) mail none = by (nat_lt d.position past)
+  where
+    parts : (list_any (λ (e : Delivery). n == e.sub) a.mailbox ≡ false) × (runs n a.running ≡ false)
+    parts = or-none (list_any (λ (e : Delivery). n == e.sub) a.mailbox) (runs n a.running) none
+
+    first : ((n == d.sub) ≡ false) × (list_any (λ (e : Delivery). n == e.sub) ds ≡ false)
+    first = or-none (n == d.sub) (list_any (λ (e : Delivery). n == e.sub) ds) (sym (ap (list_any (λ (e : Delivery). n == e.sub)) mail) ∙ parts.0)
+
+    by : (b : Bool) → holds n (if b then (record a { mailbox = ds }, Rattle.consumer_grain.specs.declared.told.Begun.TheVariants.Dropped d) else begin_turn a d.sub (front_of size d.sub d.position a.mailbox) turn).0 ≡ false
+    by true = none-or (list_any (λ (e : Delivery). n == e.sub) ds) (runs n a.running) first.1 parts.1
+    by false = begin-turn-holds n a d ds (front_of size d.sub d.position a.mailbox) turn mail none
+
+-- a grain that begins a turn holds no more, and knows the same
+pub begin-holds : (n : ℕ) (a : PlainActivation) (past : ℕ) (turn : Option ℕ) (max_events : ℕ) → holds n a ≡ false → holds n (begin a past turn max_events).0 ≡ false
+begin-holds n a past turn max_events none = by (is_some a.running) a.active
+  where
+    by : (busy active : Bool) → holds n (if busy then (a, Rattle.consumer_grain.specs.declared.told.Begun.TheVariants.Busy) else if not active then (a, Rattle.consumer_grain.specs.declared.told.Begun.TheVariants.Empty) else begin_front a past turn (turn_size max_events) a.mailbox).0 ≡ false
+    by true active = none
+    by false false = none
+    by false true = begin-front-holds n a past turn (turn_size max_events) a.mailbox refl none
+
+begin-turn-subs : (a : PlainActivation) (sub : ℕ) (positions : List ℕ) (turn : Option ℕ) → (begin_turn a sub positions turn).0.subs ≡ a.subs
+begin-turn-subs a sub positions None = refl
+begin-turn-subs a sub positions (Some turn) = refl
+
+begin-front-subs : (a : PlainActivation) (past : ℕ) (turn : Option ℕ) (size : ℕ) (ds : List Delivery) → (begin_front a past turn size ds).0.subs ≡ a.subs
+begin-front-subs a past turn size [] = refl
+begin-front-subs a past turn size (d ∷ ds) = by (nat_lt d.position past)
+  where
+    by : (b : Bool) → (if b then (record a { mailbox = ds }, Rattle.consumer_grain.specs.declared.told.Begun.TheVariants.Dropped d) else begin_turn a d.sub (front_of size d.sub d.position a.mailbox) turn).0.subs ≡ a.subs
+    by true = refl
+    by false = begin-turn-subs a d.sub (front_of size d.sub d.position a.mailbox) turn
+
+pub begin-subs : (a : PlainActivation) (past : ℕ) (turn : Option ℕ) (max_events : ℕ) → (begin a past turn max_events).0.subs ≡ a.subs
+begin-subs a past turn max_events = by (is_some a.running) a.active
+  where
+    by : (busy active : Bool) → (if busy then (a, Rattle.consumer_grain.specs.declared.told.Begun.TheVariants.Busy) else if not active then (a, Rattle.consumer_grain.specs.declared.told.Begun.TheVariants.Empty) else begin_front a past turn (turn_size max_events) a.mailbox).0.subs ≡ a.subs
+    by true active = refl
+    by false false = refl
+    by false true = begin-front-subs a past turn (turn_size max_events) a.mailbox
+
+-- a turn that ends isn't held any more
+pub ended-holds : (n : ℕ) (a : PlainActivation) → holds n a ≡ false → holds n (record a { running = None }) ≡ false
+ended-holds n a none = none-or (list_any (λ (e : Delivery). n == e.sub) a.mailbox) false (or-none (list_any (λ (e : Delivery). n == e.sub) a.mailbox) (runs n a.running) none).0 refl
+
+-- ---- a grain leaves memory
+
+rewound-parts : (b : Bool) (s : PlainState) → (if b then rewound_open s else s).is_open ≡ s.is_open
+rewound-parts true s = refl
+rewound-parts false s = refl
+
+rewound-handled : (b : Bool) (s : PlainState) → (if b then rewound_open s else s).handled ≡ s.handled
+rewound-handled true s = refl
+rewound-handled false s = refl
+
+rewound-at : (b : Bool) (s : PlainState) → s.cursor ≡ s.resume → (if b then rewound_open s else s).cursor ≡ (if b then rewound_open s else s).resume
+rewound-at true s at = by s.is_open
+  where
+    by : (is_open : Bool) → (if is_open then s.resume else s.cursor) ≡ s.resume
+    by true = refl
+    by false = at
+rewound-at false s at = at
+
+pub known-deactivated : (numbers : List ℕ) (old new : PlainTable) (grains : List (GrainId × PlainActivation)) → length old.states ≡ length old.registry.names → AreKnown old.registry.names old.states grains → AreRewound numbers old new
+    → AreKnown old.registry.names new.states grains
+known-deactivated numbers old new grains lengths known rewound =
+    known-states old.registry.names old.states new.states grains known (λ n within is_open.
+    let is : state_at new n ≡ (if is_in numbers n then rewound_open (state_at old n) else state_at old n) = rewound.each n (omega (arith, within, lengths)) in (
+      sym (rewound-parts (is_in numbers n) (state_at old n)) ∙ sym (ap (λ s. s.is_open) is) ∙ is_open,
+      λ at none unheld. (
+        ap (λ s. s.cursor) is ∙ rewound-at (is_in numbers n) (state_at old n) at ∙ sym (ap (λ s. s.resume) is),
+        ap (λ s. s.handled) is ∙ rewound-handled (is_in numbers n) (state_at old n) ∙ none,
+      ),
+    ))
+
+any-default : {A : Type 0} (xs : List A) (i : ℕ) (d e : A) → i < length xs → get_or xs i d ≡ get_or xs i e
+any-default [] i d e within = absurd (omega (arith, within))
+any-default (x ∷ xs) zero d e within = refl
+any-default (x ∷ xs) (suc i) d e within = any-default xs i d e (omega (arith, within))
+
+pub found-own : (g : GrainId) (j : ℕ) (grains : List (GrainId × PlainActivation)) → place_of same_grain g grains ≡ Some j → same_grain g (grain_at grains j) ≡ true
+found-own g j grains found =
+    let first = first_at-Some (λ (e : GrainId × PlainActivation). same_grain g e.0) 0 grains no_grain j found in
+    let same = first.at in
+    subst (λ k. same_grain g (grain_at grains k) ≡ true) {x = first.place} {y = j} (omega (arith, same)) first.is
+
+-- the numbers that a grain knows are all whose cursors have to go back
+pub rewound-is : (parts : Parts) (g : GrainId) (j : ℕ) (new : PlainTable) → length parts.subs.states ≡ length parts.subs.registry.names → AreKnown parts.subs.registry.names parts.subs.states parts.grains → table.AreDistinct parts.grains
+    → place_of same_grain g parts.grains ≡ Some j → AreRewound (activation_at parts.grains j).subs parts.subs new → deactivating.AreRewound g parts new.states
+rewound-is parts g j new lengths known distinct found rewound i d e within =
+    subst P (any-default names i no_entry d within) (
+    subst (λ s. Q no_entry s e) (any-default new.states i no_state e (omega (arith, within, lengths, rewound.long)))
+    (subst (λ s. Same (get_or names i no_entry) (state_at new i) s) (any-default states i no_state e (omega (arith, within, lengths))) (is (is_in numbers i) refl)))
+  where
+    names : List (SubName × Registration)
+    names = parts.subs.registry.names
+
+    states : List PlainState
+    states = parts.subs.states
+
+    numbers : List ℕ
+    numbers = (activation_at parts.grains j).subs
+
+    Same : SubName × Registration → PlainState → PlainState → Type 0
+    Same entry now was = (sub_of entry now).1 ≡ rewound_where (is_its g (sub_of entry was).1) (sub_of entry was).1
+
+    Q : SubName × Registration → PlainState → PlainState → Type 0
+    Q entry now e' = Same (get_or names i entry) now (get_or states i e')
+
+    P : SubName × Registration → Type 0
+    P entry = Same entry (get_or new.states i e) (get_or states i e)
+
+    inside : j < length parts.grains
+    inside = place_of-within same_grain g j parts.grains found
+
+    own : g ≡ grain_at parts.grains j
+    own = same_grain-equal g (grain_at parts.grains j) (found-own g j parts.grains found)
+
+    old : PlainState
+    old = state_at parts.subs i
+
+    entry : SubName × Registration
+    entry = get_or names i no_entry
+
+    now : (b : Bool) → is_in numbers i ≡ b → state_at new i ≡ (if b then rewound_open old else old)
+    now b in_them = rewound.each i (omega (arith, within, lengths)) ∙ ap (λ c. if c then rewound_open old else old) in_them
+
+    back : (its is_open : Bool) → its ≡ true → (sub_of entry (record old { is_open = is_open; cursor = if is_open then old.resume else old.cursor })).1 ≡ rewound_where (its && is_open) (sub_of entry (record old { is_open = is_open })).1
+    back true true is = refl
+    back true false is = refl
+    back false is_open is = absurd (false≢true is)
+
+    stays : (its is_open : Bool) → (its ≡ true → is_open ≡ true → old.cursor ≡ old.resume) → (sub_of entry (record old { is_open = is_open })).1 ≡ rewound_where (its && is_open) (sub_of entry (record old { is_open = is_open })).1
+    stays true true at = ap (λ (cursor : ℕ). (sub_of entry (record old { is_open = true; cursor = cursor })).1) (at refl refl)
+    stays true false at = refl
+    stays false is_open at = refl
+
+    unknown : same_grain g entry.1.grain ≡ true → is_in numbers i ≡ false → IsUnknown names parts.grains i
+    unknown its none k in_k of_k =
+        let grain_k : entry.1.grain ≡ grain_at parts.grains k = same_grain-equal entry.1.grain (grain_at parts.grains k) of_k in
+        let grain_i : g ≡ entry.1.grain = same_grain-equal g entry.1.grain its in
+        let same : grain_at parts.grains k ≡ grain_at parts.grains j = sym grain_k ∙ sym grain_i ∙ own in
+        let at_j : k ≡ j = distinct k j no_grain in_k inside (subst (λ (h : GrainId). same_grain (grain_at parts.grains k) h ≡ true) same (same_grain-refl (grain_at parts.grains k))) in
+        subst (λ m. is_in (activation_at parts.grains m).subs i ≡ false) (sym at_j) none
+
+    is : (b : Bool) → is_in numbers i ≡ b → Same entry (state_at new i) old
+    is true in_them =
+        let its : same_grain g entry.1.grain ≡ true =
+        subst (λ (h : GrainId). same_grain h entry.1.grain ≡ true) (same_grain-equal entry.1.grain (grain_at parts.grains j) (known.theirs j i inside in_them) ∙ sym own) (same_grain-refl entry.1.grain) in
+        subst (λ s. Same entry s old) (sym (now true in_them)) (back (same_grain g entry.1.grain) old.is_open its)
+    is false none =
+        subst (λ s. Same entry s old) (sym (now false none))
+        (stays (same_grain g entry.1.grain) old.is_open (λ its is_open. (known.untouched i within is_open (unknown its none)).at_resume))

@@ -1,0 +1,101 @@
+-- Blocks are dropped and agents replaced, done by the parts.
+use Rattle.std.proofs.Common.{◌≡◌, ◌∙◌, ap, sym, refl, ℕ, suc, ◌+◌, ◌*◌, ◌<◌, ◌≤◌, min, Bool, true, false, not, List, [], ◌∷◌, length, drop, get_or, Option, Some, None, ◌==◌, nat_le, arith}
+use Rattle.std.specs.Prelude.{if◌then◌else◌, unwrap_or, ◌-◌, ◌/◌, Result, Ok, Err}
+use Rattle.std.proofs.lemmas.List.{length-drop}
+use Rattle.stream_ident.specs.declared.ident.SubName.{SubName}
+use Rattle.stream_ident.specs.Words.{each_value, least_with}
+use Rattle.stream_model.specs.declared.plain.PlainPartition.{PlainPartition}
+use Rattle.stream_model.specs.declared.plain.Subscription.{Subscription}
+use Rattle.stream_model.specs.declared.reply.Reply.{Reply}
+use Rattle.stream_model.specs.declared.reply.Reply.TheVariants as reply
+use Rattle.stream_model.specs.Positions.{is_spent, open_resumes, slowest, token_at}
+use Rattle.stream_model.specs.Pulling as plain
+use Rattle.consumer_grain.specs.Subscriptions.{PlainState}
+use Rattle.pubsub_registry.specs.declared.registration.Registration.{Registration}
+use Rattle.pulling_agent.specs.Agent as agent
+use Rattle.pulling_agent.specs.declared.told.StaleAgent.{StaleAgent}
+use Rattle.queue_cache.specs.Cache.{PlainCache, block_count, high}
+use Rattle.step_core.specs.declared.parts.Parts.{Parts}
+use Rattle.step_core.specs.PlainOf.{plain_of}
+use Rattle.step_core.specs.View.{sub_of}
+use Rattle.step_core.proofs.RecordOps.{record_at}
+use Rattle.step_core.proofs.ViewLemmas.{records-changed}
+
+-- without blocks of events that it has, the cache ends where it ended
+pub high-without : (blocks : ℕ) (c : PlainCache) → 64 * blocks ≤ length c.events → high (agent.without_blocks blocks c) ≡ high c
+high-without blocks c le = omega (arith, le, length-drop (64 * blocks) c.events)
+
+pub free-le : (a : agent.PlainAgent) (least : ℕ) → 64 * agent.free_blocks a least ≤ length a.cache.events
+free-le a least = omega arith
+
+abbrev pub purged_by : Parts → agent.PlainAgent × Result ℕ StaleAgent → PlainPartition × Reply
+purged_by parts (a, Ok low) = (plain_of (record parts { agent = a }), reply.Purged (token_at (plain_of parts) low))
+purged_by parts (a, Err stale) = (plain_of parts, reply.StaleAgent stale.now)
+
+pub purge-parts : (parts : Parts) (generation keep : ℕ) → plain.purge (plain_of parts) generation keep ≡ purged_by parts (agent.purge parts.agent generation keep (slowest (plain_of parts)))
+unfolding plain.purge plain.purge_to
+purge-parts parts generation keep = by (not (generation == parts.agent.generation))
+  where
+    c : PlainCache
+    c = parts.agent.cache
+
+    least : ℕ
+    least = slowest (plain_of parts)
+
+    blocks : ℕ
+    blocks = agent.purges parts.agent keep least
+
+    same : plain.purges (plain_of parts) keep ≡ blocks
+    same = ap (λ n. min ((n + 63) / 64 - keep) (agent.free_blocks parts.agent least)) {x = high c - c.low} {y = length c.events} (omega arith)
+
+    within : 64 * blocks ≤ length c.events
+    within = let free = free-le parts.agent least in omega (arith, free)
+
+    left : PlainPartition × Reply
+    left = (record (plain_of parts) { low = c.low + 64 * plain.purges (plain_of parts) keep }, reply.Purged (token_at (plain_of parts) (c.low + 64 * plain.purges (plain_of parts) keep)))
+
+    right : PlainPartition × Reply
+    right = (plain_of (record parts { agent = record parts.agent { cache = agent.without_blocks blocks c } }), reply.Purged (token_at (plain_of parts) (c.low + 64 * blocks)))
+
+    drops : left ≡ right
+    drops =
+        ap {B = PlainPartition × Reply} (λ n. (record (plain_of parts) { low = c.low + 64 * n }, reply.Purged (token_at (plain_of parts) (c.low + 64 * n)))) same
+        ∙ ap {B = PlainPartition × Reply} (λ n. (record (plain_of parts) { low = c.low + 64 * blocks; high = n }, reply.Purged (token_at (plain_of parts) (c.low + 64 * blocks)))) (sym (high-without blocks c within))
+
+    by : (stale : Bool)
+        → (if stale then (plain_of parts, reply.StaleAgent parts.agent.generation) else left)
+        ≡ purged_by parts (if stale then (parts.agent, Err (record { now = parts.agent.generation })) else agent.purge_blocks parts.agent blocks)
+    by true = refl
+    by false = drops
+
+-- these states are the old ones, with the cursors of the open records back at their resumes
+abbrev pub AreAllRewound : Parts → List PlainState → Type 0
+AreAllRewound parts new =
+    (i : ℕ) (d : SubName × Registration) (e : PlainState) → i < length parts.subs.registry.names
+    → (sub_of (get_or parts.subs.registry.names i d) (get_or new i e)).1 ≡ plain.rewound_where (record_at parts i d e).is_open (record_at parts i d e)
+
+abbrev pub moved : Parts → ℕ → ℕ → List PlainState → Parts
+moved parts silo at new = record parts { agent = (agent.take_over parts.agent silo at).0; subs = record parts.subs { states = new }; rises = suc parts.rises }
+
+pub move-parts : (parts : Parts) (silo at : ℕ) (new : List PlainState) → length parts.subs.registry.names ≡ length parts.subs.states → length new ≡ length parts.subs.states → at ≡ least_with (high parts.agent.cache) (open_resumes (plain_of parts)) → AreAllRewound parts new
+    → plain.move (plain_of parts) silo
+    ≡ (if nat_le parts.limits.rises parts.rises then (plain_of parts, reply.Spent) else (plain_of (moved parts silo at new), reply.Moved (suc parts.agent.generation) (token_at (plain_of parts) at)))
+unfolding plain.move plain.move_to
+move-parts parts silo at new lengths as_long is_at rewinds = by (nat_le parts.limits.rises parts.rises)
+  where
+    left : PlainPartition × Reply
+    left = plain.move_to (plain_of parts) silo (least_with (high parts.agent.cache) (open_resumes (plain_of parts)))
+
+    right : PlainPartition × Reply
+    right = (plain_of (moved parts silo at new), reply.Moved (suc parts.agent.generation) (token_at (plain_of parts) at))
+
+    moves : left ≡ right
+    moves =
+        ap (plain.move_to (plain_of parts) silo) (sym is_at)
+        ∙ ap {B = PlainPartition × Reply} (λ subs. (record (plain_of parts) { generation = suc parts.agent.generation; silo = silo; rises = suc parts.rises; low = at; high = at; subs = subs }, reply.Moved (suc parts.agent.generation) (token_at (plain_of parts) at)))
+        (records-changed (λ r. plain.rewound_where r.is_open r) parts.subs.registry.names parts.subs.states new lengths as_long rewinds)
+        ∙ ap {B = PlainPartition × Reply} (λ n. (record (plain_of (moved parts silo at new)) { high = n }, reply.Moved (suc parts.agent.generation) (token_at (plain_of parts) at))) {x = at} {y = at + 0} (omega arith)
+
+    by : (spent : Bool) → (if spent then (plain_of parts, reply.Spent) else left) ≡ (if spent then (plain_of parts, reply.Spent) else right)
+    by true = refl
+    by false = moves

@@ -1,0 +1,152 @@
+-- Blocks that leave the cache and an agent that takes over leave parts that agree with each other.
+use Rattle.std.proofs.Common.{◌≡◌, ◌∙◌, ap, sym, subst, refl, ℕ, zero, suc, ◌+◌, ◌-◌, ◌*◌, ◌<◌, ◌≤◌, min, Bool, true, false, not, List, [], ◌∷◌, length, take, drop, get_or, map, ◌==◌, arith}
+use Rattle.std.specs.Prelude.{if◌then◌else◌, Result, Ok, Err}
+use Rattle.std.proofs.lemmas.Bool.{lt-leb, le-leb}
+use Rattle.stream_ident.specs.declared.token.Token.{Token}
+use Rattle.stream_ident.specs.Words.{least_with}
+use Rattle.stream_model.specs.declared.plain.PlainPartition.{PlainPartition}
+use Rattle.stream_model.specs.declared.reply.Reply.{Reply}
+use Rattle.stream_model.specs.declared.reply.Reply.TheVariants as reply
+use Rattle.stream_model.specs.Positions.{between, open_resumes, slowest, token_at}
+use Rattle.stream_model.specs.Pulling as plain
+use Rattle.consumer_grain.specs.Subscriptions.{PlainState}
+use Rattle.pulling_agent.specs.Agent as agent
+use Rattle.pulling_agent.specs.declared.told.StaleAgent.{StaleAgent}
+use Rattle.queue_cache.specs.Cache.{PlainCache, high}
+use Rattle.subscription_table.specs.Standing.{AreRecords}
+use Rattle.subscription_table.specs.Table.{PlainTable, rewound_all, rewound_open}
+use Rattle.step_core.specs.Assembly.{HasEvents, IsAssembled}
+use Rattle.step_core.specs.PlainOf.{plain_of}
+use Rattle.step_core.specs.View.{sub_of}
+use Rattle.step_core.specs.declared.parts.Parts.{Parts}
+use Rattle.step_core.proofs.CachedEvents.{between-drop}
+use Rattle.step_core.proofs.DeactivateOps.{length-map}
+use Rattle.step_core.proofs.KnownOps.{known-rewound}
+use Rattle.step_core.proofs.LeafOps.{moved-to, slowest-is}
+use Rattle.step_core.proofs.MoveOps.{AreAllRewound, free-le, high-without, move-parts, moved, purge-parts, purged_by}
+
+-- ---- blocks leave the cache
+
+pub purges-le : (a : agent.PlainAgent) (keep least : ℕ) → 64 * agent.purges a keep least ≤ length a.cache.events
+purges-le a keep least = let free = free-le a least in omega (arith, free)
+
+-- the cache keeps the events of the other blocks
+pub has-without : (parts : Parts) (blocks : ℕ) → 64 * blocks ≤ length parts.agent.cache.events → HasEvents parts → HasEvents (record parts { agent = record parts.agent { cache = agent.without_blocks blocks parts.agent.cache } })
+has-without parts blocks within has =
+    ap (drop (64 * blocks)) has
+    ∙ between-drop parts.queue.events c.low (high c) (64 * blocks) (omega (arith, within))
+    ∙ ap (between parts.queue.events (c.low + 64 * blocks)) (sym (high-without blocks c within))
+  where
+    c : PlainCache
+    c = parts.agent.cache
+
+module _ (parts : Parts) (generation keep : ℕ) where
+  abbrev purge_by : ℕ → Bool → agent.PlainAgent × Result ℕ StaleAgent
+  purge_by least stale = if stale then (parts.agent, Err (record { now = parts.agent.generation })) else agent.purge_blocks parts.agent (agent.purges parts.agent keep least)
+
+  purged-assembled-by : (least : ℕ) (stale : Bool) → IsAssembled parts → IsAssembled (record parts { agent = (purge_by least stale).0 })
+  purged-assembled-by least true assembled = assembled
+  purged-assembled-by least false assembled =
+      record {
+        most_subs = assembled.most_subs;
+        most_rules = assembled.most_rules;
+        most_events = assembled.most_events;
+        cached = has-without parts (agent.purges parts.agent keep least) (purges-le parts.agent keep least) assembled.cached;
+        numbered = assembled.numbered;
+        known = assembled.known;
+      }
+
+  pub purged-assembled : (least : ℕ) (new : agent.PlainAgent) (told : Result ℕ StaleAgent) → IsAssembled parts → (new, told) ≡ agent.purge parts.agent generation keep least → IsAssembled (record parts { agent = new })
+  purged-assembled least new told assembled done =
+      subst (λ (left : agent.PlainAgent × Result ℕ StaleAgent). IsAssembled (record parts { agent = left.0 })) (sym done)
+      (purged-assembled-by least (not (generation == parts.agent.generation)) assembled)
+
+  purged-same : (least : ℕ) → least ≡ slowest (plain_of parts) → purged_by parts (agent.purge parts.agent generation keep least) ≡ plain.purge (plain_of parts) generation keep
+  purged-same least is_least =
+      ap (λ n. purged_by parts (agent.purge parts.agent generation keep n)) is_least ∙ sym (purge-parts parts generation keep)
+
+  -- blocks were dropped
+  pub purged-done : (least : ℕ) (new : agent.PlainAgent) (low : ℕ) → least ≡ slowest (plain_of parts) → (new, Ok low) ≡ agent.purge parts.agent generation keep least
+      → (plain_of (record parts { agent = new }), reply.Purged (token_at (plain_of parts) low)) ≡ plain.purge (plain_of parts) generation keep
+  purged-done least new low is_least done = ap (purged_by parts) done ∙ purged-same least is_least
+
+  stale-unchanged : (least : ℕ) (stale : Bool) (new : agent.PlainAgent) (told : StaleAgent) → (new, Err told) ≡ purge_by least stale → new ≡ parts.agent
+  stale-unchanged least true new told done = ap (λ (left : agent.PlainAgent × Result ℕ StaleAgent). left.0) done
+  stale-unchanged least false new told done = let other = ap (λ (left : agent.PlainAgent × Result ℕ StaleAgent). left.1) done in absurd (cc)
+
+  -- the agent was replaced
+  pub purged-stale : (least : ℕ) (new : agent.PlainAgent) (stale : StaleAgent) → least ≡ slowest (plain_of parts) → (new, Err stale) ≡ agent.purge parts.agent generation keep least
+      → (plain_of (record parts { agent = new }), reply.StaleAgent stale.now) ≡ plain.purge (plain_of parts) generation keep
+  purged-stale least new stale is_least done =
+      ap {B = PlainPartition × Reply} (λ a. (plain_of (record parts { agent = a }), reply.StaleAgent stale.now)) (stale-unchanged least (not (generation == parts.agent.generation)) new stale done)
+      ∙ ap (purged_by parts) done
+      ∙ purged-same least is_least
+
+  low-by : (least : ℕ) (stale : Bool) (new : agent.PlainAgent) (low : ℕ) → (new, Ok low) ≡ purge_by least stale → low ≤ high parts.agent.cache
+  low-by least true new low done = let other = ap (λ (left : agent.PlainAgent × Result ℕ StaleAgent). left.1) done in absurd (cc)
+  low-by least false new low done =
+      let told = ap (λ (left : agent.PlainAgent × Result ℕ StaleAgent). left.1) done in
+      let is : low ≡ parts.agent.cache.low + 64 * agent.purges parts.agent keep least = cc in
+      omega (arith, is, purges-le parts.agent keep least)
+
+  -- the cache then begins at a position that it had
+  pub purged-low : (least : ℕ) (new : agent.PlainAgent) (low : ℕ) → (new, Ok low) ≡ agent.purge parts.agent generation keep least → low ≤ high parts.agent.cache
+  purged-low least new low done = low-by least (not (generation == parts.agent.generation)) new low done
+
+-- ---- another agent
+
+-- no rise is left
+pub move-spent : (parts : Parts) (silo : ℕ) → parts.limits.rises ≤ parts.rises → (plain_of parts, reply.Spent) ≡ plain.move (plain_of parts) silo
+unfolding plain.move
+move-spent parts silo spent = rw (le-leb parts.limits.rises parts.rises spent) refl
+
+map-at : (f : PlainState → PlainState) (states : List PlainState) (i : ℕ) (e : PlainState) → i < length states → get_or (map f states) i e ≡ f (get_or states i e)
+map-at f [] i e within = absurd (omega (arith, within))
+map-at f (state ∷ states) zero e within = refl
+map-at f (state ∷ states) (suc i) e within = map-at f states i e (omega (arith, within))
+
+all-rewound : (parts : Parts) → AreRecords parts.subs → AreAllRewound parts (rewound_all parts.subs).states
+all-rewound parts records i d e within =
+    let long = records.long in
+    ap (λ state. (sub_of (get_or parts.subs.registry.names i d) state).1) (map-at rewound_open parts.subs.states i e (omega (arith, within, long)))
+
+module _ (parts : Parts) (silo position : ℕ) where
+  -- the parts with another agent, the cursors back at the resumes
+  abbrev pub taken_over : Parts
+  taken_over = record parts { agent = (agent.take_over parts.agent silo position).0; subs = rewound_all parts.subs; rises = parts.rises + 1 }
+
+  pub taken_over-assembled : AreRecords parts.subs → IsAssembled parts → IsAssembled taken_over
+  taken_over-assembled records assembled =
+      record {
+        most_subs = assembled.most_subs;
+        most_rules = assembled.most_rules;
+        most_events = assembled.most_events;
+        cached = ap (λ n. take n (drop position parts.queue.events)) {x = 0} {y = position + 0 - position} (omega arith);
+        numbered = assembled.numbered;
+        known = known-rewound parts.subs.registry.names parts.subs.states parts.grains records.long assembled.known;
+      }
+
+  taken_over-moves : AreRecords parts.subs → parts.rises < parts.limits.rises → position ≡ min (high parts.agent.cache) (slowest (plain_of parts))
+      → (plain_of taken_over, reply.Moved (agent.take_over parts.agent silo position).1 (token_at (plain_of parts) position)) ≡ plain.move (plain_of parts) silo
+  taken_over-moves records left is_least =
+      let least : position ≡ least_with (high parts.agent.cache) (open_resumes (plain_of parts)) =
+      is_least ∙ ap (min (high parts.agent.cache)) (slowest-is parts) ∙ sym (moved-to parts)
+      in
+      let rises : parts.rises + 1 ≡ suc parts.rises = omega arith in
+      ap {B = PlainPartition × Reply} (λ n. (plain_of (record taken_over { rises = n }), reply.Moved (suc parts.agent.generation) (token_at (plain_of parts) position))) rises
+      ∙ ap (λ (spent : Bool). if spent then (plain_of parts, reply.Spent) else (plain_of (moved parts silo position (rewound_all parts.subs).states), reply.Moved (suc parts.agent.generation) (token_at (plain_of parts) position))) (sym (lt-leb parts.limits.rises parts.rises left))
+      ∙ sym (move-parts parts silo position (rewound_all parts.subs).states (sym records.long) (length-map rewound_open parts.subs.states) least (all-rewound parts records))
+
+  module _ (new : agent.PlainAgent) (generation : ℕ) (subs : PlainTable) (took : (new, generation) ≡ agent.take_over parts.agent silo position) (rewinds : subs ≡ rewound_all parts.subs) where
+    pub moved-assembled : AreRecords parts.subs → IsAssembled parts → IsAssembled (record parts { agent = new; subs = subs; rises = parts.rises + 1 })
+    moved-assembled records assembled =
+        subst (λ (left : agent.PlainAgent × ℕ). IsAssembled (record parts { agent = left.0; subs = subs; rises = parts.rises + 1 })) (sym took)
+        (subst (λ (t : PlainTable). IsAssembled (record taken_over { subs = t })) (sym rewinds) (taken_over-assembled records assembled))
+
+    pub moved-performs : (low : Token) → AreRecords parts.subs → parts.rises < parts.limits.rises → position ≡ min (high parts.agent.cache) (slowest (plain_of parts)) → low ≡ token_at (plain_of parts) position
+        → (plain_of (record parts { agent = new; subs = subs; rises = parts.rises + 1 }), reply.Moved generation low) ≡ plain.move (plain_of parts) silo
+    moved-performs low records left is_least is_low =
+        ap {B = PlainPartition × Reply} (λ token. (plain_of (record parts { agent = new; subs = subs; rises = parts.rises + 1 }), reply.Moved generation token)) is_low
+        ∙ ap {B = PlainPartition × Reply} (λ (made : agent.PlainAgent × ℕ). (plain_of (record parts { agent = made.0; subs = subs; rises = parts.rises + 1 }), reply.Moved made.1 (token_at (plain_of parts) position))) took
+        ∙ ap {B = PlainPartition × Reply} (λ (t : PlainTable). (plain_of (record taken_over { subs = t }), reply.Moved (suc parts.agent.generation) (token_at (plain_of parts) position))) rewinds
+        ∙ taken_over-moves records left is_least

@@ -1,0 +1,140 @@
+-- What an agent plans to pull is what the plain pull does.
+use Rattle.std.proofs.Common.{◌≡◌, ◌∙◌, ap, sym, refl, ℕ, ◌+◌, ◌-◌, ◌*◌, ◌/◌, min, Bool, true, false, ◌&&◌, not, List, [], ◌∷◌, length, map, filter, Option, Some, None, ◌==◌, arith}
+use Rattle.std.specs.Prelude.{if◌then◌else◌, unwrap_or}
+use Rattle.stream_ident.specs.declared.ident.SubName.{SubName}
+use Rattle.stream_ident.specs.declared.ident.SubName.TheVariants as name
+use Rattle.stream_ident.specs.SubName.{sub_lt}
+use Rattle.stream_ident.specs.Words.{keys_where, least}
+use Rattle.stream_model.specs.declared.plain.PlainPartition.{PlainPartition}
+use Rattle.stream_model.specs.declared.plain.Subscription.{Subscription}
+use Rattle.stream_model.specs.declared.reply.Reply.{Reply}
+use Rattle.stream_model.specs.declared.reply.Reply.TheVariants as reply
+use Rattle.stream_model.specs.Positions.{slowest, slowest_name}
+use Rattle.stream_model.specs.Pulling as plain
+use Rattle.consumer_grain.specs.Subscriptions.{PlainState}
+use Rattle.least_tree.specs.Keys.{lesser_key}
+use Rattle.pubsub_registry.specs.declared.registration.Registration.{Registration}
+use Rattle.pulling_agent.specs.Agent as agent
+use Rattle.pulling_agent.specs.declared.told.Plan.{Plan}
+use Rattle.pulling_agent.specs.declared.told.Plan.TheVariants as plan
+use Rattle.queue_cache.specs.Cache as cache
+use Rattle.resume_tree.specs.declared.leaf.Leaf.{Leaf}
+use Rattle.resume_tree.specs.Leaves as leaves
+use Rattle.subscription_table.specs.LeavesOf.{leaf_of, leaves_of, open_resume}
+use Rattle.step_core.specs.declared.parts.Parts.{Parts}
+use Rattle.step_core.specs.PlainOf.{plain_of}
+use Rattle.step_core.specs.Taking.{taken}
+use Rattle.step_core.specs.View.{sub_of, subs_of}
+use Rattle.step_core.proofs.LeafOps.{slowest-is}
+
+-- ---- the slowest subscription
+
+-- where nothing is open, none has a resume
+none-open : (resume : ℕ) (all : List Leaf) → leaves.least_resume all ≡ None → leaves.names_where (λ leaf. leaves.has_resume resume leaf.resume) all ≡ []
+none-open resume [] none = refl
+none-open resume (leaf ∷ all) none = by leaf.resume (leaves.least_resume all) none (none-open resume all)
+  where
+    by : (own least : Option ℕ) → lesser_key own least ≡ None → (least ≡ None → leaves.names_where (λ leaf. leaves.has_resume resume leaf.resume) all ≡ [])
+        → map (λ (leaf : Leaf). leaf.name) (if leaves.has_resume resume own then leaf ∷ filter (λ (leaf : Leaf). leaves.has_resume resume leaf.resume) all else filter (λ (leaf : Leaf). leaves.has_resume resume leaf.resume) all) ≡ []
+    by None least none rest = rest none
+    by (Some key) None none rest = absurd (cc)
+    by (Some key) (Some other) none rest = absurd (cc)
+
+-- the open ones with a resume are the leaves with it
+abbrev stands_at : ℕ → Subscription → Bool
+stands_at resume r = r.is_open && (r.resume == resume)
+
+at-resume : (resume : ℕ) (names : List (SubName × Registration)) (states : List PlainState) → keys_where (stands_at resume) (subs_of names states) ≡ leaves.names_where (λ leaf. leaves.has_resume resume leaf.resume) (leaves_of names states)
+at-resume resume [] states = refl
+at-resume resume (entry ∷ names) [] = refl
+at-resume resume (entry ∷ names) (state ∷ states) = by state.is_open (at-resume resume names states)
+  where
+    later : List (SubName × Subscription)
+    later = filter (λ (e : SubName × Subscription). stands_at resume e.1) (subs_of names states)
+
+    behind : List Leaf
+    behind = filter (λ (leaf : Leaf). leaves.has_resume resume leaf.resume) (leaves_of names states)
+
+    Rest : Type 0
+    Rest = keys_where (stands_at resume) (subs_of names states) ≡ leaves.names_where (λ leaf. leaves.has_resume resume leaf.resume) (leaves_of names states)
+
+    pick : (passes : Bool) → Rest → map (λ (e : SubName × Subscription). e.0) (if passes then sub_of entry state ∷ later else later) ≡ map (λ (leaf : Leaf). leaf.name) (if passes then leaf_of entry state ∷ behind else behind)
+    pick true rest = ap (λ ns. entry.0 ∷ ns) rest
+    pick false rest = rest
+
+    by : (is_open : Bool) → Rest
+        → map (λ (e : SubName × Subscription). e.0) (if is_open && (state.resume == resume) then sub_of entry state ∷ later else later)
+        ≡ map (λ (leaf : Leaf). leaf.name) (if leaves.has_resume resume (open_resume is_open state.resume) then leaf_of entry state ∷ behind else behind)
+    by false rest = rest
+    by true rest = pick (state.resume == resume) rest
+
+pub slowest-name-is : (parts : Parts) → slowest_name (plain_of parts) ≡ leaves.slowest (leaves_of parts.subs.registry.names parts.subs.states)
+slowest-name-is parts =
+    ap (λ resume. least sub_lt (keys_where (λ (r : Subscription). r.is_open && (r.resume == resume)) (plain_of parts).subs)) (slowest-is parts)
+    ∙ ap (λ names. least sub_lt names) (at-resume (unwrap_or (leaves.least_resume all) (plain_of parts).high) parts.subs.registry.names parts.subs.states)
+    ∙ by (leaves.least_resume all) refl
+  where
+    all : List Leaf
+    all = leaves_of parts.subs.registry.names parts.subs.states
+
+    by : (o : Option ℕ) → leaves.least_resume all ≡ o → least sub_lt (leaves.names_where (λ leaf. leaves.has_resume (unwrap_or o (plain_of parts).high) leaf.resume) all) ≡ leaves.slowest_at o all
+    by None none = ap (λ names. least sub_lt names) (none-open (plain_of parts).high all none)
+    by (Some resume) is = refl
+
+-- ---- the plan
+
+-- what the plain pull does where this is planned
+abbrev pub planned : PlainPartition → Plan → PlainPartition × Reply
+planned p (plan.StaleAgent now) = (p, reply.StaleAgent now)
+planned p plan.Dry = (p, reply.Dry)
+planned p plan.Held = (p, reply.Pressed (unwrap_or (slowest_name p) (name.Explicit 0)))
+planned p (plan.Take drops count) = taken p drops count
+
+room-is : (parts : Parts) → plain.room (plain_of parts) ≡ cache.room parts.agent.cache
+room-is parts = ap (λ n. 64 * parts.agent.cache.blocks - n) (omega arith)
+
+drops-are : (parts : Parts) (want : ℕ) → plain.drops (plain_of parts) want ≡ agent.drops parts.agent (slowest (plain_of parts)) want
+drops-are parts want = ap (λ room. min ((want - room + 63) / 64) (plain.free_blocks (plain_of parts))) (room-is parts)
+
+count-planned : (parts : Parts) (drops count : ℕ) → plain.pull_count (plain_of parts) drops count ≡ planned (plain_of parts) (agent.plan_count drops count)
+unfolding plain.pull_count
+count-planned parts drops count = by (count == 0)
+  where
+    by : (none : Bool)
+        → (if none then (plain_of parts, reply.Pressed (unwrap_or (slowest_name (plain_of parts)) (name.Explicit 0))) else taken (plain_of parts) drops count)
+        ≡ planned (plain_of parts) (if none then plan.Held else plan.Take drops count)
+    by true = refl
+    by false = refl
+
+want-planned : (parts : Parts) (want : ℕ) → plain.pull_want (plain_of parts) want ≡ planned (plain_of parts) (agent.plan_want parts.agent (slowest (plain_of parts)) want)
+unfolding plain.pull_want
+want-planned parts want =
+    ap {B = PlainPartition × Reply} (λ drops. plain.pull_count (plain_of parts) drops (min want (plain.room (plain_of parts) + 64 * drops))) (drops-are parts want)
+    ∙ ap {B = PlainPartition × Reply} (λ room. plain.pull_count (plain_of parts) drops (min want (room + 64 * drops))) (room-is parts)
+    ∙ count-planned parts drops (min want (cache.room parts.agent.cache + 64 * drops))
+  where
+    drops : ℕ
+    drops = agent.drops parts.agent (slowest (plain_of parts)) want
+
+pub pull-planned : (parts : Parts) (generation max_events : ℕ) → plain.pull (plain_of parts) generation max_events ≡ planned (plain_of parts) (agent.plan_pull parts.agent generation max_events (length parts.queue.events) (slowest (plain_of parts)))
+unfolding plain.pull
+pull-planned parts generation max_events =
+    by (not (generation == parts.agent.generation)) (cache.high parts.agent.cache == length parts.queue.events) (want-planned parts want)
+  where
+    want : ℕ
+    want = min (agent.pull_size max_events) (length parts.queue.events - cache.high parts.agent.cache)
+
+    by : (stale dry : Bool) → plain.pull_want (plain_of parts) want ≡ planned (plain_of parts) (agent.plan_want parts.agent (slowest (plain_of parts)) want)
+        → (if stale then (plain_of parts, reply.StaleAgent parts.agent.generation) else if dry then (plain_of parts, reply.Dry) else plain.pull_want (plain_of parts) want)
+        ≡ planned (plain_of parts) (if stale then plan.StaleAgent parts.agent.generation else if dry then plan.Dry else agent.plan_want parts.agent (slowest (plain_of parts)) want)
+    by true dry same = refl
+    by false true same = refl
+    by false false same = same
+
+-- a plan for the log's length and the slowest resume
+pub planned-is : (parts : Parts) (generation max_events len least : ℕ) (made : Plan) → len ≡ length parts.queue.events → least ≡ slowest (plain_of parts) → made ≡ agent.plan_pull parts.agent generation max_events len least
+    → planned (plain_of parts) made ≡ plain.pull (plain_of parts) generation max_events
+planned-is parts generation max_events len least made is_len is_least is =
+    ap {B = PlainPartition × Reply} (λ (made : Plan). planned (plain_of parts) made)
+    (is ∙ ap (λ n. agent.plan_pull parts.agent generation max_events n least) is_len ∙ ap (λ n. agent.plan_pull parts.agent generation max_events (length parts.queue.events) n) is_least)
+    ∙ sym (pull-planned parts generation max_events)

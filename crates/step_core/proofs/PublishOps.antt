@@ -1,0 +1,80 @@
+-- What producers ask leaves parts that agree with each other.
+use Rattle.std.proofs.Common.{◌≡◌, ◌∙◌, ap, sym, refl, ℕ, suc, ◌+◌, ◌≤◌, Bool, true, false, ◌||◌, List, [], ◌++◌, length, ◌==◌, nat_lt, arith}
+use Rattle.std.specs.Prelude.{if◌then◌else◌}
+use Rattle.std.proofs.lemmas.List.{append-nil}
+use Rattle.stream_ident.specs.declared.event.Event.{Event}
+use Rattle.stream_ident.specs.declared.ident.StreamId.{StreamId}
+use Rattle.stream_ident.specs.Event.{events_of}
+use Rattle.stream_model.specs.declared.plain.PlainPartition.{PlainPartition}
+use Rattle.stream_model.specs.declared.reply.Reply.{Reply}
+use Rattle.stream_model.specs.Positions.{between}
+use Rattle.stream_model.specs.Publishing.{publish}
+use Rattle.stream_model.specs.Step as plain
+use Rattle.partition_queue.specs.declared.appended.Appended.{Appended}
+use Rattle.partition_queue.specs.declared.appended.Appended.TheVariants as appended
+use Rattle.partition_queue.specs.Queue.{PlainQueue, append, takes_memory}
+use Rattle.queue_cache.specs.Cache.{high}
+use Rattle.step_core.specs.Assembly.{IsAssembled}
+use Rattle.step_core.specs.PlainOf.{plain_of}
+use Rattle.step_core.specs.Replies.{of_append}
+use Rattle.step_core.specs.declared.parts.Parts.{Parts}
+use Rattle.step_core.proofs.CachedEvents.{between-longer}
+use Rattle.step_core.proofs.ProducerOps.{publish-parts}
+
+-- the queue with more events at the end
+pub record IsLonger (old new : PlainQueue) : Type 0 where
+  pub more : List Event
+  pub events : new.events ≡ old.events ++ more
+  pub limit : new.limit ≡ old.limit
+
+append-longer : (q : PlainQueue) (stream : StreamId) (payloads : List (List ℕ)) → IsLonger q (append q stream payloads).0
+append-longer q stream payloads =
+    by ((length payloads == 0) || nat_lt 64 (length payloads)) (nat_lt q.limit (length q.events + length payloads))
+  where
+    added : PlainQueue
+    added = record { events = q.events ++ events_of stream q.batches 0 payloads; batches = suc q.batches; limit = q.limit }
+
+    same : IsLonger q q
+    same = record { more = []; events = sym (append-nil q.events); limit = refl }
+
+    picked : Bool → Bool → PlainQueue × Appended
+    picked bad full = if bad then (q, appended.BadBatch) else if full then (q, appended.QueueFull) else (added, appended.Accepted q.batches)
+
+    by : (bad full : Bool) → IsLonger q (picked bad full).0
+    by true full = same
+    by false true = same
+    by false false = record { more = events_of stream q.batches 0 payloads; events = refl; limit = refl }
+
+pub append-assembled : (parts : Parts) (stream : StreamId) (payloads : List (List ℕ)) → high parts.agent.cache ≤ length parts.queue.events → IsAssembled parts → IsAssembled (record parts { queue = (append parts.queue stream payloads).0 })
+append-assembled parts stream payloads end assembled =
+    let longer = append-longer parts.queue stream payloads in
+    record {
+      most_subs = assembled.most_subs;
+      most_rules = assembled.most_rules;
+      most_events = longer.limit ∙ assembled.most_events;
+      cached =
+          assembled.cached
+          ∙ sym (ap (λ log. between log parts.agent.cache.low (high parts.agent.cache)) longer.events
+          ∙ between-longer parts.queue.events longer.more parts.agent.cache.low (high parts.agent.cache) (omega arith) end);
+      numbered = assembled.numbered;
+      known = assembled.known;
+    }
+
+-- what the queue did is the plain operation
+pub append-performs : (parts : Parts) (stream : StreamId) (payloads : List (List ℕ)) (new : PlainQueue) (told : Appended) → IsAssembled parts → (new, told) ≡ append parts.queue stream payloads
+    → (plain_of (record parts { queue = new }), of_append told) ≡ publish (plain_of parts) stream payloads
+append-performs parts stream payloads new told assembled done =
+    ap {B = PlainPartition × Reply} (λ (stepped : PlainQueue × Appended). (plain_of (record parts { queue = stepped.0 }), of_append stepped.1)) done
+    ∙ sym (publish-parts parts stream payloads assembled.most_events)
+
+-- only a batch that is accepted takes memory
+accepted-memory : (told : Appended) → takes_memory told ≡ plain.takes_memory (of_append told)
+accepted-memory (appended.Accepted seq) = refl
+accepted-memory appended.BadBatch = refl
+accepted-memory appended.QueueFull = refl
+
+pub append-memory : (parts : Parts) (stream : StreamId) (payloads : List (List ℕ)) → IsAssembled parts → takes_memory (append parts.queue stream payloads).1 ≡ true → plain.takes_memory (publish (plain_of parts) stream payloads).1 ≡ true
+append-memory parts stream payloads assembled takes =
+    ap (λ (out : PlainPartition × Reply). plain.takes_memory out.1) (publish-parts parts stream payloads assembled.most_events)
+    ∙ sym (accepted-memory (append parts.queue stream payloads).1)
+    ∙ takes

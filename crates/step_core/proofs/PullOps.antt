@@ -1,0 +1,222 @@
+-- The events that an agent takes, and the subscriptions that the rules make of them.
+use Rattle.std.proofs.Common.{◌≡◌, ◌∙◌, ap, sym, subst, refl, ℕ, suc, ◌<◌, ◌≤◌, Bool, true, false, ◌&&◌, not, List, [], ◌∷◌, ◌++◌, length, map, drop, fold, Option, Some, None, is_some, arith}
+use Rattle.std.specs.Prelude.{if◌then◌else◌}
+use Rattle.std.specs.List.{AllByRecursion, flat_map}
+use Rattle.std.proofs.lemmas.List.{append-nil, map-append}
+use Rattle.std.proofs.Math.Seq.{drop-append_seam}
+use Rattle.stream_ident.specs.declared.event.Event.{Event}
+use Rattle.stream_ident.specs.declared.ident.GrainId.{GrainId}
+use Rattle.stream_ident.specs.declared.ident.SubName.{SubName}
+use Rattle.stream_ident.specs.declared.ident.SubName.TheVariants as name
+use Rattle.stream_ident.specs.declared.rule.Rule.{Rule}
+use Rattle.stream_ident.specs.Event.{batch_token}
+use Rattle.stream_ident.specs.Name.{same_name}
+use Rattle.stream_ident.specs.SubName.{same_sub}
+use Rattle.stream_ident.specs.Token.{token_lt}
+use Rattle.stream_ident.specs.Words.{value_at}
+use Rattle.stream_model.specs.declared.plain.Subscription.{Subscription}
+use Rattle.stream_model.specs.Pulling as plain
+use Rattle.stream_model.proofs.EachOf.{All-weaken}
+use Rattle.consumer_grain.specs.declared.delivery.Delivery.{Delivery}
+use Rattle.consumer_grain.specs.declared.turn.RunningTurn.{RunningTurn}
+use Rattle.consumer_grain.specs.Activations.{PlainActivation}
+use Rattle.consumer_grain.specs.Subscriptions.{PlainState, new_state}
+use Rattle.pubsub_registry.specs.declared.registration.Registration.{Registration}
+use Rattle.pubsub_registry.specs.Implying as implying
+use Rattle.subscription_table.specs.Table.{new_states}
+use Rattle.step_core.specs.Known.{AreKnown}
+use Rattle.step_core.specs.Numbers.{IsBelow, TurnIsBelow}
+use Rattle.step_core.specs.View.{grains_of, sub_of, subs_of}
+use Rattle.step_core.proofs.KnownTurns.{known-grown}
+use Rattle.step_core.proofs.SubscribeOps.{grains-before}
+use Rattle.step_core.proofs.ViewLemmas.{record-added, records-length}
+
+-- ---- what the rules make
+
+-- the record of a name that was made, with nothing handled
+abbrev new_record : ℕ → SubName × Registration → SubName × Subscription
+new_record position entry = sub_of entry (new_state entry.1.start position)
+
+abbrev new_records : ℕ → List (SubName × Registration) → List (SubName × Subscription)
+new_records position entries = map (new_record position) entries
+
+implied-is : (position : ℕ) (event : Event) (rule : Rule) → plain.implied position event rule ≡ new_records position (implying.implied event rule)
+implied-is position event rule = by (same_name event.stream.namespace rule.namespace && not (token_lt event.token (batch_token rule.from)))
+  where
+    entry : SubName × Registration
+    entry = (
+      name.Implicit rule.kind event.stream,
+      record { stream = event.stream; grain = record { kind = rule.kind; key = event.stream.key }; start = batch_token rule.from; is_open = true },
+    )
+
+    by : (makes : Bool) → (if makes then new_record position entry ∷ [] else []) ≡ new_records position (if makes then entry ∷ [] else [])
+    by true = refl
+    by false = refl
+
+-- a list made of each element, with each of what is made changed
+flat-map : {X Y Z : Type 0} (f : Y → Z) (made : X → List Y) (changed : X → List Z) (xs : List X) → ((x : X) → changed x ≡ map f (made x)) → flat_map changed xs ≡ map f (flat_map made xs)
+flat-map f made changed [] same = refl
+flat-map f made changed (x ∷ xs) same =
+    ap (λ ys. ys ++ flat_map changed xs) (same x)
+    ∙ ap (λ rest. map f (made x) ++ rest) (flat-map f made changed xs same)
+    ∙ sym (map-append f (made x) (flat_map made xs))
+
+all-implied : (rules : List Rule) (position : ℕ) (events : List Event) → plain.all_implied rules position events ≡ new_records position (implying.all_implied rules events)
+all-implied rules position events =
+    flat-map (new_record position) (λ event. flat_map (implying.implied event) rules) (λ event. flat_map (plain.implied position event) rules) events
+    (λ event. flat-map (new_record position) (implying.implied event) (plain.implied position event) rules (λ rule. implied-is position event rule))
+
+-- ---- those that are new
+
+-- a name is there where its record is
+there-is : (s : SubName) (names : List (SubName × Registration)) (states : List PlainState) → length names ≡ length states → is_some (value_at same_sub s (subs_of names states)) ≡ is_some (value_at same_sub s names)
+there-is s [] states lengths = refl
+there-is s (entry ∷ names) [] lengths = absurd (omega (arith, lengths))
+there-is s (entry ∷ names) (state ∷ states) lengths = by (same_sub s entry.0) (there-is s names states (omega (arith, lengths)))
+  where
+    by : (same : Bool) → is_some (value_at same_sub s (subs_of names states)) ≡ is_some (value_at same_sub s names)
+        → is_some (if same then Some (sub_of entry state).1 else value_at same_sub s (subs_of names states)) ≡ is_some (if same then Some entry.1 else value_at same_sub s names)
+    by true rest = refl
+    by false rest = rest
+
+-- those of the entries whose names aren't there yet
+new_of : List (SubName × Registration) → List (SubName × Registration) → List (SubName × Registration)
+new_of names [] = []
+new_of names (entry ∷ entries) = if is_some (value_at same_sub entry.0 names) then new_of names entries else entry ∷ new_of (names ++ entry ∷ []) entries
+
+append-one : {A : Type 0} (xs : List A) (x : A) (ys : List A) → (xs ++ x ∷ []) ++ ys ≡ xs ++ x ∷ ys
+append-one [] x ys = refl
+append-one (first ∷ xs) x ys = ap (λ rest. first ∷ rest) (append-one xs x ys)
+
+names-added : (names entries : List (SubName × Registration)) → fold implying.added names entries ≡ names ++ new_of names entries
+unfolding new_of
+names-added names [] = sym (append-nil names)
+names-added names (entry ∷ entries) =
+    by (is_some (value_at same_sub entry.0 names)) (names-added names entries) (names-added (names ++ entry ∷ []) entries)
+  where
+    by : (there : Bool) → fold implying.added names entries ≡ names ++ new_of names entries → fold implying.added (names ++ entry ∷ []) entries ≡ (names ++ entry ∷ []) ++ new_of (names ++ entry ∷ []) entries
+        → fold implying.added (if there then names else names ++ entry ∷ []) entries ≡ names ++ (if there then new_of names entries else entry ∷ new_of (names ++ entry ∷ []) entries)
+    by true kept more = kept
+    by false kept more = more ∙ append-one names entry (new_of (names ++ entry ∷ []) entries)
+
+length-one : {A B : Type 0} (xs : List A) (ys : List B) (x : A) (y : B) → length xs ≡ length ys → length (xs ++ x ∷ []) ≡ length (ys ++ y ∷ [])
+length-one [] [] x y same = refl
+length-one [] (other ∷ ys) x y same = absurd (omega (arith, same))
+length-one (first ∷ xs) [] x y same = absurd (omega (arith, same))
+length-one (first ∷ xs) (other ∷ ys) x y same = ap suc (length-one xs ys x y (omega (arith, same)))
+
+-- and their records
+records-made : (position : ℕ) (names entries : List (SubName × Registration)) (states : List PlainState) → length names ≡ length states
+    → fold plain.added (subs_of names states) (new_records position entries) ≡ subs_of (names ++ new_of names entries) (states ++ new_states position (new_of names entries))
+unfolding new_of
+records-made position names [] states lengths =
+    ap (λ ns. subs_of ns states) (sym (append-nil names))
+    ∙ ap (λ ss. subs_of (names ++ []) ss) (sym (append-nil states))
+records-made position names (entry ∷ entries) states lengths =
+    ap (λ there. fold plain.added (if there then subs_of names states else subs_of names states ++ new_record position entry ∷ []) (new_records position entries)) (there-is entry.0 names states lengths)
+    ∙ by (is_some (value_at same_sub entry.0 names)) (records-made position names entries states lengths)
+    (records-made position (names ++ entry ∷ []) entries (states ++ state ∷ []) (length-one names states entry state lengths))
+  where
+    state : PlainState
+    state = new_state entry.1.start position
+
+    Made : List (SubName × Registration) → List (SubName × Registration) → List PlainState → List PlainState → Type 0
+    Made ns more ss made = fold plain.added (subs_of ns ss) (new_records position entries) ≡ subs_of (ns ++ more) (ss ++ made)
+
+    by : (there : Bool) → Made names (new_of names entries) states (new_states position (new_of names entries))
+        → Made (names ++ entry ∷ []) (new_of (names ++ entry ∷ []) entries) (states ++ state ∷ []) (new_states position (new_of (names ++ entry ∷ []) entries))
+        → fold plain.added (if there then subs_of names states else subs_of names states ++ new_record position entry ∷ []) (new_records position entries)
+        ≡ subs_of (names ++ (if there then new_of names entries else entry ∷ new_of (names ++ entry ∷ []) entries)) (states ++ new_states position (if there then new_of names entries else entry ∷ new_of (names ++ entry ∷ []) entries))
+    by true kept more = kept
+    by false kept more =
+        ap (λ subs. fold plain.added subs (new_records position entries)) (sym (record-added names states entry state lengths))
+        ∙ more
+        ∙ ap (λ ns. subs_of ns ((states ++ state ∷ []) ++ new_states position (new_of (names ++ entry ∷ []) entries))) (append-one names entry (new_of (names ++ entry ∷ []) entries))
+        ∙ ap (λ ss. subs_of (names ++ entry ∷ new_of (names ++ entry ∷ []) entries) ss) (append-one states state (new_states position (new_of (names ++ entry ∷ []) entries)))
+
+-- the view of a table with the names and states that the rules make
+pub made-view : (rules : List Rule) (position : ℕ) (names : List (SubName × Registration)) (states : List PlainState) (events : List Event) → length names ≡ length states
+    → subs_of (implying.names_with rules names events) (states ++ new_states position (drop (length names) (implying.names_with rules names events))) ≡ plain.subs_with rules position (subs_of names states) events
+made-view rules position names states events lengths =
+    ap (λ ns. subs_of ns (states ++ new_states position (drop (length names) ns))) (names-added names entries)
+    ∙ ap (λ more. subs_of (names ++ new_of names entries) (states ++ new_states position more)) (drop-append_seam names (new_of names entries))
+    ∙ sym (records-made position names entries states lengths)
+    ∙ ap (λ made. fold plain.added (subs_of names states) made) (sym (all-implied rules position events))
+  where
+    entries : List (SubName × Registration)
+    entries = implying.all_implied rules events
+
+length-both : {A B : Type 0} (f : A → B) (xs : List A) (ys : List B) (more : List A) → length xs ≡ length ys → length (xs ++ more) ≡ length (ys ++ map f more)
+length-both f [] [] [] same = refl
+length-both f [] [] (x ∷ more) same = ap suc (length-both f [] [] more refl)
+length-both f [] (y ∷ ys) more same = absurd (omega (arith, same))
+length-both f (x ∷ xs) [] more same = absurd (omega (arith, same))
+length-both f (x ∷ xs) (y ∷ ys) more same = ap suc (length-both f xs ys more (omega (arith, same)))
+
+-- as many records as names
+pub made-length : (rules : List Rule) (position : ℕ) (names : List (SubName × Registration)) (states : List PlainState) (events : List Event) → length names ≡ length states
+    → length (plain.subs_with rules position (subs_of names states) events) ≡ length (implying.names_with rules names events)
+made-length rules position names states events lengths =
+    ap length (sym (made-view rules position names states events lengths))
+    ∙ ap (λ ns. length (subs_of ns (states ++ new_states position (drop (length names) ns)))) (names-added names entries)
+    ∙ ap (λ new. length (subs_of (names ++ new_of names entries) (states ++ new_states position new))) (drop-append_seam names (new_of names entries))
+    ∙ records-length (names ++ new_of names entries) (states ++ new_states position (new_of names entries))
+    (length-both (λ (entry : SubName × Registration). new_state entry.1.start position) names states (new_of names entries) lengths)
+    ∙ ap length (sym (names-added names entries))
+  where
+    entries : List (SubName × Registration)
+    entries = implying.all_implied rules events
+
+-- ---- the grains see the same names
+
+turn-further : (n m : ℕ) (running : Option RunningTurn) → n ≤ m → TurnIsBelow n running → TurnIsBelow m running
+turn-further n m None further below = tt
+turn-further n m (Some run) further below = omega (arith, further, below)
+
+below-further : (n m : ℕ) (a : PlainActivation) → n ≤ m → IsBelow n a → IsBelow m a
+below-further n m a further below =
+    record {
+      waiting = All-weaken (λ (d : Delivery). d.sub < n) (λ (d : Delivery). d.sub < m) (λ d less. omega (arith, further, less)) a.mailbox below.waiting;
+      running = turn-further n m a.running further below.running;
+      subs = All-weaken (λ sub. sub < n) (λ sub. sub < m) (λ sub less. omega (arith, further, less)) a.subs below.subs;
+    }
+
+abbrev AreBelow : ℕ → List (GrainId × PlainActivation) → Type 0
+AreBelow n grains = AllByRecursion (λ (g : GrainId × PlainActivation). IsBelow n g.1) grains
+
+grains-further : (n m : ℕ) (grains : List (GrainId × PlainActivation)) → n ≤ m → AreBelow n grains → AreBelow m grains
+grains-further n m grains further below =
+    All-weaken (λ (g : GrainId × PlainActivation). IsBelow n g.1) (λ (g : GrainId × PlainActivation). IsBelow m g.1) (λ g below. below-further n m g.1 further below) grains below
+
+longer : {A : Type 0} (xs ys : List A) → length xs ≤ length (xs ++ ys)
+longer [] ys = omega arith
+longer (x ∷ xs) ys = let rest = longer xs ys in omega (arith, rest)
+
+grains-same : (names more : List (SubName × Registration)) (grains : List (GrainId × PlainActivation)) → AreBelow (length names) grains → grains_of (names ++ more) grains ≡ grains_of names grains
+grains-same names [] grains below = ap (λ ns. grains_of ns grains) (append-nil names)
+grains-same names (entry ∷ more) grains below =
+    ap (λ ns. grains_of ns grains) (sym (append-one names entry more))
+    ∙ grains-same (names ++ entry ∷ []) more grains (grains-further (length names) (length (names ++ entry ∷ [])) grains (longer names (entry ∷ [])) below)
+    ∙ grains-before names entry grains below
+
+pub made-grains : (rules : List Rule) (names : List (SubName × Registration)) (events : List Event) (grains : List (GrainId × PlainActivation)) → AreBelow (length names) grains → grains_of (implying.names_with rules names events) grains ≡ grains_of names grains
+made-grains rules names events grains below =
+    ap (λ ns. grains_of ns grains) (names-added names (implying.all_implied rules events))
+    ∙ grains-same names (new_of names (implying.all_implied rules events)) grains below
+
+-- what the grains know stays so
+pub made-known : (rules : List Rule) (position : ℕ) (names : List (SubName × Registration)) (states : List PlainState) (events : List Event) (grains : List (GrainId × PlainActivation)) → length states ≡ length names → AreBelow (length names) grains
+    → AreKnown names states grains → AreKnown (implying.names_with rules names events) (states ++ new_states position (drop (length names) (implying.names_with rules names events))) grains
+made-known rules position names states events grains lengths below known =
+    subst (λ ns. AreKnown ns (states ++ new_states position (drop (length names) ns)) grains) (sym (names-added names entries))
+    (subst (λ more. AreKnown (names ++ new_of names entries) (states ++ new_states position more) grains) (sym (drop-append_seam names (new_of names entries)))
+    (known-grown names (new_of names entries) states position grains known lengths below))
+  where
+    entries : List (SubName × Registration)
+    entries = implying.all_implied rules events
+
+pub made-below : (rules : List Rule) (names : List (SubName × Registration)) (events : List Event) (grains : List (GrainId × PlainActivation)) → AreBelow (length names) grains → AreBelow (length (implying.names_with rules names events)) grains
+made-below rules names events grains below =
+    grains-further (length names) (length (implying.names_with rules names events)) grains
+    (let further = longer names (new_of names (implying.all_implied rules events)) in omega (arith, further, ap length (names-added names (implying.all_implied rules events))))
+    below

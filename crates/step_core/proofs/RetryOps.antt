@@ -1,0 +1,126 @@
+-- What agents ask of one record: the replies, and parts that agree with each other.
+use Rattle.std.proofs.Common.{◌≡◌, ◌∙◌, ap, sym, subst, refl, ℕ, ◌<◌, true, not, List, [], ◌∷◌, length, Some, None, ◌==◌, arith}
+use Rattle.std.specs.Prelude.{Result, Ok, Err}
+use Rattle.std.specs.List.{All}
+use Rattle.std.proofs.lemmas.Bool.{cond_both}
+use Rattle.std.proofs.lemmas.List.Elements.{All-from_recursion}
+use Rattle.stream_ident.specs.declared.ident.SubName.{SubName}
+use Rattle.stream_ident.specs.declared.token.Token.{Token}
+use Rattle.stream_model.specs.declared.plain.PlainPartition.{PlainPartition}
+use Rattle.stream_model.specs.declared.plain.Subscription.{Subscription}
+use Rattle.stream_model.specs.declared.reply.Reply.{Reply}
+use Rattle.stream_model.specs.declared.reply.Reply.TheVariants as reply
+use Rattle.stream_model.specs.Bounds.{AreIn, IsWithinLimits}
+use Rattle.stream_model.specs.Pulling as plain
+use Rattle.consumer_grain.specs.Subscriptions.{PlainState}
+use Rattle.partition_queue.specs.Queue.{PlainQueue}
+use Rattle.pubsub_registry.specs.declared.registration.Registration.{Registration}
+use Rattle.pulling_agent.specs.Agent as agent
+use Rattle.pulling_agent.specs.declared.told.Acked.{Acked}
+use Rattle.pulling_agent.specs.declared.told.Retried.{Retried}
+use Rattle.pulling_agent.specs.declared.told.StaleAgent.{StaleAgent}
+use Rattle.subscription_table.specs.Standing.{AreRecords}
+use Rattle.subscription_table.specs.Table.{PlainTable, no_entry, no_state, number_of, state_at, stepped}
+use Rattle.step_core.specs.Assembly.{IsAssembled}
+use Rattle.step_core.specs.PlainOf.{plain_of}
+use Rattle.step_core.specs.Replies.{of_ack, of_retry}
+use Rattle.step_core.specs.View.{sub_of, subs_of}
+use Rattle.step_core.specs.declared.parts.Parts.{Parts}
+use Rattle.step_core.proofs.AgentOps.{ack-none, ack-parts, ack-stale, retry-none, retry-parts, retry-stale}
+use Rattle.step_core.proofs.AssembledTable.{assembled-subs}
+use Rattle.step_core.proofs.CheckOps.{check-current, check-stale}
+use Rattle.step_core.proofs.KnownOps.{known-state}
+use Rattle.step_core.proofs.ViewLemmas.{record-at, records-length}
+
+-- an open state that was open, and is at its resume with nothing handled where it was
+abbrev Stays : PlainState → PlainState → Type 0
+Stays old new =
+    (new.is_open ≡ true → old.is_open ≡ true)
+    × (old.cursor ≡ old.resume → old.handled ≡ [] → (new.cursor ≡ new.resume) × (new.handled ≡ []))
+
+unchanged : (s : PlainState) → Stays s s
+unchanged s = (λ is_open. is_open, λ at none. (at, none))
+
+pub retry-stays : (a : agent.PlainAgent) (generation : ℕ) (s : PlainState) → Stays s (agent.retry a generation s).0
+retry-stays a generation s =
+    cond_both (not (generation == a.generation)) _ _ Kept (λ _. unchanged s)
+    (λ _. cond_both (not s.is_open) _ _ Kept (λ _. unchanged s) (λ _. (λ is_open. is_open, λ at none. (refl, none))))
+  where
+    Kept : PlainState × Result Retried StaleAgent → Type 0
+    Kept out = Stays s out.0
+
+-- an event that is acknowledged was handled
+pub ack-stays : (a : agent.PlainAgent) (generation : ℕ) (s : PlainState) (queue : PlainQueue) (token : Token) → Stays s (agent.ack a generation s queue token).0
+ack-stays a generation s queue token =
+    cond_both (not (generation == a.generation)) _ _ Kept (λ _. unchanged s)
+    (λ _. cond_both (not s.is_open) _ _ Kept (λ _. unchanged s) (λ _. by (agent.handled_at s.handled queue token) (λ none. ap (λ (handled : List ℕ). agent.handled_at handled queue token) none)))
+  where
+    Kept : PlainState × Result Acked StaleAgent → Type 0
+    Kept out = Stays s out.0
+
+    by : (positions : List ℕ) → (s.handled ≡ [] → positions ≡ []) → Stays s (agent.ack_at s positions).0
+    by [] empty = unchanged s
+    by (position ∷ positions) empty = (λ is_open. is_open, λ at none. absurd (let is : position ∷ positions ≡ [] = empty none in cc))
+
+-- a change of one state
+pub stepped-assembled : {R : Type 0} (parts : Parts) (number : ℕ) (x : PlainState × R) (new : PlainTable) (told : R) → AreRecords parts.subs → number < length parts.subs.registry.names → Stays (state_at parts.subs number) x.0 → IsAssembled parts → (new, told) ≡ stepped parts.subs number x → IsAssembled (record parts { subs = new })
+stepped-assembled {R} parts number x new told records within stays assembled done =
+    subst (λ (left : PlainTable × R). IsAssembled (record parts { subs = left.0 })) (sym done)
+    (assembled-subs parts (stepped parts.subs number x).0 (record { names = refl; most_names = refl; most_rules = refl })
+    (known-state parts.subs.registry.names parts.subs.states parts.grains number x.0 assembled.known (let long = records.long in omega (arith, within, long)) stays.0 (λ at none unheld. stays.1 at none))
+    assembled)
+
+-- ---- the cursor goes back
+
+module _ (parts : Parts) (generation : ℕ) (s : SubName) where
+  pub retry-replaced : (stale : StaleAgent) → Err stale ≡ agent.check parts.agent generation → (plain_of parts, reply.StaleAgent stale.now) ≡ plain.retry (plain_of parts) generation s
+  retry-replaced stale checked =
+      let replaced = check-stale parts.agent generation stale checked in
+      ap {B = PlainPartition × Reply} (λ now. (plain_of parts, reply.StaleAgent now)) replaced.now ∙ sym (retry-stale parts generation s replaced.other)
+
+  pub retry-nothing : (checked : Unit {0}) → Ok checked ≡ agent.check parts.agent generation → AreRecords parts.subs → None ≡ number_of parts.subs s → (plain_of parts, reply.NoSuch) ≡ plain.retry (plain_of parts) generation s
+  retry-nothing checked is records none =
+      sym (retry-none parts generation s (sym records.long) (check-current parts.agent generation checked is) (sym none))
+
+  pub retry-performs : (number : ℕ) (new : PlainTable) (told : Result Retried StaleAgent) → AreRecords parts.subs → Some number ≡ number_of parts.subs s
+      → (new, told) ≡ stepped parts.subs number (agent.retry parts.agent generation (state_at parts.subs number))
+      → (plain_of (record parts { subs = new }), of_retry told) ≡ plain.retry (plain_of parts) generation s
+  retry-performs number new told records found done =
+      ap {B = PlainPartition × Reply} (λ (left : PlainTable × Result Retried StaleAgent). (plain_of (record parts { subs = left.0 }), of_retry left.1)) done
+      ∙ sym (retry-parts parts generation s number no_entry no_state (sym records.long) (sym found))
+
+-- ---- what is handled is acknowledged
+
+-- the handled positions of a record are in the log
+pub handled-in : (parts : Parts) (number : ℕ) → IsWithinLimits (plain_of parts) → AreRecords parts.subs → number < length parts.subs.registry.names → All (λ position. position < length parts.queue.events) (state_at parts.subs number).handled
+handled-in parts number limits records within =
+    All-from_recursion (λ position. position < length parts.queue.events) (state_at parts.subs number).handled
+    (subst (λ (entry : SubName × Subscription). AreIn parts.queue.events entry.1.handled)
+    (record-at names states number (sub_of no_entry no_state) no_entry no_state (sym records.long) within)
+    (All-from_recursion (λ (entry : SubName × Subscription). AreIn parts.queue.events entry.1.handled) (subs_of names states) limits.handled number (sub_of no_entry no_state) inside))
+  where
+    names : List (SubName × Registration)
+    names = parts.subs.registry.names
+
+    states : List PlainState
+    states = parts.subs.states
+
+    inside : number < length (subs_of names states)
+    inside = omega (arith, within, records-length names states (sym records.long))
+
+module _ (parts : Parts) (generation : ℕ) (s : SubName) (token : Token) where
+  pub ack-replaced : (stale : StaleAgent) → Err stale ≡ agent.check parts.agent generation → (plain_of parts, reply.StaleAgent stale.now) ≡ plain.ack (plain_of parts) generation s token
+  ack-replaced stale checked =
+      let replaced = check-stale parts.agent generation stale checked in
+      ap {B = PlainPartition × Reply} (λ now. (plain_of parts, reply.StaleAgent now)) replaced.now ∙ sym (ack-stale parts generation s token replaced.other)
+
+  pub ack-nothing : (checked : Unit {0}) → Ok checked ≡ agent.check parts.agent generation → AreRecords parts.subs → None ≡ number_of parts.subs s → (plain_of parts, reply.NoSuch) ≡ plain.ack (plain_of parts) generation s token
+  ack-nothing checked is records none =
+      sym (ack-none parts generation s token (sym records.long) (check-current parts.agent generation checked is) (sym none))
+
+  pub ack-performs : (number : ℕ) (new : PlainTable) (told : Result Acked StaleAgent) → AreRecords parts.subs → Some number ≡ number_of parts.subs s
+      → (new, told) ≡ stepped parts.subs number (agent.ack parts.agent generation (state_at parts.subs number) parts.queue token)
+      → (plain_of (record parts { subs = new }), of_ack told) ≡ plain.ack (plain_of parts) generation s token
+  ack-performs number new told records found done =
+      ap {B = PlainPartition × Reply} (λ (left : PlainTable × Result Acked StaleAgent). (plain_of (record parts { subs = left.0 }), of_ack left.1)) done
+      ∙ sym (ack-parts parts generation s token number no_entry no_state (sym records.long) (sym found))

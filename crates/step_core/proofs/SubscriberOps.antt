@@ -1,0 +1,159 @@
+-- What subscribers ask, done by the parts.
+use Rattle.std.proofs.Common.{◌≡◌, ◌∙◌, ap, sym, subst, refl, ℕ, zero, suc, ◌+◌, ◌<◌, Bool, true, false, ◌&&◌, not, List, [], ◌∷◌, ◌++◌, length, map, filter, get_or, set, take, drop, Option, Some, None, nat_le, ◌==◌, arith}
+use Rattle.std.specs.Prelude.{if◌then◌else◌, unwrap_or, ◌-◌}
+use Rattle.std.specs.List.{AllByRecursion}
+use Rattle.std.specs.Option.{option_map}
+use Rattle.stream_ident.specs.declared.ident.GrainId.{GrainId}
+use Rattle.stream_ident.specs.declared.ident.StreamId.{StreamId}
+use Rattle.stream_ident.specs.declared.ident.SubName.{SubName}
+use Rattle.stream_ident.specs.declared.ident.SubName.TheVariants as name
+use Rattle.stream_ident.specs.declared.token.Token.{Token}
+use Rattle.stream_ident.specs.Name.{same_grain}
+use Rattle.stream_ident.specs.SubName.{same_sub}
+use Rattle.stream_ident.specs.Words.{change_at, changed_value, place_of, value_at, with_value}
+use Rattle.stream_model.specs.declared.plain.Delivery as plain_delivery
+use Rattle.stream_model.specs.declared.plain.Grain.{Grain}
+use Rattle.stream_model.specs.declared.plain.RunningTurn as plain_turn
+use Rattle.stream_model.specs.declared.plain.PlainPartition.{PlainPartition}
+use Rattle.stream_model.specs.declared.plain.Subscription.{Subscription}
+use Rattle.stream_model.specs.declared.reply.Reply.{Reply}
+use Rattle.stream_model.specs.declared.reply.Reply.TheVariants as reply
+use Rattle.stream_model.specs.Positions.{sub_at, with_sub}
+use Rattle.stream_model.specs.Publishing as plain
+use Rattle.stream_model.proofs.ChangedValues.{place_of-changed, place_of-unchanged}
+use Rattle.consumer_grain.specs.declared.delivery.Delivery.{Delivery}
+use Rattle.consumer_grain.specs.declared.turn.RunningTurn.{RunningTurn}
+use Rattle.consumer_grain.specs.Activations.{PlainActivation, forgotten}
+use Rattle.consumer_grain.specs.Subscriptions.{PlainState, closed}
+use Rattle.pubsub_registry.specs.declared.registration.Registration.{Registration}
+use Rattle.pubsub_registry.specs.Registry.{PlainRegistry, shut}
+use Rattle.step_core.specs.Numbers.{AreDistinct, IsBelow}
+use Rattle.step_core.specs.declared.parts.Parts.{Parts}
+use Rattle.step_core.specs.PlainOf.{plain_of}
+use Rattle.step_core.specs.View.{delivery_of, grain_of, grains_of, name_at, sub_of, subs_of}
+use Rattle.step_core.proofs.GrainOps.{activation_at, activation-changed, place_of_grain}
+use Rattle.step_core.proofs.NumberLemmas.{same-number}
+use Rattle.step_core.proofs.RecordOps.{no-record, record-found, record-set, record_at}
+
+-- ---- a name that is shut says the same of its record
+
+pub shut-records : (s : SubName) (names : List (SubName × Registration)) (states : List PlainState) → subs_of (changed_value same_sub s shut names) states ≡ subs_of names states
+shut-records s [] states = refl
+shut-records s (entry ∷ names) [] = by (same_sub s entry.0)
+  where
+    by : (b : Bool) → subs_of (if b then (entry.0, shut entry.1) ∷ names else entry ∷ changed_value same_sub s shut names) [] ≡ []
+    by true = refl
+    by false = refl
+shut-records s (entry ∷ names) (state ∷ states) = by (same_sub s entry.0) (shut-records s names states)
+  where
+    by : (b : Bool) → subs_of (changed_value same_sub s shut names) states ≡ subs_of names states → subs_of (if b then (entry.0, shut entry.1) ∷ names else entry ∷ changed_value same_sub s shut names) (state ∷ states) ≡ sub_of entry state ∷ subs_of names states
+    by true rest = refl
+    by false rest = ap (λ subs. sub_of entry state ∷ subs) rest
+
+shut-names : (s : SubName) (names : List (SubName × Registration)) → map (λ (entry : SubName × Registration). entry.0) (changed_value same_sub s shut names) ≡ map (λ (entry : SubName × Registration). entry.0) names
+shut-names s [] = refl
+shut-names s (entry ∷ names) = by (same_sub s entry.0) (shut-names s names)
+  where
+    by : (b : Bool) → map (λ (e : SubName × Registration). e.0) (changed_value same_sub s shut names) ≡ map (λ (e : SubName × Registration). e.0) names → map (λ (e : SubName × Registration). e.0) (if b then (entry.0, shut entry.1) ∷ names else entry ∷ changed_value same_sub s shut names) ≡ entry.0 ∷ map (λ (e : SubName × Registration). e.0) names
+    by true rest = refl
+    by false rest = ap (λ names. entry.0 ∷ names) rest
+
+-- a grain is seen by the names alone
+delivery-by : List SubName → Delivery → plain_delivery.Delivery
+delivery-by names d = record { sub = get_or names d.sub (name.Explicit 0); position = d.position }
+
+turn-by : List SubName → RunningTurn → plain_turn.RunningTurn
+turn-by names run = record { sub = get_or names run.sub (name.Explicit 0); turn = run.turn; positions = run.positions }
+
+grains-by : List SubName → List (GrainId × PlainActivation) → List (GrainId × Grain)
+grains-by names grains =
+    map (λ (entry : GrainId × PlainActivation). (entry.0, record { activation = entry.1.number; active = entry.1.active; mailbox = map (delivery-by names) entry.1.mailbox; running = option_map (turn-by names) entry.1.running })) grains
+
+pub same-names : (names others : List (SubName × Registration)) (grains : List (GrainId × PlainActivation)) → map (λ (entry : SubName × Registration). entry.0) others ≡ map (λ (entry : SubName × Registration). entry.0) names → grains_of others grains ≡ grains_of names grains
+unfolding grains-by delivery-by turn-by
+same-names names others grains same = ap (λ (ns : List SubName). grains-by ns grains) same
+
+-- ---- the deliveries of a record leave the mailbox
+
+other-deliveries : (names : List (SubName × Registration)) (sub : ℕ) (deliveries : List Delivery) → AreDistinct names → sub < length names → AllByRecursion (λ (d : Delivery). d.sub < length names) deliveries → map (delivery_of names) (filter (λ (d : Delivery). not (sub == d.sub)) deliveries) ≡ filter (λ d. not (same_sub (name_at names sub) d.sub)) (map (delivery_of names) deliveries)
+other-deliveries names sub [] distinct within all = refl
+other-deliveries names sub (d ∷ deliveries) distinct within all =
+    rw (same-number names sub d.sub distinct within all.0) (by (sub == d.sub) (other-deliveries names sub deliveries distinct within all.1))
+  where
+    Rest : Type 0
+    Rest = map (delivery_of names) (filter (λ (e : Delivery). not (sub == e.sub)) deliveries) ≡ filter (λ e. not (same_sub (name_at names sub) e.sub)) (map (delivery_of names) deliveries)
+
+    by : (b : Bool) → Rest
+        → map (delivery_of names) (if not b then d ∷ filter (λ (e : Delivery). not (sub == e.sub)) deliveries else filter (λ (e : Delivery). not (sub == e.sub)) deliveries)
+        ≡ (if not b then delivery_of names d ∷ filter (λ e. not (same_sub (name_at names sub) e.sub)) (map (delivery_of names) deliveries) else filter (λ e. not (same_sub (name_at names sub) e.sub)) (map (delivery_of names) deliveries))
+    by true rest = rest
+    by false rest = ap (λ ds. delivery_of names d ∷ ds) rest
+
+pub forgotten-is : (names : List (SubName × Registration)) (sub : ℕ) (a : PlainActivation) → AreDistinct names → sub < length names → IsBelow (length names) a → grain_of names (forgotten sub a) ≡ plain.without (name_at names sub) (grain_of names a)
+forgotten-is names sub a distinct within below =
+    ap (λ ds. record (grain_of names a) { mailbox = ds }) (other-deliveries names sub a.mailbox distinct within below.waiting)
+
+-- the grain's record, where it has one
+pub forgotten-at : (parts : Parts) (g : GrainId) (i sub : ℕ) (d : GrainId × PlainActivation) → AreDistinct parts.subs.registry.names → sub < length parts.subs.registry.names → IsBelow (length parts.subs.registry.names) (activation_at parts i d) → i < length parts.grains → place_of same_grain g parts.grains ≡ Some i
+    → changed_value same_grain g (plain.without (name_at parts.subs.registry.names sub)) (grains_of parts.subs.registry.names parts.grains) ≡ grains_of parts.subs.registry.names (change_at (forgotten sub) i parts.grains)
+forgotten-at parts g i sub d distinct within below inside found =
+    sym (place_of-changed same_grain g (plain.without (name_at parts.subs.registry.names sub)) i (grains_of parts.subs.registry.names parts.grains) (place_of_grain parts.subs.registry.names (same_grain g) 0 parts.grains ∙ found))
+    ∙ activation-changed parts.subs.registry.names (forgotten sub) (plain.without (name_at parts.subs.registry.names sub)) i parts.grains d inside (forgotten-is parts.subs.registry.names sub (activation_at parts i d) distinct within below)
+
+pub forgotten-nowhere : (parts : Parts) (g : GrainId) (sub : ℕ) → place_of same_grain g parts.grains ≡ None
+    → changed_value same_grain g (plain.without (name_at parts.subs.registry.names sub)) (grains_of parts.subs.registry.names parts.grains) ≡ grains_of parts.subs.registry.names parts.grains
+forgotten-nowhere parts g sub none =
+    sym (place_of-unchanged same_grain g (plain.without (name_at parts.subs.registry.names sub)) (grains_of parts.subs.registry.names parts.grains) (place_of_grain parts.subs.registry.names (same_grain g) 0 parts.grains ∙ none))
+
+-- ---- unsubscribing
+
+abbrev pub with_shut : Parts → SubName → List PlainState → List (GrainId × PlainActivation) → Parts
+with_shut parts s states grains =
+    record parts { subs = record { registry = record parts.subs.registry { names = changed_value same_sub s shut parts.subs.registry.names }; states = states }; grains = grains }
+
+shut-is : (parts : Parts) (s : SubName) (states : List PlainState) (grains : List (GrainId × PlainActivation)) → plain_of (record parts { subs = record parts.subs { states = states }; grains = grains }) ≡ plain_of (with_shut parts s states grains)
+shut-is parts s states grains =
+    ap (λ subs. record (plain_of (record parts { subs = record parts.subs { states = states }; grains = grains })) { subs = subs }) (sym (shut-records s parts.subs.registry.names states))
+    ∙ ap (λ gs. record (plain_of (record parts { subs = record parts.subs { states = states }; grains = grains })) { subs = subs_of (changed_value same_sub s shut parts.subs.registry.names) states; grains = gs }) (sym (same-names parts.subs.registry.names (changed_value same_sub s shut parts.subs.registry.names) grains (shut-names s parts.subs.registry.names)))
+
+pub unsubscribe-parts : (parts : Parts) (number sub : ℕ) (d : SubName × Registration) (e : PlainState) (grains : List (GrainId × PlainActivation))
+    → length parts.subs.registry.names ≡ length parts.subs.states → place_of same_sub (name.Explicit number) parts.subs.registry.names ≡ Some sub
+    → changed_value same_grain (record_at parts sub d e).grain (plain.without (name.Explicit number)) (grains_of parts.subs.registry.names parts.grains) ≡ grains_of parts.subs.registry.names grains
+    → plain.unsubscribe (plain_of parts) (name.Explicit number)
+    ≡ (if not (get_or parts.subs.states sub e).is_open then (plain_of parts, reply.Closed)
+    else (plain_of (with_shut parts (name.Explicit number) (set parts.subs.states sub (closed (get_or parts.subs.states sub e))) grains), reply.Unsubscribed (length (get_or parts.subs.states sub e).handled)))
+unfolding plain.unsubscribe plain.unsubscribe_from
+unsubscribe-parts parts number sub d e grains lengths found forgets =
+    rw (record-found parts (name.Explicit number) sub d e lengths found) (by (get_or parts.subs.states sub e).is_open)
+  where
+    s : SubName
+    s = name.Explicit number
+
+    old : PlainState
+    old = get_or parts.subs.states sub e
+
+    shuts : plain.unsubscribed (plain_of parts) s (record_at parts sub d e) ≡ plain_of (with_shut parts s (set parts.subs.states sub (closed old)) grains)
+    shuts =
+        ap (λ gs. record (with_sub (plain_of parts) s (record (record_at parts sub d e) { is_open = false })) { grains = gs }) forgets
+        ∙ ap (λ (p : PlainPartition). record p { grains = grains_of parts.subs.registry.names grains }) (record-set parts s sub d e (closed old) (λ r. record r { is_open = false }) lengths found refl)
+        ∙ shut-is parts s (set parts.subs.states sub (closed old)) grains
+
+    left : PlainPartition × Reply
+    left = (plain.unsubscribed (plain_of parts) s (record_at parts sub d e), reply.Unsubscribed (length old.handled))
+
+    right : PlainPartition × Reply
+    right = (plain_of (with_shut parts s (set parts.subs.states sub (closed old)) grains), reply.Unsubscribed (length old.handled))
+
+    by : (is_open : Bool) → (if not is_open then (plain_of parts, reply.Closed) else left) ≡ (if not is_open then (plain_of parts, reply.Closed) else right)
+    by false = refl
+    by true = ap {B = PlainPartition × Reply} (λ p. (p, reply.Unsubscribed (length old.handled))) shuts
+
+pub unsubscribe-implicit : (parts : Parts) (kind : List ℕ) (stream : StreamId) (sub : ℕ) (d : SubName × Registration) (e : PlainState) → length parts.subs.registry.names ≡ length parts.subs.states → place_of same_sub (name.Implicit kind stream) parts.subs.registry.names ≡ Some sub
+    → plain.unsubscribe (plain_of parts) (name.Implicit kind stream) ≡ (plain_of parts, reply.Implicit)
+unfolding plain.unsubscribe plain.unsubscribe_from
+unsubscribe-implicit parts kind stream sub d e lengths found = rw (record-found parts (name.Implicit kind stream) sub d e lengths found) refl
+
+pub unsubscribe-none : (parts : Parts) (s : SubName) → length parts.subs.registry.names ≡ length parts.subs.states → place_of same_sub s parts.subs.registry.names ≡ None → plain.unsubscribe (plain_of parts) s ≡ (plain_of parts, reply.NoSuch)
+unfolding plain.unsubscribe plain.unsubscribe_from
+unsubscribe-none parts (name.Explicit number) lengths none = rw (no-record parts (name.Explicit number) lengths none) refl
+unsubscribe-none parts (name.Implicit kind stream) lengths none = rw (no-record parts (name.Implicit kind stream) lengths none) refl

@@ -1,0 +1,9 @@
+use Rattle.std.proofs.Common.{◌≡◌, ◌*◌, ◌≤◌}
+use Rattle.step_core.proofs.PendingOps.{waits_before}
+use Rattle.step_core.proofs.looking.all_waiting.Given as goal
+
+abbrev pub invariant-loop-number : goal.invariant-loop-number
+invariant-loop-number l = record {
+  count : l.count ≡ waits_before l.parts.grains l.number;
+  few : l.count ≤ 16 * l.number;
+}

@@ -1,0 +1,38 @@
+use Rattle.std.proofs.Common.{◌∙◌, Some, None, ap, sym, subst, ◌<◌, length, pred}
+use Rattle.std.specs.Prelude.{if◌then◌else◌}
+use Rattle.std.specs.List.{AllByRecursion}
+use Rattle.std.specs.Option.{option_copied}
+use Rattle.stream_ident.specs.Words.{past}
+use Rattle.consumer_grain.specs.Subscriptions.{PlainState, is_unacknowledged}
+use Rattle.partition_queue.specs.Queue.{token_at}
+use Rattle.queue_cache.specs.Cache.{high}
+use Rattle.resume_tree.specs.Leaves.{due_after}
+use Rattle.subscription_table.specs.LeavesOf.{leaves_of}
+use Rattle.step_core.proofs.LookOps.{due-none, due-some, handled-within}
+use Rattle.step_core.proofs.Shared.{distinct-of-unique}
+use Rattle.step_core.proofs.looking.due.Goals as goal
+
+pub to_acknowledge-requires : goal.to_acknowledge-requires
+to_acknowledge-requires c =
+    let parts = c.args.parts.now in
+    subst (λ (s : PlainState). AllByRecursion (λ position. position < length parts.queue.events) s.handled) (sym c.state.ensures)
+    (handled-within parts c.in-Some.number c.requires.within (sym c.len-names.ensures.records.long) c.in-Some.ensures.within)
+
+pub returns-in-Some : goal.returns-in-Some
+returns-in-Some c =
+    let parts = c.args.parts.now in
+    let leaves = leaves_of parts.subs.registry.names parts.subs.states in
+    let is_high = c.high-high.ensures ∙ ap high c.cache.ensures in
+    let asked = ap (due_after (high parts.agent.cache)) (sym c.as_ref.ensures.value) in
+    let is_due = ap (λ due. due leaves) asked ∙ ap (λ n. due_after n (option_copied c.as_ref.result) leaves) (sym is_high) ∙ c.in-Some.ensures.some in
+    let ack = c.to_acknowledge.ensures ∙ ap (λ (s : PlainState). if is_unacknowledged s then Some (token_at parts.queue (pred (past s.handled))) else None) c.state.ensures in
+    due-some parts c.args.after c.in-Some.number c.name.result.now c.to_acknowledge.result (distinct-of-unique parts.subs.registry.names c.len-names.ensures.unique) (sym c.len-names.ensures.records.long) c.in-Some.ensures.within is_due c.name.ensures ack
+
+pub returns-in-None : goal.returns-in-None
+returns-in-None c =
+    let parts = c.args.parts.now in
+    let leaves = leaves_of parts.subs.registry.names parts.subs.states in
+    let is_high = c.high-high.ensures ∙ ap high c.cache.ensures in
+    let asked = ap (due_after (high parts.agent.cache)) (sym c.as_ref.ensures.value) in
+    let is_none = ap (λ due. due leaves) asked ∙ ap (λ n. due_after n (option_copied c.as_ref.result) leaves) (sym is_high) ∙ c.in-None.ensures.none in
+    sym (due-none c.args.parts.now c.args.after is_none)

@@ -1,0 +1,17 @@
+use Rattle.std.proofs.Common.{◌∙◌, ap, sym}
+use Rattle.stream_model.specs.Looks.{ready_reply}
+use Rattle.grain_table.specs.Grains.{ready_after}
+use Rattle.step_core.proofs.LookOps.{ready-is}
+use Rattle.step_core.proofs.looking.ready.Goals as goal
+
+pub returns-in-Some : goal.returns-in-Some
+returns-in-Some c =
+    let parts = c.args.parts.now in
+    let found = c.in-Some.ensures ∙ ap (ready_after parts.grains) c.as_ref.ensures.value in
+    ap ready_reply found ∙ sym (ready-is parts c.args.after)
+
+pub returns-in-None : goal.returns-in-None
+returns-in-None c =
+    let parts = c.args.parts.now in
+    let found = c.in-None.ensures ∙ ap (ready_after parts.grains) c.as_ref.ensures.value in
+    ap ready_reply found ∙ sym (ready-is parts c.args.after)

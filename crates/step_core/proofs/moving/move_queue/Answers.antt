@@ -1,0 +1,29 @@
+use Rattle.std.proofs.Common.{◌≡◌, ◌∙◌, ap, arith, min}
+use Rattle.stream_model.specs.Positions.{slowest}
+use Rattle.queue_cache.specs.Cache.{high}
+use Rattle.step_core.specs.PlainOf.{plain_of}
+use Rattle.step_core.proofs.CachedEvents.{high-end}
+use Rattle.step_core.proofs.MovedOps.{move-spent, moved-assembled, moved-performs}
+use Rattle.step_core.proofs.moving.move_queue.Goals as goal
+
+pub returns-then-parts-clause-performs : goal.returns-then-parts-clause-performs
+returns-then-parts-clause-performs c = move-spent c.args.parts.now c.args.silo c.if-parts.true
+
+pub token_at-low-requires : goal.token_at-low-requires
+token_at-low-requires c =
+    let parts = c.args.parts.now in
+    let end : c.high.result ≡ high parts.agent.cache = c.high.ensures ∙ ap high c.cache.ensures in
+    omega (arith, c.min-position.ensures, high-end parts c.requires)
+
+pub returns-clause-assembled : goal.returns-clause-assembled
+returns-clause-assembled c =
+    moved-assembled c.args.parts.now c.args.silo c.min-position.result c.take_over-generation.new.self c.take_over-generation.result c.rewind_all.new.self c.take_over-generation.ensures c.rewind_all.ensures c.len.ensures.records c.requires.assembled
+
+pub returns-clause-performs : goal.returns-clause-performs
+returns-clause-performs c =
+    let parts = c.args.parts.now in
+    let least : c.min-position.result ≡ min (high parts.agent.cache) (slowest (plain_of parts)) =
+    c.min-position.ensures ∙ ap (λ n. min n c.slowest.result) (c.high.ensures ∙ ap high c.cache.ensures) ∙ ap (min (high parts.agent.cache)) c.slowest.ensures
+    in
+    moved-performs parts c.args.silo c.min-position.result c.take_over-generation.new.self c.take_over-generation.result c.rewind_all.new.self c.take_over-generation.ensures c.rewind_all.ensures
+    c.token_at-low.result c.len.ensures.records c.if-parts.false least c.token_at-low.ensures

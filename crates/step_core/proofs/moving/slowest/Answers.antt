@@ -1,0 +1,16 @@
+use Rattle.std.proofs.Common.{◌≡◌, ◌∙◌, ap, sym}
+use Rattle.std.specs.Prelude.{unwrap_or}
+use Rattle.queue_cache.specs.Cache.{high}
+use Rattle.resume_tree.specs.Leaves.{least_resume}
+use Rattle.subscription_table.specs.LeavesOf.{leaves_of}
+use Rattle.step_core.proofs.LeafOps.{slowest-is}
+use Rattle.step_core.proofs.moving.slowest.Goals as goal
+
+pub returns : goal.returns
+returns c =
+    let parts = c.args.parts.now in
+    let end : c.high-high.result ≡ high parts.agent.cache = c.high-high.ensures ∙ ap high c.cache.ensures in
+    c.unwrap_or.ensures
+    ∙ ap (λ resume. unwrap_or resume c.high-high.result) c.least_resume.ensures
+    ∙ ap (unwrap_or (least_resume (leaves_of parts.subs.registry.names parts.subs.states))) end
+    ∙ sym (slowest-is parts)

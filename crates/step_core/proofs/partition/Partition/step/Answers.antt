@@ -1,0 +1,14 @@
+use Rattle.step_core.specs.PlainOf.{plain_of}
+use Rattle.stream_model.proofs.Answering.{within-after}
+use Rattle.stream_model.proofs.Reaching.{reached-after}
+use Rattle.stream_model.proofs.StepBounds.{bounds-step}
+use Rattle.step_core.proofs.partition.Partition.step.Goals as goal
+
+pub invariant_of-self : goal.invariant_of-self
+invariant_of-self c =
+    let old = plain_of c.self.inside.parts in
+    record {
+      assembled = c.step.ensures.assembled;
+      within = within-after old (plain_of c.step.new.parts) c.step.result _ c.step.ensures.performs c.self.invariant.within (bounds-step old c.args.op c.self.invariant.within);
+      reached = reached-after old (plain_of c.step.new.parts) c.args.op c.step.result c.step.ensures.performs c.self.invariant.reached;
+    }

@@ -1,6 +1,0 @@
-use Rattle.std.proofs.Common.{◌≡◌, take}
-use Rattle.stream_model.specs.Positions.{events_at}
-use Rattle.step_core.proofs.partition.events_at.Given as goal
-
-abbrev pub invariant-loop-position : goal.invariant-loop-position
-invariant-loop-position l = l.events.items ≡ events_at l.log (take l.position-index l.positions)

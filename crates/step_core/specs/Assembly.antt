@@ -1,0 +1,31 @@
+-- How the parts of a partition agree with each other.
+use Rattle.std.specs.Prelude.{◌≡◌, length}
+use Rattle.std.specs.List.{AllByRecursion}
+use Rattle.stream_model.specs.Bounds.{IsWithinLimits}
+use Rattle.stream_model.specs.Positions.{between}
+use Rattle.stream_model.specs.Step.{IsReached}
+use Rattle.queue_cache.specs.Cache.{high}
+use Rattle.step_core.specs.declared.parts.Parts.{Parts}
+use Rattle.step_core.specs.Known.{AreKnown}
+use Rattle.step_core.specs.Numbers.{IsBelow}
+use Rattle.step_core.specs.PlainOf.{plain_of}
+
+-- the cache has the events of the log at its positions
+abbrev pub HasEvents : Parts → Type 0
+HasEvents parts = parts.agent.cache.events ≡ between parts.queue.events parts.agent.cache.low (high parts.agent.cache)
+
+-- the parts have the partition's limits, the cache has events of the log, and grains know only numbers
+-- that are given, of records of theirs, and all that something was offered for
+pub record IsAssembled (parts : Parts) : Type 0 where
+  pub most_subs : parts.subs.registry.most_names ≡ parts.limits.subs
+  pub most_rules : parts.subs.registry.most_rules ≡ parts.limits.rules
+  pub most_events : parts.queue.limit ≡ parts.limits.events
+  pub cached : HasEvents parts
+  pub numbered : AllByRecursion (λ entry. IsBelow (length parts.subs.registry.names) entry.1) parts.grains
+  pub known : AreKnown parts.subs.registry.names parts.subs.states parts.grains
+
+-- and a legal history leads to the plain partition that they stand for
+pub record Agrees (parts : Parts) : Type 0 where
+  pub assembled : IsAssembled parts
+  pub within : IsWithinLimits (plain_of parts)
+  pub reached : IsReached (plain_of parts)

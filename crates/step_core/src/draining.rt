@@ -1,0 +1,320 @@
+//! A drain of a partition: operations, one after another, until nothing is left to do.
+ghost use Rattle.std.specs.Prelude.{◌≡◌};
+ghost use Rattle.stream_model.specs.declared.op.Op.TheVariants.{Commit, Deliver, Pull};
+ghost use Rattle.stream_model.specs.Draining.{acknowledge, after_begin, after_commit, ask, deliver_once_more, drain_all, drain_round, empty_mailboxes, last_handled, next_note, serve, serve_each, take_turn, DrainsTo};
+ghost use Rattle.stream_model.specs.Positions.{sub_at};
+ghost use Rattle.step_core.specs.declared.draining.Stop.TheVariants.{Memory};
+ghost use Rattle.step_core.specs.DrainPhases.{Asks, Follows, deliver_told, deliver_up_to, is_acknowledged, is_committed, is_nothing, pull_told};
+
+use crate::partition::Partition;
+use std::alloc::{AllocError, Global};
+use stream_ident::{GrainId, SubName};
+use stream_model::{DrainEnd, Op, Reply};
+
+/// The most events of a pull.
+const PULL_MAX: u32 = 32;
+
+/// Why a drain makes no more operations.
+#[derive(Debug, Drop)]
+enum Stop {
+    /// Memory is wanting.
+    Memory(AllocError),
+    /// A pull would have made more records than the limit.
+    TooMany,
+    /// A turn or an activation would have been one rise more than the limit.
+    Spent,
+    /// A reply was another than those that are looked for, or the rounds didn't suffice.
+    Astray,
+}
+
+impl From<AllocError> for Stop {
+    ghost from_gives = { λ wanting stop. stop ≡ Memory wanting };
+
+    fn from(wanting: AllocError) -> Stop {
+        Stop::Memory(wanting)
+    }
+}
+
+impl Partition {
+    /// Does all that is left to do: what waits is handled, each open subscription is delivered to and its
+    /// events handled, one at a time, and more is pulled, until the queue has nothing more. The note of each
+    /// turn is one more than that before. Nothing is done where a turn runs.
+    ///
+    /// # Errors
+    /// Memory. The first of the operations are done, and no other; a turn that was begun may run then, and
+    /// the next drain is stuck until it is committed or its grain deactivated.
+    pub fn drain(&mut self, alloc: Global) -> Result<DrainEnd, AllocError>
+        ensures drains { DrainsTo self.old self.new result }
+    {
+        if let Some(grain) = self.least_running() {
+            return Ok(DrainEnd::Stuck { grain });
+        }
+        // A legal history leads to the partition, so nothing below goes astray.
+        self.facts();
+        let turns = self.turns();
+        match drain_all(self, alloc) {
+            Ok(()) => Ok(DrainEnd::Drained {
+                turns: (self.turns() - turns) as usize,
+            }),
+            Err(Stop::TooMany) => Ok(DrainEnd::TooMany),
+            Err(Stop::Spent) => Ok(DrainEnd::Spent),
+            Err(Stop::Astray) => unreachable!(),
+            Err(Stop::Memory(wanting)) => Err(wanting),
+        }
+    }
+}
+
+/// Rounds with a pull after each, until the cache has all events of the queue.
+fn drain_all(partition: &mut Partition, alloc: Global) -> Result<(), Stop>
+    ensures { Follows partition.old partition.new result (drain_all partition.old) }
+{
+    let rounds = partition.queued().saturating_sub(partition.high());
+    for _ in 0..rounds {
+        drain_round(partition, alloc)?;
+        if !pull_next(partition, alloc)? {
+            return Ok(());
+        }
+    }
+    drain_round(partition, alloc)?;
+    if pull_next(partition, alloc)? {
+        return Err(Stop::Astray);
+    }
+    Ok(())
+}
+
+/// Pulls, and says whether events went into the cache.
+fn pull_next(partition: &mut Partition, alloc: Global) -> Result<bool, Stop>
+    ensures { Asks partition.old partition.new result (Pull partition.old.generation 32) pull_told }
+{
+    let generation = partition.generation();
+    let max = PULL_MAX;
+    let reply = partition.step(alloc, Op::Pull { generation, max })?;
+    is_pulled(&reply)
+}
+
+/// Whether a reply says that events went into the cache, or that the queue had none.
+fn is_pulled(reply: &Reply) -> Result<bool, Stop>
+    ensures { result ≡ pull_told reply.now }
+{
+    match reply {
+        Reply::Pulled { .. } => Ok(true),
+        Reply::Dry => Ok(false),
+        Reply::TooMany => Err(Stop::TooMany),
+        _ => Err(Stop::Astray),
+    }
+}
+
+/// A round: the mailboxes are emptied, and then each open subscription is served, in the order of names.
+fn drain_round(partition: &mut Partition, alloc: Global) -> Result<(), Stop>
+    ensures { Follows partition.old partition.new result (drain_round partition.old) }
+{
+    empty_mailboxes(partition, alloc)?;
+    let names = partition.open_names(alloc)?;
+    serve_each(partition, alloc, names.as_slice())
+}
+
+/// While something waits, a turn of the least grain for which it does.
+fn empty_mailboxes(partition: &mut Partition, alloc: Global) -> Result<(), Stop>
+    ensures { Follows partition.old partition.new result (empty_mailboxes partition.old) }
+{
+    for _ in 0..partition.all_waiting() {
+        let Some(grain) = partition.least_waiting() else {
+            return Ok(());
+        };
+        take_turn(partition, alloc, &grain)?;
+    }
+    match partition.least_waiting() {
+        Some(_) => Err(Stop::Astray),
+        None => Ok(()),
+    }
+}
+
+/// Serves each of these subscriptions.
+fn serve_each(partition: &mut Partition, alloc: Global, names: &[SubName]) -> Result<(), Stop>
+    ensures { Follows partition.old partition.new result (serve_each names.now partition.old) }
+{
+    for name in names {
+        serve(partition, alloc, name)?;
+    }
+    Ok(())
+}
+
+/// Serves a subscription: all that the cache has for it is delivered and handled, the last of it is
+/// acknowledged, and one more delivery finds nothing.
+fn serve(partition: &mut Partition, alloc: Global, sub: &SubName) -> Result<(), Stop>
+    ensures { Follows partition.old partition.new result (serve sub.now partition.old (sub_at partition.old sub.now)) }
+{
+    let Some(served) = partition.served(sub) else {
+        return Err(Stop::Astray);
+    };
+    let most = partition.high().saturating_sub(served.cursor);
+    deliver_all(partition, alloc, sub, &served.grain, most)?;
+    acknowledge(partition, alloc, sub)?;
+    deliver_once_more(partition, alloc, sub)
+}
+
+/// Delivers to a subscription, with a turn of its grain after each delivery, until there is nothing more.
+fn deliver_all(
+    partition: &mut Partition,
+    alloc: Global,
+    sub: &SubName,
+    grain: &GrainId,
+    most: usize,
+) -> Result<(), Stop>
+    ensures { Follows partition.old partition.new result (deliver_up_to most sub.now grain.now partition.old) }
+{
+    for _ in 0..most {
+        if !deliver_next(partition, alloc, sub)? {
+            return Ok(());
+        }
+        take_turn(partition, alloc, grain)?;
+    }
+    if deliver_next(partition, alloc, sub)? {
+        return Err(Stop::Astray);
+    }
+    Ok(())
+}
+
+/// Delivers, and says whether an event went into the mailbox.
+fn deliver_next(partition: &mut Partition, alloc: Global, sub: &SubName) -> Result<bool, Stop>
+    ensures { Asks partition.old partition.new result (Deliver partition.old.generation sub.now) deliver_told }
+{
+    let generation = partition.generation();
+    let sub = *sub;
+    let reply = partition.step(alloc, Op::Deliver { generation, sub })?;
+    is_delivered(&reply)
+}
+
+/// Whether a reply says that an event went into the mailbox, or that there was none.
+fn is_delivered(reply: &Reply) -> Result<bool, Stop>
+    ensures { result ≡ deliver_told reply.now }
+{
+    match reply {
+        Reply::Delivered { .. } => Ok(true),
+        Reply::Nothing => Ok(false),
+        Reply::Spent => Err(Stop::Spent),
+        _ => Err(Stop::Astray),
+    }
+}
+
+/// Takes a turn of a grain: begins it, and commits it where it runs. A repeat is dropped.
+fn take_turn(partition: &mut Partition, alloc: Global, grain: &GrainId) -> Result<(), Stop>
+    ensures { Follows partition.old partition.new result (take_turn grain.now partition.old) }
+{
+    let begin = Op::Begin {
+        grain: *grain,
+        max: 1,
+    };
+    let reply = partition.step(alloc, begin)?;
+    follow_begin(partition, alloc, grain, &reply)
+}
+
+/// Goes on after the reply to a Begin.
+fn follow_begin(
+    partition: &mut Partition,
+    alloc: Global,
+    grain: &GrainId,
+    reply: &Reply,
+) -> Result<(), Stop>
+    ensures { Follows partition.old partition.new result (after_begin grain.now partition.old reply.now) }
+{
+    match reply {
+        Reply::Turn {
+            activation,
+            turn,
+            note,
+            ..
+        } => {
+            let note = next_note(*note);
+            end_turn(partition, alloc, grain, *activation, *turn, note)
+        }
+        Reply::Dropped { .. } => Ok(()),
+        Reply::Spent => Err(Stop::Spent),
+        _ => Err(Stop::Astray),
+    }
+}
+
+/// The note that a turn leaves: one more, up to the greatest.
+fn next_note(note: u64) -> u64
+    ensures { result ≡ next_note note }
+{
+    note.saturating_add(1)
+}
+
+/// Commits a turn.
+fn end_turn(
+    partition: &mut Partition,
+    alloc: Global,
+    grain: &GrainId,
+    activation: u64,
+    turn: u64,
+    note: u64,
+) -> Result<(), Stop>
+    ensures { Follows partition.old partition.new result (ask partition.old (Commit grain.now activation turn note) after_commit) }
+{
+    let commit = Op::Commit {
+        grain: *grain,
+        activation,
+        turn,
+        note,
+    };
+    let reply = partition.step(alloc, commit)?;
+    if !is_committed(&reply) {
+        return Err(Stop::Astray);
+    }
+    Ok(())
+}
+
+/// Whether a reply says that the events of a turn are handled.
+fn is_committed(reply: &Reply) -> bool
+    ensures { result ≡ is_committed reply.now }
+{
+    matches!(reply, Reply::Committed { .. })
+}
+
+/// Acknowledges the last event that a subscription has handled, where there is one.
+fn acknowledge(partition: &mut Partition, alloc: Global, sub: &SubName) -> Result<(), Stop>
+    ensures { Follows partition.old partition.new result
+        (acknowledge sub.now partition.old (last_handled partition.old (sub_at partition.old sub.now))) }
+{
+    let Some(token) = partition.last_handled(sub) else {
+        return Ok(());
+    };
+    let ack = Op::Ack {
+        generation: partition.generation(),
+        sub: *sub,
+        token,
+    };
+    let reply = partition.step(alloc, ack)?;
+    if !is_acknowledged(&reply) {
+        return Err(Stop::Astray);
+    }
+    Ok(())
+}
+
+/// Whether a reply says that the resume stands past an event.
+fn is_acknowledged(reply: &Reply) -> bool
+    ensures { result ≡ is_acknowledged reply.now }
+{
+    matches!(reply, Reply::Acked)
+}
+
+/// Delivers to a subscription for which the cache has nothing more, so that its resume follows.
+fn deliver_once_more(partition: &mut Partition, alloc: Global, sub: &SubName) -> Result<(), Stop>
+    ensures { Follows partition.old partition.new result (deliver_once_more sub.now partition.old) }
+{
+    let generation = partition.generation();
+    let sub = *sub;
+    let reply = partition.step(alloc, Op::Deliver { generation, sub })?;
+    if !is_nothing(&reply) {
+        return Err(Stop::Astray);
+    }
+    Ok(())
+}
+
+/// Whether a reply says that the cache has no further event.
+fn is_nothing(reply: &Reply) -> bool
+    ensures { result ≡ is_nothing reply.now }
+{
+    matches!(reply, Reply::Nothing)
+}

@@ -1,0 +1,166 @@
+//! What is asked without changing anything.
+ghost use Rattle.std.specs.Prelude.{◌≡◌, ◌<◌, ◌≤◌, ◌&&◌, None, Some, is_some, length, pred, true, if◌then◌else◌};
+ghost use Rattle.std.specs.List.{AllByRecursion};
+ghost use Rattle.stream_ident.specs.Name.{grain_lt};
+ghost use Rattle.stream_ident.specs.SubName.{sub_lt};
+ghost use Rattle.stream_ident.specs.Words.{keys_where, least, lesser, past};
+ghost use Rattle.stream_model.specs.Draining.{all_waiting, least_waiting};
+ghost use Rattle.stream_model.specs.Looks.{due, is_running, pending_in, quiet, ready};
+ghost use Rattle.cache_cursor.specs.Cursor.{next_in};
+ghost use Rattle.consumer_grain.specs.Subscriptions.{is_unacknowledged};
+ghost use Rattle.partition_queue.specs.Queue.{token_at};
+ghost use Rattle.step_core.specs.Assembly.{Agrees};
+ghost use Rattle.step_core.specs.Deliverables.{is_deliverable};
+ghost use Rattle.step_core.specs.PlainOf.{plain_of};
+
+use crate::parts::Parts;
+use cache_cursor::next;
+use consumer_grain::SubState;
+use partition_queue::PartitionQueue;
+use pubsub_registry::Registration;
+use queue_cache::QueueCache;
+use queue_mapper::place;
+use stream_ident::{GrainId, SubName, Token};
+use stream_model::{Pending, Reply};
+
+/// A worker asks for a grain for which something waits and no turn runs: the least such grain after the
+/// given one, else the least.
+pub(crate) fn ready(parts: &Parts, after: Option<GrainId>) -> Reply
+    requires { Agrees parts.now }
+    ensures { result ≡ ready (plain_of parts.now) after }
+{
+    match parts.grains.ready_after(after.as_ref()) {
+        Some(grain) => Reply::Next(grain),
+        None => Reply::NoneReady,
+    }
+}
+
+/// The agent asks for a subscription that has something to acknowledge or to look for: the least such name
+/// after the given one, else the least.
+pub(crate) fn due(parts: &Parts, after: Option<SubName>) -> Reply
+    requires { Agrees parts.now }
+    ensures { result ≡ due (plain_of parts.now) after }
+{
+    // The table says with its length that no name has two numbers.
+    let _names = parts.subs.len();
+    let high = parts.agent.cache().high();
+    match parts.subs.due_after(after.as_ref(), high) {
+        Some(number) => Reply::DueSub {
+            sub: *parts.subs.name(number),
+            ack: to_acknowledge(parts.subs.state(number), &parts.queue),
+        },
+        None => Reply::NoneDue,
+    }
+}
+
+/// The token of the last event that a subscription has handled, where that isn't acknowledged.
+fn to_acknowledge(state: &SubState, queue: &PartitionQueue) -> Option<Token>
+    requires { AllByRecursion (λ position. position < length queue.now.events) state.now.handled }
+    ensures { result ≡ (if is_unacknowledged state.now then Some (token_at queue.now (pred (past state.now.handled))) else None) }
+{
+    if state.is_unacknowledged() {
+        Some(queue.token_at(state.past() - 1))
+    } else {
+        None
+    }
+}
+
+/// Asks whether everything is pulled, delivered and handled.
+pub(crate) fn quiet(parts: &Parts) -> Reply
+    requires { Agrees parts.now }
+    ensures { result ≡ quiet (plain_of parts.now) }
+{
+    match pending(parts) {
+        Some(why) => Reply::NotQuiet(why),
+        None => Reply::IsQuiet,
+    }
+}
+
+/// Why a partition isn't quiet, the first that holds, or none where it is quiet.
+pub(crate) fn pending(parts: &Parts) -> Option<Pending>
+    requires { Agrees parts.now }
+    ensures { result ≡ pending_in (plain_of parts.now) }
+{
+    if parts.agent.cache().high() < parts.queue.len() {
+        return Some(Pending::Behind);
+    }
+    if let Some(sub) = least_deliverable(parts) {
+        return Some(Pending::Deliverable(sub));
+    }
+    if let Some(grain) = least_waiting(parts) {
+        return Some(Pending::Waiting(grain));
+    }
+    match least_running(parts) {
+        Some(grain) => Some(Pending::Running(grain)),
+        None => None,
+    }
+}
+
+/// The least grain that a turn runs for.
+pub(crate) fn least_running(parts: &Parts) -> Option<GrainId>
+    requires { Agrees parts.now }
+    ensures { result ≡ least grain_lt (keys_where is_running (plain_of parts.now).grains) }
+{
+    parts.grains.least_running()
+}
+
+/// The least grain for which deliveries wait.
+pub(crate) fn least_waiting(parts: &Parts) -> Option<GrainId>
+    requires { Agrees parts.now }
+    ensures { result ≡ least_waiting (plain_of parts.now) }
+{
+    parts.grains.least_waiting()
+}
+
+/// How many deliveries wait, for all grains together. It looks at each grain once.
+pub(crate) fn all_waiting(parts: &Parts) -> u128
+    requires { Agrees parts.now }
+    ensures { result ≡ all_waiting (plain_of parts.now) }
+{
+    let mut count = 0;
+    for number in 0..parts.grains.len() {
+        count += parts.grains.at(number).waiting() as u128;
+    }
+    count
+}
+
+/// The least name of an open subscription that has a next event in the cache. It looks at each
+/// subscription once.
+fn least_deliverable(parts: &Parts) -> Option<SubName>
+    requires { Agrees parts.now }
+    ensures { result ≡ least sub_lt (keys_where (is_deliverable (plain_of parts.now)) (plain_of parts.now).subs) }
+{
+    let cache = parts.agent.cache();
+    let mut least = None;
+    for number in (0..parts.subs.len()).rev() {
+        let registration = parts.subs.registration(number);
+        if has_next(cache, registration, parts.subs.state(number)) {
+            least = Some(lesser_name(parts.subs.name(number), &least));
+        }
+    }
+    least
+}
+
+/// Whether a subscription is open and has a next event in the cache.
+fn has_next(cache: &QueueCache, registration: &Registration, state: &SubState) -> bool
+    requires { state.now.is_open ≡ true → cache.now.low ≤ state.now.cursor }
+    ensures { result ≡ (state.now.is_open && is_some (next_in cache.now state.now.cursor registration.now.stream registration.now.start)) }
+{
+    // The tag costs a digest, which a cursor at the end of the cache has no need of.
+    if !state.is_open() || cache.high() <= state.cursor() {
+        return false;
+    }
+    let stream = &registration.stream;
+    let tag = place(stream, 1).tag;
+    next(cache, state.cursor(), stream, tag, &registration.start).is_some()
+}
+
+/// The lesser of two names, where there are two.
+fn lesser_name(name: &SubName, other: &Option<SubName>) -> SubName
+    ensures { result ≡ lesser sub_lt name.now other.now }
+{
+    match other {
+        Some(other) if other.is_before(name) => *other,
+        _ => *name,
+    }
+}

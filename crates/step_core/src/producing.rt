@@ -1,0 +1,75 @@
+//! What producers ask.
+ghost use Rattle.std.specs.Prelude.{◌≡◌, true, OnErr};
+ghost use Rattle.stream_model.specs.Publishing.{add_rule, publish};
+ghost use Rattle.stream_model.specs.Step.{takes_memory, Performs};
+ghost use Rattle.step_core.specs.Assembly.{Agrees, IsAssembled};
+ghost use Rattle.step_core.specs.PlainOf.{plain_of};
+ghost use Rattle.step_core.specs.Replies.{of_append, of_rule};
+
+use crate::parts::Parts;
+use partition_queue::Appended;
+use pubsub_registry::RuleAdded;
+use std::alloc::{AllocError, Global};
+use stream_ident::{Batch, Name, StreamId};
+use stream_model::Reply;
+
+/// A producer publishes a batch: its events go to the end of the log.
+///
+/// # Errors
+/// Memory, and then nothing has changed. It comes only at a batch that would be accepted.
+pub(crate) fn publish(
+    parts: &mut Parts,
+    alloc: Global,
+    stream: StreamId,
+    payloads: &Batch,
+) -> Result<Reply, AllocError>
+    requires { Agrees parts.old }
+    ensures assembled { IsAssembled parts.new }
+    ensures performs { Performs (plain_of parts.old) (plain_of parts.new) result (publish (plain_of parts.old) stream payloads.now) }
+    ensures memory { OnErr result (takes_memory (publish (plain_of parts.old) stream payloads.now).1 ≡ true) }
+{
+    let appended = parts.queue.append(alloc, stream, payloads)?;
+    Ok(told_of_batch(appended))
+}
+
+/// What the producer of a batch is told.
+fn told_of_batch(appended: Appended) -> Reply
+    ensures { result ≡ of_append appended }
+{
+    match appended {
+        Appended::Accepted { seq } => Reply::Published { seq },
+        Appended::BadBatch => Reply::BadBatch,
+        Appended::QueueFull => Reply::QueueFull,
+    }
+}
+
+/// Grains of a kind shall consume the streams of a namespace, from the next batch on.
+///
+/// # Errors
+/// Memory, and then nothing has changed. It comes only where the rule would be added.
+pub(crate) fn add_rule(
+    parts: &mut Parts,
+    alloc: Global,
+    kind: Name,
+    namespace: Name,
+) -> Result<Reply, AllocError>
+    requires { Agrees parts.old }
+    ensures assembled { IsAssembled parts.new }
+    ensures performs { Performs (plain_of parts.old) (plain_of parts.new) result (add_rule (plain_of parts.old) kind namespace) }
+    ensures memory { OnErr result (takes_memory (add_rule (plain_of parts.old) kind namespace).1 ≡ true) }
+{
+    let from = parts.queue.batches();
+    let added = parts.subs.add_rule(alloc, kind, namespace, from)?;
+    Ok(told_of_rule(from, added))
+}
+
+/// What is told of a rule that was to hold from a batch on.
+fn told_of_rule(from: u64, added: RuleAdded) -> Reply
+    ensures { result ≡ of_rule from added }
+{
+    match added {
+        RuleAdded::Added => Reply::RuleAdded { from },
+        RuleAdded::RuleThere => Reply::RuleThere,
+        RuleAdded::TooMany => Reply::TooMany,
+    }
+}

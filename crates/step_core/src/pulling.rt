@@ -1,0 +1,98 @@
+//! What the agent takes from the queue.
+ghost use Rattle.std.specs.Prelude.{◌≡◌, ◌+◌, ◌*◌, ◌≤◌, OnErr, length, true, unwrap_or};
+ghost use Rattle.stream_model.specs.Positions.{slowest, slowest_name, token_at};
+ghost use Rattle.stream_model.specs.Pulling.{pull};
+ghost use Rattle.stream_model.specs.Step.{takes_memory, Performs};
+ghost use Rattle.pulling_agent.specs.Agent.{IsTakeable};
+ghost use Rattle.queue_cache.specs.Cache.{high, room};
+ghost use Rattle.step_core.specs.Assembly.{Agrees, IsAssembled};
+ghost use Rattle.step_core.specs.PlainOf.{plain_of};
+ghost use Rattle.step_core.specs.Taking.{filled, taken};
+
+use crate::parts::Parts;
+use pubsub_registry::Implied;
+use pulling_agent::Plan;
+use std::alloc::{AllocError, Global};
+use stream_ident::SubName;
+use stream_model::Reply;
+
+/// The agent takes events from the queue into its cache, and the rules make subscriptions of them.
+pub(crate) fn pull(
+    parts: &mut Parts,
+    alloc: Global,
+    generation: u64,
+    max: u32,
+) -> Result<Reply, AllocError>
+    requires { Agrees parts.old }
+    ensures assembled { IsAssembled parts.new }
+    ensures performs { Performs (plain_of parts.old) (plain_of parts.new) result (pull (plain_of parts.old) generation max) }
+    ensures memory { OnErr result (takes_memory (pull (plain_of parts.old) generation max).1 ≡ true) }
+{
+    let least = least_resume(parts);
+    let len = parts.queue.len();
+    match parts.agent.plan_pull(generation, max as usize, len, least) {
+        Plan::StaleAgent { now } => Ok(Reply::StaleAgent { now }),
+        Plan::Dry => Ok(Reply::Dry),
+        Plan::Held => Ok(Reply::Pressed { by: slowest(parts) }),
+        Plan::Take { drops, count } => take(parts, alloc, drops, count),
+    }
+}
+
+/// The least resume of an open subscription, or the end of the cache where none is open.
+fn least_resume(parts: &Parts) -> usize
+    ensures { result ≡ slowest (plain_of parts.now) }
+{
+    let high = parts.agent.cache().high();
+    parts.subs.least_resume().unwrap_or(high)
+}
+
+/// The open subscription with the least resume, which the cache waits for.
+fn slowest(parts: &Parts) -> SubName
+    ensures { result ≡ unwrap_or (slowest_name (plain_of parts.now)) (SubName.Explicit 0) }
+{
+    parts.subs.slowest().unwrap_or(SubName::Explicit(0))
+}
+
+/// Takes events as planned, and makes the subscriptions that the rules make of them.
+///
+/// # Errors
+/// Memory, and then nothing has changed. It comes only where the events would be taken.
+fn take(parts: &mut Parts, alloc: Global, drops: usize, count: usize) -> Result<Reply, AllocError>
+    requires agrees { Agrees parts.old }
+    requires takeable { IsTakeable parts.old.agent (length parts.old.queue.events) (slowest (plain_of parts.old)) drops count }
+    ensures assembled { IsAssembled parts.new }
+    ensures performs { Performs (plain_of parts.old) (plain_of parts.new) result (taken (plain_of parts.old) drops count) }
+    ensures memory { OnErr result (takes_memory (taken (plain_of parts.old) drops count).1 ≡ true) }
+{
+    // What this promises of the table holds below.
+    let _names = parts.subs.len();
+    let high = parts.agent.cache().high();
+    let events = parts.queue.between(high, high + count);
+    // The rules come first: they may find too many subscriptions, or no memory.
+    match parts.subs.imply(alloc, events, high)? {
+        Implied::TooMany => Ok(Reply::TooMany),
+        Implied::Implied => Ok(fill(parts, drops, count)),
+    }
+}
+
+/// Drops blocks of the cache, and takes the next events into it.
+fn fill(parts: &mut Parts, drops: usize, count: usize) -> Reply
+    requires blocks { 64 * drops ≤ length parts.old.agent.cache.events }
+    requires room { count ≤ room parts.old.agent.cache + 64 * drops }
+    requires there { high parts.old.agent.cache + count ≤ length parts.old.queue.events }
+    requires few { length parts.old.queue.events ≤ 1000000 }
+    ensures parts { parts.new ≡ filled parts.old drops count }
+    ensures reply { result ≡ Reply.Pulled count (token_at (plain_of parts.new) parts.new.agent.cache.low) (token_at (plain_of parts.new) (high parts.new.agent.cache)) }
+{
+    let generation = parts.agent.generation();
+    let high = parts.agent.cache().high();
+    let events = parts.queue.between(high, high + count);
+    // The call is the agent's own, so it isn't stale.
+    parts.agent.pull(generation, drops, events).unwrap();
+    let cache = parts.agent.cache();
+    Reply::Pulled {
+        count,
+        low: parts.queue.token_at(cache.low()),
+        high: parts.queue.token_at(cache.high()),
+    }
+}

@@ -1,0 +1,149 @@
+//! What a partition tells of itself.
+ghost use Rattle.std.specs.Prelude.{◌≡◌, ◌<◌, length, get_or, map, All, IfOk};
+ghost use Rattle.std.specs.Option.{option_map};
+ghost use Rattle.stream_ident.specs.SubName.{sub_lt};
+ghost use Rattle.stream_ident.specs.Words.{keys_where};
+ghost use Rattle.stream_model.specs.Draining.{in_order, last_handled};
+ghost use Rattle.stream_model.specs.Positions.{events_at, high_token, low_token, sub_at};
+ghost use Rattle.subscription_table.specs.Table.{name_at, no_entry, state_at};
+ghost use Rattle.step_core.specs.Assembly.{Agrees};
+ghost use Rattle.step_core.specs.PlainOf.{plain_of};
+ghost use Rattle.step_core.specs.Reads.{handled_of, summary_of};
+ghost use Rattle.step_core.specs.Serving.{served_of};
+ghost use Rattle.step_core.specs.View.{sub_of, subs_of};
+
+use crate::parts::Parts;
+use crate::serving::Served;
+use crate::summary::SubSummary;
+use partition_queue::PartitionQueue;
+use std::alloc::{AllocError, Global};
+use stream_ident::{Event, SubName, Token};
+use subscription_table::SubscriptionTable;
+
+/// The token of the first event that the cache keeps, or would keep next.
+pub(crate) fn low_token(parts: &Parts) -> Token
+    requires { Agrees parts.now }
+    ensures { result ≡ low_token (plain_of parts.now) }
+{
+    parts.queue.token_at(parts.agent.cache().low())
+}
+
+/// The token after the last event that the cache has.
+pub(crate) fn high_token(parts: &Parts) -> Token
+    requires { Agrees parts.now }
+    ensures { result ≡ high_token (plain_of parts.now) }
+{
+    parts.queue.token_at(parts.agent.cache().high())
+}
+
+/// The summary of the subscription with a number, and this name.
+fn summary_of(subs: &SubscriptionTable, number: usize, name: SubName) -> SubSummary
+    requires within { number < length subs.now.registry.names }
+    requires name { name ≡ name_at subs.now number }
+    ensures { result ≡ summary_of (sub_of (get_or subs.now.registry.names number no_entry) (state_at subs.now number)) }
+{
+    let registration = subs.registration(number);
+    SubSummary {
+        name,
+        stream: registration.stream,
+        grain: registration.grain,
+        start: registration.start,
+        is_open: subs.state(number).is_open(),
+    }
+}
+
+/// The summary of each subscription, in the order in which they were made.
+pub(crate) fn summaries(
+    subs: &SubscriptionTable,
+    alloc: Global,
+) -> Result<Vec<SubSummary>, AllocError>
+    ensures { IfOk result (λ summaries. summaries.items ≡ map summary_of (subs_of subs.now.registry.names subs.now.states)) }
+{
+    let mut summaries = Vec::new(alloc);
+    for number in 0..subs.len() {
+        let name: SubName = *subs.name(number);
+        summaries.push(summary_of(subs, number, name))?;
+    }
+    Ok(summaries)
+}
+
+/// The names of the open subscriptions, in the order in which they were made.
+fn names_of_open(subs: &SubscriptionTable, alloc: Global) -> Result<Vec<SubName>, AllocError>
+    ensures { IfOk result (λ names. names.items ≡ keys_where (λ r. r.is_open) (subs_of subs.now.registry.names subs.now.states)) }
+{
+    let mut names = Vec::new(alloc);
+    for number in 0..subs.len() {
+        if subs.state(number).is_open() {
+            names.push(*subs.name(number))?;
+        }
+    }
+    Ok(names)
+}
+
+/// The names of the open subscriptions, from the least to the greatest.
+pub(crate) fn open_names(
+    subs: &SubscriptionTable,
+    alloc: Global,
+) -> Result<Vec<SubName>, AllocError>
+    ensures { IfOk result (λ names. names.items ≡ in_order sub_lt (keys_where (λ r. r.is_open) (subs_of subs.now.registry.names subs.now.states))) }
+{
+    let mut names = names_of_open(subs, alloc)?;
+    names.sort()?;
+    Ok(names)
+}
+
+/// The grain and the cursor of a subscription.
+pub(crate) fn served(parts: &Parts, sub: &SubName) -> Option<Served>
+    ensures { result ≡ option_map served_of (sub_at (plain_of parts.now) sub.now) }
+{
+    let subs = &parts.subs;
+    let _len = subs.len();
+    let number = subs.find(sub)?;
+    Some(Served {
+        grain: subs.registration(number).grain,
+        cursor: subs.state(number).cursor(),
+    })
+}
+
+/// The token of the last event that a subscription has handled.
+pub(crate) fn last_handled(parts: &Parts, sub: &SubName) -> Option<Token>
+    requires { Agrees parts.now }
+    ensures { result ≡ last_handled (plain_of parts.now) (sub_at (plain_of parts.now) sub.now) }
+{
+    let subs = &parts.subs;
+    let _len = subs.len();
+    let number = subs.find(sub)?;
+    let state = subs.state(number);
+    if state.handled().is_empty() {
+        return None;
+    }
+    Some(parts.queue.token_at(state.past().saturating_sub(1)))
+}
+
+/// The events that a subscription has handled, none where it has no record.
+pub(crate) fn handled(parts: &Parts, alloc: Global, sub: &SubName) -> Result<Vec<Event>, AllocError>
+    requires { Agrees parts.now }
+    ensures { IfOk result (λ events. events.items ≡ handled_of (plain_of parts.now) sub.now) }
+{
+    let _len = parts.subs.len();
+    match parts.subs.find(sub) {
+        Some(number) => events_at(&parts.queue, alloc, parts.subs.state(number).handled()),
+        None => Ok(Vec::new(alloc)),
+    }
+}
+
+/// The events at these positions of the log.
+fn events_at(
+    queue: &PartitionQueue,
+    alloc: Global,
+    positions: &[usize],
+) -> Result<Vec<Event>, AllocError>
+    requires { All (λ position. position < length queue.now.events) positions.now }
+    ensures { IfOk result (λ events. events.items ≡ events_at queue.now.events positions.now) }
+{
+    let mut events = Vec::with_capacity(alloc, positions.len())?;
+    for position in positions {
+        events.push(*queue.event_at(*position))?;
+    }
+    Ok(events)
+}

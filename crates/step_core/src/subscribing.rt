@@ -1,0 +1,144 @@
+//! What subscribers ask.
+ghost use Rattle.std.specs.Prelude.{◌≡◌, ◌≤◌, true, OnErr};
+ghost use Rattle.stream_ident.specs.Name.{same_grain};
+ghost use Rattle.stream_ident.specs.Words.{changed_value};
+ghost use Rattle.stream_model.specs.Positions.{high_token, low_token};
+ghost use Rattle.stream_model.specs.Publishing.{subscribe, subscribe_at, unsubscribe};
+ghost use Rattle.stream_model.specs.Step.{takes_memory, Performs};
+ghost use Rattle.consumer_grain.specs.Activations.{forgotten};
+ghost use Rattle.queue_cache.specs.Cache.{high};
+ghost use Rattle.step_core.specs.Assembly.{Agrees, IsAssembled};
+ghost use Rattle.step_core.specs.PlainOf.{plain_of};
+ghost use Rattle.step_core.specs.SubscriberReplies.{of_added};
+
+use crate::parts::Parts;
+use cache_cursor::lower;
+use grain_table::GrainTable;
+use pubsub_registry::{Added, Closing};
+use std::alloc::{AllocError, Global};
+use stream_ident::{GrainId, StreamId, SubName, Token};
+use stream_model::{Reply, Start};
+
+/// A grain subscribes to a stream.
+///
+/// # Errors
+/// Memory, and then nothing has changed. It comes only where the subscription would be added.
+pub(crate) fn subscribe(
+    parts: &mut Parts,
+    alloc: Global,
+    stream: StreamId,
+    grain: GrainId,
+    start: Start,
+) -> Result<Reply, AllocError>
+    requires { Agrees parts.old }
+    ensures assembled { IsAssembled parts.new }
+    ensures performs { Performs (plain_of parts.old) (plain_of parts.new) result (subscribe (plain_of parts.old) stream grain start) }
+    ensures memory { OnErr result (takes_memory (subscribe (plain_of parts.old) stream grain start).1 ≡ true) }
+{
+    match start {
+        Start::Latest => {
+            let token = Token {
+                seq: parts.queue.batches(),
+                idx: 0,
+            };
+            let position = parts.agent.cache().high();
+            subscribe_at(parts, alloc, stream, grain, token, position)
+        }
+        Start::At(token) => {
+            let low = low_token(parts);
+            if token.is_before(&low) {
+                let high = high_token(parts);
+                return Ok(Reply::Miss {
+                    requested: token,
+                    low,
+                    high,
+                });
+            }
+            let position = lower(parts.agent.cache(), &token);
+            subscribe_at(parts, alloc, stream, grain, token, position)
+        }
+    }
+}
+
+/// The grain of an explicit subscription unsubscribes. It takes no memory.
+pub(crate) fn unsubscribe(parts: &mut Parts, sub: SubName) -> Reply
+    requires { Agrees parts.old }
+    ensures assembled { IsAssembled parts.new }
+    ensures performs { (plain_of parts.new, result) ≡ unsubscribe (plain_of parts.old) sub }
+{
+    // What `len` promises of the table holds in what follows.
+    prove!(parts.subs.len() <= parts.limits.subs);
+    let Some(number) = parts.subs.find(&sub) else {
+        return Reply::NoSuch;
+    };
+    let grain = parts.subs.registration(number).grain;
+    let handled = parts.subs.state(number).handled().len();
+    match parts.subs.close(number) {
+        Closing::Done => {
+            forget(&mut parts.grains, &grain, number);
+            Reply::Unsubscribed { handled }
+        }
+        Closing::NoSuch => Reply::NoSuch,
+        Closing::Implicit => Reply::Implicit,
+        Closing::Closed => Reply::Closed,
+    }
+}
+
+/// The deliveries of a subscription leave the mailbox of its grain.
+fn forget(grains: &mut GrainTable, grain: &GrainId, number: usize)
+    ensures { grains.new ≡ changed_value same_grain grain.now (forgotten number) grains.old }
+{
+    if let Some(at) = grains.find(grain) {
+        grains.forget(at, number);
+    }
+}
+
+/// The token of the first event that the cache keeps, or of the next where there is none.
+fn low_token(parts: &Parts) -> Token
+    requires { Agrees parts.now }
+    ensures { result ≡ low_token (plain_of parts.now) }
+{
+    parts.queue.token_at(parts.agent.cache().low())
+}
+
+/// The token after the last event that the cache has.
+fn high_token(parts: &Parts) -> Token
+    requires { Agrees parts.now }
+    ensures { result ≡ high_token (plain_of parts.now) }
+{
+    parts.queue.token_at(parts.agent.cache().high())
+}
+
+/// A grain subscribes to a stream from a token on, whose first event is sought from a position on.
+///
+/// # Errors
+/// Memory, and then nothing has changed. It comes only where the subscription would be added.
+fn subscribe_at(
+    parts: &mut Parts,
+    alloc: Global,
+    stream: StreamId,
+    grain: GrainId,
+    start: Token,
+    position: usize,
+) -> Result<Reply, AllocError>
+    requires agrees { Agrees parts.old }
+    requires position { position ≤ high parts.old.agent.cache }
+    ensures assembled { IsAssembled parts.new }
+    ensures performs { Performs (plain_of parts.old) (plain_of parts.new) result (subscribe_at (plain_of parts.old) stream grain start position) }
+    ensures memory { OnErr result (takes_memory (subscribe_at (plain_of parts.old) stream grain start position).1 ≡ true) }
+{
+    // What `len` promises of the table holds in what follows.
+    prove!(parts.subs.len() <= parts.limits.subs);
+    let added = parts.subs.subscribe(alloc, stream, grain, start, position)?;
+    Ok(told_of_sub(added))
+}
+
+/// What a grain that subscribes is told.
+fn told_of_sub(added: Added) -> Reply
+    ensures { result ≡ of_added added }
+{
+    match added {
+        Added::Added { number } => Reply::Subscribed { number },
+        Added::TooMany => Reply::TooMany,
+    }
+}

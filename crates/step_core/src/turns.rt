@@ -1,0 +1,189 @@
+//! What workers ask: the turns of a grain.
+ghost use Rattle.std.specs.Prelude.{◌≡◌, ◌+◌, ◌^◌, ◌<◌, ◌∷◌, List, None, OnErr, Some, length, pred, suc, true, if◌then◌else◌};
+ghost use Rattle.std.specs.List.{AllByRecursion};
+ghost use Rattle.std.specs.Option.{option_copied};
+ghost use Rattle.stream_ident.specs.Event.{events_at};
+ghost use Rattle.stream_ident.specs.Words.{past};
+ghost use Rattle.stream_model.specs.Positions.{is_spent};
+ghost use Rattle.stream_model.specs.Step.{takes_memory, Performs};
+ghost use Rattle.stream_model.specs.Turns.{begin, commit};
+ghost use Rattle.consumer_grain.specs.declared.delivery.Delivery.{Delivery};
+ghost use Rattle.consumer_grain.specs.Subscriptions.{rises_from};
+ghost use Rattle.grain_table.specs.Changes.{activation_at};
+ghost use Rattle.subscription_table.specs.Table as table;
+ghost use Rattle.subscription_table.specs.Table.{state_at};
+ghost use Rattle.step_core.specs.Assembly.{Agrees, IsAssembled};
+ghost use Rattle.step_core.specs.PlainOf.{plain_of};
+ghost use Rattle.step_core.specs.TurnReplies.{after_begun, current_turn, handle, of_begun, IsOfParts};
+
+use crate::parts::Parts;
+use consumer_grain::{Activation, Begun, RunningTurn};
+use partition_queue::PartitionQueue;
+use std::alloc::{AllocError, Global};
+use stream_ident::{GrainId, Row};
+use stream_model::{Events, Reply};
+use subscription_table::SubscriptionTable;
+
+/// A worker begins a turn of a grain. It takes no memory.
+pub(crate) fn begin(parts: &mut Parts, grain: GrainId, max: u32) -> Reply
+    requires { Agrees parts.old }
+    ensures assembled { IsAssembled parts.new }
+    ensures performs { (plain_of parts.new, result) ≡ begin (plain_of parts.old) grain max }
+{
+    let Some(number) = parts.grains.find(&grain) else {
+        return Reply::Empty;
+    };
+    // The table says with its length that no name has two numbers.
+    let _names = parts.subs.len();
+    let activation = parts.grains.at(number).number();
+    let past = past_of_front(parts, number);
+    let turn = next_turn(parts);
+    let begun = parts.grains.begin(number, past, turn, max as usize);
+    reply_to_begun(parts, activation, &begun)
+}
+
+/// The reply where a grain has begun, whose activation has this number: a turn gets the next number.
+fn reply_to_begun(parts: &mut Parts, activation: u64, begun: &Begun) -> Reply
+    requires begun { IsOfParts parts.old begun.now }
+    requires rises { parts.old.rises + 1 < 2 ^ 64 }
+    requires turns { parts.old.turns + 1 < 2 ^ 64 }
+    ensures parts { parts.new ≡ after_begun parts.old begun.now }
+    ensures reply { result ≡ of_begun parts.old activation begun.now }
+{
+    match begun {
+        Begun::Busy => Reply::Busy,
+        Begun::Empty => Reply::Empty,
+        Begun::Spent => Reply::Spent,
+        Begun::Dropped(delivery) => Reply::Dropped {
+            sub: *parts.subs.name(delivery.sub),
+            token: parts.queue.token_at(delivery.position),
+        },
+        Begun::Turn { sub, positions } => {
+            parts.rises += 1;
+            parts.turns += 1;
+            Reply::Turn {
+                sub: *parts.subs.name(*sub),
+                activation,
+                turn: parts.turns,
+                events: events_of(&parts.queue, positions),
+                note: parts.subs.state(*sub).note(),
+            }
+        }
+    }
+}
+
+/// One past the last position that the subscription of a grain's front delivery has handled, 0 where
+/// nothing waits for the grain.
+fn past_of_front(parts: &Parts, number: usize) -> usize
+    requires assembled { IsAssembled parts.now }
+    requires within { number < length parts.now.grains }
+    ensures { (front : Delivery) (rest : List Delivery) → (activation_at parts.now.grains number).mailbox ≡ front ∷ rest → result ≡ past (state_at parts.now.subs front.sub).handled }
+{
+    match parts.grains.at(number).front() {
+        Some(front) => parts.subs.state(front.sub).past(),
+        None => 0,
+    }
+}
+
+/// The number of the next turn, where a rise is left.
+fn next_turn(parts: &Parts) -> Option<u64>
+    requires { Agrees parts.now }
+    ensures { result ≡ (if is_spent (plain_of parts.now) then None else Some (suc parts.now.turns)) }
+{
+    if parts.rises < parts.limits.rises {
+        Some(parts.turns + 1)
+    } else {
+        None
+    }
+}
+
+/// The events at the positions of a turn.
+fn events_of(queue: &PartitionQueue, positions: &Row<usize>) -> Events
+    requires { AllByRecursion (λ position. position < length queue.now.events) positions.now }
+    ensures { result ≡ events_at queue.now.events positions.now }
+{
+    let positions = positions.as_slice();
+    let mut events = Row::of(*queue.event_at(positions[0]));
+    for position in &positions[1..] {
+        events.push(*queue.event_at(*position));
+    }
+    events
+}
+
+/// A worker ends the turn that runs for a grain: its events are handled, unless its subscription is closed.
+///
+/// # Errors
+/// Memory, and then nothing has changed. It comes only where the events would be handled.
+pub(crate) fn commit(
+    parts: &mut Parts,
+    alloc: Global,
+    grain: GrainId,
+    activation: u64,
+    turn: u64,
+    note: u64,
+) -> Result<Reply, AllocError>
+    requires { Agrees parts.old }
+    ensures assembled { IsAssembled parts.new }
+    ensures performs { Performs (plain_of parts.old) (plain_of parts.new) result (commit (plain_of parts.old) grain activation turn note) }
+    ensures memory { OnErr result (takes_memory (commit (plain_of parts.old) grain activation turn note).1 ≡ true) }
+{
+    let Some(number) = parts.grains.find(&grain) else {
+        return Ok(Reply::Stale);
+    };
+    // The table says with its length that no name has two numbers.
+    let _names = parts.subs.len();
+    let Some(run) = current_turn(parts.grains.at(number), activation, turn) else {
+        return Ok(Reply::Stale);
+    };
+    let reply = handle(&mut parts.subs, alloc, &parts.queue, run, note)?;
+    parts.grains.commit(number, activation, turn);
+    Ok(reply)
+}
+
+/// The turn that runs for a grain, if it is this turn of this activation.
+fn current_turn(grain: &Activation, activation: u64, turn: u64) -> Option<&RunningTurn>
+    ensures { option_copied result ≡ current_turn grain.now activation turn }
+{
+    let run = grain.running()?;
+    if activation == grain.number() && turn == run.turn {
+        Some(run)
+    } else {
+        None
+    }
+}
+
+/// The events of a turn are handled, unless its subscription is closed.
+///
+/// # Errors
+/// Memory, and then nothing has changed. It comes only where the subscription is open.
+fn handle(
+    subs: &mut SubscriptionTable,
+    alloc: Global,
+    queue: &PartitionQueue,
+    run: &RunningTurn,
+    note: u64,
+) -> Result<Reply, AllocError>
+    requires within { run.now.sub < length subs.old.registry.names }
+    requires positions { AllByRecursion (λ position. position < length queue.now.events) run.now.positions }
+    requires rising { rises_from (past (state_at subs.old run.now.sub).handled) run.now.positions ≡ true }
+    requires room { past run.now.positions < 2 ^ 64 }
+    ensures performs { table.Performs subs.old subs.new result (handle subs.old queue.now run.now note) }
+    ensures memory { OnErr result ((state_at subs.old run.now.sub).is_open ≡ true) }
+{
+    if !subs.state(run.sub).is_open() {
+        return Ok(Reply::Closed);
+    }
+    subs.commit(alloc, run.sub, &run.positions, note)?;
+    Ok(Reply::Committed {
+        sub: *subs.name(run.sub),
+        token: queue.token_at(last_position(&run.positions)),
+    })
+}
+
+/// The last position of a turn.
+fn last_position(positions: &Row<usize>) -> usize
+    ensures { result ≡ pred (past positions.now) }
+{
+    let positions = positions.as_slice();
+    positions[positions.len() - 1]
+}
