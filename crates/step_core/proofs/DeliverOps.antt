@@ -1,11 +1,10 @@
 -- An agent delivers, done by the parts.
-use Rattle.std.proofs.Common.{◌≡◌, ◌∙◌, ap, sym, subst, refl, ℕ, zero, suc, ◌+◌, ◌<◌, ◌≤◌, Bool, true, false, ◌&&◌, ◌||◌, not, List, [], ◌∷◌, ◌++◌, length, get_or, set, take, drop, map, max, Option, Some, None, ◌==◌, nat_le, nat_lt, arith}
-use Rattle.std.specs.Prelude.{if◌then◌else◌, unwrap_or, ◌-◌, Result, Ok, Err}
+use Rattle.std.proofs.Common.{◌≡◌, ◌∙◌, ap, sym, refl, ℕ, zero, suc, ◌≤◌, Bool, true, false, ◌&&◌, not, List, [], ◌∷◌, ◌++◌, length, get_or, set, take, drop, map, max, Some, None, ◌==◌, nat_le, arith}
+use Rattle.std.specs.Prelude.{if◌then◌else◌, unwrap_or, ◌-◌}
 use Rattle.std.proofs.lemmas.List.{drop-drop, map-append}
 use Rattle.std.specs.Option.{option_map}
 use Rattle.stream_ident.specs.declared.event.Event.{Event}
 use Rattle.stream_ident.specs.declared.ident.GrainId.{GrainId}
-use Rattle.stream_ident.specs.declared.ident.StreamId.{StreamId}
 use Rattle.stream_ident.specs.declared.ident.SubName.{SubName}
 use Rattle.stream_ident.specs.declared.token.Token.{Token}
 use Rattle.stream_ident.specs.Event.{is_owed}
@@ -18,13 +17,13 @@ use Rattle.stream_model.specs.declared.plain.PlainPartition.{PlainPartition}
 use Rattle.stream_model.specs.declared.plain.Subscription.{Subscription}
 use Rattle.stream_model.specs.declared.reply.Reply.{Reply}
 use Rattle.stream_model.specs.declared.reply.Reply.TheVariants as reply
-use Rattle.stream_model.specs.Positions.{between, grain_at, is_outstanding, lower_bound, next_position, token_at, with_grain, with_sub}
+use Rattle.stream_model.specs.Positions.{grain_at, is_outstanding, lower_bound, next_position, token_at, with_grain, with_sub}
 use Rattle.stream_model.specs.Pulling as plain
 use Rattle.consumer_grain.specs.Activations.{PlainActivation, new_activation, woken}
 use Rattle.consumer_grain.specs.Subscriptions.{PlainState, caught_up, delivered}
 use Rattle.pubsub_registry.specs.declared.registration.Registration.{Registration}
 use Rattle.cache_cursor.specs.Cursor.{lower_in, next_in}
-use Rattle.queue_cache.specs.Cache.{PlainCache, high}
+use Rattle.queue_cache.specs.Cache.{high}
 use Rattle.step_core.specs.declared.parts.Parts.{Parts}
 use Rattle.step_core.specs.PlainOf.{plain_of}
 use Rattle.step_core.specs.Assembly.{HasEvents}

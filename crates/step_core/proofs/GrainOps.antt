@@ -1,5 +1,5 @@
 -- One grain of the parts found by its identity, and changed; and what it holds of a record.
-use Rattle.std.proofs.Common.{◌≡◌, ◌∙◌, ap, sym, subst, refl, ℕ, zero, suc, ◌+◌, ◌<◌, Bool, true, false, ◌&&◌, ◌||◌, List, [], ◌∷◌, ◌++◌, length, map, filter, get_or, Option, Some, None, nat_lt, ◌==◌, arith}
+use Rattle.std.proofs.Common.{◌≡◌, ◌∙◌, ap, sym, refl, ℕ, zero, suc, ◌<◌, Bool, true, false, ◌||◌, List, [], ◌∷◌, ◌++◌, length, map, filter, get_or, Option, Some, None, nat_lt, ◌==◌, arith}
 use Rattle.std.proofs.lemmas.Bool.{lt-ltb}
 use Rattle.std.specs.Prelude.{if◌then◌else◌, unwrap_or}
 use Rattle.std.specs.List.{list_any, AllByRecursion}
@@ -7,11 +7,9 @@ use Rattle.std.specs.Option.{option_map}
 use Rattle.stream_ident.specs.declared.ident.GrainId.{GrainId}
 use Rattle.stream_ident.specs.declared.ident.SubName.{SubName}
 use Rattle.stream_ident.specs.Name.{same_grain}
-use Rattle.stream_ident.specs.SubName.{same_sub}
-use Rattle.stream_ident.specs.Words.{change_at, first_at, place_of, value_at, with_value}
+use Rattle.stream_ident.specs.Words.{change_at, first_at, place_of, value_at}
 use Rattle.stream_model.specs.declared.plain.Grain.{Grain}
-use Rattle.stream_model.specs.declared.plain.PlainPartition.{PlainPartition}
-use Rattle.stream_model.specs.Positions.{grain_at, is_outstanding, is_unacknowledged, new_grain, running_in, waiting_in, with_grain}
+use Rattle.stream_model.specs.Positions.{grain_at, new_grain, running_in, waiting_in, with_grain}
 use Rattle.stream_model.proofs.Lookups.{place_of-added, place_of-change, place_of-none, place_of-value, place_of-within}
 use Rattle.consumer_grain.specs.declared.delivery.Delivery.{Delivery}
 use Rattle.consumer_grain.specs.declared.turn.RunningTurn.{RunningTurn}

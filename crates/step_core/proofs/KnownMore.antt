@@ -1,25 +1,23 @@
 -- What grains know where one is added or forgets, where records are added, closed or rewound.
-use Rattle.std.proofs.Common.{◌≡◌, ◌≢◌, ◌∙◌, ap, sym, subst, refl, ℕ, zero, suc, ◌+◌, ◌-◌, ◌<◌, ◌≤◌, Bool, true, false, ◌||◌, ◌&&◌, not, List, [], ◌∷◌, ◌++◌, length, map, filter, drop, get_or, set, Option, Some, None, arith}
+use Rattle.std.proofs.Common.{◌≡◌, ◌≢◌, ◌∙◌, ap, sym, subst, refl, ℕ, zero, suc, ◌+◌, ◌<◌, ◌≤◌, Bool, true, false, ◌||◌, not, List, [], ◌∷◌, ◌++◌, length, filter, get_or, set, arith}
 use Rattle.std.proofs.lemmas.Bool.{eq-eqb, false≢true, ne_eqb}
-use Rattle.std.proofs.lemmas.List.{get_or-append-add, get_or-map, get_or-set_other, get_or_append_left, length-append}
-use Rattle.std.specs.List.{AllByRecursion, list_any}
+use Rattle.std.proofs.lemmas.List.{get_or-append-add, get_or-set_other, get_or_append_left, length-append}
+use Rattle.std.specs.List.{list_any}
 use Rattle.std.specs.Prelude.{if◌then◌else◌, ◌==◌}
 use Rattle.stream_ident.specs.declared.ident.GrainId.{GrainId}
 use Rattle.stream_ident.specs.declared.ident.SubName.{SubName}
 use Rattle.stream_ident.specs.Name.{same_grain}
 use Rattle.stream_ident.specs.SubName.{same_sub}
 use Rattle.stream_ident.specs.Words.{change_at, changed_value}
-use Rattle.consumer_grain.specs.Activations.{PlainActivation, forgotten, holds, new_activation, runs, with_number, without_number, woken}
+use Rattle.consumer_grain.specs.Activations.{PlainActivation, forgotten, holds, new_activation, runs, without_number, woken}
 use Rattle.consumer_grain.specs.declared.delivery.Delivery.{Delivery}
-use Rattle.consumer_grain.specs.declared.turn.RunningTurn.{RunningTurn}
-use Rattle.consumer_grain.specs.Subscriptions.{PlainState, closed}
+use Rattle.consumer_grain.specs.Subscriptions.{PlainState}
 use Rattle.grain_table.specs.Changes.{activation_at, grain_at, no_grain}
 use Rattle.pubsub_registry.specs.declared.registration.Registration.{Registration}
 use Rattle.pubsub_registry.specs.Registry.{shut}
-use Rattle.subscription_table.specs.Table.{is_in, new_states, no_entry, no_state, rewound_open}
+use Rattle.subscription_table.specs.Table.{is_in, no_entry, no_state}
 use Rattle.step_core.specs.Known.{AreKnown, IsOf, IsUnheld, IsUnknown, IsUntouched}
-use Rattle.step_core.specs.Numbers.{IsBelow, TurnIsBelow}
-use Rattle.step_core.proofs.KnownOps.{Either, Left, Right, changed-here, changed-length, changed-other, eqb-same, known-states, none-or, or-none, same-or}
+use Rattle.step_core.proofs.KnownOps.{Either, Left, Right, changed-here, changed-length, changed-other, eqb-same, none-or, or-none, same-or}
 
 -- ---- a grain more
 

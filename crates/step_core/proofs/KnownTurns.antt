@@ -1,6 +1,6 @@
 -- What grains know where records are added, where turns begin and end, and where a grain leaves memory.
-use Rattle.std.proofs.Common.{◌≡◌, ◌≢◌, ◌∙◌, ap, sym, subst, refl, ℕ, zero, suc, ◌+◌, ◌-◌, ◌<◌, ◌≤◌, Bool, true, false, ◌||◌, ◌&&◌, not, List, [], ◌∷◌, ◌++◌, length, map, drop, get_or, Option, Some, None, nat_lt, arith}
-use Rattle.std.proofs.lemmas.Bool.{eq-eqb, false≢true, ne_eqb}
+use Rattle.std.proofs.Common.{◌≡◌, ◌∙◌, ap, sym, subst, refl, ℕ, zero, suc, ◌+◌, ◌-◌, ◌<◌, ◌≤◌, Bool, true, false, ◌&&◌, not, List, [], ◌∷◌, ◌++◌, length, drop, get_or, Option, Some, None, nat_lt, arith}
+use Rattle.std.proofs.lemmas.Bool.{false≢true, ne_eqb}
 use Rattle.std.proofs.lemmas.List.{get_or-append-add, get_or-map, get_or_append_left, length-append}
 use Rattle.std.specs.List.{AllByRecursion, list_any}
 use Rattle.std.specs.Prelude.{if◌then◌else◌, ◌==◌, is_some}
@@ -10,7 +10,6 @@ use Rattle.stream_ident.specs.Name.{same_grain}
 use Rattle.stream_ident.specs.Words.{place_of}
 use Rattle.stream_model.proofs.Lookups.{place_of-within}
 use Rattle.stream_model.proofs.Values.{same_grain-equal, same_grain-refl}
-use Rattle.stream_model.specs.declared.plain.Subscription.{Subscription}
 use Rattle.stream_model.specs.Pulling.{rewound_where}
 use Rattle.consumer_grain.specs.Activations.{PlainActivation, begin, begin_front, begin_turn, front_of, holds, runs, turn_size}
 use Rattle.consumer_grain.specs.declared.delivery.Delivery.{Delivery}
@@ -22,13 +21,12 @@ use Rattle.grain_table.specs.Grains as table
 use Rattle.pubsub_registry.specs.declared.registration.Registration.{Registration}
 use Rattle.subscription_table.specs.Table.{PlainTable, is_in, new_states, no_entry, no_state, rewound_open, state_at, AreRewound}
 use Rattle.step_core.specs.declared.parts.Parts.{Parts}
-use Rattle.step_core.specs.Known.{AreKnown, IsOf, IsUnheld, IsUnknown, IsUntouched}
+use Rattle.step_core.specs.Known.{AreKnown, IsOf, IsUnknown, IsUntouched}
 use Rattle.step_core.specs.Numbers.{IsBelow, TurnIsBelow}
 use Rattle.step_core.specs.View.{sub_of}
 use Rattle.step_core.proofs.DeactivateOps as deactivating
 use Rattle.step_core.proofs.DeactivateOps.{is_its}
-use Rattle.step_core.proofs.KnownOps.{Either, Left, Right, known-states, none-or, or-none, same-or}
-use Rattle.step_core.proofs.RecordOps.{record_at}
+use Rattle.step_core.proofs.KnownOps.{Either, Left, Right, known-states, none-or, or-none}
 
 -- ---- records more
 

@@ -1,15 +1,14 @@
 -- The slowest subscription and those that are due, by their leaves.
-use Rattle.std.proofs.Common.{◌≡◌, ◌∙◌, ap, sym, refl, ℕ, suc, ◌+◌, ◌≤◌, min, Bool, true, false, ◌&&◌, ◌||◌, List, [], ◌∷◌, length, map, filter, Option, Some, None, ◌==◌, nat_lt, arith}
+use Rattle.std.proofs.Common.{◌≡◌, ◌∙◌, ap, refl, ℕ, min, Bool, true, false, ◌&&◌, ◌||◌, List, [], ◌∷◌, map, filter, Option, Some, None, nat_lt, arith}
 use Rattle.std.specs.Prelude.{if◌then◌else◌, unwrap_or}
 use Rattle.stream_ident.specs.declared.ident.SubName.{SubName}
 use Rattle.stream_ident.specs.SubName.{sub_lt}
-use Rattle.stream_ident.specs.Words.{keys_where, least, least_with, next_after}
-use Rattle.stream_model.specs.declared.plain.PlainPartition.{PlainPartition}
+use Rattle.stream_ident.specs.Words.{keys_where, least_with, next_after}
 use Rattle.stream_model.specs.declared.plain.Subscription.{Subscription}
 use Rattle.stream_model.specs.Looks.{is_due}
-use Rattle.stream_model.specs.Positions.{least_or, open_resumes, slowest, slowest_name}
+use Rattle.stream_model.specs.Positions.{least_or, open_resumes, slowest}
 use Rattle.consumer_grain.specs.Subscriptions.{PlainState, is_unacknowledged}
-use Rattle.least_tree.specs.Keys.{least_key, lesser_key}
+use Rattle.least_tree.specs.Keys.{lesser_key}
 use Rattle.pubsub_registry.specs.declared.registration.Registration.{Registration}
 use Rattle.resume_tree.specs.declared.leaf.Leaf.{Leaf}
 use Rattle.resume_tree.specs.Leaves as leaves

@@ -1,20 +1,19 @@
 -- Blocks are dropped and agents replaced, done by the parts.
-use Rattle.std.proofs.Common.{◌≡◌, ◌∙◌, ap, sym, refl, ℕ, suc, ◌+◌, ◌*◌, ◌<◌, ◌≤◌, min, Bool, true, false, not, List, [], ◌∷◌, length, drop, get_or, Option, Some, None, ◌==◌, nat_le, arith}
-use Rattle.std.specs.Prelude.{if◌then◌else◌, unwrap_or, ◌-◌, ◌/◌, Result, Ok, Err}
+use Rattle.std.proofs.Common.{◌≡◌, ◌∙◌, ap, sym, refl, ℕ, suc, ◌+◌, ◌*◌, ◌<◌, ◌≤◌, min, Bool, true, false, not, List, length, get_or, ◌==◌, nat_le, arith}
+use Rattle.std.specs.Prelude.{if◌then◌else◌, ◌-◌, ◌/◌, Result, Ok, Err}
 use Rattle.std.proofs.lemmas.List.{length-drop}
 use Rattle.stream_ident.specs.declared.ident.SubName.{SubName}
-use Rattle.stream_ident.specs.Words.{each_value, least_with}
+use Rattle.stream_ident.specs.Words.{least_with}
 use Rattle.stream_model.specs.declared.plain.PlainPartition.{PlainPartition}
-use Rattle.stream_model.specs.declared.plain.Subscription.{Subscription}
 use Rattle.stream_model.specs.declared.reply.Reply.{Reply}
 use Rattle.stream_model.specs.declared.reply.Reply.TheVariants as reply
-use Rattle.stream_model.specs.Positions.{is_spent, open_resumes, slowest, token_at}
+use Rattle.stream_model.specs.Positions.{open_resumes, slowest, token_at}
 use Rattle.stream_model.specs.Pulling as plain
 use Rattle.consumer_grain.specs.Subscriptions.{PlainState}
 use Rattle.pubsub_registry.specs.declared.registration.Registration.{Registration}
 use Rattle.pulling_agent.specs.Agent as agent
 use Rattle.pulling_agent.specs.declared.told.StaleAgent.{StaleAgent}
-use Rattle.queue_cache.specs.Cache.{PlainCache, block_count, high}
+use Rattle.queue_cache.specs.Cache.{PlainCache, high}
 use Rattle.step_core.specs.declared.parts.Parts.{Parts}
 use Rattle.step_core.specs.PlainOf.{plain_of}
 use Rattle.step_core.specs.View.{sub_of}

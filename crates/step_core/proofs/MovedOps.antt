@@ -1,13 +1,12 @@
 -- Blocks that leave the cache and an agent that takes over leave parts that agree with each other.
 use Rattle.std.proofs.Common.{◌≡◌, ◌∙◌, ap, sym, subst, refl, ℕ, zero, suc, ◌+◌, ◌-◌, ◌*◌, ◌<◌, ◌≤◌, min, Bool, true, false, not, List, [], ◌∷◌, length, take, drop, get_or, map, ◌==◌, arith}
 use Rattle.std.specs.Prelude.{if◌then◌else◌, Result, Ok, Err}
-use Rattle.std.proofs.lemmas.Bool.{lt-leb, le-leb}
 use Rattle.stream_ident.specs.declared.token.Token.{Token}
 use Rattle.stream_ident.specs.Words.{least_with}
 use Rattle.stream_model.specs.declared.plain.PlainPartition.{PlainPartition}
 use Rattle.stream_model.specs.declared.reply.Reply.{Reply}
 use Rattle.stream_model.specs.declared.reply.Reply.TheVariants as reply
-use Rattle.stream_model.specs.Positions.{between, open_resumes, slowest, token_at}
+use Rattle.stream_model.specs.Positions.{between, is_spent, open_resumes, slowest, token_at}
 use Rattle.stream_model.specs.Pulling as plain
 use Rattle.consumer_grain.specs.Subscriptions.{PlainState}
 use Rattle.pulling_agent.specs.Agent as agent
@@ -96,9 +95,9 @@ module _ (parts : Parts) (generation keep : ℕ) where
 -- ---- another agent
 
 -- no rise is left
-pub move-spent : (parts : Parts) (silo : ℕ) → parts.limits.rises ≤ parts.rises → (plain_of parts, reply.Spent) ≡ plain.move (plain_of parts) silo
+pub move-spent : (parts : Parts) (silo : ℕ) → is_spent (plain_of parts) ≡ true → (plain_of parts, reply.Spent) ≡ plain.move (plain_of parts) silo
 unfolding plain.move
-move-spent parts silo spent = rw (le-leb parts.limits.rises parts.rises spent) refl
+move-spent parts silo spent = rw spent refl
 
 map-at : (f : PlainState → PlainState) (states : List PlainState) (i : ℕ) (e : PlainState) → i < length states → get_or (map f states) i e ≡ f (get_or states i e)
 map-at f [] i e within = absurd (omega (arith, within))
@@ -126,7 +125,7 @@ module _ (parts : Parts) (silo position : ℕ) where
         known = known-rewound parts.subs.registry.names parts.subs.states parts.grains records.long assembled.known;
       }
 
-  taken_over-moves : AreRecords parts.subs → parts.rises < parts.limits.rises → position ≡ min (high parts.agent.cache) (slowest (plain_of parts))
+  taken_over-moves : AreRecords parts.subs → is_spent (plain_of parts) ≡ false → position ≡ min (high parts.agent.cache) (slowest (plain_of parts))
       → (plain_of taken_over, reply.Moved (agent.take_over parts.agent silo position).1 (token_at (plain_of parts) position)) ≡ plain.move (plain_of parts) silo
   taken_over-moves records left is_least =
       let least : position ≡ least_with (high parts.agent.cache) (open_resumes (plain_of parts)) =
@@ -134,7 +133,7 @@ module _ (parts : Parts) (silo position : ℕ) where
       in
       let rises : parts.rises + 1 ≡ suc parts.rises = omega arith in
       ap {B = PlainPartition × Reply} (λ n. (plain_of (record taken_over { rises = n }), reply.Moved (suc parts.agent.generation) (token_at (plain_of parts) position))) rises
-      ∙ ap (λ (spent : Bool). if spent then (plain_of parts, reply.Spent) else (plain_of (moved parts silo position (rewound_all parts.subs).states), reply.Moved (suc parts.agent.generation) (token_at (plain_of parts) position))) (sym (lt-leb parts.limits.rises parts.rises left))
+      ∙ ap (λ (spent : Bool). if spent then (plain_of parts, reply.Spent) else (plain_of (moved parts silo position (rewound_all parts.subs).states), reply.Moved (suc parts.agent.generation) (token_at (plain_of parts) position))) (sym left)
       ∙ sym (move-parts parts silo position (rewound_all parts.subs).states (sym records.long) (length-map rewound_open parts.subs.states) least (all-rewound parts records))
 
   module _ (new : agent.PlainAgent) (generation : ℕ) (subs : PlainTable) (took : (new, generation) ≡ agent.take_over parts.agent silo position) (rewinds : subs ≡ rewound_all parts.subs) where
@@ -143,7 +142,7 @@ module _ (parts : Parts) (silo position : ℕ) where
         subst (λ (left : agent.PlainAgent × ℕ). IsAssembled (record parts { agent = left.0; subs = subs; rises = parts.rises + 1 })) (sym took)
         (subst (λ (t : PlainTable). IsAssembled (record taken_over { subs = t })) (sym rewinds) (taken_over-assembled records assembled))
 
-    pub moved-performs : (low : Token) → AreRecords parts.subs → parts.rises < parts.limits.rises → position ≡ min (high parts.agent.cache) (slowest (plain_of parts)) → low ≡ token_at (plain_of parts) position
+    pub moved-performs : (low : Token) → AreRecords parts.subs → is_spent (plain_of parts) ≡ false → position ≡ min (high parts.agent.cache) (slowest (plain_of parts)) → low ≡ token_at (plain_of parts) position
         → (plain_of (record parts { agent = new; subs = subs; rises = parts.rises + 1 }), reply.Moved generation low) ≡ plain.move (plain_of parts) silo
     moved-performs low records left is_least is_low =
         ap {B = PlainPartition × Reply} (λ token. (plain_of (record parts { agent = new; subs = subs; rises = parts.rises + 1 }), reply.Moved generation token)) is_low

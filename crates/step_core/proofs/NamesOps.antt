@@ -1,12 +1,9 @@
 -- The number of a name is the place where it stands.
-use Rattle.std.proofs.Common.{◌≡◌, ◌∙◌, ap, sym, subst, refl, ℕ, zero, suc, ◌+◌, ◌<◌, Bool, true, false, List, [], ◌∷◌, length, map, get_or, Option, Some, None, arith}
-use Rattle.std.specs.Prelude.{if◌then◌else◌}
+use Rattle.std.proofs.Common.{◌≡◌, ◌∙◌, ap, refl, ℕ, zero, suc, ◌+◌, ◌<◌, true, false, List, [], ◌∷◌, length, get_or, Option, Some, arith}
 use Rattle.std.proofs.lemmas.Bool.{false_from_ne_true}
 use Rattle.stream_ident.specs.declared.ident.SubName.{SubName}
-use Rattle.stream_ident.specs.declared.ident.SubName.TheVariants as name
 use Rattle.stream_ident.specs.SubName.{same_sub}
 use Rattle.stream_ident.specs.Words.{first_at, place_of}
-use Rattle.stream_model.specs.declared.plain.Subscription.{Subscription}
 use Rattle.stream_model.specs.Positions.{sub_at}
 use Rattle.stream_model.proofs.Values.{same_sub-refl}
 use Rattle.consumer_grain.specs.Subscriptions.{PlainState}

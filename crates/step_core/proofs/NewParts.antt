@@ -1,8 +1,7 @@
 -- The parts before the first operation.
-use Rattle.std.proofs.Common.{◌≡◌, ◌∙◌, ap, sym, subst, refl, ℕ, ◌≤◌, List, [], arith}
+use Rattle.std.proofs.Common.{◌≡◌, sym, subst, refl, ℕ, ◌≤◌, List, [], arith}
 use Rattle.stream_ident.specs.declared.ident.GrainId.{GrainId}
 use Rattle.stream_model.specs.declared.limits.Limits.{Limits}
-use Rattle.stream_model.specs.declared.plain.PlainPartition.{PlainPartition}
 use Rattle.stream_model.specs.Bounds.{AreLimits}
 use Rattle.stream_model.proofs.Reaching.{new-partition}
 use Rattle.consumer_grain.specs.Activations.{PlainActivation}

@@ -1,5 +1,5 @@
 -- What is read of the records one number after another.
-use Rattle.std.proofs.Common.{◌≡◌, ◌∙◌, ap, sym, refl, ℕ, zero, suc, ◌+◌, ◌<◌, ◌≤◌, Bool, true, false, List, [], ◌∷◌, ◌++◌, length, map, filter, get_or, take, arith}
+use Rattle.std.proofs.Common.{◌≡◌, ◌∙◌, ap, refl, ℕ, ◌+◌, ◌<◌, ◌≤◌, Bool, true, false, List, [], ◌∷◌, ◌++◌, length, map, filter, get_or, take, arith}
 use Rattle.std.proofs.lemmas.List.{map_more, take_all, take_more}
 use Rattle.std.specs.Prelude.{if◌then◌else◌}
 use Rattle.stream_ident.specs.declared.ident.SubName.{SubName}
@@ -7,7 +7,6 @@ use Rattle.stream_ident.specs.Words.{keys_where}
 use Rattle.stream_model.specs.declared.plain.Subscription.{Subscription}
 use Rattle.consumer_grain.specs.Subscriptions.{PlainState}
 use Rattle.pubsub_registry.specs.declared.registration.Registration.{Registration}
-use Rattle.step_core.specs.declared.summary.SubSummary.{SubSummary}
 use Rattle.step_core.specs.Reads.{summary_of}
 use Rattle.step_core.specs.View.{sub_of, subs_of}
 use Rattle.step_core.proofs.ViewLemmas.{record-at, records-length}

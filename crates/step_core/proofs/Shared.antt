@@ -1,13 +1,11 @@
 -- What each operation starts from.
-use Rattle.std.proofs.Common.{◌≡◌, ◌∙◌, ap, sym, refl, subst, ℕ, zero, suc, ◌<◌, true, List, [], ◌∷◌, length, map, get_or, Some, arith}
+use Rattle.std.proofs.Common.{◌≡◌, refl, subst, ℕ, zero, suc, ◌<◌, true, List, [], ◌∷◌, length, get_or, Some, arith}
 use Rattle.std.specs.List.{slice_get}
 use Rattle.std.specs.Prelude.{reverse}
 use Rattle.stream_ident.specs.declared.ident.SubName.{SubName}
-use Rattle.stream_ident.specs.declared.ident.SubName.TheVariants as name
 use Rattle.stream_ident.specs.SubName.{same_sub}
 use Rattle.stream_model.specs.declared.plain.PlainPartition.{PlainPartition}
-use Rattle.stream_model.specs.declared.op.Op.{Op}
-use Rattle.stream_model.specs.Step.{IsReached, step}
+use Rattle.stream_model.specs.Step.{IsReached}
 use Rattle.stream_model.proofs.Invariant.{Fits}
 use Rattle.stream_model.proofs.KeptStep.{kept-step}
 use Rattle.stream_model.proofs.Legal.{fits-stands}

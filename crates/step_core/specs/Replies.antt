@@ -1,6 +1,5 @@
 -- The replies of a partition, from what its parts tell.
-use Rattle.std.specs.Prelude.{ℕ, Bool, Result, Ok, Err}
-use Rattle.stream_ident.specs.declared.ident.SubName.{SubName}
+use Rattle.std.specs.Prelude.{ℕ, Result, Ok, Err}
 use Rattle.stream_model.specs.declared.reply.Reply.{Reply}
 use Rattle.stream_model.specs.declared.reply.Reply.TheVariants as reply
 use Rattle.partition_queue.specs.declared.appended.Appended.{Appended}

@@ -1,5 +1,5 @@
 -- The plain partition that the parts of a partition stand for.
-use Rattle.std.specs.Prelude.{ℕ, List, [], ◌∷◌, get_or, map, Option, Some, None}
+use Rattle.std.specs.Prelude.{ℕ, List, [], ◌∷◌, get_or, map}
 use Rattle.std.specs.Option.{option_map}
 use Rattle.stream_ident.specs.declared.ident.GrainId.{GrainId}
 use Rattle.stream_ident.specs.declared.ident.SubName.{SubName}

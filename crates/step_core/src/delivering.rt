@@ -1,6 +1,6 @@
 //! What the agent hands to a subscription.
 ghost use Rattle.std.specs.Prelude.{◌≡◌, ◌+◌, ◌^◌, ◌<◌, ◌≤◌, None, OnErr, Some, length, not, true};
-ghost use Rattle.stream_model.specs.Positions.{is_outstanding, is_spent, token_at};
+ghost use Rattle.stream_model.specs.Positions.{is_outstanding, token_at};
 ghost use Rattle.stream_model.specs.Pulling.{deliver};
 ghost use Rattle.stream_model.specs.Step.{takes_memory, Performs};
 ghost use Rattle.grain_table.specs.Changes.{activation_at};
@@ -12,6 +12,7 @@ ghost use Rattle.step_core.specs.PlainOf.{plain_of};
 ghost use Rattle.step_core.specs.Records.{record_of};
 
 use crate::parts::Parts;
+use crate::reading::is_spent;
 use consumer_grain::{Delivery, Offered};
 use pulling_agent::{Sought, StaleAgent};
 use std::alloc::{AllocError, Global};
@@ -161,11 +162,4 @@ fn sent(parts: &mut Parts, delivery: Delivery, wakes: bool) -> Reply
     Reply::Delivered {
         token: parts.queue.token_at(delivery.position),
     }
-}
-
-/// Whether no rise is left.
-fn is_spent(parts: &Parts) -> bool
-    ensures { result ≡ is_spent (plain_of parts.now) }
-{
-    parts.rises >= parts.limits.rises
 }

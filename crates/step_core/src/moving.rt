@@ -1,11 +1,11 @@
 //! The cache drops blocks, and the queue goes to another agent.
 ghost use Rattle.std.specs.Prelude.{◌≡◌};
-ghost use Rattle.stream_model.specs.Positions.{slowest};
 ghost use Rattle.stream_model.specs.Pulling.{move, purge};
 ghost use Rattle.step_core.specs.Assembly.{Agrees, IsAssembled};
 ghost use Rattle.step_core.specs.PlainOf.{plain_of};
 
 use crate::parts::Parts;
+use crate::reading::{is_spent, least_resume};
 use pulling_agent::StaleAgent;
 use stream_model::Reply;
 
@@ -16,7 +16,7 @@ pub(crate) fn purge(parts: &mut Parts, generation: u64, keep: u32) -> Reply
     ensures assembled { IsAssembled parts.new }
     ensures performs { (plain_of parts.new, result) ≡ purge (plain_of parts.old) generation keep }
 {
-    let least = slowest(parts);
+    let least = least_resume(parts);
     match parts.agent.purge(generation, keep as usize, least) {
         Ok(low) => Reply::Purged {
             low: parts.queue.token_at(low),
@@ -33,23 +33,15 @@ pub(crate) fn move_queue(parts: &mut Parts, silo: u8) -> Reply
     ensures assembled { IsAssembled parts.new }
     ensures performs { (plain_of parts.new, result) ≡ move (plain_of parts.old) silo }
 {
-    if parts.rises >= parts.limits.rises {
+    if is_spent(parts) {
         return Reply::Spent;
     }
     // What `len` promises of the table holds in what follows.
     prove!(parts.subs.len() <= parts.limits.subs);
-    let position = parts.agent.cache().high().min(slowest(parts));
+    let position = parts.agent.cache().high().min(least_resume(parts));
     let low = parts.queue.token_at(position);
     let generation = parts.agent.take_over(silo, position);
     parts.subs.rewind_all();
     parts.rises += 1;
     Reply::Moved { generation, low }
-}
-
-/// The least resume of an open subscription, or the end of the cache where none is open.
-fn slowest(parts: &Parts) -> usize
-    ensures { result ≡ slowest (plain_of parts.now) }
-{
-    let high = parts.agent.cache().high();
-    parts.subs.least_resume().unwrap_or(high)
 }

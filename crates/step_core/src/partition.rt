@@ -21,6 +21,7 @@ use grain_table::GrainTable;
 use partition_queue::PartitionQueue;
 use pulling_agent::Agent;
 use std::alloc::{AllocError, Global};
+use std::fmt;
 use std::marker::Model;
 use stream_ident::{Event, GrainId, SubName, Token};
 use stream_model::{Limits, Op, Pending, Reply};
@@ -218,5 +219,19 @@ impl Partition {
         ensures { IfOk result (λ events. events.items ≡ handled_of self.now sub.now) }
     {
         handled(&self.parts, alloc, sub)
+    }
+}
+
+impl fmt::Debug for Partition {
+    /// The agent, and how much the partition has: all that it keeps would be pages of text.
+    fn fmt<W: fmt::Write>(&self, f: &mut fmt::Formatter<W>) -> fmt::Result {
+        let (generation, silo) = self.agent();
+        f.debug_struct("Partition")
+            .field("generation", &generation)
+            .field("silo", &silo)
+            .field("events", &self.queued())
+            .field("subs", &self.parts.subs.len())
+            .field("grains", &self.parts.grains.len())
+            .finish_non_exhaustive()
     }
 }

@@ -10,6 +10,7 @@ ghost use Rattle.step_core.specs.PlainOf.{plain_of};
 ghost use Rattle.step_core.specs.Taking.{filled, taken};
 
 use crate::parts::Parts;
+use crate::reading::least_resume;
 use pubsub_registry::Implied;
 use pulling_agent::Plan;
 use std::alloc::{AllocError, Global};
@@ -36,14 +37,6 @@ pub(crate) fn pull(
         Plan::Held => Ok(Reply::Pressed { by: slowest(parts) }),
         Plan::Take { drops, count } => take(parts, alloc, drops, count),
     }
-}
-
-/// The least resume of an open subscription, or the end of the cache where none is open.
-fn least_resume(parts: &Parts) -> usize
-    ensures { result ≡ slowest (plain_of parts.now) }
-{
-    let high = parts.agent.cache().high();
-    parts.subs.least_resume().unwrap_or(high)
 }
 
 /// The open subscription with the least resume, which the cache waits for.

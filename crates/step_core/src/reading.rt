@@ -4,7 +4,7 @@ ghost use Rattle.std.specs.Option.{option_map};
 ghost use Rattle.stream_ident.specs.SubName.{sub_lt};
 ghost use Rattle.stream_ident.specs.Words.{keys_where};
 ghost use Rattle.stream_model.specs.Draining.{in_order, last_handled};
-ghost use Rattle.stream_model.specs.Positions.{events_at, high_token, low_token, sub_at};
+ghost use Rattle.stream_model.specs.Positions.{events_at, high_token, is_spent, low_token, slowest, sub_at};
 ghost use Rattle.subscription_table.specs.Table.{name_at, no_entry, state_at};
 ghost use Rattle.step_core.specs.Assembly.{Agrees};
 ghost use Rattle.step_core.specs.PlainOf.{plain_of};
@@ -34,6 +34,21 @@ pub(crate) fn high_token(parts: &Parts) -> Token
     ensures { result ≡ high_token (plain_of parts.now) }
 {
     parts.queue.token_at(parts.agent.cache().high())
+}
+
+/// The least resume of an open subscription, or the end of the cache where none is open.
+pub(crate) fn least_resume(parts: &Parts) -> usize
+    ensures { result ≡ slowest (plain_of parts.now) }
+{
+    let high = parts.agent.cache().high();
+    parts.subs.least_resume().unwrap_or(high)
+}
+
+/// Whether no rise is left.
+pub(crate) fn is_spent(parts: &Parts) -> bool
+    ensures { result ≡ is_spent (plain_of parts.now) }
+{
+    parts.rises >= parts.limits.rises
 }
 
 /// The summary of the subscription with a number, and this name.

@@ -2,7 +2,6 @@
 ghost use Rattle.std.specs.Prelude.{◌≡◌, ◌≤◌, true, OnErr};
 ghost use Rattle.stream_ident.specs.Name.{same_grain};
 ghost use Rattle.stream_ident.specs.Words.{changed_value};
-ghost use Rattle.stream_model.specs.Positions.{high_token, low_token};
 ghost use Rattle.stream_model.specs.Publishing.{subscribe, subscribe_at, unsubscribe};
 ghost use Rattle.stream_model.specs.Step.{takes_memory, Performs};
 ghost use Rattle.consumer_grain.specs.Activations.{forgotten};
@@ -12,6 +11,7 @@ ghost use Rattle.step_core.specs.PlainOf.{plain_of};
 ghost use Rattle.step_core.specs.SubscriberReplies.{of_added};
 
 use crate::parts::Parts;
+use crate::reading::{high_token, low_token};
 use cache_cursor::lower;
 use grain_table::GrainTable;
 use pubsub_registry::{Added, Closing};
@@ -91,22 +91,6 @@ fn forget(grains: &mut GrainTable, grain: &GrainId, number: usize)
     if let Some(at) = grains.find(grain) {
         grains.forget(at, number);
     }
-}
-
-/// The token of the first event that the cache keeps, or of the next where there is none.
-fn low_token(parts: &Parts) -> Token
-    requires { Agrees parts.now }
-    ensures { result ≡ low_token (plain_of parts.now) }
-{
-    parts.queue.token_at(parts.agent.cache().low())
-}
-
-/// The token after the last event that the cache has.
-fn high_token(parts: &Parts) -> Token
-    requires { Agrees parts.now }
-    ensures { result ≡ high_token (plain_of parts.now) }
-{
-    parts.queue.token_at(parts.agent.cache().high())
 }
 
 /// A grain subscribes to a stream from a token on, whose first event is sought from a position on.

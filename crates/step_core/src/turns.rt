@@ -17,6 +17,7 @@ ghost use Rattle.step_core.specs.PlainOf.{plain_of};
 ghost use Rattle.step_core.specs.TurnReplies.{after_begun, current_turn, handle, of_begun, IsOfParts};
 
 use crate::parts::Parts;
+use crate::reading::is_spent;
 use consumer_grain::{Activation, Begun, RunningTurn};
 use partition_queue::PartitionQueue;
 use std::alloc::{AllocError, Global};
@@ -90,10 +91,10 @@ fn next_turn(parts: &Parts) -> Option<u64>
     requires { Agrees parts.now }
     ensures { result ≡ (if is_spent (plain_of parts.now) then None else Some (suc parts.now.turns)) }
 {
-    if parts.rises < parts.limits.rises {
-        Some(parts.turns + 1)
-    } else {
+    if is_spent(parts) {
         None
+    } else {
+        Some(parts.turns + 1)
     }
 }
 

@@ -1,4 +1,4 @@
-use Rattle.std.proofs.Common.{◌≡◌, ◌∙◌, ap, arith, min}
+use Rattle.std.proofs.Common.{◌≡◌, ◌∙◌, ap, arith, min, sym}
 use Rattle.stream_model.specs.Positions.{slowest}
 use Rattle.queue_cache.specs.Cache.{high}
 use Rattle.step_core.specs.PlainOf.{plain_of}
@@ -6,8 +6,8 @@ use Rattle.step_core.proofs.CachedEvents.{high-end}
 use Rattle.step_core.proofs.MovedOps.{move-spent, moved-assembled, moved-performs}
 use Rattle.step_core.proofs.moving.move_queue.Goals as goal
 
-pub returns-then-parts-clause-performs : goal.returns-then-parts-clause-performs
-returns-then-parts-clause-performs c = move-spent c.args.parts.now c.args.silo c.if-parts.true
+pub returns-then-is_spent-clause-performs : goal.returns-then-is_spent-clause-performs
+returns-then-is_spent-clause-performs c = move-spent c.args.parts.now c.args.silo (sym c.is_spent.ensures ∙ c.if-is_spent.true)
 
 pub token_at-low-requires : goal.token_at-low-requires
 token_at-low-requires c =
@@ -23,7 +23,7 @@ pub returns-clause-performs : goal.returns-clause-performs
 returns-clause-performs c =
     let parts = c.args.parts.now in
     let least : c.min-position.result ≡ min (high parts.agent.cache) (slowest (plain_of parts)) =
-    c.min-position.ensures ∙ ap (λ n. min n c.slowest.result) (c.high.ensures ∙ ap high c.cache.ensures) ∙ ap (min (high parts.agent.cache)) c.slowest.ensures
+    c.min-position.ensures ∙ ap (λ n. min n c.least_resume.result) (c.high.ensures ∙ ap high c.cache.ensures) ∙ ap (min (high parts.agent.cache)) c.least_resume.ensures
     in
     moved-performs parts c.args.silo c.min-position.result c.take_over-generation.new.self c.take_over-generation.result c.rewind_all.new.self c.take_over-generation.ensures c.rewind_all.ensures
-    c.token_at-low.result c.len.ensures.records c.if-parts.false least c.token_at-low.ensures
+    c.token_at-low.result c.len.ensures.records (sym c.is_spent.ensures ∙ c.if-is_spent.false) least c.token_at-low.ensures

@@ -1,4 +1,4 @@
-use Rattle.std.proofs.Common.{◌≡◌, ◌<◌, ℕ, length, subst, ap, sym, ◌∙◌, Some, IfOk, All}
+use Rattle.std.proofs.Common.{◌≡◌, ◌<◌, ℕ, length, subst, ap, sym, ◌∙◌, IfOk, All}
 use Rattle.std.proofs.lemmas.List.Elements.{All-from_recursion}
 use Rattle.stream_model.specs.Positions.{events_at}
 use Rattle.step_core.specs.PlainOf.{plain_of}

@@ -1,4 +1,3 @@
-use Rattle.std.proofs.Common.{◌≡◌, ◌∙◌, sym, subst, ap, ◌≤◌, ℕ, length, arith}
 use Rattle.step_core.proofs.LogReads.{high-end}
 use Rattle.step_core.proofs.reading.high_token.Goals as goal
 

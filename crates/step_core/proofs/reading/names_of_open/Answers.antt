@@ -1,4 +1,4 @@
-use Rattle.std.proofs.Common.{◌≡◌, ◌∙◌, sym, ap, subst, length, ◌++◌, [], ◌∷◌, take, ◌≤◌, ◌<◌, Bool, true, false, List, arith}
+use Rattle.std.proofs.Common.{◌≡◌, ◌∙◌, sym, ap, subst, ◌++◌, [], ◌∷◌, take, ◌≤◌, ◌<◌, Bool, List}
 use Rattle.std.proofs.lemmas.List.{append-nil}
 use Rattle.std.specs.Prelude.{if◌then◌else◌}
 use Rattle.stream_ident.specs.declared.ident.SubName.{SubName}

@@ -1,4 +1,4 @@
-use Rattle.std.proofs.Common.{refl, ◌≡◌, ap, sym, ◌∙◌}
+use Rattle.std.proofs.Common.{ap, ◌∙◌}
 use Rattle.stream_ident.specs.SubName.{sub_lt}
 use Rattle.stream_model.specs.Draining.{in_order}
 use Rattle.step_core.proofs.SummaryLemmas.{in_order-of-names}

@@ -1,6 +1,5 @@
-use Rattle.std.proofs.Common.{◌≡◌, ◌∙◌, sym, ap, length, Some, None}
+use Rattle.std.proofs.Common.{◌∙◌, sym, ap}
 use Rattle.std.specs.Option.{option_map}
-use Rattle.step_core.specs.PlainOf.{plain_of}
 use Rattle.step_core.specs.Serving.{served_of}
 use Rattle.step_core.proofs.ReadLemmas.{found-none, found-sub}
 use Rattle.step_core.proofs.reading.served.Goals as goal

@@ -1,4 +1,4 @@
-use Rattle.std.proofs.Common.{◌≡◌, ◌∙◌, ap, sym, subst, length, map, ◌++◌, [], ◌∷◌, ◌<◌, ◌≤◌, List}
+use Rattle.std.proofs.Common.{◌∙◌, ap, sym, subst, map, ◌++◌, [], ◌∷◌, ◌<◌, ◌≤◌, List}
 use Rattle.subscription_table.specs.Table.{no_entry, no_state}
 use Rattle.step_core.specs.declared.summary.SubSummary.{SubSummary}
 use Rattle.std.proofs.Common.{take}

@@ -1,7 +1,6 @@
-use Rattle.std.proofs.Common.{◌≡◌, ℕ, take, ◌+◌, ◌≤◌, List, [], ◌∷◌, ◌++◌, reverse, length, vec_len, vec_capacity, sym, ap, ◌∙◌, append_assoc, subst, arith, length-append}
+use Rattle.std.proofs.Common.{◌≡◌, ℕ, take, ◌≤◌, List, [], ◌∷◌, ◌++◌, reverse, length, sym, ap, ◌∙◌, append_assoc, subst, arith, length-append}
 use Rattle.std.proofs.lemmas.List.{reverse-append}
 use Rattle.stream_model.specs.declared.op.Op.{Op}
-use Rattle.stream_model.specs.declared.reply.Reply.{Reply}
 use Rattle.step_core.specs.Run.{Does}
 use Rattle.step_core.proofs.RunLemmas.{Does-more, Does-front}
 use Rattle.step_core.proofs.partition.Partition.run.Goals as goal

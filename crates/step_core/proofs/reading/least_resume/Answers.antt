@@ -4,7 +4,7 @@ use Rattle.queue_cache.specs.Cache.{high}
 use Rattle.resume_tree.specs.Leaves.{least_resume}
 use Rattle.subscription_table.specs.LeavesOf.{leaves_of}
 use Rattle.step_core.proofs.LeafOps.{slowest-is}
-use Rattle.step_core.proofs.moving.slowest.Goals as goal
+use Rattle.step_core.proofs.reading.least_resume.Goals as goal
 
 pub returns : goal.returns
 returns c =
