@@ -11,6 +11,8 @@ mod delivering;
 #[cfg(test)]
 mod drain_tests;
 mod draining;
+#[cfg(test)]
+mod limit_tests;
 mod looking;
 mod moving;
 mod partition;
