@@ -1,7 +1,6 @@
 -- The leaves of names and states after a change of either.
-use Rattle.std.proofs.Common.{◌≡◌, ◌∙◌, ℕ, zero, suc, ◌+◌, ◌^◌, ◌<◌, ◌≤◌, false, List, [], ◌∷◌, ◌++◌, length, get_or, set, map, refl, sym, ap, arith}
+use Rattle.std.proofs.Common.{◌≡◌, ◌∙◌, ℕ, zero, suc, ◌<◌, List, [], ◌∷◌, ◌++◌, length, get_or, set, refl, ap, arith}
 use Rattle.std.proofs.lemmas.Bool.{le-ltb}
-use Rattle.std.proofs.lemmas.List.{length-map}
 use Rattle.stream_ident.specs.declared.ident.SubName.{SubName}
 use Rattle.consumer_grain.specs.Subscriptions.{PlainState, is_unacknowledged, new_state}
 use Rattle.pubsub_registry.specs.declared.registration.Registration.{Registration}

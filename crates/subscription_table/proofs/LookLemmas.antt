@@ -1,5 +1,5 @@
 -- What a table tells, by its parts.
-use Rattle.std.proofs.Common.{◌≡◌, ◌∙◌, ℕ, ◌<◌, false, List, length, get_or, None, Some, Option, refl, sym, ap, subst, arith}
+use Rattle.std.proofs.Common.{◌≡◌, ◌∙◌, ℕ, ◌<◌, false, List, length, get_or, None, Some, Option, sym, ap, arith}
 use Rattle.std.specs.Prelude.{slice_get, IfSome}
 use Rattle.std.proofs.lemmas.List.{get_or_read}
 use Rattle.std.proofs.lemmas.List.Elements.{All-from_recursion}
@@ -13,9 +13,9 @@ use Rattle.pubsub_registry.specs.declared.registration.Registration.{Registratio
 use Rattle.resume_tree.specs.Leaves.{IsNameAt, IsNew}
 use Rattle.resume_tree.specs.declared.leaf.Leaf.{Leaf}
 use Rattle.subscription_table.specs.LeavesOf.{leaves_of}
-use Rattle.subscription_table.specs.Standing.{AreRecords, IsTable}
+use Rattle.subscription_table.specs.Standing.{IsTable}
 use Rattle.subscription_table.specs.Table.{PlainTable, name_at, no_entry, no_state, registration_at, state_at, stepped, with_state}
-use Rattle.subscription_table.proofs.LeafLemmas.{Entry, Names, leaf_at, leaves-named, length-leaves_of}
+use Rattle.subscription_table.proofs.LeafLemmas.{Entry, leaf_at, leaves-named, length-leaves_of}
 
 -- what holds of a value holds where there is one
 pub where-some : {A : Type 0} (P Q : A → Type 0) → ((x : A) → P x → Q x) → (o : Option A) → IfSome o P → IfSome o Q

@@ -5,7 +5,7 @@ use Rattle.consumer_grain.specs.Subscriptions.{PlainState}
 use Rattle.resume_tree.specs.declared.leaf.Leaf.{Leaf}
 use Rattle.subscription_table.specs.LeavesOf.{leaf_of, leaves_of}
 use Rattle.subscription_table.specs.Rows.{AreRewoundAt}
-use Rattle.subscription_table.specs.Standing.{AreRecords, IsTable}
+use Rattle.subscription_table.specs.Standing.{IsTable}
 use Rattle.subscription_table.specs.Table.{PlainTable, is_in, no_entry, no_state, rewound_open, state_at}
 use Rattle.subscription_table.proofs.LeafLemmas.{Entry, Names, leaf_at, length-leaves_of}
 use Rattle.subscription_table.proofs.TableLemmas.{Fits}

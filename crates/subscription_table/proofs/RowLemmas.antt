@@ -1,14 +1,11 @@
 -- The rows beside the names while those of more names are written.
-use Rattle.std.proofs.Common.{◌≡◌, ◌∙◌, ℕ, ◌+◌, ◌-◌, ◌<◌, ◌≤◌, ◌⊎◌, inl, inr, Bool, true, false, List, [], ◌∷◌, ◌++◌, length, get_or, take, drop, map, None, Some, refl, sym, ap, arith, length-append, length-drop, add-one}
+use Rattle.std.proofs.Common.{◌≡◌, ◌∙◌, ℕ, ◌+◌, ◌-◌, ◌<◌, ◌≤◌, ◌⊎◌, inl, inr, List, [], ◌∷◌, ◌++◌, length, get_or, take, drop, map, Some, sym, ap, arith, length-drop}
 use Rattle.std.specs.Prelude.{slice_get}
 use Rattle.std.proofs.lemmas.Bool.{cases_lt, false_from_ne_true}
 use Rattle.std.proofs.lemmas.List.{append_assoc, get_or-drop, get_or_append_left, get_or_push, length_push, map-append, take_more}
 use Rattle.std.proofs.lemmas.Option.{get_or_from_slice_get, slice_get-get_or, slice_get_within}
-use Rattle.stream_ident.specs.declared.ident.SubName.{SubName}
 use Rattle.stream_ident.specs.SubName.{same_sub}
 use Rattle.pubsub_registry.specs.Index.{AreUnique}
-use Rattle.pubsub_registry.specs.declared.registration.Registration.{Registration}
-use Rattle.pubsub_registry.proofs.NameOrder.{same_sub-equal, same_sub-refl}
 use Rattle.resume_tree.specs.Leaves.{open_leaf, IsNew}
 use Rattle.resume_tree.specs.declared.leaf.Leaf.{Leaf}
 use Rattle.subscription_table.specs.Rows.{AreNamed}

@@ -1,5 +1,5 @@
 -- What each call leaves of one state.
-use Rattle.std.proofs.Common.{◌≡◌, ◌∙◌, ℕ, suc, max, ◌+◌, ◌^◌, ◌<◌, ◌≤◌, Bool, true, false, not, List, [], ◌∷◌, length, Option, Some, None, Result, Ok, Err, if◌then◌else◌, refl, sym, ap, subst, arith, All}
+use Rattle.std.proofs.Common.{◌≡◌, ℕ, max, ◌+◌, ◌^◌, ◌<◌, ◌≤◌, Bool, true, false, not, List, [], ◌∷◌, length, Option, Some, None, Result, Ok, Err, if◌then◌else◌, refl, ap, arith, All}
 use Rattle.std.specs.Prelude.{◌==◌}
 use Rattle.std.proofs.lemmas.List.Elements.{All-filter, All-head}
 use Rattle.stream_ident.specs.declared.ident.StreamId.{StreamId}
@@ -9,15 +9,12 @@ use Rattle.partition_queue.specs.Queue.{PlainQueue, token_at}
 use Rattle.queue_cache.specs.Cache.{high}
 use Rattle.consumer_grain.specs.Subscriptions.{PlainState, acknowledged, caught_up, committed, delivered, rewound}
 use Rattle.pulling_agent.specs.Agent.{PlainAgent, ack, ack_at, deliver, deliver_at, handled_at, retry}
-use Rattle.pulling_agent.specs.declared.told.Acked.{Acked}
 use Rattle.pulling_agent.specs.declared.told.Acked.TheVariants as ack_told
-use Rattle.pulling_agent.specs.declared.told.Retried.{Retried}
 use Rattle.pulling_agent.specs.declared.told.Retried.TheVariants as retry_told
 use Rattle.pulling_agent.specs.declared.told.Sought.{Sought}
 use Rattle.pulling_agent.specs.declared.told.Sought.TheVariants as sought
 use Rattle.pulling_agent.specs.declared.told.StaleAgent.{StaleAgent}
 use Rattle.subscription_table.specs.LeavesOf.{leaf_of}
-use Rattle.subscription_table.specs.Table.{no_entry}
 use Rattle.subscription_table.proofs.LeafLemmas.{Entry}
 use Rattle.subscription_table.proofs.TableLemmas.{Fits}
 

@@ -1,14 +1,14 @@
 -- A table with one state changed.
-use Rattle.std.proofs.Common.{◌≡◌, ◌≢◌, ◌∙◌, ℕ, ◌+◌, ◌^◌, ◌<◌, ◌⊎◌, inl, inr, List, length, get_or, set, refl, sym, ap, subst, arith, length-set, get_or-set_same, get_or-set_other}
+use Rattle.std.proofs.Common.{◌≡◌, ◌∙◌, ℕ, ◌+◌, ◌^◌, ◌<◌, ◌⊎◌, inl, inr, List, length, get_or, set, refl, sym, ap, subst, arith, length-set, get_or-set_same, get_or-set_other}
 use Rattle.std.proofs.lemmas.Bool.{cases_eq}
-use Rattle.std.proofs.lemmas.List.{length-map, get_or_read}
+use Rattle.std.proofs.lemmas.List.{get_or_read}
 use Rattle.consumer_grain.specs.Subscriptions.{PlainState, is_unacknowledged}
 use Rattle.resume_tree.specs.declared.leaf.Leaf.{Leaf}
 use Rattle.resume_tree.specs.Leaves.{changed}
-use Rattle.subscription_table.specs.LeavesOf.{leaf_of, leaves_of, open_resume}
+use Rattle.subscription_table.specs.LeavesOf.{leaf_of, open_resume}
 use Rattle.subscription_table.specs.Standing.{AreRecords, IsTable}
 use Rattle.subscription_table.specs.Table.{PlainTable, no_entry, no_state, state_at, with_state}
-use Rattle.subscription_table.proofs.LeafLemmas.{Entry, length-leaves_of, leaf-changed, leaf-kept}
+use Rattle.subscription_table.proofs.LeafLemmas.{Entry, leaf-changed, leaf-kept}
 
 -- a state that agrees with the registration of another, and leaves room for two more positions
 pub record Fits (old new : PlainState) : Type 0 where

@@ -2,7 +2,6 @@
 use Rattle.std.specs.Prelude.{◌≡◌, ℕ, ◌+◌, ◌^◌, ◌<◌, List, length, map}
 use Rattle.stream_ident.specs.declared.ident.SubName.{SubName}
 use Rattle.queue_mapper.specs.Place.{tag_of}
-use Rattle.consumer_grain.specs.Subscriptions.{PlainState}
 use Rattle.pubsub_registry.specs.declared.registration.Registration.{Registration}
 use Rattle.resume_tree.specs.declared.leaf.Leaf.{Leaf}
 use Rattle.subscription_table.specs.LeavesOf.{leaves_of}

@@ -1,2 +1,5 @@
+mod agreeing;
 mod calls;
 mod fixture;
+mod refused_memory;
+mod walks;

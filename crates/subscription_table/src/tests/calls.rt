@@ -5,7 +5,7 @@ use std::alloc::Global;
 use std::process::Abort;
 use stream_ident::{SubName, Token};
 
-/// A table of three subscriptions that are sought from these positions.
+/// A full table of three subscriptions, which are sought from these positions.
 fn three(rt: &impl Abort, alloc: Global, positions: [usize; 3]) -> Counted {
     let mut counted = Counted::new(alloc, 3, 1);
     for position in positions {
@@ -14,121 +14,135 @@ fn three(rt: &impl Abort, alloc: Global, positions: [usize; 3]) -> Counted {
     counted
 }
 
-/// The name that is due after another, below `high`.
-fn due(
+/// Whether a subscription has this cursor and this resume.
+fn is_at(rt: &impl Abort, counted: &Counted, number: usize, cursor: usize, resume: usize) -> bool {
+    let state = counted.state(rt, number);
+    state.cursor() == cursor && state.resume() == resume
+}
+
+/// Whether the slowest has this explicit number and this resume.
+fn is_slowest(counted: &Counted, explicit: u32, resume: usize) -> bool {
+    counted.table.slowest() == Some(SubName::Explicit(explicit))
+        && counted.table.least_resume() == Some(resume)
+}
+
+/// Whether the next that is due after a name, below `high`, has this explicit number.
+fn is_due(
     rt: &impl Abort,
     counted: &Counted,
     after: Option<&SubName>,
     high: usize,
-) -> Option<SubName> {
-    let number = counted.table.due_after(after, high)?;
-    Some(counted.name(rt, number))
+    explicit: u32,
+) -> bool {
+    match counted.table.due_after(after, high) {
+        None => false,
+        Some(number) => counted.name(rt, number) == SubName::Explicit(explicit),
+    }
+}
+
+fn token(seq: u64) -> Token {
+    Token { seq, idx: 0 }
 }
 
 #[test]
 fn subscriptions_go_by_number(rt: HostRuntime) {
-    let alloc = rt.alloc();
-    let mut counted = Counted::new(alloc, 2, 1);
-    assert!(rt; counted.table.is_empty());
-    for (key, number) in [(b'a', 1), (b'b', 2)] {
-        let added = counted.subscribe(&rt, alloc, key, 10);
-        assert_eq!(rt; added, Added::Added { number });
-    }
-    assert!(rt; counted.table.is_full());
-    let added = counted.subscribe(&rt, alloc, b'c', 10);
-    assert_eq!(rt; added, Added::TooMany);
-    assert!(rt; counted.table.len() == 2);
-    assert_eq!(rt; counted.table.find(&SubName::Explicit(2)), Some(1));
-    assert_eq!(rt; counted.table.find(&SubName::Explicit(3)), None);
-    assert_eq!(rt; *counted.table.name(1), SubName::Explicit(2));
+    let mut counted = three(&rt, rt.alloc(), [10, 11, 12]);
+    assert!(rt; counted.table.is_full() && !counted.table.is_empty());
+    assert!(rt; counted.table.find(&SubName::Explicit(2)) == Some(1));
+    assert!(rt; counted.table.find(&SubName::Explicit(4)).is_none());
+    assert!(rt; counted.name(&rt, 1) == SubName::Explicit(2));
+    assert!(rt; is_at(&rt, &counted, 1, 11, 11));
+    let added = counted.subscribe(&rt, rt.alloc(), b'b', 13);
+    assert!(rt; added == Added::TooMany);
+}
+
+#[test]
+fn registrations_are_those_of_the_calls(rt: HostRuntime) {
+    let counted = three(&rt, rt.alloc(), [10, 11, 12]);
     let registration = Registration {
-        stream: stream(&rt, b'b'),
+        stream: stream(&rt, b'a'),
         grain: grain(&rt),
         start: START,
         is_open: true,
     };
-    assert_eq!(rt; *counted.table.registration(1), registration);
-    let state = counted.table.state(1);
-    assert_eq!(rt; (state.cursor(), state.resume(), state.past()), (10, 10, 0));
+    assert!(rt; counted.table.len() == 3);
+    assert!(rt; *counted.table.registration(1) == registration);
+    assert!(rt; counted.table.state(1).start() == START);
+}
+
+#[test]
+fn rules_are_kept_once(rt: HostRuntime) {
+    let mut counted = Counted::new(rt.alloc(), 3, 1);
+    assert!(rt; counted.table.is_empty());
+    for (kind, added) in [
+        (b"k", RuleAdded::Added),
+        (b"k", RuleAdded::RuleThere),
+        (b"m", RuleAdded::TooMany),
+    ] {
+        let told = counted.add_rule(&rt, rt.alloc(), kind);
+        assert!(rt; told == added);
+    }
 }
 
 #[test]
 fn rules_make_all_or_none(rt: HostRuntime) {
-    let alloc = rt.alloc();
-    let log = Log::of(&rt, alloc, b"abcb");
-    let mut counted = Counted::new(alloc, 3, 1);
-    assert_eq!(rt; counted.add_rule(&rt, alloc, b"k"), RuleAdded::Added);
-    assert_eq!(rt; counted.add_rule(&rt, alloc, b"k"), RuleAdded::RuleThere);
-    assert_eq!(rt; counted.add_rule(&rt, alloc, b"m"), RuleAdded::TooMany);
-    counted.subscribe(&rt, alloc, b'a', 8);
-    counted.subscribe(&rt, alloc, b'a', 8);
-    let implied = counted.imply(&rt, alloc, &log, 3);
-    assert_eq!(rt; implied, Implied::TooMany);
-    assert_eq!(rt; counted.table.len(), 2);
-    let implied = counted.imply(&rt, alloc, &log, 2);
-    assert_eq!(rt; implied, Implied::Implied);
-    assert_eq!(rt; counted.table.len(), 3);
-    assert_eq!(rt; counted.name(&rt, 2), implicit(&rt, b"k", b'b'));
-    let state = counted.state(&rt, 2);
-    assert_eq!(rt; (state.cursor(), state.resume()), (5, 5));
-    assert_eq!(rt; state.start(), Token { seq: 1, idx: 0 });
-    assert_eq!(rt; counted.table.slowest(), Some(implicit(&rt, b"k", b'b')));
-    assert_eq!(rt; counted.close(&rt, 2), Closing::Implicit);
+    let log = Log::of(&rt, rt.alloc(), b"abcb");
+    let mut counted = Counted::new(rt.alloc(), 2, 1);
+    counted.subscribe(&rt, rt.alloc(), b'a', 8);
+    counted.add_rule(&rt, rt.alloc(), b"k");
+    let implied = counted.imply(&rt, rt.alloc(), &log, 3);
+    assert!(rt; implied == Implied::TooMany && counted.table.len() == 1);
+    let implied = counted.imply(&rt, rt.alloc(), &log, 2);
+    assert!(rt; implied == Implied::Implied && counted.table.len() == 2);
+    let name = implicit(&rt, b"k", b'b');
+    assert!(rt; counted.name(&rt, 1) == name && counted.table.slowest() == Some(name));
+    assert!(rt; is_at(&rt, &counted, 1, 5, 5));
+    assert!(rt; counted.close(&rt, 1) == Closing::Implicit);
 }
 
 #[test]
 fn closed_ones_hold_nothing_back(rt: HostRuntime) {
     let mut counted = three(&rt, rt.alloc(), [7, 4, 6]);
-    assert_eq!(rt; counted.table.least_resume(), Some(4));
-    assert_eq!(rt; counted.close(&rt, 1), Closing::Done);
-    assert_eq!(rt; counted.close(&rt, 1), Closing::Closed);
-    assert_eq!(rt; counted.table.least_resume(), Some(6));
-    assert_eq!(rt; counted.table.slowest(), Some(SubName::Explicit(3)));
-    assert_eq!(rt; due(&rt, &counted, None, 7), Some(SubName::Explicit(3)));
+    assert!(rt; is_slowest(&counted, 2, 4));
+    assert!(rt; counted.close(&rt, 1) == Closing::Done);
+    assert!(rt; counted.close(&rt, 1) == Closing::Closed);
+    assert!(rt; is_slowest(&counted, 3, 6) && is_due(&rt, &counted, None, 7, 3));
     counted.close(&rt, 0);
     counted.close(&rt, 2);
-    assert_eq!(rt; counted.table.least_resume(), None);
-    assert_eq!(rt; counted.table.slowest(), None);
-    assert_eq!(rt; counted.table.due_after(None, usize::MAX), None);
+    assert!(rt; counted.table.least_resume().is_none());
+    assert!(rt; counted.table.slowest().is_none());
+    assert!(rt; counted.table.due_after(None, usize::MAX).is_none());
 }
 
 #[test]
 fn ties_go_to_the_least_name(rt: HostRuntime) {
-    let (alloc, log) = (rt.alloc(), Log::of(&rt, rt.alloc(), b"aaaaa"));
-    let mut counted = three(&rt, alloc, [4, 2, 2]);
-    assert_eq!(rt; counted.table.slowest(), Some(SubName::Explicit(2)));
-    counted.commit(&rt, alloc, 1, 3);
-    let acked = counted.ack(&rt, &log, 1, 0, &Token { seq: 3, idx: 0 });
-    assert_eq!(rt; acked, Ok(Acked::Acked));
-    assert_eq!(rt; counted.table.slowest(), Some(SubName::Explicit(3)));
+    let log = Log::of(&rt, rt.alloc(), b"aaaaa");
+    let mut counted = three(&rt, rt.alloc(), [4, 2, 2]);
+    assert!(rt; is_slowest(&counted, 2, 2));
+    counted.commit(&rt, rt.alloc(), 1, 3);
+    let acked = counted.ack(&rt, &log, 1, 0, &token(3));
+    assert!(rt; acked == Ok(Acked::Acked) && is_slowest(&counted, 3, 2));
     counted.close(&rt, 2);
-    assert_eq!(rt; counted.table.slowest(), Some(SubName::Explicit(1)));
-    assert_eq!(rt; counted.table.least_resume(), Some(4));
+    assert!(rt; is_slowest(&counted, 1, 4));
 }
 
 #[test]
 fn handled_events_are_due_until_acknowledged(rt: HostRuntime) {
-    let (alloc, log) = (rt.alloc(), Log::of(&rt, rt.alloc(), b"abab"));
-    let mut counted = three(&rt, alloc, [0, 0, 0]);
-    let (two, three) = (SubName::Explicit(2), SubName::Explicit(3));
-    assert_eq!(rt; due(&rt, &counted, None, 0), None);
-    counted.commit(&rt, alloc, 1, 2);
-    assert_eq!(rt; counted.state(&rt, 1).note(), 9);
-    assert_eq!(rt; due(&rt, &counted, None, 0), Some(two));
-    assert_eq!(rt; due(&rt, &counted, Some(&two), 1), Some(three));
+    let log = Log::of(&rt, rt.alloc(), b"abab");
+    let mut counted = three(&rt, rt.alloc(), [0, 0, 0]);
+    assert!(rt; counted.table.due_after(None, 0).is_none());
+    counted.commit(&rt, rt.alloc(), 1, 2);
+    assert!(rt; counted.state(&rt, 1).note() == 9);
+    assert!(rt; is_due(&rt, &counted, None, 0, 2));
+    assert!(rt; is_due(&rt, &counted, Some(&SubName::Explicit(2)), 1, 3));
     for (seq, acked, resume) in [(1, Acked::NotHandled, 0), (2, Acked::Acked, 3)] {
-        let told = counted.ack(&rt, &log, 1, 0, &Token { seq, idx: 0 });
-        assert_eq!(rt; told, Ok(acked));
-        assert_eq!(rt; counted.state(&rt, 1).resume(), resume);
+        let told = counted.ack(&rt, &log, 1, 0, &token(seq));
+        assert!(rt; told == Ok(acked) && counted.state(&rt, 1).resume() == resume);
     }
-    assert_eq!(rt; due(&rt, &counted, None, 0), None);
-    assert_eq!(rt;
-        due(&rt, &counted, Some(&three), 4),
-        Some(SubName::Explicit(1))
-    );
+    assert!(rt; counted.table.due_after(None, 0).is_none());
     counted.close(&rt, 1);
-    let told = counted.ack(&rt, &log, 1, 0, &Token { seq: 2, idx: 0 });
-    assert_eq!(rt; told, Ok(Acked::Closed));
+    let told = counted.ack(&rt, &log, 1, 0, &token(2));
+    assert!(rt; told == Ok(Acked::Closed));
 }
 
 #[test]
@@ -136,17 +150,17 @@ fn events_are_sought_to_the_end(rt: HostRuntime) {
     let log = Log::of(&rt, rt.alloc(), b"bab");
     let mut counted = three(&rt, rt.alloc(), [0, 3, 3]);
     let sought = counted.seek(&rt, &log, 0, 0, false);
-    assert_eq!(rt; sought, Ok(Sought::Next { position: 1 }));
+    assert!(rt; sought == Ok(Sought::Next { position: 1 }));
     counted.deliver(&rt, 0, 1);
-    assert_eq!(rt; counted.state(&rt, 0).cursor(), 2);
+    assert!(rt; is_at(&rt, &counted, 0, 2, 0));
     for (outstanding, resume) in [(true, 0), (false, 3)] {
         let sought = counted.seek(&rt, &log, 0, 0, outstanding);
-        assert_eq!(rt; sought, Ok(Sought::Nothing));
-        assert_eq!(rt; counted.state(&rt, 0).cursor(), 3);
-        assert_eq!(rt; counted.table.least_resume(), Some(resume));
+        assert!(rt; sought == Ok(Sought::Nothing) && is_slowest(&counted, 1, resume));
+        assert!(rt; is_at(&rt, &counted, 0, 3, resume));
     }
     counted.close(&rt, 0);
-    assert_eq!(rt; counted.seek(&rt, &log, 0, 0, false), Ok(Sought::Closed));
+    let sought = counted.seek(&rt, &log, 0, 0, false);
+    assert!(rt; sought == Ok(Sought::Closed));
 }
 
 #[test]
@@ -155,42 +169,49 @@ fn stale_agents_change_nothing(rt: HostRuntime) {
     let mut counted = three(&rt, rt.alloc(), [0, 0, 0]);
     let stale = StaleAgent { now: 0 };
     counted.deliver(&rt, 0, 0);
-    assert_eq!(rt; counted.seek(&rt, &log, 0, 1, false), Err(stale));
-    assert_eq!(rt; counted.retry(&rt, &log, 0, 1), Err(stale));
-    let acked = counted.ack(&rt, &log, 0, 1, &START);
-    assert_eq!(rt; acked, Err(stale));
-    let state = counted.state(&rt, 0);
-    assert_eq!(rt; (state.cursor(), state.resume()), (1, 0));
+    assert!(rt; counted.seek(&rt, &log, 0, 1, false) == Err(stale));
+    assert!(rt; counted.retry(&rt, &log, 0, 1) == Err(stale));
+    assert!(rt; counted.ack(&rt, &log, 0, 1, &START) == Err(stale));
+    assert!(rt; is_at(&rt, &counted, 0, 1, 0));
 }
 
-/// The cursors of the three are these.
-fn assert_cursors(rt: &impl Abort, counted: &Counted, cursors: [usize; 3]) {
+/// Whether the cursors of the three are these.
+fn are_cursors(rt: &impl Abort, counted: &Counted, cursors: [usize; 3]) -> bool {
     for number in 0..3 {
-        assert_eq!(rt;
-            counted.state(rt, number).cursor(),
-            cursors[number],
-            "{number}"
-        );
+        if counted.state(rt, number).cursor() != cursors[number] {
+            return false;
+        }
     }
+    true
+}
+
+/// Three subscriptions with the resumes 1, 2 and 3, to which events were delivered. The last is closed.
+fn delivered(rt: &impl Abort, alloc: Global) -> Counted {
+    let mut counted = three(rt, alloc, [1, 2, 3]);
+    for number in 0..3 {
+        counted.deliver(rt, number, 8);
+    }
+    counted.close(rt, 2);
+    counted
 }
 
 #[test]
-fn cursors_go_back_to_resumes(rt: HostRuntime) {
+fn retried_cursors_go_back(rt: HostRuntime) {
     let log = Log::of(&rt, rt.alloc(), b"b");
-    let mut counted = three(&rt, rt.alloc(), [1, 2, 3]);
-    for number in 0..3 {
-        counted.deliver(&rt, number, 8);
-    }
-    assert_cursors(&rt, &counted, [9, 9, 9]);
-    assert_eq!(rt; counted.retry(&rt, &log, 1, 0), Ok(Retried::Rewound));
-    assert_cursors(&rt, &counted, [9, 2, 9]);
-    counted.close(&rt, 2);
-    assert_eq!(rt; counted.retry(&rt, &log, 2, 0), Ok(Retried::Closed));
-    counted.deliver(&rt, 1, 8);
+    let mut counted = delivered(&rt, rt.alloc());
+    assert!(rt; are_cursors(&rt, &counted, [9, 9, 9]));
+    assert!(rt; counted.retry(&rt, &log, 1, 0) == Ok(Retried::Rewound));
+    assert!(rt; counted.retry(&rt, &log, 2, 0) == Ok(Retried::Closed));
+    assert!(rt; are_cursors(&rt, &counted, [9, 2, 9]));
+}
+
+#[test]
+fn open_cursors_are_rewound(rt: HostRuntime) {
+    let mut counted = delivered(&rt, rt.alloc());
     counted.rewind(&rt, [2, 1, 1].as_slice());
-    assert_cursors(&rt, &counted, [9, 2, 9]);
+    assert!(rt; are_cursors(&rt, &counted, [9, 2, 9]));
     counted.deliver(&rt, 1, 8);
     counted.rewind_all();
-    assert_cursors(&rt, &counted, [1, 2, 9]);
-    assert_eq!(rt; counted.table.least_resume(), Some(1));
+    assert!(rt; are_cursors(&rt, &counted, [1, 2, 9]));
+    assert!(rt; is_slowest(&counted, 1, 1));
 }

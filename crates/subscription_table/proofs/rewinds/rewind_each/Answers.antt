@@ -1,6 +1,5 @@
 use Rattle.std.proofs.Common.{◌∙◌, sym, ap, set}
 use Rattle.std.proofs.lemmas.List.Edits.{map_over_more}
-use Rattle.consumer_grain.specs.Subscriptions.{PlainState}
 use Rattle.subscription_table.specs.Table.{rewound_open}
 use Rattle.subscription_table.proofs.rewinds.rewind_each.Goals as goal
 

@@ -1,4 +1,4 @@
-use Rattle.std.proofs.Common.{◌≡◌, ◌≤◌, ◌+◌, ◌∙◌, ◌++◌, ◌∷◌, [], ℕ, List, ap, arith}
+use Rattle.std.proofs.Common.{◌≡◌, ◌∙◌, ◌++◌, ◌∷◌, [], ap, arith}
 use Rattle.queue_mapper.specs.Place.{tag_of}
 use Rattle.queue_mapper.specs.declared.target.Place.{Place}
 use Rattle.consumer_grain.specs.Subscriptions.{PlainState, new_state}

@@ -1,4 +1,4 @@
-use Rattle.std.proofs.Common.{◌≡◌, ◌-◌, ◌+◌, ◌≤◌, ◌++◌, drop, length, take}
+use Rattle.std.proofs.Common.{◌≡◌, ◌-◌, ◌≤◌, ◌++◌, drop, take}
 use Rattle.std.specs.Prelude.{vec_capacity}
 use Rattle.subscription_table.specs.Standing.{tags_of}
 use Rattle.subscription_table.specs.Table.{new_states}

@@ -1,4 +1,4 @@
-use Rattle.std.proofs.Common.{◌≡◌, ◌∙◌, ◌<◌, length, refl, sym, ap, arith}
+use Rattle.std.proofs.Common.{◌≡◌, ◌∙◌, ◌<◌, length, refl, ap, arith}
 use Rattle.consumer_grain.specs.Subscriptions.{closed}
 use Rattle.subscription_table.specs.Table.{PlainTable, state_at}
 use Rattle.subscription_table.proofs.CloseLemmas.{close-is, refused-is, shuts, table-shut}

@@ -1,5 +1,4 @@
-use Rattle.std.proofs.Common.{◌≡◌, sym, ap, subst, Result}
-use Rattle.consumer_grain.specs.Subscriptions.{PlainState}
+use Rattle.std.proofs.Common.{sym, subst}
 use Rattle.subscription_table.proofs.StateLemmas.{fits-committed}
 use Rattle.subscription_table.specs.Table.{PlainTable}
 use Rattle.subscription_table.proofs.LookLemmas.{leaf-within}

@@ -1,10 +1,7 @@
-use Rattle.std.proofs.Common.{◌≡◌, ◌∙◌, sym, ap, subst, Result}
-use Rattle.consumer_grain.specs.Subscriptions.{PlainState}
-use Rattle.pulling_agent.specs.declared.told.Retried.{Retried}
-use Rattle.pulling_agent.specs.declared.told.StaleAgent.{StaleAgent}
+use Rattle.std.proofs.Common.{sym, ap, subst}
 use Rattle.subscription_table.specs.LeavesOf.{leaf_of}
 use Rattle.subscription_table.specs.Table.{PlainTable}
-use Rattle.subscription_table.proofs.StateLemmas.{fits-delivered, fits-retried, leaf-retried}
+use Rattle.subscription_table.proofs.StateLemmas.{fits-delivered}
 use Rattle.subscription_table.proofs.TableLemmas.{Fits, kept}
 use Rattle.subscription_table.proofs.table.SubscriptionTable.deliver.Goals as goal
 

@@ -1,4 +1,4 @@
-use Rattle.std.proofs.Common.{◌≡◌, ℕ, ◌<◌, length, Some, Option}
+use Rattle.std.proofs.Common.{◌≡◌, ℕ, ◌<◌, length, Some}
 use Rattle.std.specs.Option.{option_copied}
 use Rattle.resume_tree.specs.Leaves.{due_after, IsNameAt}
 use Rattle.subscription_table.specs.LeavesOf.{leaves_of}

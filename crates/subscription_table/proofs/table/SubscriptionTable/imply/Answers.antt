@@ -1,8 +1,5 @@
-use Rattle.std.proofs.Common.{◌≡◌, ◌∙◌, length, refl, sym, ap, subst}
-use Rattle.consumer_grain.specs.Subscriptions.{PlainState}
-use Rattle.pubsub_registry.specs.Registry.{PlainRegistry, truncated}
-use Rattle.subscription_table.specs.Standing.{IsTable}
-use Rattle.subscription_table.specs.Table.{PlainTable}
+use Rattle.std.proofs.Common.{◌≡◌, ◌∙◌, length, sym, ap}
+use Rattle.pubsub_registry.specs.Registry.{truncated}
 use Rattle.subscription_table.proofs.GrowLemmas.{implies, named-grown, table-implied}
 use Rattle.subscription_table.proofs.LeafLemmas.{leaves-named, length-leaves_of}
 use Rattle.subscription_table.proofs.TableLemmas.{same-table}

@@ -1,5 +1,5 @@
-use Rattle.std.proofs.Common.{◌≡◌, ◌∙◌, ◌++◌, List, length, take, drop, map, sym, ap, subst}
-use Rattle.std.proofs.lemmas.List.{length-map, take_at}
+use Rattle.std.proofs.Common.{◌≡◌, ◌∙◌, ◌++◌, List, length, take, drop, sym, subst}
+use Rattle.std.proofs.lemmas.List.{take_at}
 use Rattle.consumer_grain.specs.Subscriptions.{PlainState}
 use Rattle.subscription_table.specs.Rows.{AreRewoundAt}
 use Rattle.subscription_table.specs.Standing.{IsTable}

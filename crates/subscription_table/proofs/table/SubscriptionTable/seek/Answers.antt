@@ -1,4 +1,4 @@
-use Rattle.std.proofs.Common.{◌≡◌, sym, ap, subst, Result, Ok}
+use Rattle.std.proofs.Common.{sym, ap, subst, Result, Ok}
 use Rattle.consumer_grain.specs.Subscriptions.{PlainState}
 use Rattle.pulling_agent.specs.Agent.{deliver}
 use Rattle.pulling_agent.specs.declared.told.Sought.{Sought}
