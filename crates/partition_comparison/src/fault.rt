@@ -1,0 +1,90 @@
+//! Why the program ends with a status other than 0.
+use crate::difference::Difference;
+use std::alloc::{AllocError, AllocFailed};
+use std::io;
+use std::process::ExitCode;
+use stream_ident::{BadName, BadPayload};
+use thiserror::Error;
+
+/// What ends the program.
+#[derive(Debug, Drop, Error)]
+pub enum Fault {
+    /// The command line is faulty, or asks for help.
+    #[error("{0}")]
+    CommandLine(clap::Error),
+    /// The partition isn't what it has to be.
+    #[error("{0}")]
+    Different(Difference),
+    /// Memory was wanting twice.
+    #[error("out of memory")]
+    Memory,
+    /// The output couldn't be written.
+    #[error("write fault")]
+    Write,
+    /// A name that operations are made of is none.
+    #[error("bad name")]
+    Name,
+}
+
+impl Fault {
+    /// Tells the fault on standard error, or help on standard output, and gives the exit status.
+    pub fn report<R: Print + Eprint>(&self, rt: &R) -> ExitCode {
+        match self {
+            Fault::CommandLine(error) => {
+                let _ = error.print(rt);
+                ExitCode::from(if error.exit_code() == 0 { 0 } else { 2 })
+            }
+            _ => {
+                let _ = eprintln!(rt; "{self}");
+                ExitCode::from(self.status())
+            }
+        }
+    }
+
+    fn status(&self) -> u8 {
+        match self {
+            Fault::Different(_) | Fault::Name => 1,
+            Fault::CommandLine(_) => 2,
+            Fault::Memory | Fault::Write => 3,
+        }
+    }
+}
+
+impl From<clap::Error> for Fault {
+    fn from(error: clap::Error) -> Fault {
+        if error.kind() == clap::error::ErrorKind::OutOfMemory {
+            return Fault::Memory;
+        }
+        Fault::CommandLine(error)
+    }
+}
+
+impl From<AllocError> for Fault {
+    fn from(_: AllocError) -> Fault {
+        Fault::Memory
+    }
+}
+
+impl<T: Drop> From<AllocFailed<T>> for Fault {
+    fn from(_: AllocFailed<T>) -> Fault {
+        Fault::Memory
+    }
+}
+
+impl From<io::Error> for Fault {
+    fn from(_: io::Error) -> Fault {
+        Fault::Write
+    }
+}
+
+impl From<BadName> for Fault {
+    fn from(_: BadName) -> Fault {
+        Fault::Name
+    }
+}
+
+impl From<BadPayload> for Fault {
+    fn from(_: BadPayload) -> Fault {
+        Fault::Name
+    }
+}

@@ -1,0 +1,155 @@
+//! What the replies told.
+use step_core::{Op, Pending, Reply};
+use stream_ident::{GrainId, SubName, Token};
+
+/// The token of the first event.
+const FIRST: Token = Token { seq: 0, idx: 0 };
+
+/// A turn that a worker was given.
+#[derive(Clone, Copy)]
+pub struct GivenTurn {
+    /// Its grain.
+    pub grain: GrainId,
+    /// The activation that began it.
+    pub activation: u64,
+    /// Its number.
+    pub turn: u64,
+}
+
+/// An event that a subscription has handled.
+#[derive(Clone, Copy)]
+pub struct HandledEvent {
+    /// The subscription.
+    pub sub: SubName,
+    /// The token of the event.
+    pub token: Token,
+}
+
+/// What the replies told, so that operations which answer them are made.
+#[derive(Clone, Copy)]
+pub struct Heard {
+    /// The generation that was told last.
+    pub generation: u64,
+    /// The number of the last explicit subscription, 0 before the first.
+    pub explicit: u32,
+    /// The token that the cache began with when it was told.
+    pub low: Token,
+    /// A grain for which there was something to do.
+    pub grain: GrainId,
+    /// A subscription for which there was something to do.
+    pub sub: SubName,
+    /// The last turn, and the one before. They may have ended.
+    pub turn: GivenTurn,
+    pub turn_before: GivenTurn,
+    /// The last event that could be acknowledged, and the one before. They may have been.
+    pub handled: HandledEvent,
+    pub handled_before: HandledEvent,
+}
+
+impl Heard {
+    /// What is taken for heard before the first reply.
+    pub fn nothing(grain: &GrainId) -> Heard {
+        Heard {
+            generation: 0,
+            explicit: 0,
+            low: FIRST,
+            grain: *grain,
+            sub: SubName::Explicit(1),
+            turn: first_turn(grain),
+            turn_before: first_turn(grain),
+            handled: first_handled(),
+            handled_before: first_handled(),
+        }
+    }
+
+    /// Hears the reply to an operation.
+    pub fn hear(&mut self, op: &Op, reply: &Reply) {
+        match reply {
+            Reply::Subscribed { number } => {
+                self.explicit = *number;
+            }
+            Reply::Moved { generation, .. } => {
+                self.generation = *generation;
+            }
+            Reply::Pulled { low, .. } => {
+                self.low = *low;
+            }
+            Reply::Pressed { by } => {
+                self.sub = *by;
+            }
+            Reply::Next(grain) => {
+                self.grain = *grain;
+            }
+            Reply::NotQuiet(why) => self.hear_pending(*why),
+            _ => self.hear_work(op, reply),
+        }
+    }
+
+    /// Hears why the partition isn't quiet.
+    fn hear_pending(&mut self, why: Pending) {
+        match why {
+            Pending::Behind => {}
+            Pending::Deliverable(sub) => {
+                self.sub = sub;
+            }
+            Pending::Waiting(grain) | Pending::Running(grain) => {
+                self.grain = grain;
+            }
+        }
+    }
+
+    /// Hears of a turn, or of what can be acknowledged.
+    fn hear_work(&mut self, op: &Op, reply: &Reply) {
+        match (op, reply) {
+            (
+                Op::Begin { grain, .. },
+                Reply::Turn {
+                    activation,
+                    turn,
+                    ..
+                },
+            ) => self.begin(GivenTurn {
+                grain: *grain,
+                activation: *activation,
+                turn: *turn,
+            }),
+            (_, Reply::Committed { sub, token }) => self.handle(*sub, *token),
+            (_, Reply::DueSub { sub, ack }) => {
+                self.sub = *sub;
+                if let Some(token) = ack {
+                    self.handle(*sub, *token);
+                }
+            }
+            _ => {}
+        }
+    }
+
+    /// A turn was given.
+    fn begin(&mut self, turn: GivenTurn) {
+        self.turn_before = self.turn;
+        self.turn = turn;
+    }
+
+    /// An event of a subscription was handled, or is told again.
+    fn handle(&mut self, sub: SubName, token: Token) {
+        self.handled_before = self.handled;
+        self.handled = HandledEvent { sub, token };
+    }
+}
+
+/// The turn that a partition gives first, if to this grain.
+fn first_turn(grain: &GrainId) -> GivenTurn {
+    GivenTurn {
+        grain: *grain,
+        activation: 1,
+        turn: 1,
+    }
+}
+
+/// The event that a partition handles first, if for this subscription.
+fn first_handled() -> HandledEvent {
+    HandledEvent {
+        sub: SubName::Explicit(1),
+        token: FIRST,
+    }
+}

@@ -1,0 +1,167 @@
+//! What can be looked at of a partition.
+use std::alloc::{AllocError, Global};
+use step_core::{Partition, Pending, SubSummary};
+use stream_ident::{Event, SubName, Token};
+use stream_model::{PlainPartition, Subscription, reference};
+
+/// What can be looked at of a partition.
+#[derive(Debug, PartialEq, Drop)]
+pub struct Looks {
+    /// The generation and the silo of the agent.
+    pub agent: (u64, u8),
+    /// The tokens at the ends of the cache.
+    pub low: Token,
+    pub high: Token,
+    /// Why it isn't quiet.
+    pub pending: Option<Pending>,
+    /// The subscriptions, in the order of names.
+    pub subs: Vec<SubSummary>,
+    /// What each of them has handled.
+    pub handled: Vec<Vec<Event>>,
+}
+
+impl Looks {
+    /// Looks at a partition.
+    ///
+    /// # Errors
+    /// Memory.
+    pub fn of(alloc: Global, partition: &Partition) -> Result<Looks, AllocError> {
+        let subs = partition.subs(alloc)?;
+        let handled = handled(alloc, partition, subs.as_slice())?;
+        Ok(Looks {
+            agent: partition.agent(),
+            low: partition.low_token(),
+            high: partition.high_token(),
+            pending: partition.quiet(),
+            subs,
+            handled,
+        })
+    }
+
+    /// Looks at the plain program, which keeps positions where a partition shows tokens and events.
+    ///
+    /// # Errors
+    /// Memory.
+    pub fn of_reference(
+        alloc: Global,
+        reference: &reference::Partition,
+    ) -> Result<Looks, AllocError> {
+        let plain = reference.plain();
+        let subs = plain_subs(alloc, plain)?;
+        let handled = plain_handled(alloc, plain, subs.as_slice())?;
+        Ok(Looks {
+            agent: (plain.generation, plain.silo),
+            low: plain_token(plain, plain.low),
+            high: plain_token(plain, plain.high),
+            pending: reference.quiet(),
+            subs,
+            handled,
+        })
+    }
+}
+
+/// What each of these subscriptions has handled.
+fn handled(
+    alloc: Global,
+    partition: &Partition,
+    subs: &[SubSummary],
+) -> Result<Vec<Vec<Event>>, AllocError> {
+    let mut all = Vec::new(alloc);
+    for sub in subs {
+        all.push(partition.handled(alloc, &sub.name)?)?;
+    }
+    Ok(all)
+}
+
+/// The subscriptions of the plain program, in the order of names.
+fn plain_subs(alloc: Global, plain: &PlainPartition) -> Result<Vec<SubSummary>, AllocError> {
+    let mut subs = Vec::new(alloc);
+    for (name, record) in plain.subs.as_slice() {
+        subs.push(summary(name, record))?;
+    }
+    subs.sort()?;
+    Ok(subs)
+}
+
+/// What is told of a record.
+fn summary(name: &SubName, record: &Subscription) -> SubSummary {
+    SubSummary {
+        name: *name,
+        stream: record.stream,
+        grain: record.grain,
+        start: record.start,
+        is_open: record.is_open,
+    }
+}
+
+/// What each of these subscriptions has handled in the plain program.
+fn plain_handled(
+    alloc: Global,
+    plain: &PlainPartition,
+    subs: &[SubSummary],
+) -> Result<Vec<Vec<Event>>, AllocError> {
+    let mut all = Vec::new(alloc);
+    for sub in subs {
+        all.push(plain_events(alloc, plain, &sub.name)?)?;
+    }
+    Ok(all)
+}
+
+/// The events that a subscription has handled in the plain program.
+fn plain_events(
+    alloc: Global,
+    plain: &PlainPartition,
+    name: &SubName,
+) -> Result<Vec<Event>, AllocError> {
+    let mut events = Vec::new(alloc);
+    let mut records = plain.subs.as_slice().iter();
+    let Some((_, record)) = records.find(|entry| entry.0 == *name) else {
+        return Ok(events);
+    };
+    for position in record.handled.as_slice() {
+        if let Some(event) = plain.log.as_slice().get(*position) {
+            events.push(*event)?;
+        }
+    }
+    Ok(events)
+}
+
+/// What each of these subscriptions has handled once nothing is left to do: an open one all that it is
+/// owed, and a closed one what it had handled before.
+///
+/// # Errors
+/// Memory.
+pub fn all_owed(
+    alloc: Global,
+    plain: &PlainPartition,
+    subs: &[SubSummary],
+) -> Result<Vec<Vec<Event>>, AllocError> {
+    let mut all = Vec::new(alloc);
+    for sub in subs {
+        let events = if sub.is_open {
+            owed(alloc, plain, sub)?
+        } else {
+            plain_events(alloc, plain, &sub.name)?
+        };
+        all.push(events)?;
+    }
+    Ok(all)
+}
+
+/// The events of a subscription's stream from its start on.
+fn owed(alloc: Global, plain: &PlainPartition, sub: &SubSummary) -> Result<Vec<Event>, AllocError> {
+    let log = plain.log.as_slice().iter().copied();
+    log.filter(|event| event.stream == sub.stream && !event.token.is_before(&sub.start))
+        .collect(alloc)
+}
+
+/// The token at a position, and at the log's end that of the next batch.
+fn plain_token(plain: &PlainPartition, position: usize) -> Token {
+    match plain.log.as_slice().get(position) {
+        Some(event) => event.token,
+        None => Token {
+            seq: plain.batches,
+            idx: 0,
+        },
+    }
+}

@@ -1,0 +1,61 @@
+//! Runs the partition of `step_core` and the plain program of `stream_model` beside each other, over long
+//! pseudo-random lists of operations, and compares every reply.
+#![tactic(auto)]
+
+mod again;
+mod difference;
+mod draining;
+mod draws;
+mod fault;
+mod heard;
+mod history;
+mod kinds;
+mod looks;
+mod names;
+mod options;
+mod replies;
+mod side_by_side;
+mod stepping;
+mod tally;
+
+use crate::again::again;
+use crate::fault::Fault;
+use crate::history::compare;
+use crate::kinds::REPLIES;
+use crate::options::{Plan, parse};
+use crate::tally::Tally;
+use std::process::ExitCode;
+
+/// Exit statuses: 0 no difference, 1 a difference, 2 a faulty command line, 3 want of memory or a write fault.
+fn main(rt: HostRuntime) -> ExitCode {
+    match run(&rt) {
+        Ok(()) => ExitCode::SUCCESS,
+        Err(fault) => fault.report(&rt),
+    }
+}
+
+/// Compares what the command line asks for, and prints how often each reply came.
+fn run(rt: &HostRuntime) -> Result<(), Fault> {
+    let plan = again(|| asked(rt))?;
+    let tally = compare(rt.alloc(), plan)?;
+    report(rt, &tally)
+}
+
+/// The plan that the command line asks for.
+fn asked(rt: &HostRuntime) -> Result<Plan, Fault> {
+    let alloc = rt.alloc();
+    let words = std::env::args(rt)?.collect::<Vec<String>>(alloc)?;
+    Ok(parse(alloc, words.as_slice())?)
+}
+
+/// Prints how often each reply came, and how many there were in all.
+fn report<R: Print + Eprint>(rt: &R, tally: &Tally) -> Result<(), Fault> {
+    tally.tell_wants(rt)?;
+    tally.print(rt)?;
+    let kinds = tally.kinds();
+    let total = tally.total();
+    let all = REPLIES.len();
+    println!(rt; "{kinds} of {all} kinds of reply came")?;
+    println!(rt; "{total} operations, every reply the same")?;
+    Ok(())
+}
