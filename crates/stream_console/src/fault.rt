@@ -21,15 +21,25 @@ impl ProgramFault {
     pub fn report<R: Print + Eprint>(&self, rt: &R) -> ExitCode {
         match self {
             ProgramFault::CommandLine(error) => {
-                let _ = error.print(rt);
-                ExitCode::from(if error.exit_code() == 0 { 0 } else { 2 })
+                let printed = error.print(rt);
+                if error.use_stderr() {
+                    return ExitCode::from(2);
+                }
+                match printed {
+                    Ok(()) => ExitCode::SUCCESS,
+                    Err(_) => tell(rt, SimError::WriteFault),
+                }
             }
-            ProgramFault::Simulation(error) => {
-                let _ = eprintln!(rt; "{self}");
-                ExitCode::from(status(*error))
-            }
+            ProgramFault::Simulation(error) => tell(rt, *error),
         }
     }
+}
+
+/// Tells why a simulation ended early, and gives the exit status.
+fn tell<R: Eprint>(rt: &R, error: SimError) -> ExitCode {
+    // Where standard error fails too, the status has to do.
+    let _ = eprintln!(rt; "{}", ProgramFault::Simulation(error));
+    ExitCode::from(status(error))
 }
 
 /// The exit status of a simulation that ended early.

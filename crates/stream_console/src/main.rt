@@ -9,11 +9,10 @@ ghost use Rattle.stream_script.specs.Simulation.{IsSimConfig};
 
 use crate::fault::ProgramFault;
 use crate::options::options;
-use std::alloc::Global;
-use std::io;
+use std::fs::{self, File};
+use std::io::{self, Read};
 use std::process::ExitCode;
-use std::rt::Runtime;
-use stream_script::{Counted, SimConfig, sim};
+use stream_script::{Counted, SimConfig, SimError, sim};
 
 /// Exit statuses: 0 done, 1 a faulty script, 2 a faulty command line, 3 a read or write fault or want of
 /// memory.
@@ -28,16 +27,34 @@ fn main(rt: HostRuntime) -> ExitCode {
 fn run(rt: &HostRuntime) -> Result<(), ProgramFault> {
     let alloc = rt.alloc();
     let words = std::env::args(rt)?.collect::<Vec<String>>(alloc)?;
-    let options = options(alloc, words.as_slice())?;
-    simulate(rt, alloc, options)
+    let request = options(alloc, words.as_slice())?;
+    match request.file {
+        None => simulate(rt, request.config, rt.reader()),
+        Some(path) => simulate(rt, request.config, open(rt, path)?),
+    }
 }
 
-/// Simulates the script on standard input. The text goes out through a buffer, which the simulation
-/// flushes at its end.
-fn simulate<R: Runtime>(rt: &R, alloc: Global, config: SimConfig) -> Result<(), ProgramFault>
+/// Opens the file of a script.
+///
+/// # Errors
+/// A file that can't be opened can't be read; or memory.
+fn open(rt: &HostRuntime, path: &str) -> Result<File, SimError> {
+    fs::open(rt, path).map_err(|error| match error.kind() {
+        io::ErrorKind::OutOfMemory => SimError::Memory,
+        _ => SimError::ReadFault,
+    })
+}
+
+/// Simulates a script. The text goes out through a buffer, which the simulation flushes at its end.
+fn simulate<S: Read + Drop>(
+    rt: &HostRuntime,
+    config: SimConfig,
+    script: S,
+) -> Result<(), ProgramFault>
     requires { IsSimConfig config }
 {
-    let mut source = Counted::new(rt.reader());
+    let alloc = rt.alloc();
+    let mut source = Counted::new(script);
     let mut sink = Counted::new(io::BufWriter::new(alloc, io::writer(rt))?);
     sim(alloc, config, &mut source, &mut sink)?;
     Ok(())

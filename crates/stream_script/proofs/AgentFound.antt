@@ -1,5 +1,5 @@
 -- What is read as a command of agents is written so.
-use Rattle.std.specs.Prelude.{◌≡◌, ℕ, ◌^◌, List, [], ◌∷◌, map, Some, None, Result, Ok, codes, refl}
+use Rattle.std.specs.Prelude.{◌≡◌, ℕ, ◌^◌, List, [], ◌∷◌, map, Ok, codes, refl}
 use Rattle.std.specs.Fmt.{decimal}
 use Rattle.std.proofs.Common.{subst}
 use Rattle.stream_ident.specs.Name.{◌>>=◌}
@@ -28,7 +28,7 @@ pull_fields-found queues queue generation most command e =
     let m = number_found (2 ^ 32) most c.0 c.1 in
     let are : ◌≡◌ {A = List Piece} (Word (codes "pull") ∷ Word queue ∷ Word generation ∷ Word most ∷ []) (Word (codes "pull") ∷ Word (decimal a.0) ∷ Word (decimal b.0) ∷ Word (decimal c.0) ∷ []) = same_words refl (same_words q.0 (same_words g.0 (same_words m.0 refl))) in
     let made : Command = Step a.0 (op.Pull b.0 c.0) in
-    subst (Stands queues Pull (Word queue ∷ Word generation ∷ Word most ∷ [])) (ok_is made command c.2) (not_run Pull made refl, (q.1, g.1, m.1, are))
+    subst (Stands queues Pull (Word queue ∷ Word generation ∷ Word most ∷ [])) (ok_is made command c.2) (not_run Pull made refl tt, (q.1, g.1, m.1, are))
 
 pub pull_words-found : (queues : ℕ) (words : List (List ℕ)) (command : Command) → pull_words queues words ≡ Ok command → Stands queues Pull (map Word words) command
 pull_words-found queues [] command e = absurd cc
@@ -46,7 +46,7 @@ deliver_fields-found queues generation sub command e =
     let s = sub_found queues sub b.0 b.1 in
     let are : ◌≡◌ {A = List Piece} (Word (codes "deliver") ∷ Word generation ∷ Word sub ∷ []) (Word (codes "deliver") ∷ Word (decimal a.0) ∷ Word (sub_text b.0.0 b.0.1) ∷ []) = same_words refl (same_words g.0 (same_words s.0 refl)) in
     let made : Command = Step b.0.0 (op.Deliver a.0 b.0.1) in
-    subst (Stands queues Deliver (Word generation ∷ Word sub ∷ [])) (ok_is made command b.2) (not_run Deliver made refl, (s.1, g.1, s.2, are))
+    subst (Stands queues Deliver (Word generation ∷ Word sub ∷ [])) (ok_is made command b.2) (not_run Deliver made refl tt, (s.1, g.1, s.2, are))
 
 pub deliver_words-found : (queues : ℕ) (words : List (List ℕ)) (command : Command) → deliver_words queues words ≡ Ok command → Stands queues Deliver (map Word words) command
 deliver_words-found queues [] command e = absurd cc
@@ -63,7 +63,7 @@ retry_fields-found queues generation sub command e =
     let s = sub_found queues sub b.0 b.1 in
     let are : ◌≡◌ {A = List Piece} (Word (verb_word Retry) ∷ Word generation ∷ Word sub ∷ []) (Word (verb_word Retry) ∷ Word (decimal a.0) ∷ Word (sub_text b.0.0 b.0.1) ∷ []) = same_words refl (same_words g.0 (same_words s.0 refl)) in
     let made : Command = Step b.0.0 (op.Retry a.0 b.0.1) in
-    subst (Stands queues Retry (Word generation ∷ Word sub ∷ [])) (ok_is made command b.2) (not_run Retry made refl, (s.1, g.1, s.2, are))
+    subst (Stands queues Retry (Word generation ∷ Word sub ∷ [])) (ok_is made command b.2) (not_run Retry made refl tt, (s.1, g.1, s.2, are))
 
 pub retry_words-found : (queues : ℕ) (words : List (List ℕ)) (command : Command) → retry_words queues words ≡ Ok command → Stands queues Retry (map Word words) command
 retry_words-found queues [] command e = absurd cc
@@ -82,7 +82,7 @@ ack_fields-found queues generation sub token command e =
     let t = token_found token c.0 c.1 in
     let are : ◌≡◌ {A = List Piece} (Word (verb_word Ack) ∷ Word generation ∷ Word sub ∷ Word token ∷ []) (Word (verb_word Ack) ∷ Word (decimal a.0) ∷ Word (sub_text b.0.0 b.0.1) ∷ Word (token_text c.0) ∷ []) = same_words refl (same_words g.0 (same_words s.0 (same_words t.0 refl))) in
     let made : Command = Step b.0.0 (op.Ack a.0 b.0.1 c.0) in
-    subst (Stands queues Ack (Word generation ∷ Word sub ∷ Word token ∷ [])) (ok_is made command c.2) (not_run Ack made refl, (s.1, g.1, s.2, t.1, are))
+    subst (Stands queues Ack (Word generation ∷ Word sub ∷ Word token ∷ [])) (ok_is made command c.2) (not_run Ack made refl tt, (s.1, g.1, s.2, t.1, are))
 
 pub ack_words-found : (queues : ℕ) (words : List (List ℕ)) (command : Command) → ack_words queues words ≡ Ok command → Stands queues Ack (map Word words) command
 ack_words-found queues [] command e = absurd cc
@@ -102,7 +102,7 @@ purge_fields-found queues queue generation keep command e =
     let k = number_found (2 ^ 32) keep c.0 c.1 in
     let are : ◌≡◌ {A = List Piece} (Word (verb_word Purge) ∷ Word queue ∷ Word generation ∷ Word keep ∷ []) (Word (verb_word Purge) ∷ Word (decimal a.0) ∷ Word (decimal b.0) ∷ Word (decimal c.0) ∷ []) = same_words refl (same_words q.0 (same_words g.0 (same_words k.0 refl))) in
     let made : Command = Step a.0 (op.Purge b.0 c.0) in
-    subst (Stands queues Purge (Word queue ∷ Word generation ∷ Word keep ∷ [])) (ok_is made command c.2) (not_run Purge made refl, (q.1, g.1, k.1, are))
+    subst (Stands queues Purge (Word queue ∷ Word generation ∷ Word keep ∷ [])) (ok_is made command c.2) (not_run Purge made refl tt, (q.1, g.1, k.1, are))
 
 pub purge_words-found : (queues : ℕ) (words : List (List ℕ)) (command : Command) → purge_words queues words ≡ Ok command → Stands queues Purge (map Word words) command
 purge_words-found queues [] command e = absurd cc
@@ -120,7 +120,7 @@ move_fields-found queues queue silo command e =
     let s = number_found 16 silo b.0 b.1 in
     let are : ◌≡◌ {A = List Piece} (Word (verb_word Move) ∷ Word queue ∷ Word silo ∷ []) (Word (verb_word Move) ∷ Word (decimal a.0) ∷ Word (decimal b.0) ∷ []) = same_words refl (same_words q.0 (same_words s.0 refl)) in
     let made : Command = Step a.0 (op.Move b.0) in
-    subst (Stands queues Move (Word queue ∷ Word silo ∷ [])) (ok_is made command b.2) (not_run Move made refl, (q.1, s.1, are))
+    subst (Stands queues Move (Word queue ∷ Word silo ∷ [])) (ok_is made command b.2) (not_run Move made refl tt, (q.1, s.1, are))
 
 pub move_words-found : (queues : ℕ) (words : List (List ℕ)) (command : Command) → move_words queues words ≡ Ok command → Stands queues Move (map Word words) command
 move_words-found queues [] command e = absurd cc

@@ -7,7 +7,7 @@ use Rattle.std.proofs.lemmas.List.{append_assoc}
 use Rattle.stream_script.specs.declared.verb.Verb.{Verb}
 use Rattle.stream_script.specs.Pieces.{Piece, Word, is_space, AreSpaces, IsLineOf}
 use Rattle.stream_script.specs.Reading.{is_comment, is_skipped}
-use Rattle.stream_script.specs.declared.verb.Verb.TheVariants.{Pub, Sub, Unsub, Rule, Pull, Deliver, Retry, Ack, Purge, Move, Begin, Commit, Deactivate, Ready, Due, Quiet, Drain, Report}
+use Rattle.stream_script.specs.declared.verb.Verb.TheVariants.{Pub, Sub, Unsub, Rule, Pull, Deliver, Retry, Ack, Purge, Move, Begin, Commit, Deactivate, Ready, Due, Quiet, Drain, Report, Up, Down}
 use Rattle.stream_script.proofs.VerbLemmas.{verb_word}
 
 not_spaces : (spaces : List ℕ) (byte : ℕ) (bytes : List ℕ) → is_space byte ≡ false → list_all is_space (spaces ++ byte ∷ bytes) ≡ false
@@ -49,3 +49,5 @@ verb_line_begun Due line pieces made = line_begun line _ _ pieces refl refl made
 verb_line_begun Quiet line pieces made = line_begun line _ _ pieces refl refl made
 verb_line_begun Drain line pieces made = line_begun line _ _ pieces refl refl made
 verb_line_begun Report line pieces made = line_begun line _ _ pieces refl refl made
+verb_line_begun Up line pieces made = line_begun line _ _ pieces refl refl made
+verb_line_begun Down line pieces made = line_begun line _ _ pieces refl refl made

@@ -13,19 +13,20 @@ use Rattle.stream_script.specs.declared.command.Mode.{Mode}
 use Rattle.stream_script.specs.declared.command.Parsed.{Parsed}
 use Rattle.stream_script.specs.declared.command.Parsed.TheVariants as parsed
 use Rattle.stream_script.specs.declared.verb.Verb.{Verb}
-use Rattle.stream_script.specs.declared.verb.Verb.TheVariants.{Pub, Sub, Unsub, Rule, Pull, Deliver, Retry, Ack, Purge, Move, Begin, Commit, Deactivate, Ready, Due, Quiet, Drain, Report}
+use Rattle.stream_script.specs.declared.verb.Verb.TheVariants.{Pub, Sub, Unsub, Rule, Pull, Deliver, Retry, Ack, Purge, Move, Begin, Commit, Deactivate, Ready, Due, Quiet, Drain, Report, Up, Down}
 use Rattle.stream_script.specs.Fields.{guard}
-use Rattle.stream_script.specs.Forms.{verb_command, alone, rule_words, sub_words, unsub_words, pull_words, deliver_words, retry_words, ack_words, purge_words, move_words, begin_words, commit_words, deactivate_words, ready_words, due_words}
+use Rattle.stream_script.specs.Forms.{verb_command, alone, rule_words, sub_words, unsub_words, pull_words, deliver_words, retry_words, ack_words, purge_words, move_words, begin_words, commit_words, deactivate_words, ready_words, due_words, up_words, down_words}
 use Rattle.stream_script.specs.Grammar.{IsSpelled, MayStand, Reads}
 use Rattle.stream_script.specs.Lexer.{pieces_of}
 use Rattle.stream_script.specs.Pieces.{Piece, Word}
 use Rattle.stream_script.specs.Reading.{command_of, lexed, is_printable, line_command, is_skipped, parsed_of, reading}
-use Rattle.stream_script.specs.Verbs.{may_stand, verb_in_front}
+use Rattle.stream_script.specs.Verbs.{may_stand, not_here, verb_in_front}
 use Rattle.stream_script.proofs.AgentFound.{pull_words-found, deliver_words-found, retry_words-found, ack_words-found, purge_words-found, move_words-found}
 use Rattle.stream_script.proofs.FieldLemmas.{bind_ok, guard_ok}
 use Rattle.stream_script.proofs.LineLemmas.{line-pieces_of}
 use Rattle.stream_script.proofs.LookFound.{ready_words-found, due_words-found, quiet_found, drain_found, report_found}
 use Rattle.stream_script.proofs.ProducerFound.{pub_found, sub_words-found, unsub_words-found, rule_words-found}
+use Rattle.stream_script.proofs.SiloFound.{up_words-found, down_words-found}
 use Rattle.stream_script.proofs.StandLemmas.{Stands, worded}
 use Rattle.stream_script.proofs.VerbLemmas.{verb_word, verb_in_front-found}
 use Rattle.stream_script.proofs.WorkerFound.{begin_words-found, commit_words-found, deactivate_words-found}
@@ -49,13 +50,15 @@ verb_command-found queues Due pieces command e = worded queues Due (due_words qu
 verb_command-found queues Quiet pieces command e = worded queues Quiet (alone (made.Each each.Quiet)) (quiet_found queues) pieces command e
 verb_command-found queues Drain pieces command e = worded queues Drain (alone made.Drain) (drain_found queues) pieces command e
 verb_command-found queues Report pieces command e = worded queues Report (alone made.Report) (report_found queues) pieces command e
+verb_command-found queues Up pieces command e = worded queues Up up_words (up_words-found queues) pieces command e
+verb_command-found queues Down pieces command e = worded queues Down down_words (down_words-found queues) pieces command e
 
 command_of-found : (m : Mode) (queues : ℕ) (pieces : List Piece) (command : Command) → command_of m queues pieces ≡ Ok command → MayStand m command × IsSpelled queues pieces command
 command_of-found m queues [] command e = absurd cc
 command_of-found m queues (piece ∷ pieces) command e =
-    let a = bind_ok (verb_in_front piece) (λ verb. guard kind.NotInRun (may_stand m verb) verb >>= λ standing. verb_command standing queues pieces) command e in
-    let b = bind_ok (guard kind.NotInRun (may_stand m a.0) a.0) (λ standing. verb_command standing queues pieces) command a.2 in
-    let g = guard_ok kind.NotInRun (may_stand m a.0) a.0 b.0 b.1 in
+    let a = bind_ok (verb_in_front piece) (λ verb. guard (not_here m) (may_stand m verb) verb >>= λ standing. verb_command standing queues pieces) command e in
+    let b = bind_ok (guard (not_here m) (may_stand m a.0) a.0) (λ standing. verb_command standing queues pieces) command a.2 in
+    let g = guard_ok (not_here m) (may_stand m a.0) a.0 b.0 b.1 in
     let front : piece ≡ Word (verb_word b.0) = verb_in_front-found piece a.0 a.1 ∙ ap (λ (v : Verb). Word (verb_word v)) g.1 in
     let may : may_stand m b.0 ≡ true = ap (may_stand m) (sym g.1) ∙ g.0 in
     let found = verb_command-found queues b.0 pieces command b.2 in

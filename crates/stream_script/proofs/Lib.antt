@@ -18,6 +18,7 @@ pub mod ProducerFound
 pub mod ReadLemmas
 pub mod ReportLemmas
 pub mod Running
+pub mod SiloFound
 pub mod SimulatorLemmas
 pub mod StandLemmas
 pub mod SubLemmas

@@ -1,5 +1,5 @@
 -- What is read as a look is written so.
-use Rattle.std.specs.Prelude.{◌≡◌, ℕ, ◌^◌, List, [], ◌∷◌, map, Some, None, Result, Ok, codes, refl}
+use Rattle.std.specs.Prelude.{◌≡◌, ℕ, List, [], ◌∷◌, map, Some, None, Ok, refl}
 use Rattle.std.specs.Fmt.{decimal}
 use Rattle.std.proofs.Common.{subst}
 use Rattle.stream_ident.specs.Name.{◌>>=◌}
@@ -26,7 +26,7 @@ ready_first-found queues queue command e =
     let q = queue_found queues queue a.0 a.1 in
     let are : ◌≡◌ {A = List Piece} (Word (verb_word Ready) ∷ Word queue ∷ []) (Word (verb_word Ready) ∷ Word (decimal a.0) ∷ []) = same_words refl (same_words q.0 refl) in
     let made : Command = Step a.0 (op.Ready None) in
-    subst (Stands queues Ready (Word queue ∷ [])) (ok_is made command a.2) (not_run Ready made refl, (q.1, are))
+    subst (Stands queues Ready (Word queue ∷ [])) (ok_is made command a.2) (not_run Ready made refl tt, (q.1, are))
 
 ready_after-found : (queues : ℕ) (queue grain : List ℕ) (command : Command) → ready_after queues queue grain ≡ Ok command → Stands queues Ready (Word queue ∷ Word grain ∷ []) command
 unfolding ready_after
@@ -37,7 +37,7 @@ ready_after-found queues queue grain command e =
     let g = grain_found grain b.0 b.1 in
     let are : ◌≡◌ {A = List Piece} (Word (verb_word Ready) ∷ Word queue ∷ Word grain ∷ []) (Word (verb_word Ready) ∷ Word (decimal a.0) ∷ Word (grain_text b.0) ∷ []) = same_words refl (same_words q.0 (same_words g.0 refl)) in
     let made : Command = Step a.0 (op.Ready (Some b.0)) in
-    subst (Stands queues Ready (Word queue ∷ Word grain ∷ [])) (ok_is made command b.2) (not_run Ready made refl, (q.1, g.1, are))
+    subst (Stands queues Ready (Word queue ∷ Word grain ∷ [])) (ok_is made command b.2) (not_run Ready made refl tt, (q.1, g.1, are))
 
 pub ready_words-found : (queues : ℕ) (words : List (List ℕ)) (command : Command) → ready_words queues words ≡ Ok command → Stands queues Ready (map Word words) command
 ready_words-found queues [] command e = absurd cc
@@ -52,7 +52,7 @@ due_first-found queues queue command e =
     let q = queue_found queues queue a.0 a.1 in
     let are : ◌≡◌ {A = List Piece} (Word (verb_word Due) ∷ Word queue ∷ []) (Word (verb_word Due) ∷ Word (decimal a.0) ∷ []) = same_words refl (same_words q.0 refl) in
     let made : Command = Step a.0 (op.Due None) in
-    subst (Stands queues Due (Word queue ∷ [])) (ok_is made command a.2) (not_run Due made refl, (q.1, are))
+    subst (Stands queues Due (Word queue ∷ [])) (ok_is made command a.2) (not_run Due made refl tt, (q.1, are))
 
 due_after-found : (queues : ℕ) (queue sub : List ℕ) (command : Command) → due_after queues queue sub ≡ Ok command → Stands queues Due (Word queue ∷ Word sub ∷ []) command
 unfolding due_after
@@ -63,7 +63,7 @@ due_after-found queues queue sub command e =
     let s = own_sub_found queues a.0 sub b.0 b.1 in
     let are : ◌≡◌ {A = List Piece} (Word (verb_word Due) ∷ Word queue ∷ Word sub ∷ []) (Word (verb_word Due) ∷ Word (decimal a.0) ∷ Word (sub_text a.0 b.0) ∷ []) = same_words refl (same_words q.0 (same_words s.0 refl)) in
     let made : Command = Step a.0 (op.Due (Some b.0)) in
-    subst (Stands queues Due (Word queue ∷ Word sub ∷ [])) (ok_is made command b.2) (not_run Due made refl, (q.1, s.1, are))
+    subst (Stands queues Due (Word queue ∷ Word sub ∷ [])) (ok_is made command b.2) (not_run Due made refl tt, (q.1, s.1, are))
 
 pub due_words-found : (queues : ℕ) (words : List (List ℕ)) (command : Command) → due_words queues words ≡ Ok command → Stands queues Due (map Word words) command
 due_words-found queues [] command e = absurd cc
@@ -76,10 +76,10 @@ alone_found queues verb command stands [] read e = subst (Stands queues verb [])
 alone_found queues verb command stands (word ∷ words) read e = absurd cc
 
 pub quiet_found : (queues : ℕ) (words : List (List ℕ)) (command : Command) → alone (made.Each each.Quiet) words ≡ Ok command → Stands queues Quiet (map Word words) command
-quiet_found queues words command e = alone_found queues Quiet (made.Each each.Quiet) (not_run Quiet (made.Each each.Quiet) refl, refl) words command e
+quiet_found queues words command e = alone_found queues Quiet (made.Each each.Quiet) (not_run Quiet (made.Each each.Quiet) refl tt, refl) words command e
 
 pub drain_found : (queues : ℕ) (words : List (List ℕ)) (command : Command) → alone made.Drain words ≡ Ok command → Stands queues Drain (map Word words) command
-drain_found queues words command e = alone_found queues Drain made.Drain ((λ m may. may_anywhere made.Drain tt m), refl) words command e
+drain_found queues words command e = alone_found queues Drain made.Drain ((may_anywhere _ made.Drain tt tt), refl) words command e
 
 pub report_found : (queues : ℕ) (words : List (List ℕ)) (command : Command) → alone made.Report words ≡ Ok command → Stands queues Report (map Word words) command
-report_found queues words command e = alone_found queues Report made.Report (not_run Report made.Report refl, refl) words command e
+report_found queues words command e = alone_found queues Report made.Report (not_run Report made.Report refl tt, refl) words command e

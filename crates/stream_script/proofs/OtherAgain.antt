@@ -1,4 +1,4 @@
--- What is written as a command of agents or workers, or as a look, is read as it.
+-- What is written as a command of agents, workers or operators, or as a look, is read as it.
 use Rattle.std.specs.Prelude.{◌≡◌, ℕ, ◌^◌, ◌<◌, [], ◌∷◌, None, Some, Ok, refl}
 use Rattle.std.specs.Fmt.{decimal}
 use Rattle.std.proofs.Common.{arith}
@@ -7,12 +7,13 @@ use Rattle.stream_ident.specs.declared.ident.SubName.{SubName}
 use Rattle.stream_ident.specs.declared.token.Token.{Token}
 use Rattle.stream_ident.specs.Token.{token_text, IsToken}
 use Rattle.stream_model.specs.declared.op.Op.TheVariants as op
-use Rattle.stream_script.specs.declared.command.Command.TheVariants.{Step}
+use Rattle.stream_script.specs.declared.command.Command.TheVariants.{Step, Up, Down}
 use Rattle.stream_script.specs.Pieces.{Word}
 use Rattle.stream_script.specs.Spelling.{grain_text, sub_text}
-use Rattle.stream_script.specs.Forms.{pull_fields, deliver_fields, retry_fields, ack_fields, purge_fields, move_fields, begin_one, begin_most, commit_fields, deactivate_fields, ready_first, ready_after, due_first, due_after, verb_command}
+use Rattle.stream_script.specs.Forms.{pull_fields, deliver_fields, retry_fields, ack_fields, purge_fields, move_fields, begin_one, begin_most, commit_fields, deactivate_fields, ready_first, ready_after, due_first, due_after, up_fields, down_fields, verb_command}
 use Rattle.stream_script.specs.Grammar.{IsGrain, IsSub, IsQueue}
 use Rattle.stream_script.specs.declared.verb.Verb.TheVariants.{Pull, Deliver, Retry, Ack, Purge, Move, Begin, Commit, Deactivate, Ready, Due}
+use Rattle.stream_script.specs.declared.verb.Verb.TheVariants as verb
 use Rattle.stream_script.proofs.FieldLemmas.{number_again, queue_again, grain_again, token_again}
 use Rattle.stream_script.proofs.SubLemmas.{sub_again, own_sub_again}
 
@@ -84,3 +85,11 @@ pub due_after_again : (queues queue : ℕ) (sub : SubName) → IsQueue queues qu
 unfolding due_after
 due_after_again queues queue sub is_queue is_sub =
     rw (queue_again queues queue is_queue, own_sub_again queues queue sub is_queue is_sub) refl
+
+pub up_again : (queues silo : ℕ) → silo < 16 → verb_command verb.Up queues (Word (decimal silo) ∷ []) ≡ Ok (Up silo)
+unfolding up_fields
+up_again queues silo short = rw (number_again 16 silo short (omega arith)) refl
+
+pub down_again : (queues silo : ℕ) → silo < 16 → verb_command verb.Down queues (Word (decimal silo) ∷ []) ≡ Ok (Down silo)
+unfolding down_fields
+down_again queues silo short = rw (number_again 16 silo short (omega arith)) refl

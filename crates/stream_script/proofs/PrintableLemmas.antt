@@ -17,7 +17,7 @@ use Rattle.stream_script.specs.Pieces.{Piece, Word, Text, is_space, is_special, 
 use Rattle.stream_script.specs.Spelling.{stream_text, grain_text, sub_text}
 use Rattle.stream_script.specs.Grammar.{IsStream, IsGrain, IsSub, IsQueue}
 use Rattle.stream_script.specs.Reading.{is_printable}
-use Rattle.stream_script.specs.declared.verb.Verb.TheVariants.{Pub, Sub, Unsub, Rule, Pull, Deliver, Retry, Ack, Purge, Move, Begin, Commit, Deactivate, Ready, Due, Quiet, Drain, Report}
+use Rattle.stream_script.specs.declared.verb.Verb.TheVariants.{Pub, Sub, Unsub, Rule, Pull, Deliver, Retry, Ack, Purge, Move, Begin, Commit, Deactivate, Ready, Due, Quiet, Drain, Report, Up, Down}
 use Rattle.stream_script.proofs.FieldLemmas.{list_all-weaker}
 use Rattle.stream_script.proofs.SubLemmas.{list_all-both, decimal_all, stream_text_all, grain_text_all, name_text_all}
 use Rattle.stream_script.proofs.VerbLemmas.{verb_word}
@@ -97,3 +97,5 @@ word_printable Due = refl
 word_printable Quiet = refl
 word_printable Drain = refl
 word_printable Report = refl
+word_printable Up = refl
+word_printable Down = refl

@@ -24,7 +24,7 @@ use Rattle.stream_script.specs.declared.verb.Verb.TheVariants.{Pub, Sub, Unsub, 
 use Rattle.stream_script.proofs.FieldLemmas.{stream_again, grain_again, token_again, payload_again, bare_name_again}
 use Rattle.stream_script.proofs.SubLemmas.{sub_again, name_all}
 use Rattle.stream_script.proofs.PrintableLemmas.{name_printable, stream_printable, grain_printable, token_printable}
-use Rattle.stream_script.proofs.AgainForms.{IsAgain, run_may}
+use Rattle.stream_script.proofs.AgainForms.{IsAgain, both_may}
 
 texts_again : (payloads : List (List ℕ)) → texts_of (map Text payloads) ≡ Ok payloads
 texts_again [] = refl
@@ -51,7 +51,7 @@ subscribe_again m queues pieces more stream grain start.Latest is_stream is_grai
   verb = Sub;
   more = Word (stream_text stream) ∷ Word (grain_text grain) ∷ Word (codes "latest") ∷ [];
   are = are ∙ ap (λ (ps : List Piece). Word (codes "sub") ∷ Word (stream_text stream) ∷ Word (grain_text grain) ∷ ps) at_;
-  may = run_may m Sub refl;
+  may = both_may m Sub refl refl;
   printable = (stream_printable stream is_stream, (grain_printable grain is_grain, (refl, tt)));
   reads = latest_again queues stream grain is_stream is_grain;
 }
@@ -59,7 +59,7 @@ subscribe_again m queues pieces more stream grain (start.At token) is_stream is_
   verb = Sub;
   more = Word (stream_text stream) ∷ Word (grain_text grain) ∷ Word (codes "from") ∷ Word (token_text token) ∷ [];
   are = are ∙ ap (λ (ps : List Piece). Word (codes "sub") ∷ Word (stream_text stream) ∷ Word (grain_text grain) ∷ ps) at_.1;
-  may = run_may m Sub refl;
+  may = both_may m Sub refl refl;
   printable = (stream_printable stream is_stream, (grain_printable grain is_grain, (refl, (token_printable token at_.0, tt))));
   reads = from_again queues stream grain token is_stream is_grain at_.0;
 }
@@ -75,7 +75,7 @@ rule_again m queues pieces own_kind namespace is_kind is_namespace are = record 
   verb = Rule;
   more = Word own_kind ∷ Word namespace ∷ [];
   are = are;
-  may = run_may m Rule refl;
+  may = both_may m Rule refl refl;
   printable = (name_all is_printable name_printable own_kind is_kind, (name_all is_printable name_printable namespace is_namespace, tt));
   reads = rw (bare_name_again own_kind is_kind, bare_name_again namespace is_namespace) refl;
 }

@@ -1,6 +1,5 @@
 -- What is read as a command of producers is written so.
-use Rattle.std.specs.Prelude.{◌≡◌, ℕ, ◌^◌, List, [], ◌∷◌, map, Some, None, Result, Ok, codes, refl}
-use Rattle.std.specs.Fmt.{decimal}
+use Rattle.std.specs.Prelude.{◌≡◌, ℕ, List, [], ◌∷◌, map, Ok, codes, refl}
 use Rattle.std.specs.Cmp.Lexicographic.{same_text}
 use Rattle.std.proofs.Common.{sym, ap, ◌∙◌, subst}
 use Rattle.stream_ident.specs.Name.{◌>>=◌}
@@ -40,7 +39,7 @@ pub_found queues (piece ∷ pieces) command e =
     let are : ◌≡◌ {A = List Piece} (Word (codes "pub") ∷ piece ∷ pieces) (Word (codes "pub") ∷ Word (stream_text c.0) ∷ map Text d.0) =
     ap (λ (p : Piece). Word (codes "pub") ∷ p ∷ pieces) first ∙ ap (λ (ps : List Piece). Word (codes "pub") ∷ Word (stream_text c.0) ∷ ps) others in
     let made : Command = Step (queue_of c.0 queues) (op.Publish c.0 d.0) in
-    subst (Stands queues Pub (piece ∷ pieces)) (ok_is made command d.2) (λ m may. may_anywhere made tt m, (stream.1, payloads.1, refl, are))
+    subst (Stands queues Pub (piece ∷ pieces)) (ok_is made command d.2) (may_anywhere _ made tt tt, (stream.1, payloads.1, refl, are))
 
 sub_latest-found : (queues : ℕ) (stream grain word : List ℕ) (command : Command) → sub_latest queues stream grain word ≡ Ok command → Stands queues Sub (Word stream ∷ Word grain ∷ Word word ∷ []) command
 unfolding sub_latest
@@ -55,7 +54,7 @@ sub_latest-found queues stream grain word command e =
     let are : ◌≡◌ {A = List Piece} (Word (codes "sub") ∷ Word stream ∷ Word grain ∷ Word word ∷ []) (Word (codes "sub") ∷ Word (stream_text a.0) ∷ Word (grain_text b.0) ∷ Word (codes "latest") ∷ []) = same_words refl (same_words s.0 (same_words t.0 (same_words w refl))) in
     let made : Command = Step (queue_of a.0 queues) (op.Subscribe a.0 b.0 start.Latest) in
     let is : made ≡ command = ap (λ (at_ : Start). Step (queue_of a.0 queues) (op.Subscribe a.0 b.0 at_)) g.1 ∙ ok_is _ command c.2 in
-    subst (Stands queues Sub (Word stream ∷ Word grain ∷ Word word ∷ [])) is (λ m may. may_anywhere made tt m, (s.1, t.1, refl, Word (codes "latest") ∷ [], refl, are))
+    subst (Stands queues Sub (Word stream ∷ Word grain ∷ Word word ∷ [])) is (may_anywhere _ made tt tt, (s.1, t.1, refl, Word (codes "latest") ∷ [], refl, are))
 
 sub_from-found : (queues : ℕ) (stream grain word token : List ℕ) (command : Command) → sub_from queues stream grain word token ≡ Ok command → Stands queues Sub (Word stream ∷ Word grain ∷ Word word ∷ Word token ∷ []) command
 unfolding sub_from
@@ -73,7 +72,7 @@ sub_from-found queues stream grain word token command e =
     let more : List Piece = Word (codes "from") ∷ Word (token_text d.0) ∷ [] in
     let are : ◌≡◌ {A = List Piece} (Word (codes "sub") ∷ Word stream ∷ Word grain ∷ Word word ∷ Word token ∷ []) (Word (codes "sub") ∷ Word (stream_text a.0) ∷ Word (grain_text b.0) ∷ more) = same_words refl (same_words s.0 (same_words t.0 (same_words w (same_words text refl)))) in
     let made : Command = Step (queue_of a.0 queues) (op.Subscribe a.0 b.0 (start.At d.0)) in
-    subst (Stands queues Sub (Word stream ∷ Word grain ∷ Word word ∷ Word token ∷ [])) (ok_is made command d.2) (λ m may. may_anywhere made tt m, (s.1, t.1, refl, more, (k.1, refl), are))
+    subst (Stands queues Sub (Word stream ∷ Word grain ∷ Word word ∷ Word token ∷ [])) (ok_is made command d.2) (may_anywhere _ made tt tt, (s.1, t.1, refl, more, (k.1, refl), are))
 
 pub sub_words-found : (queues : ℕ) (words : List (List ℕ)) (command : Command) → sub_words queues words ≡ Ok command → Stands queues Sub (map Word words) command
 sub_words-found queues [] command e = absurd cc
@@ -90,7 +89,7 @@ unsub_fields-found queues sub command e =
     let s = sub_found queues sub a.0 a.1 in
     let are : ◌≡◌ {A = List Piece} (Word (verb_word Unsub) ∷ Word sub ∷ []) (Word (verb_word Unsub) ∷ Word (sub_text a.0.0 a.0.1) ∷ []) = same_words refl (same_words s.0 refl) in
     let made : Command = Step a.0.0 (op.Unsubscribe a.0.1) in
-    subst (Stands queues Unsub (Word sub ∷ [])) (ok_is made command a.2) (λ m may. may_anywhere made tt m, (s.1, s.2, are))
+    subst (Stands queues Unsub (Word sub ∷ [])) (ok_is made command a.2) (may_anywhere _ made tt tt, (s.1, s.2, are))
 
 pub unsub_words-found : (queues : ℕ) (words : List (List ℕ)) (command : Command) → unsub_words queues words ≡ Ok command → Stands queues Unsub (map Word words) command
 unsub_words-found queues [] command e = absurd cc
@@ -106,7 +105,7 @@ rule_fields-found queues own_kind namespace command e =
     let n = bare_name_found namespace b.0 b.1 in
     let are : ◌≡◌ {A = List Piece} (Word (verb_word Rule) ∷ Word own_kind ∷ Word namespace ∷ []) (Word (verb_word Rule) ∷ Word a.0 ∷ Word b.0 ∷ []) = same_words refl (same_words k.0 (same_words n.0 refl)) in
     let rule : Command = made.Each (each.Rule a.0 b.0) in
-    subst (Stands queues Rule (Word own_kind ∷ Word namespace ∷ [])) (ok_is rule command b.2) (λ m may. may_anywhere rule tt m, (k.1, n.1, are))
+    subst (Stands queues Rule (Word own_kind ∷ Word namespace ∷ [])) (ok_is rule command b.2) (may_anywhere _ rule tt tt, (k.1, n.1, are))
 
 pub rule_words-found : (queues : ℕ) (words : List (List ℕ)) (command : Command) → rule_words words ≡ Ok command → Stands queues Rule (map Word words) command
 rule_words-found queues [] command e = absurd cc

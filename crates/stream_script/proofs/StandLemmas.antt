@@ -1,5 +1,5 @@
 -- The pieces behind a verb that are read as a command: they are the command's, and it may stand.
-use Rattle.std.specs.Prelude.{◌≡◌, ℕ, true, false, List, [], ◌∷◌, map, Result, Ok, refl}
+use Rattle.std.specs.Prelude.{◌≡◌, ℕ, true, false, List, [], ◌∷◌, map, Result, Ok}
 use Rattle.std.specs.List.{AllByRecursion}
 use Rattle.std.proofs.Common.{sym, ap, ◌∙◌, subst}
 use Rattle.stream_ident.specs.Alphabet.{IsPayload}
@@ -13,7 +13,7 @@ use Rattle.stream_script.specs.Fields.{payload_field}
 use Rattle.stream_script.specs.Forms.{read_all, word_of, text_of, words_of, payloads_of}
 use Rattle.stream_script.specs.Grammar.{IsSpelled, MayStand}
 use Rattle.stream_script.specs.Pieces.{Piece, Word, Text}
-use Rattle.stream_script.specs.Verbs.{may_run, may_stand}
+use Rattle.stream_script.specs.Verbs.{may_sim, may_run, may_stand}
 use Rattle.stream_script.proofs.FieldLemmas.{bind_ok, ok_is, payload_found}
 use Rattle.stream_script.proofs.VerbLemmas.{verb_word}
 
@@ -25,14 +25,19 @@ abbrev pub Stands : ℕ → Verb → List Piece → Command → Type 0
 Stands queues verb pieces command = MayStandAs verb command × IsSpelled queues (Word (verb_word verb) ∷ pieces) command
 
 -- a command of this verb doesn't stand in a script that is run
-pub not_run : (verb : Verb) (command : Command) → may_run verb ≡ false → MayStandAs verb command
-not_run verb command never mode.Sim may = tt
-not_run verb command never mode.Run may = absurd cc
+pub not_run : (verb : Verb) (command : Command) → may_run verb ≡ false → MayStand mode.Sim command → MayStandAs verb command
+not_run verb command never in_sim mode.Sim may = in_sim
+not_run verb command never in_sim mode.Run may = absurd cc
 
--- a command that may stand in a script that is run may stand in each
-pub may_anywhere : (command : Command) → MayStand mode.Run command → (m : Mode) → MayStand m command
-may_anywhere command may mode.Sim = tt
-may_anywhere command may mode.Run = may
+-- a command of this verb doesn't stand in a script that is simulated
+pub not_sim : (verb : Verb) (command : Command) → may_sim verb ≡ false → MayStand mode.Run command → MayStandAs verb command
+not_sim verb command never in_run mode.Sim may = absurd cc
+not_sim verb command never in_run mode.Run may = in_run
+
+-- a command that may stand in scripts of both kinds
+pub may_anywhere : (verb : Verb) (command : Command) → MayStand mode.Sim command → MayStand mode.Run command → MayStandAs verb command
+may_anywhere verb command in_sim in_run mode.Sim may = in_sim
+may_anywhere verb command in_sim in_run mode.Run may = in_run
 
 -- ---- words and texts
 

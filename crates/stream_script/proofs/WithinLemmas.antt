@@ -56,3 +56,5 @@ within-found mode queues line (Ok (parsed.Command (Step queue o))) some found =
 within-found mode queues line (Ok (parsed.Command (made.Each o))) some found = tt
 within-found mode queues line (Ok (parsed.Command made.Drain)) some found = tt
 within-found mode queues line (Ok (parsed.Command made.Report)) some found = tt
+within-found mode queues line (Ok (parsed.Command (made.Up silo))) some found = tt
+within-found mode queues line (Ok (parsed.Command (made.Down silo))) some found = tt

@@ -1,5 +1,5 @@
 -- What is read as a command of workers is written so.
-use Rattle.std.specs.Prelude.{◌≡◌, ℕ, ◌^◌, List, [], ◌∷◌, map, Some, None, Result, Ok, codes, refl}
+use Rattle.std.specs.Prelude.{◌≡◌, ℕ, ◌^◌, List, [], ◌∷◌, map, Ok, codes, refl}
 use Rattle.std.specs.Fmt.{decimal}
 use Rattle.std.proofs.Common.{subst, arith, inl, inr}
 use Rattle.stream_ident.specs.Name.{◌>>=◌}
@@ -24,7 +24,7 @@ begin_one-found queues queue grain command e =
     let g = grain_found grain b.0 b.1 in
     let are : ◌≡◌ {A = List Piece} (Word (codes "begin") ∷ Word queue ∷ Word grain ∷ []) (Word (codes "begin") ∷ Word (decimal a.0) ∷ Word (grain_text b.0) ∷ []) = same_words refl (same_words q.0 (same_words g.0 refl)) in
     let made : Command = Step a.0 (op.Begin b.0 1) in
-    subst (Stands queues Begin (Word queue ∷ Word grain ∷ [])) (ok_is made command b.2) (not_run Begin made refl, (q.1, g.1, omega arith, inl (are, refl)))
+    subst (Stands queues Begin (Word queue ∷ Word grain ∷ [])) (ok_is made command b.2) (not_run Begin made refl tt, (q.1, g.1, omega arith, inl (are, refl)))
 
 begin_most-found : (queues : ℕ) (queue grain most : List ℕ) (command : Command) → begin_most queues queue grain most ≡ Ok command → Stands queues Begin (Word queue ∷ Word grain ∷ Word most ∷ []) command
 unfolding begin_most
@@ -37,7 +37,7 @@ begin_most-found queues queue grain most command e =
     let m = number_found (2 ^ 32) most c.0 c.1 in
     let are : ◌≡◌ {A = List Piece} (Word (codes "begin") ∷ Word queue ∷ Word grain ∷ Word most ∷ []) (Word (codes "begin") ∷ Word (decimal a.0) ∷ Word (grain_text b.0) ∷ Word (decimal c.0) ∷ []) = same_words refl (same_words q.0 (same_words g.0 (same_words m.0 refl))) in
     let made : Command = Step a.0 (op.Begin b.0 c.0) in
-    subst (Stands queues Begin (Word queue ∷ Word grain ∷ Word most ∷ [])) (ok_is made command c.2) (not_run Begin made refl, (q.1, g.1, m.1, inr are))
+    subst (Stands queues Begin (Word queue ∷ Word grain ∷ Word most ∷ [])) (ok_is made command c.2) (not_run Begin made refl tt, (q.1, g.1, m.1, inr are))
 
 pub begin_words-found : (queues : ℕ) (words : List (List ℕ)) (command : Command) → begin_words queues words ≡ Ok command → Stands queues Begin (map Word words) command
 begin_words-found queues [] command e = absurd cc
@@ -61,7 +61,7 @@ commit_fields-found queues queue grain activation turn note command e =
     let z = number_found (2 ^ 64) note f.0 f.1 in
     let are : ◌≡◌ {A = List Piece} (Word (codes "commit") ∷ Word queue ∷ Word grain ∷ Word activation ∷ Word turn ∷ Word note ∷ []) (Word (codes "commit") ∷ Word (decimal a.0) ∷ Word (grain_text b.0) ∷ Word (decimal c.0) ∷ Word (decimal d.0) ∷ Word (decimal f.0) ∷ []) = same_words refl (same_words q.0 (same_words g.0 (same_words x.0 (same_words y.0 (same_words z.0 refl))))) in
     let made : Command = Step a.0 (op.Commit b.0 c.0 d.0 f.0) in
-    subst (Stands queues Commit (Word queue ∷ Word grain ∷ Word activation ∷ Word turn ∷ Word note ∷ [])) (ok_is made command f.2) (not_run Commit made refl, (q.1, g.1, x.1, y.1, z.1, are))
+    subst (Stands queues Commit (Word queue ∷ Word grain ∷ Word activation ∷ Word turn ∷ Word note ∷ [])) (ok_is made command f.2) (not_run Commit made refl tt, (q.1, g.1, x.1, y.1, z.1, are))
 
 pub commit_words-found : (queues : ℕ) (words : List (List ℕ)) (command : Command) → commit_words queues words ≡ Ok command → Stands queues Commit (map Word words) command
 commit_words-found queues [] command e = absurd cc
@@ -81,7 +81,7 @@ deactivate_fields-found queues queue grain command e =
     let g = grain_found grain b.0 b.1 in
     let are : ◌≡◌ {A = List Piece} (Word (verb_word Deactivate) ∷ Word queue ∷ Word grain ∷ []) (Word (verb_word Deactivate) ∷ Word (decimal a.0) ∷ Word (grain_text b.0) ∷ []) = same_words refl (same_words q.0 (same_words g.0 refl)) in
     let made : Command = Step a.0 (op.Deactivate b.0) in
-    subst (Stands queues Deactivate (Word queue ∷ Word grain ∷ [])) (ok_is made command b.2) (not_run Deactivate made refl, (q.1, g.1, are))
+    subst (Stands queues Deactivate (Word queue ∷ Word grain ∷ [])) (ok_is made command b.2) (not_run Deactivate made refl tt, (q.1, g.1, are))
 
 pub deactivate_words-found : (queues : ℕ) (words : List (List ℕ)) (command : Command) → deactivate_words queues words ≡ Ok command → Stands queues Deactivate (map Word words) command
 deactivate_words-found queues [] command e = absurd cc

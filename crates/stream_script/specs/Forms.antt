@@ -13,7 +13,7 @@ use Rattle.stream_script.specs.declared.command.EachOp.TheVariants as each
 use Rattle.stream_script.specs.declared.command.FaultKind.{FaultKind}
 use Rattle.stream_script.specs.declared.command.FaultKind.TheVariants as kind
 use Rattle.stream_script.specs.declared.verb.Verb.{Verb}
-use Rattle.stream_script.specs.declared.verb.Verb.TheVariants.{Pub, Sub, Unsub, Rule, Pull, Deliver, Retry, Ack, Purge, Move, Begin, Commit, Deactivate, Ready, Due, Quiet, Drain, Report}
+use Rattle.stream_script.specs.declared.verb.Verb.TheVariants.{Pub, Sub, Unsub, Rule, Pull, Deliver, Retry, Ack, Purge, Move, Begin, Commit, Deactivate, Ready, Due, Quiet, Drain, Report, Up, Down}
 use Rattle.stream_script.specs.Fields.{guard, number_field, queue_field, stream_field, grain_field, token_field, payload_field, bare_name_field, sub_field, own_sub_field}
 use Rattle.stream_script.specs.Pieces.{Piece, Word, Text}
 use Rattle.stream_script.specs.Verbs.{same_word}
@@ -202,6 +202,18 @@ due_after queues queue sub = do
   sub ← own_sub_field queues queue sub
   Ok (command.Step queue (op.Due (Some sub)))
 
+-- up SILO
+unfoldable pub up_fields : List ℕ → Result Command FaultKind
+up_fields silo = do
+  silo ← number_field 16 silo
+  Ok (command.Up silo)
+
+-- down SILO
+unfoldable pub down_fields : List ℕ → Result Command FaultKind
+down_fields silo = do
+  silo ← number_field 16 silo
+  Ok (command.Down silo)
+
 -- what stands behind each verb
 abbrev pub sub_words : ℕ → List (List ℕ) → Result Command FaultKind
 sub_words queues (stream ∷ grain ∷ word ∷ []) = sub_latest queues stream grain word
@@ -263,6 +275,14 @@ due_words queues (queue ∷ []) = due_first queues queue
 due_words queues (queue ∷ sub ∷ []) = due_after queues queue sub
 due_words queues _ = Err kind.WordCount
 
+abbrev pub up_words : List (List ℕ) → Result Command FaultKind
+up_words (silo ∷ []) = up_fields silo
+up_words _ = Err kind.WordCount
+
+abbrev pub down_words : List (List ℕ) → Result Command FaultKind
+down_words (silo ∷ []) = down_fields silo
+down_words _ = Err kind.WordCount
+
 -- a command whose word stands alone
 abbrev pub alone : Command → List (List ℕ) → Result Command FaultKind
 alone command [] = Ok command
@@ -287,3 +307,5 @@ verb_command Due queues pieces = words_of pieces >>= λ words. due_words queues 
 verb_command Quiet queues pieces = words_of pieces >>= λ words. alone (command.Each each.Quiet) words
 verb_command Drain queues pieces = words_of pieces >>= λ words. alone command.Drain words
 verb_command Report queues pieces = words_of pieces >>= λ words. alone command.Report words
+verb_command Up queues pieces = words_of pieces >>= λ words. up_words words
+verb_command Down queues pieces = words_of pieces >>= λ words. down_words words

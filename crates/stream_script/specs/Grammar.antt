@@ -14,7 +14,7 @@ use Rattle.stream_model.specs.declared.op.Op.TheVariants as op
 use Rattle.stream_model.specs.declared.op.Start.{Start}
 use Rattle.stream_model.specs.declared.op.Start.TheVariants as start
 use Rattle.stream_script.specs.declared.command.Command.{Command}
-use Rattle.stream_script.specs.declared.command.Command.TheVariants.{Step, Each, Drain, Report}
+use Rattle.stream_script.specs.declared.command.Command.TheVariants.{Step, Each, Drain, Report, Up, Down}
 use Rattle.stream_script.specs.declared.command.EachOp.TheVariants as each
 use Rattle.stream_script.specs.declared.command.Mode.{Mode}
 use Rattle.stream_script.specs.declared.command.Mode.TheVariants as mode
@@ -101,15 +101,21 @@ IsSpelled queues pieces (Each (each.Rule own_kind namespace)) =
 IsSpelled queues pieces (Each each.Quiet) = pieces ≡ Word (codes "quiet") ∷ []
 IsSpelled queues pieces Drain = pieces ≡ Word (codes "drain") ∷ []
 IsSpelled queues pieces Report = pieces ≡ Word (codes "report") ∷ []
+IsSpelled queues pieces (Up silo) = (silo < 16) × (pieces ≡ Word (codes "up") ∷ Word (decimal silo) ∷ [])
+IsSpelled queues pieces (Down silo) = (silo < 16) × (pieces ≡ Word (codes "down") ∷ Word (decimal silo) ∷ [])
 
 -- what may stand in a script of this kind
 abbrev pub MayStand : Mode → Command → Type 0
-MayStand mode.Sim command = Unit {0}
+MayStand mode.Sim (Up silo) = ⊥
+MayStand mode.Sim (Down silo) = ⊥
+MayStand mode.Sim _ = Unit {0}
 MayStand mode.Run (Step queue (op.Publish stream payloads)) = Unit {0}
 MayStand mode.Run (Step queue (op.Subscribe stream grain start)) = Unit {0}
 MayStand mode.Run (Step queue (op.Unsubscribe sub)) = Unit {0}
 MayStand mode.Run (Each (each.Rule own_kind namespace)) = Unit {0}
 MayStand mode.Run Drain = Unit {0}
+MayStand mode.Run (Up silo) = Unit {0}
+MayStand mode.Run (Down silo) = Unit {0}
 MayStand mode.Run _ = ⊥
 
 -- a line reads as a command: it is made of the command's pieces

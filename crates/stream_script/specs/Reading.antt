@@ -1,5 +1,5 @@
 -- What a line is: the command that it reads as, or the first step of the table of faults that holds of it.
-use Rattle.std.specs.Prelude.{◌≡◌, ℕ, ◌<◌, Bool, true, false, ◌&&◌, ◌||◌, List, [], ◌∷◌, Option, Some, None, Result, Ok, Err, ◌==◌, nat_le, ⊤, if◌then◌else◌}
+use Rattle.std.specs.Prelude.{◌≡◌, ℕ, ◌<◌, Bool, false, ◌&&◌, ◌||◌, List, [], ◌∷◌, Option, Some, None, Result, Ok, Err, ◌==◌, nat_le, ⊤, if◌then◌else◌}
 use Rattle.std.specs.List.{list_all}
 use Rattle.stream_ident.specs.Name.{◌>>=◌}
 use Rattle.stream_script.specs.declared.command.Command.{Command}
@@ -15,13 +15,13 @@ use Rattle.stream_script.specs.Fields.{guard}
 use Rattle.stream_script.specs.Forms.{verb_command}
 use Rattle.stream_script.specs.Pieces.{Piece, is_space}
 use Rattle.stream_script.specs.Lexer.{pieces_of}
-use Rattle.stream_script.specs.Verbs.{verb_in_front, may_stand}
+use Rattle.stream_script.specs.Verbs.{verb_in_front, may_stand, not_here}
 
 abbrev pub command_of : Mode → ℕ → List Piece → Result Command FaultKind
 command_of mode queues [] = Err kind.BadCommand
 command_of mode queues (piece ∷ pieces) = do
   verb ← verb_in_front piece
-  standing ← guard kind.NotInRun (may_stand mode verb) verb
+  standing ← guard (not_here mode) (may_stand mode verb) verb
   verb_command standing queues pieces
 
 abbrev pub lexed : Mode → ℕ → Option (List Piece) → Result Command FaultKind

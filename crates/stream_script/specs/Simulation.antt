@@ -81,7 +81,8 @@ abbrev pub drained_each : ℕ → List PlainPartition → List PlainPartition ×
 drained_each queue [] = ([], [])
 drained_each queue (p ∷ partitions) = with_drained queue (drain p) (drained_each (suc queue) partitions)
 
--- what a line does: the partitions after it and its text, or its fault
+-- What a line does: the partitions after it and its text, or its fault. A line that changes silos is
+-- never read as such here, and would do nothing.
 abbrev pub run_parsed : SimConfig → List PlainPartition → Parsed → Result (List PlainPartition × List ℕ) Fault
 run_parsed config partitions parsed.Skip = Ok (partitions, [])
 run_parsed config partitions (parsed.Fault fault) = Err fault
@@ -90,6 +91,8 @@ run_parsed config partitions (parsed.Command (command.Step queue o)) =
 run_parsed config partitions (parsed.Command (command.Each each)) = Ok (stepped_each 0 partitions (op_of each))
 run_parsed config partitions (parsed.Command command.Drain) = Ok (drained_each 0 partitions)
 run_parsed config partitions (parsed.Command command.Report) = Ok (partitions, report_of partitions)
+run_parsed config partitions (parsed.Command (command.Up silo)) = Ok (partitions, [])
+run_parsed config partitions (parsed.Command (command.Down silo)) = Ok (partitions, [])
 
 abbrev pub run_line : SimConfig → ℕ → List PlainPartition → List ℕ → Result (List PlainPartition × List ℕ) Fault
 run_line config number partitions line = run_parsed config partitions (reading config.queues mode.Sim number line)

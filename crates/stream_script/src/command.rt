@@ -45,6 +45,16 @@ pub enum Command {
     Drain,
     /// What each subscription has handled.
     Report,
+    /// A silo joins the cluster.
+    Up {
+        /// Its number, 0 to 15.
+        silo: u8,
+    },
+    /// A silo leaves the cluster.
+    Down {
+        /// Its number, 0 to 15.
+        silo: u8,
+    },
 }
 
 /// What is wrong with a line.

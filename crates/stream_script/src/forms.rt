@@ -8,7 +8,7 @@ use crate::command::{Command, EachOp, FaultKind};
 use crate::error::LineError;
 use crate::pieces::Piece;
 use crate::verb::Verb;
-use crate::{agent_forms, fields, look_forms, producer_forms, worker_forms};
+use crate::{agent_forms, fields, look_forms, producer_forms, silo_forms, worker_forms};
 use std::alloc::Global;
 use stream_ident::Payload;
 
@@ -41,6 +41,8 @@ pub(crate) fn command(
         Verb::Report => Ok(alone(Command::Report, &words(alloc, pieces)?)?),
         Verb::Quiet => Ok(alone(Command::Each(EachOp::Quiet), &words(alloc, pieces)?)?),
         Verb::Drain => Ok(alone(Command::Drain, &words(alloc, pieces)?)?),
+        Verb::Up => Ok(silo_forms::up(&words(alloc, pieces)?)?),
+        Verb::Down => Ok(silo_forms::down(&words(alloc, pieces)?)?),
     }
 }
 

@@ -4,6 +4,8 @@
 
 mod agent_forms;
 mod command;
+#[cfg(test)]
+mod cut_tests;
 mod error;
 #[cfg(test)]
 mod example_tests;
@@ -14,11 +16,13 @@ mod look_forms;
 mod parse;
 #[cfg(test)]
 mod parse_tests;
+mod parts;
 mod pieces;
 mod producer_forms;
 mod report;
 #[cfg(test)]
 mod script_tests;
+mod silo_forms;
 #[cfg(test)]
 mod sim_tests;
 mod simulate;

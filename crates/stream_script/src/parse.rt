@@ -11,7 +11,7 @@ use crate::command::{Command, Fault, FaultKind, Mode, Parsed};
 use crate::error::LineError;
 use crate::forms;
 use crate::pieces::{Piece, pieces};
-use crate::verb::Verb;
+use crate::verb::{Verb, not_here};
 use std::alloc::{AllocError, Global};
 
 /// What a line is, its line feed and carriage return taken off: a command, a line to pass over, or its
@@ -122,7 +122,7 @@ fn command(alloc: Global, pieces: &[Piece], queues: usize, mode: Mode) -> Result
     };
     let verb = Verb::in_front(first)?;
     if !verb.may_stand(mode) {
-        return Err(LineError::Fault(FaultKind::NotInRun));
+        return Err(LineError::Fault(not_here(mode)));
     }
     forms::command(alloc, verb, rest, queues)
 }

@@ -88,7 +88,10 @@ fn faults(rt: HostRuntime) -> Result<(), Fail> {
         ("sub o/k g/x later", FaultKind::BadCommand),
         ("sub o/k g/x latest 7.2", FaultKind::BadCommand),
         ("sub o/k g/x from", FaultKind::BadCommand),
-        ("up 0", FaultKind::BadCommand),
+        ("upp 0", FaultKind::BadCommand),
+        ("up 1", FaultKind::NotInSim),
+        ("down", FaultKind::NotInSim),
+        ("up \"x\" 99", FaultKind::NotInSim),
         ("pub", FaultKind::WordCount),
         ("pub \"a\"", FaultKind::WordCount),
         ("pub o!k a", FaultKind::WordCount),
@@ -247,6 +250,35 @@ fn not_in_run(rt: HostRuntime) -> Result<(), Fail> {
     for line in ["pub o/k", "sub o/k g/x latest", "unsub 0:1", "rule g o"] {
         let command = parsed(rt.alloc(), line.as_bytes(), Mode::Run)?;
         assert!(rt; matches!(command, Parsed::Command(_)), "at {line}");
+    }
+    Ok(())
+}
+
+#[test]
+fn silos_in_a_run(rt: HostRuntime) -> Result<(), Fail> {
+    let lines = [
+        ("up 15", "Command(Up { silo: 15 })"),
+        (" down 0 ", "Command(Down { silo: 0 })"),
+    ];
+    for (line, command) in lines {
+        let shown = format!(in rt.alloc();
+            "{:?}",
+            parsed(rt.alloc(), line.as_bytes(), Mode::Run)?
+        )?;
+        assert_eq!(rt; shown.as_str(), command, "at {line}");
+    }
+    let lines = [
+        ("up", FaultKind::WordCount),
+        ("down 1 2", FaultKind::WordCount),
+        ("up \"1\"", FaultKind::WordCount),
+        ("down 16", FaultKind::BadNumber),
+        ("up 01", FaultKind::BadNumber),
+    ];
+    for (line, kind) in lines {
+        let Parsed::Fault(fault) = parsed(rt.alloc(), line.as_bytes(), Mode::Run)? else {
+            return Err(Fail::from("no fault"));
+        };
+        assert_eq!(rt; fault.kind, kind, "at {line}");
     }
     Ok(())
 }

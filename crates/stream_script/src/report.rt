@@ -6,7 +6,7 @@ ghost use Rattle.stream_script.specs.Report.{queue_report, report_of, summary_te
 ghost use Rattle.stream_script.specs.Spelling.{sub_text};
 ghost use Rattle.stream_script.specs.Writing.{Writes};
 
-use crate::text::{push_count, push_grain, push_named, push_pair, push_placed, push_quoted};
+use crate::parts::{push_count, push_grain, push_named, push_pair, push_placed, push_quoted};
 use std::alloc::{AllocError, Global};
 use step_core::{Partition, SubSummary};
 use stream_ident::{Event, SubName};

@@ -8,8 +8,8 @@ use std::io::{self, ErrorKind, Read, Write};
 use std::test::Fail;
 use stream_model::Limits;
 
-/// Fails at one call, with an error of this kind. The other calls go on to the inner reader or writer, and
-/// take `most` bytes at most.
+/// Fails at one call, with an error of this kind, or where a write fails with `WriteZero`, by taking no
+/// byte. The other calls go on to the inner reader or writer, and take `most` bytes at most.
 #[derive(Drop)]
 struct Flaky<T> {
     inner: T,
@@ -39,7 +39,12 @@ impl<R: Read> Read for Flaky<R> {
 
 impl<W: Write> Write for Flaky<W> {
     fn write(&mut self, buf: &[u8]) -> io::Result<usize> {
-        self.next_call()?;
+        if let Err(error) = self.next_call() {
+            return match error.kind() {
+                ErrorKind::WriteZero => Ok(0),
+                _ => Err(error),
+            };
+        }
         let most = buf.len().min(self.most);
         self.inner.write(&buf[..most])
     }
@@ -61,25 +66,27 @@ fn one_queue() -> SimConfig
 }
 
 /// The outcome of a script, and what it wrote.
-fn simulate(alloc: Global, script: &[u8]) -> (Result<(), SimError>, Vec<u8>) {
+pub(crate) fn simulate(alloc: Global, script: &[u8]) -> (Result<(), SimError>, Vec<u8>) {
     let mut source = Counted::new(script);
     let mut sink = Counted::new(Vec::new(alloc));
     let outcome = sim(alloc, one_queue(), &mut source, &mut sink);
     (outcome, sink.into_inner())
 }
 
-/// The outcome of a script from such a reader, and how often it has failed.
-fn simulate_reading(alloc: Global, reader: Flaky<&[u8]>) -> (Result<(), SimError>, u64) {
+/// The outcome of a script from such a reader, how often it has failed, and how much was written.
+fn simulate_reading(alloc: Global, reader: Flaky<&[u8]>) -> (Result<(), SimError>, u64, usize) {
     let mut source = Counted::new(reader);
     let mut sink = Counted::new(Vec::new(alloc));
     let outcome = sim(alloc, one_queue(), &mut source, &mut sink);
-    (outcome, source.failures())
+    (outcome, source.failures(), sink.into_inner().len())
 }
 
-/// The outcome of a script to a writer that fails at one call, how often it has failed, and what it took.
+/// The outcome of a script to a writer that takes at most so many bytes a call and fails at one call, how
+/// often it has failed, and what it took.
 fn simulate_writing(
     alloc: Global,
     script: &[u8],
+    most: usize,
     fails_at: u32,
     kind: ErrorKind,
 ) -> (Result<(), SimError>, u64, Vec<u8>) {
@@ -87,7 +94,7 @@ fn simulate_writing(
     let inner = Vec::new(alloc);
     let mut sink = Counted::new(Flaky {
         inner,
-        most: 3,
+        most,
         fails_at,
         kind,
     });
@@ -96,7 +103,7 @@ fn simulate_writing(
     (outcome, failures, sink.into_inner().inner)
 }
 
-fn faulty(line: usize, kind: FaultKind) -> Result<(), SimError> {
+pub(crate) fn faulty(line: usize, kind: FaultKind) -> Result<(), SimError> {
     Err(SimError::ScriptFault(Fault { line, kind }))
 }
 
@@ -160,17 +167,17 @@ fn a_script_that_is_too_long_is_not_begun(rt: HostRuntime) -> Result<(), Fail> {
 fn nothing_is_read_past_the_limit(rt: HostRuntime) -> Result<(), Fail> {
     let script = vec![in rt.alloc(); b'#'; 4_200_000]?;
     let cases = [
-        (1024, Err(SimError::ReadFault), 1),
-        (1025, faulty(0, FaultKind::TooLong), 0),
+        (1024, (Err(SimError::ReadFault), 1, 0)),
+        (1025, (faulty(0, FaultKind::TooLong), 0, 0)),
     ];
-    for (fails_at, outcome, failures) in cases {
+    for (fails_at, outcome) in cases {
         let reader = Flaky {
             inner: script.as_slice(),
             most: 4096,
             fails_at,
             kind: ErrorKind::BrokenPipe,
         };
-        assert_eq!(rt; simulate_reading(rt.alloc(), reader), (outcome, failures));
+        assert_eq!(rt; simulate_reading(rt.alloc(), reader), outcome);
     }
     Ok(())
 }
@@ -179,8 +186,8 @@ fn nothing_is_read_past_the_limit(rt: HostRuntime) -> Result<(), Fail> {
 fn a_failed_read_is_told(rt: HostRuntime) {
     for fails_at in [0, 1, 2] {
         for (kind, outcome) in [
-            (ErrorKind::BrokenPipe, (Err(SimError::ReadFault), 1)),
-            (ErrorKind::Interrupted, (Ok(()), 0)),
+            (ErrorKind::BrokenPipe, (Err(SimError::ReadFault), 1, 0)),
+            (ErrorKind::Interrupted, (Ok(()), 0, 0)),
         ] {
             let inner: &[u8] = b"# no";
             let reader = Flaky {
@@ -200,19 +207,37 @@ fn a_failed_read_is_told(rt: HostRuntime) {
 
 #[test]
 fn a_failed_flush_is_told(rt: HostRuntime) {
-    let (outcome, failures, _text) = simulate_writing(rt.alloc(), b"", 0, ErrorKind::BrokenPipe);
+    let (outcome, failures, _text) = simulate_writing(rt.alloc(), b"", 3, 0, ErrorKind::BrokenPipe);
     assert_eq!(rt; (outcome, failures), (Err(SimError::WriteFault), 1));
-    let (outcome, failures, _text) = simulate_writing(rt.alloc(), b"", 0, ErrorKind::Interrupted);
+    let (outcome, failures, _text) = simulate_writing(
+        rt.alloc(),
+        b"",
+        3,
+        0,
+        ErrorKind::Interrupted,
+    );
     assert_eq!(rt; (outcome, failures), (Ok(()), 0));
 }
 
 /// A line of fifteen bytes takes five calls, so the second line is cut at its fourth byte.
 #[test]
 fn a_failed_write_is_told(rt: HostRuntime) {
-    let (outcome, failures, text) = simulate_writing(rt.alloc(), SCRIPT, 6, ErrorKind::BrokenPipe);
+    let (outcome, failures, text) = simulate_writing(
+        rt.alloc(),
+        SCRIPT,
+        3,
+        6,
+        ErrorKind::BrokenPipe,
+    );
     assert_eq!(rt; (outcome, failures), (Err(SimError::WriteFault), 1));
     assert_eq!(rt; text.as_slice(), &b"0 subscribed 1\n0 p"[..]);
-    let (outcome, failures, text) = simulate_writing(rt.alloc(), SCRIPT, 6, ErrorKind::Interrupted);
+    let (outcome, failures, text) = simulate_writing(
+        rt.alloc(),
+        SCRIPT,
+        3,
+        6,
+        ErrorKind::Interrupted,
+    );
     assert_eq!(rt; (outcome, failures), (Ok(()), 0));
     assert_eq!(rt; text.as_slice(), REPLIES);
 }
@@ -226,4 +251,72 @@ fn a_full_writer_has_failed(rt: HostRuntime) {
     assert_eq!(rt; sink.write(b"de"), Ok(1));
     assert_eq!(rt; sink.write(b"e"), Err(Failed));
     assert_eq!(rt; sink.failures(), 1);
+}
+
+/// Three events, done by a drain.
+const DRAINED: &[u8] =
+    b"sub o/k g/x latest\npub o/k \"a\"\npub o/k \"b\"\npub o/k \"c\"\ndrain\nreport\n";
+
+const DRAINED_REPLIES: &[u8] =
+    b"0 subscribed 1\n0 published 0\n0 published 1\n0 published 2\n0 drained 3\nreport\n0:1 o/k g/x 0.0 3\n  0.0 \"a\"\n  1.0 \"b\"\n  2.0 \"c\"\n";
+
+/// A read of each byte, and one that finds the end.
+#[test]
+fn each_read_that_fails_is_told(rt: HostRuntime) {
+    for fails_at in 0..70 {
+        let reader = Flaky {
+            inner: DRAINED,
+            most: 1,
+            fails_at,
+            kind: ErrorKind::TimedOut,
+        };
+        let wanted = if fails_at < 69 {
+            (Err(SimError::ReadFault), 1, 0)
+        } else {
+            (Ok(()), 0, 124)
+        };
+        assert_eq!(rt;
+            simulate_reading(rt.alloc(), reader),
+            wanted,
+            "at call {fails_at}"
+        );
+    }
+}
+
+/// A write of each byte: where one fails or takes none, those before it were taken.
+#[test]
+fn each_write_that_fails_is_told(rt: HostRuntime) {
+    for kind in [ErrorKind::BrokenPipe, ErrorKind::WriteZero] {
+        for fails_at in 0..124 {
+            let (outcome, failures, text) = simulate_writing(
+                rt.alloc(),
+                DRAINED,
+                1,
+                fails_at,
+                kind,
+            );
+            assert_eq!(rt;
+                (outcome, failures, text.len()),
+                (Err(SimError::WriteFault), 1, fails_at as usize)
+            );
+            assert!(rt; DRAINED_REPLIES.starts_with(&text), "at call {fails_at}");
+        }
+    }
+}
+
+/// The call behind the last byte is the flush, and the one behind it is never made.
+#[test]
+fn all_is_written_a_byte_at_a_time(rt: HostRuntime) {
+    let cases = [(124, Err(SimError::WriteFault), 1), (125, Ok(()), 0)];
+    for (fails_at, outcome, failures) in cases {
+        let (ended, failed, text) = simulate_writing(
+            rt.alloc(),
+            DRAINED,
+            1,
+            fails_at,
+            ErrorKind::BrokenPipe,
+        );
+        assert_eq!(rt; (ended, failed), (outcome, failures));
+        assert_eq!(rt; text.as_slice(), DRAINED_REPLIES);
+    }
 }

@@ -70,6 +70,8 @@ impl Simulator {
                 report_text(alloc, &self.partitions, text)?;
                 Ok(None)
             }
+            // In a script that is simulated these are faults.
+            Parsed::Command(Command::Up { .. } | Command::Down { .. }) => Ok(None),
         }
     }
 

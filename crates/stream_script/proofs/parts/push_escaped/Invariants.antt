@@ -1,6 +1,6 @@
 use Rattle.std.proofs.Common.{◌≡◌, ◌++◌, take}
 use Rattle.stream_script.specs.Pieces.{escaped}
-use Rattle.stream_script.proofs.text.push_escaped.Given as goal
+use Rattle.stream_script.proofs.parts.push_escaped.Given as goal
 
 -- the bytes so far
 abbrev pub invariant-loop-byte : goal.invariant-loop-byte
