@@ -38,7 +38,7 @@ impl Draws {
     }
 
     /// A number below another.
-    pub fn below(&mut self, end: u32) -> u32
+    fn below(&mut self, end: u32) -> u32
         requires { 0 < end }
         ensures { result < end }
     {

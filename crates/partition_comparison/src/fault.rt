@@ -21,7 +21,7 @@ pub enum Fault {
     /// The output couldn't be written.
     #[error("write fault")]
     Write,
-    /// A name that operations are made of is none.
+    /// A name or a payload that operations are made of is none.
     #[error("bad name")]
     Name,
 }
@@ -43,9 +43,9 @@ impl Fault {
 
     fn status(&self) -> u8 {
         match self {
-            Fault::Different(_) | Fault::Name => 1,
+            Fault::Different(_) => 1,
             Fault::CommandLine(_) => 2,
-            Fault::Memory | Fault::Write => 3,
+            Fault::Memory | Fault::Write | Fault::Name => 3,
         }
     }
 }

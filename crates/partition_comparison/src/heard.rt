@@ -38,11 +38,13 @@ pub struct Heard {
     pub grain: GrainId,
     /// A subscription for which there was something to do.
     pub sub: SubName,
-    /// The last turn, and the one before. They may have ended.
+    /// The last turn, which may have ended.
     pub turn: GivenTurn,
+    /// The turn before the last.
     pub turn_before: GivenTurn,
-    /// The last event that could be acknowledged, and the one before. They may have been.
+    /// The last event that could be acknowledged, and may have been.
     pub handled: HandledEvent,
+    /// The event before the last.
     pub handled_before: HandledEvent,
 }
 

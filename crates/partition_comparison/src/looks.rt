@@ -9,8 +9,9 @@ use stream_model::{PlainPartition, Subscription, reference};
 pub struct Looks {
     /// The generation and the silo of the agent.
     pub agent: (u64, u8),
-    /// The tokens at the ends of the cache.
+    /// The token of the first event that the cache keeps.
     pub low: Token,
+    /// The token after the last event that the cache has.
     pub high: Token,
     /// Why it isn't quiet.
     pub pending: Option<Pending>,

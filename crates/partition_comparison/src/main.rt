@@ -26,7 +26,8 @@ use crate::options::{Plan, parse};
 use crate::tally::Tally;
 use std::process::ExitCode;
 
-/// Exit statuses: 0 no difference, 1 a difference, 2 a faulty command line, 3 want of memory or a write fault.
+/// Exit statuses: 0 no difference, 1 a difference, 2 a faulty command line, 3 no answer, since memory was
+/// wanting twice or the output couldn't be written.
 fn main(rt: HostRuntime) -> ExitCode {
     match run(&rt) {
         Ok(()) => ExitCode::SUCCESS,
@@ -44,7 +45,8 @@ fn run(rt: &HostRuntime) -> Result<(), Fault> {
 /// The plan that the command line asks for.
 fn asked(rt: &HostRuntime) -> Result<Plan, Fault> {
     let alloc = rt.alloc();
-    let words = std::env::args(rt)?.collect::<Vec<String>>(alloc)?;
+    let words = std::env::args(rt).map_err(|_| Fault::Memory)?;
+    let words = words.collect::<Vec<String>>(alloc)?;
     Ok(parse(alloc, words.as_slice())?)
 }
 

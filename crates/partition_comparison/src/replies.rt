@@ -123,3 +123,190 @@ fn are_same_looks(one: &Reply, other: &Reply) -> bool {
         _ => true,
     }
 }
+
+#[cfg(test)]
+mod tests {
+    use crate::replies::are_same;
+    use std::process::Abort;
+    use step_core::{Events, Pending, Reply};
+    use stream_ident::{Event, GrainId, Payload, StreamId, SubName, Token};
+
+    const LOW: Token = Token { seq: 1, idx: 0 };
+
+    const HIGH: Token = Token { seq: 1, idx: 1 };
+
+    const SUB: SubName = SubName::Explicit(1);
+
+    const OTHER: SubName = SubName::Explicit(2);
+
+    /// Each of two replies is the same as itself, and they aren't the same.
+    fn differ(rt: &impl Abort, one: Reply, other: Reply) {
+        assert!(rt; are_same(&one, &one));
+        assert!(rt; are_same(&other, &other));
+        assert!(rt; !are_same(&one, &other));
+        assert!(rt; !are_same(&other, &one));
+    }
+
+    fn miss(requested: Token, low: Token, high: Token) -> Reply {
+        Reply::Miss {
+            requested,
+            low,
+            high,
+        }
+    }
+
+    #[test]
+    fn clients_tell_each_field_apart(rt: HostRuntime) {
+        differ(&rt, Reply::QueueFull, Reply::BadBatch);
+        differ(
+            &rt,
+            Reply::Published { seq: 1 },
+            Reply::Published { seq: 2 },
+        );
+        differ(
+            &rt,
+            Reply::Subscribed { number: 1 },
+            Reply::Subscribed { number: 2 },
+        );
+        differ(&rt, miss(LOW, LOW, LOW), miss(HIGH, LOW, LOW));
+        differ(&rt, miss(LOW, LOW, LOW), miss(LOW, HIGH, LOW));
+        differ(&rt, miss(LOW, LOW, LOW), miss(LOW, LOW, HIGH));
+        differ(
+            &rt,
+            Reply::Unsubscribed { handled: 1 },
+            Reply::Unsubscribed { handled: 2 },
+        );
+        differ(
+            &rt,
+            Reply::RuleAdded { from: 1 },
+            Reply::RuleAdded { from: 2 },
+        );
+    }
+
+    fn pulled(count: usize, low: Token, high: Token) -> Reply {
+        Reply::Pulled { count, low, high }
+    }
+
+    fn moved(generation: u64, low: Token) -> Reply {
+        Reply::Moved { generation, low }
+    }
+
+    #[test]
+    fn agents_tell_each_field_apart(rt: HostRuntime) {
+        differ(&rt, pulled(1, LOW, LOW), pulled(2, LOW, LOW));
+        differ(&rt, pulled(1, LOW, LOW), pulled(1, HIGH, LOW));
+        differ(&rt, pulled(1, LOW, LOW), pulled(1, LOW, HIGH));
+        differ(
+            &rt,
+            Reply::Pressed { by: SUB },
+            Reply::Pressed { by: OTHER },
+        );
+        differ(
+            &rt,
+            Reply::StaleAgent { now: 1 },
+            Reply::StaleAgent { now: 2 },
+        );
+        differ(
+            &rt,
+            Reply::Delivered { token: LOW },
+            Reply::Delivered { token: HIGH },
+        );
+        differ(&rt, Reply::Purged { low: LOW }, Reply::Purged { low: HIGH });
+        differ(&rt, moved(1, LOW), moved(2, LOW));
+        differ(&rt, moved(1, LOW), moved(1, HIGH));
+    }
+
+    /// A turn of one event.
+    fn turn(rt: &impl Abort, sub: SubName, numbers: [u64; 3], token: Token) -> Reply {
+        let event = Event {
+            stream: StreamId::new(b"o", b"a").expect(rt, "a stream"),
+            token,
+            payload: Payload::new(b"x").expect(rt, "a payload"),
+        };
+        let [activation, turn, note] = numbers;
+        Reply::Turn {
+            sub,
+            activation,
+            turn,
+            events: Events::of(event),
+            note,
+        }
+    }
+
+    #[test]
+    fn turns_are_told_apart(rt: HostRuntime) {
+        let numbers = [1, 1, 1];
+        differ(
+            &rt,
+            turn(&rt, SUB, numbers, LOW),
+            turn(&rt, OTHER, numbers, LOW),
+        );
+        differ(
+            &rt,
+            turn(&rt, SUB, numbers, LOW),
+            turn(&rt, SUB, [2, 1, 1], LOW),
+        );
+        differ(
+            &rt,
+            turn(&rt, SUB, numbers, LOW),
+            turn(&rt, SUB, [1, 2, 1], LOW),
+        );
+        differ(
+            &rt,
+            turn(&rt, SUB, numbers, LOW),
+            turn(&rt, SUB, [1, 1, 2], LOW),
+        );
+        differ(
+            &rt,
+            turn(&rt, SUB, numbers, LOW),
+            turn(&rt, SUB, numbers, HIGH),
+        );
+    }
+
+    fn dropped(sub: SubName, token: Token) -> Reply {
+        Reply::Dropped { sub, token }
+    }
+
+    fn committed(sub: SubName, token: Token) -> Reply {
+        Reply::Committed { sub, token }
+    }
+
+    #[test]
+    fn workers_tell_each_field_apart(rt: HostRuntime) {
+        differ(&rt, dropped(SUB, LOW), dropped(OTHER, LOW));
+        differ(&rt, dropped(SUB, LOW), dropped(SUB, HIGH));
+        differ(&rt, committed(SUB, LOW), committed(OTHER, LOW));
+        differ(&rt, committed(SUB, LOW), committed(SUB, HIGH));
+        differ(
+            &rt,
+            Reply::Deactivated { lost: 1 },
+            Reply::Deactivated { lost: 2 },
+        );
+    }
+
+    fn due(sub: SubName, ack: Option<Token>) -> Reply {
+        Reply::DueSub { sub, ack }
+    }
+
+    fn grain(rt: &impl Abort, key: &[u8]) -> GrainId {
+        GrainId::new(b"g", key).expect(rt, "a grain")
+    }
+
+    #[test]
+    fn looks_are_told_apart(rt: HostRuntime) {
+        differ(
+            &rt,
+            Reply::Next(grain(&rt, b"a")),
+            Reply::Next(grain(&rt, b"b")),
+        );
+        differ(&rt, due(SUB, None), due(OTHER, None));
+        differ(&rt, due(SUB, None), due(SUB, Some(LOW)));
+        differ(&rt, due(SUB, Some(LOW)), due(SUB, Some(HIGH)));
+        let deliverable = Reply::NotQuiet(Pending::Deliverable(SUB));
+        differ(
+            &rt,
+            deliverable,
+            Reply::NotQuiet(Pending::Deliverable(OTHER)),
+        );
+    }
+}
