@@ -89,3 +89,20 @@ fn names_stand_in_order(rt: HostRuntime) -> Result<(), Fail> {
     assert!(rt; subs[1].name == SubName::Implicit { kind, stream });
     Ok(())
 }
+
+/// No two of the numbers are equal.
+#[test]
+fn a_partition_is_printed_short(rt: HostRuntime) {
+    let alloc = rt.alloc();
+    let mut partition = partition(&rt, alloc);
+    for _ in 0..3 {
+        let _ = step(&rt, alloc, &mut partition, subscription(&rt));
+    }
+    for _ in 0..2 {
+        let _ = step(&rt, alloc, &mut partition, publication(&rt, alloc));
+    }
+    let _ = step(&rt, alloc, &mut partition, Op::Move { silo: 7 });
+    let text = format!(in alloc; "{partition:?}").expect(&rt, "memory");
+    let expected = "Partition { generation: 1, silo: 7, events: 2, subs: 3, grains: 0, .. }";
+    assert!(rt; text.as_str() == expected);
+}
