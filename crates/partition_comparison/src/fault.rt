@@ -9,9 +9,9 @@ use thiserror::Error;
 /// What ends the program.
 #[derive(Debug, Drop, Error)]
 pub enum Fault {
-    /// The command line is faulty, or asks for help.
-    #[error("{0}")]
-    CommandLine(clap::Error),
+    /// The command line is faulty.
+    #[error("partition_comparison [RUNS [ROUNDS [SEED]]], each of them a number")]
+    CommandLine,
     /// The partition isn't what it has to be.
     #[error("{0}")]
     Different(Difference),
@@ -27,35 +27,18 @@ pub enum Fault {
 }
 
 impl Fault {
-    /// Tells the fault on standard error, or help on standard output, and gives the exit status.
-    pub fn report<R: Print + Eprint>(&self, rt: &R) -> ExitCode {
-        match self {
-            Fault::CommandLine(error) => {
-                let _ = error.print(rt);
-                ExitCode::from(if error.exit_code() == 0 { 0 } else { 2 })
-            }
-            _ => {
-                let _ = eprintln!(rt; "{self}");
-                ExitCode::from(self.status())
-            }
-        }
+    /// Tells the fault on standard error, and gives the exit status.
+    pub fn report<R: Eprint>(&self, rt: &R) -> ExitCode {
+        let _ = eprintln!(rt; "{self}");
+        ExitCode::from(self.status())
     }
 
     fn status(&self) -> u8 {
         match self {
             Fault::Different(_) => 1,
-            Fault::CommandLine(_) => 2,
+            Fault::CommandLine => 2,
             Fault::Memory | Fault::Write | Fault::Name => 3,
         }
-    }
-}
-
-impl From<clap::Error> for Fault {
-    fn from(error: clap::Error) -> Fault {
-        if error.kind() == clap::error::ErrorKind::OutOfMemory {
-            return Fault::Memory;
-        }
-        Fault::CommandLine(error)
     }
 }
 

@@ -26,14 +26,14 @@ const DRAINS: usize = 5;
 pub fn compare(alloc: Global, plan: Plan) -> Result<Tally, Fault> {
     let mut tally = Tally::new();
     for run in 0..plan.runs {
-        let seed = plan.seed.wrapping_add(u64::from(run));
+        let seed = plan.seed.wrapping_add(run);
         compare_history(alloc, seed, plan.rounds, &mut tally)?;
     }
     Ok(tally)
 }
 
 /// Compares the history of a seed.
-fn compare_history(alloc: Global, seed: u64, rounds: u32, tally: &mut Tally) -> Result<(), Fault> {
+fn compare_history(alloc: Global, seed: u64, rounds: u64, tally: &mut Tally) -> Result<(), Fault> {
     let names = Names::new()?;
     let mut history = History {
         alloc,
@@ -58,7 +58,7 @@ struct History {
 
 impl History {
     /// A round: one operation after another, or in each fourth round all of them at once.
-    fn go_on(&mut self, round: u32, tally: &mut Tally) -> Result<(), Fault> {
+    fn go_on(&mut self, round: u64, tally: &mut Tally) -> Result<(), Fault> {
         if round % 4 == 3 {
             return self.run_round(idle(round), tally);
         }
@@ -131,7 +131,7 @@ impl History {
 }
 
 /// Who is idle in a round.
-fn idle(round: u32) -> Idle {
+fn idle(round: u64) -> Idle {
     match round % 64 {
         0..24 => Idle::Nobody,
         24..36 => Idle::Workers,

@@ -13,7 +13,6 @@ mod kinds;
 mod looks;
 mod names;
 mod options;
-mod replies;
 mod side_by_side;
 mod stepping;
 mod tally;
@@ -46,8 +45,8 @@ fn run(rt: &HostRuntime) -> Result<(), Fault> {
 fn asked(rt: &HostRuntime) -> Result<Plan, Fault> {
     let alloc = rt.alloc();
     let words = std::env::args(rt).map_err(|_| Fault::Memory)?;
-    let words = words.collect::<Vec<String>>(alloc)?;
-    Ok(parse(alloc, words.as_slice())?)
+    let words = words.skip(1).collect::<Vec<String>>(alloc)?;
+    parse(words.as_slice())
 }
 
 /// Prints how often each reply came, and how many there were in all.

@@ -1,56 +1,37 @@
 //! The command line.
-use clap::{Arg, ArgMatches, Command, value_parser};
-use std::alloc::{AllocError, Global};
+use crate::fault::Fault;
+use stream_ident::parse_number;
 
 /// Which histories are made.
 #[derive(Clone, Copy, Debug, PartialEq, Eq)]
 pub struct Plan {
     /// How many histories.
-    pub runs: u32,
+    pub runs: u64,
     /// How many rounds of eight operations each has.
-    pub rounds: u32,
+    pub rounds: u64,
     /// The seed of the first: each has one more than that before.
     pub seed: u64,
 }
 
-/// The plan that the words ask for.
-pub fn parse(alloc: Global, words: &[String]) -> Result<Plan, clap::Error> {
-    let matches = command(alloc)?.try_get_matches_from(words)?;
+/// The plan that the words ask for: `RUNS`, `ROUNDS` and `SEED`, of which the last may be left out.
+///
+/// # Errors
+/// More words, and one that is no number.
+pub fn parse(words: &[String]) -> Result<Plan, Fault> {
+    if words.len() > 3 {
+        return Err(Fault::CommandLine);
+    }
     Ok(Plan {
-        runs: number(&matches, "runs"),
-        rounds: number(&matches, "rounds"),
-        seed: u64::from(number(&matches, "seed")),
+        runs: number(words.first(), 300)?,
+        rounds: number(words.get(1), 128)?,
+        seed: number(words.get(2), 0)?,
     })
 }
 
-/// The command.
-fn command<'a>(alloc: Global) -> Result<Command<'a>, AllocError> {
-    let runs = Arg::new(alloc, "runs")
-        .long("runs")
-        .value_name("N")
-        .help("How many histories are made, each from a seed of its own")
-        .value_parser(value_parser!(u32))
-        .default_value("300");
-    let rounds = Arg::new(alloc, "rounds")
-        .long("rounds")
-        .value_name("N")
-        .help("How many rounds of eight operations each history has")
-        .value_parser(value_parser!(u32))
-        .default_value("128");
-    let seed = Arg::new(alloc, "seed")
-        .long("seed")
-        .value_name("N")
-        .help("The seed of the first history")
-        .value_parser(value_parser!(u32))
-        .default_value("0");
-    Command::new(alloc, "partition_comparison")
-        .about("Compares the partition with the plain program of its definitions")
-        .arg(runs)?
-        .arg(rounds)?
-        .arg(seed)
-}
-
-/// A number of the matches.
-fn number(matches: &ArgMatches<'_>, id: &str) -> u32 {
-    matches.get_one::<u32>(id).unwrap_or(0)
+/// The number that a word says, or this one where there is no word.
+fn number(word: Option<&String>, otherwise: u64) -> Result<u64, Fault> {
+    match word {
+        Some(word) => parse_number(word.as_bytes()).ok_or(Fault::CommandLine),
+        None => Ok(otherwise),
+    }
 }

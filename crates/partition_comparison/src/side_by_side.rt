@@ -7,7 +7,6 @@ use crate::difference::Place;
 use crate::draining::{Drained, drain};
 use crate::fault::Fault;
 use crate::looks::{Looks, all_owed};
-use crate::replies::are_same;
 use crate::stepping::{compare_looks, step_partition, step_reference};
 use crate::tally::Tally;
 use std::alloc::{AllocError, Global};
@@ -99,10 +98,10 @@ impl SideBySide {
     fn follow(&mut self, op: &Op, reply: &Reply, tally: &mut Tally) -> Result<(), Fault> {
         let twins = step_partition(self.place, &mut self.twin, &self.reference, op, tally)?;
         let expected = step_reference(self.place.alloc, &mut self.reference, op)?;
-        if !are_same(reply, &expected) {
+        if *reply != expected {
             return Err(self.place.difference(reply, &expected));
         }
-        if !are_same(&twins, &expected) {
+        if twins != expected {
             return Err(self.place.difference(&twins, &expected));
         }
         self.place.operation = self.place.operation.saturating_add(1);

@@ -1,5 +1,6 @@
 //! Short rows that take no memory.
 ghost use Rattle.std.specs.Prelude.{◌≡◌, ◌<◌, ◌≤◌, [], ◌∷◌, ◌++◌, length};
+ghost use Rattle.std.specs.Cmp.Lexicographic.{pointwise, lists_per, lists_equiv};
 
 use std::marker::Model;
 
@@ -72,4 +73,18 @@ impl<T: Copy> Row<T> {
             places: self.places,
         }
     }
+}
+
+impl<T: Copy + PartialEq> PartialEq for Row<T> {
+    ghost eq = { λ one other. pointwise T.eq one other };
+
+    ghost laws = { lists_per T.laws };
+
+    fn eq(&self, other: &Row<T>) -> bool {
+        self.as_slice() == other.as_slice()
+    }
+}
+
+impl<T: Copy + Eq> Eq for Row<T> {
+    ghost laws = { lists_equiv T.Eq.laws };
 }

@@ -1,6 +1,6 @@
 use crate::{
-    BadName, BadPayload, BadToken, Batch, Event, GrainId, Name, Payload, StreamId, SubName, Token,
-    WrongByte, parse_number, split_once,
+    BadName, BadPayload, BadToken, Batch, Event, GrainId, Name, Payload, Row, StreamId, SubName,
+    Token, WrongByte, parse_number, split_once,
 };
 use std::collections::HashMap;
 use std::test::Fail;
@@ -216,4 +216,18 @@ fn values_and_errors_as_texts(rt: HostRuntime) -> Result<(), Fail> {
         "bad name: field 1 is wrong at byte 3; no name: wrong at byte 0; no payload: wrong at byte 2; bad token"
     );
     Ok(())
+}
+
+#[test]
+fn rows_are_equal_by_their_values(rt: HostRuntime) {
+    let mut row = Row::of(1u8);
+    let mut same = Row::of(1);
+    let mut other = Row::of(2);
+    assert!(rt; row == same && row != other);
+    row.push(2);
+    assert!(rt; row != same && row != other);
+    same.push(2);
+    other.push(2);
+    // The places behind the values differ.
+    assert!(rt; row == same && row != other && row == row.copy());
 }

@@ -15,7 +15,7 @@ on-error (Err e) holds = holds
 pub performs-along : (old new : PlainPartition) (r : Result Reply AllocError) (said wanted : PlainPartition × Reply) → said ≡ wanted → Performs old new r said → Performs old new r wanted
 performs-along old new r said wanted same performs = subst (Performs old new r) same performs
 
-pub memory-along : (r : Result Reply AllocError) (said wanted : PlainPartition × Reply) → said ≡ wanted → OnErr r (takes_memory said.1 ≡ true) → OnErr r (takes_memory wanted.1 ≡ true)
+pub memory-along : {T E : Type 0} (r : Result T E) (said wanted : PlainPartition × Reply) → said ≡ wanted → OnErr r (takes_memory said.1 ≡ true) → OnErr r (takes_memory wanted.1 ≡ true)
 memory-along r said wanted same memory =
     let P : PlainPartition × Reply → Type 0 = λ out. OnErr r (takes_memory out.1 ≡ true) in subst P same memory
 

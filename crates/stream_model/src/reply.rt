@@ -20,7 +20,7 @@ pub enum Pending {
 }
 
 /// The reply to an operation. A refusal changes nothing, save where it says so.
-#[derive(Debug, Drop)]
+#[derive(Debug, Drop, PartialEq, Eq)]
 pub enum Reply {
     /// The batch was accepted.
     Published {
