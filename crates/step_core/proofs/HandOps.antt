@@ -473,11 +473,11 @@ pub on-error : {T E : Type 0} {P : Type 0} (r : Result T E) → P → OnErr r P
 on-error (Ok told) is = tt
 on-error (Err e) is = is
 
-pub handed-memory : {E : Type 0} (parts : Parts) (d : Delivery) (j : ℕ) (r : Result Reply E) → Stands parts d.sub → IsNext parts d → place_of same_grain (record_of parts d.sub).grain parts.grains ≡ Some j
+pub handed-memory : {T E : Type 0} (parts : Parts) (d : Delivery) (j : ℕ) (r : Result T E) → Stands parts d.sub → IsNext parts d → place_of same_grain (record_of parts d.sub).grain parts.grains ≡ Some j
     → nat_le 16 (length (activation j parts.grains).mailbox) ≡ false → HasRise parts (activation j parts.grains).active → OnErr r (takes_memory (ToDo parts d).1 ≡ true)
 handed-memory parts d j r stands next found room rise = on-error r (ap (λ (told : Answer). takes_memory told.1) (handed-done parts d j stands next found room rise))
 
-pub first-memory : {E : Type 0} (parts : Parts) (d : Delivery) (r : Result Reply E) → Stands parts d.sub → IsNext parts d → place_of same_grain (record_of parts d.sub).grain parts.grains ≡ None → is_spent (plain_of parts) ≡ false
+pub first-memory : {T E : Type 0} (parts : Parts) (d : Delivery) (r : Result T E) → Stands parts d.sub → IsNext parts d → place_of same_grain (record_of parts d.sub).grain parts.grains ≡ None → is_spent (plain_of parts) ≡ false
     → OnErr r (takes_memory (ToDo parts d).1 ≡ true)
 first-memory parts d r stands next none left = on-error r (ap (λ (told : Answer). takes_memory told.1) (first-done parts d stands next none left))
 

@@ -215,7 +215,7 @@ take-assembled parts new t drops count assembled lengths can makes is =
     subst IsAssembled (sym (is ∙ ap (λ (t : PlainTable). filled (with_subs parts t) drops count) makes.0))
     (filled-assembled (with_subs parts (with_made parts.subs (ahead parts count) (high parts.agent.cache))) drops count (made-assembled parts (ahead parts count) (high parts.agent.cache) lengths assembled) can)
 
-pub take-memory : {E : Type 0} (parts : Parts) (drops count : ℕ) (r : Result Reply E) → IsAssembled parts → length parts.subs.registry.names ≡ length parts.subs.states → are_too_many parts.subs (ahead parts count) ≡ false
+pub take-memory : {T E : Type 0} (parts : Parts) (drops count : ℕ) (r : Result T E) → IsAssembled parts → length parts.subs.registry.names ≡ length parts.subs.states → are_too_many parts.subs (ahead parts count) ≡ false
     → OnErr r (takes_memory (taken (plain_of parts) drops count).1 ≡ true)
 unfolding reply_after
 take-memory parts drops count r assembled lengths few = on-error r (ap (λ (told : Answer). takes_memory told.1) (taken-few parts drops count assembled lengths few))

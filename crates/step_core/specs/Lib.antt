@@ -7,6 +7,7 @@ pub mod Numbers
 pub mod PlainOf
 pub mod Reads
 pub mod Records
+pub mod Replied
 pub mod Replies
 pub mod Run
 pub mod Serving

@@ -10,14 +10,16 @@ ghost use Rattle.step_core.specs.Assembly.{Agrees, IsAssembled};
 ghost use Rattle.step_core.specs.Handing.{sent, IsNext};
 ghost use Rattle.step_core.specs.PlainOf.{plain_of};
 ghost use Rattle.step_core.specs.Records.{record_of};
+ghost use Rattle.step_core.specs.Replied.{replied, reply_of};
+ghost use Rattle.stream_model.specs.declared.reply.Reply.TheVariants.{Delivered};
 
 use crate::parts::Parts;
 use crate::reading::is_spent;
+use crate::told::Told;
 use consumer_grain::{Delivery, Offered};
 use pulling_agent::{Sought, StaleAgent};
 use std::alloc::{AllocError, Global};
 use stream_ident::{GrainId, SubName};
-use stream_model::Reply;
 
 /// The agent hands a subscription its next event.
 pub(crate) fn deliver(
@@ -25,19 +27,19 @@ pub(crate) fn deliver(
     alloc: Global,
     generation: u64,
     sub: SubName,
-) -> Result<Reply, AllocError>
+) -> Result<Told, AllocError>
     requires { Agrees parts.old }
     ensures assembled { IsAssembled parts.new }
-    ensures performs { Performs (plain_of parts.old) (plain_of parts.new) result (deliver (plain_of parts.old) generation sub) }
+    ensures performs { Performs (plain_of parts.old) (plain_of parts.new) (replied result) (deliver (plain_of parts.old) generation sub) }
     ensures memory { OnErr result (takes_memory (deliver (plain_of parts.old) generation sub).1 ≡ true) }
 {
     if let Err(StaleAgent { now }) = parts.agent.check(generation) {
-        return Ok(Reply::StaleAgent { now });
+        return Ok(Told::StaleAgent { now });
     }
     // What this promises of the table holds below.
     let _names = parts.subs.len();
     let Some(number) = parts.subs.find(&sub) else {
-        return Ok(Reply::NoSuch);
+        return Ok(Told::NoSuch);
     };
     let outstanding = is_outstanding(parts, number);
     match parts
@@ -51,9 +53,9 @@ pub(crate) fn deliver(
             };
             hand_over(parts, alloc, delivery)
         }
-        Ok(Sought::Nothing) => Ok(Reply::Nothing),
-        Ok(Sought::Closed) => Ok(Reply::Closed),
-        Err(StaleAgent { now }) => Ok(Reply::StaleAgent { now }),
+        Ok(Sought::Nothing) => Ok(Told::Nothing),
+        Ok(Sought::Closed) => Ok(Told::Closed),
+        Err(StaleAgent { now }) => Ok(Told::StaleAgent { now }),
     }
 }
 
@@ -78,11 +80,11 @@ fn is_outstanding(parts: &Parts, number: usize) -> bool
 ///
 /// # Errors
 /// Memory, and then nothing has changed. It comes only where the event would be handed over.
-fn hand_over(parts: &mut Parts, alloc: Global, delivery: Delivery) -> Result<Reply, AllocError>
+fn hand_over(parts: &mut Parts, alloc: Global, delivery: Delivery) -> Result<Told, AllocError>
     requires agrees { Agrees parts.old }
     requires next { IsNext parts.old delivery }
     ensures assembled { IsAssembled parts.new }
-    ensures performs { Performs (plain_of parts.old) (plain_of parts.new) result (deliver (plain_of parts.old) parts.old.agent.generation (name_at parts.old.subs delivery.sub)) }
+    ensures performs { Performs (plain_of parts.old) (plain_of parts.new) (replied result) (deliver (plain_of parts.old) parts.old.agent.generation (name_at parts.old.subs delivery.sub)) }
     ensures memory { OnErr result (takes_memory (deliver (plain_of parts.old) parts.old.agent.generation (name_at parts.old.subs delivery.sub)).1 ≡ true) }
 {
     let grain = parts.subs.registration(delivery.sub).grain;
@@ -101,22 +103,22 @@ fn hand_to(
     alloc: Global,
     grain: usize,
     delivery: Delivery,
-) -> Result<Reply, AllocError>
+) -> Result<Told, AllocError>
     requires agrees { Agrees parts.old }
     requires next { IsNext parts.old delivery }
     requires grain { number_of parts.old.grains (record_of parts.old delivery.sub).grain ≡ Some grain }
     ensures assembled { IsAssembled parts.new }
-    ensures performs { Performs (plain_of parts.old) (plain_of parts.new) result (deliver (plain_of parts.old) parts.old.agent.generation (name_at parts.old.subs delivery.sub)) }
+    ensures performs { Performs (plain_of parts.old) (plain_of parts.new) (replied result) (deliver (plain_of parts.old) parts.old.agent.generation (name_at parts.old.subs delivery.sub)) }
     ensures memory { OnErr result (takes_memory (deliver (plain_of parts.old) parts.old.agent.generation (name_at parts.old.subs delivery.sub)).1 ≡ true) }
 {
     prove!(delivery.sub < parts.subs.len());
     let wakes = !parts.grains.at(grain).is_active();
     // Nothing waits for a grain that isn't active, so that its mailbox isn't full.
     if wakes && is_spent(parts) {
-        return Ok(Reply::Spent);
+        return Ok(Told::Spent);
     }
     match parts.grains.offer(alloc, grain, delivery)? {
-        Offered::MailboxFull => Ok(Reply::MailboxFull),
+        Offered::MailboxFull => Ok(Told::MailboxFull),
         Offered::Delivered => Ok(sent(parts, delivery, wakes)),
     }
 }
@@ -130,18 +132,18 @@ fn hand_first(
     alloc: Global,
     grain: GrainId,
     delivery: Delivery,
-) -> Result<Reply, AllocError>
+) -> Result<Told, AllocError>
     requires agrees { Agrees parts.old }
     requires next { IsNext parts.old delivery }
     requires grain { grain ≡ (record_of parts.old delivery.sub).grain }
     requires first { number_of parts.old.grains grain ≡ None }
     ensures assembled { IsAssembled parts.new }
-    ensures performs { Performs (plain_of parts.old) (plain_of parts.new) result (deliver (plain_of parts.old) parts.old.agent.generation (name_at parts.old.subs delivery.sub)) }
+    ensures performs { Performs (plain_of parts.old) (plain_of parts.new) (replied result) (deliver (plain_of parts.old) parts.old.agent.generation (name_at parts.old.subs delivery.sub)) }
     ensures memory { OnErr result (takes_memory (deliver (plain_of parts.old) parts.old.agent.generation (name_at parts.old.subs delivery.sub)).1 ≡ true) }
 {
     prove!(delivery.sub < parts.subs.len());
     if is_spent(parts) {
-        return Ok(Reply::Spent);
+        return Ok(Told::Spent);
     }
     parts.grains.add(alloc, grain, delivery)?;
     Ok(sent(parts, delivery, true))
@@ -149,17 +151,17 @@ fn hand_first(
 
 /// The subscription of an event that waits for its grain now goes on past it. Where the grain wakes, that
 /// is a rise.
-fn sent(parts: &mut Parts, delivery: Delivery, wakes: bool) -> Reply
+fn sent(parts: &mut Parts, delivery: Delivery, wakes: bool) -> Told
     requires number { delivery.sub < length parts.old.subs.registry.names }
     requires position { delivery.position < length parts.old.queue.events }
     requires room { delivery.position + 3 < 2 ^ 64 }
     requires rises { parts.old.rises + 1 < 2 ^ 64 }
     ensures parts { parts.new ≡ sent parts.old delivery wakes }
-    ensures reply { result ≡ Reply.Delivered (token_at (plain_of parts.old) delivery.position) }
+    ensures reply { reply_of result ≡ Delivered (token_at (plain_of parts.old) delivery.position) }
 {
     parts.rises += u64::from(wakes);
     parts.subs.deliver(delivery.sub, delivery.position);
-    Reply::Delivered {
+    Told::Delivered {
         token: parts.queue.token_at(delivery.position),
     }
 }

@@ -1,15 +1,19 @@
 //! A drain of a partition: operations, one after another, until nothing is left to do.
-ghost use Rattle.std.specs.Prelude.{◌≡◌};
+ghost use Rattle.std.specs.Prelude.{◌≡◌, List};
+ghost use Rattle.stream_ident.specs.declared.event.Event.{Event};
 ghost use Rattle.stream_model.specs.declared.op.Op.TheVariants.{Commit, Deliver, Pull};
 ghost use Rattle.stream_model.specs.Draining.{acknowledge, after_begin, after_commit, ask, deliver_once_more, drain_all, drain_round, empty_mailboxes, last_handled, next_note, serve, serve_each, take_turn, DrainsTo};
 ghost use Rattle.stream_model.specs.Positions.{sub_at};
 ghost use Rattle.step_core.specs.declared.draining.Stop.TheVariants.{Memory};
 ghost use Rattle.step_core.specs.DrainPhases.{Asks, Follows, deliver_told, deliver_up_to, is_acknowledged, is_committed, is_nothing, pull_told};
+ghost use Rattle.step_core.specs.Replied.{reply_with};
 
+use crate::outcome::Outcome;
 use crate::partition::Partition;
+use crate::told::Told;
 use std::alloc::{AllocError, Global};
 use stream_ident::{GrainId, SubName};
-use stream_model::{DrainEnd, Op, Reply};
+use stream_model::{DrainEnd, Op};
 
 /// The most events of a pull.
 const PULL_MAX: u32 = 32;
@@ -23,7 +27,7 @@ enum Stop {
     TooMany,
     /// A turn or an activation would have been one rise more than the limit.
     Spent,
-    /// A reply was another than those that are looked for, or the rounds didn't suffice.
+    /// An operation told something else than those that are looked for, or the rounds didn't suffice.
     Astray,
 }
 
@@ -88,18 +92,18 @@ fn pull_next(partition: &mut Partition, alloc: Global) -> Result<bool, Stop>
 {
     let generation = partition.generation();
     let max = PULL_MAX;
-    let reply = partition.step(alloc, Op::Pull { generation, max })?;
-    is_pulled(&reply)
+    let outcome = partition.advance(alloc, Op::Pull { generation, max })?;
+    is_pulled(&outcome)
 }
 
-/// Whether a reply says that events went into the cache, or that the queue had none.
-fn is_pulled(reply: &Reply) -> Result<bool, Stop>
-    ensures { result ≡ pull_told reply.now }
+/// Whether an operation told that events went into the cache, or that the queue had none.
+fn is_pulled(outcome: &Outcome) -> Result<bool, Stop>
+    ensures { (log : List Event) → result ≡ pull_told (reply_with log outcome.now) }
 {
-    match reply {
-        Reply::Pulled { .. } => Ok(true),
-        Reply::Dry => Ok(false),
-        Reply::TooMany => Err(Stop::TooMany),
+    match outcome {
+        Outcome::Told(Told::Pulled { .. }) => Ok(true),
+        Outcome::Told(Told::Dry) => Ok(false),
+        Outcome::Told(Told::TooMany) => Err(Stop::TooMany),
         _ => Err(Stop::Astray),
     }
 }
@@ -181,18 +185,18 @@ fn deliver_next(partition: &mut Partition, alloc: Global, sub: &SubName) -> Resu
 {
     let generation = partition.generation();
     let sub = *sub;
-    let reply = partition.step(alloc, Op::Deliver { generation, sub })?;
-    is_delivered(&reply)
+    let outcome = partition.advance(alloc, Op::Deliver { generation, sub })?;
+    is_delivered(&outcome)
 }
 
-/// Whether a reply says that an event went into the mailbox, or that there was none.
-fn is_delivered(reply: &Reply) -> Result<bool, Stop>
-    ensures { result ≡ deliver_told reply.now }
+/// Whether an operation told that an event went into the mailbox, or that there was none.
+fn is_delivered(outcome: &Outcome) -> Result<bool, Stop>
+    ensures { (log : List Event) → result ≡ deliver_told (reply_with log outcome.now) }
 {
-    match reply {
-        Reply::Delivered { .. } => Ok(true),
-        Reply::Nothing => Ok(false),
-        Reply::Spent => Err(Stop::Spent),
+    match outcome {
+        Outcome::Told(Told::Delivered { .. }) => Ok(true),
+        Outcome::Told(Told::Nothing) => Ok(false),
+        Outcome::Told(Told::Spent) => Err(Stop::Spent),
         _ => Err(Stop::Astray),
     }
 }
@@ -205,31 +209,26 @@ fn take_turn(partition: &mut Partition, alloc: Global, grain: &GrainId) -> Resul
         grain: *grain,
         max: 1,
     };
-    let reply = partition.step(alloc, begin)?;
-    follow_begin(partition, alloc, grain, &reply)
+    let outcome = partition.advance(alloc, begin)?;
+    follow_begin(partition, alloc, grain, &outcome)
 }
 
-/// Goes on after the reply to a Begin.
+/// Goes on after what a Begin came to.
 fn follow_begin(
     partition: &mut Partition,
     alloc: Global,
     grain: &GrainId,
-    reply: &Reply,
+    outcome: &Outcome,
 ) -> Result<(), Stop>
-    ensures { Follows partition.old partition.new result (after_begin grain.now partition.old reply.now) }
+    ensures { Follows partition.old partition.new result (after_begin grain.now partition.old (reply_with partition.old.log outcome.now)) }
 {
-    match reply {
-        Reply::Turn {
-            activation,
-            turn,
-            note,
-            ..
-        } => {
-            let note = next_note(*note);
-            end_turn(partition, alloc, grain, *activation, *turn, note)
+    match outcome {
+        Outcome::Turn(begun) => {
+            let note = next_note(begun.note);
+            end_turn(partition, alloc, grain, begun.activation, begun.turn, note)
         }
-        Reply::Dropped { .. } => Ok(()),
-        Reply::Spent => Err(Stop::Spent),
+        Outcome::Told(Told::Dropped { .. }) => Ok(()),
+        Outcome::Told(Told::Spent) => Err(Stop::Spent),
         _ => Err(Stop::Astray),
     }
 }
@@ -258,18 +257,18 @@ fn end_turn(
         turn,
         note,
     };
-    let reply = partition.step(alloc, commit)?;
-    if !is_committed(&reply) {
+    let outcome = partition.advance(alloc, commit)?;
+    if !is_committed(&outcome) {
         return Err(Stop::Astray);
     }
     Ok(())
 }
 
-/// Whether a reply says that the events of a turn are handled.
-fn is_committed(reply: &Reply) -> bool
-    ensures { result ≡ is_committed reply.now }
+/// Whether an operation told that the events of a turn are handled.
+fn is_committed(outcome: &Outcome) -> bool
+    ensures { (log : List Event) → result ≡ is_committed (reply_with log outcome.now) }
 {
-    matches!(reply, Reply::Committed { .. })
+    matches!(outcome, Outcome::Told(Told::Committed { .. }))
 }
 
 /// Acknowledges the last event that a subscription has handled, where there is one.
@@ -285,18 +284,18 @@ fn acknowledge(partition: &mut Partition, alloc: Global, sub: &SubName) -> Resul
         sub: *sub,
         token,
     };
-    let reply = partition.step(alloc, ack)?;
-    if !is_acknowledged(&reply) {
+    let outcome = partition.advance(alloc, ack)?;
+    if !is_acknowledged(&outcome) {
         return Err(Stop::Astray);
     }
     Ok(())
 }
 
-/// Whether a reply says that the resume stands past an event.
-fn is_acknowledged(reply: &Reply) -> bool
-    ensures { result ≡ is_acknowledged reply.now }
+/// Whether an operation told that the resume stands past an event.
+fn is_acknowledged(outcome: &Outcome) -> bool
+    ensures { (log : List Event) → result ≡ is_acknowledged (reply_with log outcome.now) }
 {
-    matches!(reply, Reply::Acked)
+    matches!(outcome, Outcome::Told(Told::Acked))
 }
 
 /// Delivers to a subscription for which the cache has nothing more, so that its resume follows.
@@ -305,16 +304,16 @@ fn deliver_once_more(partition: &mut Partition, alloc: Global, sub: &SubName) ->
 {
     let generation = partition.generation();
     let sub = *sub;
-    let reply = partition.step(alloc, Op::Deliver { generation, sub })?;
-    if !is_nothing(&reply) {
+    let outcome = partition.advance(alloc, Op::Deliver { generation, sub })?;
+    if !is_nothing(&outcome) {
         return Err(Stop::Astray);
     }
     Ok(())
 }
 
-/// Whether a reply says that the cache has no further event.
-fn is_nothing(reply: &Reply) -> bool
-    ensures { result ≡ is_nothing reply.now }
+/// Whether an operation told that the cache has no further event.
+fn is_nothing(outcome: &Outcome) -> bool
+    ensures { (log : List Event) → result ≡ is_nothing (reply_with log outcome.now) }
 {
-    matches!(reply, Reply::Nothing)
+    matches!(outcome, Outcome::Told(Told::Nothing))
 }

@@ -15,6 +15,7 @@ mod draining;
 mod limit_tests;
 mod looking;
 mod moving;
+mod outcome;
 mod partition;
 mod parts;
 mod producing;
@@ -27,6 +28,7 @@ mod subscribing;
 mod summary;
 #[cfg(test)]
 mod tests;
+mod told;
 mod turns;
 
 pub use partition::Partition;

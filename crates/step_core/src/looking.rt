@@ -12,8 +12,10 @@ ghost use Rattle.partition_queue.specs.Queue.{token_at};
 ghost use Rattle.step_core.specs.Assembly.{Agrees};
 ghost use Rattle.step_core.specs.Deliverables.{is_deliverable};
 ghost use Rattle.step_core.specs.PlainOf.{plain_of};
+ghost use Rattle.step_core.specs.Replied.{reply_of};
 
 use crate::parts::Parts;
+use crate::told::Told;
 use cache_cursor::next;
 use consumer_grain::SubState;
 use partition_queue::PartitionQueue;
@@ -21,35 +23,35 @@ use pubsub_registry::Registration;
 use queue_cache::QueueCache;
 use queue_mapper::place;
 use stream_ident::{GrainId, SubName, Token};
-use stream_model::{Pending, Reply};
+use stream_model::Pending;
 
 /// A worker asks for a grain for which something waits and no turn runs: the least such grain after the
 /// given one, else the least.
-pub(crate) fn ready(parts: &Parts, after: Option<GrainId>) -> Reply
+pub(crate) fn ready(parts: &Parts, after: Option<GrainId>) -> Told
     requires { Agrees parts.now }
-    ensures { result ≡ ready (plain_of parts.now) after }
+    ensures { reply_of result ≡ ready (plain_of parts.now) after }
 {
     match parts.grains.ready_after(after.as_ref()) {
-        Some(grain) => Reply::Next(grain),
-        None => Reply::NoneReady,
+        Some(grain) => Told::Next(grain),
+        None => Told::NoneReady,
     }
 }
 
 /// The agent asks for a subscription that has something to acknowledge or to look for: the least such name
 /// after the given one, else the least.
-pub(crate) fn due(parts: &Parts, after: Option<SubName>) -> Reply
+pub(crate) fn due(parts: &Parts, after: Option<SubName>) -> Told
     requires { Agrees parts.now }
-    ensures { result ≡ due (plain_of parts.now) after }
+    ensures { reply_of result ≡ due (plain_of parts.now) after }
 {
     // The table says with its length that no name has two numbers.
     let _names = parts.subs.len();
     let high = parts.agent.cache().high();
     match parts.subs.due_after(after.as_ref(), high) {
-        Some(number) => Reply::DueSub {
+        Some(number) => Told::DueSub {
             sub: *parts.subs.name(number),
             ack: to_acknowledge(parts.subs.state(number), &parts.queue),
         },
-        None => Reply::NoneDue,
+        None => Told::NoneDue,
     }
 }
 
@@ -66,13 +68,13 @@ fn to_acknowledge(state: &SubState, queue: &PartitionQueue) -> Option<Token>
 }
 
 /// Asks whether everything is pulled, delivered and handled.
-pub(crate) fn quiet(parts: &Parts) -> Reply
+pub(crate) fn quiet(parts: &Parts) -> Told
     requires { Agrees parts.now }
-    ensures { result ≡ quiet (plain_of parts.now) }
+    ensures { reply_of result ≡ quiet (plain_of parts.now) }
 {
     match pending(parts) {
-        Some(why) => Reply::NotQuiet(why),
-        None => Reply::IsQuiet,
+        Some(why) => Told::NotQuiet(why),
+        None => Told::IsQuiet,
     }
 }
 

@@ -9,9 +9,11 @@ ghost use Rattle.stream_model.specs.Looks.{is_running, pending_in};
 ghost use Rattle.stream_model.specs.Positions.{empty, high_token, low_token, sub_at};
 ghost use Rattle.stream_model.specs.Step.{step, takes_memory, IsReached, Performs};
 ghost use Rattle.step_core.specs.Reads.{handled_of, summaries_in_order};
+ghost use Rattle.step_core.specs.Replied.{answered, IsOfLog};
 ghost use Rattle.step_core.specs.Serving.{served_of};
 
 use crate::looking::{all_waiting, least_running, least_waiting, pending};
+use crate::outcome::Outcome;
 use crate::parts::Parts;
 use crate::reading::{handled, high_token, last_handled, low_token, open_names, served, summaries};
 use crate::serving::Served;
@@ -80,6 +82,19 @@ impl Partition {
     /// more than before: each refusal is given without memory.
     pub fn step(&mut self, alloc: Global, op: Op) -> Result<Reply, AllocError>
         ensures performs { Performs self.old self.new result (step self.old op) }
+        ensures memory { OnErr result (takes_memory (step self.old op).1 ≡ true) }
+    {
+        let outcome = self.advance(alloc, op)?;
+        Ok(outcome.reply(&self.parts.queue))
+    }
+
+    /// Does one operation, as `step` does it, without the events of a turn.
+    ///
+    /// # Errors
+    /// As `step`.
+    pub(crate) fn advance(&mut self, alloc: Global, op: Op) -> Result<Outcome, AllocError>
+        ensures performs { Performs self.old self.new (answered self.new.log result) (step self.old op) }
+        ensures of_log { IfOk result (IsOfLog self.new.log) }
         ensures memory { OnErr result (takes_memory (step self.old op).1 ≡ true) }
     {
         step(&mut self.parts, alloc, op)

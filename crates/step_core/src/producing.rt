@@ -5,13 +5,14 @@ ghost use Rattle.stream_model.specs.Step.{takes_memory, Performs};
 ghost use Rattle.step_core.specs.Assembly.{Agrees, IsAssembled};
 ghost use Rattle.step_core.specs.PlainOf.{plain_of};
 ghost use Rattle.step_core.specs.Replies.{of_append, of_rule};
+ghost use Rattle.step_core.specs.Replied.{replied, reply_of};
 
 use crate::parts::Parts;
+use crate::told::Told;
 use partition_queue::Appended;
 use pubsub_registry::RuleAdded;
 use std::alloc::{AllocError, Global};
 use stream_ident::{Batch, Name, StreamId};
-use stream_model::Reply;
 
 /// A producer publishes a batch: its events go to the end of the log.
 ///
@@ -22,10 +23,10 @@ pub(crate) fn publish(
     alloc: Global,
     stream: StreamId,
     payloads: &Batch,
-) -> Result<Reply, AllocError>
+) -> Result<Told, AllocError>
     requires { Agrees parts.old }
     ensures assembled { IsAssembled parts.new }
-    ensures performs { Performs (plain_of parts.old) (plain_of parts.new) result (publish (plain_of parts.old) stream payloads.now) }
+    ensures performs { Performs (plain_of parts.old) (plain_of parts.new) (replied result) (publish (plain_of parts.old) stream payloads.now) }
     ensures memory { OnErr result (takes_memory (publish (plain_of parts.old) stream payloads.now).1 ≡ true) }
 {
     let appended = parts.queue.append(alloc, stream, payloads)?;
@@ -33,13 +34,13 @@ pub(crate) fn publish(
 }
 
 /// What the producer of a batch is told.
-fn told_of_batch(appended: Appended) -> Reply
-    ensures { result ≡ of_append appended }
+fn told_of_batch(appended: Appended) -> Told
+    ensures { reply_of result ≡ of_append appended }
 {
     match appended {
-        Appended::Accepted { seq } => Reply::Published { seq },
-        Appended::BadBatch => Reply::BadBatch,
-        Appended::QueueFull => Reply::QueueFull,
+        Appended::Accepted { seq } => Told::Published { seq },
+        Appended::BadBatch => Told::BadBatch,
+        Appended::QueueFull => Told::QueueFull,
     }
 }
 
@@ -52,10 +53,10 @@ pub(crate) fn add_rule(
     alloc: Global,
     kind: Name,
     namespace: Name,
-) -> Result<Reply, AllocError>
+) -> Result<Told, AllocError>
     requires { Agrees parts.old }
     ensures assembled { IsAssembled parts.new }
-    ensures performs { Performs (plain_of parts.old) (plain_of parts.new) result (add_rule (plain_of parts.old) kind namespace) }
+    ensures performs { Performs (plain_of parts.old) (plain_of parts.new) (replied result) (add_rule (plain_of parts.old) kind namespace) }
     ensures memory { OnErr result (takes_memory (add_rule (plain_of parts.old) kind namespace).1 ≡ true) }
 {
     let from = parts.queue.batches();
@@ -64,12 +65,12 @@ pub(crate) fn add_rule(
 }
 
 /// What is told of a rule that was to hold from a batch on.
-fn told_of_rule(from: u64, added: RuleAdded) -> Reply
-    ensures { result ≡ of_rule from added }
+fn told_of_rule(from: u64, added: RuleAdded) -> Told
+    ensures { reply_of result ≡ of_rule from added }
 {
     match added {
-        RuleAdded::Added => Reply::RuleAdded { from },
-        RuleAdded::RuleThere => Reply::RuleThere,
-        RuleAdded::TooMany => Reply::TooMany,
+        RuleAdded::Added => Told::RuleAdded { from },
+        RuleAdded::RuleThere => Told::RuleThere,
+        RuleAdded::TooMany => Told::TooMany,
     }
 }

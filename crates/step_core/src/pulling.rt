@@ -8,14 +8,16 @@ ghost use Rattle.queue_cache.specs.Cache.{high, room};
 ghost use Rattle.step_core.specs.Assembly.{Agrees, IsAssembled};
 ghost use Rattle.step_core.specs.PlainOf.{plain_of};
 ghost use Rattle.step_core.specs.Taking.{filled, taken};
+ghost use Rattle.step_core.specs.Replied.{replied, reply_of};
+ghost use Rattle.stream_model.specs.declared.reply.Reply.TheVariants.{Pulled};
 
 use crate::parts::Parts;
 use crate::reading::least_resume;
+use crate::told::Told;
 use pubsub_registry::Implied;
 use pulling_agent::Plan;
 use std::alloc::{AllocError, Global};
 use stream_ident::SubName;
-use stream_model::Reply;
 
 /// The agent takes events from the queue into its cache, and the rules make subscriptions of them.
 pub(crate) fn pull(
@@ -23,18 +25,18 @@ pub(crate) fn pull(
     alloc: Global,
     generation: u64,
     max: u32,
-) -> Result<Reply, AllocError>
+) -> Result<Told, AllocError>
     requires { Agrees parts.old }
     ensures assembled { IsAssembled parts.new }
-    ensures performs { Performs (plain_of parts.old) (plain_of parts.new) result (pull (plain_of parts.old) generation max) }
+    ensures performs { Performs (plain_of parts.old) (plain_of parts.new) (replied result) (pull (plain_of parts.old) generation max) }
     ensures memory { OnErr result (takes_memory (pull (plain_of parts.old) generation max).1 ≡ true) }
 {
     let least = least_resume(parts);
     let len = parts.queue.len();
     match parts.agent.plan_pull(generation, max as usize, len, least) {
-        Plan::StaleAgent { now } => Ok(Reply::StaleAgent { now }),
-        Plan::Dry => Ok(Reply::Dry),
-        Plan::Held => Ok(Reply::Pressed { by: slowest(parts) }),
+        Plan::StaleAgent { now } => Ok(Told::StaleAgent { now }),
+        Plan::Dry => Ok(Told::Dry),
+        Plan::Held => Ok(Told::Pressed { by: slowest(parts) }),
         Plan::Take { drops, count } => take(parts, alloc, drops, count),
     }
 }
@@ -50,11 +52,11 @@ fn slowest(parts: &Parts) -> SubName
 ///
 /// # Errors
 /// Memory, and then nothing has changed. It comes only where the events would be taken.
-fn take(parts: &mut Parts, alloc: Global, drops: usize, count: usize) -> Result<Reply, AllocError>
+fn take(parts: &mut Parts, alloc: Global, drops: usize, count: usize) -> Result<Told, AllocError>
     requires agrees { Agrees parts.old }
     requires takeable { IsTakeable parts.old.agent (length parts.old.queue.events) (slowest (plain_of parts.old)) drops count }
     ensures assembled { IsAssembled parts.new }
-    ensures performs { Performs (plain_of parts.old) (plain_of parts.new) result (taken (plain_of parts.old) drops count) }
+    ensures performs { Performs (plain_of parts.old) (plain_of parts.new) (replied result) (taken (plain_of parts.old) drops count) }
     ensures memory { OnErr result (takes_memory (taken (plain_of parts.old) drops count).1 ≡ true) }
 {
     // What this promises of the table holds below.
@@ -63,19 +65,19 @@ fn take(parts: &mut Parts, alloc: Global, drops: usize, count: usize) -> Result<
     let events = parts.queue.between(high, high + count);
     // The rules come first: they may find too many subscriptions, or no memory.
     match parts.subs.imply(alloc, events, high)? {
-        Implied::TooMany => Ok(Reply::TooMany),
+        Implied::TooMany => Ok(Told::TooMany),
         Implied::Implied => Ok(fill(parts, drops, count)),
     }
 }
 
 /// Drops blocks of the cache, and takes the next events into it.
-fn fill(parts: &mut Parts, drops: usize, count: usize) -> Reply
+fn fill(parts: &mut Parts, drops: usize, count: usize) -> Told
     requires blocks { 64 * drops ≤ length parts.old.agent.cache.events }
     requires room { count ≤ room parts.old.agent.cache + 64 * drops }
     requires there { high parts.old.agent.cache + count ≤ length parts.old.queue.events }
     requires few { length parts.old.queue.events ≤ 1000000 }
     ensures parts { parts.new ≡ filled parts.old drops count }
-    ensures reply { result ≡ Reply.Pulled count (token_at (plain_of parts.new) parts.new.agent.cache.low) (token_at (plain_of parts.new) (high parts.new.agent.cache)) }
+    ensures reply { reply_of result ≡ Pulled count (token_at (plain_of parts.new) parts.new.agent.cache.low) (token_at (plain_of parts.new) (high parts.new.agent.cache)) }
 {
     let generation = parts.agent.generation();
     let high = parts.agent.cache().high();
@@ -83,7 +85,7 @@ fn fill(parts: &mut Parts, drops: usize, count: usize) -> Reply
     // The call is the agent's own, so it isn't stale.
     parts.agent.pull(generation, drops, events).unwrap();
     let cache = parts.agent.cache();
-    Reply::Pulled {
+    Told::Pulled {
         count,
         low: parts.queue.token_at(cache.low()),
         high: parts.queue.token_at(cache.high()),

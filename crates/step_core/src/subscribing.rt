@@ -9,15 +9,17 @@ ghost use Rattle.queue_cache.specs.Cache.{high};
 ghost use Rattle.step_core.specs.Assembly.{Agrees, IsAssembled};
 ghost use Rattle.step_core.specs.PlainOf.{plain_of};
 ghost use Rattle.step_core.specs.SubscriberReplies.{of_added};
+ghost use Rattle.step_core.specs.Replied.{replied, reply_of};
 
 use crate::parts::Parts;
 use crate::reading::{high_token, low_token};
+use crate::told::Told;
 use cache_cursor::lower;
 use grain_table::GrainTable;
 use pubsub_registry::{Added, Closing};
 use std::alloc::{AllocError, Global};
 use stream_ident::{GrainId, StreamId, SubName, Token};
-use stream_model::{Reply, Start};
+use stream_model::Start;
 
 /// A grain subscribes to a stream.
 ///
@@ -29,10 +31,10 @@ pub(crate) fn subscribe(
     stream: StreamId,
     grain: GrainId,
     start: Start,
-) -> Result<Reply, AllocError>
+) -> Result<Told, AllocError>
     requires { Agrees parts.old }
     ensures assembled { IsAssembled parts.new }
-    ensures performs { Performs (plain_of parts.old) (plain_of parts.new) result (subscribe (plain_of parts.old) stream grain start) }
+    ensures performs { Performs (plain_of parts.old) (plain_of parts.new) (replied result) (subscribe (plain_of parts.old) stream grain start) }
     ensures memory { OnErr result (takes_memory (subscribe (plain_of parts.old) stream grain start).1 ≡ true) }
 {
     match start {
@@ -48,7 +50,7 @@ pub(crate) fn subscribe(
             let low = low_token(parts);
             if token.is_before(&low) {
                 let high = high_token(parts);
-                return Ok(Reply::Miss {
+                return Ok(Told::Miss {
                     requested: token,
                     low,
                     high,
@@ -61,26 +63,26 @@ pub(crate) fn subscribe(
 }
 
 /// The grain of an explicit subscription unsubscribes. It takes no memory.
-pub(crate) fn unsubscribe(parts: &mut Parts, sub: SubName) -> Reply
+pub(crate) fn unsubscribe(parts: &mut Parts, sub: SubName) -> Told
     requires { Agrees parts.old }
     ensures assembled { IsAssembled parts.new }
-    ensures performs { (plain_of parts.new, result) ≡ unsubscribe (plain_of parts.old) sub }
+    ensures performs { (plain_of parts.new, reply_of result) ≡ unsubscribe (plain_of parts.old) sub }
 {
     // What `len` promises of the table holds in what follows.
     prove!(parts.subs.len() <= parts.limits.subs);
     let Some(number) = parts.subs.find(&sub) else {
-        return Reply::NoSuch;
+        return Told::NoSuch;
     };
     let grain = parts.subs.registration(number).grain;
     let handled = parts.subs.state(number).handled().len();
     match parts.subs.close(number) {
         Closing::Done => {
             forget(&mut parts.grains, &grain, number);
-            Reply::Unsubscribed { handled }
+            Told::Unsubscribed { handled }
         }
-        Closing::NoSuch => Reply::NoSuch,
-        Closing::Implicit => Reply::Implicit,
-        Closing::Closed => Reply::Closed,
+        Closing::NoSuch => Told::NoSuch,
+        Closing::Implicit => Told::Implicit,
+        Closing::Closed => Told::Closed,
     }
 }
 
@@ -104,11 +106,11 @@ fn subscribe_at(
     grain: GrainId,
     start: Token,
     position: usize,
-) -> Result<Reply, AllocError>
+) -> Result<Told, AllocError>
     requires agrees { Agrees parts.old }
     requires position { position ≤ high parts.old.agent.cache }
     ensures assembled { IsAssembled parts.new }
-    ensures performs { Performs (plain_of parts.old) (plain_of parts.new) result (subscribe_at (plain_of parts.old) stream grain start position) }
+    ensures performs { Performs (plain_of parts.old) (plain_of parts.new) (replied result) (subscribe_at (plain_of parts.old) stream grain start position) }
     ensures memory { OnErr result (takes_memory (subscribe_at (plain_of parts.old) stream grain start position).1 ≡ true) }
 {
     // What `len` promises of the table holds in what follows.
@@ -118,11 +120,11 @@ fn subscribe_at(
 }
 
 /// What a grain that subscribes is told.
-fn told_of_sub(added: Added) -> Reply
-    ensures { result ≡ of_added added }
+fn told_of_sub(added: Added) -> Told
+    ensures { reply_of result ≡ of_added added }
 {
     match added {
-        Added::Added { number } => Reply::Subscribed { number },
-        Added::TooMany => Reply::TooMany,
+        Added::Added { number } => Told::Subscribed { number },
+        Added::TooMany => Told::TooMany,
     }
 }

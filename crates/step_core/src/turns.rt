@@ -2,7 +2,6 @@
 ghost use Rattle.std.specs.Prelude.{◌≡◌, ◌+◌, ◌^◌, ◌<◌, ◌∷◌, List, None, OnErr, Some, length, pred, suc, true, if◌then◌else◌};
 ghost use Rattle.std.specs.List.{AllByRecursion};
 ghost use Rattle.std.specs.Option.{option_copied};
-ghost use Rattle.stream_ident.specs.Event.{events_at};
 ghost use Rattle.stream_ident.specs.Words.{past};
 ghost use Rattle.stream_model.specs.Positions.{is_spent};
 ghost use Rattle.stream_model.specs.Step.{takes_memory, Performs};
@@ -15,24 +14,27 @@ ghost use Rattle.subscription_table.specs.Table.{state_at};
 ghost use Rattle.step_core.specs.Assembly.{Agrees, IsAssembled};
 ghost use Rattle.step_core.specs.PlainOf.{plain_of};
 ghost use Rattle.step_core.specs.TurnReplies.{after_begun, current_turn, handle, of_begun, IsOfParts};
+ghost use Rattle.step_core.specs.Replied.{replied, reply_with, IsOfLog};
 
+use crate::outcome::{NewTurn, Outcome};
 use crate::parts::Parts;
 use crate::reading::is_spent;
+use crate::told::Told;
 use consumer_grain::{Activation, Begun, RunningTurn};
 use partition_queue::PartitionQueue;
 use std::alloc::{AllocError, Global};
 use stream_ident::{GrainId, Row};
-use stream_model::{Events, Reply};
 use subscription_table::SubscriptionTable;
 
 /// A worker begins a turn of a grain. It takes no memory.
-pub(crate) fn begin(parts: &mut Parts, grain: GrainId, max: u32) -> Reply
+pub(crate) fn begin(parts: &mut Parts, grain: GrainId, max: u32) -> Outcome
     requires { Agrees parts.old }
     ensures assembled { IsAssembled parts.new }
-    ensures performs { (plain_of parts.new, result) ≡ begin (plain_of parts.old) grain max }
+    ensures performs { (plain_of parts.new, reply_with parts.new.queue.events result) ≡ begin (plain_of parts.old) grain max }
+    ensures of_log { IsOfLog parts.new.queue.events result }
 {
     let Some(number) = parts.grains.find(&grain) else {
-        return Reply::Empty;
+        return Outcome::Told(Told::Empty);
     };
     // The table says with its length that no name has two numbers.
     let _names = parts.subs.len();
@@ -40,35 +42,36 @@ pub(crate) fn begin(parts: &mut Parts, grain: GrainId, max: u32) -> Reply
     let past = past_of_front(parts, number);
     let turn = next_turn(parts);
     let begun = parts.grains.begin(number, past, turn, max as usize);
-    reply_to_begun(parts, activation, &begun)
+    outcome_of_begun(parts, activation, begun)
 }
 
-/// The reply where a grain has begun, whose activation has this number: a turn gets the next number.
-fn reply_to_begun(parts: &mut Parts, activation: u64, begun: &Begun) -> Reply
-    requires begun { IsOfParts parts.old begun.now }
+/// What comes of it where a grain has begun, whose activation has this number: a turn gets the next number.
+fn outcome_of_begun(parts: &mut Parts, activation: u64, begun: Begun) -> Outcome
+    requires begun { IsOfParts parts.old begun }
     requires rises { parts.old.rises + 1 < 2 ^ 64 }
     requires turns { parts.old.turns + 1 < 2 ^ 64 }
-    ensures parts { parts.new ≡ after_begun parts.old begun.now }
-    ensures reply { result ≡ of_begun parts.old activation begun.now }
+    ensures parts { parts.new ≡ after_begun parts.old begun }
+    ensures reply { reply_with parts.new.queue.events result ≡ of_begun parts.old activation begun }
+    ensures of_log { IsOfLog parts.new.queue.events result }
 {
     match begun {
-        Begun::Busy => Reply::Busy,
-        Begun::Empty => Reply::Empty,
-        Begun::Spent => Reply::Spent,
-        Begun::Dropped(delivery) => Reply::Dropped {
+        Begun::Busy => Outcome::Told(Told::Busy),
+        Begun::Empty => Outcome::Told(Told::Empty),
+        Begun::Spent => Outcome::Told(Told::Spent),
+        Begun::Dropped(delivery) => Outcome::Told(Told::Dropped {
             sub: *parts.subs.name(delivery.sub),
             token: parts.queue.token_at(delivery.position),
-        },
+        }),
         Begun::Turn { sub, positions } => {
             parts.rises += 1;
             parts.turns += 1;
-            Reply::Turn {
-                sub: *parts.subs.name(*sub),
+            Outcome::Turn(NewTurn {
+                sub: *parts.subs.name(sub),
                 activation,
                 turn: parts.turns,
-                events: events_of(&parts.queue, positions),
-                note: parts.subs.state(*sub).note(),
-            }
+                positions,
+                note: parts.subs.state(sub).note(),
+            })
         }
     }
 }
@@ -98,19 +101,6 @@ fn next_turn(parts: &Parts) -> Option<u64>
     }
 }
 
-/// The events at the positions of a turn.
-fn events_of(queue: &PartitionQueue, positions: &Row<usize>) -> Events
-    requires { AllByRecursion (λ position. position < length queue.now.events) positions.now }
-    ensures { result ≡ events_at queue.now.events positions.now }
-{
-    let positions = positions.as_slice();
-    let mut events = Row::of(*queue.event_at(positions[0]));
-    for position in &positions[1..] {
-        events.push(*queue.event_at(*position));
-    }
-    events
-}
-
 /// A worker ends the turn that runs for a grain: its events are handled, unless its subscription is closed.
 ///
 /// # Errors
@@ -122,23 +112,23 @@ pub(crate) fn commit(
     activation: u64,
     turn: u64,
     note: u64,
-) -> Result<Reply, AllocError>
+) -> Result<Told, AllocError>
     requires { Agrees parts.old }
     ensures assembled { IsAssembled parts.new }
-    ensures performs { Performs (plain_of parts.old) (plain_of parts.new) result (commit (plain_of parts.old) grain activation turn note) }
+    ensures performs { Performs (plain_of parts.old) (plain_of parts.new) (replied result) (commit (plain_of parts.old) grain activation turn note) }
     ensures memory { OnErr result (takes_memory (commit (plain_of parts.old) grain activation turn note).1 ≡ true) }
 {
     let Some(number) = parts.grains.find(&grain) else {
-        return Ok(Reply::Stale);
+        return Ok(Told::Stale);
     };
     // The table says with its length that no name has two numbers.
     let _names = parts.subs.len();
     let Some(run) = current_turn(parts.grains.at(number), activation, turn) else {
-        return Ok(Reply::Stale);
+        return Ok(Told::Stale);
     };
-    let reply = handle(&mut parts.subs, alloc, &parts.queue, run, note)?;
+    let told = handle(&mut parts.subs, alloc, &parts.queue, run, note)?;
     parts.grains.commit(number, activation, turn);
-    Ok(reply)
+    Ok(told)
 }
 
 /// The turn that runs for a grain, if it is this turn of this activation.
@@ -163,19 +153,19 @@ fn handle(
     queue: &PartitionQueue,
     run: &RunningTurn,
     note: u64,
-) -> Result<Reply, AllocError>
+) -> Result<Told, AllocError>
     requires within { run.now.sub < length subs.old.registry.names }
     requires positions { AllByRecursion (λ position. position < length queue.now.events) run.now.positions }
     requires rising { rises_from (past (state_at subs.old run.now.sub).handled) run.now.positions ≡ true }
     requires room { past run.now.positions < 2 ^ 64 }
-    ensures performs { table.Performs subs.old subs.new result (handle subs.old queue.now run.now note) }
+    ensures performs { table.Performs subs.old subs.new (replied result) (handle subs.old queue.now run.now note) }
     ensures memory { OnErr result ((state_at subs.old run.now.sub).is_open ≡ true) }
 {
     if !subs.state(run.sub).is_open() {
-        return Ok(Reply::Closed);
+        return Ok(Told::Closed);
     }
     subs.commit(alloc, run.sub, &run.positions, note)?;
-    Ok(Reply::Committed {
+    Ok(Told::Committed {
         sub: *subs.name(run.sub),
         token: queue.token_at(last_position(&run.positions)),
     })

@@ -7,6 +7,7 @@ use Rattle.pulling_agent.specs.declared.told.Sought.TheVariants as sought
 use Rattle.subscription_table.specs.Table.{PlainTable, registration_at}
 use Rattle.step_core.specs.Assembly.{IsAssembled}
 use Rattle.step_core.specs.PlainOf.{plain_of}
+use Rattle.step_core.specs.Replied.{replied}
 use Rattle.step_core.proofs.DeliverOps.{deliver-none, deliver-stale}
 use Rattle.step_core.proofs.HandOps.{Answer, Searched, Stands, closed-performs, current-is, cursor-low, high-few, next-agrees, next-there, nothing-assembled, nothing-performs, sought-is, stale-is, todo-is, todo-performs, with_subs}
 use Rattle.step_core.proofs.delivering.deliver.Goals as goal
@@ -59,7 +60,7 @@ returns-in-Ok-Next-clause-performs c =
     subst (λ (told : Sought). Searched parts c.seek.new.self c.in-Some.number c.is_outstanding-outstanding.result (Ok told)) c.in-Ok-Next.field-0-is
     (sought-is parts.subs c.seek.new.self c.in-Some.number c.args.generation parts.agent (registration_at parts.subs c.in-Some.number).stream c.is_outstanding-outstanding.result (Ok c.in-Ok-Next.field-0) current c.in-Ok-Next.ensures.sought) in
     let todo = todo-is parts c.seek.new.self c.in-Some.number c.args.generation c.in-Ok-Next.position c.args.sub c.is_outstanding-outstanding.result current (sym c.in-Some.ensures.number) sought in
-    todo-performs parts c.seek.new.self (plain_of c.hand_over.new.parts) c.hand_over.result _ _ sought.0 todo c.hand_over.ensures.performs
+    todo-performs parts c.seek.new.self (plain_of c.hand_over.new.parts) (replied c.hand_over.result) _ _ sought.0 todo c.hand_over.ensures.performs
 
 pub returns-in-Ok-Next-clause-memory : goal.returns-in-Ok-Next-clause-memory
 returns-in-Ok-Next-clause-memory c =

@@ -2,6 +2,7 @@ use Rattle.std.proofs.Common.{◌≡◌, ◌∙◌, ap, sym, None, arith}
 use Rattle.stream_ident.specs.declared.ident.GrainId.{GrainId}
 use Rattle.grain_table.specs.Grains.{number_of, with_grain}
 use Rattle.step_core.specs.Records.{record_of}
+use Rattle.step_core.specs.Replied.{reply_of}
 use Rattle.step_core.proofs.HandOps.{Stands, first-assembled, first-memory, first-performs, first-spent, position-few, position-there}
 use Rattle.step_core.proofs.delivering.hand_first.Goals as goal
 
@@ -37,5 +38,5 @@ returns-clause-performs c =
     let parts = c.args.parts.now in
     let stands : Stands parts c.args.delivery.sub = record { agrees = c.requires.agrees; unique = c.len.ensures.unique; records = c.len.ensures.records; within = c.requires.next.numbered } in
     let none : number_of parts.grains (record_of parts c.args.delivery.sub).grain ≡ None = ap (λ (g : GrainId). number_of parts.grains g) (sym c.requires.grain) ∙ c.requires.first in
-    first-performs parts c.sent.new.parts c.args.delivery c.add.new.self c.sent.result stands c.requires.next none (sym c.is_spent.ensures ∙ c.if-is_spent.false)
+    first-performs parts c.sent.new.parts c.args.delivery c.add.new.self (reply_of c.sent.result) stands c.requires.next none (sym c.is_spent.ensures ∙ c.if-is_spent.false)
     (c.in_ok-add.ensures ∙ ap (λ (g : GrainId). with_grain parts.grains g c.args.delivery) c.requires.grain) c.sent.ensures.parts c.sent.ensures.reply

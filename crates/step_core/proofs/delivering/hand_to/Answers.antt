@@ -12,6 +12,7 @@ use Rattle.step_core.specs.Assembly.{IsAssembled}
 use Rattle.step_core.specs.declared.parts.Parts.{Parts}
 use Rattle.step_core.specs.PlainOf.{plain_of}
 use Rattle.step_core.specs.Records.{record_of}
+use Rattle.step_core.specs.Replied.{reply_of}
 use Rattle.step_core.proofs.HandOps.{HasRise, OfferIs, Stands, activation, activation-few, handed-assembled, handed-full, handed-memory, handed-performs, handed-spent, offer-is, offer-room, position-few, position-there}
 use Rattle.step_core.proofs.delivering.hand_to.Goals as goal
 use Rattle.step_core.proofs.delivering.hand_to.Goals.{else-wakes-via-then-wakes+else-is_spent, else-wakes-via-else-wakes}
@@ -92,4 +93,4 @@ returns-in-Delivered-clause-performs c =
     ] in
     let offered = offer-is c.args.grain parts.grains c.offer.new.self c.args.delivery c.in_ok-offer.field-0 c.in_ok-offer.ensures.performs in
     let taken : OfferIs c.args.grain parts.grains c.offer.new.self c.args.delivery offer.Delivered = subst (OfferIs c.args.grain parts.grains c.offer.new.self c.args.delivery) c.in-Delivered.is offered in
-    handed-performs parts c.sent.new.parts c.args.delivery c.args.grain (not c.is_active-wakes.result) c.offer.new.self c.sent.result stands c.requires.next c.requires.grain taken rise (ap not (sym active)) c.sent.ensures.parts c.sent.ensures.reply
+    handed-performs parts c.sent.new.parts c.args.delivery c.args.grain (not c.is_active-wakes.result) c.offer.new.self (reply_of c.sent.result) stands c.requires.next c.requires.grain taken rise (ap not (sym active)) c.sent.ensures.parts c.sent.ensures.reply

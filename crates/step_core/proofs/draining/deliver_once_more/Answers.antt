@@ -2,6 +2,7 @@ use Rattle.std.proofs.Common.{◌≡◌, Some, None, subst, sym, ◌∙◌, true
 use Rattle.stream_model.specs.declared.op.Op.TheVariants.{Deliver}
 use Rattle.stream_model.specs.Draining.{Astray, after_last_deliver, deliver_once_more}
 use Rattle.stream_model.specs.Step.{step}
+use Rattle.step_core.specs.Replied.{reply_with}
 use Rattle.step_core.proofs.DrainReplies.{last-where}
 use Rattle.step_core.proofs.DrainSteps.{ends-last}
 use Rattle.step_core.proofs.draining.deliver_once_more.Goals as goal
@@ -10,18 +11,18 @@ pub returns-then-not-is_nothing : goal.returns-then-not-is_nothing
 unfolding deliver_once_more
 returns-then-not-is_nothing c =
     let p = c.args.partition.now in
-    let new = c.step.new.self in
+    let new = c.advance.new.self in
     let s = c.args.sub.now in
-    let delivered : (new, c.in_ok-reply.reply) ≡ step p (Deliver p.generation s) = subst (λ generation. (new, c.in_ok-reply.reply) ≡ step p (Deliver generation s)) c.generation-generation.ensures c.in_ok-reply.ensures.performs in
-    ends-last p new (Some Astray) (Deliver p.generation s) c.in_ok-reply.reply after_last_deliver delivered
-    (last-where new c.in_ok-reply.reply false (sym c.is_nothing.ensures ∙ c.if-not-is_nothing.true))
+    let delivered : (new, (reply_with c.advance.new.self.log c.in_ok-outcome.outcome)) ≡ step p (Deliver p.generation s) = subst (λ generation. (new, (reply_with c.advance.new.self.log c.in_ok-outcome.outcome)) ≡ step p (Deliver generation s)) c.generation-generation.ensures c.in_ok-outcome.ensures.performs in
+    ends-last p new (Some Astray) (Deliver p.generation s) (reply_with c.advance.new.self.log c.in_ok-outcome.outcome) after_last_deliver delivered
+    (last-where new (reply_with c.advance.new.self.log c.in_ok-outcome.outcome) false (sym (c.is_nothing.ensures c.advance.new.self.log) ∙ c.if-not-is_nothing.true))
 
 pub returns : goal.returns
 unfolding deliver_once_more
 returns c =
     let p = c.args.partition.now in
-    let new = c.step.new.self in
+    let new = c.advance.new.self in
     let s = c.args.sub.now in
-    let delivered : (new, c.in_ok-reply.reply) ≡ step p (Deliver p.generation s) = subst (λ generation. (new, c.in_ok-reply.reply) ≡ step p (Deliver generation s)) c.generation-generation.ensures c.in_ok-reply.ensures.performs in
-    ends-last p new None (Deliver p.generation s) c.in_ok-reply.reply after_last_deliver delivered
-    (last-where new c.in_ok-reply.reply true (sym c.is_nothing.ensures ∙ c.if-not-is_nothing.false))
+    let delivered : (new, (reply_with c.advance.new.self.log c.in_ok-outcome.outcome)) ≡ step p (Deliver p.generation s) = subst (λ generation. (new, (reply_with c.advance.new.self.log c.in_ok-outcome.outcome)) ≡ step p (Deliver generation s)) c.generation-generation.ensures c.in_ok-outcome.ensures.performs in
+    ends-last p new None (Deliver p.generation s) (reply_with c.advance.new.self.log c.in_ok-outcome.outcome) after_last_deliver delivered
+    (last-where new (reply_with c.advance.new.self.log c.in_ok-outcome.outcome) true (sym (c.is_nothing.ensures c.advance.new.self.log) ∙ c.if-not-is_nothing.false))

@@ -1,11 +1,12 @@
 use Rattle.stream_model.specs.declared.op.Op.TheVariants.{Begin}
 use Rattle.stream_model.specs.Draining.{after_begin, take_turn}
 use Rattle.step_core.specs.DrainPhases.{meant}
+use Rattle.step_core.specs.Replied.{reply_with}
 use Rattle.step_core.proofs.DrainSteps.{ends-ask}
 use Rattle.step_core.proofs.draining.take_turn.Goals as goal
 
 pub returns : goal.returns
 unfolding take_turn
 returns c =
-    ends-ask c.args.partition.now c.step.new.self c.follow_begin.new.partition (meant c.follow_begin.result) (Begin c.args.grain.now 1) c.in_ok-reply.reply (after_begin c.args.grain.now)
-    c.in_ok-reply.ensures.performs c.follow_begin.ensures
+    ends-ask c.args.partition.now c.advance.new.self c.follow_begin.new.partition (meant c.follow_begin.result) (Begin c.args.grain.now 1) (reply_with c.advance.new.self.log c.in_ok-outcome.outcome) (after_begin c.args.grain.now)
+    c.in_ok-outcome.ensures.performs c.follow_begin.ensures

@@ -5,6 +5,7 @@ use Rattle.stream_model.specs.declared.reply.Reply.TheVariants as reply
 use Rattle.stream_model.specs.Step.{Performs, takes_memory}
 use Rattle.pulling_agent.specs.declared.told.Plan.TheVariants as plan
 use Rattle.step_core.specs.PlainOf.{plain_of}
+use Rattle.step_core.specs.Replied.{replied}
 use Rattle.step_core.proofs.HandOps.{Answer, high-there}
 use Rattle.step_core.proofs.PlanOps.{planned-is}
 use Rattle.step_core.proofs.pulling.pull.Goals as goal
@@ -27,7 +28,7 @@ returns-in-Held-clause-performs c =
 
 pub returns-in-Take-clause-performs : goal.returns-in-Take-clause-performs
 returns-in-Take-clause-performs c =
-    subst (λ (done : Answer). Performs (plain_of c.args.parts.now) (plain_of c.take.new.parts) c.take.result done)
+    subst (λ (done : Answer). Performs (plain_of c.args.parts.now) (plain_of c.take.new.parts) (replied c.take.result) done)
     (planned-is c.args.parts.now c.args.generation c.args.max c.len-len.result c.least_resume-least.result (plan.Take c.in-Take.drops c.in-Take.count) c.len-len.ensures.count c.least_resume-least.ensures c.in-Take.ensures.plan)
     c.take.ensures.performs
 

@@ -3,6 +3,7 @@ use Rattle.pubsub_registry.specs.declared.told.Implied.TheVariants as implied_to
 use Rattle.partition_queue.specs.Queue.{between}
 use Rattle.queue_cache.specs.Cache.{high}
 use Rattle.step_core.specs.Taking.{ahead}
+use Rattle.step_core.specs.Replied.{reply_of}
 use Rattle.step_core.proofs.TakeOps.{MakesIs, makes-few, makes-is, many-assembled, many-performs, take-assembled, take-memory, take-performs}
 use Rattle.step_core.proofs.pulling.take.Goals as goal
 
@@ -52,4 +53,4 @@ returns-in-Implied-clause-performs c =
     let makes : MakesIs parts.subs c.imply.new.self (ahead parts c.args.count) (high parts.agent.cache) implied_told.Implied =
     subst (MakesIs parts.subs c.imply.new.self (ahead parts c.args.count) (high parts.agent.cache)) c.in-Implied.is
     (makes-is parts.subs c.imply.new.self (ahead parts c.args.count) c.between-events.result.now (high parts.agent.cache) c.high-high.result c.in_ok-imply.field-0 seen top c.in_ok-imply.ensures.performs) in
-    take-performs parts c.fill.new.parts c.imply.new.self c.args.drops c.args.count c.fill.result c.requires.agrees.assembled (sym c.len-names.ensures.records.long) (c.requires.takeable.blocks, c.requires.takeable.there) makes c.fill.ensures.parts c.fill.ensures.reply
+    take-performs parts c.fill.new.parts c.imply.new.self c.args.drops c.args.count (reply_of c.fill.result) c.requires.agrees.assembled (sym c.len-names.ensures.records.long) (c.requires.takeable.blocks, c.requires.takeable.there) makes c.fill.ensures.parts c.fill.ensures.reply

@@ -1,50 +1,10 @@
 use Rattle.std.proofs.Common.{sym, ap, ◌∙◌}
 use Rattle.stream_model.specs.declared.plain.PlainPartition.{PlainPartition}
 use Rattle.stream_model.specs.declared.reply.Reply.{Reply}
-use Rattle.stream_model.specs.Step.{step}
+use Rattle.stream_model.specs.Step.{step, takes_memory}
 use Rattle.step_core.specs.PlainOf.{plain_of}
-use Rattle.stream_model.proofs.Answering.{performs-along, memory-along}
+use Rattle.stream_model.proofs.Committing.{OnErr-since}
 use Rattle.step_core.proofs.stepping.step.Goals as goal
-
-pub returns-in-Publish-clause-performs : goal.returns-in-Publish-clause-performs
-unfolding step
-returns-in-Publish-clause-performs c = performs-along (plain_of c.args.parts.now) (plain_of c.publish.new.parts) c.publish.result _ _ (ap (step (plain_of c.args.parts.now)) (sym c.in-Publish.is)) c.publish.ensures.performs
-
-pub returns-in-Publish-clause-memory : goal.returns-in-Publish-clause-memory
-unfolding step
-returns-in-Publish-clause-memory c = memory-along c.publish.result _ _ (ap (step (plain_of c.args.parts.now)) (sym c.in-Publish.is)) c.publish.ensures.memory
-
-pub returns-in-Subscribe-clause-performs : goal.returns-in-Subscribe-clause-performs
-unfolding step
-returns-in-Subscribe-clause-performs c = performs-along (plain_of c.args.parts.now) (plain_of c.subscribe.new.parts) c.subscribe.result _ _ (ap (step (plain_of c.args.parts.now)) (sym c.in-Subscribe.is)) c.subscribe.ensures.performs
-
-pub returns-in-Subscribe-clause-memory : goal.returns-in-Subscribe-clause-memory
-unfolding step
-returns-in-Subscribe-clause-memory c = memory-along c.subscribe.result _ _ (ap (step (plain_of c.args.parts.now)) (sym c.in-Subscribe.is)) c.subscribe.ensures.memory
-
-pub returns-in-Pull-clause-performs : goal.returns-in-Pull-clause-performs
-unfolding step
-returns-in-Pull-clause-performs c = performs-along (plain_of c.args.parts.now) (plain_of c.pull.new.parts) c.pull.result _ _ (ap (step (plain_of c.args.parts.now)) (sym c.in-Pull.is)) c.pull.ensures.performs
-
-pub returns-in-Pull-clause-memory : goal.returns-in-Pull-clause-memory
-unfolding step
-returns-in-Pull-clause-memory c = memory-along c.pull.result _ _ (ap (step (plain_of c.args.parts.now)) (sym c.in-Pull.is)) c.pull.ensures.memory
-
-pub returns-in-Deliver-clause-performs : goal.returns-in-Deliver-clause-performs
-unfolding step
-returns-in-Deliver-clause-performs c = performs-along (plain_of c.args.parts.now) (plain_of c.deliver.new.parts) c.deliver.result _ _ (ap (step (plain_of c.args.parts.now)) (sym c.in-Deliver.is)) c.deliver.ensures.performs
-
-pub returns-in-Deliver-clause-memory : goal.returns-in-Deliver-clause-memory
-unfolding step
-returns-in-Deliver-clause-memory c = memory-along c.deliver.result _ _ (ap (step (plain_of c.args.parts.now)) (sym c.in-Deliver.is)) c.deliver.ensures.memory
-
-pub returns-in-Commit-clause-performs : goal.returns-in-Commit-clause-performs
-unfolding step
-returns-in-Commit-clause-performs c = performs-along (plain_of c.args.parts.now) (plain_of c.commit.new.parts) c.commit.result _ _ (ap (step (plain_of c.args.parts.now)) (sym c.in-Commit.is)) c.commit.ensures.performs
-
-pub returns-in-Commit-clause-memory : goal.returns-in-Commit-clause-memory
-unfolding step
-returns-in-Commit-clause-memory c = memory-along c.commit.result _ _ (ap (step (plain_of c.args.parts.now)) (sym c.in-Commit.is)) c.commit.ensures.memory
 
 pub returns-in-Begin-clause-performs : goal.returns-in-Begin-clause-performs
 unfolding step
@@ -85,14 +45,60 @@ pub returns-in-Unsubscribe-clause-performs : goal.returns-in-Unsubscribe-clause-
 unfolding step
 returns-in-Unsubscribe-clause-performs c = c.unsubscribe.ensures.performs ∙ ap (step (plain_of c.args.parts.now)) (sym c.in-Unsubscribe.is)
 
-pub returns-in-AddRule-clause-performs : goal.returns-in-AddRule-clause-performs
-unfolding step
-returns-in-AddRule-clause-performs c = performs-along (plain_of c.args.parts.now) (plain_of c.add_rule.new.parts) c.add_rule.result _ _ (ap (step (plain_of c.args.parts.now)) (sym c.in-AddRule.is)) c.add_rule.ensures.performs
-
-pub returns-in-AddRule-clause-memory : goal.returns-in-AddRule-clause-memory
-unfolding step
-returns-in-AddRule-clause-memory c = memory-along c.add_rule.result _ _ (ap (step (plain_of c.args.parts.now)) (sym c.in-AddRule.is)) c.add_rule.ensures.memory
-
 pub returns-in-Deactivate-clause-performs : goal.returns-in-Deactivate-clause-performs
 unfolding step
 returns-in-Deactivate-clause-performs c = c.deactivate.ensures.performs ∙ ap (step (plain_of c.args.parts.now)) (sym c.in-Deactivate.is)
+
+pub returns-in_ok-publish-in-Publish-clause-performs : goal.returns-in_ok-publish-in-Publish-clause-performs
+unfolding step
+returns-in_ok-publish-in-Publish-clause-performs c = c.in_ok-publish-in-Publish.ensures.performs ∙ ap (step (plain_of c.args.parts.now)) (sym c.in-Publish.is)
+
+pub returns-in_err-publish-in-Publish-clause-memory : goal.returns-in_err-publish-in-Publish-clause-memory
+unfolding step
+returns-in_err-publish-in-Publish-clause-memory c =
+    OnErr-since c.from_residual.result _ (ap {A = PlainPartition × Reply} (λ out. takes_memory out.1) (ap (step (plain_of c.args.parts.now)) c.in-Publish.is) ∙ c.in_err-publish-in-Publish.ensures.memory)
+
+pub returns-in_ok-subscribe-in-Subscribe-clause-performs : goal.returns-in_ok-subscribe-in-Subscribe-clause-performs
+unfolding step
+returns-in_ok-subscribe-in-Subscribe-clause-performs c = c.in_ok-subscribe-in-Subscribe.ensures.performs ∙ ap (step (plain_of c.args.parts.now)) (sym c.in-Subscribe.is)
+
+pub returns-in_err-subscribe-in-Subscribe-clause-memory : goal.returns-in_err-subscribe-in-Subscribe-clause-memory
+unfolding step
+returns-in_err-subscribe-in-Subscribe-clause-memory c =
+    OnErr-since c.from_residual-in_err-subscribe-in-Subscribe.result _ (ap {A = PlainPartition × Reply} (λ out. takes_memory out.1) (ap (step (plain_of c.args.parts.now)) c.in-Subscribe.is) ∙ c.in_err-subscribe-in-Subscribe.ensures.memory)
+
+pub returns-in_ok-pull-in-Pull-clause-performs : goal.returns-in_ok-pull-in-Pull-clause-performs
+unfolding step
+returns-in_ok-pull-in-Pull-clause-performs c = c.in_ok-pull-in-Pull.ensures.performs ∙ ap (step (plain_of c.args.parts.now)) (sym c.in-Pull.is)
+
+pub returns-in_err-pull-in-Pull-clause-memory : goal.returns-in_err-pull-in-Pull-clause-memory
+unfolding step
+returns-in_err-pull-in-Pull-clause-memory c =
+    OnErr-since c.from_residual-in_err-pull-in-Pull.result _ (ap {A = PlainPartition × Reply} (λ out. takes_memory out.1) (ap (step (plain_of c.args.parts.now)) c.in-Pull.is) ∙ c.in_err-pull-in-Pull.ensures.memory)
+
+pub returns-in_ok-deliver-in-Deliver-clause-performs : goal.returns-in_ok-deliver-in-Deliver-clause-performs
+unfolding step
+returns-in_ok-deliver-in-Deliver-clause-performs c = c.in_ok-deliver-in-Deliver.ensures.performs ∙ ap (step (plain_of c.args.parts.now)) (sym c.in-Deliver.is)
+
+pub returns-in_err-deliver-in-Deliver-clause-memory : goal.returns-in_err-deliver-in-Deliver-clause-memory
+unfolding step
+returns-in_err-deliver-in-Deliver-clause-memory c =
+    OnErr-since c.from_residual-in_err-deliver-in-Deliver.result _ (ap {A = PlainPartition × Reply} (λ out. takes_memory out.1) (ap (step (plain_of c.args.parts.now)) c.in-Deliver.is) ∙ c.in_err-deliver-in-Deliver.ensures.memory)
+
+pub returns-in_ok-commit-in-Commit-clause-performs : goal.returns-in_ok-commit-in-Commit-clause-performs
+unfolding step
+returns-in_ok-commit-in-Commit-clause-performs c = c.in_ok-commit-in-Commit.ensures.performs ∙ ap (step (plain_of c.args.parts.now)) (sym c.in-Commit.is)
+
+pub returns-in_err-commit-in-Commit-clause-memory : goal.returns-in_err-commit-in-Commit-clause-memory
+unfolding step
+returns-in_err-commit-in-Commit-clause-memory c =
+    OnErr-since c.from_residual-in_err-commit-in-Commit.result _ (ap {A = PlainPartition × Reply} (λ out. takes_memory out.1) (ap (step (plain_of c.args.parts.now)) c.in-Commit.is) ∙ c.in_err-commit-in-Commit.ensures.memory)
+
+pub returns-in_ok-add_rule-in-AddRule-clause-performs : goal.returns-in_ok-add_rule-in-AddRule-clause-performs
+unfolding step
+returns-in_ok-add_rule-in-AddRule-clause-performs c = c.in_ok-add_rule-in-AddRule.ensures.performs ∙ ap (step (plain_of c.args.parts.now)) (sym c.in-AddRule.is)
+
+pub returns-in_err-add_rule-in-AddRule-clause-memory : goal.returns-in_err-add_rule-in-AddRule-clause-memory
+unfolding step
+returns-in_err-add_rule-in-AddRule-clause-memory c =
+    OnErr-since c.from_residual-in_err-add_rule-in-AddRule.result _ (ap {A = PlainPartition × Reply} (λ out. takes_memory out.1) (ap (step (plain_of c.args.parts.now)) c.in-AddRule.is) ∙ c.in_err-add_rule-in-AddRule.ensures.memory)

@@ -1,5 +1,6 @@
 use Rattle.stream_model.proofs.Answering.{memory-along, performs-along}
 use Rattle.step_core.specs.PlainOf.{plain_of}
+use Rattle.step_core.specs.Replied.{replied}
 use Rattle.step_core.proofs.StartOps.{starts-at, starts-below, starts-latest}
 use Rattle.step_core.proofs.subscribing.subscribe.Goals as goal
 
@@ -11,7 +12,7 @@ returns-then-is_before-clause-performs c =
 pub returns-in-Latest-clause-performs : goal.returns-in-Latest-clause-performs
 returns-in-Latest-clause-performs c =
     let parts = c.args.parts.now in
-    performs-along (plain_of parts) (plain_of c.subscribe_at.new.parts) c.subscribe_at.result _ _
+    performs-along (plain_of parts) (plain_of c.subscribe_at.new.parts) (replied c.subscribe_at.result) _ _
     (starts-latest parts c.args.stream c.args.grain c.args.start c.batches.result c.high-position.result c.cache.result.now c.in-Latest.is c.batches.ensures.count c.cache.ensures c.high-position.ensures)
     c.subscribe_at.ensures.performs
 
@@ -24,7 +25,7 @@ returns-in-Latest-clause-memory c =
 pub returns-else-is_before-clause-performs : goal.returns-else-is_before-clause-performs
 returns-else-is_before-clause-performs c =
     let parts = c.args.parts.now in
-    performs-along (plain_of parts) (plain_of c.subscribe_at-in-At.new.parts) c.subscribe_at-in-At.result _ _
+    performs-along (plain_of parts) (plain_of c.subscribe_at-in-At.new.parts) (replied c.subscribe_at-in-At.result) _ _
     (starts-at parts c.args.stream c.args.grain c.args.start c.in-At.token c.low_token-low.result c.is_before.result c.lower-position.result c.cache-in-At.result.now
     c.requires.assembled.cached c.in-At.is c.low_token-low.ensures c.is_before.ensures c.if-is_before.false c.cache-in-At.ensures c.lower-position.ensures.lower)
     c.subscribe_at-in-At.ensures.performs

@@ -1,6 +1,6 @@
 use Rattle.std.proofs.Common.{◌≡◌, ◌+◌, ◌++◌, drop, length}
 use Rattle.stream_ident.specs.Event.{events_at}
-use Rattle.step_core.proofs.turns.events_of.Given as goal
+use Rattle.step_core.proofs.outcome.events_of.Given as goal
 
 abbrev pub invariant-loop-position : goal.invariant-loop-position
 invariant-loop-position l = record {

@@ -1,0 +1,15 @@
+use Rattle.step_core.specs.PlainOf.{plain_of}
+use Rattle.step_core.specs.Replied.{answered}
+use Rattle.stream_model.proofs.Answering.{within-after}
+use Rattle.stream_model.proofs.Reaching.{reached-after}
+use Rattle.stream_model.proofs.StepBounds.{bounds-step}
+use Rattle.step_core.proofs.partition.Partition.advance.Goals as goal
+
+pub invariant_of-self : goal.invariant_of-self
+invariant_of-self c =
+    let old = plain_of c.self.inside.parts in
+    record {
+      assembled = c.step.ensures.assembled;
+      within = within-after old (plain_of c.step.new.parts) (answered c.step.new.parts.queue.events c.step.result) _ c.step.ensures.performs c.self.invariant.within (bounds-step old c.args.op c.self.invariant.within);
+      reached = reached-after old (plain_of c.step.new.parts) c.args.op (answered c.step.new.parts.queue.events c.step.result) c.step.ensures.performs c.self.invariant.reached;
+    }
