@@ -13,7 +13,7 @@ pub struct Plan {
     pub seed: u64,
 }
 
-/// The plan that the words ask for: `RUNS`, `ROUNDS` and `SEED`, of which the last may be left out.
+/// The plan that the words ask for: `RUNS`, `ROUNDS` and `SEED`, of which the last ones may be left out.
 ///
 /// # Errors
 /// More words, and one that is no number.

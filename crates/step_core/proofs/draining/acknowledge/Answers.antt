@@ -17,21 +17,23 @@ unfolding acknowledge
 returns-then-not-is_acknowledged c =
     let p = c.args.partition.now in
     let new = c.advance.new.self in
+    let answer = reply_with new.log c.in_ok-outcome.outcome in
     let s = c.args.sub.now in
     let token = c.in-Some.token in
-    let acked : (new, (reply_with c.advance.new.self.log c.in_ok-outcome.outcome)) ≡ step p (Ack p.generation s token) = subst (λ generation. (new, (reply_with c.advance.new.self.log c.in_ok-outcome.outcome)) ≡ step p (Ack generation s token)) c.generation.ensures c.in_ok-outcome.ensures.performs in
+    let acked : (new, answer) ≡ step p (Ack p.generation s token) = subst (λ generation. (new, answer) ≡ step p (Ack generation s token)) c.generation.ensures c.in_ok-outcome.ensures.performs in
     subst (λ found. Ends p new (Some (Some Astray)) (acknowledge s p found)) (sym c.in-Some.is ∙ c.last_handled.ensures)
-    (ends-last p new (Some Astray) (Ack p.generation s token) (reply_with c.advance.new.self.log c.in_ok-outcome.outcome) after_ack acked
-    (ack-where new (reply_with c.advance.new.self.log c.in_ok-outcome.outcome) false (sym (c.is_acknowledged.ensures c.advance.new.self.log) ∙ c.if-not-is_acknowledged.true)))
+    (ends-last p new (Some Astray) (Ack p.generation s token) answer after_ack acked
+    (ack-where new answer false (sym (c.is_acknowledged.ensures new.log) ∙ c.if-not-is_acknowledged.true)))
 
 pub returns : goal.returns
 unfolding acknowledge
 returns c =
     let p = c.args.partition.now in
     let new = c.advance.new.self in
+    let answer = reply_with new.log c.in_ok-outcome.outcome in
     let s = c.args.sub.now in
     let token = c.in-Some.token in
-    let acked : (new, (reply_with c.advance.new.self.log c.in_ok-outcome.outcome)) ≡ step p (Ack p.generation s token) = subst (λ generation. (new, (reply_with c.advance.new.self.log c.in_ok-outcome.outcome)) ≡ step p (Ack generation s token)) c.generation.ensures c.in_ok-outcome.ensures.performs in
+    let acked : (new, answer) ≡ step p (Ack p.generation s token) = subst (λ generation. (new, answer) ≡ step p (Ack generation s token)) c.generation.ensures c.in_ok-outcome.ensures.performs in
     subst (λ found. Ends p new (Some None) (acknowledge s p found)) (sym c.in-Some.is ∙ c.last_handled.ensures)
-    (ends-last p new None (Ack p.generation s token) (reply_with c.advance.new.self.log c.in_ok-outcome.outcome) after_ack acked
-    (ack-where new (reply_with c.advance.new.self.log c.in_ok-outcome.outcome) true (sym (c.is_acknowledged.ensures c.advance.new.self.log) ∙ c.if-not-is_acknowledged.false)))
+    (ends-last p new None (Ack p.generation s token) answer after_ack acked
+    (ack-where new answer true (sym (c.is_acknowledged.ensures new.log) ∙ c.if-not-is_acknowledged.false)))

@@ -12,17 +12,19 @@ unfolding deliver_once_more
 returns-then-not-is_nothing c =
     let p = c.args.partition.now in
     let new = c.advance.new.self in
+    let answer = reply_with new.log c.in_ok-outcome.outcome in
     let s = c.args.sub.now in
-    let delivered : (new, (reply_with c.advance.new.self.log c.in_ok-outcome.outcome)) ≡ step p (Deliver p.generation s) = subst (λ generation. (new, (reply_with c.advance.new.self.log c.in_ok-outcome.outcome)) ≡ step p (Deliver generation s)) c.generation-generation.ensures c.in_ok-outcome.ensures.performs in
-    ends-last p new (Some Astray) (Deliver p.generation s) (reply_with c.advance.new.self.log c.in_ok-outcome.outcome) after_last_deliver delivered
-    (last-where new (reply_with c.advance.new.self.log c.in_ok-outcome.outcome) false (sym (c.is_nothing.ensures c.advance.new.self.log) ∙ c.if-not-is_nothing.true))
+    let delivered : (new, answer) ≡ step p (Deliver p.generation s) = subst (λ generation. (new, answer) ≡ step p (Deliver generation s)) c.generation-generation.ensures c.in_ok-outcome.ensures.performs in
+    ends-last p new (Some Astray) (Deliver p.generation s) answer after_last_deliver delivered
+    (last-where new answer false (sym (c.is_nothing.ensures new.log) ∙ c.if-not-is_nothing.true))
 
 pub returns : goal.returns
 unfolding deliver_once_more
 returns c =
     let p = c.args.partition.now in
     let new = c.advance.new.self in
+    let answer = reply_with new.log c.in_ok-outcome.outcome in
     let s = c.args.sub.now in
-    let delivered : (new, (reply_with c.advance.new.self.log c.in_ok-outcome.outcome)) ≡ step p (Deliver p.generation s) = subst (λ generation. (new, (reply_with c.advance.new.self.log c.in_ok-outcome.outcome)) ≡ step p (Deliver generation s)) c.generation-generation.ensures c.in_ok-outcome.ensures.performs in
-    ends-last p new None (Deliver p.generation s) (reply_with c.advance.new.self.log c.in_ok-outcome.outcome) after_last_deliver delivered
-    (last-where new (reply_with c.advance.new.self.log c.in_ok-outcome.outcome) true (sym (c.is_nothing.ensures c.advance.new.self.log) ∙ c.if-not-is_nothing.false))
+    let delivered : (new, answer) ≡ step p (Deliver p.generation s) = subst (λ generation. (new, answer) ≡ step p (Deliver generation s)) c.generation-generation.ensures c.in_ok-outcome.ensures.performs in
+    ends-last p new None (Deliver p.generation s) answer after_last_deliver delivered
+    (last-where new answer true (sym (c.is_nothing.ensures new.log) ∙ c.if-not-is_nothing.false))
