@@ -15,7 +15,7 @@ use Rattle.activation_directory.specs.Placed.{place_in, without, least_on, count
 use Rattle.activation_directory.specs.Plain.{PlainDirectory}
 use Rattle.activation_directory.specs.Step.{Entry, Leads, admit, enter, is_out, leave, unplace, down, step}
 use Rattle.activation_directory.proofs.Cases.{if-cases}
-use Rattle.activation_directory.proofs.GrainLemmas.{same_grain-equal}
+use Rattle.stream_ident.proofs.SameValues.{same_grain-equal}
 use Rattle.activation_directory.proofs.Histories.{IsFreed-left, IsFreed-released, IsFreed-later}
 use Rattle.activation_directory.proofs.PlacedLemmas.{place_in-here, place_in-other, place_in-without}
 use Rattle.activation_directory.proofs.Unique.{IsPlacedOn, IsUnique, least_on-placed, unique-step}

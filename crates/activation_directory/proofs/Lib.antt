@@ -1,5 +1,4 @@
 mod Cases
-mod GrainLemmas
 mod Histories
 mod Holding
 mod Numbers

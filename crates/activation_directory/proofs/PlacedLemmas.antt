@@ -4,7 +4,7 @@ use Rattle.stream_ident.specs.declared.ident.GrainId.{GrainId}
 use Rattle.stream_ident.specs.Name.{same_grain}
 use Rattle.activation_directory.specs.declared.place.Place.{Place}
 use Rattle.activation_directory.specs.Placed.{Placed, place_in, with_place, without}
-use Rattle.activation_directory.proofs.GrainLemmas.{same_grain-equal, same_grain-refl}
+use Rattle.stream_ident.proofs.SameValues.{same_grain-equal, same_grain-refl}
 
 -- the grain that was given a place has it
 pub place_in-here : (placed : Placed) (grain : GrainId) (place : Place) → place_in (with_place placed grain place) grain ≡ Some place

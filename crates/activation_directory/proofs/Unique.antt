@@ -8,12 +8,12 @@ use Rattle.activation_directory.specs.declared.op.DirectoryOp.{DirectoryOp}
 use Rattle.activation_directory.specs.declared.op.DirectoryOp.TheVariants.{Enter, Leave, Unplace, Down}
 use Rattle.activation_directory.specs.declared.place.Place.{Place}
 use Rattle.activation_directory.specs.declared.reply.DirectoryReply.{DirectoryReply}
-use Rattle.activation_directory.specs.Least.{lesser}
+use Rattle.stream_ident.specs.Words.{lesser}
 use Rattle.activation_directory.specs.Placed.{Placed, place_in, with_place, without, least_on}
 use Rattle.activation_directory.specs.Plain.{PlainDirectory}
 use Rattle.activation_directory.specs.Step.{Entry, Leads, admit, enter, is_out, leave, unplace, down, step}
 use Rattle.activation_directory.proofs.Cases.{if-cases}
-use Rattle.activation_directory.proofs.GrainLemmas.{same_grain-equal, same_grain-refl}
+use Rattle.stream_ident.proofs.SameValues.{same_grain-equal, same_grain-refl}
 use Rattle.activation_directory.proofs.PlacedLemmas.{place_in-other, place_in-without}
 use Rattle.activation_directory.proofs.Walk.{least_on-yes, least_on-no}
 

@@ -5,7 +5,7 @@ use Rattle.std.proofs.lemmas.List.{drop_all}
 use Rattle.stream_ident.specs.declared.ident.GrainId.{GrainId}
 use Rattle.stream_ident.specs.Name.{grain_lt}
 use Rattle.activation_directory.specs.declared.place.Place.{Place}
-use Rattle.activation_directory.specs.Least.{lesser}
+use Rattle.stream_ident.specs.Words.{lesser}
 use Rattle.activation_directory.specs.Placed.{Placed, least_on, count_on}
 
 -- the entry at a place is the first of those from there on

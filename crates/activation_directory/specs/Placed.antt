@@ -5,7 +5,7 @@ use Rattle.indexmap.specs.IndexMap.{insert_entry}
 use Rattle.stream_ident.specs.Name.{grain_lt, same_grain}
 use Rattle.stream_ident.specs.declared.ident.GrainId.{GrainId}
 use Rattle.activation_directory.specs.declared.place.Place.{Place}
-use Rattle.activation_directory.specs.Least.{least}
+use Rattle.stream_ident.specs.Words.{least}
 
 abbrev pub Placed : Type 0
 Placed = List (GrainId × Place)

@@ -70,8 +70,3 @@ Stands permits history d = Leads (empty permits) history d
 abbrev pub takes_memory : PlainDirectory → DirectoryOp → Bool
 takes_memory d (Enter grain silo) = not (is_some (place_in d.placed grain)) && nat_lt d.given d.permits
 takes_memory d _ = false
-
--- a call did what the definition says, or memory was wanting and nothing has changed
-abbrev pub Performs : PlainDirectory → PlainDirectory → Result DirectoryReply AllocError → PlainDirectory × DirectoryReply → Type 0
-Performs old new (Ok told) stepped = (new, told) ≡ stepped
-Performs old new (Err e) stepped = new ≡ old

@@ -2,7 +2,8 @@
 ghost use Rattle.std.specs.Prelude.{◌≡◌, ◌≤◌, true, OnErr};
 ghost use Rattle.activation_directory.specs.Plain.{empty};
 ghost use Rattle.activation_directory.specs.Placed.{least_on, place_in};
-ghost use Rattle.activation_directory.specs.Step.{down, enter, leave, step, takes_memory, unplace, Performs};
+ghost use Rattle.activation_directory.specs.Step.{down, enter, leave, step, takes_memory, unplace};
+ghost use Rattle.stream_ident.specs.Words.{Performs};
 ghost use Rattle.activation_directory.specs.declared.op.DirectoryOp.TheVariants.{Enter};
 
 use crate::op::DirectoryOp;

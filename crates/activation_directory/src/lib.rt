@@ -11,8 +11,6 @@ mod op;
 mod place;
 mod placed;
 mod reply;
-#[cfg(test)]
-mod tests;
 
 pub use directory::Directory;
 pub use op::DirectoryOp;

@@ -1,7 +1,7 @@
 //! The grains that are placed.
 ghost use Rattle.std.specs.Prelude.{◌≡◌, ◌+◌, IfSome};
 ghost use Rattle.stream_ident.specs.Name.{grain_lt};
-ghost use Rattle.activation_directory.specs.Least.{lesser};
+ghost use Rattle.stream_ident.specs.Words.{lesser};
 ghost use Rattle.activation_directory.specs.Placed.{count_on, least_on, without};
 
 use crate::place::Place;

@@ -15,20 +15,13 @@ use Rattle.queue_mapper.specs.Place.{tag_of}
 use Rattle.queue_cache.specs.Cache.{tags_of}
 use Rattle.tag_scan.specs.Tags.{IsAbsentBetween}
 use Rattle.cache_cursor.specs.Seek.{NoneBetween, IsFirst, NoneMarked}
-
--- streams that are the same are equal
-stream_equal : (a b : StreamId) → same_stream a b ≡ true → a ≡ b
-stream_equal a b same =
-    let parts = and_parts (same_name a.namespace b.namespace) (same_name a.key b.key) same in
-    let namespaces = (bytes_decides a.namespace b.namespace).0 parts.0 in
-    let keys = (bytes_decides a.key b.key).0 parts.1 in
-    λ i. record { namespace = namespaces i; key = keys i }
+use Rattle.stream_ident.proofs.SameValues.{same_stream-equal}
 
 -- an event of another tag isn't owed
 unowed : (stream : StreamId) (start : Token) (event : Event) → tag_of event.stream ≢ tag_of stream → is_owed stream start event ≡ false
 unowed stream start event other =
     ⊎_elim
-    (λ (same : same_stream stream event.stream ≡ true). absurd (other (ap tag_of (sym (stream_equal stream event.stream same)))))
+    (λ (same : same_stream stream event.stream ≡ true). absurd (other (ap tag_of (sym (same_stream-equal stream event.stream same)))))
     (λ (no : same_stream stream event.stream ≡ false). rw no)
     (cases_Bool (same_stream stream event.stream))
 

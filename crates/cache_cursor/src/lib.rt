@@ -14,8 +14,6 @@ ghost use Rattle.cache_cursor.specs.Cursor.{next_in, lower_in};
 ghost use Rattle.cache_cursor.specs.Seek.{NoneBetween, IsFirst};
 
 mod block;
-#[cfg(test)]
-mod tests;
 
 use block::{first_from_token, next_from, next_in_block};
 use queue_cache::{BLOCK_SIZE, QueueCache};

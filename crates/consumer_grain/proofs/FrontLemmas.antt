@@ -8,6 +8,7 @@ use Rattle.consumer_grain.specs.declared.delivery.Delivery.{Delivery}
 use Rattle.consumer_grain.specs.Activations.{front_of}
 use Rattle.consumer_grain.specs.Subscriptions.{rises_from}
 use Rattle.stream_ident.specs.Words.{past_from}
+use Rattle.stream_ident.proofs.WordLemmas.{drop-read}
 
 -- what a read gives where there is no delivery
 abbrev pub no_delivery : Delivery
@@ -25,9 +26,6 @@ front_of-cons n s from d ds passes = rw passes refl
 front_of-cut : (n s from : ℕ) (d : Delivery) (ds : List Delivery) → ((s == d.sub) && nat_le from d.position) ≡ false → front_of n s from (d ∷ ds) ≡ []
 front_of-cut zero s from d ds fails = refl
 front_of-cut (suc n) s from d ds fails = rw fails refl
-
-drop-read : (ds : List Delivery) (i : ℕ) (d : Delivery) → i < length ds → d ≡ get_or ds i d → drop i ds ≡ d ∷ drop (i + 1) ds
-drop-read ds i d within read = drop_more ds i d within ∙ ap (λ x. x ∷ drop (i + 1) ds) (sym read)
 
 -- the front of deliveries that begin with its first
 pub front_of-start : (most : ℕ) (d : Delivery) (ds : List Delivery) (done : List ℕ) → 1 ≤ most → ds ≡ d ∷ drop 1 ds → done ≡ d.position ∷ [] → done ++ front_of (most - length done) d.sub (suc d.position) (take (length ds - 1) (drop 1 ds)) ≡ front_of most d.sub d.position ds

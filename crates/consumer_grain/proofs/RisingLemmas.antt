@@ -20,10 +20,6 @@ pub past_from-any : (m n : ℕ) (xs : List ℕ) → 0 < length xs → past_from 
 past_from-any m n [] some = absurd (omega arith)
 past_from-any m n (x ∷ xs) some = refl
 
-pub past_from-append : (n : ℕ) (first second : List ℕ) → past_from n (first ++ second) ≡ past_from (past_from n first) second
-past_from-append n [] second = refl
-past_from-append n (position ∷ first) second = past_from-append (suc position) first second
-
 -- positions that go on where others end
 pub rises_from-append : (n : ℕ) (first second : List ℕ) → rises_from n first ≡ true → rises_from (past_from n first) second ≡ true → rises_from n (first ++ second) ≡ true
 rises_from-append n [] second rises more = more

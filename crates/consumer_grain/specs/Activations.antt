@@ -10,6 +10,8 @@ use Rattle.consumer_grain.specs.declared.told.Begun.{Begun}
 use Rattle.consumer_grain.specs.declared.told.Begun.TheVariants as begun
 use Rattle.consumer_grain.specs.declared.told.TurnEnd.{TurnEnd}
 use Rattle.consumer_grain.specs.declared.told.TurnEnd.TheVariants as turn_end
+use Rattle.stream_ident.specs.Blocks.{turn_size}
+use Rattle.stream_ident.specs.Words.{rising_front}
 
 -- how often it was activated, whether it is active, what waits for it, the oldest first, the turn that
 -- runs, and the subscriptions that something was offered for, from the least number to the greatest
@@ -52,22 +54,10 @@ abbrev pub offer_takes_memory : Offered → Bool
 offer_takes_memory offer.Delivered = true
 offer_takes_memory offer.MailboxFull = false
 
--- a call did what the definition says, or memory was wanting and nothing has changed
-abbrev pub Offers : PlainActivation → PlainActivation → Result Offered AllocError → PlainActivation × Offered → Type 0
-Offers old new (Ok told) stepped = (new, told) ≡ stepped
-Offers old new (Err e) stepped = new ≡ old
-
 -- the positions of the longest front of the deliveries, at most n, that are all of one subscription and
 -- rise from this position on
 abbrev pub front_of : ℕ → ℕ → ℕ → List Delivery → List ℕ
-front_of zero sub from deliveries = []
-front_of (suc n) sub from [] = []
-front_of (suc n) sub from (d ∷ deliveries) =
-    if (sub == d.sub) && nat_le from d.position then d.position ∷ front_of n sub (suc d.position) deliveries else []
-
--- a turn has 1 to 16 events
-abbrev pub turn_size : ℕ → ℕ
-turn_size max_events = min 16 (max 1 max_events)
+front_of n sub from deliveries = rising_front (λ a b. a == b) (λ (d : Delivery). d.sub) (λ (d : Delivery). d.position) n sub from deliveries
 
 abbrev pub started : PlainActivation → ℕ → ℕ → List ℕ → PlainActivation
 started a sub turn positions =
@@ -98,6 +88,10 @@ begin a past turn max_events =
 abbrev pub is_turn : ℕ → ℕ → ℕ → Option RunningTurn → Bool
 is_turn own activation turn None = false
 is_turn own activation turn (Some run) = (activation == own) && (turn == run.turn)
+
+-- the turn that runs, if it is this turn of this activation
+abbrev pub current_turn : PlainActivation → ℕ → ℕ → Option RunningTurn
+current_turn a activation turn = if is_turn a.number activation turn a.running then a.running else None
 
 -- exactly that turn of that activation ends
 abbrev pub commit : PlainActivation → ℕ → ℕ → PlainActivation × TurnEnd

@@ -31,8 +31,8 @@ abbrev pub committed : List ℕ → ℕ → PlainState → PlainState
 committed positions note s = record s { handled = s.handled ++ positions; note = note }
 
 -- the cursor past an event that was delivered
-abbrev pub delivered : ℕ → PlainState → PlainState
-delivered position s = record s { cursor = suc position }
+abbrev pub advanced : ℕ → PlainState → PlainState
+advanced position s = record s { cursor = suc position }
 
 -- the cursor back at the resume
 abbrev pub rewound : PlainState → PlainState

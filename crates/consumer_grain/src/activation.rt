@@ -2,8 +2,8 @@
 ghost use Rattle.std.specs.Prelude.{◌≡◌, ◌+◌, ◌^◌, ◌<◌, ◌≤◌, ◌∷◌, true, length, drop, Some, None, is_some, OnErr, IfOk, IfSome};
 ghost use Rattle.std.specs.List.{slice_get};
 ghost use Rattle.std.specs.Option.{option_copied};
-ghost use Rattle.stream_ident.specs.Words.{past};
-ghost use Rattle.consumer_grain.specs.Activations.{begin, begin_front, commit, deactivated, forgotten, holds, is_turn, lost, new_activation, offered, offer_takes_memory, running_count, runs, Offers};
+ghost use Rattle.stream_ident.specs.Words.{past, Performs};
+ghost use Rattle.consumer_grain.specs.Activations.{begin, begin_front, commit, current_turn, deactivated, forgotten, holds, lost, new_activation, offered, offer_takes_memory, running_count, runs};
 ghost use Rattle.consumer_grain.specs.Begins.{RisesFrom};
 ghost use Rattle.consumer_grain.specs.Subscriptions.{rises_from};
 
@@ -96,6 +96,18 @@ impl Activation {
         self.running.as_ref()
     }
 
+    /// The turn that runs, if it is this turn of this activation.
+    pub fn current_turn(&self, activation: u64, turn: u64) -> Option<&RunningTurn>
+        ensures { option_copied result ≡ current_turn self.now activation turn }
+    {
+        let run = self.running()?;
+        if activation == self.number && turn == run.turn {
+            Some(run)
+        } else {
+            None
+        }
+    }
+
     /// The numbers of the subscriptions that something was offered for and that weren't forgotten, rising.
     pub fn subs(&self) -> &[usize]
         ensures subs { result.now ≡ self.now.subs }
@@ -111,7 +123,7 @@ impl Activation {
         has_sub(self.mailbox.as_slice(), sub) || runs(&self.running, sub)
     }
 
-    /// Offers a delivery, which wakes the grain where it isn't active: the activation's number rises.
+    /// Performs a delivery, which wakes the grain where it isn't active: the activation's number rises.
     /// Sixteen deliveries wait at most, and one more is refused.
     ///
     /// A binary search looks the subscription up. The first delivery of each is inserted among the numbers,
@@ -122,7 +134,7 @@ impl Activation {
     pub fn offer(&mut self, _alloc: Global, delivery: Delivery) -> Result<Offered, AllocError>
         requires number { self.old.number + 1 < 2 ^ 64 }
         requires position { delivery.position + 1 < 2 ^ 64 }
-        ensures performs { Offers self.old self.new result (offered self.old delivery) }
+        ensures performs { Performs self.old self.new result (offered self.old delivery) }
         ensures memory { OnErr result (offer_takes_memory (offered self.old delivery).1 ≡ true) }
     {
         if self.mailbox.is_full() {
@@ -191,7 +203,7 @@ impl Activation {
     pub fn commit(&mut self, activation: u64, turn: u64) -> TurnEnd
         ensures { (self.new, result) ≡ commit self.old activation turn }
     {
-        if !is_turn(&self.running, self.number, activation, turn) {
+        if self.current_turn(activation, turn).is_none() {
             return TurnEnd::Stale;
         }
         self.running = None;
@@ -227,16 +239,6 @@ fn runs(running: &Option<RunningTurn>, sub: usize) -> bool
 {
     match running {
         Some(run) => sub == run.sub,
-        None => false,
-    }
-}
-
-/// Whether the turn that runs is this turn of this activation, where the own activation has this number.
-fn is_turn(running: &Option<RunningTurn>, own: u64, activation: u64, turn: u64) -> bool
-    ensures { result ≡ is_turn own activation turn running.now }
-{
-    match running {
-        Some(run) => activation == own && turn == run.turn,
         None => false,
     }
 }

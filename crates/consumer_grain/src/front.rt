@@ -1,6 +1,7 @@
 //! The front of a mailbox that a turn takes.
 ghost use Rattle.std.specs.Prelude.{◌≡◌, ◌≤◌, ◌∷◌, ◌==◌, ◌&&◌, drop, suc, nat_le};
-ghost use Rattle.consumer_grain.specs.Activations.{front_of, turn_size};
+ghost use Rattle.consumer_grain.specs.Activations.{front_of};
+ghost use Rattle.stream_ident.specs.Blocks.{turn_size};
 
 use crate::delivery::Delivery;
 use stream_ident::Row;

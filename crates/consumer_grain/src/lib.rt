@@ -6,15 +6,11 @@
 #![tactic(auto)]
 
 mod activation;
-#[cfg(test)]
-mod activation_tests;
 mod delivery;
 mod front;
 mod mailbox;
 mod numbers;
 mod sub_state;
-#[cfg(test)]
-mod sub_state_tests;
 mod told;
 mod turn;
 

@@ -1,7 +1,7 @@
 //! How far a subscription is.
 ghost use Rattle.std.specs.Prelude.{◌≡◌, ◌+◌, ◌^◌, ◌<◌, true, is_ok, if◌then◌else◌};
 ghost use Rattle.stream_ident.specs.Words.{past};
-ghost use Rattle.consumer_grain.specs.Subscriptions.{acknowledged, caught_up, closed, committed, delivered, is_unacknowledged, new_state, rewound, rises_from};
+ghost use Rattle.consumer_grain.specs.Subscriptions.{acknowledged, advanced, caught_up, closed, committed, is_unacknowledged, new_state, rewound, rises_from};
 
 use std::alloc::{AllocError, Global};
 use std::marker::Model;
@@ -132,9 +132,9 @@ impl SubState {
     }
 
     /// Its cursor goes past the event at a position, which was delivered. It takes no memory.
-    pub fn deliver(&mut self, position: usize)
+    pub fn advance(&mut self, position: usize)
         requires { position + 1 < 2 ^ 64 }
-        ensures { self.new ≡ delivered position self.old }
+        ensures { self.new ≡ advanced position self.old }
     {
         self.cursor = position + 1;
     }

@@ -1,5 +1,5 @@
 -- What changes at one grain, by its number.
-use Rattle.std.specs.Prelude.{◌≡◌, ℕ, List, [], get_or, Result, Ok, Err}
+use Rattle.std.specs.Prelude.{◌≡◌, ℕ, [], get_or, Result, Ok, Err}
 use Rattle.std.specs.declared.alloc.AllocError.{AllocError}
 use Rattle.stream_ident.specs.declared.ident.GrainId.{GrainId}
 use Rattle.stream_ident.specs.Words.{change_at}

@@ -4,7 +4,5 @@
 
 mod order;
 mod table;
-#[cfg(test)]
-mod tests;
 
 pub use table::GrainTable;

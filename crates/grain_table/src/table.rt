@@ -8,12 +8,10 @@ ghost use Rattle.consumer_grain.specs.Subscriptions.{rises_from};
 ghost use Rattle.grain_table.specs.Changes.{activation_at, grain_at, OffersAt};
 ghost use Rattle.grain_table.specs.Grains.{least_running, least_waiting, number_of, ready_after, with_grain, AreDistinct};
 
-use crate::order::{
-    first_running, first_waiting, insert_number, mark, next_key, raise, rank_above, rank_of,
-    stands_at,
-};
+use crate::order::{first_past, first_running, first_waiting, mark};
 use consumer_grain::{Activation, Begun, Delivery, Offered, TurnEnd};
 use least_tree::LeastTree;
+use ranking::Ranking;
 use std::alloc::{AllocError, Global};
 use std::marker::Model;
 use stream_ident::GrainId;
@@ -26,8 +24,7 @@ use stream_ident::GrainId;
 #[derive(Debug, Drop)]
 pub struct GrainTable {
     entries: Vec<(GrainId, Activation)>,
-    order: Vec<usize>,
-    ranks: Vec<usize>,
+    ranking: Ranking,
     ready: LeastTree,
 }
 
@@ -39,7 +36,7 @@ impl Model for GrainTable {
 
     ghost view = { λ t. t.entries.items };
 
-    ghost invariant = { λ t. IsTable t.entries.items t.order.items t.ranks.items t.ready };
+    ghost invariant = { λ t. IsTable t.entries.items t.ranking t.ready };
 }
 
 impl GrainTable {
@@ -49,8 +46,7 @@ impl GrainTable {
     {
         GrainTable {
             entries: Vec::new(alloc),
-            order: Vec::new(alloc),
-            ranks: Vec::new(alloc),
+            ranking: Ranking::new(alloc),
             ready: LeastTree::new(alloc),
         }
     }
@@ -75,11 +71,12 @@ impl GrainTable {
         ensures number { result ≡ number_of self.now grain.now }
         ensures within { IfSome result (λ number. number < length self.now) }
     {
-        let entries = self.entries.as_slice();
-        let order = self.order.as_slice();
-        let rank = rank_of(entries, order, grain);
-        if stands_at(entries, order, rank, grain) {
-            Some(order[rank])
+        let order = self.ranking.numbers();
+        let past = first_past(self.entries.as_slice(), order, Some(grain));
+        let rank = past.checked_sub(1)?;
+        let number = order[rank];
+        if *grain == self.entries[number].0 {
+            Some(number)
         } else {
             None
         }
@@ -111,8 +108,8 @@ impl GrainTable {
     }
 
     /// Adds a grain that was never active: it is active now, with one delivery, whose position leaves room
-    /// for one more. Its number is the length before. It costs a walk over the ranks of all grains, and where
-    /// a row has to grow as much once more.
+    /// for one more. Its number is the length before. It costs the logarithm of the length and the grains
+    /// whose names are greater; where a row has to grow, once as much as all.
     ///
     /// # Errors
     /// Memory, and then nothing has changed.
@@ -128,19 +125,18 @@ impl GrainTable {
     {
         let activation = activated(alloc, delivery)?;
         self.entries.reserve(1)?;
-        self.order.reserve(1)?;
-        self.ranks.reserve(1)?;
-        let number = self.entries.len();
-        let rank = rank_of(self.entries.as_slice(), self.order.as_slice(), &grain);
-        self.ready.insert(alloc, rank, Some(0))?;
-        insert_number(&mut self.order, rank, number);
-        raise(self.ranks.as_mut_slice(), rank);
-        self.ranks.push_reserved(rank);
+        let order = self.ranking.numbers();
+        let rank = first_past(self.entries.as_slice(), order, Some(&grain));
+        self.ranking.insert(rank)?;
+        if let Err(error) = self.ready.insert(alloc, rank, Some(0)) {
+            self.ranking.pop();
+            return Err(error);
+        }
         self.entries.push_reserved((grain, activation));
         Ok(())
     }
 
-    /// Offers a delivery to the grain with a number, as `Activation::offer` says. The position of the
+    /// Performs a delivery to the grain with a number, as `Activation::offer` says. The position of the
     /// delivery and the number of the activation leave room for one more. It costs what that does, and the
     /// logarithm of the length.
     ///
@@ -159,7 +155,7 @@ impl GrainTable {
         ensures memory { OnErr result (offer_takes_memory (offered (activation_at self.old number) delivery).1 ≡ true) }
     {
         let offered = self.entries[number].1.offer(alloc, delivery)?;
-        mark(&self.entries, &self.ranks, &mut self.ready, number);
+        mark(&self.entries, &self.ranking, &mut self.ready, number);
         Ok(offered)
     }
 
@@ -178,7 +174,7 @@ impl GrainTable {
         ensures rising { RisesFrom past result }
     {
         let begun = self.entries[number].1.begin(past, turn, max_events);
-        mark(&self.entries, &self.ranks, &mut self.ready, number);
+        mark(&self.entries, &self.ranking, &mut self.ready, number);
         begun
     }
 
@@ -190,7 +186,7 @@ impl GrainTable {
         ensures ended { result ≡ (commit (activation_at self.old number) activation turn).1 }
     {
         let ended = self.entries[number].1.commit(activation, turn);
-        mark(&self.entries, &self.ranks, &mut self.ready, number);
+        mark(&self.entries, &self.ranking, &mut self.ready, number);
         ended
     }
 
@@ -201,7 +197,7 @@ impl GrainTable {
         ensures { self.new ≡ change_at (forgotten sub) number self.old }
     {
         self.entries[number].1.forget(sub);
-        mark(&self.entries, &self.ranks, &mut self.ready, number);
+        mark(&self.entries, &self.ranking, &mut self.ready, number);
     }
 
     /// The grain with a number leaves memory, as `Activation::deactivate` says: it gives how many
@@ -212,7 +208,7 @@ impl GrainTable {
         ensures lost { result ≡ lost (activation_at self.old number) }
     {
         let lost = self.entries[number].1.deactivate();
-        mark(&self.entries, &self.ranks, &mut self.ready, number);
+        mark(&self.entries, &self.ranking, &mut self.ready, number);
         lost
     }
 
@@ -222,11 +218,9 @@ impl GrainTable {
     pub fn ready_after(&self, after: Option<&GrainId>) -> Option<GrainId>
         ensures { result ≡ ready_after self.now (option_copied after.entry) }
     {
-        let entries = self.entries.as_slice();
-        let order = self.order.as_slice();
-        let from = rank_above(entries, order, after);
-        let rank = next_key(&self.ready, from)?;
-        Some(entries[order[rank]].0)
+        let from = first_past(self.entries.as_slice(), self.ranking.numbers(), after);
+        let number = self.ranking.next_number(&self.ready, from, 0)?;
+        Some(self.entries[number].0)
     }
 
     /// The least grain that something waits for, if there is one. It walks over the order of the names, once
@@ -234,7 +228,7 @@ impl GrainTable {
     pub fn least_waiting(&self) -> Option<GrainId>
         ensures { result ≡ least_waiting self.now }
     {
-        first_waiting(self.entries.as_slice(), self.order.as_slice())
+        first_waiting(self.entries.as_slice(), self.ranking.numbers())
     }
 
     /// The least grain that a turn runs for, if there is one. It walks over the order of the names, once at
@@ -242,7 +236,7 @@ impl GrainTable {
     pub fn least_running(&self) -> Option<GrainId>
         ensures { result ≡ least_running self.now }
     {
-        first_running(self.entries.as_slice(), self.order.as_slice())
+        first_running(self.entries.as_slice(), self.ranking.numbers())
     }
 }
 

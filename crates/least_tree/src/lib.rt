@@ -3,8 +3,6 @@
 #![tactic(auto)]
 
 mod nodes;
-#[cfg(test)]
-mod tests;
 mod tree;
 
 pub use tree::LeastTree;

@@ -2,7 +2,7 @@
 use std::alloc::{AllocError, Global};
 use step_core::{Partition, Pending, SubSummary};
 use stream_ident::{Event, SubName, Token};
-use stream_model::{PlainPartition, Subscription, reference};
+use stream_model::{PlainPartition, Subscription};
 
 /// What can be looked at of a partition.
 #[derive(Debug, PartialEq, Drop)]
@@ -45,7 +45,7 @@ impl Looks {
     /// Memory.
     pub fn of_reference(
         alloc: Global,
-        reference: &reference::Partition,
+        reference: &partition_reference::Partition,
     ) -> Result<Looks, AllocError> {
         let plain = reference.plain();
         let subs = plain_subs(alloc, plain)?;

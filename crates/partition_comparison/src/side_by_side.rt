@@ -11,7 +11,6 @@ use crate::stepping::{compare_looks, step_partition, step_reference};
 use crate::tally::Tally;
 use std::alloc::{AllocError, Global};
 use step_core::{DrainEnd, Limits, Op, Partition, Reply};
-use stream_model::reference;
 
 /// A partition, its twin and the plain program, to which the same operations are done.
 ///
@@ -21,7 +20,7 @@ pub struct SideBySide {
     place: Place,
     partition: Partition,
     twin: Partition,
-    reference: reference::Partition,
+    reference: partition_reference::Partition,
 }
 
 impl SideBySide {
@@ -47,7 +46,7 @@ impl SideBySide {
             },
             partition: again(|| Partition::new(alloc, blocks, limits))?,
             twin: again(|| Partition::new(alloc, blocks, limits))?,
-            reference: reference::Partition::new(alloc, blocks, limits),
+            reference: partition_reference::Partition::new(alloc, blocks, limits),
         })
     }
 

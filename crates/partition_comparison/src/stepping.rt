@@ -7,7 +7,6 @@ use crate::looks::Looks;
 use crate::tally::Tally;
 use std::alloc::{AllocError, Global};
 use step_core::{Op, Partition, Reply};
-use stream_model::reference;
 
 /// Does an operation to a partition. Where memory was wanting, the partition has to look as before, which
 /// is how the plain program looks, and the operation is done then.
@@ -17,7 +16,7 @@ use stream_model::reference;
 pub fn step_partition(
     place: Place,
     partition: &mut Partition,
-    reference: &reference::Partition,
+    reference: &partition_reference::Partition,
     op: &Op,
     tally: &mut Tally,
 ) -> Result<Reply, Fault> {
@@ -41,7 +40,7 @@ pub fn step_partition(
 /// Memory.
 pub fn step_reference(
     alloc: Global,
-    reference: &mut reference::Partition,
+    reference: &mut partition_reference::Partition,
     op: &Op,
 ) -> Result<Reply, AllocError> {
     let copy = again(|| op.copy(alloc))?;
@@ -59,7 +58,7 @@ pub fn step_reference(
 pub fn compare_looks(
     place: Place,
     partition: &Partition,
-    reference: &reference::Partition,
+    reference: &partition_reference::Partition,
 ) -> Result<(), Fault> {
     let alloc = place.alloc;
     let looks = again(|| Looks::of(alloc, partition))?;

@@ -43,11 +43,6 @@ abbrev pub takes_memory : Appended → Bool
 takes_memory (Accepted seq) = true
 takes_memory _ = false
 
--- a call did what the definition says, or memory was wanting and nothing has changed
-abbrev pub Performs : PlainQueue → PlainQueue → Result Appended AllocError → PlainQueue × Appended → Type 0
-Performs old new (Ok told) stepped = (new, told) ≡ stepped
-Performs old new (Err e) stepped = new ≡ old
-
 -- Tokens rise along the queue, and each is of a batch that was accepted.
 pub record TokensRise (q : PlainQueue) : Type 0 where
   pub rising : (i j : ℕ) → i < j → j < length q.events → token_lt (event_at q i).token (event_at q j).token ≡ true

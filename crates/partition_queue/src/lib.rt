@@ -6,8 +6,6 @@
 
 mod appended;
 mod queue;
-#[cfg(test)]
-mod tests;
 
 pub use appended::Appended;
 pub use queue::PartitionQueue;

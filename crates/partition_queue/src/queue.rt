@@ -1,7 +1,8 @@
 //! The queue of a partition.
 ghost use Rattle.std.specs.Prelude.{◌≡◌, ◌+◌, ◌-◌, ◌<◌, ◌≤◌, ◌↔◌, ◌++◌, [], true, length, IsTrue, OnErr, vec_len, vec_capacity};
 ghost use Rattle.stream_ident.specs.Event.{events_of};
-ghost use Rattle.partition_queue.specs.Queue.{append, between, empty, event_at, takes_memory, token_at, Performs, TokensRise};
+ghost use Rattle.partition_queue.specs.Queue.{append, between, empty, event_at, takes_memory, token_at, TokensRise};
+ghost use Rattle.stream_ident.specs.Words.{Performs};
 
 use crate::appended::Appended;
 use std::alloc::{AllocError, Global};

@@ -6,7 +6,8 @@ use Rattle.stream_ident.specs.SubName.{same_sub, sub_lt}
 use Rattle.stream_ident.specs.declared.ident.SubName.{SubName}
 use Rattle.pubsub_registry.specs.Ascending.{IsAscending, IsPlaceOf}
 use Rattle.pubsub_registry.specs.Registry.{Rises}
-use Rattle.pubsub_registry.proofs.NameOrder.{same_sub-equal, sub_lt-trans, sub_lt-other}
+use Rattle.stream_ident.proofs.NameOrders.{sub_order}
+use Rattle.stream_ident.proofs.SameValues.{same_sub-equal}
 
 All-insert : (P : SubName → Type 0) (names : List SubName) (at : ℕ) (s : SubName) → All P names → P s → All P (insert names at s)
 All-insert P names at s all here =
@@ -51,7 +52,7 @@ all-before (x ∷ xs) s (suc at) ascending within last =
     first : (at : ℕ) → at ≤ length xs → ((k : ℕ) → suc k ≡ suc at → sub_lt (get_or (x ∷ xs) k s) s ≡ true) → sub_lt x s ≡ true
     first zero rest last = last zero refl
     first (suc m) rest last =
-        sub_lt-trans x (get_or xs m s) s (ascending.0 m s (omega arith)) (last (suc m) refl)
+        sub_order.chain x (get_or xs m s) s (ascending.0 m s (omega arith)) (last (suc m) refl)
 
 -- where the walk from the end stops
 pub place-from : (names : List SubName) (s : SubName) (at : ℕ) → IsAscending names → (Contains names s → ⊥) → at ≤ length names
@@ -60,7 +61,7 @@ place-from names s at ascending new within after last = record {
   within = within;
   before = all-before names s at ascending within (λ k is.
       let there : Contains names (get_or names k s) = Contains-get_or names k s (omega arith) in
-      sub_lt-other s (get_or names k s) (last k is)
+      sub_order.rest s (get_or names k s) (last k is)
       (false_from_ne_true (same_sub s (get_or names k s)) (λ same. new (subst (Contains names) (sym (same_sub-equal s (get_or names k s) same)) there))));
   after = after;
 }

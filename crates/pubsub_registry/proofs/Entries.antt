@@ -15,7 +15,7 @@ use Rattle.pubsub_registry.specs.Index.{streams_of, AreUnique}
 use Rattle.pubsub_registry.specs.Registry.{shut}
 use Rattle.pubsub_registry.specs.declared.registration.Registration.{Registration}
 use Rattle.pubsub_registry.proofs.Elements.{Contains-here, Contains-later, Contains-cases, Contains-none}
-use Rattle.pubsub_registry.proofs.NameOrder.{same_sub-equal, same_sub-refl}
+use Rattle.stream_ident.proofs.SameValues.{same_sub-equal, same_sub-refl}
 
 abbrev pub Names : Type 0
 Names = List (SubName × Registration)

@@ -19,15 +19,9 @@ use Rattle.pubsub_registry.specs.declared.registration.Registration.{Registratio
 use Rattle.pubsub_registry.proofs.Entries.{Names}
 use Rattle.pubsub_registry.proofs.ImpliedNames.{has, implied-on}
 use Rattle.pubsub_registry.proofs.RuleLemmas.{on}
+use Rattle.stream_ident.proofs.WordLemmas.{front-of-front}
 
 -- ---- the front
-
--- a front of a front
-pub front-of-front : {X : Type 0} (xs ys zs : List X) → take (length xs) ys ≡ xs → take (length ys) zs ≡ ys → take (length xs) zs ≡ xs
-front-of-front xs ys zs first second =
-    let size = ap length first in
-    let short : length xs ≤ length ys = omega (arith, length-take (length xs) ys, size) in
-    sym (take-take (length xs) (length ys) zs short) ∙ ap (take (length xs)) second ∙ first
 
 added-front : (names : Names) (entry : SubName × Registration) → take (length names) (added names entry) ≡ names
 added-front names entry = by (has entry.0 names)

@@ -1,4 +1,5 @@
 -- Which names are there, and which the rules make of events.
+use Rattle.std.proofs.Math.Bool.{or-false, or_assoc}
 use Rattle.std.proofs.Common.{◌≡◌, ◌∙◌, ℕ, ◌&&◌, ◌||◌, not, Bool, true, false, List, [], ◌∷◌, ◌++◌, Some, is_some, fold, if◌then◌else◌, refl, sym, ap}
 use Rattle.std.specs.List.{flat_map, list_any}
 use Rattle.stream_ident.specs.declared.event.Event.{Event}
@@ -15,21 +16,13 @@ use Rattle.pubsub_registry.specs.Implying.{added, all_implied, implied, made, ma
 use Rattle.pubsub_registry.specs.Registry.{registered}
 use Rattle.pubsub_registry.specs.declared.registration.Registration.{Registration}
 use Rattle.pubsub_registry.proofs.Entries.{Names}
-use Rattle.pubsub_registry.proofs.NameOrder.{same_stream-equal, same_stream-refl, same_sub-equal}
+use Rattle.stream_ident.proofs.SameValues.{same_stream-equal, same_stream-refl, same_sub-equal}
 use Rattle.pubsub_registry.proofs.RuleLemmas.{on}
 
 -- ---- names that are there
 
 abbrev pub has : SubName → Names → Bool
 has s names = is_some (value_at same_sub s names)
-
-or_false : (x : Bool) → x || false ≡ x
-or_false true = refl
-or_false false = refl
-
-or_assoc : (x y z : Bool) → x || (y || z) ≡ (x || y) || z
-or_assoc true y z = refl
-or_assoc false y z = refl
 
 has-cons : (s : SubName) (entry : SubName × Registration) (names : Names) → has s (entry ∷ names) ≡ same_sub s entry.0 || has s names
 has-cons s entry names = by (same_sub s entry.0)
@@ -42,7 +35,7 @@ has-append : (s : SubName) (xs ys : Names) → has s (xs ++ ys) ≡ has s xs || 
 has-append s [] ys = refl
 has-append s (x ∷ xs) ys =
     has-cons s x (xs ++ ys) ∙ ap (λ rest. same_sub s x.0 || rest) (has-append s xs ys)
-    ∙ or_assoc (same_sub s x.0) (has s xs) (has s ys) ∙ ap (λ first. first || has s ys) (sym (has-cons s x xs))
+    ∙ sym (or_assoc (same_sub s x.0) (has s xs) (has s ys)) ∙ ap (λ first. first || has s ys) (sym (has-cons s x xs))
 
 -- a name is there after one is added where it was, or is that one
 has-added : (s : SubName) (names : Names) (entry : SubName × Registration) → has s (added names entry) ≡ has s names || same_sub s entry.0
@@ -52,19 +45,19 @@ has-added s names entry = by (has entry.0 names) refl
     same-there there true same =
         let is : has s names ≡ true = ap (λ name. has name names) (same_sub-equal s entry.0 same) ∙ there in
         is ∙ sym (ap (λ b. b || true) is)
-    same-there there false apart = sym (or_false (has s names))
+    same-there there false apart = sym (or-false (has s names))
 
     by : (there : Bool) → has entry.0 names ≡ there → has s (if there then names else names ++ entry ∷ []) ≡ has s names || same_sub s entry.0
     by true there = same-there there (same_sub s entry.0) refl
     by false absent =
-        has-append s names (entry ∷ []) ∙ ap (λ last. has s names || last) (has-cons s entry [] ∙ or_false (same_sub s entry.0))
+        has-append s names (entry ∷ []) ∙ ap (λ last. has s names || last) (has-cons s entry [] ∙ or-false (same_sub s entry.0))
 
 -- a name is there after these are added where it was, or is one of them
 pub has-fold : (s : SubName) (names entries : Names) → has s (fold added names entries) ≡ has s names || has s entries
-has-fold s names [] = sym (or_false (has s names))
+has-fold s names [] = sym (or-false (has s names))
 has-fold s names (entry ∷ entries) =
     has-fold s (added names entry) entries ∙ ap (λ first. first || has s entries) (has-added s names entry)
-    ∙ sym (or_assoc (has s names) (same_sub s entry.0) (has s entries)) ∙ ap (λ rest. has s names || rest) (sym (has-cons s entry entries))
+    ∙ or_assoc (has s names) (same_sub s entry.0) (has s entries) ∙ ap (λ rest. has s names || rest) (sym (has-cons s entry entries))
 
 -- ---- names that rules make
 
@@ -101,7 +94,7 @@ has-rule kind stream event rule = by (not (token_lt event.token (batch_token rul
     none false false = refl
 
     by : (holds : Bool) → has (Implicit kind stream) (if holds then entry event rule ∷ [] else []) ≡ same_stream stream event.stream && (same_name kind rule.kind && holds)
-    by true = has-cons (Implicit kind stream) (entry event rule) [] ∙ or_false _ ∙ both (same_name kind rule.kind) (same_stream stream event.stream)
+    by true = has-cons (Implicit kind stream) (entry event rule) [] ∙ or-false _ ∙ both (same_name kind rule.kind) (same_stream stream event.stream)
     by false = none (same_name kind rule.kind) (same_stream stream event.stream)
 
 -- some rule on the event's namespace makes a stream's subscription of a kind

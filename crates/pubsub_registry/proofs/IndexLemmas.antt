@@ -18,7 +18,7 @@ use Rattle.pubsub_registry.specs.declared.registration.Registration.{Registratio
 use Rattle.pubsub_registry.proofs.Ascending.{ascending-insert, ascending-filter}
 use Rattle.pubsub_registry.proofs.Elements.{Contains-insert_here, Contains-insert, Contains-insert_cases, Contains-filter, Contains-filter_parts}
 use Rattle.pubsub_registry.proofs.Entries.{streams_of-none, streams_of-shut}
-use Rattle.pubsub_registry.proofs.NameOrder.{same_stream-equal, same_stream-refl, same_sub-equal, same_sub-refl}
+use Rattle.stream_ident.proofs.SameValues.{same_stream-equal, same_stream-refl, same_sub-equal, same_sub-refl}
 
 abbrev Streams : Type 0
 Streams = List (SubName × StreamId)

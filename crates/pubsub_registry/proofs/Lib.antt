@@ -6,7 +6,6 @@ pub mod ImpliedNames
 pub mod ImpliedSound
 pub mod ImpliedSteps
 pub mod IndexLemmas
-pub mod NameOrder
 pub mod RowLemmas
 pub mod RuleLemmas
 pub mod SoundLemmas

@@ -6,7 +6,7 @@ use Rattle.std.proofs.lemmas.List.Edits.{insert_end}
 use Rattle.std.proofs.lemmas.List.Elements.{filter-append}
 use Rattle.stream_ident.specs.Name.{same_name}
 use Rattle.stream_ident.specs.declared.rule.Rule.{Rule}
-use Rattle.pubsub_registry.proofs.NameOrder.{same_name-equal, same_name-refl}
+use Rattle.stream_ident.proofs.SameValues.{same_name-equal, same_name-refl}
 
 abbrev pub on : List ℕ → List Rule → List Rule
 on namespace rules = filter (λ (rule : Rule). same_name namespace rule.namespace) rules

@@ -12,7 +12,7 @@ use Rattle.pubsub_registry.proofs.Ascending.{rises}
 use Rattle.pubsub_registry.proofs.Elements.{Contains-here, Contains-later, Contains-cases, Contains-none}
 use Rattle.pubsub_registry.proofs.Entries.{Names}
 use Rattle.pubsub_registry.proofs.IndexLemmas.{Same, name-of, stream-of}
-use Rattle.pubsub_registry.proofs.NameOrder.{same_stream-equal, same_stream-refl}
+use Rattle.stream_ident.proofs.SameValues.{same_stream-equal, same_stream-refl}
 
 -- a subscription of the stream under this name
 abbrev HasEntry : Names → SubName → StreamId → Type 0

@@ -6,10 +6,11 @@ use Rattle.stream_ident.specs.declared.ident.SubName.{SubName}
 use Rattle.stream_ident.specs.declared.ident.SubName.TheVariants as name
 use Rattle.stream_ident.specs.declared.rule.Rule.{Rule}
 use Rattle.stream_ident.specs.Event.{batch_token}
+use Rattle.stream_ident.specs.Implying.{implied_by}
 use Rattle.stream_ident.specs.Name.{same_name}
 use Rattle.stream_ident.specs.SubName.{same_sub}
 use Rattle.stream_ident.specs.Token.{token_lt}
-use Rattle.stream_ident.specs.Words.{value_at}
+use Rattle.stream_ident.specs.Words.{with_new}
 use Rattle.pubsub_registry.specs.declared.registration.Registration.{Registration}
 use Rattle.pubsub_registry.specs.declared.told.Implied.{Implied}
 use Rattle.pubsub_registry.specs.declared.told.Implied.TheVariants as implied_told
@@ -17,10 +18,7 @@ use Rattle.pubsub_registry.specs.Registry.{PlainRegistry, registered}
 
 -- what a rule makes of an event: nothing, or a subscription that starts at the rule's batch
 abbrev pub implied : Event → Rule → List (SubName × Registration)
-implied event rule =
-    if same_name event.stream.namespace rule.namespace && not (token_lt event.token (batch_token rule.from))
-    then (name.Implicit rule.kind event.stream, registered event.stream (record { kind = rule.kind; key = event.stream.key }) (batch_token rule.from)) ∷ []
-    else []
+implied event rule = implied_by registered event rule
 
 -- the same of a rule that is on the event's namespace
 abbrev pub made : Event → Rule → List (SubName × Registration)
@@ -39,7 +37,7 @@ all_implied rules events = flat_map (λ event. flat_map (implied event) rules) e
 
 -- the name and its registration, unless the name is there
 abbrev pub added : List (SubName × Registration) → SubName × Registration → List (SubName × Registration)
-added names entry = if is_some (value_at same_sub entry.0 names) then names else names ++ entry ∷ []
+added names entry = with_new same_sub names entry
 
 -- the names, with those that the rules make of these events
 abbrev pub names_with : List Rule → List (SubName × Registration) → List Event → List (SubName × Registration)

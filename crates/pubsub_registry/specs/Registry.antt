@@ -104,8 +104,3 @@ pub record AreSubsOf (r : PlainRegistry) (stream : StreamId) (names : List SubNa
   pub rising : Rises names
   pub theirs : (s : SubName) → Contains names s → IsOf r stream s
   pub complete : (s : SubName) → IsOf r stream s → Contains names s
-
--- a call did what the definition says, or memory was wanting and nothing has changed
-abbrev pub Performs : {R : Type 0} → PlainRegistry → PlainRegistry → Result R AllocError → PlainRegistry × R → Type 0
-Performs old new (Ok told) stepped = (new, told) ≡ stepped
-Performs old new (Err e) stepped = new ≡ old

@@ -5,10 +5,9 @@ ghost use Rattle.stream_ident.specs.Event.{batch_token};
 ghost use Rattle.stream_ident.specs.Name.{same_stream};
 ghost use Rattle.stream_ident.specs.SubName.{same_sub};
 ghost use Rattle.stream_ident.specs.Token.{token_lt};
-ghost use Rattle.stream_ident.specs.Words.{value_at};
+ghost use Rattle.stream_ident.specs.Words.{value_at, Performs};
 ghost use Rattle.stream_ident.specs.declared.event.Event.{Event};
 ghost use Rattle.pubsub_registry.specs.Implying.{added, imply, made, makes_any, names_with, rule_count};
-ghost use Rattle.pubsub_registry.specs.Registry.{Performs};
 
 use crate::registry::{Registry, implied_grain, opened};
 use crate::rules::Rules;

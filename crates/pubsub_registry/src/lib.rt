@@ -7,16 +7,12 @@
 #![tactic(auto)]
 
 mod implying;
-#[cfg(test)]
-mod implying_tests;
 mod place;
 mod registration;
 mod registry;
 mod rows;
 mod rules;
 mod subscriptions;
-#[cfg(test)]
-mod tests;
 mod told;
 
 pub use registration::Registration;

@@ -1,10 +1,10 @@
 //! The registry.
 ghost use Rattle.std.specs.Prelude.{◌≡◌, ℕ, ◌+◌, ◌^◌, ◌<◌, ◌≤◌, ◌↔◌, false, None, Some, IsTrue, IfSome, OnErr, is_some, length, slice_get};
 ghost use Rattle.stream_ident.specs.SubName.{same_sub};
-ghost use Rattle.stream_ident.specs.Words.{first_at};
+ghost use Rattle.stream_ident.specs.Words.{first_at, Performs};
 ghost use Rattle.stream_ident.specs.declared.ident.SubName.TheVariants.{Explicit, Implicit};
 ghost use Rattle.pubsub_registry.specs.Index.{AreUnique};
-ghost use Rattle.pubsub_registry.specs.Registry.{add, add_implied, add_rule, close, empty, is_full, registered, registration_of, rules_on, truncated, AreSubsOf, Performs};
+ghost use Rattle.pubsub_registry.specs.Registry.{add, add_implied, add_rule, close, empty, is_full, registered, registration_of, rules_on, truncated, AreSubsOf};
 
 use crate::registration::Registration;
 use crate::rules::Rules;

@@ -1,2 +1,1 @@
 pub mod Agent
-pub mod Handled

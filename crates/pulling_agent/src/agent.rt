@@ -1,27 +1,47 @@
 //! The agent.
-ghost use Rattle.std.specs.Prelude.{◌≡◌, ◌+◌, ◌-◌, ◌*◌, ◌^◌, ◌<◌, ◌≤◌, true, length, max, All, IfOk};
+ghost use Rattle.std.specs.Prelude.{◌≡◌, ◌+◌, ◌-◌, ◌*◌, ◌^◌, ◌<◌, ◌≤◌, length, max, IfOk};
 ghost use Rattle.queue_cache.specs.Cache.{high, room};
-ghost use Rattle.queue_mapper.specs.Place.{tag_of};
-ghost use Rattle.pulling_agent.specs.Agent.{ack, check, deliver, drops, empty, free_blocks, plan_pull, pull, pull_size, purge, retry, take_over, IsFound, MayTake};
+ghost use Rattle.pulling_agent.specs.Agent.{check, drops, empty, free_blocks, plan_pull, pulled, purge, take_over, without_blocks, MayTake};
+ghost use Rattle.stream_ident.specs.Blocks.{pull_size};
 
-use crate::blocks::drop_blocks;
-use crate::handled::handled_at;
-use crate::told::{Acked, Plan, Retried, Sought, StaleAgent};
-use cache_cursor::next;
-use consumer_grain::SubState;
-use partition_queue::PartitionQueue;
 use queue_cache::{BLOCK_SIZE, QueueCache};
 use std::alloc::{AllocError, Global};
 use std::marker::Model;
-use stream_ident::{Event, StreamId, Token};
+use stream_ident::Event;
+use thiserror::Error;
 
 /// The most events of one pull.
 const MAX_PULL: usize = 256;
 
+/// The caller speaks for an agent that was replaced.
+#[derive(Clone, Copy, Debug, PartialEq, Eq, Error)]
+#[error("stale agent: the generation is {now}")]
+pub struct StaleAgent {
+    /// The generation of the current agent.
+    pub now: u64,
+}
+
+/// What a pull would do.
+#[derive(Clone, Copy, Debug, PartialEq, Eq)]
+pub enum Plan {
+    /// The cache has all events of the queue.
+    Dry,
+    /// The cache has no room, and no block that may be dropped.
+    Pressed,
+    /// It would drop blocks and take events.
+    Take {
+        /// How many blocks it drops, from the front.
+        drops: usize,
+        /// How many events it takes, 1 to 256.
+        count: usize,
+    },
+}
+
 /// The pulling agent of a queue.
 ///
-/// A queue has one agent at a time, and each has a generation, counted from 0. A call that names another
-/// generation comes from an agent that was replaced: it is answered by `StaleAgent` and changes nothing.
+/// A queue has one agent at a time, and each has a generation, counted from 0. A caller names the generation
+/// of the agent that it speaks for, and asks `check` first: that is the one place where a caller for an
+/// agent that was replaced is refused. The other calls take no generation.
 ///
 /// A contract sees the agent as its generation, the silo that it runs on, and its cache.
 #[derive(Drop)]
@@ -81,10 +101,10 @@ impl Agent {
         &self.cache
     }
 
-    /// Whether a call may name this generation.
+    /// Whether a caller speaks for this agent: it names its generation.
     ///
     /// # Errors
-    /// `StaleAgent` where it isn't the agent's.
+    /// `StaleAgent` where it names another.
     pub fn check(&self, generation: u64) -> Result<(), StaleAgent>
         ensures { result ≡ check self.now generation }
     {
@@ -101,14 +121,11 @@ impl Agent {
     ///
     /// It takes 1 to 256 events: 0 is read as 1, and more as 256. It drops the fewest blocks that make
     /// room for them, of those that lie before `least`, and takes as many events as then fit.
-    pub fn plan_pull(&self, generation: u64, max_events: usize, len: usize, least: usize) -> Plan
+    pub fn plan_pull(&self, max_events: usize, len: usize, least: usize) -> Plan
         requires { high self.now.cache ≤ len }
-        ensures plan { result ≡ plan_pull self.now generation max_events len least }
+        ensures plan { result ≡ plan_pull self.now max_events len least }
         ensures may { MayTake self.now len least result }
     {
-        if let Err(StaleAgent { now }) = self.check(generation) {
-            return Plan::StaleAgent { now };
-        }
         let high = self.cache.high();
         if high == len {
             return Plan::Dry;
@@ -117,122 +134,32 @@ impl Agent {
         let drops = self.drops(least, want);
         let room = self.cache.room().saturating_add(BLOCK_SIZE * drops);
         match want.min(room) {
-            0 => Plan::Held,
+            0 => Plan::Pressed,
             count => Plan::Take { drops, count },
         }
     }
 
     /// Drops blocks and takes events in behind those of the cache, as a plan said. It takes no memory.
-    ///
-    /// # Errors
-    /// `StaleAgent`, and then nothing has changed.
-    pub fn pull(
-        &mut self,
-        generation: u64,
-        drops: usize,
-        events: &[Event],
-    ) -> Result<(), StaleAgent>
+    pub fn pull(&mut self, drops: usize, events: &[Event])
         requires blocks { 64 * drops ≤ length self.old.cache.events }
         requires room { length events.now ≤ room self.old.cache + 64 * drops }
         requires positions { high self.old.cache + length events.now < 2 ^ 64 }
-        ensures { (self.new, result) ≡ pull self.old generation drops events.now }
+        ensures { self.new ≡ pulled self.old drops events.now }
     {
-        self.check(generation)?;
         drop_blocks(&mut self.cache, drops);
         self.cache.take(events);
-        Ok(())
-    }
-
-    /// What a subscription to a stream is owed next. Where the cache has nothing more for it, its cursor
-    /// goes to the end of the cache, and its resume too unless something is outstanding. The tag is that
-    /// of the stream. It takes no memory.
-    ///
-    /// # Errors
-    /// `StaleAgent`, and then nothing has changed.
-    pub fn deliver(
-        &self,
-        generation: u64,
-        state: &mut SubState,
-        stream: &StreamId,
-        tag: u8,
-        outstanding: bool,
-    ) -> Result<Sought, StaleAgent>
-        requires cursor { state.old.is_open ≡ true → self.now.cache.low ≤ state.old.cursor }
-        requires tag { tag ≡ tag_of stream.now }
-        ensures sought { (state.new, result) ≡ deliver self.now generation state.old stream.now outstanding }
-        ensures found { IfOk result (IsFound self.now state.old) }
-    {
-        self.check(generation)?;
-        if !state.is_open() {
-            return Ok(Sought::Closed);
-        }
-        let start = state.start();
-        match next(&self.cache, state.cursor(), stream, tag, &start) {
-            Some(position) => Ok(Sought::Next { position }),
-            None => {
-                state.catch_up(self.cache.high(), outstanding);
-                Ok(Sought::Nothing)
-            }
-        }
-    }
-
-    /// What a subscription hasn't acknowledged is sought again: its cursor goes back to its resume. It
-    /// takes no memory.
-    ///
-    /// # Errors
-    /// `StaleAgent`, and then nothing has changed.
-    pub fn retry(&self, generation: u64, state: &mut SubState) -> Result<Retried, StaleAgent>
-        ensures { (state.new, result) ≡ retry self.now generation state.old }
-    {
-        self.check(generation)?;
-        if !state.is_open() {
-            return Ok(Retried::Closed);
-        }
-        state.rewind();
-        Ok(Retried::Rewound)
-    }
-
-    /// Acknowledges what a subscription is owed up to and with a handled event, which its token names. It
-    /// is found in a logarithmic number of steps. It takes no memory.
-    ///
-    /// # Errors
-    /// `StaleAgent`, and then nothing has changed.
-    pub fn ack(
-        &self,
-        generation: u64,
-        state: &mut SubState,
-        queue: &PartitionQueue,
-        token: &Token,
-    ) -> Result<Acked, StaleAgent>
-        requires { All (λ position. position < length queue.now.events) state.old.handled }
-        ensures { (state.new, result) ≡ ack self.now generation state.old queue.now token.now }
-    {
-        self.check(generation)?;
-        if !state.is_open() {
-            return Ok(Acked::Closed);
-        }
-        prove!(state.past() <= queue.len());
-        let Some(position) = handled_at(state.handled(), queue, token) else {
-            return Ok(Acked::NotHandled);
-        };
-        state.acknowledge(position);
-        Ok(Acked::Acked)
     }
 
     /// Drops the blocks beyond the `keep` last ones, a part of a block counted as one, of those that lie
     /// before `least`, and gives the position that the cache then begins at. It takes no memory.
-    ///
-    /// # Errors
-    /// `StaleAgent`, and then nothing has changed.
-    pub fn purge(&mut self, generation: u64, keep: usize, least: usize) -> Result<usize, StaleAgent>
-        ensures purge { (self.new, result) ≡ purge self.old generation keep least }
-        ensures spent { IfOk result (λ low. low ≤ max self.old.cache.low least) }
+    pub fn purge(&mut self, keep: usize, least: usize) -> usize
+        ensures purge { (self.new, result) ≡ purge self.old keep least }
+        ensures spent { result ≤ max self.old.cache.low least }
     {
-        self.check(generation)?;
         let beyond = self.cache.block_count().saturating_sub(keep);
         let blocks = beyond.min(self.free_blocks(least));
         drop_blocks(&mut self.cache, blocks);
-        Ok(self.cache.low())
+        self.cache.low()
     }
 
     /// The next agent of the queue takes over, on a silo, with an empty cache that begins at a position,
@@ -277,4 +204,14 @@ fn pull_size(max_events: usize) -> usize
     ensures few { result ≤ 256 }
 {
     max_events.clamp(1, MAX_PULL)
+}
+
+/// Drops the first blocks of a cache.
+fn drop_blocks(cache: &mut QueueCache, blocks: usize)
+    requires { 64 * blocks ≤ length cache.old.events }
+    ensures { cache.new ≡ without_blocks blocks cache.old }
+{
+    for _ in 0..blocks {
+        cache.drop_front();
+    }
 }

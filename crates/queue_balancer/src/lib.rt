@@ -8,8 +8,6 @@
 mod assignment;
 mod balancer;
 mod places;
-#[cfg(test)]
-mod tests;
 
 pub use assignment::{Assignment, RebalanceError};
 pub use balancer::rebalance;

@@ -3,7 +3,7 @@ ghost use Rattle.std.specs.Prelude.{◌≡◌, ◌+◌, ◌≤◌, [], ◌++◌,
 ghost use Rattle.queue_cache.specs.Cache.{tags_of};
 ghost use Rattle.queue_mapper.specs.Place.{tag_of};
 
-use queue_mapper::place;
+use queue_mapper::tag;
 use std::alloc::{AllocError, Global};
 use std::marker::Model;
 use stream_ident::Event;
@@ -84,13 +84,6 @@ fn write_tags(tags: &mut [u8], start: usize, events: &[Event])
     ensures { take (start + length events.now) tags.new ≡ take start tags.old ++ tags_of events.now }
 {
     for (index, event) in events.iter().enumerate() {
-        tags[start + index] = tag(event);
+        tags[start + index] = tag(&event.stream);
     }
-}
-
-/// The tag of an event's stream.
-fn tag(event: &Event) -> u8
-    ensures { result ≡ tag_of event.now.stream }
-{
-    place(&event.stream, 1).tag
 }

@@ -7,8 +7,6 @@
 mod block;
 mod cache;
 mod ring;
-#[cfg(test)]
-mod tests;
 
 pub use block::{BLOCK_SIZE, Block};
 pub use cache::QueueCache;

@@ -4,11 +4,9 @@
 
 ghost use Rattle.std.specs.Prelude.{◌≡◌, ◌<◌, ◌≤◌};
 ghost use Rattle.sha2.specs.Sha256.{sha256};
-ghost use Rattle.queue_mapper.specs.Place.{message_of, place_of};
+ghost use Rattle.queue_mapper.specs.Place.{message_of, place_of, tag_of};
 
 mod target;
-#[cfg(test)]
-mod tests;
 
 use sha2::{Digest, Sha256};
 use stream_ident::StreamId;
@@ -31,6 +29,13 @@ pub fn place(stream: &StreamId, queues: usize) -> Place
         queue: (number % queues as u64) as usize,
         tag: digest[8],
     }
+}
+
+/// The tag of a stream, which its places among all numbers of queues have. It takes no memory.
+pub fn tag(stream: &StreamId) -> u8
+    ensures { result ≡ tag_of stream.now }
+{
+    digest_of(stream)[8]
 }
 
 /// The digest of a stream's name.

@@ -1,18 +1,21 @@
 -- What the trees answer is what the leaves do.
-use Rattle.std.proofs.Common.{◌≡◌, ℕ, ◌+◌, ◌<◌, ◌≤◌, inl, inr, Bool, true, false, ◌&&◌, ◌||◌, List, length, get_or, map, Option, Some, None, refl, sym, ap, ◌∙◌, arith}
-use Rattle.std.proofs.lemmas.Bool.{cases_lt, and_from, and_left, and_right, leb-true, leb-false, le-leb, lt-leb, lt-ltb, le-ltb, eq-eqb, ne_eqb}
+use Rattle.std.proofs.Common.{◌≡◌, ◌∙◌, ℕ, ◌+◌, ◌<◌, ◌≤◌, inl, inr, Bool, true, false, ◌&&◌, ◌||◌, List, length, get_or, map, Option, Some, None, IfSome, refl, sym, ap, arith}
+use Rattle.std.proofs.lemmas.Bool.{cases_lt, leb-true, leb-false, le-leb, lt-leb, lt-ltb, le-ltb, eq-eqb, ne_eqb}
 use Rattle.std.proofs.lemmas.List.{get_or-map, length-map}
-use Rattle.std.specs.Prelude.{slice_index}
+use Rattle.std.specs.Option.{option_map}
+use Rattle.std.specs.Prelude.{slice_index, IfNone}
 use Rattle.stream_ident.specs.declared.ident.SubName.{SubName}
 use Rattle.stream_ident.specs.declared.ident.SubName.TheVariants.{Explicit}
-use Rattle.stream_ident.specs.SubName.{sub_lt}
-use Rattle.stream_ident.specs.Words.{least, or_else}
-use Rattle.least_tree.specs.Keys.{least_key, is_at_most, first_at_most, least_place, place_of_least}
+use Rattle.stream_ident.specs.SubName.{same_sub, sub_lt}
+use Rattle.stream_ident.specs.Words.{or_else}
+use Rattle.least_tree.specs.Keys.{first_at_most, is_at_most, least_key, least_place, place_of_least}
+use Rattle.ranking.specs.Ranked.{IsFirstPast}
+use Rattle.ranking.proofs.LeastLemmas.{first_at_most-met, first_at_most-missed, least_by_rank, next_by_rank, IsFirstKey}
 use Rattle.resume_tree.specs.declared.leaf.Leaf.{Leaf}
-use Rattle.resume_tree.specs.Leaves.{due_after, has_resume, is_due, is_open, least_resume, names_where, resumes_below, slowest, slowest_at, IsNameAt}
-use Rattle.resume_tree.specs.Ranks.{due_at, leaf_at, AreRanked, IsFirstPast}
-use Rattle.resume_tree.proofs.LeastKeys.{first_at_most-met, first_at_most-missed, least_key-is, least_key-same, IsAt, IsFirstKey}
-use Rattle.resume_tree.proofs.LeastNames.{above-where, least_by_rank, none_by_rank}
+use Rattle.resume_tree.specs.Leaves.{due_after, has_resume, is_due, is_open, least_resume, resumes_below, slowest, slowest_at, IsNameAt}
+use Rattle.resume_tree.specs.Ranks.{due_at, due_key, name_of, AreKept}
+use Rattle.resume_tree.proofs.LeastKeys.{least_key-is, least_key-same, IsAt}
+use Rattle.stream_ident.proofs.NameOrders.{sub_order}
 
 -- any leaf, to read places past the end
 some_leaf : Leaf
@@ -41,7 +44,16 @@ due_is high (Some resume) false =
       | inr past ↦ lt-leb (resume + 1) high (omega arith) ∙ sym (le-ltb resume high past)
     ]
 
-module _ (leaves : List Leaf) (order ranks : List ℕ) (resumes due : List (Option ℕ)) (are : AreRanked leaves order ranks resumes due) where
+-- a number that is given for a name
+pub record IsGiven (name : Option SubName) (leaves : List Leaf) (found : Option ℕ) : Type 0 where
+  pub none : IfNone found (name ≡ None)
+  pub some : IfSome found (IsNameAt name leaves)
+
+given : (name : Option SubName) (leaves : List Leaf) (found : Option ℕ) → IfSome found (λ number. number < length leaves) → ((d : Leaf) → option_map (λ number. (get_or leaves number d).name) found ≡ name) → IsGiven name leaves found
+given name leaves None within is = record { none = sym (is some_leaf); some = tt }
+given name leaves (Some number) within is = record { none = tt; some = (within, λ d. sym (is d)) }
+
+module _ (leaves : List Leaf) (order : List ℕ) (resumes due : List (Option ℕ)) (are : AreKept leaves order resumes due) where
   pub least_resume-is : least_key resumes ≡ least_resume leaves
   least_resume-is = least_key-same resumes (map (λ (leaf : Leaf). leaf.resume) leaves) to from
     where
@@ -54,7 +66,7 @@ module _ (leaves : List Leaf) (order ranks : List ℕ) (resumes due : List (Opti
       to : (key : ℕ) → IsAt resumes key → IsAt (map (λ (leaf : Leaf). leaf.resume) leaves) key
       to key at =
           let below : at.at < length order = omega (arith, at.within, are.resumes_are.long) in
-          let inside : slice_index order at.at < length leaves = omega (arith, are.ranking.number_within at.at below, are.long) in
+          let inside : slice_index order at.at < length leaves = omega (arith, are.ranked.ranking.inverse.number_within at.at below, are.ranked.long) in
           record {
             at = slice_index order at.at;
             within = omega (arith, long);
@@ -64,103 +76,55 @@ module _ (leaves : List Leaf) (order ranks : List ℕ) (resumes due : List (Opti
       from : (key : ℕ) → IsAt (map (λ (leaf : Leaf). leaf.resume) leaves) key → IsAt resumes key
       from key at =
           let inside : at.at < length leaves = omega (arith, at.within, long) in
-          let below : slice_index ranks at.at < length order = are.ranking.rank_within at.at (omega (arith, are.long)) in
+          let below : are.ranked.ranking.rank_of at.at < length order = are.ranked.ranking.inverse.rank_within at.at (omega (arith, are.ranked.long)) in
           record {
-            at = slice_index ranks at.at;
+            at = are.ranked.ranking.rank_of at.at;
             within = omega (arith, are.resumes_are.long);
-            is = are.resumes_are.key_at some_leaf (slice_index ranks at.at) below
-                ∙ ap (λ (n : ℕ). (get_or leaves n some_leaf).resume) (are.ranking.forth at.at (omega (arith, are.long)))
+            is = are.resumes_are.key_at some_leaf (are.ranked.ranking.rank_of at.at) below
+                ∙ ap (λ (n : ℕ). (get_or leaves n some_leaf).resume) (are.ranked.ranking.inverse.forth at.at (omega (arith, are.ranked.long)))
                 ∙ sym (own at.at inside) ∙ at.is;
           }
 
+  -- the number of the slowest is that at the first rank of the least resume
   slowest_by : (o : Option ℕ) → least_key resumes ≡ o → slowest leaves ≡ slowest_at o leaves
   slowest_by o same = ap (λ (o : Option ℕ). slowest_at o leaves) (sym least_resume-is ∙ same)
 
-  pub slowest_met : (rank : ℕ) → least_place resumes ≡ Some rank → IsNameAt (slowest leaves) leaves (slice_index order rank)
-  slowest_met rank place = by (least_key resumes) refl place
+  slowest-is : (d : Leaf) → option_map (λ number. (get_or leaves number d).name) (option_map (slice_index order) (least_place resumes)) ≡ slowest leaves
+  slowest-is d = by (least_key resumes) refl
     where
-      by : (o : Option ℕ) → least_key resumes ≡ o → place_of_least o resumes ≡ Some rank → IsNameAt (slowest leaves) leaves (slice_index order rank)
-      by None same none = absurd (cc)
-      by (Some resume) same found =
-          let first : IsFirstKey 0 resume rank resumes = first_at_most-met 0 resume rank resumes found in
+      found : (resume rank : ℕ) → least_key resumes ≡ Some resume → IsFirstKey 0 resume rank resumes → Some (get_or leaves (slice_index order rank) d).name ≡ slowest leaves
+      found resume rank same first =
           let below : rank < length order = omega (arith, first.within, are.resumes_are.long) in
           let lower : (own : ℕ) → get_or resumes rank None ≡ Some own → resume ≤ own =
-          λ own is. let low = (least_key-is resumes).lower rank own first.within is in omega (arith, low.le, some_equal resume low.low (sym same ∙ low.is)) in (
-            omega (arith, are.ranking.number_within rank below, are.long),
-            λ d.
-                slowest_by (Some resume) same
-                ∙ least_by_rank (λ leaf. has_resume resume leaf.resume) leaves order ranks are.long are.ranking d are.rising rank below
-                (ap (has_resume resume) (sym (are.resumes_are.key_at d rank below)) ∙ has_least resume (get_or resumes rank None) first.here lower)
-                (λ i low. ap (has_resume resume) (sym (are.resumes_are.key_at d i (omega arith))) ∙ hasnt_least resume (get_or resumes i None) (first.before i (omega arith) low)),
-          )
+          λ own is. let low = (least_key-is resumes).lower rank own first.within is in omega (arith, low.le, some_equal resume low.low (sym same ∙ low.is)) in
+          sym (
+          slowest_by (Some resume) same
+          ∙ least_by_rank name_of sub_lt same_sub sub_order leaves order are.ranked d (λ leaf. has_resume resume leaf.resume) rank below
+          (ap (has_resume resume) (sym (are.resumes_are.key_at d rank below)) ∙ has_least resume (get_or resumes rank None) first.here lower)
+          (λ i low. ap (has_resume resume) (sym (are.resumes_are.key_at d i (omega arith))) ∙ hasnt_least resume (get_or resumes i None) (first.before i (omega arith) low)))
 
-  pub slowest_missed : least_place resumes ≡ None → slowest leaves ≡ None
-  slowest_missed place = by (least_key resumes) refl place
-    where
-      by : (o : Option ℕ) → least_key resumes ≡ o → place_of_least o resumes ≡ None → slowest leaves ≡ None
-      by None same none = slowest_by None same
-      by (Some resume) same none =
-          let at = (least_key-is resumes).met resume same in
-          let isnt : is_at_most resume (Some resume) ≡ false = ap (is_at_most resume) (sym at.is) ∙ first_at_most-missed 0 resume resumes none at.at (omega arith) at.within in
+      at : (resume : ℕ) (place : Option ℕ) → least_key resumes ≡ Some resume → first_at_most 0 resume resumes ≡ place → option_map (λ number. (get_or leaves number d).name) (option_map (slice_index order) place) ≡ slowest leaves
+      at resume None same none =
+          let met = (least_key-is resumes).met resume same in
+          let isnt : is_at_most resume (Some resume) ≡ false = ap (is_at_most resume) (sym met.is) ∙ first_at_most-missed 0 resume resumes none met.at (omega arith) met.within in
           absurd (omega (arith, leb-false resume resume isnt))
+      at resume (Some rank) same is = found resume rank same (first_at_most-met 0 resume rank resumes is)
 
-  due_here : (high : ℕ) (d : Leaf) (rank : ℕ) → rank < length order → is_due high (leaf_at leaves order d rank) ≡ is_at_most high (get_or due rank None)
-  due_here high d rank below =
-      let leaf = leaf_at leaves order d rank in
-      sym (due_is high leaf.resume leaf.is_unacknowledged) ∙ ap (is_at_most high) (sym (are.due_are.key_at d rank below))
+      by : (o : Option ℕ) → least_key resumes ≡ o → option_map (λ number. (get_or leaves number d).name) (option_map (slice_index order) (place_of_least o resumes)) ≡ slowest leaves
+      by None same = sym (slowest_by None same)
+      by (Some resume) same = at resume (first_at_most 0 resume resumes) same refl
 
-  -- the least of those that are due
-  pub due_met : (high rank : ℕ) → first_at_most 0 high due ≡ Some rank → IsNameAt (least sub_lt (names_where (is_due high) leaves)) leaves (slice_index order rank)
-  due_met high rank found =
-      let first : IsFirstKey 0 high rank due = first_at_most-met 0 high rank due found in
-      let below : rank < length order = omega (arith, first.within, are.due_are.long) in (
-        omega (arith, are.ranking.number_within rank below, are.long),
-        λ d.
-            least_by_rank (is_due high) leaves order ranks are.long are.ranking d are.rising rank below
-            (due_here high d rank below ∙ first.here)
-            (λ i low. due_here high d i (omega arith) ∙ first.before i (omega arith) low),
-      )
+  inside : (found : Option ℕ) → IfSome found (λ number. number < length order) → IfSome found (λ number. number < length leaves)
+  inside None within = tt
+  inside (Some number) within = omega (arith, are.ranked.long, within)
 
-  pub due_missed : (high : ℕ) → first_at_most 0 high due ≡ None → least sub_lt (names_where (is_due high) leaves) ≡ None
-  due_missed high none =
-      none_by_rank (is_due high) leaves order ranks are.long are.ranking some_leaf
-      (λ i below. due_here high some_leaf i below ∙ first_at_most-missed 0 high due none i (omega arith) (omega (arith, are.due_are.long)))
+  pub slowest-given : (found : Option ℕ) → found ≡ option_map (slice_index order) (least_place resumes) → IfSome found (λ number. number < length order) → IsGiven (slowest leaves) leaves found
+  slowest-given found is within = given (slowest leaves) leaves found (inside found within) (λ d. ap (option_map (λ number. (get_or leaves number d).name)) is ∙ slowest-is d)
 
-  -- the least of those past a name
-  pub past_met : (high from rank : ℕ) (after : SubName) → IsFirstPast after leaves order from → first_at_most from high due ≡ Some rank
-      → IsNameAt (due_after high (Some after) leaves) leaves (slice_index order rank)
-  past_met high from rank after past found =
-      let first : IsFirstKey from high rank due = first_at_most-met from high rank due found in
-      let below : rank < length order = omega (arith, first.within, are.due_are.long) in (
-        omega (arith, are.ranking.number_within rank below, are.long),
-        λ d.
-            ap (λ (o : Option SubName). or_else o (least sub_lt (names_where (is_due high) leaves)))
-            (ap (least sub_lt) (above-where (is_due high) after leaves)
-            ∙ least_by_rank (λ leaf. is_due high leaf && sub_lt after leaf.name) leaves order ranks are.long are.ranking d are.rising rank below
-            (and_from (is_due high (leaf_at leaves order d rank)) (sub_lt after (leaf_at leaves order d rank).name) (due_here high d rank below ∙ first.here) (past.past d rank first.reached below))
-            (λ i low. elim (cases_lt i from) [
-              | inl before ↦ and_right (is_due high (leaf_at leaves order d i)) (sub_lt after (leaf_at leaves order d i).name) (past.before d i before)
-              | inr reached ↦ and_left (is_due high (leaf_at leaves order d i)) (sub_lt after (leaf_at leaves order d i).name) (due_here high d i (omega arith) ∙ first.before i reached low)
-            ])),
-      )
-
-  pub past_missed : (high from : ℕ) (after : SubName) → IsFirstPast after leaves order from → first_at_most from high due ≡ None
-      → due_after high (Some after) leaves ≡ least sub_lt (names_where (is_due high) leaves)
-  past_missed high from after past none =
-      ap (λ (o : Option SubName). or_else o (least sub_lt (names_where (is_due high) leaves)))
-      (ap (least sub_lt) (above-where (is_due high) after leaves)
-      ∙ none_by_rank (λ leaf. is_due high leaf && sub_lt after leaf.name) leaves order ranks are.long are.ranking some_leaf
-      (λ i below. elim (cases_lt i from) [
-        | inl before ↦ and_right (is_due high (leaf_at leaves order some_leaf i)) (sub_lt after (leaf_at leaves order some_leaf i).name) (past.before some_leaf i before)
-        | inr reached ↦
-            and_left (is_due high (leaf_at leaves order some_leaf i)) (sub_lt after (leaf_at leaves order some_leaf i).name)
-            (due_here high some_leaf i below ∙ first_at_most-missed from high due none i reached (omega (arith, are.due_are.long)))
-      ]))
-
--- the first of all is the next where nothing is given
-pub first_of_all : (high : ℕ) (leaves : List Leaf) → due_after high None leaves ≡ least sub_lt (names_where (is_due high) leaves)
-first_of_all high leaves = by (least sub_lt (names_where (is_due high) leaves))
-  where
-    by : (o : Option SubName) → or_else o o ≡ o
-    by None = refl
-    by (Some x) = refl
+  pub due-given : (high : ℕ) (after : Option SubName) (from : ℕ) → IsFirstPast name_of sub_lt after leaves order from → (found : Option ℕ)
+      → found ≡ option_map (slice_index order) (or_else (first_at_most from high due) (first_at_most 0 high due)) → IfSome found (λ number. number < length order) → IsGiven (due_after high after leaves) leaves found
+  due-given high after from first found is within =
+      given (due_after high after leaves) leaves found (inside found within)
+      (λ d.
+      ap (option_map (λ number. (get_or leaves number d).name)) is
+      ∙ next_by_rank name_of sub_lt same_sub sub_order leaves order are.ranked d due_key due are.due_are high (is_due high) (λ leaf. due_is high leaf.resume leaf.is_unacknowledged) after from first)

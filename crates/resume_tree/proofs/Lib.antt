@@ -1,7 +1,3 @@
 pub mod Answering
-pub mod FirstPast
 pub mod LeafRows
 pub mod LeastKeys
-pub mod LeastNames
-pub mod RankLemmas
-pub mod SubOrder

@@ -4,10 +4,8 @@
 
 mod keys;
 mod leaf;
-mod ranking;
+mod order;
 mod resumes;
-#[cfg(test)]
-mod tests;
 
 pub use leaf::Leaf;
 pub use resumes::Resumes;

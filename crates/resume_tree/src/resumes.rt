@@ -6,8 +6,9 @@ ghost use Rattle.resume_tree.specs.Leaves.{changed, due_after, least_resume, ope
 
 use crate::keys::{due_at, insert_keys};
 use crate::leaf::Leaf;
-use crate::ranking::{first_past, insert_number, remove_last};
+use crate::order::first_past;
 use least_tree::LeastTree;
+use ranking::Ranking;
 use std::alloc::{AllocError, Global};
 use std::marker::Model;
 use stream_ident::SubName;
@@ -18,8 +19,7 @@ use stream_ident::SubName;
 #[derive(Debug, Drop)]
 pub struct Resumes {
     leaves: Vec<Leaf>,
-    order: Vec<usize>,
-    ranks: Vec<usize>,
+    ranking: Ranking,
     resumes: LeastTree,
     due: LeastTree,
 }
@@ -30,11 +30,11 @@ impl Model for Resumes {
 
     ghost Value = { List Leaf };
 
-    ghost use Rattle.resume_tree.specs.Ranks.{AreRanked};
+    ghost use Rattle.resume_tree.specs.Ranks.{AreKept};
 
     ghost view = { λ r. r.leaves.items };
 
-    ghost invariant = { λ r. AreRanked r.leaves.items r.order.items r.ranks.items r.resumes r.due };
+    ghost invariant = { λ r. AreKept r.leaves.items r.ranking r.resumes r.due };
 }
 
 impl Resumes {
@@ -44,8 +44,7 @@ impl Resumes {
     {
         Resumes {
             leaves: Vec::new(alloc),
-            order: Vec::new(alloc),
-            ranks: Vec::new(alloc),
+            ranking: Ranking::new(alloc),
             resumes: LeastTree::new(alloc),
             due: LeastTree::new(alloc),
         }
@@ -87,11 +86,13 @@ impl Resumes {
         ensures { self.new ≡ (if is_ok result then self.old ++ open_leaf name resume ∷ [] else self.old) }
     {
         self.leaves.reserve(1)?;
-        self.order.reserve(1)?;
-        self.ranks.reserve(1)?;
-        let rank = first_past(self.leaves.as_slice(), self.order.as_slice(), &name);
-        insert_keys(alloc, &mut self.resumes, &mut self.due, rank, resume)?;
-        insert_number(&mut self.order, &mut self.ranks, rank);
+        let order = self.ranking.numbers();
+        let rank = first_past(self.leaves.as_slice(), order, Some(&name));
+        self.ranking.insert(rank)?;
+        if let Err(error) = insert_keys(alloc, &mut self.resumes, &mut self.due, rank, resume) {
+            self.ranking.pop();
+            return Err(error);
+        }
         self.leaves.push_reserved(Leaf {
             name,
             resume: Some(resume),
@@ -107,10 +108,10 @@ impl Resumes {
         requires below { IfSome resume (λ position. position + 2 < 2 ^ 64) }
         ensures { (d : Leaf) → self.new ≡ set self.old number (changed resume is_unacknowledged (get_or self.old number d)) }
     {
-        let rank = self.ranks[number];
         let name = self.leaves[number].name;
-        self.resumes.set(rank, resume);
-        self.due.set(rank, due_at(resume, is_unacknowledged));
+        let due = due_at(resume, is_unacknowledged);
+        self.ranking.set_key(&mut self.resumes, number, resume);
+        self.ranking.set_key(&mut self.due, number, due);
         self.leaves[number] = Leaf {
             name,
             resume,
@@ -123,7 +124,7 @@ impl Resumes {
         requires { 0 < length self.old }
         ensures { self.new ≡ take (length self.old - 1) self.old }
     {
-        let rank = remove_last(&mut self.order, &mut self.ranks);
+        let rank = self.ranking.pop();
         self.resumes.remove(rank);
         self.due.remove(rank);
         self.leaves.truncate(self.leaves.len() - 1);
@@ -152,8 +153,7 @@ impl Resumes {
         ensures none { IfNone result (slowest self.now ≡ None) }
         ensures some { IfSome result (IsNameAt (slowest self.now) self.now) }
     {
-        let rank = self.resumes.least()?;
-        Some(self.order[rank])
+        self.ranking.least_number(&self.resumes)
     }
 
     /// The number of the next leaf that is due: open, with something to acknowledge or a resume below
@@ -163,13 +163,7 @@ impl Resumes {
         ensures none { IfNone result (due_after high (option_copied after.entry) self.now ≡ None) }
         ensures some { IfSome result (IsNameAt (due_after high (option_copied after.entry) self.now) self.now) }
     {
-        if let Some(name) = after {
-            let from = first_past(self.leaves.as_slice(), self.order.as_slice(), name);
-            if let Some(rank) = self.due.first_at_most(from, high) {
-                return Some(self.order[rank]);
-            }
-        }
-        let rank = self.due.first_at_most(0, high)?;
-        Some(self.order[rank])
+        let from = first_past(self.leaves.as_slice(), self.ranking.numbers(), after);
+        self.ranking.next_number(&self.due, from, high)
     }
 }

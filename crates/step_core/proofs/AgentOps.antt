@@ -1,6 +1,6 @@
 -- What agents ask of one record, done by the parts.
 use Rattle.std.proofs.Common.{◌≡◌, ap, refl, ℕ, Bool, true, false, not, List, [], ◌∷◌, length, get_or, set, Some, None, ◌==◌}
-use Rattle.std.specs.Prelude.{if◌then◌else◌, Ok, Err}
+use Rattle.std.specs.Prelude.{if◌then◌else◌}
 use Rattle.stream_ident.specs.declared.ident.SubName.{SubName}
 use Rattle.stream_ident.specs.declared.token.Token.{Token}
 use Rattle.stream_ident.specs.SubName.{same_sub}
@@ -12,9 +12,9 @@ use Rattle.stream_model.specs.Positions.{with_sub}
 use Rattle.stream_model.specs.Pulling as plain
 use Rattle.consumer_grain.specs.Subscriptions.{PlainState, acknowledged, rewound}
 use Rattle.pubsub_registry.specs.declared.registration.Registration.{Registration}
-use Rattle.pulling_agent.specs.Agent as agent
-use Rattle.pulling_agent.specs.declared.told.Retried.TheVariants as retry_told
-use Rattle.pulling_agent.specs.declared.told.Acked.TheVariants as ack_told
+use Rattle.subscription_table.specs.Progress.{ack, ack_at, handled_at, retry}
+use Rattle.subscription_table.specs.declared.progress.Acked.TheVariants as ack_told
+use Rattle.subscription_table.specs.declared.progress.Retried.TheVariants as retry_told
 use Rattle.step_core.specs.declared.parts.Parts.{Parts}
 use Rattle.step_core.specs.PlainOf.{plain_of}
 use Rattle.step_core.specs.Replies.{of_ack, of_retry}
@@ -23,40 +23,38 @@ use Rattle.step_core.proofs.RecordOps.{no-record, record-found, record-kept, rec
 abbrev pub with_state : {R : Type 0} → Parts → ℕ → (R → Reply) → PlainState × R → PlainPartition × Reply
 with_state parts i told stepped = (plain_of (record parts { subs = record parts.subs { states = set parts.subs.states i stepped.0 } }), told stepped.1)
 
-pub retry-parts : (parts : Parts) (generation : ℕ) (s : SubName) (i : ℕ) (d : SubName × Registration) (e : PlainState) → length parts.subs.registry.names ≡ length parts.subs.states → place_of same_sub s parts.subs.registry.names ≡ Some i
-    → plain.retry (plain_of parts) generation s ≡ with_state parts i of_retry (agent.retry parts.agent generation (get_or parts.subs.states i e))
+pub retry-parts : (parts : Parts) (generation : ℕ) (s : SubName) (i : ℕ) (d : SubName × Registration) (e : PlainState) → length parts.subs.registry.names ≡ length parts.subs.states → (generation == parts.agent.generation) ≡ true → place_of same_sub s parts.subs.registry.names ≡ Some i
+    → plain.retry (plain_of parts) generation s ≡ with_state parts i of_retry (retry (get_or parts.subs.states i e))
 unfolding plain.retry plain.retry_of
-retry-parts parts generation s i d e lengths found =
-    rw (record-found parts s i d e lengths found)
-    (by (not (generation == parts.agent.generation)) (get_or parts.subs.states i e).is_open)
+retry-parts parts generation s i d e lengths current found =
+    rw (current, record-found parts s i d e lengths found)
+    (by (get_or parts.subs.states i e).is_open)
   where
     old : PlainState
     old = get_or parts.subs.states i e
 
-    by : (stale is_open : Bool)
-        → (if stale then (plain_of parts, reply.StaleAgent parts.agent.generation) else if not is_open then (plain_of parts, reply.Closed) else (with_sub (plain_of parts) s (plain.rewound (record_at parts i d e)), reply.Rewound))
-        ≡ with_state parts i of_retry (if stale then (old, Err (record { now = parts.agent.generation })) else if not is_open then (old, Ok retry_told.Closed) else (rewound old, Ok retry_told.Rewound))
-    by true is_open = ap (λ p. (p, reply.StaleAgent parts.agent.generation)) (record-kept parts i e)
-    by false false = ap (λ p. (p, reply.Closed)) (record-kept parts i e)
-    by false true = ap (λ p. (p, reply.Rewound)) (record-set parts s i d e (rewound old) plain.rewound lengths found refl)
+    by : (is_open : Bool)
+        → (if not is_open then (plain_of parts, reply.Closed) else (with_sub (plain_of parts) s (plain.rewound (record_at parts i d e)), reply.Rewound))
+        ≡ with_state parts i of_retry (if not is_open then (old, retry_told.Closed) else (rewound old, retry_told.Rewound))
+    by false = ap (λ p. (p, reply.Closed)) (record-kept parts i e)
+    by true = ap (λ p. (p, reply.Rewound)) (record-set parts s i d e (rewound old) plain.rewound lengths found refl)
 
-pub ack-parts : (parts : Parts) (generation : ℕ) (s : SubName) (token : Token) (i : ℕ) (d : SubName × Registration) (e : PlainState) → length parts.subs.registry.names ≡ length parts.subs.states → place_of same_sub s parts.subs.registry.names ≡ Some i
-    → plain.ack (plain_of parts) generation s token ≡ with_state parts i of_ack (agent.ack parts.agent generation (get_or parts.subs.states i e) parts.queue token)
+pub ack-parts : (parts : Parts) (generation : ℕ) (s : SubName) (token : Token) (i : ℕ) (d : SubName × Registration) (e : PlainState) → length parts.subs.registry.names ≡ length parts.subs.states → (generation == parts.agent.generation) ≡ true → place_of same_sub s parts.subs.registry.names ≡ Some i
+    → plain.ack (plain_of parts) generation s token ≡ with_state parts i of_ack (ack (get_or parts.subs.states i e) parts.queue token)
 unfolding plain.ack plain.ack_of plain.ack_position
-ack-parts parts generation s token i d e lengths found =
-    rw (record-found parts s i d e lengths found)
-    (by (not (generation == parts.agent.generation)) (get_or parts.subs.states i e).is_open (agent.handled_at (get_or parts.subs.states i e).handled parts.queue token))
+ack-parts parts generation s token i d e lengths current found =
+    rw (current, record-found parts s i d e lengths found)
+    (by (get_or parts.subs.states i e).is_open (handled_at (get_or parts.subs.states i e).handled parts.queue token))
   where
     old : PlainState
     old = get_or parts.subs.states i e
 
-    by : (stale is_open : Bool) (positions : List ℕ)
-        → (if stale then (plain_of parts, reply.StaleAgent parts.agent.generation) else if not is_open then (plain_of parts, reply.Closed) else plain.ack_position (plain_of parts) s (record_at parts i d e) positions)
-        ≡ with_state parts i of_ack (if stale then (old, Err (record { now = parts.agent.generation })) else if not is_open then (old, Ok ack_told.Closed) else agent.ack_at old positions)
-    by true is_open positions = ap (λ p. (p, reply.StaleAgent parts.agent.generation)) (record-kept parts i e)
-    by false false positions = ap (λ p. (p, reply.Closed)) (record-kept parts i e)
-    by false true [] = ap (λ p. (p, reply.NotHandled)) (record-kept parts i e)
-    by false true (position ∷ positions) = ap (λ p. (p, reply.Acked)) (record-set parts s i d e (acknowledged position old) (λ r. plain.acknowledged r position) lengths found refl)
+    by : (is_open : Bool) (positions : List ℕ)
+        → (if not is_open then (plain_of parts, reply.Closed) else plain.ack_position (plain_of parts) s (record_at parts i d e) positions)
+        ≡ with_state parts i of_ack (if not is_open then (old, ack_told.Closed) else ack_at old positions)
+    by false positions = ap (λ p. (p, reply.Closed)) (record-kept parts i e)
+    by true [] = ap (λ p. (p, reply.NotHandled)) (record-kept parts i e)
+    by true (position ∷ positions) = ap (λ p. (p, reply.Acked)) (record-set parts s i d e (acknowledged position old) (λ r. plain.acknowledged r position) lengths found refl)
 
 -- an agent that was replaced, and a name without a record
 pub retry-stale : (parts : Parts) (generation : ℕ) (s : SubName) → (generation == parts.agent.generation) ≡ false → plain.retry (plain_of parts) generation s ≡ (plain_of parts, reply.StaleAgent parts.agent.generation)

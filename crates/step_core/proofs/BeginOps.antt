@@ -16,7 +16,8 @@ use Rattle.stream_model.proofs.RecordBounds.{grain-fits}
 use Rattle.consumer_grain.specs.declared.delivery.Delivery.{Delivery}
 use Rattle.consumer_grain.specs.declared.told.Begun.{Begun}
 use Rattle.consumer_grain.specs.declared.told.Begun.TheVariants as begun
-use Rattle.consumer_grain.specs.Activations.{PlainActivation, begin, begin_front, begin_turn, front_of, turn_size}
+use Rattle.consumer_grain.specs.Activations.{PlainActivation, begin, begin_front, begin_turn, front_of}
+use Rattle.stream_ident.specs.Blocks.{turn_size}
 use Rattle.grain_table.specs.Changes.{activation_at, no_grain}
 use Rattle.grain_table.specs.Grains.{PlainGrains, number_of}
 use Rattle.subscription_table.specs.Table.{no_entry, no_state, state_at}

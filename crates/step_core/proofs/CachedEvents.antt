@@ -9,10 +9,6 @@ use Rattle.step_core.specs.PlainOf.{plain_of}
 use Rattle.step_core.specs.declared.parts.Parts.{Parts}
 use Rattle.step_core.proofs.Shared.{history-of}
 
--- the cache has nothing that isn't in the log
-pub high-end : (parts : Parts) → Agrees parts → high parts.agent.cache ≤ length parts.queue.events
-high-end parts agrees = (history-of (plain_of parts) agrees.reached).fits.log.high_end
-
 -- a longer log has the same events at the positions before
 pub between-longer : (log more : List Event) (from to : ℕ) → from ≤ to → to ≤ length log → between (log ++ more) from to ≡ between log from to
 between-longer log more from to order within =

@@ -2,7 +2,7 @@
 use Rattle.std.proofs.Common.{◌≡◌, ap, refl, ℕ, Bool, true, false, ◌==◌}
 use Rattle.std.specs.Prelude.{if◌then◌else◌, Result, Ok, Err}
 use Rattle.pulling_agent.specs.Agent.{PlainAgent, check}
-use Rattle.pulling_agent.specs.declared.told.StaleAgent.{StaleAgent}
+use Rattle.pulling_agent.specs.declared.agent.StaleAgent.{StaleAgent}
 
 pub record IsReplaced (a : PlainAgent) (generation : ℕ) (stale : StaleAgent) : Type 0 where
   pub other : (generation == a.generation) ≡ false

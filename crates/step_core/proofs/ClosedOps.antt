@@ -16,9 +16,9 @@ use Rattle.stream_model.specs.declared.reply.Reply.{Reply}
 use Rattle.stream_model.specs.declared.reply.Reply.TheVariants as reply
 use Rattle.stream_model.specs.Publishing as plain
 use Rattle.stream_model.proofs.ChangedValues.{All-changed, place_of-changed, place_of-unchanged}
-use Rattle.stream_model.proofs.LogLemmas.{first_at-found}
+use Rattle.stream_laws.proofs.LogLemmas.{first_at-found}
 use Rattle.stream_model.proofs.Lookups.{place_of-value, place_of-within}
-use Rattle.stream_model.proofs.Values.{same_sub-equal}
+use Rattle.stream_ident.proofs.SameValues.{same_sub-equal}
 use Rattle.consumer_grain.specs.declared.delivery.Delivery.{Delivery}
 use Rattle.consumer_grain.specs.Activations.{PlainActivation, forgotten}
 use Rattle.consumer_grain.specs.Subscriptions.{PlainState, closed}
@@ -41,6 +41,7 @@ use Rattle.step_core.proofs.KnownOps.{known-state}
 use Rattle.step_core.proofs.NamesOps.{name-of-entry}
 use Rattle.step_core.proofs.Shared.{distinct-of-unique}
 use Rattle.step_core.proofs.SubscriberOps.{forgotten-is, unsubscribe-implicit, unsubscribe-parts, with_shut}
+use Rattle.stream_model.proofs.EachOf.{All-filter}
 
 -- the entry with the number of a name has the name
 pub name-found : (s : SubName) (names : List (SubName × Registration)) (number : ℕ) (d : SubName × Registration) → place_of same_sub s names ≡ Some number → (get_or names number d).0 ≡ s
@@ -50,11 +51,6 @@ name-found s names number d found =
     ap (λ n. (get_or names n d).0) place ∙ sym (same_sub-equal s (get_or names first.0 d).0 first.2.1)
 
 -- ---- the grain forgets the record
-
-All-filter : {A : Type 0} (P : A → Type 0) (passes : A → Bool) (xs : List A) → AllByRecursion P xs → AllByRecursion P (filter passes xs)
-All-filter P passes [] all = tt
-All-filter P passes (x ∷ xs) all =
-    cond_both (passes x) _ _ (AllByRecursion P) (λ _. (all.0, All-filter P passes xs all.1)) (λ _. All-filter P passes xs all.1)
 
 forgotten-below : (n number : ℕ) (a : PlainActivation) → IsBelow n a → IsBelow n (forgotten number a)
 forgotten-below n number a below =

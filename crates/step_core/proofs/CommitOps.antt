@@ -20,15 +20,15 @@ use Rattle.stream_model.specs.Bounds.{AreIn, IsWithinLimits, running_positions}
 use Rattle.stream_model.specs.Positions.{grain_at, running_in, token_at}
 use Rattle.stream_model.specs.Step.{IsReached, takes_memory}
 use Rattle.stream_model.specs.Turns as plain
-use Rattle.stream_model.proofs.Invariant.{marks_of, running_of}
+use Rattle.stream_laws.proofs.Invariant.{marks_of, running_of}
 use Rattle.stream_model.proofs.Lookups.{place_of-within}
-use Rattle.stream_model.proofs.Marks.{IsNext}
+use Rattle.stream_laws.proofs.Marks.{IsNext}
 use Rattle.stream_model.proofs.RecordBounds.{grain-fits}
-use Rattle.stream_model.proofs.Values.{same_sub-refl}
+use Rattle.stream_ident.proofs.SameValues.{same_sub-refl}
 use Rattle.consumer_grain.specs.declared.delivery.Delivery.{Delivery}
 use Rattle.consumer_grain.specs.declared.turn.RunningTurn.{RunningTurn}
 use Rattle.consumer_grain.specs.declared.told.TurnEnd.{TurnEnd}
-use Rattle.consumer_grain.specs.Activations.{PlainActivation, commit, holds, is_turn, runs}
+use Rattle.consumer_grain.specs.Activations.{PlainActivation, commit, current_turn, holds, is_turn, runs}
 use Rattle.consumer_grain.specs.Subscriptions.{committed, rises_from}
 use Rattle.grain_table.specs.Changes.{activation_at, no_grain}
 use Rattle.grain_table.specs.Changes as grains
@@ -42,7 +42,7 @@ use Rattle.step_core.specs.Known.{AreKnown, IsOf}
 use Rattle.step_core.specs.Numbers.{AreDistinct, IsBelow, TurnIsBelow}
 use Rattle.step_core.specs.declared.parts.Parts.{Parts}
 use Rattle.step_core.specs.PlainOf.{plain_of}
-use Rattle.step_core.specs.TurnReplies.{current_turn, handle}
+use Rattle.step_core.specs.TurnReplies.{handle}
 use Rattle.step_core.specs.View.{name_at, turn_of}
 use Rattle.step_core.proofs.GrainOps.{grain-found}
 use Rattle.step_core.proofs.KnownOps.{known-grain, known-state, or-right}

@@ -20,7 +20,7 @@ use Rattle.stream_model.specs.declared.reply.Reply.TheVariants as reply
 use Rattle.stream_model.specs.Positions.{grain_at, is_outstanding, lower_bound, next_position, token_at, with_grain, with_sub}
 use Rattle.stream_model.specs.Pulling as plain
 use Rattle.consumer_grain.specs.Activations.{PlainActivation, new_activation, woken}
-use Rattle.consumer_grain.specs.Subscriptions.{PlainState, caught_up, delivered}
+use Rattle.consumer_grain.specs.Subscriptions.{PlainState, advanced, caught_up}
 use Rattle.pubsub_registry.specs.declared.registration.Registration.{Registration}
 use Rattle.cache_cursor.specs.Cursor.{lower_in, next_in}
 use Rattle.queue_cache.specs.Cache.{high}
@@ -31,10 +31,7 @@ use Rattle.step_core.specs.View.{delivery_of, grain_of, name_at, turn_of}
 use Rattle.step_core.proofs.DeactivateOps.{length-map}
 use Rattle.step_core.proofs.GrainOps.{activation_at, grain-added, grain-found, grain-new, grain-set}
 use Rattle.step_core.proofs.RecordOps.{no-record, record-found, record-set, record_at}
-
-take-nil : {A : Type 0} (n : ℕ) → take {A = A} n [] ≡ []
-take-nil zero = refl
-take-nil (suc n) = refl
+use Rattle.std.proofs.Math.Seq.{take-nil}
 
 -- a list's middle from either end
 window : {A : Type 0} (k m : ℕ) (xs : List A) → drop k (take m xs) ≡ take (m - k) (drop k xs)
@@ -110,7 +107,7 @@ deliver-nothing parts generation s i d e outstanding seeks none is_out =
 abbrev pub handed : Parts → ℕ → ℕ → ℕ → GrainId × PlainActivation → PlainState → Parts
 handed parts i j position d e =
     record parts {
-      subs = record parts.subs { states = set parts.subs.states i (delivered position (get_or parts.subs.states i e)) };
+      subs = record parts.subs { states = set parts.subs.states i (advanced position (get_or parts.subs.states i e)) };
       grains = change_at (λ a. woken a (record { sub = i; position = position })) j parts.grains;
       rises = if (activation_at parts j d).active then parts.rises else suc parts.rises;
     }
@@ -135,13 +132,13 @@ deliver-next parts generation s i j position c d e seeks some is_name found =
     a = activation_at parts j d
 
     sent : Parts
-    sent = record parts { subs = record parts.subs { states = set parts.subs.states i (delivered position (get_or parts.subs.states i e)) } }
+    sent = record parts { subs = record parts.subs { states = set parts.subs.states i (advanced position (get_or parts.subs.states i e)) } }
 
     rises : ℕ
     rises = if a.active then parts.rises else suc parts.rises
 
     records : with_sub (plain_of parts) s (record r { cursor = suc position }) ≡ plain_of sent
-    records = record-set parts s i c e (delivered position (get_or parts.subs.states i e)) (λ r. record r { cursor = suc position }) seeks.0 seeks.1.1.0 refl
+    records = record-set parts s i c e (advanced position (get_or parts.subs.states i e)) (λ r. record r { cursor = suc position }) seeks.0 seeks.1.1.0 refl
 
     wakes : (st : Grain) → Grain
     wakes st = plain.woken st s position
@@ -176,7 +173,7 @@ deliver-next parts generation s i j position c d e seeks some is_name found =
 abbrev pub handed_first : Parts → ℕ → ℕ → GrainId → PlainState → Parts
 handed_first parts i position g e =
     record parts {
-      subs = record parts.subs { states = set parts.subs.states i (delivered position (get_or parts.subs.states i e)) };
+      subs = record parts.subs { states = set parts.subs.states i (advanced position (get_or parts.subs.states i e)) };
       grains = parts.grains ++ (g, woken new_activation (record { sub = i; position = position })) ∷ [];
       rises = suc parts.rises;
     }
@@ -197,13 +194,13 @@ deliver-first parts generation s i position c e seeks some is_name none =
     r = record_at parts i c e
 
     sent : Parts
-    sent = record parts { subs = record parts.subs { states = set parts.subs.states i (delivered position (get_or parts.subs.states i e)) } }
+    sent = record parts { subs = record parts.subs { states = set parts.subs.states i (advanced position (get_or parts.subs.states i e)) } }
 
     first : PlainActivation
     first = woken new_activation (record { sub = i; position = position })
 
     records : with_sub (plain_of parts) s (record r { cursor = suc position }) ≡ plain_of sent
-    records = record-set parts s i c e (delivered position (get_or parts.subs.states i e)) (λ r. record r { cursor = suc position }) seeks.0 seeks.1.1.0 refl
+    records = record-set parts s i c e (advanced position (get_or parts.subs.states i e)) (λ r. record r { cursor = suc position }) seeks.0 seeks.1.1.0 refl
 
     woken-is : plain.woken (grain_of parts.subs.registry.names new_activation) s position ≡ grain_of parts.subs.registry.names first
     woken-is = ap (λ name. record { activation = 1; active = true; mailbox = record { sub = name; position = position } ∷ []; running = None }) is_name

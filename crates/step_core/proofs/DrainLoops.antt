@@ -5,9 +5,9 @@ use Rattle.stream_ident.specs.declared.ident.SubName.{SubName}
 use Rattle.stream_model.specs.declared.op.Op.TheVariants.{Deliver, Pull}
 use Rattle.stream_model.specs.declared.plain.PlainPartition.{PlainPartition}
 use Rattle.stream_model.specs.Draining as draining
-use Rattle.stream_model.specs.Draining.{Astray, Progress, after_deliver, after_pull, ask, least_waiting, take_turn, take_turns}
+use Rattle.stream_model.specs.Draining.{Astray, Progress, after_deliver, after_pull, ask, least_waiting, take_turn, take_turns, deliver_up_to}
 use Rattle.step_core.specs.declared.draining.Stop.{Stop}
-use Rattle.step_core.specs.DrainPhases.{Asks, Ends, deliver_told, deliver_up_to, halted, pull_told}
+use Rattle.step_core.specs.DrainPhases.{Asks, Ends, deliver_told, halted, pull_told}
 use Rattle.step_core.proofs.DrainReplies.{deliver-told, more_delivers, more_rounds, pull-told}
 use Rattle.step_core.proofs.DrainSteps.{asked-done, asked-halted, asked-more, ends-done, ends-halted, ends-then}
 

@@ -6,8 +6,8 @@ use Rattle.stream_model.specs.declared.op.Op.TheVariants.{Pull}
 use Rattle.stream_model.specs.declared.plain.PlainPartition.{PlainPartition}
 use Rattle.stream_model.specs.declared.reply.Reply.{Reply}
 use Rattle.stream_model.specs.declared.reply.Reply.TheVariants as reply
-use Rattle.stream_model.specs.Draining.{Astray, Progress, after_ack, after_commit, after_deliver, after_last_deliver, after_pull, and_then, ask, done, drain_round, stopped, take_turn}
-use Rattle.step_core.specs.DrainPhases.{deliver_told, deliver_up_to, is_acknowledged, is_committed, is_nothing, pull_told}
+use Rattle.stream_model.specs.Draining.{Astray, Progress, after_ack, after_commit, after_deliver, after_last_deliver, after_pull, and_then, ask, done, drain_round, stopped, take_turn, deliver_up_to}
+use Rattle.step_core.specs.DrainPhases.{deliver_told, is_acknowledged, is_committed, is_nothing, pull_told}
 use Rattle.step_core.proofs.DrainSteps.{IsTold, is_wanting}
 
 -- done where the reply is the one that is looked for

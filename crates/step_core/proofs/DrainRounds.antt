@@ -12,13 +12,13 @@ use Rattle.stream_model.specs.declared.drain_end.DrainEnd.TheVariants as ending
 use Rattle.stream_model.specs.declared.plain.PlainPartition.{PlainPartition}
 use Rattle.stream_model.specs.declared.plain.Subscription.{Subscription}
 use Rattle.stream_model.specs.Draining as draining
-use Rattle.stream_model.specs.Draining.{Astray, DrainsTo, Progress, acknowledge, and_then, commits, deliver_all, deliver_once_more, done, drain, drain_all, drain_end, drain_where, last_handled, serve, serve_each, stopped}
+use Rattle.stream_model.specs.Draining.{Astray, DrainsTo, Progress, acknowledge, and_then, commits, deliver_all, deliver_once_more, done, drain, drain_all, drain_end, drain_where, last_handled, serve, serve_each, stopped, deliver_up_to}
 use Rattle.stream_model.specs.Looks.{is_running}
 use Rattle.stream_model.specs.Positions.{sub_at}
 use Rattle.stream_model.specs.Step.{IsReached}
-use Rattle.stream_model.proofs.Drained.{drain-ends}
-use Rattle.step_core.specs.declared.serving.Served.{Served}
-use Rattle.step_core.specs.DrainPhases.{Ends, deliver_up_to}
+use Rattle.stream_laws.proofs.Drained.{drain-ends}
+use Rattle.step_core.specs.declared.draining.Served.{Served}
+use Rattle.step_core.specs.DrainPhases.{Ends}
 use Rattle.step_core.specs.Serving.{served_of}
 use Rattle.step_core.proofs.DrainReplies.{rounds_up_to}
 

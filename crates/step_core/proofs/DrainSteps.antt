@@ -5,19 +5,20 @@ use Rattle.stream_model.specs.declared.op.Op.{Op}
 use Rattle.stream_model.specs.declared.plain.PlainPartition.{PlainPartition}
 use Rattle.stream_model.specs.declared.reply.Reply.{Reply}
 use Rattle.stream_model.specs.Draining as draining
-use Rattle.stream_model.specs.Draining.{AtTooMany, AtSpent, Astray, IsFrontOf, Progress, and_then, ask, done, go_on, joined, stopped}
+use Rattle.stream_model.specs.Draining.{AtTooMany, AtSpent, Astray, Progress, and_then, ask, done, go_on, joined, stopped}
+use Rattle.stream_ident.specs.Words.{IsPrefixOf}
 use Rattle.stream_model.specs.History.{Entry}
 use Rattle.stream_model.specs.Step.{step, Leads}
-use Rattle.stream_model.proofs.DrainLeads.{leads-append}
+use Rattle.stream_model.proofs.Reaching.{leads-append}
 use Rattle.step_core.specs.declared.draining.Stop.{Stop}
 use Rattle.step_core.specs.declared.draining.Stop.TheVariants as stop
 use Rattle.step_core.specs.DrainPhases.{Asks, Ends, halted}
 
 -- a front goes on with what comes after the whole
-front-longer : (entries whole more : List Entry) → IsFrontOf entries whole → IsFrontOf entries (whole ++ more)
+front-longer : (entries whole more : List Entry) → IsPrefixOf entries whole → IsPrefixOf entries (whole ++ more)
 front-longer entries whole more front = (front.0 ++ more, sym (append_assoc entries front.0 more) ∙ ap (λ all. all ++ more) front.1)
 
-front-behind : (first entries whole : List Entry) → IsFrontOf entries whole → IsFrontOf (first ++ entries) (first ++ whole)
+front-behind : (first entries whole : List Entry) → IsPrefixOf entries whole → IsPrefixOf (first ++ entries) (first ++ whole)
 front-behind first entries whole front = (front.0, append_assoc first entries front.0 ∙ ap (λ all. first ++ all) front.1)
 
 -- what comes after entries that lead to mid
@@ -45,7 +46,7 @@ ends-stopped : (old new : PlainPartition) (why : draining.Stop) (m : Progress) (
 ends-stopped old new why m next first = subst (Ends old new (Some (Some why))) (go_on-stopped m.entries m.now why m.stop next first.1) first
 
 -- the first operations of the first are the first of both
-front-go_on : (front entries : List Entry) (p : PlainPartition) (end : Option draining.Stop) (next : PlainPartition → Progress) → IsFrontOf front entries → IsFrontOf front (go_on entries p end next).entries
+front-go_on : (front entries : List Entry) (p : PlainPartition) (end : Option draining.Stop) (next : PlainPartition → Progress) → IsPrefixOf front entries → IsPrefixOf front (go_on entries p end next).entries
 front-go_on front entries p None next is = front-longer front entries (next p).entries is
 front-go_on front entries p (Some why) next is = is
 

@@ -11,7 +11,7 @@ use Rattle.stream_ident.specs.declared.ident.StreamId.{StreamId}
 use Rattle.stream_ident.specs.declared.ident.SubName.{SubName}
 use Rattle.stream_ident.specs.Name.{same_grain}
 use Rattle.stream_ident.specs.SubName.{same_sub}
-use Rattle.stream_ident.specs.Words.{change_at, first_at, past, place_of}
+use Rattle.stream_ident.specs.Words.{change_at, first_at, past, place_of, Performs}
 use Rattle.stream_model.specs.declared.plain.Grain.{Grain}
 use Rattle.stream_model.specs.declared.plain.PlainPartition.{PlainPartition}
 use Rattle.stream_model.specs.declared.plain.Subscription.{Subscription}
@@ -19,29 +19,26 @@ use Rattle.stream_model.specs.declared.reply.Reply.{Reply}
 use Rattle.stream_model.specs.declared.reply.Reply.TheVariants as reply
 use Rattle.stream_model.specs.Positions.{is_outstanding, is_spent, is_unacknowledged, next_position, running_in, token_at, waiting_in}
 use Rattle.stream_model.specs.Pulling as plain
-use Rattle.stream_model.specs.Step.{Performs, takes_memory}
+use Rattle.stream_model.specs.Step.{takes_memory}
 use Rattle.stream_model.proofs.EachOf.{All-append}
 use Rattle.stream_model.proofs.Lookups.{first_at-le, place_of-within}
-use Rattle.stream_model.proofs.Values.{same_grain-refl, same_sub-equal}
+use Rattle.stream_ident.proofs.SameValues.{same_grain-refl, same_sub-equal}
 use Rattle.consumer_grain.specs.declared.delivery.Delivery.{Delivery}
 use Rattle.consumer_grain.specs.declared.told.Offered.{Offered}
 use Rattle.consumer_grain.specs.declared.told.Offered.TheVariants as offer
 use Rattle.consumer_grain.specs.declared.turn.RunningTurn.{RunningTurn}
 use Rattle.consumer_grain.specs.Activations.{PlainActivation, holds, new_activation, offered, offer_takes_memory, with_number, woken}
-use Rattle.consumer_grain.specs.Subscriptions.{PlainState, caught_up, delivered}
+use Rattle.consumer_grain.specs.Subscriptions.{PlainState, advanced, caught_up}
 use Rattle.grain_table.specs.Changes.{OffersAt, no_grain}
-use Rattle.grain_table.specs.Grains.{PlainGrains, with_grain}
+use Rattle.grain_table.specs.Grains.{PlainGrains, number_of, with_grain}
 use Rattle.pubsub_registry.specs.declared.registration.Registration.{Registration}
-use Rattle.pubsub_registry.specs.Index.{AreUnique}
-use Rattle.pulling_agent.specs.Agent as agent
-use Rattle.pulling_agent.specs.declared.told.Sought.{Sought}
-use Rattle.pulling_agent.specs.declared.told.Sought.TheVariants as sought
-use Rattle.pulling_agent.specs.declared.told.StaleAgent.{StaleAgent}
 use Rattle.cache_cursor.specs.Cursor.{next_in}
-use Rattle.queue_cache.specs.Cache.{high}
-use Rattle.subscription_table.specs.Standing.{AreRecords}
+use Rattle.queue_cache.specs.Cache.{PlainCache, high}
+use Rattle.subscription_table.specs.Progress.{next_at, next_event}
 use Rattle.subscription_table.specs.Table.{PlainTable, no_entry, no_state, registration_at, state_at, stepped, with_state}
 use Rattle.subscription_table.specs.Table as table
+use Rattle.subscription_table.specs.declared.progress.Sought.{Sought}
+use Rattle.subscription_table.specs.declared.progress.Sought.TheVariants as sought
 use Rattle.step_core.specs.Assembly.{Agrees, IsAssembled}
 use Rattle.step_core.specs.Handing.{IsNext, sent}
 use Rattle.step_core.specs.Known.{AreKnown, IsUnheld}
@@ -57,7 +54,8 @@ use Rattle.step_core.proofs.KnownMore.{known-first}
 use Rattle.step_core.proofs.KnownOps.{known-offered, known-state}
 use Rattle.step_core.proofs.KnownTurns.{found-own}
 use Rattle.step_core.proofs.NamesOps.{number-of-name, record-of-number}
-use Rattle.step_core.proofs.Shared.{distinct-of-unique, history-of, name-same}
+use Rattle.step_core.proofs.Shared.{distinct-of-unique, history-of, name-same, high-end}
+use Rattle.stream_ident.proofs.WordLemmas.{All-at}
 
 -- ---- what is known of the parts
 
@@ -66,18 +64,13 @@ pub high-few : (parts : Parts) → Agrees parts → high parts.agent.cache ≤ 1
 high-few parts agrees =
     omega (arith, (history-of (plain_of parts) agrees.reached).fits.log.high_end, agrees.within.events, agrees.within.limits.events)
 
-pub high-there : (parts : Parts) → Agrees parts → high parts.agent.cache ≤ length parts.queue.events
-high-there parts agrees = (history-of (plain_of parts) agrees.reached).fits.log.high_end
-
--- what the table says of its names and states
+-- the number of a record
 pub record Stands (parts : Parts) (number : ℕ) : Type 0 where
   pub agrees : Agrees parts
-  pub unique : AreUnique parts.subs.registry.names
-  pub records : AreRecords parts.subs
   pub within : number < length parts.subs.registry.names
 
 distinct : (parts : Parts) (number : ℕ) → Stands parts number → AreDistinct parts.subs.registry.names
-distinct parts number stands = distinct-of-unique parts.subs.registry.names stands.unique
+distinct parts number stands = distinct-of-unique parts.subs.registry.names stands.agrees.unique
 
 -- the number stands for the name
 named : (parts : Parts) (number : ℕ) → Stands parts number → place_of same_sub (table.name_at parts.subs number) parts.subs.registry.names ≡ Some number
@@ -105,21 +98,16 @@ name-found parts s number found = named-by s 0 number parts.subs.registry.names 
 -- an open subscription's cursor isn't behind the cache
 pub cursor-low : (parts : Parts) (number : ℕ) → Stands parts number → (state_at parts.subs number).is_open ≡ true → parts.agent.cache.low ≤ (state_at parts.subs number).cursor
 cursor-low parts number stands is_open =
-    let found = record-of-number parts number no_entry no_state (distinct parts number stands) (sym stands.records.long) stands.within in
+    let found = record-of-number parts number no_entry no_state (distinct parts number stands) (sym stands.agrees.records.long) stands.within in
     let fits = (history-of (plain_of parts) stands.agrees.reached).fits.subs (name_at parts.subs.registry.names number) (record_of parts number) found in
     let served = fits.served is_open in
     omega (arith, served.low_resume, served.resume_cursor)
 
 -- ---- what is on its way to a grain
 
-all-at : {X : Type 0} (P : X → Type 0) (xs : List X) (i : ℕ) (d : X) → AllByRecursion P xs → i < length xs → P (get_or xs i d)
-all-at P [] i d all within = absurd (omega (arith, within))
-all-at P (x ∷ xs) zero d all within = all.0
-all-at P (x ∷ xs) (suc i) d all within = all-at P xs i d all.1 (omega (arith, within))
-
 below-at : (parts : Parts) (j : ℕ) → IsAssembled parts → j < length parts.grains → IsBelow (length parts.subs.registry.names) (activation_at parts j no_grain)
 below-at parts j assembled within =
-    all-at (λ (g : GrainId × PlainActivation). IsBelow (length parts.subs.registry.names) g.1) parts.grains j no_grain assembled.numbered within
+    All-at (λ (g : GrainId × PlainActivation). IsBelow (length parts.subs.registry.names) g.1) parts.grains j no_grain assembled.numbered within
 
 some-at : (parts : Parts) (g : GrainId) (j : ℕ) → Agrees parts → place_of same_grain g parts.grains ≡ Some j → AreSome (activation_at parts j no_grain).running
 some-at parts g j agrees found = by (activation_at parts j no_grain).running refl
@@ -185,35 +173,33 @@ outstanding-nowhere parts number s handled none =
 -- ---- what was sought
 
 -- what a search for a subscription's next event found, and what it left of the table
-abbrev pub IsSought : PlainTable → PlainTable → ℕ → agent.PlainAgent → StreamId → Bool → Result Sought StaleAgent → Type 0
-IsSought t new number a stream outstanding (Err e) = ⊥
-IsSought t new number a stream outstanding (Ok sought.Closed) = (new ≡ t) × ((state_at t number).is_open ≡ false)
-IsSought t new number a stream outstanding (Ok sought.Nothing) =
-    (new ≡ with_state t number (caught_up (high a.cache) outstanding (state_at t number))) × ((state_at t number).is_open ≡ true) × (next_in a.cache (state_at t number).cursor stream (state_at t number).start ≡ None)
-IsSought t new number a stream outstanding (Ok (sought.Next position)) =
-    (new ≡ t) × ((state_at t number).is_open ≡ true) × (next_in a.cache (state_at t number).cursor stream (state_at t number).start ≡ Some position)
+abbrev pub IsSought : PlainTable → PlainTable → ℕ → PlainCache → StreamId → Bool → Sought → Type 0
+IsSought t new number cache stream outstanding sought.Closed = (new ≡ t) × ((state_at t number).is_open ≡ false)
+IsSought t new number cache stream outstanding sought.Nothing =
+    (new ≡ with_state t number (caught_up (high cache) outstanding (state_at t number))) × ((state_at t number).is_open ≡ true) × (next_in cache (state_at t number).cursor stream (state_at t number).start ≡ None)
+IsSought t new number cache stream outstanding (sought.Next position) =
+    (new ≡ t) × ((state_at t number).is_open ≡ true) × (next_in cache (state_at t number).cursor stream (state_at t number).start ≡ Some position)
 
 state-kept : (t : PlainTable) (number : ℕ) → with_state t number (state_at t number) ≡ t
 state-kept t number = ap (λ (states : List PlainState). record t { states = states }) (set-get_or t.states number no_state)
 
-pub sought-is : (t new : PlainTable) (number generation : ℕ) (a : agent.PlainAgent) (stream : StreamId) (outstanding : Bool) (told : Result Sought StaleAgent) → (generation == a.generation) ≡ true
-    → ◌≡◌ {A = PlainTable × Result Sought StaleAgent} (new, told) (stepped t number (agent.deliver a generation (state_at t number) stream outstanding)) → IsSought t new number a stream outstanding told
-sought-is t new number generation a stream outstanding told current is =
-    subst (λ (r : PlainTable × Result Sought StaleAgent). IsSought t r.0 number a stream outstanding r.1) (sym is)
-    (by (generation == a.generation) (state_at t number).is_open (next_in a.cache (state_at t number).cursor stream (state_at t number).start) current refl refl)
+pub sought-is : (t new : PlainTable) (number : ℕ) (cache : PlainCache) (stream : StreamId) (outstanding : Bool) (told : Sought)
+    → ◌≡◌ {A = PlainTable × Sought} (new, told) (stepped t number (next_event cache (state_at t number) stream outstanding)) → IsSought t new number cache stream outstanding told
+sought-is t new number cache stream outstanding told is =
+    subst (λ (r : PlainTable × Sought). IsSought t r.0 number cache stream outstanding r.1) (sym is)
+    (by (state_at t number).is_open (next_in cache (state_at t number).cursor stream (state_at t number).start) refl refl)
   where
     state : PlainState
     state = state_at t number
 
-    by : (same is_open : Bool) (next : Option ℕ) → same ≡ true → state.is_open ≡ is_open → next_in a.cache state.cursor stream state.start ≡ next
+    by : (is_open : Bool) (next : Option ℕ) → state.is_open ≡ is_open → next_in cache state.cursor stream state.start ≡ next
         → IsSought t
-        (stepped t number (if not same then (state, Err (record { now = a.generation })) else if not is_open then (state, Ok sought.Closed) else agent.deliver_at a state outstanding next)).0
-        number a stream outstanding
-        (stepped t number (if not same then (state, Err (record { now = a.generation })) else if not is_open then (state, Ok sought.Closed) else agent.deliver_at a state outstanding next)).1
-    by false is_open next same opened found = absurd (cc)
-    by true false next same opened found = (state-kept t number, opened)
-    by true true None same opened found = (refl, opened, found)
-    by true true (Some position) same opened found = (state-kept t number, opened, found)
+        (stepped t number (if not is_open then (state, sought.Closed) else next_at cache state outstanding next)).0
+        number cache stream outstanding
+        (stepped t number (if not is_open then (state, sought.Closed) else next_at cache state outstanding next)).1
+    by false next opened found = (state-kept t number, opened)
+    by true None opened found = (refl, opened, found)
+    by true (Some position) opened found = (state-kept t number, opened, found)
 
 -- ---- the grain is offered the event
 
@@ -272,7 +258,7 @@ abbrev pub ToDo : Parts → Delivery → PlainPartition × Reply
 ToDo parts d = plain.deliver (plain_of parts) parts.agent.generation (table.name_at parts.subs d.sub)
 
 seeks : (parts : Parts) (d : Delivery) → Stands parts d.sub → IsNext parts d → Seeks parts parts.agent.generation (table.name_at parts.subs d.sub) d.sub no_entry no_state
-seeks parts d stands next = (sym stands.records.long, (eq-eqb parts.agent.generation parts.agent.generation refl, (named parts d.sub stands, next.is_open)))
+seeks parts d stands next = (sym stands.agrees.records.long, (eq-eqb parts.agent.generation parts.agent.generation refl, (named parts d.sub stands, next.is_open)))
 
 -- ---- to a grain that was active before
 
@@ -391,7 +377,7 @@ AreBelow parts grains = AllByRecursion (λ (g : GrainId × PlainActivation). IsB
 
 -- the cursor of its subscription past the event
 abbrev sent_states : Parts → Delivery → List PlainState
-sent_states parts d = set parts.subs.states d.sub (delivered d.position (state_at parts.subs d.sub))
+sent_states parts d = set parts.subs.states d.sub (advanced d.position (state_at parts.subs d.sub))
 
 sent-assembled : (parts new : Parts) (d : Delivery) (wakes : Bool) (grains : PlainGrains) → IsAssembled parts → AreBelow parts grains → AreKnown parts.subs.registry.names (sent_states parts d) grains → new ≡ sent (record parts { grains = grains }) d wakes → IsAssembled new
 sent-assembled parts new d wakes grains assembled below known is =
@@ -404,7 +390,7 @@ handed-assembled parts new d j wakes grains assembled within found offers is =
     (subst (AreBelow parts) (sym offers.0)
     (change-all (IsBelow (length parts.subs.registry.names)) (λ a. woken a d) j parts.grains (λ a below. woken-below (length parts.subs.registry.names) a d within below) assembled.numbered))
     (subst (AreKnown parts.subs.registry.names (sent_states parts d)) (sym offers.0)
-    (known-offered parts.subs.registry.names parts.subs.states parts.grains d.sub j (delivered d.position (state_at parts.subs d.sub)) d assembled.known within
+    (known-offered parts.subs.registry.names parts.subs.states parts.grains d.sub j (advanced d.position (state_at parts.subs d.sub)) d assembled.known within
     (place_of-within same_grain (record_of parts d.sub).grain j parts.grains found) refl (found-own (record_of parts d.sub).grain j parts.grains found)))
     is
 
@@ -445,7 +431,7 @@ first-assembled parts new d g grains assembled within its added is =
     (All-append (λ (e : GrainId × PlainActivation). IsBelow (length parts.subs.registry.names) e.1) parts.grains ((g, woken new_activation d) ∷ []) assembled.numbered
     (woken-below (length parts.subs.registry.names) new_activation d within (record { waiting = tt; running = tt; subs = tt }), tt)))
     (subst (AreKnown parts.subs.registry.names (sent_states parts d)) (sym added)
-    (known-first parts.subs.registry.names parts.subs.states parts.grains d.sub (delivered d.position (state_at parts.subs d.sub)) g d assembled.known within refl
+    (known-first parts.subs.registry.names parts.subs.states parts.grains d.sub (advanced d.position (state_at parts.subs d.sub)) g d assembled.known within refl
     (subst (λ (h : GrainId). same_grain (record_of parts d.sub).grain h ≡ true) (sym its) (same_grain-refl (record_of parts d.sub).grain))))
     is
 
@@ -455,12 +441,12 @@ pub position-few : (parts : Parts) (d : Delivery) → Agrees parts → IsNext pa
 position-few parts d agrees next = omega (arith, high-few parts agrees, next.cached)
 
 pub position-there : (parts : Parts) (d : Delivery) → Agrees parts → IsNext parts d → d.position < length parts.queue.events
-position-there parts d agrees next = omega (arith, high-there parts agrees, next.cached)
+position-there parts d agrees next = omega (arith, high-end parts agrees, next.cached)
 
 -- activations have no greater numbers than there are rises
 pub activation-few : (parts : Parts) (j : ℕ) → Agrees parts → j < length parts.grains → (activation j parts.grains).number + 1 < 2 ^ 64
 activation-few parts j agrees within =
-    let few = all-at (λ (g : GrainId × PlainActivation). g.1.number ≤ parts.rises) parts.grains j no_grain (numbers parts.grains agrees.within.activations) within in
+    let few = All-at (λ (g : GrainId × PlainActivation). g.1.number ≤ parts.rises) parts.grains j no_grain (numbers parts.grains agrees.within.activations) within in
     omega (arith, few, agrees.within.rises, agrees.within.limits.rises)
   where
     numbers : (grains : PlainGrains) → AllByRecursion (λ (entry : GrainId × Grain). entry.1.activation ≤ parts.rises) (grains_of parts.subs.registry.names grains) → AllByRecursion (λ (g : GrainId × PlainActivation). g.1.number ≤ parts.rises) grains
@@ -481,52 +467,49 @@ pub first-memory : {T E : Type 0} (parts : Parts) (d : Delivery) (r : Result T E
     → OnErr r (takes_memory (ToDo parts d).1 ≡ true)
 first-memory parts d r stands next none left = on-error r (ap (λ (told : Answer). takes_memory told.1) (first-done parts d stands next none left))
 
--- ---- a call of an agent
-
--- it names the agent's generation, or another
-pub stale-is : (generation : ℕ) (a : agent.PlainAgent) (e : StaleAgent) → Err e ≡ agent.check a generation → ((generation == a.generation) ≡ false) × (e.now ≡ a.generation)
-stale-is generation a e is = by (generation == a.generation) is
-  where
-    by : (same : Bool) → ◌≡◌ {A = Result (Unit {0}) StaleAgent} (Err e) (if same then Ok tt else Err (record { now = a.generation })) → (same ≡ false) × (e.now ≡ a.generation)
-    by true is = absurd (cc)
-    by false is = let same : e ≡ record { now = a.generation } = cc in (refl, ap (λ (s : StaleAgent). s.now) same)
-
-pub current-is : (generation : ℕ) (a : agent.PlainAgent) (u : Unit {0}) → Ok u ≡ agent.check a generation → (generation == a.generation) ≡ true
-current-is generation a u is = by (generation == a.generation) is
-  where
-    by : (same : Bool) → ◌≡◌ {A = Result (Unit {0}) StaleAgent} (Ok u) (if same then Ok tt else Err (record { now = a.generation })) → same ≡ true
-    by true is = refl
-    by false is = absurd (cc)
-
 -- ---- what the search of an open subscription found is its next position
 
 pub sought-next : (parts : Parts) (number : ℕ) (o : Option ℕ) → Stands parts number → (state_at parts.subs number).is_open ≡ true
     → next_in parts.agent.cache (state_at parts.subs number).cursor (registration_at parts.subs number).stream (state_at parts.subs number).start ≡ o → next_position (plain_of parts) (record_of parts number) ≡ o
 sought-next parts number o stands is_open found =
     next-is parts (record_of parts number) stands.agrees.assembled.cached (cursor-low parts number stands is_open)
-    ∙ ap (λ start. next_in parts.agent.cache (state_at parts.subs number).cursor (registration_at parts.subs number).stream start) (sym (stands.records.starts number (omega (arith, stands.records.long, stands.within))))
+    ∙ ap (λ start. next_in parts.agent.cache (state_at parts.subs number).cursor (registration_at parts.subs number).stream start) (sym (stands.agrees.records.starts number (omega (arith, stands.agrees.records.long, stands.within))))
     ∙ found
 
 -- the parts with this table
 abbrev pub with_subs : Parts → PlainTable → Parts
 with_subs parts t = record parts { subs = t }
 
-abbrev pub Searched : Parts → PlainTable → ℕ → Bool → Result Sought StaleAgent → Type 0
-Searched parts t number outstanding told = IsSought parts.subs t number parts.agent (registration_at parts.subs number).stream outstanding told
+abbrev pub Searched : Parts → PlainTable → ℕ → Bool → Sought → Type 0
+Searched parts t number outstanding told = IsSought parts.subs t number parts.agent.cache (registration_at parts.subs number).stream outstanding told
+
+-- where the cache that was searched is the agent's
+pub searched-is : (parts : Parts) (t : PlainTable) (number : ℕ) (cache : PlainCache) (outstanding : Bool) (told : Sought) → cache ≡ parts.agent.cache
+    → ◌≡◌ {A = PlainTable × Sought} (t, told) (stepped parts.subs number (next_event cache (state_at parts.subs number) (registration_at parts.subs number).stream outstanding))
+    → Searched parts t number outstanding told
+searched-is parts t number cache outstanding told same is =
+    sought-is parts.subs t number parts.agent.cache (registration_at parts.subs number).stream outstanding told
+    (is ∙ ap {B = PlainTable × Sought} (λ (c : PlainCache). stepped parts.subs number (next_event c (state_at parts.subs number) (registration_at parts.subs number).stream outstanding)) same)
 
 -- the next event is there
-pub next-agrees : (parts : Parts) (t : PlainTable) (number position : ℕ) (outstanding : Bool) → Agrees parts → Searched parts t number outstanding (Ok (sought.Next position)) → Agrees (with_subs parts t)
+pub next-agrees : (parts : Parts) (t : PlainTable) (number position : ℕ) (outstanding : Bool) → Agrees parts → Searched parts t number outstanding (sought.Next position) → Agrees (with_subs parts t)
 next-agrees parts t number position outstanding agrees found = subst (λ (t : PlainTable). Agrees (with_subs parts t)) (sym found.0) agrees
 
-pub next-there : (parts : Parts) (t : PlainTable) (number position : ℕ) (outstanding : Bool) → Stands parts number → Searched parts t number outstanding (Ok (sought.Next position)) → position < high parts.agent.cache
+pub next-there : (parts : Parts) (t : PlainTable) (number position : ℕ) (outstanding : Bool) → Stands parts number → Searched parts t number outstanding (sought.Next position) → position < high parts.agent.cache
     → IsNext (with_subs parts t) (record { sub = number; position = position })
 next-there parts t number position outstanding stands found cached =
     subst (λ (t : PlainTable). IsNext (with_subs parts t) (record { sub = number; position = position })) (sym found.0)
     (record { numbered = stands.within; is_open = found.1; next = sought-next parts number (Some position) stands found.1 found.2; cached = cached })
 
+-- its grain has the number that it had
+pub grain-there : (parts : Parts) (t : PlainTable) (number position : ℕ) (outstanding : Bool) (grain : Option ℕ) → Searched parts t number outstanding (sought.Next position) → number_of parts.grains (record_of parts number).grain ≡ grain
+    → number_of parts.grains (record_of (with_subs parts t) number).grain ≡ grain
+grain-there parts t number position outstanding grain found is =
+    subst (λ (t : PlainTable). number_of parts.grains (record_of (with_subs parts t) number).grain ≡ grain) (sym found.0) is
+
 -- what is to be done is as before
 pub todo-is : (parts : Parts) (t : PlainTable) (number generation position : ℕ) (s : SubName) (outstanding : Bool) → (generation == parts.agent.generation) ≡ true → place_of same_sub s parts.subs.registry.names ≡ Some number
-    → Searched parts t number outstanding (Ok (sought.Next position)) → ToDo (with_subs parts t) (record { sub = number; position = position }) ≡ plain.deliver (plain_of parts) generation s
+    → Searched parts t number outstanding (sought.Next position) → ToDo (with_subs parts t) (record { sub = number; position = position }) ≡ plain.deliver (plain_of parts) generation s
 todo-is parts t number generation position s outstanding current found sought =
     ap {B = Answer} (λ (t : PlainTable). ToDo (with_subs parts t) (record { sub = number; position = position })) sought.0
     ∙ ap {B = Answer} (λ n. plain.deliver (plain_of parts) n (table.name_at parts.subs number)) (sym (eqb-true generation parts.agent.generation current))
@@ -538,11 +521,11 @@ todo-performs parts t new r before after same todo performs =
 
 -- nothing is left for the subscription
 pub nothing-performs : (parts : Parts) (t : PlainTable) (number generation : ℕ) (s : SubName) (outstanding : Bool) → Stands parts number → (generation == parts.agent.generation) ≡ true → place_of same_sub s parts.subs.registry.names ≡ Some number
-    → outstanding ≡ is_outstanding (plain_of parts) (table.name_at parts.subs number) (record_of parts number) → Searched parts t number outstanding (Ok sought.Nothing)
+    → outstanding ≡ is_outstanding (plain_of parts) (table.name_at parts.subs number) (record_of parts number) → Searched parts t number outstanding sought.Nothing
     → ◌≡◌ {A = Answer} (plain_of (with_subs parts t), reply.Nothing) (plain.deliver (plain_of parts) generation s)
 nothing-performs parts t number generation s outstanding stands current found is_out sought =
     ap {B = Answer} (λ (t : PlainTable). (plain_of (with_subs parts t), reply.Nothing)) sought.0
-    ∙ sym (deliver-nothing parts generation s number no_entry no_state outstanding (sym stands.records.long, (current, (found, sought.1)))
+    ∙ sym (deliver-nothing parts generation s number no_entry no_state outstanding (sym stands.agrees.records.long, (current, (found, sought.1)))
     (sought-next parts number None stands sought.1 sought.2) (ap (λ name. is_outstanding (plain_of parts) name (record_of parts number)) (name-found parts s number found) ∙ sym is_out))
 
 -- where nothing is on its way and nothing is handled, nothing is outstanding
@@ -562,7 +545,7 @@ none-outstanding parts number stands handled unheld = by (place_of same_grain g 
 
 -- and so the resume follows the cursor of a subscription that nothing was offered for
 pub nothing-assembled : (parts : Parts) (t : PlainTable) (number : ℕ) (outstanding : Bool) → Stands parts number → outstanding ≡ is_outstanding (plain_of parts) (table.name_at parts.subs number) (record_of parts number)
-    → Searched parts t number outstanding (Ok sought.Nothing) → IsAssembled (with_subs parts t)
+    → Searched parts t number outstanding sought.Nothing → IsAssembled (with_subs parts t)
 nothing-assembled parts t number outstanding stands is_out sought =
     subst (λ (t : PlainTable). IsAssembled (with_subs parts t)) (sym sought.0)
     (record {
@@ -572,7 +555,7 @@ nothing-assembled parts t number outstanding stands is_out sought =
       cached = assembled.cached;
       numbered = assembled.numbered;
       known =
-          known-state parts.subs.registry.names parts.subs.states parts.grains number (caught_up (high parts.agent.cache) outstanding state) assembled.known (omega (arith, stands.within, stands.records.long)) (λ is_open. is_open)
+          known-state parts.subs.registry.names parts.subs.states parts.grains number (caught_up (high parts.agent.cache) outstanding state) assembled.known (omega (arith, stands.within, stands.agrees.records.long)) (λ is_open. is_open)
           (λ at none unheld. (follows (is_out ∙ none-outstanding parts number stands none unheld), none));
     })
   where
@@ -587,7 +570,7 @@ nothing-assembled parts t number outstanding stands is_out sought =
 
 -- the subscription is closed
 pub closed-performs : (parts : Parts) (t : PlainTable) (number generation : ℕ) (s : SubName) (outstanding : Bool) → Stands parts number → (generation == parts.agent.generation) ≡ true → place_of same_sub s parts.subs.registry.names ≡ Some number
-    → Searched parts t number outstanding (Ok sought.Closed) → ◌≡◌ {A = Answer} (plain_of (with_subs parts t), reply.Closed) (plain.deliver (plain_of parts) generation s)
+    → Searched parts t number outstanding sought.Closed → ◌≡◌ {A = Answer} (plain_of (with_subs parts t), reply.Closed) (plain.deliver (plain_of parts) generation s)
 closed-performs parts t number generation s outstanding stands current found sought =
     ap {B = Answer} (λ (t : PlainTable). (plain_of (with_subs parts t), reply.Closed)) sought.0
-    ∙ sym (deliver-closed parts generation s number no_entry no_state (sym stands.records.long) current found sought.1)
+    ∙ sym (deliver-closed parts generation s number no_entry no_state (sym stands.agrees.records.long) current found sought.1)

@@ -17,7 +17,8 @@ use Rattle.pubsub_registry.specs.declared.registration.Registration.{Registratio
 use Rattle.pubsub_registry.specs.Registry.{shut}
 use Rattle.subscription_table.specs.Table.{is_in, no_entry, no_state}
 use Rattle.step_core.specs.Known.{AreKnown, IsOf, IsUnheld, IsUnknown, IsUntouched}
-use Rattle.step_core.proofs.KnownOps.{Either, Left, Right, changed-here, changed-length, changed-other, eqb-same, none-or, or-none, same-or}
+use Rattle.step_core.proofs.KnownOps.{Either, Left, Right, changed-here, changed-other, eqb-same, none-or, or-none, same-or}
+use Rattle.stream_ident.proofs.WordLemmas.{length-change_at}
 
 -- ---- a grain more
 
@@ -188,10 +189,10 @@ known-forgotten names states grains i j known is_closed inside = record {
     New = change_at (forgotten i) j grains
 
     back : (k : ℕ) → k < length New → k < length grains
-    back k within = omega (arith, within, changed-length (forgotten i) j grains)
+    back k within = omega (arith, within, length-change_at (forgotten i) j grains)
 
     forth : (k : ℕ) → k < length grains → k < length New
-    forth k within = omega (arith, within, changed-length (forgotten i) j grains)
+    forth k within = omega (arith, within, length-change_at (forgotten i) j grains)
 
     here : get_or New j no_grain ≡ ((get_or grains j no_grain).0, forgotten i (get_or grains j no_grain).1)
     here = changed-here (forgotten i) j grains no_grain inside

@@ -15,13 +15,9 @@ use Rattle.grain_table.specs.Changes.{activation_at, grain_at, no_grain}
 use Rattle.pubsub_registry.specs.declared.registration.Registration.{Registration}
 use Rattle.subscription_table.specs.Table.{is_in, no_entry, no_state, rewound_open}
 use Rattle.step_core.specs.Known.{AreKnown, IsOf, IsUnheld, IsUnknown, IsUntouched}
+use Rattle.stream_ident.proofs.WordLemmas.{length-change_at}
 
 -- ---- one entry changed
-
-pub changed-length : {K V : Type 0} (f : V → V) (j : ℕ) (xs : List (K × V)) → length (change_at f j xs) ≡ length xs
-changed-length f j [] = refl
-changed-length f zero (x ∷ xs) = refl
-changed-length f (suc j) (x ∷ xs) = ap suc (changed-length f j xs)
 
 pub changed-here : {K V : Type 0} (f : V → V) (j : ℕ) (xs : List (K × V)) (d : K × V) → j < length xs → get_or (change_at f j xs) j d ≡ ((get_or xs j d).0, f (get_or xs j d).1)
 changed-here f j [] d within = absurd (omega (arith, within))
@@ -132,10 +128,10 @@ known-grain names states grains j f known inside knows holds_less = record {
     New = change_at f j grains
 
     back : (k : ℕ) → k < length New → k < length grains
-    back k within = omega (arith, within, changed-length f j grains)
+    back k within = omega (arith, within, length-change_at f j grains)
 
     forth : (k : ℕ) → k < length grains → k < length New
-    forth k within = omega (arith, within, changed-length f j grains)
+    forth k within = omega (arith, within, length-change_at f j grains)
 
     here : get_or New j no_grain ≡ ((get_or grains j no_grain).0, f (get_or grains j no_grain).1)
     here = changed-here f j grains no_grain inside
@@ -251,10 +247,10 @@ known-offered names states grains i j s d known within_i inside is_sub its = rec
     New = change_at (λ a. woken a d) j grains
 
     back : (k : ℕ) → k < length New → k < length grains
-    back k within = omega (arith, within, changed-length (λ a. woken a d) j grains)
+    back k within = omega (arith, within, length-change_at (λ a. woken a d) j grains)
 
     forth : (k : ℕ) → k < length grains → k < length New
-    forth k within = omega (arith, within, changed-length (λ a. woken a d) j grains)
+    forth k within = omega (arith, within, length-change_at (λ a. woken a d) j grains)
 
     here : get_or New j no_grain ≡ ((get_or grains j no_grain).0, woken (get_or grains j no_grain).1 d)
     here = changed-here (λ a. woken a d) j grains no_grain inside

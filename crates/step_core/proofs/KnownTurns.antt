@@ -9,9 +9,10 @@ use Rattle.stream_ident.specs.declared.ident.SubName.{SubName}
 use Rattle.stream_ident.specs.Name.{same_grain}
 use Rattle.stream_ident.specs.Words.{place_of}
 use Rattle.stream_model.proofs.Lookups.{place_of-within}
-use Rattle.stream_model.proofs.Values.{same_grain-equal, same_grain-refl}
+use Rattle.stream_ident.proofs.SameValues.{same_grain-equal, same_grain-refl}
 use Rattle.stream_model.specs.Pulling.{rewound_where}
-use Rattle.consumer_grain.specs.Activations.{PlainActivation, begin, begin_front, begin_turn, front_of, holds, runs, turn_size}
+use Rattle.consumer_grain.specs.Activations.{PlainActivation, begin, begin_front, begin_turn, front_of, holds, runs}
+use Rattle.stream_ident.specs.Blocks.{turn_size}
 use Rattle.consumer_grain.specs.declared.delivery.Delivery.{Delivery}
 use Rattle.consumer_grain.specs.declared.turn.RunningTurn.{RunningTurn}
 use Rattle.consumer_grain.specs.Subscriptions.{PlainState}

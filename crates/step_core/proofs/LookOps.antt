@@ -30,7 +30,7 @@ use Rattle.step_core.specs.PlainOf.{plain_of}
 use Rattle.step_core.specs.View.{delivery_of, grain_of, grains_of, sub_of, subs_of, turn_of}
 use Rattle.step_core.proofs.LeafOps.{due-is}
 use Rattle.step_core.proofs.NamesOps.{record-of-number}
-use Rattle.step_core.proofs.NumberedOps.{All-at}
+use Rattle.stream_ident.proofs.WordLemmas.{All-at, is_some-map}
 use Rattle.step_core.proofs.Shared.{name-same}
 use Rattle.step_core.proofs.ViewLemmas.{record-at, records-length}
 
@@ -52,10 +52,6 @@ grains-where passes test names (entry ∷ gs) same = by (passes (grain_of names 
 
 is-waiting : (names : List (SubName × Registration)) (a : PlainActivation) → plain.is_waiting (grain_of names a) ≡ grains.is_waiting a
 is-waiting names a = ap (λ n. nat_lt 0 n) (length-map a.mailbox (delivery_of names))
-
-is_some-map : {A B : Type 0} (f : A → B) (o : Option A) → is_some (option_map f o) ≡ is_some o
-is_some-map f None = refl
-is_some-map f (Some x) = refl
 
 is-running : (names : List (SubName × Registration)) (a : PlainActivation) → plain.is_running (grain_of names a) ≡ grains.is_running a
 is-running names a = is_some-map (turn_of names) a.running

@@ -1,6 +1,6 @@
 -- Blocks are dropped and agents replaced, done by the parts.
-use Rattle.std.proofs.Common.{◌≡◌, ◌∙◌, ap, sym, refl, ℕ, suc, ◌+◌, ◌*◌, ◌<◌, ◌≤◌, min, Bool, true, false, not, List, length, get_or, ◌==◌, nat_le, arith}
-use Rattle.std.specs.Prelude.{if◌then◌else◌, ◌-◌, ◌/◌, Result, Ok, Err}
+use Rattle.std.proofs.Common.{◌≡◌, ◌∙◌, ap, sym, refl, ℕ, suc, ◌+◌, ◌*◌, ◌<◌, ◌≤◌, min, Bool, true, false, List, length, get_or, ◌==◌, nat_le, arith}
+use Rattle.std.specs.Prelude.{if◌then◌else◌, ◌-◌, ◌/◌}
 use Rattle.std.proofs.lemmas.List.{length-drop}
 use Rattle.stream_ident.specs.declared.ident.SubName.{SubName}
 use Rattle.stream_ident.specs.Words.{least_with}
@@ -12,7 +12,6 @@ use Rattle.stream_model.specs.Pulling as plain
 use Rattle.consumer_grain.specs.Subscriptions.{PlainState}
 use Rattle.pubsub_registry.specs.declared.registration.Registration.{Registration}
 use Rattle.pulling_agent.specs.Agent as agent
-use Rattle.pulling_agent.specs.declared.told.StaleAgent.{StaleAgent}
 use Rattle.queue_cache.specs.Cache.{PlainCache, high}
 use Rattle.step_core.specs.declared.parts.Parts.{Parts}
 use Rattle.step_core.specs.PlainOf.{plain_of}
@@ -27,13 +26,12 @@ high-without blocks c le = omega (arith, le, length-drop (64 * blocks) c.events)
 pub free-le : (a : agent.PlainAgent) (least : ℕ) → 64 * agent.free_blocks a least ≤ length a.cache.events
 free-le a least = omega arith
 
-abbrev pub purged_by : Parts → agent.PlainAgent × Result ℕ StaleAgent → PlainPartition × Reply
-purged_by parts (a, Ok low) = (plain_of (record parts { agent = a }), reply.Purged (token_at (plain_of parts) low))
-purged_by parts (a, Err stale) = (plain_of parts, reply.StaleAgent stale.now)
+abbrev pub purged_by : Parts → agent.PlainAgent × ℕ → PlainPartition × Reply
+purged_by parts (a, low) = (plain_of (record parts { agent = a }), reply.Purged (token_at (plain_of parts) low))
 
-pub purge-parts : (parts : Parts) (generation keep : ℕ) → plain.purge (plain_of parts) generation keep ≡ purged_by parts (agent.purge parts.agent generation keep (slowest (plain_of parts)))
+pub purge-parts : (parts : Parts) (generation keep : ℕ) → (generation == parts.agent.generation) ≡ true → plain.purge (plain_of parts) generation keep ≡ purged_by parts (agent.purge parts.agent keep (slowest (plain_of parts)))
 unfolding plain.purge plain.purge_to
-purge-parts parts generation keep = by (not (generation == parts.agent.generation))
+purge-parts parts generation keep current = rw current drops
   where
     c : PlainCache
     c = parts.agent.cache
@@ -61,11 +59,10 @@ purge-parts parts generation keep = by (not (generation == parts.agent.generatio
         ap {B = PlainPartition × Reply} (λ n. (record (plain_of parts) { low = c.low + 64 * n }, reply.Purged (token_at (plain_of parts) (c.low + 64 * n)))) same
         ∙ ap {B = PlainPartition × Reply} (λ n. (record (plain_of parts) { low = c.low + 64 * blocks; high = n }, reply.Purged (token_at (plain_of parts) (c.low + 64 * blocks)))) (sym (high-without blocks c within))
 
-    by : (stale : Bool)
-        → (if stale then (plain_of parts, reply.StaleAgent parts.agent.generation) else left)
-        ≡ purged_by parts (if stale then (parts.agent, Err (record { now = parts.agent.generation })) else agent.purge_blocks parts.agent blocks)
-    by true = refl
-    by false = drops
+-- the agent was replaced
+pub purge-stale : (parts : Parts) (generation keep : ℕ) → (generation == parts.agent.generation) ≡ false → plain.purge (plain_of parts) generation keep ≡ (plain_of parts, reply.StaleAgent parts.agent.generation)
+unfolding plain.purge
+purge-stale parts generation keep stale = rw stale refl
 
 -- these states are the old ones, with the cursors of the open records back at their resumes
 abbrev pub AreAllRewound : Parts → List PlainState → Type 0

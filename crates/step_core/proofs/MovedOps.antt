@@ -1,6 +1,6 @@
 -- Blocks that leave the cache and an agent that takes over leave parts that agree with each other.
-use Rattle.std.proofs.Common.{◌≡◌, ◌∙◌, ap, sym, subst, refl, ℕ, zero, suc, ◌+◌, ◌-◌, ◌*◌, ◌<◌, ◌≤◌, min, Bool, true, false, not, List, [], ◌∷◌, length, take, drop, get_or, map, ◌==◌, arith}
-use Rattle.std.specs.Prelude.{if◌then◌else◌, Result, Ok, Err}
+use Rattle.std.proofs.Common.{◌≡◌, ◌∙◌, ap, sym, subst, refl, ℕ, zero, suc, ◌+◌, ◌-◌, ◌*◌, ◌<◌, ◌≤◌, min, Bool, true, false, List, [], ◌∷◌, length, take, drop, get_or, map, arith}
+use Rattle.std.specs.Prelude.{if◌then◌else◌, Ok, Err}
 use Rattle.stream_ident.specs.declared.token.Token.{Token}
 use Rattle.stream_ident.specs.Words.{least_with}
 use Rattle.stream_model.specs.declared.plain.PlainPartition.{PlainPartition}
@@ -10,7 +10,7 @@ use Rattle.stream_model.specs.Positions.{between, is_spent, open_resumes, slowes
 use Rattle.stream_model.specs.Pulling as plain
 use Rattle.consumer_grain.specs.Subscriptions.{PlainState}
 use Rattle.pulling_agent.specs.Agent as agent
-use Rattle.pulling_agent.specs.declared.told.StaleAgent.{StaleAgent}
+use Rattle.pulling_agent.specs.declared.agent.StaleAgent.{StaleAgent}
 use Rattle.queue_cache.specs.Cache.{PlainCache, high}
 use Rattle.subscription_table.specs.Standing.{AreRecords}
 use Rattle.subscription_table.specs.Table.{PlainTable, rewound_all, rewound_open}
@@ -19,10 +19,11 @@ use Rattle.step_core.specs.PlainOf.{plain_of}
 use Rattle.step_core.specs.View.{sub_of}
 use Rattle.step_core.specs.declared.parts.Parts.{Parts}
 use Rattle.step_core.proofs.CachedEvents.{between-drop}
+use Rattle.step_core.proofs.CheckOps.{check-current, check-stale}
 use Rattle.step_core.proofs.DeactivateOps.{length-map}
 use Rattle.step_core.proofs.KnownOps.{known-rewound}
 use Rattle.step_core.proofs.LeafOps.{moved-to, slowest-is}
-use Rattle.step_core.proofs.MoveOps.{AreAllRewound, free-le, high-without, move-parts, moved, purge-parts, purged_by}
+use Rattle.step_core.proofs.MoveOps.{AreAllRewound, free-le, high-without, move-parts, moved, purge-parts, purge-stale, purged_by}
 
 -- ---- blocks leave the cache
 
@@ -40,57 +41,37 @@ has-without parts blocks within has =
     c = parts.agent.cache
 
 module _ (parts : Parts) (generation keep : ℕ) where
-  abbrev purge_by : ℕ → Bool → agent.PlainAgent × Result ℕ StaleAgent
-  purge_by least stale = if stale then (parts.agent, Err (record { now = parts.agent.generation })) else agent.purge_blocks parts.agent (agent.purges parts.agent keep least)
-
-  purged-assembled-by : (least : ℕ) (stale : Bool) → IsAssembled parts → IsAssembled (record parts { agent = (purge_by least stale).0 })
-  purged-assembled-by least true assembled = assembled
-  purged-assembled-by least false assembled =
-      record {
+  pub purged-assembled : (least : ℕ) (new : agent.PlainAgent) (low : ℕ) → IsAssembled parts → (new, low) ≡ agent.purge parts.agent keep least → IsAssembled (record parts { agent = new })
+  purged-assembled least new low assembled done =
+      subst (λ (left : agent.PlainAgent × ℕ). IsAssembled (record parts { agent = left.0 })) (sym done)
+      (record {
         most_subs = assembled.most_subs;
         most_rules = assembled.most_rules;
         most_events = assembled.most_events;
         cached = has-without parts (agent.purges parts.agent keep least) (purges-le parts.agent keep least) assembled.cached;
         numbered = assembled.numbered;
         known = assembled.known;
-      }
-
-  pub purged-assembled : (least : ℕ) (new : agent.PlainAgent) (told : Result ℕ StaleAgent) → IsAssembled parts → (new, told) ≡ agent.purge parts.agent generation keep least → IsAssembled (record parts { agent = new })
-  purged-assembled least new told assembled done =
-      subst (λ (left : agent.PlainAgent × Result ℕ StaleAgent). IsAssembled (record parts { agent = left.0 })) (sym done)
-      (purged-assembled-by least (not (generation == parts.agent.generation)) assembled)
-
-  purged-same : (least : ℕ) → least ≡ slowest (plain_of parts) → purged_by parts (agent.purge parts.agent generation keep least) ≡ plain.purge (plain_of parts) generation keep
-  purged-same least is_least =
-      ap (λ n. purged_by parts (agent.purge parts.agent generation keep n)) is_least ∙ sym (purge-parts parts generation keep)
+      })
 
   -- blocks were dropped
-  pub purged-done : (least : ℕ) (new : agent.PlainAgent) (low : ℕ) → least ≡ slowest (plain_of parts) → (new, Ok low) ≡ agent.purge parts.agent generation keep least
+  pub purged-done : (checked : Unit {0}) → Ok checked ≡ agent.check parts.agent generation → (least : ℕ) (new : agent.PlainAgent) (low : ℕ) → least ≡ slowest (plain_of parts) → (new, low) ≡ agent.purge parts.agent keep least
       → (plain_of (record parts { agent = new }), reply.Purged (token_at (plain_of parts) low)) ≡ plain.purge (plain_of parts) generation keep
-  purged-done least new low is_least done = ap (purged_by parts) done ∙ purged-same least is_least
-
-  stale-unchanged : (least : ℕ) (stale : Bool) (new : agent.PlainAgent) (told : StaleAgent) → (new, Err told) ≡ purge_by least stale → new ≡ parts.agent
-  stale-unchanged least true new told done = ap (λ (left : agent.PlainAgent × Result ℕ StaleAgent). left.0) done
-  stale-unchanged least false new told done = let other = ap (λ (left : agent.PlainAgent × Result ℕ StaleAgent). left.1) done in absurd (cc)
+  purged-done checked is least new low is_least done =
+      ap (purged_by parts) done
+      ∙ ap (λ n. purged_by parts (agent.purge parts.agent keep n)) is_least
+      ∙ sym (purge-parts parts generation keep (check-current parts.agent generation checked is))
 
   -- the agent was replaced
-  pub purged-stale : (least : ℕ) (new : agent.PlainAgent) (stale : StaleAgent) → least ≡ slowest (plain_of parts) → (new, Err stale) ≡ agent.purge parts.agent generation keep least
-      → (plain_of (record parts { agent = new }), reply.StaleAgent stale.now) ≡ plain.purge (plain_of parts) generation keep
-  purged-stale least new stale is_least done =
-      ap {B = PlainPartition × Reply} (λ a. (plain_of (record parts { agent = a }), reply.StaleAgent stale.now)) (stale-unchanged least (not (generation == parts.agent.generation)) new stale done)
-      ∙ ap (purged_by parts) done
-      ∙ purged-same least is_least
-
-  low-by : (least : ℕ) (stale : Bool) (new : agent.PlainAgent) (low : ℕ) → (new, Ok low) ≡ purge_by least stale → low ≤ high parts.agent.cache
-  low-by least true new low done = let other = ap (λ (left : agent.PlainAgent × Result ℕ StaleAgent). left.1) done in absurd (cc)
-  low-by least false new low done =
-      let told = ap (λ (left : agent.PlainAgent × Result ℕ StaleAgent). left.1) done in
-      let is : low ≡ parts.agent.cache.low + 64 * agent.purges parts.agent keep least = cc in
-      omega (arith, is, purges-le parts.agent keep least)
+  pub purge-replaced : (stale : StaleAgent) → Err stale ≡ agent.check parts.agent generation → (plain_of parts, reply.StaleAgent stale.now) ≡ plain.purge (plain_of parts) generation keep
+  purge-replaced stale checked =
+      let replaced = check-stale parts.agent generation stale checked in
+      ap {B = PlainPartition × Reply} (λ now. (plain_of parts, reply.StaleAgent now)) replaced.now ∙ sym (purge-stale parts generation keep replaced.other)
 
   -- the cache then begins at a position that it had
-  pub purged-low : (least : ℕ) (new : agent.PlainAgent) (low : ℕ) → (new, Ok low) ≡ agent.purge parts.agent generation keep least → low ≤ high parts.agent.cache
-  purged-low least new low done = low-by least (not (generation == parts.agent.generation)) new low done
+  pub purged-low : (least : ℕ) (new : agent.PlainAgent) (low : ℕ) → (new, low) ≡ agent.purge parts.agent keep least → low ≤ high parts.agent.cache
+  purged-low least new low done =
+      let is : low ≡ parts.agent.cache.low + 64 * agent.purges parts.agent keep least = ap (λ (left : agent.PlainAgent × ℕ). left.1) done in
+      omega (arith, is, purges-le parts.agent keep least)
 
 -- ---- another agent
 

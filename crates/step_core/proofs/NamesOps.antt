@@ -5,7 +5,7 @@ use Rattle.stream_ident.specs.declared.ident.SubName.{SubName}
 use Rattle.stream_ident.specs.SubName.{same_sub}
 use Rattle.stream_ident.specs.Words.{first_at, place_of}
 use Rattle.stream_model.specs.Positions.{sub_at}
-use Rattle.stream_model.proofs.Values.{same_sub-refl}
+use Rattle.stream_ident.proofs.SameValues.{same_sub-refl}
 use Rattle.consumer_grain.specs.Subscriptions.{PlainState}
 use Rattle.pubsub_registry.specs.declared.registration.Registration.{Registration}
 use Rattle.step_core.specs.Numbers.{AreDistinct}

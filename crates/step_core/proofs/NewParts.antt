@@ -7,6 +7,7 @@ use Rattle.stream_model.proofs.Reaching.{new-partition}
 use Rattle.consumer_grain.specs.Activations.{PlainActivation}
 use Rattle.partition_queue.specs.Queue as queue
 use Rattle.pulling_agent.specs.Agent as agent
+use Rattle.subscription_table.specs.Standing.{AreRecords}
 use Rattle.subscription_table.specs.Table as table
 use Rattle.step_core.specs.declared.parts.Parts.{Parts}
 use Rattle.step_core.specs.Assembly.{Agrees}
@@ -25,7 +26,17 @@ new_parts blocks limits =
       limits = limits;
     }
 
--- where there is nothing, nothing is known
+-- where there is nothing, each row agrees
+agrees-nothing : (most_subs most_rules : ℕ) → AreRecords (table.empty most_subs most_rules)
+agrees-nothing most_subs most_rules = record {
+  long = refl;
+  starts = λ i within. absurd (omega (arith, within));
+  openness = λ i within. absurd (omega (arith, within));
+  cursors = λ i within. absurd (omega (arith, within));
+  resumes = λ i within. absurd (omega (arith, within));
+}
+
+-- nothing is known
 knows-nothing : AreKnown [] [] []
 knows-nothing = record {
   within = λ j n inside is. absurd (omega (arith, inside));
@@ -41,6 +52,9 @@ agrees-empty blocks limits some few are =
       assembled = record { most_subs = refl; most_rules = refl; most_events = refl; cached = refl; numbered = tt; known = knows-nothing };
       within = kept.0;
       reached = kept.1;
+      unique = λ i j a b is_a is_b same. absurd (cc);
+      records = agrees-nothing limits.subs limits.rules;
+      distinct = λ i j d within_i within_j same. absurd (omega (arith, within_i));
     }
 
 pub agrees-new : (blocks : ℕ) (limits : Limits) (q : queue.PlainQueue) (a : agent.PlainAgent) (t : table.PlainTable) (grains : List (GrainId × PlainActivation))

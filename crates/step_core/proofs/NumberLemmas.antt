@@ -6,7 +6,7 @@ use Rattle.std.specs.List.{AllByRecursion}
 use Rattle.stream_ident.specs.declared.ident.SubName.{SubName}
 use Rattle.stream_ident.specs.SubName.{same_sub}
 use Rattle.stream_model.specs.Turns as plain
-use Rattle.stream_model.proofs.Values.{same_sub-refl}
+use Rattle.stream_ident.proofs.SameValues.{same_sub-refl}
 use Rattle.consumer_grain.specs.declared.delivery.Delivery.{Delivery}
 use Rattle.consumer_grain.specs.Activations.{front_of}
 use Rattle.pubsub_registry.specs.declared.registration.Registration.{Registration}

@@ -8,12 +8,7 @@ use Rattle.step_core.specs.Assembly.{IsAssembled}
 use Rattle.step_core.specs.Known.{AreKnown}
 use Rattle.step_core.specs.Numbers.{IsBelow}
 use Rattle.step_core.specs.declared.parts.Parts.{Parts}
-
--- what holds of each element holds of the one with a number
-pub All-at : {A : Type 0} (P : A → Type 0) (xs : List A) (i : ℕ) (d : A) → AllByRecursion P xs → i < length xs → P (get_or xs i d)
-All-at P [] i d all within = absurd (omega (arith, within))
-All-at P (x ∷ xs) zero d all within = all.0
-All-at P (x ∷ xs) (suc i) d all within = All-at P xs i d all.1 (omega (arith, within))
+use Rattle.stream_ident.proofs.WordLemmas.{All-at}
 
 -- and of each after a change that keeps it
 pub All-change_at : {K V : Type 0} (P : V → Type 0) (change : V → V) (i : ℕ) (entries : List (K × V)) → ((v : V) → P v → P (change v)) → AllByRecursion (λ (entry : K × V). P entry.1) entries → AllByRecursion (λ (entry : K × V). P entry.1) (change_at change i entries)

@@ -1,6 +1,6 @@
 -- What an agent plans to pull is what the plain pull does.
-use Rattle.std.proofs.Common.{◌≡◌, ◌∙◌, ap, sym, refl, ℕ, ◌+◌, ◌-◌, ◌*◌, ◌/◌, min, Bool, true, false, ◌&&◌, not, List, [], ◌∷◌, length, map, filter, Option, Some, None, ◌==◌, arith}
-use Rattle.std.specs.Prelude.{if◌then◌else◌, unwrap_or}
+use Rattle.std.proofs.Common.{◌≡◌, ◌∙◌, ap, sym, refl, ℕ, ◌+◌, ◌-◌, ◌*◌, ◌/◌, min, Bool, true, false, ◌&&◌, List, [], ◌∷◌, length, map, filter, Option, Some, None, ◌==◌, arith}
+use Rattle.std.specs.Prelude.{if◌then◌else◌, unwrap_or, Ok, Err}
 use Rattle.stream_ident.specs.declared.ident.SubName.{SubName}
 use Rattle.stream_ident.specs.declared.ident.SubName.TheVariants as name
 use Rattle.stream_ident.specs.SubName.{sub_lt}
@@ -9,14 +9,15 @@ use Rattle.stream_model.specs.declared.plain.PlainPartition.{PlainPartition}
 use Rattle.stream_model.specs.declared.plain.Subscription.{Subscription}
 use Rattle.stream_model.specs.declared.reply.Reply.{Reply}
 use Rattle.stream_model.specs.declared.reply.Reply.TheVariants as reply
-use Rattle.stream_model.specs.Positions.{slowest, slowest_name}
+use Rattle.stream_model.specs.Positions.{slowest, slowest_name, is_open_at}
 use Rattle.stream_model.specs.Pulling as plain
 use Rattle.consumer_grain.specs.Subscriptions.{PlainState}
 use Rattle.least_tree.specs.Keys.{lesser_key}
 use Rattle.pubsub_registry.specs.declared.registration.Registration.{Registration}
 use Rattle.pulling_agent.specs.Agent as agent
-use Rattle.pulling_agent.specs.declared.told.Plan.{Plan}
-use Rattle.pulling_agent.specs.declared.told.Plan.TheVariants as plan
+use Rattle.pulling_agent.specs.declared.agent.Plan.{Plan}
+use Rattle.pulling_agent.specs.declared.agent.Plan.TheVariants as plan
+use Rattle.pulling_agent.specs.declared.agent.StaleAgent.{StaleAgent}
 use Rattle.queue_cache.specs.Cache as cache
 use Rattle.resume_tree.specs.declared.leaf.Leaf.{Leaf}
 use Rattle.resume_tree.specs.Leaves as leaves
@@ -25,7 +26,9 @@ use Rattle.step_core.specs.declared.parts.Parts.{Parts}
 use Rattle.step_core.specs.PlainOf.{plain_of}
 use Rattle.step_core.specs.Taking.{taken}
 use Rattle.step_core.specs.View.{sub_of, subs_of}
+use Rattle.step_core.proofs.CheckOps.{check-current, check-stale}
 use Rattle.step_core.proofs.LeafOps.{slowest-is}
+use Rattle.stream_ident.specs.Blocks.{pull_size}
 
 -- ---- the slowest subscription
 
@@ -40,23 +43,19 @@ none-open resume (leaf ∷ all) none = by leaf.resume (leaves.least_resume all) 
     by (Some key) None none rest = absurd (cc)
     by (Some key) (Some other) none rest = absurd (cc)
 
--- the open ones with a resume are the leaves with it
-abbrev stands_at : ℕ → Subscription → Bool
-stands_at resume r = r.is_open && (r.resume == resume)
-
-at-resume : (resume : ℕ) (names : List (SubName × Registration)) (states : List PlainState) → keys_where (stands_at resume) (subs_of names states) ≡ leaves.names_where (λ leaf. leaves.has_resume resume leaf.resume) (leaves_of names states)
+at-resume : (resume : ℕ) (names : List (SubName × Registration)) (states : List PlainState) → keys_where (is_open_at resume) (subs_of names states) ≡ leaves.names_where (λ leaf. leaves.has_resume resume leaf.resume) (leaves_of names states)
 at-resume resume [] states = refl
 at-resume resume (entry ∷ names) [] = refl
 at-resume resume (entry ∷ names) (state ∷ states) = by state.is_open (at-resume resume names states)
   where
     later : List (SubName × Subscription)
-    later = filter (λ (e : SubName × Subscription). stands_at resume e.1) (subs_of names states)
+    later = filter (λ (e : SubName × Subscription). is_open_at resume e.1) (subs_of names states)
 
     behind : List Leaf
     behind = filter (λ (leaf : Leaf). leaves.has_resume resume leaf.resume) (leaves_of names states)
 
     Rest : Type 0
-    Rest = keys_where (stands_at resume) (subs_of names states) ≡ leaves.names_where (λ leaf. leaves.has_resume resume leaf.resume) (leaves_of names states)
+    Rest = keys_where (is_open_at resume) (subs_of names states) ≡ leaves.names_where (λ leaf. leaves.has_resume resume leaf.resume) (leaves_of names states)
 
     pick : (passes : Bool) → Rest → map (λ (e : SubName × Subscription). e.0) (if passes then sub_of entry state ∷ later else later) ≡ map (λ (leaf : Leaf). leaf.name) (if passes then leaf_of entry state ∷ behind else behind)
     pick true rest = ap (λ ns. entry.0 ∷ ns) rest
@@ -85,9 +84,8 @@ slowest-name-is parts =
 
 -- what the plain pull does where this is planned
 abbrev pub planned : PlainPartition → Plan → PlainPartition × Reply
-planned p (plan.StaleAgent now) = (p, reply.StaleAgent now)
 planned p plan.Dry = (p, reply.Dry)
-planned p plan.Held = (p, reply.Pressed (unwrap_or (slowest_name p) (name.Explicit 0)))
+planned p plan.Pressed = (p, reply.Pressed (unwrap_or (slowest_name p) (name.Explicit 0)))
 planned p (plan.Take drops count) = taken p drops count
 
 room-is : (parts : Parts) → plain.room (plain_of parts) ≡ cache.room parts.agent.cache
@@ -102,7 +100,7 @@ count-planned parts drops count = by (count == 0)
   where
     by : (none : Bool)
         → (if none then (plain_of parts, reply.Pressed (unwrap_or (slowest_name (plain_of parts)) (name.Explicit 0))) else taken (plain_of parts) drops count)
-        ≡ planned (plain_of parts) (if none then plan.Held else plan.Take drops count)
+        ≡ planned (plain_of parts) (if none then plan.Pressed else plan.Take drops count)
     by true = refl
     by false = refl
 
@@ -116,25 +114,34 @@ want-planned parts want =
     drops : ℕ
     drops = agent.drops parts.agent (slowest (plain_of parts)) want
 
-pub pull-planned : (parts : Parts) (generation max_events : ℕ) → plain.pull (plain_of parts) generation max_events ≡ planned (plain_of parts) (agent.plan_pull parts.agent generation max_events (length parts.queue.events) (slowest (plain_of parts)))
+pub pull-planned : (parts : Parts) (generation max_events : ℕ) → (generation == parts.agent.generation) ≡ true → plain.pull (plain_of parts) generation max_events ≡ planned (plain_of parts) (agent.plan_pull parts.agent max_events (length parts.queue.events) (slowest (plain_of parts)))
 unfolding plain.pull
-pull-planned parts generation max_events =
-    by (not (generation == parts.agent.generation)) (cache.high parts.agent.cache == length parts.queue.events) (want-planned parts want)
+pull-planned parts generation max_events current =
+    rw current (by (cache.high parts.agent.cache == length parts.queue.events) (want-planned parts want))
   where
     want : ℕ
-    want = min (agent.pull_size max_events) (length parts.queue.events - cache.high parts.agent.cache)
+    want = min (pull_size max_events) (length parts.queue.events - cache.high parts.agent.cache)
 
-    by : (stale dry : Bool) → plain.pull_want (plain_of parts) want ≡ planned (plain_of parts) (agent.plan_want parts.agent (slowest (plain_of parts)) want)
-        → (if stale then (plain_of parts, reply.StaleAgent parts.agent.generation) else if dry then (plain_of parts, reply.Dry) else plain.pull_want (plain_of parts) want)
-        ≡ planned (plain_of parts) (if stale then plan.StaleAgent parts.agent.generation else if dry then plan.Dry else agent.plan_want parts.agent (slowest (plain_of parts)) want)
-    by true dry same = refl
-    by false true same = refl
-    by false false same = same
+    by : (dry : Bool) → plain.pull_want (plain_of parts) want ≡ planned (plain_of parts) (agent.plan_want parts.agent (slowest (plain_of parts)) want)
+        → (if dry then (plain_of parts, reply.Dry) else plain.pull_want (plain_of parts) want)
+        ≡ planned (plain_of parts) (if dry then plan.Dry else agent.plan_want parts.agent (slowest (plain_of parts)) want)
+    by true same = refl
+    by false same = same
 
 -- a plan for the log's length and the slowest resume
-pub planned-is : (parts : Parts) (generation max_events len least : ℕ) (made : Plan) → len ≡ length parts.queue.events → least ≡ slowest (plain_of parts) → made ≡ agent.plan_pull parts.agent generation max_events len least
+pub planned-is : (parts : Parts) (generation max_events : ℕ) (checked : Unit {0}) → Ok checked ≡ agent.check parts.agent generation → (len least : ℕ) (made : Plan) → len ≡ length parts.queue.events → least ≡ slowest (plain_of parts) → made ≡ agent.plan_pull parts.agent max_events len least
     → planned (plain_of parts) made ≡ plain.pull (plain_of parts) generation max_events
-planned-is parts generation max_events len least made is_len is_least is =
+planned-is parts generation max_events checked current len least made is_len is_least is =
     ap {B = PlainPartition × Reply} (λ (made : Plan). planned (plain_of parts) made)
-    (is ∙ ap (λ n. agent.plan_pull parts.agent generation max_events n least) is_len ∙ ap (λ n. agent.plan_pull parts.agent generation max_events (length parts.queue.events) n) is_least)
-    ∙ sym (pull-planned parts generation max_events)
+    (is ∙ ap (λ n. agent.plan_pull parts.agent max_events n least) is_len ∙ ap (λ n. agent.plan_pull parts.agent max_events (length parts.queue.events) n) is_least)
+    ∙ sym (pull-planned parts generation max_events (check-current parts.agent generation checked current))
+
+-- the agent was replaced
+pull-stale : (parts : Parts) (generation max_events : ℕ) → (generation == parts.agent.generation) ≡ false → plain.pull (plain_of parts) generation max_events ≡ (plain_of parts, reply.StaleAgent parts.agent.generation)
+unfolding plain.pull
+pull-stale parts generation max_events stale = rw stale refl
+
+pub pull-replaced : (parts : Parts) (generation max_events : ℕ) (stale : StaleAgent) → Err stale ≡ agent.check parts.agent generation → (plain_of parts, reply.StaleAgent stale.now) ≡ plain.pull (plain_of parts) generation max_events
+pull-replaced parts generation max_events stale checked =
+    let replaced = check-stale parts.agent generation stale checked in
+    ap {B = PlainPartition × Reply} (λ now. (plain_of parts, reply.StaleAgent now)) replaced.now ∙ sym (pull-stale parts generation max_events replaced.other)

@@ -1,6 +1,6 @@
 -- What agents ask of one record: the replies, and parts that agree with each other.
-use Rattle.std.proofs.Common.{◌≡◌, ◌∙◌, ap, sym, subst, refl, ℕ, ◌<◌, true, not, List, [], ◌∷◌, length, Some, None, ◌==◌, arith}
-use Rattle.std.specs.Prelude.{Result, Ok, Err}
+use Rattle.std.proofs.Common.{◌≡◌, ◌∙◌, ap, sym, subst, refl, ℕ, ◌<◌, true, not, List, [], ◌∷◌, length, Some, None, arith}
+use Rattle.std.specs.Prelude.{Ok, Err}
 use Rattle.std.specs.List.{All}
 use Rattle.std.proofs.lemmas.Bool.{cond_both}
 use Rattle.std.proofs.lemmas.List.Elements.{All-from_recursion}
@@ -16,11 +16,12 @@ use Rattle.consumer_grain.specs.Subscriptions.{PlainState}
 use Rattle.partition_queue.specs.Queue.{PlainQueue}
 use Rattle.pubsub_registry.specs.declared.registration.Registration.{Registration}
 use Rattle.pulling_agent.specs.Agent as agent
-use Rattle.pulling_agent.specs.declared.told.Acked.{Acked}
-use Rattle.pulling_agent.specs.declared.told.Retried.{Retried}
-use Rattle.pulling_agent.specs.declared.told.StaleAgent.{StaleAgent}
+use Rattle.pulling_agent.specs.declared.agent.StaleAgent.{StaleAgent}
+use Rattle.subscription_table.specs.Progress.{ack, ack_at, handled_at, retry}
 use Rattle.subscription_table.specs.Standing.{AreRecords}
 use Rattle.subscription_table.specs.Table.{PlainTable, no_entry, no_state, number_of, state_at, stepped}
+use Rattle.subscription_table.specs.declared.progress.Acked.{Acked}
+use Rattle.subscription_table.specs.declared.progress.Retried.{Retried}
 use Rattle.step_core.specs.Assembly.{IsAssembled}
 use Rattle.step_core.specs.PlainOf.{plain_of}
 use Rattle.step_core.specs.Replies.{of_ack, of_retry}
@@ -41,24 +42,21 @@ Stays old new =
 unchanged : (s : PlainState) → Stays s s
 unchanged s = (λ is_open. is_open, λ at none. (at, none))
 
-pub retry-stays : (a : agent.PlainAgent) (generation : ℕ) (s : PlainState) → Stays s (agent.retry a generation s).0
-retry-stays a generation s =
-    cond_both (not (generation == a.generation)) _ _ Kept (λ _. unchanged s)
-    (λ _. cond_both (not s.is_open) _ _ Kept (λ _. unchanged s) (λ _. (λ is_open. is_open, λ at none. (refl, none))))
+pub retry-stays : (s : PlainState) → Stays s (retry s).0
+retry-stays s = cond_both (not s.is_open) _ _ Kept (λ _. unchanged s) (λ _. (λ is_open. is_open, λ at none. (refl, none)))
   where
-    Kept : PlainState × Result Retried StaleAgent → Type 0
+    Kept : PlainState × Retried → Type 0
     Kept out = Stays s out.0
 
 -- an event that is acknowledged was handled
-pub ack-stays : (a : agent.PlainAgent) (generation : ℕ) (s : PlainState) (queue : PlainQueue) (token : Token) → Stays s (agent.ack a generation s queue token).0
-ack-stays a generation s queue token =
-    cond_both (not (generation == a.generation)) _ _ Kept (λ _. unchanged s)
-    (λ _. cond_both (not s.is_open) _ _ Kept (λ _. unchanged s) (λ _. by (agent.handled_at s.handled queue token) (λ none. ap (λ (handled : List ℕ). agent.handled_at handled queue token) none)))
+pub ack-stays : (s : PlainState) (queue : PlainQueue) (token : Token) → Stays s (ack s queue token).0
+ack-stays s queue token =
+    cond_both (not s.is_open) _ _ Kept (λ _. unchanged s) (λ _. by (handled_at s.handled queue token) (λ none. ap (λ (handled : List ℕ). handled_at handled queue token) none))
   where
-    Kept : PlainState × Result Acked StaleAgent → Type 0
+    Kept : PlainState × Acked → Type 0
     Kept out = Stays s out.0
 
-    by : (positions : List ℕ) → (s.handled ≡ [] → positions ≡ []) → Stays s (agent.ack_at s positions).0
+    by : (positions : List ℕ) → (s.handled ≡ [] → positions ≡ []) → Stays s (ack_at s positions).0
     by [] empty = unchanged s
     by (position ∷ positions) empty = (λ is_open. is_open, λ at none. absurd (let is : position ∷ positions ≡ [] = empty none in cc))
 
@@ -82,12 +80,12 @@ module _ (parts : Parts) (generation : ℕ) (s : SubName) where
   retry-nothing checked is records none =
       sym (retry-none parts generation s (sym records.long) (check-current parts.agent generation checked is) (sym none))
 
-  pub retry-performs : (number : ℕ) (new : PlainTable) (told : Result Retried StaleAgent) → AreRecords parts.subs → Some number ≡ number_of parts.subs s
-      → (new, told) ≡ stepped parts.subs number (agent.retry parts.agent generation (state_at parts.subs number))
+  pub retry-performs : (checked : Unit {0}) → Ok checked ≡ agent.check parts.agent generation → (number : ℕ) (new : PlainTable) (told : Retried) → AreRecords parts.subs → Some number ≡ number_of parts.subs s
+      → (new, told) ≡ stepped parts.subs number (retry (state_at parts.subs number))
       → (plain_of (record parts { subs = new }), of_retry told) ≡ plain.retry (plain_of parts) generation s
-  retry-performs number new told records found done =
-      ap {B = PlainPartition × Reply} (λ (left : PlainTable × Result Retried StaleAgent). (plain_of (record parts { subs = left.0 }), of_retry left.1)) done
-      ∙ sym (retry-parts parts generation s number no_entry no_state (sym records.long) (sym found))
+  retry-performs checked is number new told records found done =
+      ap {B = PlainPartition × Reply} (λ (left : PlainTable × Retried). (plain_of (record parts { subs = left.0 }), of_retry left.1)) done
+      ∙ sym (retry-parts parts generation s number no_entry no_state (sym records.long) (check-current parts.agent generation checked is) (sym found))
 
 -- ---- what is handled is acknowledged
 
@@ -118,9 +116,9 @@ module _ (parts : Parts) (generation : ℕ) (s : SubName) (token : Token) where
   ack-nothing checked is records none =
       sym (ack-none parts generation s token (sym records.long) (check-current parts.agent generation checked is) (sym none))
 
-  pub ack-performs : (number : ℕ) (new : PlainTable) (told : Result Acked StaleAgent) → AreRecords parts.subs → Some number ≡ number_of parts.subs s
-      → (new, told) ≡ stepped parts.subs number (agent.ack parts.agent generation (state_at parts.subs number) parts.queue token)
+  pub ack-performs : (checked : Unit {0}) → Ok checked ≡ agent.check parts.agent generation → (number : ℕ) (new : PlainTable) (told : Acked) → AreRecords parts.subs → Some number ≡ number_of parts.subs s
+      → (new, told) ≡ stepped parts.subs number (ack (state_at parts.subs number) parts.queue token)
       → (plain_of (record parts { subs = new }), of_ack told) ≡ plain.ack (plain_of parts) generation s token
-  ack-performs number new told records found done =
-      ap {B = PlainPartition × Reply} (λ (left : PlainTable × Result Acked StaleAgent). (plain_of (record parts { subs = left.0 }), of_ack left.1)) done
-      ∙ sym (ack-parts parts generation s token number no_entry no_state (sym records.long) (sym found))
+  ack-performs checked is number new told records found done =
+      ap {B = PlainPartition × Reply} (λ (left : PlainTable × Acked). (plain_of (record parts { subs = left.0 }), of_ack left.1)) done
+      ∙ sym (ack-parts parts generation s token number no_entry no_state (sym records.long) (check-current parts.agent generation checked is) (sym found))

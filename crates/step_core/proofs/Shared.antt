@@ -1,21 +1,25 @@
 -- What each operation starts from.
-use Rattle.std.proofs.Common.{◌≡◌, refl, subst, ℕ, zero, suc, ◌<◌, true, List, [], ◌∷◌, length, get_or, Some, arith}
+use Rattle.std.proofs.Common.{◌≡◌, refl, subst, ℕ, zero, suc, ◌<◌, ◌≤◌, true, List, [], ◌∷◌, length, get_or, Some, arith}
 use Rattle.std.specs.List.{slice_get}
 use Rattle.std.specs.Prelude.{reverse}
 use Rattle.stream_ident.specs.declared.ident.SubName.{SubName}
 use Rattle.stream_ident.specs.SubName.{same_sub}
 use Rattle.stream_model.specs.declared.plain.PlainPartition.{PlainPartition}
 use Rattle.stream_model.specs.Step.{IsReached}
-use Rattle.stream_model.proofs.Invariant.{Fits}
-use Rattle.stream_model.proofs.KeptStep.{kept-step}
-use Rattle.stream_model.proofs.Legal.{fits-stands}
-use Rattle.stream_model.proofs.Summary.{Summary, summary}
+use Rattle.stream_laws.proofs.Invariant.{Fits}
+use Rattle.stream_laws.proofs.KeptStep.{kept-step}
+use Rattle.stream_laws.proofs.Legal.{fits-stands}
+use Rattle.stream_laws.proofs.Summary.{Summary, summary}
 use Rattle.pubsub_registry.specs.declared.registration.Registration.{Registration}
 use Rattle.pubsub_registry.specs.Index.{AreUnique}
 use Rattle.subscription_table.specs.Table as table
 use Rattle.step_core.specs.Numbers.{AreDistinct}
 use Rattle.step_core.specs.View.{name_at}
 use Rattle.step_core.proofs.NamesOps.{name-of-entry}
+use Rattle.queue_cache.specs.Cache.{high}
+use Rattle.step_core.specs.Assembly.{Agrees}
+use Rattle.step_core.specs.PlainOf.{plain_of}
+use Rattle.step_core.specs.declared.parts.Parts.{Parts}
 
 -- the history of a partition, and what holds of both
 pub record HasHistory (p : PlainPartition) : Type 0 where
@@ -48,3 +52,7 @@ distinct-of-unique names unique i j within_i within_j same =
     (get-slice names i table.no_entry within_i) (get-slice names j table.no_entry within_j)
     (subst (λ s. same_sub (get_or names i table.no_entry).0 s ≡ true) (name-of-entry names j table.no_entry within_j)
     (subst (λ s. same_sub s (name_at names j) ≡ true) (name-of-entry names i table.no_entry within_i) same))
+
+-- the cache has nothing that isn't in the log
+pub high-end : (parts : Parts) → Agrees parts → high parts.agent.cache ≤ length parts.queue.events
+high-end parts agrees = (history-of (plain_of parts) agrees.reached).fits.log.high_end

@@ -1,31 +1,28 @@
 -- Summaries in the order of their names.
 use denote.Param.Members.{Mut}
 use Rattle.std.specs.Prelude.{◌≡◌, Bool, List}
-use Rattle.std.proofs.Common.{Bor, sym, ◌∙◌, ap, subst}
+use Rattle.std.proofs.Common.{Bor, subst}
 use Rattle.std.proofs.lemmas.Fn.{always_returns_same}
 use Rattle.std.proofs.lemmas.List.MinMax.{ranks_by}
 use Rattle.std.specs.Cmp.{IsStrictWeakOrder}
 use Rattle.std.specs.Fn.{Called}
 use Rattle.std.specs.List.Sorted.{IsSortedBy, IsSortedByKeyClosure, IsStableBy, IsStableByKeyClosure}
-use Rattle.std.specs.Ordering.{is_lt, is_some_and}
-use Rattle.stream_ident.proofs.OrderLemmas.{sub_before}
+use Rattle.std.specs.Ordering.{is_lt}
+use Rattle.stream_ident.proofs.NameOrders.{sub_less_at}
 use Rattle.stream_ident.specs.declared.ident.SubName.{SubName}
 use Rattle.stream_ident.specs.SubName.{sub_lt}
 use Rattle.stream_ident.specs.contracts.ident.SubNameOrd.TheImpl as name_order
-use Rattle.stream_ident.specs.contracts.ident.SubNameOrd.TheImpl.Laws.{matches_partial_cmp-law, total-law}
+use Rattle.stream_ident.specs.contracts.ident.SubNameOrd.TheImpl.Laws.{total-law}
 use Rattle.stream_model.specs.Draining.{in_order}
 use Rattle.step_core.specs.declared.summary.SubSummary.{SubSummary}
 use Rattle.step_core.specs.Reads.{is_named_before}
 use Rattle.step_core.proofs.SortedOnce.{sorted-stable}
 
-name_before : (a b : SubName) → is_lt (name_order.ghosts.cmp a b) ≡ sub_lt a b
-name_before a b = ap (is_some_and is_lt) (sym (matches_partial_cmp-law a b)) ∙ sub_before a b
-
 abbrev has_lesser_name : SubSummary → SubSummary → Bool
 has_lesser_name a b = is_lt (name_order.ghosts.cmp a.name b.name)
 
 named_before : has_lesser_name ≡ is_named_before
-named_before = λ i a b. name_before a.name b.name i
+named_before = λ i a b. sub_less_at a.name b.name i
 
 -- what a stable sort gives whose key is the name
 pub in_name_order : {F : Type 0} {g : Mut F (Bor SubSummary × Unit {0}) SubName} {f : F} (xs ys : List SubSummary)
@@ -43,7 +40,7 @@ abbrev is_lesser_name : SubName → SubName → Bool
 is_lesser_name a b = is_lt (name_order.ghosts.cmp a b)
 
 name_lesser : is_lesser_name ≡ sub_lt
-name_lesser = λ i a b. name_before a b i
+name_lesser = λ i a b. sub_less_at a b i
 
 -- what a stable sort of names gives
 pub in_order-of-names : (xs ys : List SubName) → IsSortedBy is_lesser_name ys → IsStableBy is_lesser_name xs ys → ys ≡ in_order sub_lt xs

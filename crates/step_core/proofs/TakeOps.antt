@@ -24,6 +24,7 @@ use Rattle.step_core.specs.PlainOf.{plain_of}
 use Rattle.step_core.specs.Taking.{ahead, filled, taken}
 use Rattle.step_core.proofs.HandOps.{Answer, on-error, with_subs}
 use Rattle.step_core.proofs.PullOps.{made-below, made-grains, made-known, made-length, made-view}
+use Rattle.std.proofs.Math.Seq.{take-nil}
 
 -- ---- what the rules made of the events
 
@@ -66,10 +67,6 @@ makes-few old events seen at is_seen is = by (are_too_many old events) refl (ap 
     by false few is = few
 
 -- ---- the cache goes on along the log
-
-take-nil : {A : Type 0} (n : ℕ) → take {A = A} n [] ≡ []
-take-nil zero = refl
-take-nil (suc n) = refl
 
 take-more : {A : Type 0} (m n : ℕ) (xs : List A) → take m xs ++ take n (drop m xs) ≡ take (m + n) xs
 take-more zero n xs = ap (λ k. take k xs) (omega arith)

@@ -18,7 +18,8 @@ use Rattle.stream_model.specs.Turns as plain
 use Rattle.consumer_grain.specs.declared.delivery.Delivery.{Delivery}
 use Rattle.consumer_grain.specs.declared.told.Begun.{Begun}
 use Rattle.consumer_grain.specs.declared.told.Begun.TheVariants as begun
-use Rattle.consumer_grain.specs.Activations.{PlainActivation, begin, begin_front, begin_turn, front_of, started, turn_size}
+use Rattle.consumer_grain.specs.Activations.{PlainActivation, begin, begin_front, begin_turn, front_of, started}
+use Rattle.stream_ident.specs.Blocks.{turn_size}
 use Rattle.consumer_grain.specs.declared.turn.RunningTurn.{RunningTurn}
 use Rattle.consumer_grain.specs.Subscriptions.{PlainState, committed}
 use Rattle.pubsub_registry.specs.declared.registration.Registration.{Registration}
@@ -30,6 +31,7 @@ use Rattle.step_core.proofs.GrainOps.{activation_at, grain-found, grain-new, gra
 use Rattle.step_core.proofs.NamesOps.{number-of-name, record-of-number}
 use Rattle.step_core.proofs.NumberLemmas.{front-of-names}
 use Rattle.step_core.proofs.RecordOps.{record-set, record_at}
+use Rattle.stream_ident.proofs.WordLemmas.{is_some-map}
 
 abbrev pub with_activation : Parts → ℕ → PlainActivation → Parts
 with_activation parts i a = record parts { grains = change_at (λ _. a) i parts.grains }
@@ -99,10 +101,6 @@ begin-front-parts parts g i size c d e (f ∷ fs) distinct lengths found below m
         (grain-set parts g i d (λ _. begins) (λ st. record st { mailbox = drop (length positions) st.mailbox; running = Some (record { sub = name_at parts.subs.registry.names f.sub; turn = suc parts.turns; positions = positions }) }) found
         (ap (λ ds. record st { mailbox = ds; running = Some (record { sub = name_at parts.subs.registry.names f.sub; turn = suc parts.turns; positions = positions }) }) (sym (drop-map (delivery_of parts.subs.registry.names) (length positions) a.mailbox))))
 
-is_some-map : {A B : Type 0} (f : A → B) (o : Option A) → is_some (option_map f o) ≡ is_some o
-is_some-map f None = refl
-is_some-map f (Some x) = refl
-
 pub begin-parts : (parts : Parts) (g : GrainId) (i max_events past_front : ℕ) (c : SubName × Registration) (d : GrainId × PlainActivation) (e : PlainState)
     → AreDistinct parts.subs.registry.names → length parts.subs.registry.names ≡ length parts.subs.states → place_of same_grain g parts.grains ≡ Some i
     → IsBelow (length parts.subs.registry.names) (activation_at parts i d)
@@ -117,7 +115,7 @@ begin-parts parts g i max_events past_front c d e distinct lengths found below i
     a = activation_at parts i d
 
     by : (busy active : Bool)
-        → (if busy then (plain_of parts, reply.Busy) else if not active then (plain_of parts, reply.Empty) else plain.begin_front (plain_of parts) g (plain.turn_size max_events) (grain_of parts.subs.registry.names a) (grain_of parts.subs.registry.names a).mailbox)
+        → (if busy then (plain_of parts, reply.Busy) else if not active then (plain_of parts, reply.Empty) else plain.begin_front (plain_of parts) g (turn_size max_events) (grain_of parts.subs.registry.names a) (grain_of parts.subs.registry.names a).mailbox)
         ≡ begun_by parts i d e (if busy then (a, begun.Busy) else if not active then (a, begun.Empty) else begin_front a past_front (turn_number parts) (turn_size max_events) a.mailbox)
     by true active = refl
     by false false = refl

@@ -4,7 +4,10 @@ use Rattle.std.specs.List.{AllByRecursion}
 use Rattle.stream_model.specs.Bounds.{IsWithinLimits}
 use Rattle.stream_model.specs.Positions.{between}
 use Rattle.stream_model.specs.Step.{IsReached}
+use Rattle.grain_table.specs.Grains.{AreDistinct}
+use Rattle.pubsub_registry.specs.Index.{AreUnique}
 use Rattle.queue_cache.specs.Cache.{high}
+use Rattle.subscription_table.specs.Standing.{AreRecords}
 use Rattle.step_core.specs.declared.parts.Parts.{Parts}
 use Rattle.step_core.specs.Known.{AreKnown}
 use Rattle.step_core.specs.Numbers.{IsBelow}
@@ -24,8 +27,13 @@ pub record IsAssembled (parts : Parts) : Type 0 where
   pub numbered : AllByRecursion (λ entry. IsBelow (length parts.subs.registry.names) entry.1) parts.grains
   pub known : AreKnown parts.subs.registry.names parts.subs.states parts.grains
 
--- and a legal history leads to the plain partition that they stand for
+-- What each operation goes out from. A legal history leads to the plain partition that the parts stand for,
+-- and the tables are as they promise of themselves: no name and no grain has two numbers, and each name has a
+-- state that agrees with its registration.
 pub record Agrees (parts : Parts) : Type 0 where
   pub assembled : IsAssembled parts
   pub within : IsWithinLimits (plain_of parts)
   pub reached : IsReached (plain_of parts)
+  pub unique : AreUnique parts.subs.registry.names
+  pub records : AreRecords parts.subs
+  pub distinct : AreDistinct parts.grains

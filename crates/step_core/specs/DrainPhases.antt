@@ -10,7 +10,8 @@ use Rattle.step_core.specs.declared.draining.Stop.TheVariants as stop
 use Rattle.stream_model.specs.declared.reply.Reply.{Reply}
 use Rattle.stream_model.specs.declared.reply.Reply.TheVariants as reply
 use Rattle.stream_model.specs.Draining as draining
-use Rattle.stream_model.specs.Draining.{AtTooMany, AtSpent, Astray, IsFrontOf, Progress, after_deliver, ask}
+use Rattle.stream_model.specs.Draining.{AtTooMany, AtSpent, Astray, Progress, after_deliver, ask}
+use Rattle.stream_ident.specs.Words.{IsPrefixOf}
 use Rattle.stream_model.specs.History.{Entry}
 use Rattle.stream_model.specs.Step.{step, Leads}
 
@@ -29,7 +30,7 @@ meant (Err why) = halted why
 -- it ended as the progress says, or the first of its operations are done, and no other
 abbrev pub Ends : PlainPartition → PlainPartition → Option (Option draining.Stop) → Progress → Type 0
 Ends old new (Some end) m = (new ≡ m.now) × (end ≡ m.stop) × Leads old m.entries new
-Ends old new None m = (entries : List Entry) × IsFrontOf entries m.entries × Leads old entries new
+Ends old new None m = (entries : List Entry) × IsPrefixOf entries m.entries × Leads old entries new
 
 -- what a phase owes
 abbrev pub Follows : {T : Type 0} → PlainPartition → PlainPartition → Result T Stop → Progress → Type 0
@@ -65,7 +66,3 @@ is_acknowledged _ = false
 abbrev pub is_nothing : Reply → Bool
 is_nothing reply.Nothing = true
 is_nothing _ = false
-
--- deliveries of a subscription, each but the last with a turn of its grain, at most so many
-abbrev pub deliver_up_to : ℕ → SubName → GrainId → PlainPartition → Progress
-deliver_up_to n s g p = ask p (Deliver p.generation s) (λ q answer. after_deliver n s g q answer)

@@ -2,7 +2,7 @@
 use Rattle.std.specs.Prelude.{◌≡◌, suc, ◌<◌, Bool, true, Some, length, if◌then◌else◌}
 use Rattle.stream_model.specs.Positions.{next_position}
 use Rattle.consumer_grain.specs.declared.delivery.Delivery.{Delivery}
-use Rattle.consumer_grain.specs.Subscriptions.{delivered}
+use Rattle.consumer_grain.specs.Subscriptions.{advanced}
 use Rattle.queue_cache.specs.Cache.{high}
 use Rattle.subscription_table.specs.Table.{state_at, with_state}
 use Rattle.step_core.specs.declared.parts.Parts.{Parts}
@@ -20,6 +20,6 @@ pub record IsNext (parts : Parts) (d : Delivery) : Type 0 where
 abbrev pub sent : Parts → Delivery → Bool → Parts
 sent parts d wakes =
     record parts {
-      subs = with_state parts.subs d.sub (delivered d.position (state_at parts.subs d.sub));
+      subs = with_state parts.subs d.sub (advanced d.position (state_at parts.subs d.sub));
       rises = if wakes then suc parts.rises else parts.rises;
     }

@@ -8,8 +8,8 @@ use Rattle.stream_model.specs.declared.reply.Reply.{Reply}
 use Rattle.stream_model.specs.declared.reply.Reply.TheVariants as reply
 use Rattle.step_core.specs.declared.outcome.Outcome.{Outcome}
 use Rattle.step_core.specs.declared.outcome.Outcome.TheVariants as outcome
-use Rattle.step_core.specs.declared.told.Told.{Told}
-use Rattle.step_core.specs.declared.told.Told.TheVariants as told
+use Rattle.step_core.specs.declared.outcome.Told.{Told}
+use Rattle.step_core.specs.declared.outcome.Told.TheVariants as told
 
 abbrev pub reply_of : Told → Reply
 reply_of (told.Published seq) = reply.Published seq

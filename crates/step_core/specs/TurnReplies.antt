@@ -1,5 +1,5 @@
 -- What becomes of the parts where a turn begins and where it ends, and the reply.
-use Rattle.std.specs.Prelude.{ℕ, suc, pred, ◌<◌, length, Option, None, if◌then◌else◌}
+use Rattle.std.specs.Prelude.{ℕ, suc, pred, ◌<◌, length, if◌then◌else◌}
 use Rattle.std.specs.List.{AllByRecursion}
 use Rattle.stream_ident.specs.Event.{events_at}
 use Rattle.stream_ident.specs.Words.{past}
@@ -8,7 +8,6 @@ use Rattle.stream_model.specs.declared.reply.Reply.TheVariants as reply
 use Rattle.consumer_grain.specs.declared.told.Begun.{Begun}
 use Rattle.consumer_grain.specs.declared.told.Begun.TheVariants as begun
 use Rattle.consumer_grain.specs.declared.turn.RunningTurn.{RunningTurn}
-use Rattle.consumer_grain.specs.Activations.{PlainActivation, is_turn}
 use Rattle.consumer_grain.specs.Subscriptions.{committed}
 use Rattle.partition_queue.specs.Queue.{PlainQueue, token_at}
 use Rattle.subscription_table.specs.Table.{PlainTable, name_at, state_at, with_state}
@@ -34,10 +33,6 @@ IsOfParts parts (begun.Dropped d) = (d.sub < length parts.subs.registry.names) �
 IsOfParts parts (begun.Turn sub positions) =
     (sub < length parts.subs.registry.names) × AllByRecursion (λ position. position < length parts.queue.events) positions
 IsOfParts parts _ = Unit {0}
-
--- the turn that runs, if it is this turn of this activation
-abbrev pub current_turn : PlainActivation → ℕ → ℕ → Option RunningTurn
-current_turn a activation turn = if is_turn a.number activation turn a.running then a.running else None
 
 -- the events of a turn are handled where its subscription is open
 abbrev pub handle : PlainTable → PlainQueue → RunningTurn → ℕ → PlainTable × Reply

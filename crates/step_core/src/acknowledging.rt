@@ -6,10 +6,11 @@ ghost use Rattle.step_core.specs.PlainOf.{plain_of};
 ghost use Rattle.step_core.specs.Replies.{of_ack, of_retry};
 ghost use Rattle.step_core.specs.Replied.{reply_of};
 
+use crate::outcome::Told;
 use crate::parts::Parts;
-use crate::told::Told;
-use pulling_agent::{Acked, Retried, StaleAgent};
+use pulling_agent::StaleAgent;
 use stream_ident::{SubName, Token};
+use subscription_table::{Acked, Retried};
 
 /// The agent sets a subscription's cursor back to its resume. It takes no memory.
 pub(crate) fn retry(parts: &mut Parts, generation: u64, sub: SubName) -> Told
@@ -20,12 +21,10 @@ pub(crate) fn retry(parts: &mut Parts, generation: u64, sub: SubName) -> Told
     if let Err(StaleAgent { now }) = parts.agent.check(generation) {
         return Told::StaleAgent { now };
     }
-    // What `len` promises of the table holds in what follows.
-    prove!(parts.subs.len() <= parts.limits.subs);
     let Some(number) = parts.subs.find(&sub) else {
         return Told::NoSuch;
     };
-    told_of_retry(parts.subs.retry(number, &parts.agent, generation))
+    told_of_retry(parts.subs.retry(number))
 }
 
 /// The agent learns that a subscription has handled an event and all that it was owed before. It takes no
@@ -38,37 +37,29 @@ pub(crate) fn ack(parts: &mut Parts, generation: u64, sub: SubName, token: Token
     if let Err(StaleAgent { now }) = parts.agent.check(generation) {
         return Told::StaleAgent { now };
     }
-    // What `len` promises of the table holds in what follows.
-    prove!(parts.subs.len() <= parts.limits.subs);
     let Some(number) = parts.subs.find(&sub) else {
         return Told::NoSuch;
     };
-    told_of_ack(
-        parts
-            .subs
-            .ack(number, &parts.agent, generation, &parts.queue, &token),
-    )
+    told_of_ack(parts.subs.ack(number, &parts.queue, &token))
 }
 
 /// What an agent that retries is told.
-fn told_of_retry(retried: Result<Retried, StaleAgent>) -> Told
+fn told_of_retry(retried: Retried) -> Told
     ensures { reply_of result ≡ of_retry retried }
 {
     match retried {
-        Ok(Retried::Closed) => Told::Closed,
-        Ok(Retried::Rewound) => Told::Rewound,
-        Err(StaleAgent { now }) => Told::StaleAgent { now },
+        Retried::Closed => Told::Closed,
+        Retried::Rewound => Told::Rewound,
     }
 }
 
 /// What an agent that acknowledges is told.
-fn told_of_ack(acked: Result<Acked, StaleAgent>) -> Told
+fn told_of_ack(acked: Acked) -> Told
     ensures { reply_of result ≡ of_ack acked }
 {
     match acked {
-        Ok(Acked::Closed) => Told::Closed,
-        Ok(Acked::NotHandled) => Told::NotHandled,
-        Ok(Acked::Acked) => Told::Acked,
-        Err(StaleAgent { now }) => Told::StaleAgent { now },
+        Acked::Closed => Told::Closed,
+        Acked::NotHandled => Told::NotHandled,
+        Acked::Acked => Told::Acked,
     }
 }

@@ -2,7 +2,8 @@
 ghost use Rattle.std.specs.Prelude.{◌≡◌, ◌+◌, ◌^◌, ◌<◌, ◌≤◌, None, OnErr, Some, length, not, true};
 ghost use Rattle.stream_model.specs.Positions.{is_outstanding, token_at};
 ghost use Rattle.stream_model.specs.Pulling.{deliver};
-ghost use Rattle.stream_model.specs.Step.{takes_memory, Performs};
+ghost use Rattle.stream_model.specs.Step.{takes_memory};
+ghost use Rattle.stream_ident.specs.Words.{Performs};
 ghost use Rattle.grain_table.specs.Changes.{activation_at};
 ghost use Rattle.grain_table.specs.Grains.{number_of};
 ghost use Rattle.subscription_table.specs.Table.{name_at};
@@ -13,13 +14,14 @@ ghost use Rattle.step_core.specs.Records.{record_of};
 ghost use Rattle.step_core.specs.Replied.{replied, reply_of};
 ghost use Rattle.stream_model.specs.declared.reply.Reply.TheVariants.{Delivered};
 
+use crate::outcome::Told;
 use crate::parts::Parts;
 use crate::reading::is_spent;
-use crate::told::Told;
 use consumer_grain::{Delivery, Offered};
-use pulling_agent::{Sought, StaleAgent};
+use pulling_agent::StaleAgent;
 use std::alloc::{AllocError, Global};
-use stream_ident::{GrainId, SubName};
+use stream_ident::SubName;
+use subscription_table::Sought;
 
 /// The agent hands a subscription its next event.
 pub(crate) fn deliver(
@@ -36,61 +38,65 @@ pub(crate) fn deliver(
     if let Err(StaleAgent { now }) = parts.agent.check(generation) {
         return Ok(Told::StaleAgent { now });
     }
-    // What this promises of the table holds below.
-    let _names = parts.subs.len();
     let Some(number) = parts.subs.find(&sub) else {
         return Ok(Told::NoSuch);
     };
-    let outstanding = is_outstanding(parts, number);
+    let grain = parts.grains.find(&parts.subs.registration(number).grain);
+    let outstanding = is_outstanding(parts, number, grain);
     match parts
         .subs
-        .seek(number, &parts.agent, generation, outstanding)
+        .next_event(number, parts.agent.cache(), outstanding)
     {
-        Ok(Sought::Next { position }) => {
+        Sought::Next { position } => {
             let delivery = Delivery {
                 sub: number,
                 position,
             };
-            hand_over(parts, alloc, delivery)
+            hand_over(parts, alloc, delivery, grain)
         }
-        Ok(Sought::Nothing) => Ok(Told::Nothing),
-        Ok(Sought::Closed) => Ok(Told::Closed),
-        Err(StaleAgent { now }) => Ok(Told::StaleAgent { now }),
+        Sought::Nothing => Ok(Told::Nothing),
+        Sought::Closed => Ok(Told::Closed),
     }
 }
 
-/// Whether a delivery of a subscription waits or runs, or it has handled an event at or past its resume.
-fn is_outstanding(parts: &Parts, number: usize) -> bool
+/// Whether a delivery of a subscription waits or runs, or it has handled an event at or past its resume. Its
+/// grain has the number `grain`, where it was active before.
+fn is_outstanding(parts: &Parts, number: usize, grain: Option<usize>) -> bool
     requires agrees { Agrees parts.now }
     requires number { number < length parts.now.subs.registry.names }
+    requires grain { number_of parts.now.grains (record_of parts.now number).grain ≡ grain }
     ensures { result ≡ is_outstanding (plain_of parts.now) (name_at parts.now.subs number) (record_of parts.now number) }
 {
-    prove!(number < parts.subs.len());
     if parts.subs.state(number).is_unacknowledged() {
         return true;
     }
-    let grain = parts.subs.registration(number).grain;
-    match parts.grains.find(&grain) {
-        Some(at) => parts.grains.at(at).holds(number),
+    match grain {
+        Some(grain) => parts.grains.at(grain).holds(number),
         None => false,
     }
 }
 
-/// Hands the next event of a subscription to its grain.
+/// Hands the next event of a subscription to its grain, which has the number `grain` where it was active
+/// before.
 ///
 /// # Errors
 /// Memory, and then nothing has changed. It comes only where the event would be handed over.
-fn hand_over(parts: &mut Parts, alloc: Global, delivery: Delivery) -> Result<Told, AllocError>
+fn hand_over(
+    parts: &mut Parts,
+    alloc: Global,
+    delivery: Delivery,
+    grain: Option<usize>,
+) -> Result<Told, AllocError>
     requires agrees { Agrees parts.old }
     requires next { IsNext parts.old delivery }
+    requires grain { number_of parts.old.grains (record_of parts.old delivery.sub).grain ≡ grain }
     ensures assembled { IsAssembled parts.new }
     ensures performs { Performs (plain_of parts.old) (plain_of parts.new) (replied result) (deliver (plain_of parts.old) parts.old.agent.generation (name_at parts.old.subs delivery.sub)) }
     ensures memory { OnErr result (takes_memory (deliver (plain_of parts.old) parts.old.agent.generation (name_at parts.old.subs delivery.sub)).1 ≡ true) }
 {
-    let grain = parts.subs.registration(delivery.sub).grain;
-    match parts.grains.find(&grain) {
-        Some(at) => hand_to(parts, alloc, at, delivery),
-        None => hand_first(parts, alloc, grain, delivery),
+    match grain {
+        Some(grain) => hand_to(parts, alloc, grain, delivery),
+        None => hand_first(parts, alloc, delivery),
     }
 }
 
@@ -111,7 +117,6 @@ fn hand_to(
     ensures performs { Performs (plain_of parts.old) (plain_of parts.new) (replied result) (deliver (plain_of parts.old) parts.old.agent.generation (name_at parts.old.subs delivery.sub)) }
     ensures memory { OnErr result (takes_memory (deliver (plain_of parts.old) parts.old.agent.generation (name_at parts.old.subs delivery.sub)).1 ≡ true) }
 {
-    prove!(delivery.sub < parts.subs.len());
     let wakes = !parts.grains.at(grain).is_active();
     // Nothing waits for a grain that isn't active, so that its mailbox isn't full.
     if wakes && is_spent(parts) {
@@ -127,24 +132,18 @@ fn hand_to(
 ///
 /// # Errors
 /// Memory, and then nothing has changed. It comes only where the event would be handed over.
-fn hand_first(
-    parts: &mut Parts,
-    alloc: Global,
-    grain: GrainId,
-    delivery: Delivery,
-) -> Result<Told, AllocError>
+fn hand_first(parts: &mut Parts, alloc: Global, delivery: Delivery) -> Result<Told, AllocError>
     requires agrees { Agrees parts.old }
     requires next { IsNext parts.old delivery }
-    requires grain { grain ≡ (record_of parts.old delivery.sub).grain }
-    requires first { number_of parts.old.grains grain ≡ None }
+    requires first { number_of parts.old.grains (record_of parts.old delivery.sub).grain ≡ None }
     ensures assembled { IsAssembled parts.new }
     ensures performs { Performs (plain_of parts.old) (plain_of parts.new) (replied result) (deliver (plain_of parts.old) parts.old.agent.generation (name_at parts.old.subs delivery.sub)) }
     ensures memory { OnErr result (takes_memory (deliver (plain_of parts.old) parts.old.agent.generation (name_at parts.old.subs delivery.sub)).1 ≡ true) }
 {
-    prove!(delivery.sub < parts.subs.len());
     if is_spent(parts) {
         return Ok(Told::Spent);
     }
+    let grain = parts.subs.registration(delivery.sub).grain;
     parts.grains.add(alloc, grain, delivery)?;
     Ok(sent(parts, delivery, true))
 }
@@ -160,7 +159,7 @@ fn sent(parts: &mut Parts, delivery: Delivery, wakes: bool) -> Told
     ensures reply { reply_of result ≡ Delivered (token_at (plain_of parts.old) delivery.position) }
 {
     parts.rises += u64::from(wakes);
-    parts.subs.deliver(delivery.sub, delivery.position);
+    parts.subs.advance(delivery.sub, delivery.position);
     Told::Delivered {
         token: parts.queue.token_at(delivery.position),
     }

@@ -2,15 +2,14 @@
 ghost use Rattle.std.specs.Prelude.{◌≡◌, List};
 ghost use Rattle.stream_ident.specs.declared.event.Event.{Event};
 ghost use Rattle.stream_model.specs.declared.op.Op.TheVariants.{Commit, Deliver, Pull};
-ghost use Rattle.stream_model.specs.Draining.{acknowledge, after_begin, after_commit, ask, deliver_once_more, drain_all, drain_round, empty_mailboxes, last_handled, next_note, serve, serve_each, take_turn, DrainsTo};
+ghost use Rattle.stream_model.specs.Draining.{acknowledge, after_begin, after_commit, ask, deliver_once_more, drain_all, drain_round, empty_mailboxes, last_handled, next_note, serve, serve_each, take_turn, DrainsTo, deliver_up_to};
 ghost use Rattle.stream_model.specs.Positions.{sub_at};
 ghost use Rattle.step_core.specs.declared.draining.Stop.TheVariants.{Memory};
-ghost use Rattle.step_core.specs.DrainPhases.{Asks, Follows, deliver_told, deliver_up_to, is_acknowledged, is_committed, is_nothing, pull_told};
+ghost use Rattle.step_core.specs.DrainPhases.{Asks, Follows, deliver_told, is_acknowledged, is_committed, is_nothing, pull_told};
 ghost use Rattle.step_core.specs.Replied.{reply_with};
 
-use crate::outcome::Outcome;
+use crate::outcome::{Outcome, Told};
 use crate::partition::Partition;
-use crate::told::Told;
 use std::alloc::{AllocError, Global};
 use stream_ident::{GrainId, SubName};
 use stream_model::{DrainEnd, Op};
@@ -39,6 +38,15 @@ impl From<AllocError> for Stop {
     }
 }
 
+/// Where the deliveries of a subscription go, and from where on.
+#[derive(Clone, Copy, Debug, PartialEq, Eq)]
+pub(crate) struct Served {
+    /// The grain that consumes it.
+    pub(crate) grain: GrainId,
+    /// The next event to deliver is sought from this position on.
+    pub(crate) cursor: usize,
+}
+
 impl Partition {
     /// Does all that is left to do: what waits is handled, each open subscription is delivered to and its
     /// events handled, one at a time, and more is pulled, until the queue has nothing more. The note of each
@@ -53,8 +61,6 @@ impl Partition {
         if let Some(grain) = self.least_running() {
             return Ok(DrainEnd::Stuck { grain });
         }
-        // A legal history leads to the partition, so nothing below goes astray.
-        self.facts();
         let turns = self.turns();
         match drain_all(self, alloc) {
             Ok(()) => Ok(DrainEnd::Drained {

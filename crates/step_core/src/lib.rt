@@ -6,13 +6,8 @@
 #![tactic(auto)]
 
 mod acknowledging;
-mod deactivating;
 mod delivering;
-#[cfg(test)]
-mod drain_tests;
 mod draining;
-#[cfg(test)]
-mod limit_tests;
 mod looking;
 mod moving;
 mod outcome;
@@ -21,17 +16,13 @@ mod parts;
 mod producing;
 mod pulling;
 mod reading;
-mod running;
-mod serving;
 mod stepping;
 mod subscribing;
 mod summary;
-#[cfg(test)]
-mod tests;
-mod told;
 mod turns;
 
 pub use partition::Partition;
 pub use resume_tree::{Leaf, Resumes};
-pub use stream_model::{DrainEnd, Events, Limits, Op, Pending, Reply, Start, laws};
+pub use stream_laws as laws;
+pub use stream_model::{DrainEnd, Events, Limits, Op, Pending, Reply, Start};
 pub use summary::SubSummary;

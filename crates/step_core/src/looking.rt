@@ -14,14 +14,14 @@ ghost use Rattle.step_core.specs.Deliverables.{is_deliverable};
 ghost use Rattle.step_core.specs.PlainOf.{plain_of};
 ghost use Rattle.step_core.specs.Replied.{reply_of};
 
+use crate::outcome::Told;
 use crate::parts::Parts;
-use crate::told::Told;
 use cache_cursor::next;
 use consumer_grain::SubState;
 use partition_queue::PartitionQueue;
 use pubsub_registry::Registration;
 use queue_cache::QueueCache;
-use queue_mapper::place;
+use queue_mapper::tag;
 use stream_ident::{GrainId, SubName, Token};
 use stream_model::Pending;
 
@@ -43,8 +43,6 @@ pub(crate) fn due(parts: &Parts, after: Option<SubName>) -> Told
     requires { Agrees parts.now }
     ensures { reply_of result ≡ due (plain_of parts.now) after }
 {
-    // The table says with its length that no name has two numbers.
-    let _names = parts.subs.len();
     let high = parts.agent.cache().high();
     match parts.subs.due_after(after.as_ref(), high) {
         Some(number) => Told::DueSub {
@@ -153,7 +151,7 @@ fn has_next(cache: &QueueCache, registration: &Registration, state: &SubState) -
         return false;
     }
     let stream = &registration.stream;
-    let tag = place(stream, 1).tag;
+    let tag = tag(stream);
     next(cache, state.cursor(), stream, tag, &registration.start).is_some()
 }
 

@@ -5,9 +5,9 @@ ghost use Rattle.step_core.specs.Assembly.{Agrees, IsAssembled};
 ghost use Rattle.step_core.specs.PlainOf.{plain_of};
 ghost use Rattle.step_core.specs.Replied.{reply_of};
 
+use crate::outcome::Told;
 use crate::parts::Parts;
 use crate::reading::{is_spent, least_resume};
-use crate::told::Told;
 use pulling_agent::StaleAgent;
 
 /// The agent drops the blocks of its cache that no open subscription needs, beyond those that it keeps. It
@@ -17,12 +17,13 @@ pub(crate) fn purge(parts: &mut Parts, generation: u64, keep: u32) -> Told
     ensures assembled { IsAssembled parts.new }
     ensures performs { (plain_of parts.new, reply_of result) ≡ purge (plain_of parts.old) generation keep }
 {
+    if let Err(StaleAgent { now }) = parts.agent.check(generation) {
+        return Told::StaleAgent { now };
+    }
     let least = least_resume(parts);
-    match parts.agent.purge(generation, keep as usize, least) {
-        Ok(low) => Told::Purged {
-            low: parts.queue.token_at(low),
-        },
-        Err(StaleAgent { now }) => Told::StaleAgent { now },
+    let low = parts.agent.purge(keep as usize, least);
+    Told::Purged {
+        low: parts.queue.token_at(low),
     }
 }
 
@@ -37,8 +38,6 @@ pub(crate) fn move_queue(parts: &mut Parts, silo: u8) -> Told
     if is_spent(parts) {
         return Told::Spent;
     }
-    // What `len` promises of the table holds in what follows.
-    prove!(parts.subs.len() <= parts.limits.subs);
     let position = parts.agent.cache().high().min(least_resume(parts));
     let low = parts.queue.token_at(position);
     let generation = parts.agent.take_over(silo, position);

@@ -1,22 +1,23 @@
 //! The partition.
-ghost use Rattle.std.specs.Prelude.{◌≡◌, ◌≤◌, true, length, IfOk, OnErr};
+ghost use Rattle.std.specs.Prelude.{◌≡◌, ◌≤◌, true, length, IfOk, OnErr, OnOk};
 ghost use Rattle.std.specs.Option.{option_map};
 ghost use Rattle.stream_ident.specs.Name.{grain_lt};
-ghost use Rattle.stream_ident.specs.Words.{keys_where, least};
-ghost use Rattle.stream_model.specs.Bounds.{AreLimits, IsWithinLimits};
+ghost use Rattle.stream_ident.specs.Words.{keys_where, least, Performs};
+ghost use Rattle.stream_model.specs.Bounds.{AreLimits};
 ghost use Rattle.stream_model.specs.Draining.{all_waiting, last_handled, least_waiting, open_names};
 ghost use Rattle.stream_model.specs.Looks.{is_running, pending_in};
 ghost use Rattle.stream_model.specs.Positions.{empty, high_token, low_token, sub_at};
-ghost use Rattle.stream_model.specs.Step.{step, takes_memory, IsReached, Performs};
+ghost use Rattle.stream_model.specs.Step.{step, takes_memory, IsReached};
 ghost use Rattle.step_core.specs.Reads.{handled_of, summaries_in_order};
 ghost use Rattle.step_core.specs.Replied.{answered, IsOfLog};
+ghost use Rattle.step_core.specs.Run.{Does, DoesFront};
 ghost use Rattle.step_core.specs.Serving.{served_of};
 
+use crate::draining::Served;
 use crate::looking::{all_waiting, least_running, least_waiting, pending};
 use crate::outcome::Outcome;
 use crate::parts::Parts;
 use crate::reading::{handled, high_token, last_handled, low_token, open_names, served, summaries};
-use crate::serving::Served;
 use crate::stepping::step;
 use crate::summary::SubSummary;
 use grain_table::GrainTable;
@@ -88,6 +89,28 @@ impl Partition {
         Ok(outcome.reply(&self.parts.queue))
     }
 
+    /// Does the operations in order, and appends their replies.
+    ///
+    /// # Errors
+    /// Memory. The operations whose replies were appended are done, and no other.
+    pub fn run(
+        &mut self,
+        alloc: Global,
+        mut ops: Vec<Op>,
+        replies: &mut Vec<Reply>,
+    ) -> Result<(), AllocError>
+        ensures done { OnOk result (Does ops.items self.old self.new replies.old.items replies.new.items) }
+        ensures front { DoesFront ops.items self.old self.new replies.old.items replies.new.items }
+    {
+        replies.reserve(ops.len())?;
+        ops.reverse();
+        while let Some(op) = ops.pop() {
+            let reply = self.step(alloc, op)?;
+            replies.push(reply)?;
+        }
+        Ok(())
+    }
+
     /// Does one operation, as `step` does it, without the events of a turn.
     ///
     /// # Errors
@@ -97,16 +120,11 @@ impl Partition {
         ensures of_log { IfOk result (IsOfLog self.new.log) }
         ensures memory { OnErr result (takes_memory (step self.old op).1 ≡ true) }
     {
-        step(&mut self.parts, alloc, op)
-    }
-
-    /// The facts that hold of every partition: its numbers are within the limits, and a legal history leads
-    /// to it.
-    pub(crate) fn facts(&self)
-        ensures within { IsWithinLimits self.now }
-        ensures reached { IsReached self.now }
-    {
-        let _queue = &self.parts.queue;
+        let outcome = step(&mut self.parts, alloc, op);
+        // A table promises with its length that no number is given twice, and that its rows agree. That is
+        // asked here, once for all operations: each starts from parts that `Agrees` speaks of.
+        let _lengths = (self.parts.subs.len(), self.parts.grains.len());
+        outcome
     }
 
     /// The generation of the current pulling agent.
@@ -130,9 +148,10 @@ impl Partition {
         self.parts.queue.len()
     }
 
-    /// The number of the last turn, 0 before the first.
+    /// The number of the last turn, 0 before the first, of a partition that a legal history leads to.
     pub(crate) fn turns(&self) -> u64
-        ensures { result ≡ self.now.turns }
+        ensures turns { result ≡ self.now.turns }
+        ensures reached { IsReached self.now }
     {
         self.parts.turns
     }

@@ -1,14 +1,15 @@
 //! What producers ask.
 ghost use Rattle.std.specs.Prelude.{◌≡◌, true, OnErr};
 ghost use Rattle.stream_model.specs.Publishing.{add_rule, publish};
-ghost use Rattle.stream_model.specs.Step.{takes_memory, Performs};
+ghost use Rattle.stream_model.specs.Step.{takes_memory};
+ghost use Rattle.stream_ident.specs.Words.{Performs};
 ghost use Rattle.step_core.specs.Assembly.{Agrees, IsAssembled};
 ghost use Rattle.step_core.specs.PlainOf.{plain_of};
 ghost use Rattle.step_core.specs.Replies.{of_append, of_rule};
 ghost use Rattle.step_core.specs.Replied.{replied, reply_of};
 
+use crate::outcome::Told;
 use crate::parts::Parts;
-use crate::told::Told;
 use partition_queue::Appended;
 use pubsub_registry::RuleAdded;
 use std::alloc::{AllocError, Global};

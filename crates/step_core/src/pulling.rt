@@ -2,7 +2,8 @@
 ghost use Rattle.std.specs.Prelude.{◌≡◌, ◌+◌, ◌*◌, ◌≤◌, OnErr, length, true, unwrap_or};
 ghost use Rattle.stream_model.specs.Positions.{slowest, slowest_name, token_at};
 ghost use Rattle.stream_model.specs.Pulling.{pull};
-ghost use Rattle.stream_model.specs.Step.{takes_memory, Performs};
+ghost use Rattle.stream_model.specs.Step.{takes_memory};
+ghost use Rattle.stream_ident.specs.Words.{Performs};
 ghost use Rattle.pulling_agent.specs.Agent.{IsTakeable};
 ghost use Rattle.queue_cache.specs.Cache.{high, room};
 ghost use Rattle.step_core.specs.Assembly.{Agrees, IsAssembled};
@@ -11,11 +12,11 @@ ghost use Rattle.step_core.specs.Taking.{filled, taken};
 ghost use Rattle.step_core.specs.Replied.{replied, reply_of};
 ghost use Rattle.stream_model.specs.declared.reply.Reply.TheVariants.{Pulled};
 
+use crate::outcome::Told;
 use crate::parts::Parts;
 use crate::reading::least_resume;
-use crate::told::Told;
 use pubsub_registry::Implied;
-use pulling_agent::Plan;
+use pulling_agent::{Plan, StaleAgent};
 use std::alloc::{AllocError, Global};
 use stream_ident::SubName;
 
@@ -31,12 +32,14 @@ pub(crate) fn pull(
     ensures performs { Performs (plain_of parts.old) (plain_of parts.new) (replied result) (pull (plain_of parts.old) generation max) }
     ensures memory { OnErr result (takes_memory (pull (plain_of parts.old) generation max).1 ≡ true) }
 {
+    if let Err(StaleAgent { now }) = parts.agent.check(generation) {
+        return Ok(Told::StaleAgent { now });
+    }
     let least = least_resume(parts);
     let len = parts.queue.len();
-    match parts.agent.plan_pull(generation, max as usize, len, least) {
-        Plan::StaleAgent { now } => Ok(Told::StaleAgent { now }),
+    match parts.agent.plan_pull(max as usize, len, least) {
         Plan::Dry => Ok(Told::Dry),
-        Plan::Held => Ok(Told::Pressed { by: slowest(parts) }),
+        Plan::Pressed => Ok(Told::Pressed { by: slowest(parts) }),
         Plan::Take { drops, count } => take(parts, alloc, drops, count),
     }
 }
@@ -59,8 +62,6 @@ fn take(parts: &mut Parts, alloc: Global, drops: usize, count: usize) -> Result<
     ensures performs { Performs (plain_of parts.old) (plain_of parts.new) (replied result) (taken (plain_of parts.old) drops count) }
     ensures memory { OnErr result (takes_memory (taken (plain_of parts.old) drops count).1 ≡ true) }
 {
-    // What this promises of the table holds below.
-    let _names = parts.subs.len();
     let high = parts.agent.cache().high();
     let events = parts.queue.between(high, high + count);
     // The rules come first: they may find too many subscriptions, or no memory.
@@ -79,11 +80,9 @@ fn fill(parts: &mut Parts, drops: usize, count: usize) -> Told
     ensures parts { parts.new ≡ filled parts.old drops count }
     ensures reply { reply_of result ≡ Pulled count (token_at (plain_of parts.new) parts.new.agent.cache.low) (token_at (plain_of parts.new) (high parts.new.agent.cache)) }
 {
-    let generation = parts.agent.generation();
     let high = parts.agent.cache().high();
     let events = parts.queue.between(high, high + count);
-    // The call is the agent's own, so it isn't stale.
-    parts.agent.pull(generation, drops, events).unwrap();
+    parts.agent.pull(drops, events);
     let cache = parts.agent.cache();
     Told::Pulled {
         count,

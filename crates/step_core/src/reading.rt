@@ -12,8 +12,8 @@ ghost use Rattle.step_core.specs.Reads.{handled_of, summary_of};
 ghost use Rattle.step_core.specs.Serving.{served_of};
 ghost use Rattle.step_core.specs.View.{sub_of, subs_of};
 
+use crate::draining::Served;
 use crate::parts::Parts;
-use crate::serving::Served;
 use crate::summary::SubSummary;
 use partition_queue::PartitionQueue;
 use std::alloc::{AllocError, Global};
@@ -109,10 +109,10 @@ pub(crate) fn open_names(
 
 /// The grain and the cursor of a subscription.
 pub(crate) fn served(parts: &Parts, sub: &SubName) -> Option<Served>
+    requires { Agrees parts.now }
     ensures { result ≡ option_map served_of (sub_at (plain_of parts.now) sub.now) }
 {
     let subs = &parts.subs;
-    let _len = subs.len();
     let number = subs.find(sub)?;
     Some(Served {
         grain: subs.registration(number).grain,
@@ -126,7 +126,6 @@ pub(crate) fn last_handled(parts: &Parts, sub: &SubName) -> Option<Token>
     ensures { result ≡ last_handled (plain_of parts.now) (sub_at (plain_of parts.now) sub.now) }
 {
     let subs = &parts.subs;
-    let _len = subs.len();
     let number = subs.find(sub)?;
     let state = subs.state(number);
     if state.handled().is_empty() {
@@ -140,7 +139,6 @@ pub(crate) fn handled(parts: &Parts, alloc: Global, sub: &SubName) -> Result<Vec
     requires { Agrees parts.now }
     ensures { IfOk result (λ events. events.items ≡ handled_of (plain_of parts.now) sub.now) }
 {
-    let _len = parts.subs.len();
     match parts.subs.find(sub) {
         Some(number) => events_at(&parts.queue, alloc, parts.subs.state(number).handled()),
         None => Ok(Vec::new(alloc)),

@@ -1,12 +1,12 @@
 //! One operation on the parts.
 ghost use Rattle.std.specs.Prelude.{◌≡◌, true, OnErr, IfOk};
-ghost use Rattle.stream_model.specs.Step.{step, takes_memory, Performs};
+ghost use Rattle.stream_model.specs.Step.{step, takes_memory};
+ghost use Rattle.stream_ident.specs.Words.{Performs};
 ghost use Rattle.step_core.specs.Assembly.{Agrees, IsAssembled};
 ghost use Rattle.step_core.specs.PlainOf.{plain_of};
 ghost use Rattle.step_core.specs.Replied.{answered, IsOfLog};
 
 use crate::acknowledging::{ack, retry};
-use crate::deactivating::deactivate;
 use crate::delivering::deliver;
 use crate::looking::{due, quiet, ready};
 use crate::moving::{move_queue, purge};
@@ -15,7 +15,7 @@ use crate::parts::Parts;
 use crate::producing::{add_rule, publish};
 use crate::pulling::pull;
 use crate::subscribing::{subscribe, unsubscribe};
-use crate::turns::{begin, commit};
+use crate::turns::{begin, commit, deactivate};
 use std::alloc::{AllocError, Global};
 use stream_model::Op;
 

@@ -1,9 +1,9 @@
 //! What subscribers ask.
 ghost use Rattle.std.specs.Prelude.{◌≡◌, ◌≤◌, true, OnErr};
 ghost use Rattle.stream_ident.specs.Name.{same_grain};
-ghost use Rattle.stream_ident.specs.Words.{changed_value};
+ghost use Rattle.stream_ident.specs.Words.{changed_value, Performs};
 ghost use Rattle.stream_model.specs.Publishing.{subscribe, subscribe_at, unsubscribe};
-ghost use Rattle.stream_model.specs.Step.{takes_memory, Performs};
+ghost use Rattle.stream_model.specs.Step.{takes_memory};
 ghost use Rattle.consumer_grain.specs.Activations.{forgotten};
 ghost use Rattle.queue_cache.specs.Cache.{high};
 ghost use Rattle.step_core.specs.Assembly.{Agrees, IsAssembled};
@@ -11,9 +11,9 @@ ghost use Rattle.step_core.specs.PlainOf.{plain_of};
 ghost use Rattle.step_core.specs.SubscriberReplies.{of_added};
 ghost use Rattle.step_core.specs.Replied.{replied, reply_of};
 
+use crate::outcome::Told;
 use crate::parts::Parts;
 use crate::reading::{high_token, low_token};
-use crate::told::Told;
 use cache_cursor::lower;
 use grain_table::GrainTable;
 use pubsub_registry::{Added, Closing};
@@ -68,8 +68,6 @@ pub(crate) fn unsubscribe(parts: &mut Parts, sub: SubName) -> Told
     ensures assembled { IsAssembled parts.new }
     ensures performs { (plain_of parts.new, reply_of result) ≡ unsubscribe (plain_of parts.old) sub }
 {
-    // What `len` promises of the table holds in what follows.
-    prove!(parts.subs.len() <= parts.limits.subs);
     let Some(number) = parts.subs.find(&sub) else {
         return Told::NoSuch;
     };
@@ -113,8 +111,6 @@ fn subscribe_at(
     ensures performs { Performs (plain_of parts.old) (plain_of parts.new) (replied result) (subscribe_at (plain_of parts.old) stream grain start position) }
     ensures memory { OnErr result (takes_memory (subscribe_at (plain_of parts.old) stream grain start position).1 ≡ true) }
 {
-    // What `len` promises of the table holds in what follows.
-    prove!(parts.subs.len() <= parts.limits.subs);
     let added = parts.subs.subscribe(alloc, stream, grain, start, position)?;
     Ok(told_of_sub(added))
 }

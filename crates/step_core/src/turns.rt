@@ -1,26 +1,23 @@
-//! What workers ask: the turns of a grain.
+//! The turns of a grain, which workers ask for, and its end.
 ghost use Rattle.std.specs.Prelude.{◌≡◌, ◌+◌, ◌^◌, ◌<◌, ◌∷◌, List, None, OnErr, Some, length, pred, suc, true, if◌then◌else◌};
 ghost use Rattle.std.specs.List.{AllByRecursion};
-ghost use Rattle.std.specs.Option.{option_copied};
-ghost use Rattle.stream_ident.specs.Words.{past};
+ghost use Rattle.stream_ident.specs.Words.{past, Performs};
 ghost use Rattle.stream_model.specs.Positions.{is_spent};
-ghost use Rattle.stream_model.specs.Step.{takes_memory, Performs};
-ghost use Rattle.stream_model.specs.Turns.{begin, commit};
+ghost use Rattle.stream_model.specs.Step.{takes_memory};
+ghost use Rattle.stream_model.specs.Turns.{begin, commit, deactivate};
 ghost use Rattle.consumer_grain.specs.declared.delivery.Delivery.{Delivery};
 ghost use Rattle.consumer_grain.specs.Subscriptions.{rises_from};
 ghost use Rattle.grain_table.specs.Changes.{activation_at};
-ghost use Rattle.subscription_table.specs.Table as table;
 ghost use Rattle.subscription_table.specs.Table.{state_at};
 ghost use Rattle.step_core.specs.Assembly.{Agrees, IsAssembled};
 ghost use Rattle.step_core.specs.PlainOf.{plain_of};
-ghost use Rattle.step_core.specs.TurnReplies.{after_begun, current_turn, handle, of_begun, IsOfParts};
-ghost use Rattle.step_core.specs.Replied.{replied, reply_with, IsOfLog};
+ghost use Rattle.step_core.specs.TurnReplies.{after_begun, handle, of_begun, IsOfParts};
+ghost use Rattle.step_core.specs.Replied.{replied, reply_of, reply_with, IsOfLog};
 
-use crate::outcome::{NewTurn, Outcome};
+use crate::outcome::{NewTurn, Outcome, Told};
 use crate::parts::Parts;
 use crate::reading::is_spent;
-use crate::told::Told;
-use consumer_grain::{Activation, Begun, RunningTurn};
+use consumer_grain::{Begun, RunningTurn};
 use partition_queue::PartitionQueue;
 use std::alloc::{AllocError, Global};
 use stream_ident::{GrainId, Row};
@@ -36,8 +33,6 @@ pub(crate) fn begin(parts: &mut Parts, grain: GrainId, max: u32) -> Outcome
     let Some(number) = parts.grains.find(&grain) else {
         return Outcome::Told(Told::Empty);
     };
-    // The table says with its length that no name has two numbers.
-    let _names = parts.subs.len();
     let activation = parts.grains.at(number).number();
     let past = past_of_front(parts, number);
     let turn = next_turn(parts);
@@ -121,26 +116,12 @@ pub(crate) fn commit(
     let Some(number) = parts.grains.find(&grain) else {
         return Ok(Told::Stale);
     };
-    // The table says with its length that no name has two numbers.
-    let _names = parts.subs.len();
-    let Some(run) = current_turn(parts.grains.at(number), activation, turn) else {
+    let Some(run) = parts.grains.at(number).current_turn(activation, turn) else {
         return Ok(Told::Stale);
     };
     let told = handle(&mut parts.subs, alloc, &parts.queue, run, note)?;
     parts.grains.commit(number, activation, turn);
     Ok(told)
-}
-
-/// The turn that runs for a grain, if it is this turn of this activation.
-fn current_turn(grain: &Activation, activation: u64, turn: u64) -> Option<&RunningTurn>
-    ensures { option_copied result ≡ current_turn grain.now activation turn }
-{
-    let run = grain.running()?;
-    if activation == grain.number() && turn == run.turn {
-        Some(run)
-    } else {
-        None
-    }
 }
 
 /// The events of a turn are handled, unless its subscription is closed.
@@ -158,7 +139,7 @@ fn handle(
     requires positions { AllByRecursion (λ position. position < length queue.now.events) run.now.positions }
     requires rising { rises_from (past (state_at subs.old run.now.sub).handled) run.now.positions ≡ true }
     requires room { past run.now.positions < 2 ^ 64 }
-    ensures performs { table.Performs subs.old subs.new (replied result) (handle subs.old queue.now run.now note) }
+    ensures performs { Performs subs.old subs.new (replied result) (handle subs.old queue.now run.now note) }
     ensures memory { OnErr result ((state_at subs.old run.now.sub).is_open ≡ true) }
 {
     if !subs.state(run.sub).is_open() {
@@ -177,4 +158,23 @@ fn last_position(positions: &Row<usize>) -> usize
 {
     let positions = positions.as_slice();
     positions[positions.len() - 1]
+}
+
+/// A grain leaves memory: what waits and what runs is lost, and the cursors of its open subscriptions go
+/// back to their resumes. It takes no memory, and looks only at the subscriptions that something was offered
+/// for: the cursors of the others are at their resumes.
+pub(crate) fn deactivate(parts: &mut Parts, grain: GrainId) -> Told
+    requires { Agrees parts.old }
+    ensures assembled { IsAssembled parts.new }
+    ensures performs { (plain_of parts.new, reply_of result) ≡ deactivate (plain_of parts.old) grain }
+{
+    let Some(number) = parts.grains.find(&grain) else {
+        return Told::NotActive;
+    };
+    if !parts.grains.at(number).is_active() {
+        return Told::NotActive;
+    }
+    parts.subs.rewind(parts.grains.at(number).subs());
+    let lost = parts.grains.deactivate(number);
+    Told::Deactivated { lost }
 }

@@ -1,5 +1,10 @@
+pub mod EventLemmas
 pub mod NameLemmas
+pub mod NameOrders
 pub mod NumberLemmas
+pub mod Order
 pub mod OrderLemmas
+pub mod SameValues
 pub mod SplitLemmas
 pub mod TokenLemmas
+pub mod WordLemmas

@@ -7,14 +7,7 @@ use Rattle.std.proofs.lemmas.List.{take_all, take_at, length-append, length-repl
 use Rattle.std.proofs.lemmas.List.Sums.{list_all-from_AllPass, fails_before_first}
 use Rattle.stream_ident.specs.Text.{or_else, wrong_place, IsPadded}
 use Rattle.stream_ident.specs.Alphabet.{is_name_byte, IsName, wrong_in_name, is_payload_byte, IsPayload, wrong_in_payload}
-
-or_else-None : {A : Type 0} (o : Option A) → or_else o None ≡ o
-or_else-None None = refl
-or_else-None (Some x) = refl
-
-none_parts : {A : Type 0} (o other : Option A) → or_else o other ≡ None → (o ≡ None) × (other ≡ None)
-none_parts None other e = (refl, e)
-none_parts (Some x) other e = cc
+use Rattle.stream_ident.proofs.WordLemmas.{or_else-none, or_else-parts}
 
 cond_none : {A : Type 0} (b : Bool) (x : A) (other : Option A) → cond b (Some x) other ≡ None → (b ≡ false) × (other ≡ None)
 cond_none true x other e = cc
@@ -29,7 +22,7 @@ good_from_position good bytes none =
 -- of a text that is short enough the front is the whole
 pub wrong_place-short : (good : ℕ → Bool) (most : ℕ) (bytes : List ℕ) → length bytes ≤ most → wrong_place good most bytes ≡ position (λ byte. not (good byte)) bytes
 wrong_place-short good most bytes short =
-    rw (take_all most bytes short, le-ltb most (length bytes) short, or_else-None) refl
+    rw (take_all most bytes short, le-ltb most (length bytes) short, or_else-none) refl
 
 pub wrong_in_name-short : (bytes : List ℕ) → 0 < length bytes → length bytes ≤ 64 → wrong_in_name bytes ≡ position (λ byte. not (is_name_byte byte)) bytes
 wrong_in_name-short bytes some short =
@@ -38,7 +31,7 @@ wrong_in_name-short bytes some short =
 -- a text with no wrong place is short enough, and each of its bytes is good
 pub right_everywhere : (good : ℕ → Bool) (most : ℕ) (bytes : List ℕ) → wrong_place good most bytes ≡ None → (length bytes ≤ most) × (list_all good bytes ≡ true)
 right_everywhere good most bytes none =
-    let parts = none_parts (position (λ byte. not (good byte)) (take most bytes)) (cond (nat_lt most (length bytes)) (Some most) None) none in
+    let parts = or_else-parts (position (λ byte. not (good byte)) (take most bytes)) (cond (nat_lt most (length bytes)) (Some most) None) none in
     let short : length bytes ≤ most = ltb-false _ _ (cond_none _ _ _ parts.1).0 in
     let nowhere = rw (take_all most bytes short) at parts.0 in
     (short, good_from_position good bytes nowhere)

@@ -11,7 +11,7 @@ use Rattle.std.proofs.lemmas.Option.{cond_some}
 use Rattle.std.proofs.lemmas.Fmt.{digits_decimal}
 use Rattle.stream_ident.specs.Number.{number_of}
 use Rattle.stream_ident.specs.Text.{split_once}
-use Rattle.stream_ident.specs.Token.{token_text, IsToken, token_of, token_of_parts, token_or, narrowed}
+use Rattle.stream_ident.specs.Token.{token_text, IsToken, token_of, token_of_parts, token_or, narrowed, token_lt}
 use Rattle.stream_ident.proofs.NumberLemmas.{numerals, number_of-decimal, decimal-number_of}
 use Rattle.stream_ident.proofs.SplitLemmas.{split_once-front, split_once-joined}
 use Rattle.stream_ident.specs.declared.token.Token.{Token}
@@ -66,3 +66,7 @@ token_found bytes (Err bad) e = tt
 pub token_refused : (bytes : List ℕ) (result : Result Token BadToken) → result ≡ token_of bytes → OnErr result ((token : Token) → IsToken token → bytes ≢ token_text token)
 token_refused bytes (Ok token) e = tt
 token_refused bytes (Err bad) e = λ token fits same. let given = token_of-token_text token fits in let there = ap token_of same in cc
+
+-- an order
+pub token_lt-trans : (a b c : Token) → token_lt a b ≡ true → token_lt b c ≡ true → token_lt a c ≡ true
+token_lt-trans a b c ab bc = grind (arith, nat_tests)

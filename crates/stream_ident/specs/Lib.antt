@@ -1,5 +1,7 @@
 pub mod Alphabet
+pub mod Blocks
 pub mod Event
+pub mod Implying
 pub mod Name
 pub mod Number
 pub mod SubName

@@ -1,5 +1,6 @@
 -- Words on lists that the definitions are written in.
-use Rattle.std.specs.Prelude.{ℕ, zero, suc, Bool, List, [], ◌∷◌, Option, Some, None, map, filter, min, if◌then◌else◌}
+use Rattle.std.specs.Prelude.{◌≡◌, ℕ, zero, suc, Bool, ◌&&◌, List, [], ◌∷◌, ◌++◌, Option, Some, None, Result, Ok, Err, map, filter, is_some, min, nat_le, if◌then◌else◌}
+use Rattle.std.specs.declared.alloc.AllocError.{AllocError}
 use Rattle.std.specs.Map.{lookup}
 pub use Rattle.stream_ident.specs.Text.{or_else}
 
@@ -72,3 +73,26 @@ abbrev pub change_at : {K V : Type 0} → (V → V) → ℕ → List (K × V) �
 change_at change n [] = []
 change_at change zero (entry ∷ entries) = (entry.0, change entry.1) ∷ entries
 change_at change (suc n) (entry ∷ entries) = entry ∷ change_at change n entries
+
+-- the entry at the end, unless its key is there
+abbrev pub with_new : {K V : Type 0} → (K → K → Bool) → List (K × V) → K × V → List (K × V)
+with_new same entries entry = if is_some (value_at same entry.0 entries) then entries else entries ++ entry ∷ []
+
+-- a call did what its definition says, or it failed to allocate and nothing has changed
+abbrev pub Performs : {S R : Type 0} → S → S → Result R AllocError → S × R → Type 0
+Performs old new (Ok told) stepped = (new, told) ≡ stepped
+Performs old new (Err e) stepped = new ≡ old
+
+-- The positions of the longest front of the deliveries, at most n, that are all of one subscription and rise
+-- from this position on. The subscription and the position of a delivery are given by functions.
+abbrev pub rising_front : {D K : Type 0} → (K → K → Bool) → (D → K) → (D → ℕ) → ℕ → K → ℕ → List D → List ℕ
+rising_front same sub_of position_of zero s from deliveries = []
+rising_front same sub_of position_of (suc n) s from [] = []
+rising_front same sub_of position_of (suc n) s from (d ∷ deliveries) =
+    if same s (sub_of d) && nat_le from (position_of d)
+    then position_of d ∷ rising_front same sub_of position_of n s (suc (position_of d)) deliveries
+    else []
+
+-- one list begins the other
+abbrev pub IsPrefixOf : {A : Type 0} → List A → List A → Type 0
+IsPrefixOf {A} xs ys = (rest : List A) × (xs ++ rest ≡ ys)

@@ -14,8 +14,6 @@ mod padded;
 mod payload;
 mod row;
 mod rule;
-#[cfg(test)]
-mod tests;
 mod text;
 mod token;
 

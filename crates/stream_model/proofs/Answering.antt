@@ -4,7 +4,8 @@ use Rattle.std.specs.declared.alloc.AllocError.{AllocError}
 use Rattle.stream_model.specs.declared.plain.PlainPartition.{PlainPartition}
 use Rattle.stream_model.specs.declared.reply.Reply.{Reply}
 use Rattle.stream_model.specs.Bounds.{IsWithinLimits}
-use Rattle.stream_model.specs.Step.{takes_memory, Performs}
+use Rattle.stream_model.specs.Step.{takes_memory}
+use Rattle.stream_ident.specs.Words.{Performs}
 
 -- what holds is so of an error
 pub on-error : {T E P : Type 0} (r : Result T E) → P → OnErr r P

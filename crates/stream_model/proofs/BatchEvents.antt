@@ -3,7 +3,7 @@ use Rattle.std.proofs.Common.{◌≡◌, ◌∙◌, ap, sym, refl, ℕ, suc, ◌
 use Rattle.std.proofs.lemmas.List.{append_assoc, length-take-le, take_more}
 use Rattle.stream_ident.specs.declared.event.Event.{Event}
 use Rattle.stream_ident.specs.declared.ident.StreamId.{StreamId}
-use Rattle.stream_model.specs.History.{events_of}
+use Rattle.stream_ident.specs.Event.{events_of}
 
 -- the event of a payload at a place in its batch
 abbrev pub event_at : StreamId → ℕ → ℕ → List ℕ → Event
@@ -27,8 +27,3 @@ event-more log stream seq payloads i payload within is =
     in
     append_assoc log (events_of stream seq 0 (take i payloads)) (event_at stream seq i payload ∷ [])
     ∙ ap (λ events. log ++ events) (sym (ap (events_of stream seq 0) more ∙ events_of-push stream seq 0 (take i payloads) payload ∙ ap (λ n. events_of stream seq 0 (take i payloads) ++ event_at stream seq n payload ∷ []) place))
-
--- the number of events is that of the payloads
-pub length-events_of : (stream : StreamId) (seq idx : ℕ) (payloads : List (List ℕ)) → length (events_of stream seq idx payloads) ≡ length payloads
-length-events_of stream seq idx [] = refl
-length-events_of stream seq idx (payload ∷ payloads) = ap suc (length-events_of stream seq (suc idx) payloads)

@@ -17,7 +17,8 @@ use Rattle.stream_model.specs.declared.reply.Reply.TheVariants as reply
 use Rattle.stream_model.specs.Bounds.{IsWithinLimits}
 use Rattle.stream_model.specs.Places.{place_of, started}
 use Rattle.stream_model.specs.Positions.{events_at, grain_at, is_spent, new_grain, sub_at, token_at}
-use Rattle.stream_model.specs.Turns.{begin, begin_in, begin_front, begin_for, begin_turn, front_of, turn_size}
+use Rattle.stream_model.specs.Turns.{begin, begin_in, begin_front, begin_for, begin_turn, front_of}
+use Rattle.stream_ident.specs.Blocks.{turn_size}
 use Rattle.stream_ident.specs.Words.{past, value_at, with_value}
 use Rattle.stream_model.proofs.Lookups.{place_of-none, place_of-value}
 

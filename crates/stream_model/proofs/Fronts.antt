@@ -9,7 +9,8 @@ use Rattle.stream_ident.specs.SubName.{same_sub}
 use Rattle.stream_model.specs.declared.plain.Delivery.{Delivery}
 use Rattle.stream_model.specs.Turns.{front_of}
 use Rattle.stream_ident.specs.Words.{past, past_from}
-use Rattle.stream_model.proofs.Values.{same_sub-refl}
+use Rattle.stream_ident.proofs.SameValues.{same_sub-refl}
+use Rattle.stream_ident.proofs.WordLemmas.{drop-read}
 
 past_from-last : (n : ℕ) (xs : List ℕ) (k last : ℕ) → slice_get xs k ≡ Some last → suc k ≡ length xs → past_from n xs ≡ suc last
 past_from-last n [] k last e len = absurd (omega arith)
@@ -37,9 +38,6 @@ front_of-cons n s from d ds passes = rw passes refl
 front_of-cut : (n : ℕ) (s : SubName) (from : ℕ) (d : Delivery) (ds : List Delivery) → (same_sub s d.sub && nat_le from d.position) ≡ false → front_of n s from (d ∷ ds) ≡ []
 front_of-cut zero s from d ds fails = refl
 front_of-cut (suc n) s from d ds fails = rw fails refl
-
-drop-read : (ds : List Delivery) (i : ℕ) (d : Delivery) → i < length ds → d ≡ get_or ds i d → drop i ds ≡ d ∷ drop (i + 1) ds
-drop-read ds i d within read = drop_more ds i d within ∙ ap (λ x. x ∷ drop (i + 1) ds) (sym read)
 
 -- the front of deliveries that begin with its first
 pub front_of-start : (most : ℕ) (d : Delivery) (ds : List Delivery) (done : List ℕ) → 1 ≤ most → ds ≡ d ∷ drop 1 ds → done ≡ d.position ∷ [] → done ++ front_of (most - length done) d.sub (suc d.position) (take (length ds - 1) (drop 1 ds)) ≡ front_of most d.sub d.position ds

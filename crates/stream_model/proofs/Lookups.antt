@@ -4,6 +4,7 @@ use Rattle.std.proofs.lemmas.List.{set-get_or}
 use Rattle.std.specs.Prelude.{if◌then◌else◌}
 use Rattle.stream_ident.specs.Words.{first_at, value_at, with_value}
 use Rattle.stream_model.specs.Places.{place_of, change_at}
+use Rattle.stream_ident.proofs.WordLemmas.{set-change_at}
 
 -- a first place isn't below that of the list's first element
 pub first_at-le : {A : Type 0} (passes : A → Bool) (n i : ℕ) (xs : List A) → first_at passes n xs ≡ Some i → n ≤ i
@@ -104,12 +105,6 @@ place_of-none same key entries e = value_at_no_place same key 0 entries e
 -- and its value is set at the end
 pub place_of-added : {K V : Type 0} (same : K → K → Bool) (key : K) (v : V) (entries : List (K × V)) → place_of same key entries ≡ None → with_value same key v entries ≡ entries ++ (key, v) ∷ []
 place_of-added same key v entries e = with_value_no_place same key v 0 entries e
-
--- a change at a place sets the entry there
-set-change_at : {K V : Type 0} (change : V → V) (i : ℕ) (entries : List (K × V)) (d : K × V) → i < length entries → set entries i ((get_or entries i d).0, change (get_or entries i d).1) ≡ change_at change i entries
-set-change_at change i [] d h = absurd (omega arith)
-set-change_at change zero (entry ∷ entries) d h = refl
-set-change_at change (suc i) (entry ∷ entries) d h = ap (λ rest. entry ∷ rest) (set-change_at change i entries d (omega arith))
 
 -- what code leaves that writes the value of an entry, which it read at a place
 pub change_at-written : {K V : Type 0} (change : V → V) (i : ℕ) (entries now : List (K × V)) (x : K × V) (v : V) → entries ≡ now → x ≡ get_or entries i x → i < length now → v ≡ change x.1 → set entries i (x.0, v) ≡ change_at change i now

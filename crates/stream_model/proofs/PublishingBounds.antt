@@ -16,14 +16,14 @@ use Rattle.stream_model.specs.declared.plain.Subscription.{Subscription}
 use Rattle.stream_model.specs.declared.plain.PlainPartition.{PlainPartition}
 use Rattle.stream_model.specs.declared.reply.Reply.{Reply}
 use Rattle.stream_model.specs.Bounds.{AreIn, IsWithinLimits, running_positions}
-use Rattle.stream_model.specs.History.{batch_token, events_of}
+use Rattle.stream_ident.specs.Event.{batch_token, events_of}
 use Rattle.stream_model.specs.Positions.{low_token, lower_bound, new_subscription, with_sub}
 use Rattle.stream_model.specs.Publishing.{publish, subscribe, subscribe_at}
 use Rattle.stream_ident.specs.Words.{with_value}
 use Rattle.stream_model.specs.declared.plain.Delivery.{Delivery}
 use Rattle.stream_model.specs.declared.plain.Grain.{Grain}
 use Rattle.stream_model.proofs.EachOf.{All-append, All-weaken}
-use Rattle.stream_model.proofs.BatchEvents.{length-events_of}
+use Rattle.stream_ident.proofs.EventLemmas.{length-events_of}
 use Rattle.stream_model.proofs.PublishingSteps.{is_bad}
 use Rattle.stream_model.proofs.SubNames.{AreGiven, AreGiven-more, AreGiven-push, with_value-new}
 

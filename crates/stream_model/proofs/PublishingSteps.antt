@@ -15,7 +15,7 @@ use Rattle.stream_model.specs.declared.plain.Subscription.{Subscription}
 use Rattle.stream_model.specs.Bounds.{IsGiven}
 use Rattle.stream_model.specs.declared.plain.PlainPartition.{PlainPartition}
 use Rattle.stream_model.specs.declared.reply.Reply.TheVariants as reply
-use Rattle.stream_model.specs.History.{batch_token, events_of}
+use Rattle.stream_ident.specs.Event.{batch_token, events_of}
 use Rattle.stream_model.specs.Positions.{high_token, low_token, lower_bound, new_subscription}
 use Rattle.stream_model.specs.Publishing.{publish, subscribe, subscribe_at}
 use Rattle.stream_model.proofs.SubNames.{with_value-new}

@@ -17,9 +17,10 @@ use Rattle.stream_ident.specs.declared.rule.Rule.{Rule}
 use Rattle.stream_model.specs.declared.plain.Subscription.{Subscription}
 use Rattle.stream_model.specs.declared.reply.Reply.{Reply}
 use Rattle.stream_model.specs.Bounds.{AreIn, IsGiven, IsWithinLimits}
-use Rattle.stream_model.specs.History.{batch_token}
+use Rattle.stream_ident.specs.Event.{batch_token}
 use Rattle.stream_model.specs.Positions.{between, new_subscription}
-use Rattle.stream_model.specs.Pulling.{added, all_implied, drops, implied, is_stale, pull, pull_count, pull_events, pull_size, pull_want, room}
+use Rattle.stream_model.specs.Pulling.{added, all_implied, drops, implied, is_stale, pull, pull_count, pull_events, pull_want, room}
+use Rattle.stream_ident.specs.Blocks.{pull_size}
 use Rattle.stream_ident.specs.Words.{value_at}
 use Rattle.stream_model.proofs.PullingSteps.{subs_up_to}
 use Rattle.stream_model.proofs.SubNames.{AreGiven}

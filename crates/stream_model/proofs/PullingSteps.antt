@@ -10,7 +10,8 @@ use Rattle.stream_ident.specs.declared.rule.Rule.{Rule}
 use Rattle.stream_model.specs.declared.plain.Subscription.{Subscription}
 use Rattle.stream_model.specs.declared.reply.Reply.TheVariants as reply
 use Rattle.stream_model.specs.Positions.{between, slowest_name, token_at}
-use Rattle.stream_model.specs.Pulling.{drops, is_stale, pull, pull_count, pull_events, pull_size, pull_want, room, subs_with}
+use Rattle.stream_model.specs.Pulling.{drops, is_stale, pull, pull_count, pull_events, pull_want, room, subs_with}
+use Rattle.stream_ident.specs.Blocks.{pull_size}
 use Rattle.stream_model.specs.Step.{takes_memory}
 
 -- the subscriptions after the events up to a position

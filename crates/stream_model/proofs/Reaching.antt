@@ -14,8 +14,13 @@ use Rattle.stream_model.specs.declared.reply.Reply.{Reply}
 use Rattle.stream_model.specs.Bounds.{AreLimits, IsWithinLimits}
 use Rattle.stream_model.specs.History.{Entry}
 use Rattle.stream_model.specs.Positions.{empty}
-use Rattle.stream_model.specs.Step.{step, Leads, IsReached, Performs}
-use Rattle.stream_model.proofs.DrainLeads.{leads-append}
+use Rattle.stream_model.specs.Step.{step, Leads, IsReached}
+use Rattle.stream_ident.specs.Words.{Performs}
+
+-- one run after another
+pub leads-append : (p q r : PlainPartition) (first second : List Entry) → Leads p first q → Leads q second r → Leads p (first ++ second) r
+leads-append p q r [] second here rest = subst (λ q. Leads q second r) here rest
+leads-append p q r (e ∷ first) second here rest = (here.0, leads-append (step p e.op).0 q r first second here.1 rest)
 
 reached-empty : (blocks : ℕ) (limits : Limits) → 1 ≤ blocks → IsReached (empty blocks limits)
 reached-empty blocks limits some = record { blocks = blocks; limits = limits; history = []; some_blocks = some; stands = refl }

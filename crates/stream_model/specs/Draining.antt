@@ -19,7 +19,7 @@ use Rattle.stream_model.specs.History.{Entry}
 use Rattle.stream_model.specs.Looks.{is_running, is_waiting}
 use Rattle.stream_model.specs.Positions.{sub_at, token_at}
 use Rattle.stream_model.specs.Step.{step, Leads}
-use Rattle.stream_ident.specs.Words.{keys_where, least, past}
+use Rattle.stream_ident.specs.Words.{keys_where, least, past, IsPrefixOf}
 
 -- the elements from the least to the greatest
 abbrev pub insert_in_order : {A : Type 0} → (A → A → Bool) → A → List A → List A
@@ -106,6 +106,10 @@ after_deliver (suc n) s g p (reply.Delivered token) =
     and_then (take_turn g p) (λ q. ask q (Deliver q.generation s) (λ r answer. after_deliver n s g r answer))
 after_deliver (suc n) s g p _ = stopped Astray p
 
+-- deliveries of a subscription, each but the last with a turn of its grain, at most so many
+abbrev pub deliver_up_to : ℕ → SubName → GrainId → PlainPartition → Progress
+deliver_up_to n s g p = ask p (Deliver p.generation s) (λ q answer. after_deliver n s g q answer)
+
 unfoldable pub deliver_all : SubName → Subscription → PlainPartition → Progress
 deliver_all s r p = ask p (Deliver p.generation s) (λ q answer. after_deliver (p.high - r.cursor) s r.grain q answer)
 
@@ -179,12 +183,8 @@ drain_where p None = (drain_all p, drain_end (drain_all p).stop (commits (drain_
 unfoldable pub drain : PlainPartition → Progress × Option DrainEnd
 drain p = drain_where p (least grain_lt (keys_where is_running p.grains))
 
--- the first of these entries
-abbrev pub IsFrontOf : List Entry → List Entry → Type 0
-IsFrontOf entries whole = (rest : List Entry) × (entries ++ rest ≡ whole)
-
 -- A drain was done as the definition says, or memory was wanting: then the first of its operations are
 -- done, and no other. Where a legal history leads to the partition no drain goes astray.
 abbrev pub DrainsTo : PlainPartition → PlainPartition → Result DrainEnd AllocError → Type 0
 DrainsTo old new (Ok end) = (new ≡ (drain old).0.now) × ((drain old).1 ≡ Some end)
-DrainsTo old new (Err e) = (entries : List Entry) × IsFrontOf entries (drain old).0.entries × Leads old entries new
+DrainsTo old new (Err e) = (entries : List Entry) × IsPrefixOf entries (drain old).0.entries × Leads old entries new

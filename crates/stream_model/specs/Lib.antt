@@ -1,10 +1,9 @@
 pub mod Bounds
-pub mod DrainLaws
 pub mod Draining
 pub mod History
-pub mod Laws
 pub mod Least
 pub mod Looks
+pub mod NewestFirst
 pub mod Places
 pub mod Positions
 pub mod Publishing
@@ -12,7 +11,9 @@ pub mod Pulling
 pub mod Step
 pub mod Turns
 pub use Rattle.stream_ident.specs.Alphabet
+pub use Rattle.stream_ident.specs.Blocks
 pub use Rattle.stream_ident.specs.Event
+pub use Rattle.stream_ident.specs.Implying
 pub use Rattle.stream_ident.specs.Name
 pub use Rattle.stream_ident.specs.Number
 pub use Rattle.stream_ident.specs.SubName

@@ -15,7 +15,7 @@ use Rattle.stream_model.specs.declared.plain.Grain.{Grain}
 use Rattle.stream_model.specs.declared.plain.PlainPartition.{PlainPartition}
 use Rattle.stream_model.specs.declared.plain.RunningTurn.{RunningTurn}
 use Rattle.stream_model.specs.declared.plain.Subscription.{Subscription}
-use Rattle.stream_model.specs.History.{batch_token, is_owed}
+use Rattle.stream_ident.specs.Event.{batch_token, is_owed}
 use Rattle.stream_ident.specs.Words.{first_at, least, least_with, past, value_at, with_value, keys_where}
 
 -- the partition before the first operation
@@ -99,9 +99,16 @@ is_outstanding p s r =
     nat_lt 0 (length (waiting_in s (grain_at p r.grain).mailbox))
     || (nat_lt 0 (length (running_in s (grain_at p r.grain).running)) || is_unacknowledged r)
 
--- the resumes of the open subscriptions
+-- the resumes of the open ones of these subscriptions
+abbrev pub resumes_of : List (SubName × Subscription) → List ℕ
+resumes_of subs = map (λ entry. entry.1.resume) (filter (λ entry. entry.1.is_open) subs)
+
 abbrev pub open_resumes : PlainPartition → List ℕ
-open_resumes p = map (λ entry. entry.1.resume) (filter (λ entry. entry.1.is_open) p.subs)
+open_resumes p = resumes_of p.subs
+
+-- open, with this resume
+abbrev pub is_open_at : ℕ → Subscription → Bool
+is_open_at resume r = r.is_open && (r.resume == resume)
 
 abbrev pub least_or : ℕ → List ℕ → ℕ
 least_or n [] = n
@@ -113,7 +120,7 @@ slowest p = least_or p.high (open_resumes p)
 
 -- the least name of an open subscription with that resume
 abbrev pub slowest_name : PlainPartition → Option SubName
-slowest_name p = least sub_lt (keys_where (λ r. r.is_open && (r.resume == slowest p)) p.subs)
+slowest_name p = least sub_lt (keys_where (is_open_at (slowest p)) p.subs)
 
 -- no rise is left
 abbrev pub is_spent : PlainPartition → Bool

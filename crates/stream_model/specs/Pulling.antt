@@ -5,7 +5,9 @@ use Rattle.stream_ident.specs.declared.event.Event.{Event}
 use Rattle.stream_ident.specs.declared.ident.SubName.{SubName}
 use Rattle.stream_ident.specs.declared.ident.SubName.TheVariants as name
 use Rattle.stream_ident.specs.declared.token.Token.{Token}
-use Rattle.stream_ident.specs.Name.{same_name}
+use Rattle.stream_ident.specs.Blocks as blocks
+use Rattle.stream_ident.specs.Blocks.{pull_size}
+use Rattle.stream_ident.specs.Implying.{implied_by}
 use Rattle.stream_ident.specs.SubName.{same_sub}
 use Rattle.stream_ident.specs.Token.{token_lt, same_token}
 use Rattle.stream_model.specs.declared.plain.Grain.{Grain}
@@ -14,16 +16,16 @@ use Rattle.stream_ident.specs.declared.rule.Rule.{Rule}
 use Rattle.stream_model.specs.declared.plain.Subscription.{Subscription}
 use Rattle.stream_model.specs.declared.reply.Reply.{Reply}
 use Rattle.stream_model.specs.declared.reply.Reply.TheVariants as reply
-use Rattle.stream_model.specs.History.{batch_token}
+use Rattle.stream_ident.specs.Event.{batch_token}
 use Rattle.stream_model.specs.Positions.{token_at, between, next_position, sub_at, grain_at, with_sub, with_grain, new_subscription, is_outstanding, open_resumes, slowest, slowest_name, is_spent}
-use Rattle.stream_ident.specs.Words.{least_with, value_at, each_value}
+use Rattle.stream_ident.specs.Words.{least_with, value_at, each_value, with_new}
 
 abbrev pub is_stale : PlainPartition → ℕ → Bool
 is_stale p generation = not (generation == p.generation)
 
 -- whole blocks of 64 from low on that end at or below both high and the slowest resume
 abbrev pub free_blocks : PlainPartition → ℕ
-free_blocks p = (min p.high (slowest p) - p.low) / 64
+free_blocks p = blocks.free_blocks p.low p.high (slowest p)
 
 -- how many more events the cache takes
 abbrev pub room : PlainPartition → ℕ
@@ -31,17 +33,11 @@ room p = 64 * p.blocks - (p.high - p.low)
 
 -- the fewest blocks that make room for want events, or all that are free
 abbrev pub drops : PlainPartition → ℕ → ℕ
-drops p want = min ((want - room p + 63) / 64) (free_blocks p)
+drops p want = blocks.blocks_to_drop (room p) (free_blocks p) want
 
 -- what a rule makes of an event: nothing, or a subscription that starts at the rule's batch
 abbrev pub implied : ℕ → Event → Rule → List (SubName × Subscription)
-implied position event rule =
-    if same_name event.stream.namespace rule.namespace && not (token_lt event.token (batch_token rule.from))
-    then (
-      name.Implicit rule.kind event.stream,
-      new_subscription event.stream (record { kind = rule.kind; key = event.stream.key }) (batch_token rule.from) position,
-    ) ∷ []
-    else []
+implied position event rule = implied_by (λ stream grain start. new_subscription stream grain start position) event rule
 
 -- what the rules make of the events, in order, repeats included
 abbrev pub all_implied : List Rule → ℕ → List Event → List (SubName × Subscription)
@@ -49,14 +45,11 @@ all_implied rules position events = flat_map (λ event. flat_map (implied positi
 
 -- the name and its record, unless the name is there
 abbrev pub added : List (SubName × Subscription) → SubName × Subscription → List (SubName × Subscription)
-added subs entry = if is_some (value_at same_sub entry.0 subs) then subs else subs ++ entry ∷ []
+added subs entry = with_new same_sub subs entry
 
 -- the subscriptions, with those that the rules make of these events
 abbrev pub subs_with : List Rule → ℕ → List (SubName × Subscription) → List Event → List (SubName × Subscription)
 subs_with rules position subs events = fold added subs (all_implied rules position events)
-
-abbrev pub pull_size : ℕ → ℕ
-pull_size max_events = min 256 (max 1 max_events)
 
 unfoldable pub pull_events : PlainPartition → ℕ → ℕ → List (SubName × Subscription) → PlainPartition × Reply
 pull_events p low high subs =
@@ -160,7 +153,7 @@ ack p generation s token =
 
 -- the free blocks beyond those to keep; a part of a block counts as one
 abbrev pub purges : PlainPartition → ℕ → ℕ
-purges p keep = min ((p.high - p.low + 63) / 64 - keep) (free_blocks p)
+purges p keep = blocks.blocks_to_purge (blocks.blocks_for (p.high - p.low)) (free_blocks p) keep
 
 unfoldable pub purge_to : PlainPartition → ℕ → PlainPartition × Reply
 purge_to p low = (record p { low = low }, reply.Purged (token_at p low))

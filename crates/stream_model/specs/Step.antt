@@ -74,8 +74,3 @@ takes_memory _ = false
 abbrev pub has_payloads : Op → Bool
 has_payloads (Publish stream payloads) = true
 has_payloads _ = false
-
--- a call did what the definition says, or memory was wanting and nothing has changed
-abbrev pub Performs : PlainPartition → PlainPartition → Result Reply AllocError → PlainPartition × Reply → Type 0
-Performs old new (Ok told) stepped = (new, told) ≡ stepped
-Performs old new (Err e) stepped = new ≡ old

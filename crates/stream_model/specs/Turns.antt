@@ -14,18 +14,13 @@ use Rattle.stream_model.specs.declared.reply.Reply.{Reply}
 use Rattle.stream_model.specs.declared.reply.Reply.TheVariants as reply
 use Rattle.stream_model.specs.Positions.{token_at, events_at, sub_at, grain_at, with_sub, with_grain, is_spent}
 use Rattle.stream_model.specs.Pulling.{rewound_where}
-use Rattle.stream_ident.specs.Words.{past, each_value}
+use Rattle.stream_ident.specs.Words.{past, each_value, rising_front}
+use Rattle.stream_ident.specs.Blocks.{turn_size}
 
 -- the positions of the longest front of the deliveries, at most n, that are all of one subscription and
 -- rise from this position on
 abbrev pub front_of : ℕ → SubName → ℕ → List Delivery → List ℕ
-front_of zero s from deliveries = []
-front_of (suc n) s from [] = []
-front_of (suc n) s from (d ∷ deliveries) =
-    if same_sub s d.sub && nat_le from d.position then d.position ∷ front_of n s (suc d.position) deliveries else []
-
-abbrev pub turn_size : ℕ → ℕ
-turn_size max_events = min 16 (max 1 max_events)
+front_of n s from deliveries = rising_front same_sub (λ (d : Delivery). d.sub) (λ (d : Delivery). d.position) n s from deliveries
 
 abbrev pub dropped : PlainPartition → GrainId → Grain → List Delivery → PlainPartition
 dropped p g st deliveries = with_grain p g (record st { mailbox = deliveries })

@@ -1,17 +1,14 @@
-//! What a partition of a streaming cluster is: its operations and replies, the definitions that say what
-//! each operation does and what a history of them means, and a plain program that computes the
-//! definitions.
+//! What a partition of a streaming cluster is: its operations and replies, and the definitions that say
+//! what each operation does and what a history of them means.
 //!
-//! The definitions stand in `specs/`, and everything above is measured by them. `reference` is slow and
-//! simple on purpose: it keeps one log, positions in it and lists of records.
+//! The definitions stand in `specs/`, and everything above is measured by them. The crate `stream_laws`
+//! says what follows from them, and `partition_reference` is a plain program that computes them.
 #![tactic(auto)]
 
 mod drain_end;
-pub mod laws;
 mod limits;
 mod op;
 mod plain;
-pub mod reference;
 mod reply;
 mod sequence;
 

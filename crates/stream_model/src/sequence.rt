@@ -7,7 +7,8 @@ use std::marker::Model;
 /// A list of plain data: a `Vec` of which a contract sees the elements alone, and not its room.
 #[derive(Debug, Drop)]
 pub struct Sequence<T> {
-    pub(crate) items: Vec<T>,
+    /// The elements, in order.
+    pub items: Vec<T>,
 }
 
 impl<T> Model for Sequence<T> {

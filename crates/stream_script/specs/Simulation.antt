@@ -12,21 +12,21 @@ use Rattle.stream_model.specs.declared.reply.Reply.{Reply}
 use Rattle.stream_model.specs.Draining.{Progress, drain}
 use Rattle.stream_model.specs.Positions.{empty}
 use Rattle.stream_model.specs.Step.{step}
-use Rattle.stream_script.specs.declared.command.Command.TheVariants as command
-use Rattle.stream_script.specs.declared.command.Fault.{Fault}
-use Rattle.stream_script.specs.declared.command.FaultKind.TheVariants as kind
-use Rattle.stream_script.specs.declared.command.Mode.TheVariants as mode
-use Rattle.stream_script.specs.declared.command.Parsed.{Parsed}
-use Rattle.stream_script.specs.declared.command.Parsed.TheVariants as parsed
-use Rattle.stream_script.specs.declared.simulate.SimConfig.{SimConfig}
+use Rattle.script_parser.specs.declared.command.Command.TheVariants as command
+use Rattle.script_parser.specs.declared.command.Fault.{Fault}
+use Rattle.script_parser.specs.declared.command.FaultKind.TheVariants as kind
+use Rattle.script_parser.specs.declared.command.Mode.TheVariants as mode
+use Rattle.script_parser.specs.declared.command.Parsed.{Parsed}
+use Rattle.script_parser.specs.declared.command.Parsed.TheVariants as parsed
+use Rattle.stream_script.specs.declared.simulator.SimConfig.{SimConfig}
 use Rattle.stream_script.specs.declared.simulate.SimError.{SimError}
 use Rattle.stream_script.specs.declared.simulate.SimError.TheVariants as error
 use Rattle.stream_script.specs.Transfers.{AppendsFront}
-use Rattle.stream_script.specs.Forms.{op_of}
-use Rattle.stream_script.specs.Lines.{lines_of}
-use Rattle.stream_script.specs.Reading.{reading}
-use Rattle.stream_script.specs.Replies.{reply_line, drain_line}
-use Rattle.stream_script.specs.Report.{report_of}
+use Rattle.script_parser.specs.Forms.{op_of}
+use Rattle.script_parser.specs.Lines.{lines_of}
+use Rattle.script_parser.specs.Reading.{reading}
+use Rattle.script_printer.specs.Replies.{reply_line, drain_line}
+use Rattle.script_printer.specs.Report.{report_of}
 
 -- what the simulation may be asked for
 pub record IsSimConfig (config : SimConfig) : Type 0 where
@@ -121,7 +121,7 @@ simulation config script =
     if nat_lt 4194304 (length script) then record { text = []; fault = Some too_long } else run_script config script
 
 -- What the sink got, by how the simulation ended: the whole text where it was done or a line was faulty,
--- a front of it where a write failed or memory was wanting, and nothing where a read failed.
+-- a front of it where a write failed or memory ran out, and nothing where a read failed.
 abbrev pub Simulates : Option (List ℕ) → Option (List ℕ) → Outcome → Result Unit SimError → Type 0
 Simulates old new outcome (Ok done) = Appends old new outcome.text × (outcome.fault ≡ None)
 Simulates old new outcome (Err (error.ScriptFault fault)) = Appends old new outcome.text × (outcome.fault ≡ Some fault)
@@ -136,7 +136,7 @@ RunsLines old new outcome (Err error.WriteFault) = AppendsFront old new outcome.
 RunsLines old new outcome (Err error.Memory) = AppendsFront old new outcome.text
 RunsLines old new outcome (Err _) = ⊥
 
--- a line was done, or was faulty, or memory was wanting
+-- a line was done, or was faulty, or memory ran out
 abbrev pub RunsLine : Result (List PlainPartition × List ℕ) Fault → List PlainPartition × List ℕ → Result (Option Fault) AllocError → Type 0
 RunsLine line done (Ok None) = line ≡ Ok done
 RunsLine line done (Ok (Some fault)) = line ≡ Err fault

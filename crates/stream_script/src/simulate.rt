@@ -1,15 +1,13 @@
 //! The simulator: a script done line by line, on one thread.
 ghost use Rattle.std.specs.Prelude.{◌≡◌, suc, ◌+◌, ◌^◌, ◌<◌, ◌≤◌, ◌-◌, ◌++◌, length, vec_len, false, Ok, Err, IfOk, IfSome, OnOk, if◌then◌else◌};
 ghost use Rattle.std.specs.Io.KnownBytes.{Appends, Consumes, IsAtEnd, Keeps};
-ghost use Rattle.stream_script.specs.Lines.{lines_of};
+ghost use Rattle.script_parser.specs.Lines.{lines_of};
 ghost use Rattle.stream_script.specs.Simulation.{IsSimConfig, Simulates, RunsLines, Finishes, ReadsScript, ReadsSome, simulation, run_script, is_read_fault, is_write_fault};
 
-use crate::command::{Fault, FaultKind};
-use crate::lines::Lines;
-use crate::simulator::Simulator;
+use crate::simulator::{SimConfig, Simulator};
 use crate::source_sink::{Failed, Sink, Source, write_all};
+use script_parser::{Fault, FaultKind, Lines};
 use std::alloc::{AllocError, Global};
-use stream_model::Limits;
 use thiserror::Error;
 
 /// The most bytes of a script.
@@ -17,17 +15,6 @@ const MAX_LEN: usize = 4_194_304;
 
 /// How many bytes are read at once.
 const CHUNK_LEN: usize = 65_536;
-
-/// What a simulation has.
-#[derive(Clone, Copy, Debug, PartialEq, Eq)]
-pub struct SimConfig {
-    /// How many queues, 1 to 64. Each has a partition of its own.
-    pub queues: usize,
-    /// The blocks of each partition's cache, 1 to 64.
-    pub blocks: usize,
-    /// The limits of each partition.
-    pub limits: Limits,
-}
 
 /// Why a simulation ended early.
 #[derive(Clone, Copy, Debug, PartialEq, Eq, Error)]
@@ -41,7 +28,7 @@ pub enum SimError {
     /// A line is faulty, and it is the first one. The text of the lines before it was written.
     #[error("{0}")]
     ScriptFault(Fault),
-    /// Memory is wanting. A front of the text was written.
+    /// Memory ran out. A front of the text was written.
     #[error("out of memory")]
     Memory,
 }
@@ -62,8 +49,8 @@ impl From<AllocError> for SimError {
 /// The script is read as a whole first, up to 4,194,304 bytes.
 ///
 /// # Errors
-/// The first of: a read failed, the script is too long, a line is faulty, a write failed, or memory is
-/// wanting.
+/// The first of: a read failed, the script is too long, a line is faulty, a write failed, or memory ran
+/// out.
 pub fn sim<R: Source, W: Sink>(
     alloc: Global,
     config: SimConfig,

@@ -3,17 +3,25 @@ ghost use Rattle.std.specs.Prelude.{◌≡◌, [], ◌<◌, ◌≤◌, IfOk, OnO
 ghost use Rattle.stream_model.specs.Draining.{drain};
 ghost use Rattle.stream_model.specs.Positions.{empty};
 ghost use Rattle.stream_model.specs.Step.{step};
-ghost use Rattle.stream_script.specs.Forms.{op_of};
+ghost use Rattle.script_parser.specs.Forms.{op_of};
 ghost use Rattle.stream_script.specs.Simulation.{IsSimConfig, behind, stepped, stepped_each, drained, drained_each, run_line, RunsLine};
 
-use crate::command::{Command, EachOp, Fault, Mode, Parsed};
-use crate::parse::parse_line;
-use crate::report::report_text;
-use crate::simulate::SimConfig;
-use crate::text::{drain_line, reply_line};
+use script_parser::{Command, EachOp, Fault, Mode, Parsed, parse_line};
+use script_printer::{drain_line, reply_line, report_text};
 use std::alloc::{AllocError, Global};
 use step_core::Partition;
-use stream_model::Op;
+use stream_model::{Limits, Op};
+
+/// What a simulation has.
+#[derive(Clone, Copy, Debug, PartialEq, Eq)]
+pub struct SimConfig {
+    /// How many queues, 1 to 64. Each has a partition of its own.
+    pub queues: usize,
+    /// The blocks of each partition's cache, 1 to 64.
+    pub blocks: usize,
+    /// The limits of each partition.
+    pub limits: Limits,
+}
 
 /// A partition for each queue.
 #[derive(Drop)]

@@ -1,36 +1,33 @@
 -- What each call leaves of one state.
-use Rattle.std.proofs.Common.{◌≡◌, ℕ, max, ◌+◌, ◌^◌, ◌<◌, ◌≤◌, Bool, true, false, not, List, [], ◌∷◌, length, Option, Some, None, Result, Ok, Err, if◌then◌else◌, refl, ap, arith, All}
-use Rattle.std.specs.Prelude.{◌==◌}
+use Rattle.std.proofs.Common.{◌≡◌, ℕ, max, ◌+◌, ◌^◌, ◌<◌, ◌≤◌, Bool, true, false, not, List, [], ◌∷◌, length, Option, Some, None, if◌then◌else◌, refl, ap, arith, All}
 use Rattle.std.proofs.lemmas.List.Elements.{All-filter, All-head}
 use Rattle.stream_ident.specs.declared.ident.StreamId.{StreamId}
 use Rattle.stream_ident.specs.declared.token.Token.{Token}
 use Rattle.stream_ident.specs.Token.{same_token}
 use Rattle.partition_queue.specs.Queue.{PlainQueue, token_at}
-use Rattle.queue_cache.specs.Cache.{high}
-use Rattle.consumer_grain.specs.Subscriptions.{PlainState, acknowledged, caught_up, committed, delivered, rewound}
-use Rattle.pulling_agent.specs.Agent.{PlainAgent, ack, ack_at, deliver, deliver_at, handled_at, retry}
-use Rattle.pulling_agent.specs.declared.told.Acked.TheVariants as ack_told
-use Rattle.pulling_agent.specs.declared.told.Retried.TheVariants as retry_told
-use Rattle.pulling_agent.specs.declared.told.Sought.{Sought}
-use Rattle.pulling_agent.specs.declared.told.Sought.TheVariants as sought
-use Rattle.pulling_agent.specs.declared.told.StaleAgent.{StaleAgent}
+use Rattle.queue_cache.specs.Cache.{PlainCache, high}
+use Rattle.consumer_grain.specs.Subscriptions.{PlainState, acknowledged, advanced, caught_up, committed, rewound}
 use Rattle.subscription_table.specs.LeavesOf.{leaf_of}
+use Rattle.subscription_table.specs.Progress.{ack, ack_at, handled_at, next_at, next_event, retry}
+use Rattle.subscription_table.specs.declared.progress.Acked.TheVariants as ack_told
+use Rattle.subscription_table.specs.declared.progress.Retried.TheVariants as retry_told
+use Rattle.subscription_table.specs.declared.progress.Sought.{Sought}
+use Rattle.subscription_table.specs.declared.progress.Sought.TheVariants as sought
 use Rattle.subscription_table.proofs.LeafLemmas.{Entry}
 use Rattle.subscription_table.proofs.TableLemmas.{Fits}
 
--- what a call of an agent gives: an error where it is stale, nothing new where the state is closed
-abbrev asked : {R : Type 0} → PlainAgent → PlainState → Bool → Bool → R → PlainState × Result R StaleAgent → PlainState × Result R StaleAgent
-asked a s stale shut closed done = if stale then (s, Err (record { now = a.generation })) else if shut then (s, Ok closed) else done
+-- what a call gives: nothing new where the state is closed
+abbrev asked : {R : Type 0} → PlainState → Bool → R → PlainState × R → PlainState × R
+asked s is_closed closed done = if is_closed then (s, closed) else done
 
-module _ {R : Type 0} (a : PlainAgent) (s : PlainState) (closed : R) (done : PlainState × Result R StaleAgent) (P : PlainState → Type 0) (here : P s) (there : P done.0) where
-  asked-either : (stale shut : Bool) → P (asked a s stale shut closed done).0
-  asked-either true shut = here
-  asked-either false true = here
-  asked-either false false = there
+module _ {R : Type 0} (s : PlainState) (closed : R) (done : PlainState × R) (P : PlainState → Type 0) (here : P s) (there : P done.0) where
+  asked-either : (is_closed : Bool) → P (asked s is_closed closed done).0
+  asked-either true = here
+  asked-either false = there
 
 module _ (s : PlainState) (stands : Fits s s) where
-  pub fits-delivered : (position : ℕ) → position + 3 < 2 ^ 64 → Fits s (delivered position s)
-  fits-delivered position room = record { start = refl; openness = refl; cursor = omega arith; resume = stands.resume }
+  pub fits-advanced : (position : ℕ) → position + 3 < 2 ^ 64 → Fits s (advanced position s)
+  fits-advanced position room = record { start = refl; openness = refl; cursor = omega arith; resume = stands.resume }
 
   pub fits-committed : (positions : List ℕ) (note : ℕ) → Fits s (committed positions note s)
   fits-committed positions note = record { start = refl; openness = refl; cursor = stands.cursor; resume = stands.resume }
@@ -44,18 +41,18 @@ module _ (s : PlainState) (stands : Fits s s) where
       by true far = stands.resume
       by false far = far
 
-  fits-found : (a : PlainAgent) (outstanding : Bool) → high a.cache + 2 < 2 ^ 64 → (found : Option ℕ) → Fits s (deliver_at a s outstanding found).0
-  fits-found a outstanding room None = fits-caught_up (high a.cache) outstanding room
-  fits-found a outstanding room (Some position) = stands
+  fits-found : (cache : PlainCache) (outstanding : Bool) → high cache + 2 < 2 ^ 64 → (found : Option ℕ) → Fits s (next_at cache s outstanding found).0
+  fits-found cache outstanding room None = fits-caught_up (high cache) outstanding room
+  fits-found cache outstanding room (Some position) = stands
 
-  pub fits-sought : (a : PlainAgent) (generation : ℕ) (stream : StreamId) (outstanding : Bool) → high a.cache + 2 < 2 ^ 64 → Fits s (deliver a generation s stream outstanding).0
-  fits-sought a generation stream outstanding room =
-      asked-either a s sought.Closed _ (Fits s) stands (fits-found a outstanding room _) (not (generation == a.generation)) (not s.is_open)
+  pub fits-sought : (cache : PlainCache) (stream : StreamId) (outstanding : Bool) → high cache + 2 < 2 ^ 64 → Fits s (next_event cache s stream outstanding).0
+  fits-sought cache stream outstanding room =
+      asked-either s sought.Closed _ (Fits s) stands (fits-found cache outstanding room _) (not s.is_open)
 
-  pub fits-retried : (a : PlainAgent) (generation : ℕ) → Fits s (retry a generation s).0
-  fits-retried a generation =
-      asked-either a s retry_told.Closed (rewound s, Ok retry_told.Rewound) (Fits s) stands (record { start = refl; openness = refl; cursor = stands.resume; resume = stands.resume })
-      (not (generation == a.generation)) (not s.is_open)
+  pub fits-retried : Fits s (retry s).0
+  fits-retried =
+      asked-either s retry_told.Closed (rewound s, retry_told.Rewound) (Fits s) stands (record { start = refl; openness = refl; cursor = stands.resume; resume = stands.resume })
+      (not s.is_open)
 
   fits-acknowledged : (position : ℕ) → position + 3 < 2 ^ 64 → Fits s (acknowledged position s)
   fits-acknowledged position room =
@@ -67,33 +64,27 @@ module _ (s : PlainState) (stands : Fits s s) where
   fits-handled [] below = stands
   fits-handled (position ∷ positions) below = fits-acknowledged position (All-head (λ position. position + 3 < 2 ^ 64) position positions below)
 
-  pub fits-acked : (a : PlainAgent) (generation : ℕ) (queue : PlainQueue) (token : Token) → All (λ position. position < length queue.events) s.handled → length queue.events ≤ 1000000
-      → Fits s (ack a generation s queue token).0
-  fits-acked a generation queue token there few =
+  pub fits-acked : (queue : PlainQueue) (token : Token) → All (λ position. position < length queue.events) s.handled → length queue.events ≤ 1000000 → Fits s (ack s queue token).0
+  fits-acked queue token there few =
       let below : All (λ position. position + 3 < 2 ^ 64) s.handled = λ k d within. let here = there k d within in omega arith in
-      asked-either a s ack_told.Closed (ack_at s (handled_at s.handled queue token)) (Fits s) stands
+      asked-either s ack_told.Closed (ack_at s (handled_at s.handled queue token)) (Fits s) stands
       (fits-handled (handled_at s.handled queue token) (All-filter (λ position. same_token (token_at queue position) token) (λ position. position + 3 < 2 ^ 64) s.handled below))
-      (not (generation == a.generation)) (not s.is_open)
+      (not s.is_open)
 
 -- a retry leaves the leaf
-pub leaf-retried : (entry : Entry) (a : PlainAgent) (generation : ℕ) (s : PlainState) → leaf_of entry (retry a generation s).0 ≡ leaf_of entry s
-leaf-retried entry a generation s =
-    asked-either a s retry_told.Closed (rewound s, Ok retry_told.Rewound) (λ new. leaf_of entry new ≡ leaf_of entry s) refl refl (not (generation == a.generation)) (not s.is_open)
+pub leaf-retried : (entry : Entry) (s : PlainState) → leaf_of entry (retry s).0 ≡ leaf_of entry s
+leaf-retried entry s =
+    asked-either s retry_told.Closed (rewound s, retry_told.Rewound) (λ new. leaf_of entry new ≡ leaf_of entry s) refl refl (not s.is_open)
 
--- what was asked, and nothing that changed the state
-abbrev Sought-of : Type 0
-Sought-of = PlainState × Result Sought StaleAgent
-
--- a call that sought anything but nothing leaves the state
-pub same-sought : (a : PlainAgent) (generation : ℕ) (s new : PlainState) (stream : StreamId) (outstanding : Bool) (told : Sought) → (told ≡ sought.Nothing → ⊥)
-    → ◌≡◌ {A = Sought-of} (new, Ok told) (deliver a generation s stream outstanding) → new ≡ s
-same-sought a generation s new stream outstanding told other is = by (not (generation == a.generation)) (not s.is_open) _ is
+-- a call that found anything but nothing leaves the state
+pub same-sought : (cache : PlainCache) (s new : PlainState) (stream : StreamId) (outstanding : Bool) (told : Sought) → (told ≡ sought.Nothing → ⊥)
+    → ◌≡◌ {A = PlainState × Sought} (new, told) (next_event cache s stream outstanding) → new ≡ s
+same-sought cache s new stream outstanding told other is = by (not s.is_open) _ is
   where
-    found : (o : Option ℕ) → ◌≡◌ {A = Sought-of} (new, Ok told) (deliver_at a s outstanding o) → new ≡ s
-    found None is = let nothing : told ≡ sought.Nothing = cc (ap (λ (r : Sought-of). r.1) is) in absurd (other nothing)
-    found (Some position) is = ap (λ (r : Sought-of). r.0) is
+    found : (o : Option ℕ) → ◌≡◌ {A = PlainState × Sought} (new, told) (next_at cache s outstanding o) → new ≡ s
+    found None is = absurd (other (ap (λ (r : PlainState × Sought). r.1) is))
+    found (Some position) is = ap (λ (r : PlainState × Sought). r.0) is
 
-    by : (stale shut : Bool) (o : Option ℕ) → ◌≡◌ {A = Sought-of} (new, Ok told) (asked a s stale shut sought.Closed (deliver_at a s outstanding o)) → new ≡ s
-    by true shut o is = ap (λ (r : Sought-of). r.0) is
-    by false true o is = ap (λ (r : Sought-of). r.0) is
-    by false false o is = found o is
+    by : (is_closed : Bool) (o : Option ℕ) → ◌≡◌ {A = PlainState × Sought} (new, told) (asked s is_closed sought.Closed (next_at cache s outstanding o)) → new ≡ s
+    by true o is = ap (λ (r : PlainState × Sought). r.0) is
+    by false o is = found o is

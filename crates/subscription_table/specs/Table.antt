@@ -112,8 +112,3 @@ pub record AreRewound (numbers : List ℕ) (old new : PlainTable) : Type 0 where
   pub long : length new.states ≡ length old.states
   pub each : (i : ℕ) → i < length old.states
       → state_at new i ≡ (if is_in numbers i then rewound_open (state_at old i) else state_at old i)
-
--- a call did what the definition says, or memory was wanting and nothing has changed
-abbrev pub Performs : {R : Type 0} → PlainTable → PlainTable → Result R AllocError → PlainTable × R → Type 0
-Performs old new (Ok told) done = (new, told) ≡ done
-Performs old new (Err e) done = new ≡ old

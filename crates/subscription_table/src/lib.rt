@@ -3,11 +3,9 @@
 //! agent).
 #![tactic(auto)]
 
-mod leaves;
-mod rewinds;
+mod progress;
 mod rows;
 mod table;
-#[cfg(test)]
-mod tests;
 
+pub use progress::{Acked, Retried, Sought};
 pub use table::SubscriptionTable;

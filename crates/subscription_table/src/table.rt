@@ -8,8 +8,8 @@ ghost use Rattle.subscription_table.specs.LeavesOf.{leaves_of};
 ghost use Rattle.subscription_table.specs.Standing.{AreRecords};
 ghost use Rattle.subscription_table.specs.Table.{empty, name_at, number_of, registration_at, state_at};
 
-mod agent_calls;
 mod changes;
+mod moving;
 
 use consumer_grain::SubState;
 use pubsub_registry::{Registration, Registry};

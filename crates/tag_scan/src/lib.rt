@@ -6,9 +6,6 @@ ghost use Rattle.std.specs.Prelude.{◌≡◌, ◌↔◌, ◌==◌, ℕ, ◌+◌
 ghost use Rattle.std.specs.Int.{bit_at};
 ghost use Rattle.tag_scan.specs.Tags.{IsAbsentBetween, IsFirstFrom};
 
-#[cfg(test)]
-mod tests;
-
 use std::simd::prelude::*;
 
 /// How many tags one vector holds.

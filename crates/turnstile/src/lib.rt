@@ -15,8 +15,6 @@ mod pass;
 mod passes;
 mod replays;
 mod rule;
-#[cfg(test)]
-mod tests;
 mod turnstile;
 mod view;
 

@@ -1,16 +1,15 @@
 //! The calls that make, close and commit to subscriptions.
 ghost use Rattle.std.specs.Prelude.{◌≡◌, ◌+◌, ◌^◌, ◌<◌, ◌≤◌, true, false, length, is_ok, OnErr, if◌then◌else◌};
-ghost use Rattle.stream_ident.specs.Words.{past};
+ghost use Rattle.stream_ident.specs.Words.{past, Performs};
 ghost use Rattle.consumer_grain.specs.Subscriptions.{committed, rises_from};
 ghost use Rattle.pubsub_registry.specs.Registry.{is_full};
-ghost use Rattle.subscription_table.specs.Table.{add_rule, close, imply, state_at, subscribe, with_state, Performs};
+ghost use Rattle.subscription_table.specs.Table.{add_rule, close, imply, state_at, subscribe, with_state};
 
 use super::SubscriptionTable;
-use crate::leaves::refresh;
-use crate::rows::add_rows;
+use crate::rows::{add_rows, refresh};
 use consumer_grain::SubState;
 use pubsub_registry::{Added, Closing, Implied, RuleAdded};
-use queue_mapper::place;
+use queue_mapper::tag;
 use std::alloc::{AllocError, Global};
 use stream_ident::{Event, GrainId, Name, Row, StreamId, SubName, Token};
 
@@ -45,7 +44,7 @@ impl SubscriptionTable {
             Ok(added) => {
                 self.states
                     .push_reserved(SubState::new(alloc, start, position));
-                self.tags.push_reserved(place(&stream, 1).tag);
+                self.tags.push_reserved(tag(&stream));
                 Ok(added)
             }
             Err(error) => {

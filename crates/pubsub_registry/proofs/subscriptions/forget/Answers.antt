@@ -2,7 +2,7 @@ use Rattle.std.proofs.Common.{◌∙◌, not, IsSome, refl, ap, subst}
 use Rattle.stream_ident.specs.Name.{same_stream}
 use Rattle.stream_ident.specs.SubName.{same_sub}
 use Rattle.indexmap.specs.IndexMap.{get}
-use Rattle.pubsub_registry.proofs.NameOrder.{same_stream-equal}
+use Rattle.stream_ident.proofs.SameValues.{same_stream-equal}
 use Rattle.pubsub_registry.proofs.RowLemmas.{row_of-filtered, row_of-none}
 use Rattle.pubsub_registry.proofs.subscriptions.forget.Goals as goal
 use Rattle.pubsub_registry.proofs.subscriptions.forget.Goals.{in-Some, in_default}

@@ -1,112 +1,125 @@
-use Rattle.std.proofs.Common.{◌≡◌, ◌∙◌, ap, sym, subst, true, arith}
-use Rattle.std.specs.Prelude.{Ok, OnErr}
+use Rattle.std.proofs.Common.{◌≡◌, ◌∙◌, ap, sym, subst, ℕ, ◌<◌, ◌≤◌, Option, true, arith}
+use Rattle.std.specs.Prelude.{OnErr}
 use Rattle.stream_model.specs.declared.reply.Reply.TheVariants as reply
 use Rattle.stream_model.specs.Step.{takes_memory}
-use Rattle.pulling_agent.specs.declared.told.Sought.{Sought}
-use Rattle.pulling_agent.specs.declared.told.Sought.TheVariants as sought
-use Rattle.subscription_table.specs.Table.{PlainTable, registration_at}
+use Rattle.grain_table.specs.Grains.{number_of}
+use Rattle.pubsub_registry.specs.declared.registration.Registration.{Registration}
+use Rattle.queue_cache.specs.Cache.{PlainCache, high}
+use Rattle.subscription_table.specs.Table.{PlainTable, registration_at, state_at}
+use Rattle.subscription_table.specs.declared.progress.Sought.TheVariants as sought
 use Rattle.step_core.specs.Assembly.{IsAssembled}
+use Rattle.step_core.specs.declared.parts.Parts.{Parts}
 use Rattle.step_core.specs.PlainOf.{plain_of}
+use Rattle.step_core.specs.Records.{record_of}
 use Rattle.step_core.specs.Replied.{replied}
+use Rattle.step_core.proofs.CheckOps.{check-current, check-stale}
 use Rattle.step_core.proofs.DeliverOps.{deliver-none, deliver-stale}
-use Rattle.step_core.proofs.HandOps.{Answer, Searched, Stands, closed-performs, current-is, cursor-low, high-few, next-agrees, next-there, nothing-assembled, nothing-performs, sought-is, stale-is, todo-is, todo-performs, with_subs}
+use Rattle.step_core.proofs.HandOps.{Answer, Searched, Stands, closed-performs, cursor-low, grain-there, high-few, next-agrees, next-there, nothing-assembled, nothing-performs, searched-is, todo-is, todo-performs, with_subs}
 use Rattle.step_core.proofs.delivering.deliver.Goals as goal
 
 pub returns-in-Err-clause-performs : goal.returns-in-Err-clause-performs
 returns-in-Err-clause-performs c =
     let parts = c.args.parts.now in
-    let stale = stale-is c.args.generation parts.agent c.in-Err.field-0 c.in-Err.ensures in
-    ap {B = Answer} (λ now. (plain_of parts, reply.StaleAgent now)) stale.1 ∙ sym (deliver-stale parts c.args.generation c.args.sub stale.0)
+    let stale = check-stale parts.agent c.args.generation c.in-Err.field-0 c.in-Err.ensures in
+    ap {B = Answer} (λ now. (plain_of parts, reply.StaleAgent now)) stale.now ∙ sym (deliver-stale parts c.args.generation c.args.sub stale.other)
 
 pub returns-in_default-find-clause-performs : goal.returns-in_default-find-clause-performs
 returns-in_default-find-clause-performs c =
     let parts = c.args.parts.now in
-    sym (deliver-none parts c.args.generation c.args.sub (sym c.len-names.ensures.records.long) (current-is c.args.generation parts.agent c.in_default.field-0 c.in_default.ensures) (sym c.in_default-find.ensures.number))
+    sym (deliver-none parts c.args.generation c.args.sub (sym c.requires.records.long) (check-current parts.agent c.args.generation c.in_default.field-0 c.in_default.ensures) (sym c.in_default-find.ensures.number))
 
-pub seek-requires-clause-cursor : goal.seek-requires-clause-cursor
-seek-requires-clause-cursor c =
+-- the number of the grain, as it was found
+found : (parts : Parts) (number : ℕ) (registration : Registration) (grain : Option ℕ) → registration ≡ registration_at parts.subs number → grain ≡ number_of parts.grains registration.grain → number_of parts.grains (record_of parts number).grain ≡ grain
+found parts number registration grain its at = ap (λ (r : Registration). number_of parts.grains r.grain) (sym its) ∙ sym at
+
+pub is_outstanding-outstanding-requires-clause-grain : goal.is_outstanding-outstanding-requires-clause-grain
+is_outstanding-outstanding-requires-clause-grain c =
+    found c.args.parts.now c.in-Some.number c.registration.result.now c.find-grain.result c.registration.ensures c.find-grain.ensures.number
+
+pub next_event-requires-clause-cursor : goal.next_event-requires-clause-cursor
+next_event-requires-clause-cursor c =
     let parts = c.args.parts.now in
-    let stands : Stands parts c.in-Some.number = record { agrees = c.requires; unique = c.len-names.ensures.unique; records = c.len-names.ensures.records; within = c.in-Some.ensures.within } in
-    λ is_open. cursor-low parts c.in-Some.number stands is_open
+    let stands : Stands parts c.in-Some.number = record { agrees = c.requires; within = c.in-Some.ensures.within } in
+    λ is_open. subst (λ (cache : PlainCache). cache.low ≤ (state_at parts.subs c.in-Some.number).cursor) (sym c.cache.ensures) (cursor-low parts c.in-Some.number stands is_open)
 
-pub seek-requires-clause-high : goal.seek-requires-clause-high
-seek-requires-clause-high c = omega (arith, high-few c.args.parts.now c.requires)
+pub next_event-requires-clause-high : goal.next_event-requires-clause-high
+next_event-requires-clause-high c = omega (arith, high-few c.args.parts.now c.requires, ap high c.cache.ensures)
 
 pub hand_over-requires-clause-agrees : goal.hand_over-requires-clause-agrees
 hand_over-requires-clause-agrees c =
     let parts = c.args.parts.now in
-    let current = current-is c.args.generation parts.agent c.in_default.field-0 c.in_default.ensures in
-    let sought : Searched parts c.seek.new.self c.in-Some.number c.is_outstanding-outstanding.result (Ok (sought.Next c.in-Ok-Next.position)) =
-    subst (λ (told : Sought). Searched parts c.seek.new.self c.in-Some.number c.is_outstanding-outstanding.result (Ok told)) c.in-Ok-Next.field-0-is
-    (sought-is parts.subs c.seek.new.self c.in-Some.number c.args.generation parts.agent (registration_at parts.subs c.in-Some.number).stream c.is_outstanding-outstanding.result (Ok c.in-Ok-Next.field-0) current c.in-Ok-Next.ensures.sought) in
-    next-agrees parts c.seek.new.self c.in-Some.number c.in-Ok-Next.position c.is_outstanding-outstanding.result c.requires sought
+    let current = check-current parts.agent c.args.generation c.in_default.field-0 c.in_default.ensures in
+    let sought : Searched parts c.next_event.new.self c.in-Some.number c.is_outstanding-outstanding.result (sought.Next c.in-Next.position) =
+    searched-is parts c.next_event.new.self c.in-Some.number c.cache.result.now c.is_outstanding-outstanding.result (sought.Next c.in-Next.position) c.cache.ensures c.in-Next.ensures.sought in
+    next-agrees parts c.next_event.new.self c.in-Some.number c.in-Next.position c.is_outstanding-outstanding.result c.requires sought
 
 pub hand_over-requires-clause-next : goal.hand_over-requires-clause-next
 hand_over-requires-clause-next c =
     let parts = c.args.parts.now in
-    let stands : Stands parts c.in-Some.number = record { agrees = c.requires; unique = c.len-names.ensures.unique; records = c.len-names.ensures.records; within = c.in-Some.ensures.within } in
-    let current = current-is c.args.generation parts.agent c.in_default.field-0 c.in_default.ensures in
-    let sought : Searched parts c.seek.new.self c.in-Some.number c.is_outstanding-outstanding.result (Ok (sought.Next c.in-Ok-Next.position)) =
-    subst (λ (told : Sought). Searched parts c.seek.new.self c.in-Some.number c.is_outstanding-outstanding.result (Ok told)) c.in-Ok-Next.field-0-is
-    (sought-is parts.subs c.seek.new.self c.in-Some.number c.args.generation parts.agent (registration_at parts.subs c.in-Some.number).stream c.is_outstanding-outstanding.result (Ok c.in-Ok-Next.field-0) current c.in-Ok-Next.ensures.sought) in
-    let cached = rw c.in-Ok-Next.field-0-is at c.in-Ok-Next.ensures.found in
-    next-there parts c.seek.new.self c.in-Some.number c.in-Ok-Next.position c.is_outstanding-outstanding.result stands sought cached.1
+    let stands : Stands parts c.in-Some.number = record { agrees = c.requires; within = c.in-Some.ensures.within } in
+    let current = check-current parts.agent c.args.generation c.in_default.field-0 c.in_default.ensures in
+    let sought : Searched parts c.next_event.new.self c.in-Some.number c.is_outstanding-outstanding.result (sought.Next c.in-Next.position) =
+    searched-is parts c.next_event.new.self c.in-Some.number c.cache.result.now c.is_outstanding-outstanding.result (sought.Next c.in-Next.position) c.cache.ensures c.in-Next.ensures.sought in
+    let cached = subst (λ (cache : PlainCache). c.in-Next.position < high cache) c.cache.ensures c.in-Next.ensures.found.1 in
+    next-there parts c.next_event.new.self c.in-Some.number c.in-Next.position c.is_outstanding-outstanding.result stands sought cached
 
-pub returns-in-Ok-Next-clause-performs : goal.returns-in-Ok-Next-clause-performs
-returns-in-Ok-Next-clause-performs c =
+pub hand_over-requires-clause-grain : goal.hand_over-requires-clause-grain
+hand_over-requires-clause-grain c =
     let parts = c.args.parts.now in
-    let current = current-is c.args.generation parts.agent c.in_default.field-0 c.in_default.ensures in
-    let sought : Searched parts c.seek.new.self c.in-Some.number c.is_outstanding-outstanding.result (Ok (sought.Next c.in-Ok-Next.position)) =
-    subst (λ (told : Sought). Searched parts c.seek.new.self c.in-Some.number c.is_outstanding-outstanding.result (Ok told)) c.in-Ok-Next.field-0-is
-    (sought-is parts.subs c.seek.new.self c.in-Some.number c.args.generation parts.agent (registration_at parts.subs c.in-Some.number).stream c.is_outstanding-outstanding.result (Ok c.in-Ok-Next.field-0) current c.in-Ok-Next.ensures.sought) in
-    let todo = todo-is parts c.seek.new.self c.in-Some.number c.args.generation c.in-Ok-Next.position c.args.sub c.is_outstanding-outstanding.result current (sym c.in-Some.ensures.number) sought in
-    todo-performs parts c.seek.new.self (plain_of c.hand_over.new.parts) (replied c.hand_over.result) _ _ sought.0 todo c.hand_over.ensures.performs
+    let sought : Searched parts c.next_event.new.self c.in-Some.number c.is_outstanding-outstanding.result (sought.Next c.in-Next.position) =
+    searched-is parts c.next_event.new.self c.in-Some.number c.cache.result.now c.is_outstanding-outstanding.result (sought.Next c.in-Next.position) c.cache.ensures c.in-Next.ensures.sought in
+    grain-there parts c.next_event.new.self c.in-Some.number c.in-Next.position c.is_outstanding-outstanding.result c.find-grain.result sought
+    (found parts c.in-Some.number c.registration.result.now c.find-grain.result c.registration.ensures c.find-grain.ensures.number)
 
-pub returns-in-Ok-Next-clause-memory : goal.returns-in-Ok-Next-clause-memory
-returns-in-Ok-Next-clause-memory c =
+pub returns-in-Next-clause-performs : goal.returns-in-Next-clause-performs
+returns-in-Next-clause-performs c =
     let parts = c.args.parts.now in
-    let current = current-is c.args.generation parts.agent c.in_default.field-0 c.in_default.ensures in
-    let sought : Searched parts c.seek.new.self c.in-Some.number c.is_outstanding-outstanding.result (Ok (sought.Next c.in-Ok-Next.position)) =
-    subst (λ (told : Sought). Searched parts c.seek.new.self c.in-Some.number c.is_outstanding-outstanding.result (Ok told)) c.in-Ok-Next.field-0-is
-    (sought-is parts.subs c.seek.new.self c.in-Some.number c.args.generation parts.agent (registration_at parts.subs c.in-Some.number).stream c.is_outstanding-outstanding.result (Ok c.in-Ok-Next.field-0) current c.in-Ok-Next.ensures.sought) in
-    let todo = todo-is parts c.seek.new.self c.in-Some.number c.args.generation c.in-Ok-Next.position c.args.sub c.is_outstanding-outstanding.result current (sym c.in-Some.ensures.number) sought in
+    let current = check-current parts.agent c.args.generation c.in_default.field-0 c.in_default.ensures in
+    let sought : Searched parts c.next_event.new.self c.in-Some.number c.is_outstanding-outstanding.result (sought.Next c.in-Next.position) =
+    searched-is parts c.next_event.new.self c.in-Some.number c.cache.result.now c.is_outstanding-outstanding.result (sought.Next c.in-Next.position) c.cache.ensures c.in-Next.ensures.sought in
+    let todo = todo-is parts c.next_event.new.self c.in-Some.number c.args.generation c.in-Next.position c.args.sub c.is_outstanding-outstanding.result current (sym c.in-Some.ensures.number) sought in
+    todo-performs parts c.next_event.new.self (plain_of c.hand_over.new.parts) (replied c.hand_over.result) _ _ sought.0 todo c.hand_over.ensures.performs
+
+pub returns-in-Next-clause-memory : goal.returns-in-Next-clause-memory
+returns-in-Next-clause-memory c =
+    let parts = c.args.parts.now in
+    let current = check-current parts.agent c.args.generation c.in_default.field-0 c.in_default.ensures in
+    let sought : Searched parts c.next_event.new.self c.in-Some.number c.is_outstanding-outstanding.result (sought.Next c.in-Next.position) =
+    searched-is parts c.next_event.new.self c.in-Some.number c.cache.result.now c.is_outstanding-outstanding.result (sought.Next c.in-Next.position) c.cache.ensures c.in-Next.ensures.sought in
+    let todo = todo-is parts c.next_event.new.self c.in-Some.number c.args.generation c.in-Next.position c.args.sub c.is_outstanding-outstanding.result current (sym c.in-Some.ensures.number) sought in
     subst (λ (done : Answer). OnErr c.hand_over.result (takes_memory done.1 ≡ true)) todo c.hand_over.ensures.memory
 
-pub returns-in-Ok-Nothing-clause-assembled : goal.returns-in-Ok-Nothing-clause-assembled
-returns-in-Ok-Nothing-clause-assembled c =
+pub returns-in-Nothing-clause-assembled : goal.returns-in-Nothing-clause-assembled
+returns-in-Nothing-clause-assembled c =
     let parts = c.args.parts.now in
-    let stands : Stands parts c.in-Some.number = record { agrees = c.requires; unique = c.len-names.ensures.unique; records = c.len-names.ensures.records; within = c.in-Some.ensures.within } in
-    let current = current-is c.args.generation parts.agent c.in_default.field-0 c.in_default.ensures in
-    let sought : Searched parts c.seek.new.self c.in-Some.number c.is_outstanding-outstanding.result (Ok sought.Nothing) =
-    subst (λ (told : Sought). Searched parts c.seek.new.self c.in-Some.number c.is_outstanding-outstanding.result (Ok told)) c.in-Ok-Nothing.field-0-is
-    (sought-is parts.subs c.seek.new.self c.in-Some.number c.args.generation parts.agent (registration_at parts.subs c.in-Some.number).stream c.is_outstanding-outstanding.result (Ok c.in-Ok-Nothing.field-0) current c.in-Ok-Nothing.ensures.sought) in
-    nothing-assembled parts c.seek.new.self c.in-Some.number c.is_outstanding-outstanding.result stands c.is_outstanding-outstanding.ensures sought
+    let stands : Stands parts c.in-Some.number = record { agrees = c.requires; within = c.in-Some.ensures.within } in
+    let current = check-current parts.agent c.args.generation c.in_default.field-0 c.in_default.ensures in
+    let sought : Searched parts c.next_event.new.self c.in-Some.number c.is_outstanding-outstanding.result sought.Nothing =
+    searched-is parts c.next_event.new.self c.in-Some.number c.cache.result.now c.is_outstanding-outstanding.result sought.Nothing c.cache.ensures c.in-Nothing.ensures.sought in
+    nothing-assembled parts c.next_event.new.self c.in-Some.number c.is_outstanding-outstanding.result stands c.is_outstanding-outstanding.ensures sought
 
-pub returns-in-Ok-Nothing-clause-performs : goal.returns-in-Ok-Nothing-clause-performs
-returns-in-Ok-Nothing-clause-performs c =
+pub returns-in-Nothing-clause-performs : goal.returns-in-Nothing-clause-performs
+returns-in-Nothing-clause-performs c =
     let parts = c.args.parts.now in
-    let stands : Stands parts c.in-Some.number = record { agrees = c.requires; unique = c.len-names.ensures.unique; records = c.len-names.ensures.records; within = c.in-Some.ensures.within } in
-    let current = current-is c.args.generation parts.agent c.in_default.field-0 c.in_default.ensures in
-    let sought : Searched parts c.seek.new.self c.in-Some.number c.is_outstanding-outstanding.result (Ok sought.Nothing) =
-    subst (λ (told : Sought). Searched parts c.seek.new.self c.in-Some.number c.is_outstanding-outstanding.result (Ok told)) c.in-Ok-Nothing.field-0-is
-    (sought-is parts.subs c.seek.new.self c.in-Some.number c.args.generation parts.agent (registration_at parts.subs c.in-Some.number).stream c.is_outstanding-outstanding.result (Ok c.in-Ok-Nothing.field-0) current c.in-Ok-Nothing.ensures.sought) in
-    nothing-performs parts c.seek.new.self c.in-Some.number c.args.generation c.args.sub c.is_outstanding-outstanding.result stands current (sym c.in-Some.ensures.number) c.is_outstanding-outstanding.ensures sought
+    let stands : Stands parts c.in-Some.number = record { agrees = c.requires; within = c.in-Some.ensures.within } in
+    let current = check-current parts.agent c.args.generation c.in_default.field-0 c.in_default.ensures in
+    let sought : Searched parts c.next_event.new.self c.in-Some.number c.is_outstanding-outstanding.result sought.Nothing =
+    searched-is parts c.next_event.new.self c.in-Some.number c.cache.result.now c.is_outstanding-outstanding.result sought.Nothing c.cache.ensures c.in-Nothing.ensures.sought in
+    nothing-performs parts c.next_event.new.self c.in-Some.number c.args.generation c.args.sub c.is_outstanding-outstanding.result stands current (sym c.in-Some.ensures.number) c.is_outstanding-outstanding.ensures sought
 
-pub returns-in-Ok-Closed-clause-assembled : goal.returns-in-Ok-Closed-clause-assembled
-returns-in-Ok-Closed-clause-assembled c =
+pub returns-in-Closed-clause-assembled : goal.returns-in-Closed-clause-assembled
+returns-in-Closed-clause-assembled c =
     let parts = c.args.parts.now in
-    let current = current-is c.args.generation parts.agent c.in_default.field-0 c.in_default.ensures in
-    let sought : Searched parts c.seek.new.self c.in-Some.number c.is_outstanding-outstanding.result (Ok sought.Closed) =
-    subst (λ (told : Sought). Searched parts c.seek.new.self c.in-Some.number c.is_outstanding-outstanding.result (Ok told)) c.in-Ok-Closed.field-0-is
-    (sought-is parts.subs c.seek.new.self c.in-Some.number c.args.generation parts.agent (registration_at parts.subs c.in-Some.number).stream c.is_outstanding-outstanding.result (Ok c.in-Ok-Closed.field-0) current c.in-Ok-Closed.ensures.sought) in
+    let current = check-current parts.agent c.args.generation c.in_default.field-0 c.in_default.ensures in
+    let sought : Searched parts c.next_event.new.self c.in-Some.number c.is_outstanding-outstanding.result sought.Closed =
+    searched-is parts c.next_event.new.self c.in-Some.number c.cache.result.now c.is_outstanding-outstanding.result sought.Closed c.cache.ensures c.in-Closed.ensures.sought in
     subst (λ (t : PlainTable). IsAssembled (with_subs parts t)) (sym sought.0) c.requires.assembled
 
-pub returns-in-Ok-Closed-clause-performs : goal.returns-in-Ok-Closed-clause-performs
-returns-in-Ok-Closed-clause-performs c =
+pub returns-in-Closed-clause-performs : goal.returns-in-Closed-clause-performs
+returns-in-Closed-clause-performs c =
     let parts = c.args.parts.now in
-    let stands : Stands parts c.in-Some.number = record { agrees = c.requires; unique = c.len-names.ensures.unique; records = c.len-names.ensures.records; within = c.in-Some.ensures.within } in
-    let current = current-is c.args.generation parts.agent c.in_default.field-0 c.in_default.ensures in
-    let sought : Searched parts c.seek.new.self c.in-Some.number c.is_outstanding-outstanding.result (Ok sought.Closed) =
-    subst (λ (told : Sought). Searched parts c.seek.new.self c.in-Some.number c.is_outstanding-outstanding.result (Ok told)) c.in-Ok-Closed.field-0-is
-    (sought-is parts.subs c.seek.new.self c.in-Some.number c.args.generation parts.agent (registration_at parts.subs c.in-Some.number).stream c.is_outstanding-outstanding.result (Ok c.in-Ok-Closed.field-0) current c.in-Ok-Closed.ensures.sought) in
-    closed-performs parts c.seek.new.self c.in-Some.number c.args.generation c.args.sub c.is_outstanding-outstanding.result stands current (sym c.in-Some.ensures.number) sought
+    let stands : Stands parts c.in-Some.number = record { agrees = c.requires; within = c.in-Some.ensures.within } in
+    let current = check-current parts.agent c.args.generation c.in_default.field-0 c.in_default.ensures in
+    let sought : Searched parts c.next_event.new.self c.in-Some.number c.is_outstanding-outstanding.result sought.Closed =
+    searched-is parts c.next_event.new.self c.in-Some.number c.cache.result.now c.is_outstanding-outstanding.result sought.Closed c.cache.ensures c.in-Closed.ensures.sought in
+    closed-performs parts c.next_event.new.self c.in-Some.number c.args.generation c.args.sub c.is_outstanding-outstanding.result stands current (sym c.in-Some.ensures.number) sought

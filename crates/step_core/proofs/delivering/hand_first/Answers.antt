@@ -1,7 +1,6 @@
-use Rattle.std.proofs.Common.{◌≡◌, ◌∙◌, ap, sym, None, arith}
-use Rattle.stream_ident.specs.declared.ident.GrainId.{GrainId}
-use Rattle.grain_table.specs.Grains.{number_of, with_grain}
-use Rattle.step_core.specs.Records.{record_of}
+use Rattle.std.proofs.Common.{◌∙◌, ap, sym, arith}
+use Rattle.grain_table.specs.Grains.{with_grain}
+use Rattle.pubsub_registry.specs.declared.registration.Registration.{Registration}
 use Rattle.step_core.specs.Replied.{reply_of}
 use Rattle.step_core.proofs.HandOps.{Stands, first-assembled, first-memory, first-performs, first-spent, position-few, position-there}
 use Rattle.step_core.proofs.delivering.hand_first.Goals as goal
@@ -9,9 +8,8 @@ use Rattle.step_core.proofs.delivering.hand_first.Goals as goal
 pub returns-then-is_spent-clause-performs : goal.returns-then-is_spent-clause-performs
 returns-then-is_spent-clause-performs c =
     let parts = c.args.parts.now in
-    let stands : Stands parts c.args.delivery.sub = record { agrees = c.requires.agrees; unique = c.len.ensures.unique; records = c.len.ensures.records; within = c.requires.next.numbered } in
-    let none : number_of parts.grains (record_of parts c.args.delivery.sub).grain ≡ None = ap (λ (g : GrainId). number_of parts.grains g) (sym c.requires.grain) ∙ c.requires.first in
-    sym (first-spent parts c.args.delivery stands c.requires.next none (sym c.is_spent.ensures ∙ c.if-is_spent.true))
+    let stands : Stands parts c.args.delivery.sub = record { agrees = c.requires.agrees; within = c.requires.next.numbered } in
+    sym (first-spent parts c.args.delivery stands c.requires.next c.requires.first (sym c.is_spent.ensures ∙ c.if-is_spent.true))
 
 pub add-requires-clause-position : goal.add-requires-clause-position
 add-requires-clause-position c = omega (arith, position-few c.args.parts.now c.args.delivery c.requires.agrees c.requires.next)
@@ -19,9 +17,8 @@ add-requires-clause-position c = omega (arith, position-few c.args.parts.now c.a
 pub returns-in_err-add-clause-memory : goal.returns-in_err-add-clause-memory
 returns-in_err-add-clause-memory c =
     let parts = c.args.parts.now in
-    let stands : Stands parts c.args.delivery.sub = record { agrees = c.requires.agrees; unique = c.len.ensures.unique; records = c.len.ensures.records; within = c.requires.next.numbered } in
-    let none : number_of parts.grains (record_of parts c.args.delivery.sub).grain ≡ None = ap (λ (g : GrainId). number_of parts.grains g) (sym c.requires.grain) ∙ c.requires.first in
-    first-memory parts c.args.delivery c.from_residual.result stands c.requires.next none (sym c.is_spent.ensures ∙ c.if-is_spent.false)
+    let stands : Stands parts c.args.delivery.sub = record { agrees = c.requires.agrees; within = c.requires.next.numbered } in
+    first-memory parts c.args.delivery c.from_residual.result stands c.requires.next c.requires.first (sym c.is_spent.ensures ∙ c.if-is_spent.false)
 
 pub sent-requires-clause-position : goal.sent-requires-clause-position
 sent-requires-clause-position c = position-there c.args.parts.now c.args.delivery c.requires.agrees c.requires.next
@@ -31,12 +28,11 @@ sent-requires-clause-room c = position-few c.args.parts.now c.args.delivery c.re
 
 pub returns-clause-assembled : goal.returns-clause-assembled
 returns-clause-assembled c =
-    first-assembled c.args.parts.now c.sent.new.parts c.args.delivery c.args.grain c.add.new.self c.requires.agrees.assembled c.requires.next.numbered c.requires.grain c.in_ok-add.ensures c.sent.ensures.parts
+    first-assembled c.args.parts.now c.sent.new.parts c.args.delivery c.registration.result.now.grain c.add.new.self c.requires.agrees.assembled c.requires.next.numbered (ap (λ (r : Registration). r.grain) c.registration.ensures) c.in_ok-add.ensures c.sent.ensures.parts
 
 pub returns-clause-performs : goal.returns-clause-performs
 returns-clause-performs c =
     let parts = c.args.parts.now in
-    let stands : Stands parts c.args.delivery.sub = record { agrees = c.requires.agrees; unique = c.len.ensures.unique; records = c.len.ensures.records; within = c.requires.next.numbered } in
-    let none : number_of parts.grains (record_of parts c.args.delivery.sub).grain ≡ None = ap (λ (g : GrainId). number_of parts.grains g) (sym c.requires.grain) ∙ c.requires.first in
-    first-performs parts c.sent.new.parts c.args.delivery c.add.new.self (reply_of c.sent.result) stands c.requires.next none (sym c.is_spent.ensures ∙ c.if-is_spent.false)
-    (c.in_ok-add.ensures ∙ ap (λ (g : GrainId). with_grain parts.grains g c.args.delivery) c.requires.grain) c.sent.ensures.parts c.sent.ensures.reply
+    let stands : Stands parts c.args.delivery.sub = record { agrees = c.requires.agrees; within = c.requires.next.numbered } in
+    first-performs parts c.sent.new.parts c.args.delivery c.add.new.self (reply_of c.sent.result) stands c.requires.next c.requires.first (sym c.is_spent.ensures ∙ c.if-is_spent.false)
+    (c.in_ok-add.ensures ∙ ap (λ (r : Registration). with_grain parts.grains r.grain c.args.delivery) c.registration.ensures) c.sent.ensures.parts c.sent.ensures.reply

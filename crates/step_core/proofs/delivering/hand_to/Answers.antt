@@ -27,7 +27,7 @@ at-requires c = place_of-within same_grain (record_of c.args.parts.now c.args.de
 pub returns-then-is_spent-clause-performs : goal.returns-then-is_spent-clause-performs
 returns-then-is_spent-clause-performs c =
     let parts = c.args.parts.now in
-    let stands : Stands parts c.args.delivery.sub = record { agrees = c.requires.agrees; unique = c.len.ensures.unique; records = c.len.ensures.records; within = c.requires.next.numbered } in
+    let stands : Stands parts c.args.delivery.sub = record { agrees = c.requires.agrees; within = c.requires.next.numbered } in
     let active = seen parts c.args.grain c.is_active-wakes.result c.at.result.now c.is_active-wakes.ensures c.at.ensures.activation in
     sym (handed-spent parts c.args.delivery c.args.grain stands c.requires.next c.requires.grain (active ∙ c.if-wakes.true) (sym c.is_spent.ensures ∙ c.if-is_spent.true))
 
@@ -45,7 +45,7 @@ offer-requires-clause-position c = omega (arith, position-few c.args.parts.now c
 pub returns-in_err-offer-clause-memory : goal.returns-in_err-offer-clause-memory
 returns-in_err-offer-clause-memory c =
     let parts = c.args.parts.now in
-    let stands : Stands parts c.args.delivery.sub = record { agrees = c.requires.agrees; unique = c.len.ensures.unique; records = c.len.ensures.records; within = c.requires.next.numbered } in
+    let stands : Stands parts c.args.delivery.sub = record { agrees = c.requires.agrees; within = c.requires.next.numbered } in
     let active = seen parts c.args.grain c.is_active-wakes.result c.at.result.now c.is_active-wakes.ensures c.at.ensures.activation in
     let rise : HasRise parts (activation c.args.grain parts.grains).active = elim c.else-wakes.branch [
       | else-wakes-via-then-wakes+else-is_spent w ↦ λ idle. sym w.is_spent.ensures ∙ w.if-is_spent.false
@@ -69,7 +69,7 @@ returns-in-MailboxFull-clause-assembled c =
 pub returns-in-MailboxFull-clause-performs : goal.returns-in-MailboxFull-clause-performs
 returns-in-MailboxFull-clause-performs c =
     let parts = c.args.parts.now in
-    let stands : Stands parts c.args.delivery.sub = record { agrees = c.requires.agrees; unique = c.len.ensures.unique; records = c.len.ensures.records; within = c.requires.next.numbered } in
+    let stands : Stands parts c.args.delivery.sub = record { agrees = c.requires.agrees; within = c.requires.next.numbered } in
     let offered = offer-is c.args.grain parts.grains c.offer.new.self c.args.delivery c.in_ok-offer.field-0 c.in_ok-offer.ensures.performs in
     let full : OfferIs c.args.grain parts.grains c.offer.new.self c.args.delivery offer.MailboxFull = subst (OfferIs c.args.grain parts.grains c.offer.new.self c.args.delivery) c.in-MailboxFull.is offered in
     ap {B = PlainPartition × Reply} (λ (gs : PlainGrains). (plain_of (record parts { grains = gs }), reply.MailboxFull)) full.0
@@ -85,7 +85,7 @@ returns-in-Delivered-clause-assembled c =
 pub returns-in-Delivered-clause-performs : goal.returns-in-Delivered-clause-performs
 returns-in-Delivered-clause-performs c =
     let parts = c.args.parts.now in
-    let stands : Stands parts c.args.delivery.sub = record { agrees = c.requires.agrees; unique = c.len.ensures.unique; records = c.len.ensures.records; within = c.requires.next.numbered } in
+    let stands : Stands parts c.args.delivery.sub = record { agrees = c.requires.agrees; within = c.requires.next.numbered } in
     let active = seen parts c.args.grain c.is_active-wakes.result c.at.result.now c.is_active-wakes.ensures c.at.ensures.activation in
     let rise : HasRise parts (activation c.args.grain parts.grains).active = elim c.else-wakes.branch [
       | else-wakes-via-then-wakes+else-is_spent w ↦ λ idle. sym w.is_spent.ensures ∙ w.if-is_spent.false

@@ -1,8 +1,8 @@
 use Rattle.std.proofs.Common.{◌≡◌, suc, ◌+◌, ◌-◌, true, false, Some, None, Ok, refl, subst, arith}
 use Rattle.std.proofs.lemmas.Result.{err_from_is_err_and}
 use Rattle.stream_model.specs.declared.op.Op.TheVariants.{Deliver}
-use Rattle.stream_model.specs.Draining.{Astray, take_turn}
-use Rattle.step_core.specs.DrainPhases.{Asks, Ends, deliver_told, deliver_up_to, halted}
+use Rattle.stream_model.specs.Draining.{Astray, take_turn, deliver_up_to}
+use Rattle.step_core.specs.DrainPhases.{Asks, Ends, deliver_told, halted}
 use Rattle.step_core.proofs.DrainLoops.{deliver-more, deliver-done, deliver-halted}
 use Rattle.step_core.proofs.DrainReplies.{more_delivers}
 use Rattle.step_core.proofs.DrainSteps.{ends-done, ends-halted, ends-then}

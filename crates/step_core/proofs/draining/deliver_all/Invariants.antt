@@ -1,5 +1,5 @@
 use Rattle.std.proofs.Common.{◌-◌}
-use Rattle.step_core.specs.DrainPhases.{deliver_up_to}
+use Rattle.stream_model.specs.Draining.{deliver_up_to}
 use Rattle.step_core.proofs.DrainLoops.{Suffices}
 use Rattle.step_core.proofs.draining.deliver_all.Given as goal
 

@@ -1,7 +1,7 @@
 use Rattle.std.proofs.Common.{◌-◌, Some, ap, sym, subst, ◌∙◌}
 use Rattle.std.proofs.lemmas.Result.{err_from_is_err_and}
-use Rattle.stream_model.specs.Draining.{Astray, acknowledge, deliver_once_more, last_handled, serve}
-use Rattle.step_core.specs.DrainPhases.{Ends, deliver_up_to, halted, meant}
+use Rattle.stream_model.specs.Draining.{Astray, acknowledge, deliver_once_more, last_handled, serve, deliver_up_to}
+use Rattle.step_core.specs.DrainPhases.{Ends, halted, meant}
 use Rattle.stream_model.specs.Positions.{sub_at}
 use Rattle.step_core.proofs.DrainRounds.{after_deliveries, serve-known, serve-unknown}
 use Rattle.step_core.proofs.DrainSteps.{ends-done, ends-halted, ends-then}

@@ -16,7 +16,7 @@ pub to_acknowledge-requires : goal.to_acknowledge-requires
 to_acknowledge-requires c =
     let parts = c.args.parts.now in
     subst (λ (s : PlainState). AllByRecursion (λ position. position < length parts.queue.events) s.handled) (sym c.state.ensures)
-    (handled-within parts c.in-Some.number c.requires.within (sym c.len-names.ensures.records.long) c.in-Some.ensures.within)
+    (handled-within parts c.in-Some.number c.requires.within (sym c.requires.records.long) c.in-Some.ensures.within)
 
 pub returns-in-Some : goal.returns-in-Some
 returns-in-Some c =
@@ -26,7 +26,7 @@ returns-in-Some c =
     let asked = ap (due_after (high parts.agent.cache)) (sym c.as_ref.ensures.value) in
     let is_due = ap (λ due. due leaves) asked ∙ ap (λ n. due_after n (option_copied c.as_ref.result) leaves) (sym is_high) ∙ c.in-Some.ensures.some in
     let ack = c.to_acknowledge.ensures ∙ ap (λ (s : PlainState). if is_unacknowledged s then Some (token_at parts.queue (pred (past s.handled))) else None) c.state.ensures in
-    due-some parts c.args.after c.in-Some.number c.name.result.now c.to_acknowledge.result (distinct-of-unique parts.subs.registry.names c.len-names.ensures.unique) (sym c.len-names.ensures.records.long) c.in-Some.ensures.within is_due c.name.ensures ack
+    due-some parts c.args.after c.in-Some.number c.name.result.now c.to_acknowledge.result (distinct-of-unique parts.subs.registry.names c.requires.unique) (sym c.requires.records.long) c.in-Some.ensures.within is_due c.name.ensures ack
 
 pub returns-in-None : goal.returns-in-None
 returns-in-None c =

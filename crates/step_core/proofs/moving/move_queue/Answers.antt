@@ -2,7 +2,7 @@ use Rattle.std.proofs.Common.{◌≡◌, ◌∙◌, ap, arith, min, sym}
 use Rattle.stream_model.specs.Positions.{slowest}
 use Rattle.queue_cache.specs.Cache.{high}
 use Rattle.step_core.specs.PlainOf.{plain_of}
-use Rattle.step_core.proofs.CachedEvents.{high-end}
+use Rattle.step_core.proofs.Shared.{high-end}
 use Rattle.step_core.proofs.MovedOps.{move-spent, moved-assembled, moved-performs}
 use Rattle.step_core.proofs.moving.move_queue.Goals as goal
 
@@ -17,7 +17,7 @@ token_at-low-requires c =
 
 pub returns-clause-assembled : goal.returns-clause-assembled
 returns-clause-assembled c =
-    moved-assembled c.args.parts.now c.args.silo c.min-position.result c.take_over-generation.new.self c.take_over-generation.result c.rewind_all.new.self c.take_over-generation.ensures c.rewind_all.ensures c.len.ensures.records c.requires.assembled
+    moved-assembled c.args.parts.now c.args.silo c.min-position.result c.take_over-generation.new.self c.take_over-generation.result c.rewind_all.new.self c.take_over-generation.ensures c.rewind_all.ensures c.requires.records c.requires.assembled
 
 pub returns-clause-performs : goal.returns-clause-performs
 returns-clause-performs c =
@@ -26,4 +26,4 @@ returns-clause-performs c =
     c.min-position.ensures ∙ ap (λ n. min n c.least_resume.result) (c.high.ensures ∙ ap high c.cache.ensures) ∙ ap (min (high parts.agent.cache)) c.least_resume.ensures
     in
     moved-performs parts c.args.silo c.min-position.result c.take_over-generation.new.self c.take_over-generation.result c.rewind_all.new.self c.take_over-generation.ensures c.rewind_all.ensures
-    c.token_at-low.result c.len.ensures.records (sym c.is_spent.ensures ∙ c.if-is_spent.false) least c.token_at-low.ensures
+    c.token_at-low.result c.requires.records (sym c.is_spent.ensures ∙ c.if-is_spent.false) least c.token_at-low.ensures

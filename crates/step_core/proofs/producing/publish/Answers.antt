@@ -6,7 +6,7 @@ use Rattle.partition_queue.specs.declared.appended.Appended.{Appended}
 use Rattle.partition_queue.specs.Queue.{PlainQueue}
 use Rattle.step_core.specs.Assembly.{IsAssembled}
 use Rattle.step_core.specs.PlainOf.{plain_of}
-use Rattle.step_core.proofs.CachedEvents.{high-end}
+use Rattle.step_core.proofs.Shared.{high-end}
 use Rattle.step_core.proofs.PublishOps.{append-assembled, append-memory, append-performs}
 use Rattle.step_core.proofs.producing.publish.Goals as goal
 

@@ -12,7 +12,7 @@ returns-in_err-imply-clause-memory c =
     let parts = c.args.parts.now in
     let top : c.high-high.result ≡ high parts.agent.cache = c.high-high.ensures ∙ ap high c.cache.ensures in
     let seen : c.between-events.result.now ≡ ahead parts c.args.count = c.between-events.ensures.events ∙ ap (λ from. between parts.queue from (from + c.args.count)) top in
-    take-memory parts c.args.drops c.args.count c.from_residual.result c.requires.agrees.assembled (sym c.len-names.ensures.records.long)
+    take-memory parts c.args.drops c.args.count c.from_residual.result c.requires.agrees.assembled (sym c.requires.agrees.records.long)
     (makes-few parts.subs (ahead parts c.args.count) c.between-events.result.now c.high-high.result seen c.in_err-imply.ensures.memory)
 
 pub returns-in-TooMany-clause-assembled : goal.returns-in-TooMany-clause-assembled
@@ -33,7 +33,7 @@ returns-in-TooMany-clause-performs c =
     let makes : MakesIs parts.subs c.imply.new.self (ahead parts c.args.count) (high parts.agent.cache) implied_told.TooMany =
     subst (MakesIs parts.subs c.imply.new.self (ahead parts c.args.count) (high parts.agent.cache)) c.in-TooMany.is
     (makes-is parts.subs c.imply.new.self (ahead parts c.args.count) c.between-events.result.now (high parts.agent.cache) c.high-high.result c.in_ok-imply.field-0 seen top c.in_ok-imply.ensures.performs) in
-    many-performs parts c.imply.new.self c.args.drops c.args.count c.requires.agrees.assembled (sym c.len-names.ensures.records.long) makes
+    many-performs parts c.imply.new.self c.args.drops c.args.count c.requires.agrees.assembled (sym c.requires.agrees.records.long) makes
 
 pub returns-in-Implied-clause-assembled : goal.returns-in-Implied-clause-assembled
 returns-in-Implied-clause-assembled c =
@@ -43,7 +43,7 @@ returns-in-Implied-clause-assembled c =
     let makes : MakesIs parts.subs c.imply.new.self (ahead parts c.args.count) (high parts.agent.cache) implied_told.Implied =
     subst (MakesIs parts.subs c.imply.new.self (ahead parts c.args.count) (high parts.agent.cache)) c.in-Implied.is
     (makes-is parts.subs c.imply.new.self (ahead parts c.args.count) c.between-events.result.now (high parts.agent.cache) c.high-high.result c.in_ok-imply.field-0 seen top c.in_ok-imply.ensures.performs) in
-    take-assembled parts c.fill.new.parts c.imply.new.self c.args.drops c.args.count c.requires.agrees.assembled (sym c.len-names.ensures.records.long) (c.requires.takeable.blocks, c.requires.takeable.there) makes c.fill.ensures.parts
+    take-assembled parts c.fill.new.parts c.imply.new.self c.args.drops c.args.count c.requires.agrees.assembled (sym c.requires.agrees.records.long) (c.requires.takeable.blocks, c.requires.takeable.there) makes c.fill.ensures.parts
 
 pub returns-in-Implied-clause-performs : goal.returns-in-Implied-clause-performs
 returns-in-Implied-clause-performs c =
@@ -53,4 +53,4 @@ returns-in-Implied-clause-performs c =
     let makes : MakesIs parts.subs c.imply.new.self (ahead parts c.args.count) (high parts.agent.cache) implied_told.Implied =
     subst (MakesIs parts.subs c.imply.new.self (ahead parts c.args.count) (high parts.agent.cache)) c.in-Implied.is
     (makes-is parts.subs c.imply.new.self (ahead parts c.args.count) c.between-events.result.now (high parts.agent.cache) c.high-high.result c.in_ok-imply.field-0 seen top c.in_ok-imply.ensures.performs) in
-    take-performs parts c.fill.new.parts c.imply.new.self c.args.drops c.args.count (reply_of c.fill.result) c.requires.agrees.assembled (sym c.len-names.ensures.records.long) (c.requires.takeable.blocks, c.requires.takeable.there) makes c.fill.ensures.parts c.fill.ensures.reply
+    take-performs parts c.fill.new.parts c.imply.new.self c.args.drops c.args.count (reply_of c.fill.result) c.requires.agrees.assembled (sym c.requires.agrees.records.long) (c.requires.takeable.blocks, c.requires.takeable.there) makes c.fill.ensures.parts c.fill.ensures.reply

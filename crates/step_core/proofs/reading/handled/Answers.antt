@@ -12,7 +12,7 @@ events_at-requires c =
     let found = sym c.find.ensures.number ∙ c.in-Some.is in
     let own = c.handled.ensures.handled ∙ ap (λ s. s.handled) c.state.ensures in
     subst (λ positions. All (λ (position : ℕ). position < length parts.queue.events) positions) (sym own)
-    (All-from_recursion (λ (position : ℕ). position < length parts.queue.events) _ (handled-within parts c.args.sub.now c.in-Some.number c.requires.within c.len-len.ensures.records found))
+    (All-from_recursion (λ (position : ℕ). position < length parts.queue.events) _ (handled-within parts c.args.sub.now c.in-Some.number c.requires.within c.requires.records found))
 
 pub returns-in-Some : goal.returns-in-Some
 returns-in-Some c =
@@ -20,10 +20,10 @@ returns-in-Some c =
     let found = sym c.find.ensures.number ∙ c.in-Some.is in
     let same : events_at parts.queue.events c.handled.result.now ≡ handled_of (plain_of parts) c.args.sub.now =
     ap (events_at parts.queue.events) (c.handled.ensures.handled ∙ ap (λ s. s.handled) c.state.ensures)
-    ∙ sym (ap (handled_by (plain_of parts)) (found-sub parts c.args.sub.now c.in-Some.number c.len-len.ensures.records found)) in
+    ∙ sym (ap (handled_by (plain_of parts)) (found-sub parts c.args.sub.now c.in-Some.number c.requires.records found)) in
     subst (λ told. IfOk c.events_at.result (λ events. events.items ≡ told)) same c.events_at.ensures
 
 pub returns-in-None : goal.returns-in-None
 returns-in-None c =
     let parts = c.args.parts.now in
-    c.new.ensures.items ∙ sym (ap (handled_by (plain_of parts)) (found-none parts c.args.sub.now c.len-len.ensures.records (sym c.find.ensures.number ∙ c.in-None.is)))
+    c.new.ensures.items ∙ sym (ap (handled_by (plain_of parts)) (found-none parts c.args.sub.now c.requires.records (sym c.find.ensures.number ∙ c.in-None.is)))

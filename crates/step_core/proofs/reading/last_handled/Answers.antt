@@ -15,19 +15,19 @@ pub returns-in_err-number : goal.returns-in_err-number
 returns-in_err-number c =
     let p = plain_of c.args.parts.now in
     c.from_residual.ensures
-    ∙ sym (ap (last_handled p) (found-none c.args.parts.now c.args.sub.now c.len-len.ensures.records (sym c.find.ensures.number ∙ c.in_err-number.was)))
+    ∙ sym (ap (last_handled p) (found-none c.args.parts.now c.args.sub.now c.requires.records (sym c.find.ensures.number ∙ c.in_err-number.was)))
 
 pub returns-then-is_empty : goal.returns-then-is_empty
 returns-then-is_empty c =
     let parts = c.args.parts.now in
-    let found = found-sub parts c.args.sub.now c.in_ok-number.number c.len-len.ensures.records (sym c.find.ensures.number ∙ c.in_ok-number.was) in
+    let found = found-sub parts c.args.sub.now c.in_ok-number.number c.requires.records (sym c.find.ensures.number ∙ c.in_ok-number.was) in
     let own = c.handled.ensures.handled ∙ ap (λ s. s.handled) c.state-state.ensures in
     sym (ap (last_handled (plain_of parts)) found ∙ last-none parts (record_at parts c.in_ok-number.number no_entry no_state) (sym own ∙ nil-of-empty c.handled.result.now (sym c.if-is_empty.ensures)))
 
 pub token_at-requires : goal.token_at-requires
 token_at-requires c =
     let parts = c.args.parts.now in
-    let all = handled-within parts c.args.sub.now c.in_ok-number.number c.requires.within c.len-len.ensures.records (sym c.find.ensures.number ∙ c.in_ok-number.was) in
+    let all = handled-within parts c.args.sub.now c.in_ok-number.number c.requires.within c.requires.records (sym c.find.ensures.number ∙ c.in_ok-number.was) in
     let most = past-within (length parts.queue.events) 0 (record_at parts c.in_ok-number.number no_entry no_state).handled (omega arith) all in
     let is : c.past.result ≡ past (record_at parts c.in_ok-number.number no_entry no_state).handled = c.past.ensures ∙ ap (λ s. past s.handled) c.state-state.ensures in
     omega (arith, most, is, c.saturating_sub.ensures)
@@ -36,7 +36,7 @@ pub returns : goal.returns
 returns c =
     let parts = c.args.parts.now in
     let r = record_at parts c.in_ok-number.number no_entry no_state in
-    let found = found-sub parts c.args.sub.now c.in_ok-number.number c.len-len.ensures.records (sym c.find.ensures.number ∙ c.in_ok-number.was) in
+    let found = found-sub parts c.args.sub.now c.in_ok-number.number c.requires.records (sym c.find.ensures.number ∙ c.in_ok-number.was) in
     let own = c.handled.ensures.handled ∙ ap (λ s. s.handled) c.state-state.ensures in
     let is : c.saturating_sub.result ≡ past r.handled - 1 = c.saturating_sub.ensures ∙ ap (λ n. n - 1) (c.past.ensures ∙ ap (λ s. past s.handled) c.state-state.ensures) in
     let some : r.handled ≡ [] → ⊥ = λ none. false≢true (c.if-is_empty.ensures ∙ ap (λ positions. length positions == 0) (own ∙ none)) in

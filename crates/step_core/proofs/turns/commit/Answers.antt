@@ -1,10 +1,9 @@
 use Rattle.std.proofs.Common.{◌∙◌, ap, sym, subst, length}
-use Rattle.consumer_grain.specs.Activations.{PlainActivation}
+use Rattle.consumer_grain.specs.Activations.{PlainActivation, current_turn}
 use Rattle.grain_table.specs.Changes.{activation_at}
 use Rattle.subscription_table.specs.Table.{PlainTable}
 use Rattle.stream_model.proofs.Committing.{OnErr-since}
 use Rattle.step_core.specs.Assembly.{IsAssembled}
-use Rattle.step_core.specs.TurnReplies.{current_turn}
 use Rattle.step_core.specs.Replied.{reply_of}
 use Rattle.step_core.proofs.CommitOps.{commit-assembled, commit-stale, commit-takes, commit-told, is-running, running-below, running-rises, running-within}
 use Rattle.step_core.proofs.NumberedOps.{known-at}
@@ -22,7 +21,7 @@ returns-in_default-current_turn-clause-performs c =
     let i = c.in-Some.number in
     let below = known-at parts i c.requires.assembled c.in-Some.ensures.within in
     let none = ap (λ (a : PlainActivation). current_turn a c.args.activation c.args.turn) (sym c.at.ensures.activation) ∙ sym c.in_default-current_turn.ensures in
-    sym (commit-stale parts c.args.grain i c.args.activation c.args.turn c.args.note (distinct-of-unique parts.subs.registry.names c.len-names.ensures.unique) (sym c.len-names.ensures.records.long) (sym c.find.ensures.number ∙ c.in-Some.is) below none)
+    sym (commit-stale parts c.args.grain i c.args.activation c.args.turn c.args.note (distinct-of-unique parts.subs.registry.names c.requires.unique) (sym c.requires.records.long) (sym c.find.ensures.number ∙ c.in-Some.is) below none)
 
 pub handle-requires-clause-positions : goal.handle-requires-clause-positions
 handle-requires-clause-positions c =
@@ -43,7 +42,7 @@ handle-requires-clause-rising c =
     let below = known-at parts i c.requires.assembled c.in-Some.ensures.within in
     let is_current = ap (λ (a : PlainActivation). current_turn a c.args.activation c.args.turn) (sym c.at.ensures.activation) ∙ sym c.in-Some-current_turn.ensures in
     let runs = is-running a.running run a.number c.args.activation c.args.turn is_current in
-    running-rises parts c.args.grain i run c.requires.reached (distinct-of-unique parts.subs.registry.names c.len-names.ensures.unique) (sym c.len-names.ensures.records.long) (sym c.find.ensures.number ∙ c.in-Some.is) (running-below (length parts.subs.registry.names) a.running run below.running runs.0) runs.0
+    running-rises parts c.args.grain i run c.requires.reached (distinct-of-unique parts.subs.registry.names c.requires.unique) (sym c.requires.records.long) (sym c.find.ensures.number ∙ c.in-Some.is) (running-below (length parts.subs.registry.names) a.running run below.running runs.0) runs.0
 
 pub returns-in_err-told-clause-assembled : goal.returns-in_err-told-clause-assembled
 returns-in_err-told-clause-assembled c =
@@ -56,14 +55,14 @@ returns-in_err-told-clause-memory c =
     let below = known-at parts i c.requires.assembled c.in-Some.ensures.within in
     let is_current = ap (λ (a : PlainActivation). current_turn a c.args.activation c.args.turn) (sym c.at.ensures.activation) ∙ sym c.in-Some-current_turn.ensures in
     OnErr-since c.from_residual.result _
-    (commit-takes parts c.args.grain i c.args.activation c.args.turn c.args.note c.in-Some-current_turn.run'.now (distinct-of-unique parts.subs.registry.names c.len-names.ensures.unique) (sym c.len-names.ensures.records.long) (sym c.find.ensures.number ∙ c.in-Some.is) below is_current c.in_err-told.ensures.memory)
+    (commit-takes parts c.args.grain i c.args.activation c.args.turn c.args.note c.in-Some-current_turn.run'.now (distinct-of-unique parts.subs.registry.names c.requires.unique) (sym c.requires.records.long) (sym c.find.ensures.number ∙ c.in-Some.is) below is_current c.in_err-told.ensures.memory)
 
 pub returns-clause-assembled : goal.returns-clause-assembled
 returns-clause-assembled c =
     let parts = c.args.parts.now in
     let is_current = ap (λ (a : PlainActivation). current_turn a c.args.activation c.args.turn) (sym c.at.ensures.activation) ∙ sym c.in-Some-current_turn.ensures in
     commit-assembled parts c.args.grain c.in-Some.number c.args.activation c.args.turn c.args.note c.in-Some-current_turn.run'.now c.handle.new.subs c.commit.new.self (reply_of c.in_ok-told.told) c.requires.assembled c.requires.reached
-    (distinct-of-unique parts.subs.registry.names c.len-names.ensures.unique) (sym c.len-names.ensures.records.long) (sym c.find.ensures.number ∙ c.in-Some.is) is_current c.in_ok-told.ensures.performs c.commit.ensures.grains
+    (distinct-of-unique parts.subs.registry.names c.requires.unique) (sym c.requires.records.long) (sym c.find.ensures.number ∙ c.in-Some.is) is_current c.in_ok-told.ensures.performs c.commit.ensures.grains
 
 pub returns-clause-performs : goal.returns-clause-performs
 returns-clause-performs c =
@@ -71,4 +70,4 @@ returns-clause-performs c =
     let i = c.in-Some.number in
     let below = known-at parts i c.requires.assembled c.in-Some.ensures.within in
     let is_current = ap (λ (a : PlainActivation). current_turn a c.args.activation c.args.turn) (sym c.at.ensures.activation) ∙ sym c.in-Some-current_turn.ensures in
-    commit-told parts c.args.grain i c.args.activation c.args.turn c.args.note c.in-Some-current_turn.run'.now c.handle.new.subs c.commit.new.self (reply_of c.in_ok-told.told) (distinct-of-unique parts.subs.registry.names c.len-names.ensures.unique) (sym c.len-names.ensures.records.long) (sym c.find.ensures.number ∙ c.in-Some.is) below is_current c.in_ok-told.ensures.performs c.commit.ensures.grains
+    commit-told parts c.args.grain i c.args.activation c.args.turn c.args.note c.in-Some-current_turn.run'.now c.handle.new.subs c.commit.new.self (reply_of c.in_ok-told.told) (distinct-of-unique parts.subs.registry.names c.requires.unique) (sym c.requires.records.long) (sym c.find.ensures.number ∙ c.in-Some.is) below is_current c.in_ok-told.ensures.performs c.commit.ensures.grains

@@ -1,7 +1,8 @@
 use Rattle.std.proofs.Common.{◌≡◌, ◌<◌, ◌++◌, true, length, sym, ap, ◌∙◌, arith}
 use Rattle.stream_ident.specs.Words.{past}
 use Rattle.consumer_grain.specs.Subscriptions.{rises_from, PlainState}
-use Rattle.consumer_grain.proofs.RisingLemmas.{past_from-any, past_from-append, rises_from-append}
+use Rattle.consumer_grain.proofs.RisingLemmas.{past_from-any, rises_from-append}
+use Rattle.stream_ident.proofs.WordLemmas.{past_from-append}
 use Rattle.consumer_grain.proofs.sub_state.SubState.commit.Goals as goal
 
 pub invariant_of-self-2 : goal.invariant_of-self-2

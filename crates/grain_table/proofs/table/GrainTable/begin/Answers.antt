@@ -1,20 +1,16 @@
-use Rattle.std.proofs.Common.{◌≡◌, ap, sym, ◌∙◌, length, subst, ℕ, ◌<◌, arith}
-use Rattle.std.specs.Prelude.{slice_set}
+use Rattle.std.proofs.Common.{ap, ◌∙◌, length, ◌<◌, arith}
 use Rattle.stream_ident.specs.Words.{change_at}
 use Rattle.consumer_grain.specs.Activations.{begin, PlainActivation}
 use Rattle.consumer_grain.specs.declared.told.Begun.{Begun}
-use Rattle.grain_table.specs.Grains.{PlainGrains}
 use Rattle.grain_table.proofs.ChangeLemmas.{table-written, written}
 use Rattle.grain_table.proofs.table.GrainTable.begin.Goals as goal
 
 pub invariant_of-self : goal.invariant_of-self
 invariant_of-self c =
     let t = c.self.inside in
-    let change : PlainActivation → PlainActivation = λ a. (begin a c.args.past c.args.turn c.args.max_events).0 in
     let within : c.args.number < length t.entries.items = omega (arith, ap length c.self.view_is) in
-    table-written t.entries.items t.order.items t.ranks.items t.ready c.self.invariant change c.args.number within _
-    (written t.entries.items change c.args.number c.index_mut.result.now c.begin-begun.new.self within c.index_mut.ensures.value (ap (λ (r : PlainActivation × Begun). r.0) c.begin-begun.ensures.begun))
-    c.deref.result.now c.deref.ensures.value c.deref-2.result.now c.deref-2.ensures.value c.mark.new.ready c.mark.ensures
+    table-written t.entries.items t.ranking t.ready c.self.invariant c.args.number within c.index_mut.result.now c.index_mut.ensures.value c.begin-begun.new.self
+    c.deref.result.now c.deref.ensures.value c.mark.new.ready c.mark.ensures
 
 pub returns-clause-grains : goal.returns-clause-grains
 returns-clause-grains c =

@@ -5,4 +5,4 @@ use Rattle.grain_table.proofs.table.GrainTable.len.Goals as goal
 
 pub returns-clause-distinct : goal.returns-clause-distinct
 returns-clause-distinct c =
-    subst AreDistinct c.self.view_is (distinct c.self.inside.entries.items c.self.inside.order.items c.self.invariant.ordered)
+    subst AreDistinct c.self.view_is (distinct c.self.inside.entries.items c.self.inside.ranking c.self.invariant.ranked)

@@ -5,12 +5,12 @@ use Rattle.stream_ident.specs.SubName.{same_sub}
 use Rattle.stream_ident.specs.Words.{first_at}
 use Rattle.stream_ident.specs.declared.ident.SubName.{SubName}
 use Rattle.pubsub_registry.proofs.Entries.{Names, first-is}
-use Rattle.pubsub_registry.proofs.NameOrder.{equality-is}
+use Rattle.stream_ident.proofs.NameOrders.{sub_equal-is}
 use Rattle.pubsub_registry.proofs.subscriptions.Subscriptions.find.Goals as goal
 
 pub returns-clause-place : goal.returns-clause-place
 returns-clause-place c =
     let sub = c.args.sub.now in
     let names = c.self.inside.names.entries in
-    subst (λ (same : SubName → SubName → Bool). c.get_index_of.result ≡ position (same sub) (keys_of names)) equality-is c.get_index_of.ensures.index
+    subst (λ (same : SubName → SubName → Bool). c.get_index_of.result ≡ position (same sub) (keys_of names)) sub_equal-is c.get_index_of.ensures.index
     ∙ first-is sub names ∙ ap (λ (names : Names). first_at (λ entry. same_sub sub entry.0) 0 names) c.self.view_is

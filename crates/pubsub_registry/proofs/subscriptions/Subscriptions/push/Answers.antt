@@ -7,7 +7,7 @@ use Rattle.pubsub_registry.specs.Index.{IsIndexed}
 use Rattle.pubsub_registry.specs.Rows.{row_of}
 use Rattle.pubsub_registry.proofs.Entries.{Names, pushed, streams_of-none}
 use Rattle.pubsub_registry.proofs.IndexLemmas.{indexed-same, indexed-push}
-use Rattle.pubsub_registry.proofs.NameOrder.{equal, equality-is}
+use Rattle.stream_ident.proofs.NameOrders.{sub_equal, sub_equal-is}
 use Rattle.indexmap.specs.IndexMap.{insert_entry}
 use Rattle.pubsub_registry.proofs.subscriptions.Subscriptions.push.Goals as goal
 
@@ -30,8 +30,8 @@ invariant_of-self-in_err-put c =
 
 added : (c : goal.After-unwrap) → c.insert.new.self.entries ≡ c.self.inside.names.entries ++ (c.args.sub, c.args.registration) ∷ []
 added c =
-    let put = subst (λ told. OnOk told (c.insert.new.self.entries ≡ insert_entry equal c.reserve.new.self.entries c.args.sub c.args.registration)) c.unwrap.ensures c.insert.ensures.entries in
-    pushed equal equality-is c.reserve.new.self c.args.self.now c.self.inside.names.entries c.insert.new.self.entries c.args.sub c.args.registration c.self.view_is c.reserve.ensures.entries c.requires put
+    let put = subst (λ told. OnOk told (c.insert.new.self.entries ≡ insert_entry sub_equal c.reserve.new.self.entries c.args.sub c.args.registration)) c.unwrap.ensures c.insert.ensures.entries in
+    pushed sub_equal sub_equal-is c.reserve.new.self c.args.self.now c.self.inside.names.entries c.insert.new.self.entries c.args.sub c.args.registration c.self.view_is c.reserve.ensures.entries c.requires put
 
 pub invariant_of-self-2 : goal.invariant_of-self-2
 invariant_of-self-2 c =

@@ -8,19 +8,19 @@ use Rattle.pubsub_registry.specs.Rows.{row_of}
 use Rattle.pubsub_registry.specs.declared.subscriptions.Subscriptions.TheInside.{Inside}
 use Rattle.pubsub_registry.proofs.Entries.{Names, shut-written, shut-unwritten}
 use Rattle.pubsub_registry.proofs.IndexLemmas.{indexed-shut}
-use Rattle.pubsub_registry.proofs.NameOrder.{equal, equality-is}
+use Rattle.stream_ident.proofs.NameOrders.{sub_equal, sub_equal-is}
 use Rattle.pubsub_registry.proofs.subscriptions.Subscriptions.shut.Goals as goal
 use Rattle.pubsub_registry.proofs.subscriptions.Subscriptions.shut.Goals.{in-Some, in_default}
 
 written : (c : goal.Joined-get_mut) → c.match-get_mut.self-inside.names.entries ≡ changed_value same_sub c.args.sub.now shut c.self.inside.names.entries
 written c =
-    let test = ap (λ (same : SubName → SubName → _). same c.args.sub.now) equality-is in
+    let test = ap (λ (same : SubName → SubName → _). same c.args.sub.now) sub_equal-is in
     elim c.match-get_mut.branch [
       | in-Some w ↦
-          shut-written (equal c.args.sub.now) c.args.sub.now test c.self.inside.names.entries c.match-get_mut.self-inside.names.entries w.in-Some.registration.now w.in-Some.ensures.value
+          shut-written (sub_equal c.args.sub.now) c.args.sub.now test c.self.inside.names.entries c.match-get_mut.self-inside.names.entries w.in-Some.registration.now w.in-Some.ensures.value
           (ap (λ (inside : Inside). inside.names.entries) w.self-inside-is ∙ (c.get_mut.follows.holds (shut w.in-Some.registration.now)).0)
       | in_default w ↦
-          shut-unwritten (equal c.args.sub.now) c.args.sub.now test c.self.inside.names.entries c.match-get_mut.self-inside.names.entries w.in_default.ensures.value
+          shut-unwritten (sub_equal c.args.sub.now) c.args.sub.now test c.self.inside.names.entries c.match-get_mut.self-inside.names.entries w.in_default.ensures.value
           (ap (λ (inside : Inside). inside.names.entries) w.self-inside-is ∙ ap (λ map. map.entries) c.get_mut.follows.holds-at-none)
     ]
 

@@ -6,4 +6,4 @@ use Rattle.resume_tree.proofs.resumes.Resumes.least_resume.Goals as goal
 pub returns : goal.returns
 returns c =
     let t = c.self.inside in
-    c.least_key.ensures ∙ least_resume-is t.leaves.items t.order.items t.ranks.items t.resumes t.due c.self.invariant ∙ ap least_resume c.self.view_is
+    c.least_key.ensures ∙ least_resume-is t.leaves.items t.ranking t.resumes t.due c.self.invariant ∙ ap least_resume c.self.view_is

@@ -1,7 +1,7 @@
 use Rattle.std.proofs.Common.{◌≡◌, ◌-◌, Some, None, ap, refl, sym, subst, arith, ◌∙◌}
 use Rattle.stream_model.specs.declared.drain_end.DrainEnd.TheVariants as ending
 use Rattle.stream_model.specs.Draining.{AtSpent, AtTooMany, Astray, commits, drain_all}
-use Rattle.stream_model.proofs.DrainTurns.{turns-since}
+use Rattle.stream_laws.proofs.DrainTurns.{turns-since}
 use Rattle.step_core.specs.DrainPhases.{Ends, halted}
 use Rattle.step_core.proofs.DrainRounds.{drains-ended, drains-stuck, drains-wanting, least_running, never-astray}
 use Rattle.step_core.proofs.partition.Partition.drain.Goals as goal
@@ -12,7 +12,7 @@ returns-in-Some c = record { drains = drains-stuck c.args.self.now c.in-Some.gra
 pub overflow_sub-result : goal.overflow_sub-result
 overflow_sub-result c =
     let since = turns-since c.args.self.now c.drain_all.new.partition c.in-Ok.ensures.0 in
-    omega (arith, since, c.turns.ensures, c.turns-turns.ensures)
+    omega (arith, since, c.turns.ensures.turns, c.turns-turns.ensures.turns)
 
 pub returns-in-Ok : goal.returns-in-Ok
 returns-in-Ok c =
@@ -21,7 +21,7 @@ returns-in-Ok c =
     let since = turns-since p new c.in-Ok.ensures.0 in
     let free : None ≡ least_running p = sym c.in_default.is ∙ c.least_running.ensures in
     let turns = c.turns.result - c.turns-turns.result in
-    let count : commits (drain_all p).entries ≡ turns = omega (arith, since, c.turns.ensures, c.turns-turns.ensures) in
+    let count : commits (drain_all p).entries ≡ turns = omega (arith, since, c.turns.ensures.turns, c.turns-turns.ensures.turns) in
     record { drains = drains-ended p new None (ending.Drained turns) free c.in-Ok.ensures (ap (λ turns. Some (ending.Drained turns)) count) }
 
 pub returns-in-Err-TooMany : goal.returns-in-Err-TooMany
@@ -46,7 +46,7 @@ unreachable-requires c =
     let new = c.drain_all.new.partition in
     let free : None ≡ least_running p = sym c.in_default.is ∙ c.least_running.ensures in
     let ends : Ends p new (Some (Some Astray)) (drain_all p) = subst (λ why. Ends p new (halted why) (drain_all p)) c.in-Err-Astray.field-0-is c.in-Err-Astray.ensures in
-    never-astray p new c.facts.ensures.reached free ends
+    never-astray p new c.turns-turns.ensures.reached free ends
 
 pub returns-in-Err-Memory : goal.returns-in-Err-Memory
 returns-in-Err-Memory c =

@@ -1,9 +1,8 @@
-use Rattle.std.proofs.Common.{◌∙◌, sym, ap, subst, Result}
+use Rattle.std.proofs.Common.{◌∙◌, sym, ap, subst}
 use Rattle.consumer_grain.specs.Subscriptions.{PlainState}
-use Rattle.pulling_agent.specs.declared.told.Retried.{Retried}
-use Rattle.pulling_agent.specs.declared.told.StaleAgent.{StaleAgent}
 use Rattle.subscription_table.specs.LeavesOf.{leaf_of}
 use Rattle.subscription_table.specs.Table.{PlainTable}
+use Rattle.subscription_table.specs.declared.progress.Retried.{Retried}
 use Rattle.subscription_table.proofs.StateLemmas.{fits-retried, leaf-retried}
 use Rattle.subscription_table.proofs.TableLemmas.{Fits, kept}
 use Rattle.subscription_table.proofs.table.SubscriptionTable.retry.Goals as goal
@@ -11,8 +10,8 @@ use Rattle.subscription_table.proofs.table.SubscriptionTable.retry.Goals as goal
 pub invariant_of-self : goal.invariant_of-self
 invariant_of-self c =
     let t : PlainTable = record { registry = c.self.inside.registry; states = c.self.inside.states.items } in
-    let told = (ap (λ (r : PlainState × Result Retried StaleAgent). r.0) c.retry.ensures) in
+    let told = (ap (λ (r : PlainState × Retried). r.0) c.retry.ensures) in
     kept t c.args.self.now c.self.inside.tags.items c.self.inside.resumes c.self.invariant c.self.view_is c.args.number c.requires
     c.index_mut.result.now c.retry.new.state c.index_mut.ensures.value
-    (λ stands. subst (Fits c.index_mut.result.now) (sym told) (fits-retried _ stands c.args.agent.now c.args.generation))
-    (λ entry. ap (leaf_of entry) told ∙ leaf-retried entry c.args.agent.now c.args.generation c.index_mut.result.now)
+    (λ stands. subst (Fits c.index_mut.result.now) (sym told) (fits-retried _ stands))
+    (λ entry. ap (leaf_of entry) told ∙ leaf-retried entry c.index_mut.result.now)

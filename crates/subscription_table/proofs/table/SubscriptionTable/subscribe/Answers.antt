@@ -1,7 +1,6 @@
 use Rattle.std.proofs.Common.{◌≡◌, ◌∙◌, ◌+◌, ◌<◌, ◌++◌, ◌∷◌, [], ℕ, List, false, refl, sym, ap, arith}
 use Rattle.stream_ident.specs.declared.ident.SubName.TheVariants as name
 use Rattle.queue_mapper.specs.Place.{tag_of}
-use Rattle.queue_mapper.specs.declared.target.Place.{Place}
 use Rattle.consumer_grain.specs.Subscriptions.{PlainState, new_state}
 use Rattle.pubsub_registry.specs.Registry.{is_full}
 use Rattle.resume_tree.specs.Leaves.{open_leaf}
@@ -24,7 +23,7 @@ invariant_of-self-in-Ok c =
     let stated : c.push_reserved.new.self.items ≡ t.states ++ new_state c.args.start c.args.position ∷ [] =
     c.push_reserved.ensures.items ∙ ap (λ (states : List PlainState). states ++ c.new.result ∷ []) c.reserve.ensures.items ∙ ap (λ (s : PlainState). t.states ++ s ∷ []) c.new.ensures in
     let tagged : c.push_reserved-in-Ok.new.self.items ≡ c.self.inside.tags.items ++ tag_of c.args.stream ∷ [] =
-    c.push_reserved-in-Ok.ensures.items ∙ ap (λ (tags : List ℕ). tags ++ c.place.result.tag ∷ []) c.reserve-2.ensures.items ∙ ap (λ (p : Place). c.self.inside.tags.items ++ p.tag ∷ []) c.place.ensures.place in
+    c.push_reserved-in-Ok.ensures.items ∙ ap (λ (tags : List ℕ). tags ++ c.tag.result ∷ []) c.reserve-2.ensures.items ∙ ap (λ (n : ℕ). c.self.inside.tags.items ++ n ∷ []) c.tag.ensures in
     let leaved : c.push.new.self ≡ c.self.inside.resumes ++ open_leaf (name.Explicit (c.explicit.result + 1)) c.args.position ∷ [] = c.in_ok-push.ensures in
     table-subscribed t c.self.inside.tags.items c.self.inside.resumes c.self.invariant c.args.position c.requires.position
     c.add.new.self c.args.stream c.args.grain c.args.start c.in-Ok.added not_full (c.in-Ok.ensures).performs c.explicit.result c.explicit.ensures.last

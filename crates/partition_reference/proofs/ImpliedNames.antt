@@ -1,0 +1,132 @@
+-- Which names are in a list of subscriptions, and which come to be in it.
+use Rattle.std.proofs.Math.Bool.{or-false, or_assoc}
+use Rattle.std.proofs.Common.{◌≡◌, ◌∙◌, ap, sym, refl, ℕ, ◌+◌, ◌<◌, ◌&&◌, ◌||◌, not, Bool, true, false, List, [], ◌∷◌, ◌++◌, length, take, drop, get_or, Some, is_some, fold, if◌then◌else◌, arith}
+use Rattle.std.proofs.lemmas.Bool.{not-true, not-false}
+use Rattle.std.proofs.lemmas.Grind.{fold-append}
+use Rattle.std.proofs.lemmas.List.{append-nil, at_drop_more, length_push, take_more}
+use Rattle.std.proofs.lemmas.List.Concat.{flat_map-append}
+use Rattle.std.specs.List.{flat_map}
+use Rattle.stream_ident.specs.declared.event.Event.{Event}
+use Rattle.stream_ident.specs.declared.ident.SubName.{SubName}
+use Rattle.stream_ident.specs.declared.ident.SubName.TheVariants.{Implicit}
+use Rattle.stream_ident.specs.Name.{same_name}
+use Rattle.stream_ident.specs.SubName.{same_sub}
+use Rattle.stream_ident.specs.Token.{token_lt}
+use Rattle.stream_model.specs.declared.plain.Subscription.{Subscription}
+use Rattle.stream_ident.specs.declared.rule.Rule.{Rule}
+use Rattle.stream_ident.specs.Event.{batch_token}
+use Rattle.stream_model.specs.Pulling.{added, implied}
+use Rattle.stream_ident.specs.Words.{value_at}
+use Rattle.stream_ident.proofs.SameValues.{same_sub-equal}
+
+-- whether a name is in a list
+abbrev pub has : SubName → List (SubName × Subscription) → Bool
+has s subs = is_some (value_at same_sub s subs)
+
+pub has-cons : (s : SubName) (entry : SubName × Subscription) (subs : List (SubName × Subscription)) → has s (entry ∷ subs) ≡ same_sub s entry.0 || has s subs
+has-cons s entry subs = by (same_sub s entry.0)
+  where
+    by : (same : Bool) → is_some (if same then Some entry.1 else value_at same_sub s subs) ≡ same || has s subs
+    by true = refl
+    by false = refl
+
+pub has-append : (s : SubName) (xs ys : List (SubName × Subscription)) → has s (xs ++ ys) ≡ has s xs || has s ys
+has-append s [] ys = refl
+has-append s (x ∷ xs) ys =
+    has-cons s x (xs ++ ys) ∙ ap (λ rest. same_sub s x.0 || rest) (has-append s xs ys)
+    ∙ sym (or_assoc (same_sub s x.0) (has s xs) (has s ys)) ∙ ap (λ first. first || has s ys) (sym (has-cons s x xs))
+
+-- a name is there after one is added where it was, or is that one
+has-added : (s : SubName) (subs : List (SubName × Subscription)) (entry : SubName × Subscription) → has s (added subs entry) ≡ has s subs || same_sub s entry.0
+has-added s subs entry = by (has entry.0 subs) refl
+  where
+    same-there : has entry.0 subs ≡ true → (same : Bool) → same_sub s entry.0 ≡ same → has s subs ≡ has s subs || same
+    same-there there true same =
+        let is : has s subs ≡ true = ap (λ name. has name subs) (same_sub-equal s entry.0 same) ∙ there in
+        is ∙ sym (ap (λ b. b || true) is)
+    same-there there false same = sym (or-false (has s subs))
+
+    by : (there : Bool) → has entry.0 subs ≡ there → has s (if there then subs else subs ++ entry ∷ []) ≡ has s subs || same_sub s entry.0
+    by true there = same-there there (same_sub s entry.0) refl
+    by false there =
+        has-append s subs (entry ∷ []) ∙ ap (λ last. has s subs || last) (has-cons s entry [] ∙ or-false (same_sub s entry.0))
+
+-- a name is there after these are added where it was, or is one of them
+pub has-fold : (s : SubName) (subs entries : List (SubName × Subscription)) → has s (fold added subs entries) ≡ has s subs || has s entries
+has-fold s subs [] = sym (or-false (has s subs))
+has-fold s subs (entry ∷ entries) =
+    has-fold s (added subs entry) entries ∙ ap (λ first. first || has s entries) (has-added s subs entry)
+    ∙ or_assoc (has s subs) (same_sub s entry.0) (has s entries) ∙ ap (λ rest. has s subs || rest) (sym (has-cons s entry entries))
+
+-- ---- loops over what is made of each item
+
+-- a name of the first that is left
+pub has-here : {X : Type 0} (made : X → List (SubName × Subscription)) (s : SubName) (xs : List X) (i : ℕ) (x : X) → i < length xs → x ≡ get_or xs i x → has s (made x) ≡ true → has s (flat_map made (drop i xs)) ≡ true
+has-here made s xs i x within is here =
+    at_drop_more (λ rest. has s (flat_map made rest)) xs i x within ∙ ap (λ first. has s (flat_map made (first ∷ drop (i + 1) xs))) (sym is)
+    ∙ has-append s (made x) (flat_map made (drop (i + 1) xs)) ∙ ap (λ first. first || has s (flat_map made (drop (i + 1) xs))) here
+
+-- or of those after it
+pub has-later : {X : Type 0} (made : X → List (SubName × Subscription)) (s : SubName) (xs : List X) (i : ℕ) (x : X) → i < length xs → x ≡ get_or xs i x → has s (made x) ≡ false → has s (flat_map made (drop (i + 1) xs)) ≡ has s (flat_map made (drop i xs))
+has-later made s xs i x within is not_here =
+    sym (at_drop_more (λ rest. has s (flat_map made rest)) xs i x within ∙ ap (λ first. has s (flat_map made (first ∷ drop (i + 1) xs))) (sym is)
+    ∙ has-append s (made x) (flat_map made (drop (i + 1) xs)) ∙ ap (λ first. first || has s (flat_map made (drop (i + 1) xs))) not_here)
+
+-- one item more is added
+pub added-more : {X : Type 0} (made : X → List (SubName × Subscription)) (subs : List (SubName × Subscription)) (xs : List X) (i : ℕ) (x : X) → i < length xs → x ≡ get_or xs i x → fold added subs (flat_map made (take (i + 1) xs)) ≡ fold added (fold added subs (flat_map made (take i xs))) (made x)
+added-more made subs xs i x within is =
+    ap (λ front. fold added subs (flat_map made front)) (take_more xs i x within ∙ ap (λ last. take i xs ++ last ∷ []) (sym is))
+    ∙ ap (fold added subs) (flat_map-append made (take i xs) (x ∷ []) ∙ ap (λ last. flat_map made (take i xs) ++ last) (append-nil (made x)))
+    ∙ fold-append added subs (flat_map made (take i xs)) (made x)
+
+-- ---- how many are added
+
+-- neither there, nor made of earlier events, nor of this one
+pub new-by-parts : (s : SubName) (subs earlier here : List (SubName × Subscription)) → (not (has s subs) && not (has s earlier)) && not (has s here) ≡ not (has s (fold added (fold added subs earlier) here))
+new-by-parts s subs earlier here =
+    by (has s subs) (has s earlier) (has s here)
+    ∙ ap not (ap (λ first. first || has s here) (sym (has-fold s subs earlier)) ∙ sym (has-fold s (fold added subs earlier) here))
+  where
+    by : (a b c : Bool) → (not a && not b) && not c ≡ not ((a || b) || c)
+    by true b c = refl
+    by false true c = refl
+    by false false c = refl
+
+-- the name of what a rule makes of an event, and whether it makes something
+abbrev pub implied_name : Event → Rule → SubName
+implied_name event rule = Implicit rule.kind event.stream
+
+abbrev pub is_implied : Event → Rule → Bool
+is_implied event rule = same_name event.stream.namespace rule.namespace && not (token_lt event.token (batch_token rule.from))
+
+-- one more where the rule makes a new name
+pub one-more : (subs : List (SubName × Subscription)) (position : ℕ) (event : Event) (rule : Rule) → is_implied event rule ≡ true → not (has (implied_name event rule) subs) ≡ true → length (fold added subs (implied position event rule)) ≡ length subs + 1
+one-more subs position event rule makes new =
+    let absent = not-true (has (implied_name event rule) subs) new in
+    rw makes (rw absent (length_push subs _))
+
+-- none more where it makes a name that is known
+pub none-known : (subs : List (SubName × Subscription)) (position : ℕ) (event : Event) (rule : Rule) → is_implied event rule ≡ true → not (has (implied_name event rule) subs) ≡ false → length (fold added subs (implied position event rule)) ≡ length subs
+none-known subs position event rule makes known =
+    let there = not-false (has (implied_name event rule) subs) known in
+    rw makes (rw there refl)
+
+-- or where it makes none
+pub none-made : (subs : List (SubName × Subscription)) (position : ℕ) (event : Event) (rule : Rule) → is_implied event rule ≡ false → length (fold added subs (implied position event rule)) ≡ length subs
+none-made subs position event rule makes_none = rw makes_none refl
+
+-- the outcomes of asking one after another
+pub new-at-last : (s : SubName) (subs earlier here : List (SubName × Subscription)) → has s subs ≡ false → has s earlier ≡ false → not (has s here) ≡ not (has s (fold added (fold added subs earlier) here))
+new-at-last s subs earlier here absent not_made =
+    ap (λ b. (true && not b) && not (has s here)) (sym not_made) ∙ ap (λ b. (not b && not (has s earlier)) && not (has s here)) (sym absent) ∙ new-by-parts s subs earlier here
+
+pub known-there : (s : SubName) (subs earlier here : List (SubName × Subscription)) → has s subs ≡ true → false ≡ not (has s (fold added (fold added subs earlier) here))
+known-there s subs earlier here there = ap (λ b. (not b && not (has s earlier)) && not (has s here)) (sym there) ∙ new-by-parts s subs earlier here
+
+pub known-made : (s : SubName) (subs earlier here : List (SubName × Subscription)) → has s subs ≡ false → has s earlier ≡ true → false ≡ not (has s (fold added (fold added subs earlier) here))
+known-made s subs earlier here absent made =
+    ap (λ b. (true && not b) && not (has s here)) (sym made) ∙ ap (λ b. (not b && not (has s earlier)) && not (has s here)) (sym absent) ∙ new-by-parts s subs earlier here
+
+-- a count that went up by one
+pub one-further : (held count next : ℕ) → next ≡ count + 1 → held + count + 1 ≡ held + next
+one-further held count next is = omega arith

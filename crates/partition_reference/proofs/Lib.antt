@@ -1,0 +1,11 @@
+pub mod AcknowledgingLemmas
+pub mod DeactivatingLemmas
+pub mod Handing
+pub mod ImpliedNames
+pub mod MovingLemmas
+pub mod NameOrder
+pub mod PurgingLemmas
+pub mod RulesLemmas
+pub mod SlowestName
+pub mod SlowestResume
+pub mod UnsubscribingLemmas

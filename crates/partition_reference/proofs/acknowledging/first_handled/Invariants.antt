@@ -1,0 +1,12 @@
+use Rattle.std.proofs.Common.{◌≡◌, ◌<◌, drop, filter, length}
+use Rattle.std.specs.List.{slice_get, AllByRecursion}
+use Rattle.stream_ident.specs.Token.{same_token}
+use Rattle.stream_model.specs.Positions.{token_at}
+use Rattle.stream_model.specs.Pulling.{handled_at}
+use Rattle.partition_reference.proofs.acknowledging.first_handled.Given as goal
+
+abbrev pub invariant-loop-position : goal.invariant-loop-position
+invariant-loop-position l = record {
+  none : slice_get (filter (λ position. same_token (token_at l.p position) l.token) (drop l.position-index l.position-items)) 0 ≡ slice_get (handled_at l.p l.sub l.token) 0;
+  rest : AllByRecursion (λ position. position < length l.p.log) (drop l.position-index l.position-items);
+}

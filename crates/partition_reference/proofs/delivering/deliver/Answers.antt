@@ -1,0 +1,38 @@
+use Rattle.std.proofs.Common.{◌≡◌, true, sym, subst, ◌∙◌}
+use Rattle.std.specs.Prelude.{OnErr}
+use Rattle.stream_model.specs.declared.plain.PlainPartition.{PlainPartition}
+use Rattle.stream_model.specs.declared.reply.Reply.{Reply}
+use Rattle.stream_model.specs.Step.{takes_memory}
+use Rattle.stream_ident.specs.Words.{Performs}
+use Rattle.partition_reference.proofs.Handing.{deliver-stale, deliver-unknown, deliver-closed, deliver-nothing, deliver-found}
+use Rattle.partition_reference.proofs.delivering.deliver.Goals as goal
+
+pub returns-then-generation-p-clause-performs : goal.returns-then-generation-p-clause-performs
+returns-then-generation-p-clause-performs c = deliver-stale c.args.p.now c.args.generation c.args.sub c.if-generation-p.true
+
+pub returns-in_default-clause-performs : goal.returns-in_default-clause-performs
+returns-in_default-clause-performs c =
+    deliver-unknown c.args.p.now c.args.generation c.args.sub c.if-generation-p.false (sym c.place_of_sub.ensures ∙ c.in_default.is)
+
+pub returns-then-not-found-clause-performs : goal.returns-then-not-found-clause-performs
+returns-then-not-found-clause-performs c =
+    deliver-closed c.args.p.now c.args.generation c.args.sub c.sub_in-found.result.now c.if-generation-p.false c.sub_in-found.ensures c.if-not-found.true
+
+pub returns-in_default-next_position-clause-performs : goal.returns-in_default-next_position-clause-performs
+returns-in_default-next_position-clause-performs c =
+    deliver-nothing c.args.p.now c.args.generation c.args.sub c.sub_in-found.result.now c.catch_up.new.p c.if-generation-p.false c.sub_in-found.ensures c.if-not-found.false
+    (sym c.next_position.ensures.exact ∙ c.in_default-next_position.is) (c.catch_up.ensures c.sub_in-found.result.now c.sub_in-found.ensures)
+
+pub returns-clause-performs : goal.returns-clause-performs
+returns-clause-performs c =
+    let p = c.args.p.now in
+    let found = c.sub_in-found.result.now in
+    let same = deliver-found p c.args.generation c.args.sub found c.in-Some-next_position.position c.if-generation-p.false c.sub_in-found.ensures c.if-not-found.false (sym c.next_position.ensures.exact ∙ c.in-Some-next_position.is) in
+    subst (Performs p c.deliver_position.new.p c.deliver_position.result) same (c.deliver_position.ensures.performs found c.sub_in-found.ensures)
+
+pub returns-clause-memory : goal.returns-clause-memory
+returns-clause-memory c =
+    let p = c.args.p.now in
+    let found = c.sub_in-found.result.now in
+    let same = deliver-found p c.args.generation c.args.sub found c.in-Some-next_position.position c.if-generation-p.false c.sub_in-found.ensures c.if-not-found.false (sym c.next_position.ensures.exact ∙ c.in-Some-next_position.is) in
+    subst (λ (stepped : PlainPartition × Reply). OnErr c.deliver_position.result (takes_memory stepped.1 ≡ true)) same (c.deliver_position.ensures.memory found c.sub_in-found.ensures)

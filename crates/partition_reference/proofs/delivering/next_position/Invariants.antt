@@ -1,0 +1,10 @@
+use Rattle.std.proofs.Common.{◌≡◌}
+use Rattle.stream_ident.specs.Event.{is_owed}
+use Rattle.stream_model.specs.Positions.{between}
+use Rattle.stream_ident.specs.Words.{first_at}
+use Rattle.partition_reference.proofs.delivering.next_position.Given as goal
+
+abbrev pub invariant-loop-position : goal.invariant-loop-position
+invariant-loop-position l =
+    first_at (λ event. is_owed l.sub.stream l.sub.start event) l.position (between l.log l.position l.high)
+    ≡ first_at (λ event. is_owed l.sub.stream l.sub.start event) l.sub.cursor (between l.log l.sub.cursor l.high)

@@ -1,0 +1,6 @@
+use Rattle.std.proofs.Common.{◌≡◌, drop}
+use Rattle.stream_model.specs.Positions.{waiting_in}
+use Rattle.partition_reference.proofs.delivering.waits_in.Given as goal
+
+abbrev pub invariant-loop-delivery : goal.invariant-loop-delivery
+invariant-loop-delivery l = waiting_in l.sub (drop l.delivery-index l.delivery-items) ≡ waiting_in l.sub l.mailbox

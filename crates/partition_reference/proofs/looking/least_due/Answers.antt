@@ -1,0 +1,25 @@
+use Rattle.std.proofs.Common.{◌≡◌, ◌∙◌, ◌-◌, ◌<◌, ap, sym, length, drop, Some, arith}
+use Rattle.stream_ident.specs.SubName.{sub_lt}
+use Rattle.stream_model.specs.Looks.{is_due}
+use Rattle.stream_model.specs.Least.{least_key}
+use Rattle.stream_model.proofs.LeastKey.{least_key-end, least_key-there, least_key-not}
+use Rattle.partition_reference.proofs.looking.least_due.Goals as goal
+
+pub loop-index-init : goal.loop-index-init
+loop-index-init c = least_key-end sub_lt c.args.after.now (is_due c.args.p.now) c.as_slice-subs.result.now (length c.as_slice-subs.result.now) (omega arith)
+
+pub loop-index-preserved-then-is_due_after : goal.loop-index-preserved-then-is_due_after
+loop-index-preserved-then-is_due_after c =
+    let within : c.loop-index.index - 1 < length c.as_slice-subs.result.now = omega arith in
+    ap Some c.lesser_name.ensures ∙ least_key-there sub_lt c.args.after.now (is_due c.args.p.now) c.as_slice-subs.result.now c.loop-index.index c.index-subs-index.result c.loop-index.least c.loop-index-test.true within c.index-subs-index.is (sym c.is_due_after.ensures ∙ c.if-is_due_after.true) c.loop-index.invariant
+
+pub loop-index-preserved : goal.loop-index-preserved
+loop-index-preserved c =
+    let within : c.loop-index.index - 1 < length c.as_slice-subs.result.now = omega arith in
+    least_key-not sub_lt c.args.after.now (is_due c.args.p.now) c.as_slice-subs.result.now c.loop-index.index c.index-subs-index.result c.loop-index.least c.loop-index-test.true within c.index-subs-index.is (sym c.is_due_after.ensures ∙ c.if-is_due_after.false) c.loop-index.invariant
+
+pub returns : goal.returns
+returns c =
+    let first : c.loop-index.index ≡ 0 = omega arith in
+    c.loop-index.invariant ∙ ap (λ n. least_key sub_lt c.args.after.now (is_due c.args.p.now) (drop n c.as_slice-subs.result.now)) first
+    ∙ ap (least_key sub_lt c.args.after.now (is_due c.args.p.now)) c.as_slice-subs.ensures

@@ -1,0 +1,6 @@
+use Rattle.std.proofs.Common.{◌≡◌, ◌++◌, take}
+use Rattle.stream_ident.specs.Event.{events_of}
+use Rattle.partition_reference.proofs.publishing.push_events.Given as goal
+
+abbrev pub invariant-loop-idx : goal.invariant-loop-idx
+invariant-loop-idx l = l.log.items ≡ l.initial.log.items ++ events_of l.stream l.seq 0 (take l.idx l.payloads)

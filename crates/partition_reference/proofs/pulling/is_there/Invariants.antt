@@ -1,0 +1,6 @@
+use Rattle.std.proofs.Common.{◌≡◌, drop}
+use Rattle.partition_reference.proofs.ImpliedNames.{has}
+use Rattle.partition_reference.proofs.pulling.is_there.Given as goal
+
+abbrev pub invariant-loop-other : goal.invariant-loop-other
+invariant-loop-other l = has l.name (drop l.other-index l.subs) ≡ has l.name l.subs

@@ -1,0 +1,7 @@
+use Rattle.std.proofs.Common.{◌≡◌, ℕ, drop}
+use Rattle.stream_model.specs.Pulling.{all_implied}
+use Rattle.partition_reference.proofs.ImpliedNames.{has}
+use Rattle.partition_reference.proofs.pulling.makes.Given as goal
+
+abbrev pub invariant-loop-event : goal.invariant-loop-event
+invariant-loop-event l = (position : ℕ) → has l.name (all_implied l.rules position (drop l.event-index l.events)) ≡ has l.name (all_implied l.rules position l.events)

@@ -1,0 +1,9 @@
+use Rattle.std.proofs.Common.{◌≡◌, ◌+◌, ◌++◌, drop, length}
+use Rattle.stream_model.specs.Positions.{events_at}
+use Rattle.partition_reference.proofs.turns.turn_events.Given as goal
+
+abbrev pub invariant-loop-position : goal.invariant-loop-position
+invariant-loop-position l = record {
+  count : length l.events ≡ l.position-index + 1;
+  rest : l.events ++ events_at l.log (drop l.position-index l.position-items) ≡ events_at l.log l.positions;
+}

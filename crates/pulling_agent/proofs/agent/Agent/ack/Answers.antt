@@ -1,8 +1,0 @@
-use Rattle.std.proofs.Common.{length, arith}
-use Rattle.pulling_agent.proofs.HandledLemmas.{past_within}
-use Rattle.pulling_agent.proofs.agent.Agent.ack.Goals as goal
-
-pub prove-unreachable-requires : goal.prove-unreachable-requires
-prove-unreachable-requires c =
-    let within = past_within 0 (length c.args.queue.now.events) c.args.state.now.handled (omega arith) c.requires in
-    omega (arith, within, c.past.ensures, c.if-prove.true, c.len.ensures.count)

@@ -1,0 +1,52 @@
+-- The first that passes, by its place.
+use Rattle.std.proofs.Common.{◌≡◌, ◌∙◌, ap, refl, ℕ, zero, suc, ◌+◌, ◌<◌, Bool, true, false, List, [], ◌∷◌, length, get_or, Option, Some, None, arith}
+use Rattle.std.specs.Prelude.{if◌then◌else◌}
+use Rattle.stream_ident.specs.Words.{first_at}
+
+pub first_at-there : {A : Type 0} (passes : A → Bool) (n : ℕ) (xs : List A) (d : A) (i : ℕ) → i < length xs → passes (get_or xs i d) ≡ true → ((j : ℕ) → j < i → passes (get_or xs j d) ≡ false) → first_at passes n xs ≡ Some (n + i)
+first_at-there passes n [] d i within is before = absurd (omega arith)
+first_at-there passes n (x ∷ xs) d zero within is before = let same : n ≡ n + 0 = omega arith in rw is (ap {B = Option ℕ} Some same)
+first_at-there passes n (x ∷ xs) d (suc i) within is before =
+    let here : passes x ≡ false = before 0 (omega arith) in
+    let same : suc n + i ≡ n + suc i = omega arith in
+    rw here (first_at-there passes (suc n) xs d i (omega arith) is (λ j less. before (suc j) (omega arith)) ∙ ap {B = Option ℕ} Some same)
+
+pub first_at-nowhere : {A : Type 0} (passes : A → Bool) (n : ℕ) (xs : List A) (d : A) → ((j : ℕ) → j < length xs → passes (get_or xs j d) ≡ false) → first_at passes n xs ≡ None
+first_at-nowhere passes n [] d none = refl
+first_at-nowhere passes n (x ∷ xs) d none =
+    let here : passes x ≡ false = none 0 (omega arith) in
+    rw here (first_at-nowhere passes (suc n) xs d (λ j less. none (suc j) (omega arith)))
+
+-- where it was found
+pub record IsFirst {A : Type 0} (passes : A → Bool) (n : ℕ) (xs : List A) (d : A) (found : ℕ) : Type 0 where
+  pub place : ℕ
+  pub at : found ≡ n + place
+  pub within : place < length xs
+  pub is : passes (get_or xs place d) ≡ true
+  pub before : (j : ℕ) → j < place → passes (get_or xs j d) ≡ false
+
+pub first_at-Some : {A : Type 0} (passes : A → Bool) (n : ℕ) (xs : List A) (d : A) (found : ℕ) → first_at passes n xs ≡ Some found → IsFirst passes n xs d found
+first_at-Some passes n [] d found e = absurd (cc)
+first_at-Some {A} passes n (x ∷ xs) d found e = by (passes x) refl e (λ later. first_at-Some passes (suc n) xs d found later)
+  where
+    past : passes x ≡ false → (rest : IsFirst passes (suc n) xs d found) → (j : ℕ) → j < suc rest.place → passes (get_or (x ∷ xs) j d) ≡ false
+    past is rest zero less = is
+    past is rest (suc j) less = rest.before j (omega arith)
+
+    by : (b : Bool) → passes x ≡ b → (if b then Some n else first_at passes (suc n) xs) ≡ Some found → (first_at passes (suc n) xs ≡ Some found → IsFirst passes (suc n) xs d found) → IsFirst passes n (x ∷ xs) d found
+    by true is e rest =
+        let same : n ≡ found = cc in
+        record { place = 0; at = omega arith; within = omega arith; is = is; before = λ j less. absurd (omega arith) }
+    by false is e rest =
+        let first = rest e in
+        record { place = suc first.place; at = omega (arith, first.at); within = omega (arith, first.within); is = first.is; before = past is first }
+
+pub first_at-None : {A : Type 0} (passes : A → Bool) (n : ℕ) (xs : List A) (d : A) → first_at passes n xs ≡ None → (j : ℕ) → j < length xs → passes (get_or xs j d) ≡ false
+first_at-None passes n [] d e j within = absurd (omega arith)
+first_at-None {A} passes n (x ∷ xs) d e j within = by (passes x) refl e (λ later. first_at-None passes (suc n) xs d later) j within
+  where
+    by : (b : Bool) → passes x ≡ b → (if b then Some n else first_at passes (suc n) xs) ≡ None → (first_at passes (suc n) xs ≡ None → (j : ℕ) → j < length xs → passes (get_or xs j d) ≡ false)
+        → (j : ℕ) → j < length (x ∷ xs) → passes (get_or (x ∷ xs) j d) ≡ false
+    by true is e rest j within = absurd (cc)
+    by false is e rest zero within = is
+    by false is e rest (suc j) within = rest e j (omega arith)

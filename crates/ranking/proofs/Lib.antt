@@ -1,0 +1,4 @@
+pub mod EntryLemmas
+pub mod FirstLemmas
+pub mod LeastLemmas
+pub mod RankLemmas

@@ -1,0 +1,9 @@
+pub mod Fields
+pub mod Forms
+pub mod Grammar
+pub mod Lexer
+pub mod Lines
+pub mod Pieces
+pub mod Reading
+pub mod Spelling
+pub mod Verbs

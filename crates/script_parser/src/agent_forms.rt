@@ -1,0 +1,248 @@
+//! What stands behind the verbs of pulling agents and workers.
+ghost use Rattle.std.specs.Prelude.{◌≡◌, map};
+ghost use Rattle.script_parser.specs.Forms.{pull_words, pull_fields, deliver_words, retry_words, ack_words, ack_fields, purge_words, purge_fields, move_words, begin_words, begin_one, begin_most, commit_words, commit_fields, deactivate_words, ready_words, due_words};
+
+use crate::command::{Command, FaultKind};
+use crate::fields;
+use stream_model::Op;
+
+/// `pull Q GEN MAX`
+pub(crate) fn pull(words: &[&[u8]], queues: usize) -> Result<Command, FaultKind>
+    ensures { result ≡ pull_words queues (map (λ word. word.now) words.now) }
+{
+    match words {
+        [queue, generation, max] => pull_fields(queue, generation, max, queues),
+        _ => Err(FaultKind::WordCount),
+    }
+}
+
+#[tactic(auto, unfolding(crate::specs::Forms::pull_fields))]
+fn pull_fields(
+    queue: &[u8],
+    generation: &[u8],
+    max: &[u8],
+    queues: usize,
+) -> Result<Command, FaultKind>
+    ensures { result ≡ pull_fields queues queue.now generation.now max.now }
+{
+    let queue = fields::queue(queue, queues)?;
+    let generation = fields::number(generation)?;
+    let max = fields::short_number(max)?;
+    Ok(Command::on_queue(queue, Op::Pull { generation, max }))
+}
+
+/// `deliver GEN SUB`
+#[tactic(auto, unfolding(crate::specs::Forms::deliver_fields))]
+pub(crate) fn deliver(words: &[&[u8]], queues: usize) -> Result<Command, FaultKind>
+    ensures { result ≡ deliver_words queues (map (λ word. word.now) words.now) }
+{
+    let [generation, sub] = words else {
+        return Err(FaultKind::WordCount);
+    };
+    let generation = fields::number(generation)?;
+    let (queue, sub) = fields::sub(sub, queues)?;
+    Ok(Command::on_queue(queue, Op::Deliver { generation, sub }))
+}
+
+/// `retry GEN SUB`
+#[tactic(auto, unfolding(crate::specs::Forms::retry_fields))]
+pub(crate) fn retry(words: &[&[u8]], queues: usize) -> Result<Command, FaultKind>
+    ensures { result ≡ retry_words queues (map (λ word. word.now) words.now) }
+{
+    let [generation, sub] = words else {
+        return Err(FaultKind::WordCount);
+    };
+    let generation = fields::number(generation)?;
+    let (queue, sub) = fields::sub(sub, queues)?;
+    Ok(Command::on_queue(queue, Op::Retry { generation, sub }))
+}
+
+/// `ack GEN SUB TOKEN`
+pub(crate) fn ack(words: &[&[u8]], queues: usize) -> Result<Command, FaultKind>
+    ensures { result ≡ ack_words queues (map (λ word. word.now) words.now) }
+{
+    match words {
+        [generation, sub, token] => ack_fields(generation, sub, token, queues),
+        _ => Err(FaultKind::WordCount),
+    }
+}
+
+#[tactic(auto, unfolding(crate::specs::Forms::ack_fields))]
+fn ack_fields(
+    generation: &[u8],
+    sub: &[u8],
+    token: &[u8],
+    queues: usize,
+) -> Result<Command, FaultKind>
+    ensures { result ≡ ack_fields queues generation.now sub.now token.now }
+{
+    let generation = fields::number(generation)?;
+    let (queue, sub) = fields::sub(sub, queues)?;
+    let token = fields::token(token)?;
+    Ok(Command::on_queue(
+        queue,
+        Op::Ack {
+            generation,
+            sub,
+            token,
+        },
+    ))
+}
+
+/// `purge Q GEN KEEP`
+pub(crate) fn purge(words: &[&[u8]], queues: usize) -> Result<Command, FaultKind>
+    ensures { result ≡ purge_words queues (map (λ word. word.now) words.now) }
+{
+    match words {
+        [queue, generation, keep] => purge_fields(queue, generation, keep, queues),
+        _ => Err(FaultKind::WordCount),
+    }
+}
+
+#[tactic(auto, unfolding(crate::specs::Forms::purge_fields))]
+fn purge_fields(
+    queue: &[u8],
+    generation: &[u8],
+    keep: &[u8],
+    queues: usize,
+) -> Result<Command, FaultKind>
+    ensures { result ≡ purge_fields queues queue.now generation.now keep.now }
+{
+    let queue = fields::queue(queue, queues)?;
+    let generation = fields::number(generation)?;
+    let keep = fields::short_number(keep)?;
+    Ok(Command::on_queue(queue, Op::Purge { generation, keep }))
+}
+
+/// `move Q SILO`
+#[tactic(auto, unfolding(crate::specs::Forms::move_fields))]
+pub(crate) fn move_queue(words: &[&[u8]], queues: usize) -> Result<Command, FaultKind>
+    ensures { result ≡ move_words queues (map (λ word. word.now) words.now) }
+{
+    let [queue, silo] = words else {
+        return Err(FaultKind::WordCount);
+    };
+    let queue = fields::queue(queue, queues)?;
+    let silo = fields::silo(silo)?;
+    Ok(Command::on_queue(queue, Op::Move { silo }))
+}
+
+/// `begin Q GRAIN` or `begin Q GRAIN MAX`
+pub(crate) fn begin(words: &[&[u8]], queues: usize) -> Result<Command, FaultKind>
+    ensures { result ≡ begin_words queues (map (λ word. word.now) words.now) }
+{
+    match words {
+        [queue, grain] => begin_one(queue, grain, queues),
+        [queue, grain, max] => begin_most(queue, grain, max, queues),
+        _ => Err(FaultKind::WordCount),
+    }
+}
+
+#[tactic(auto, unfolding(crate::specs::Forms::begin_one))]
+fn begin_one(queue: &[u8], grain: &[u8], queues: usize) -> Result<Command, FaultKind>
+    ensures { result ≡ begin_one queues queue.now grain.now }
+{
+    let queue = fields::queue(queue, queues)?;
+    let grain = fields::grain(grain)?;
+    Ok(Command::on_queue(queue, Op::Begin { grain, max: 1 }))
+}
+
+#[tactic(auto, unfolding(crate::specs::Forms::begin_most))]
+fn begin_most(queue: &[u8], grain: &[u8], max: &[u8], queues: usize) -> Result<Command, FaultKind>
+    ensures { result ≡ begin_most queues queue.now grain.now max.now }
+{
+    let queue = fields::queue(queue, queues)?;
+    let grain = fields::grain(grain)?;
+    let max = fields::short_number(max)?;
+    Ok(Command::on_queue(queue, Op::Begin { grain, max }))
+}
+
+/// `commit Q GRAIN ACTIVATION TURN NOTE`
+pub(crate) fn commit(words: &[&[u8]], queues: usize) -> Result<Command, FaultKind>
+    ensures { result ≡ commit_words queues (map (λ word. word.now) words.now) }
+{
+    match words {
+        [queue, grain, activation, turn, note] => {
+            commit_fields(queue, grain, activation, turn, note, queues)
+        }
+        _ => Err(FaultKind::WordCount),
+    }
+}
+
+#[tactic(auto, unfolding(crate::specs::Forms::commit_fields))]
+fn commit_fields(
+    queue: &[u8],
+    grain: &[u8],
+    activation: &[u8],
+    turn: &[u8],
+    note: &[u8],
+    queues: usize,
+) -> Result<Command, FaultKind>
+    ensures { result ≡ commit_fields queues queue.now grain.now activation.now turn.now note.now }
+{
+    let queue = fields::queue(queue, queues)?;
+    let grain = fields::grain(grain)?;
+    let activation = fields::number(activation)?;
+    let turn = fields::number(turn)?;
+    let note = fields::number(note)?;
+    Ok(Command::on_queue(
+        queue,
+        Op::Commit {
+            grain,
+            activation,
+            turn,
+            note,
+        },
+    ))
+}
+
+/// `deactivate Q GRAIN`
+#[tactic(auto, unfolding(crate::specs::Forms::deactivate_fields))]
+pub(crate) fn deactivate(words: &[&[u8]], queues: usize) -> Result<Command, FaultKind>
+    ensures { result ≡ deactivate_words queues (map (λ word. word.now) words.now) }
+{
+    let [queue, grain] = words else {
+        return Err(FaultKind::WordCount);
+    };
+    let queue = fields::queue(queue, queues)?;
+    let grain = fields::grain(grain)?;
+    Ok(Command::on_queue(queue, Op::Deactivate { grain }))
+}
+
+/// `ready Q` or `ready Q GRAIN`
+#[tactic(auto, unfolding(crate::specs::Forms::ready_first, crate::specs::Forms::ready_after))]
+pub(crate) fn ready(words: &[&[u8]], queues: usize) -> Result<Command, FaultKind>
+    ensures { result ≡ ready_words queues (map (λ word. word.now) words.now) }
+{
+    match words {
+        [queue] => {
+            let queue = fields::queue(queue, queues)?;
+            Ok(Command::on_queue(queue, Op::Ready { after: None }))
+        }
+        [queue, grain] => {
+            let queue = fields::queue(queue, queues)?;
+            let after = Some(fields::grain(grain)?);
+            Ok(Command::on_queue(queue, Op::Ready { after }))
+        }
+        _ => Err(FaultKind::WordCount),
+    }
+}
+
+/// `due Q` or `due Q SUB`
+#[tactic(auto, unfolding(crate::specs::Forms::due_first, crate::specs::Forms::due_after))]
+pub(crate) fn due(words: &[&[u8]], queues: usize) -> Result<Command, FaultKind>
+    ensures { result ≡ due_words queues (map (λ word. word.now) words.now) }
+{
+    match words {
+        [queue] => {
+            let queue = fields::queue(queue, queues)?;
+            Ok(Command::on_queue(queue, Op::Due { after: None }))
+        }
+        [queue, sub] => {
+            let queue = fields::queue(queue, queues)?;
+            let after = Some(fields::own_sub(sub, queue, queues)?);
+            Ok(Command::on_queue(queue, Op::Due { after }))
+        }
+        _ => Err(FaultKind::WordCount),
+    }
+}

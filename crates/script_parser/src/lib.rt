@@ -1,0 +1,15 @@
+//! The lines of a script, and the command that each of them is, or its first fault.
+#![tactic(auto)]
+
+mod agent_forms;
+mod command;
+mod fields;
+mod forms;
+mod lines;
+mod parse;
+mod pieces;
+mod verb;
+
+pub use command::{Command, EachOp, Fault, FaultKind, Mode, Parsed};
+pub use lines::Lines;
+pub use parse::parse_line;

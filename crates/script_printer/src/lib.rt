@@ -1,0 +1,9 @@
+//! What a script's simulation prints: the texts of replies, of the ends of drains, and of the report.
+#![tactic(auto)]
+
+mod parts;
+mod report;
+mod text;
+
+pub use report::report_text;
+pub use text::{drain_line, drain_text, reply_line, reply_text};

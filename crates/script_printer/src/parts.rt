@@ -1,0 +1,108 @@
+//! What the texts of replies and of the report are made of: numbers, tokens, names and payloads.
+ghost use Rattle.std.specs.Prelude.{◌≡◌, ◌++◌, [], ◌∷◌};
+ghost use Rattle.std.specs.Fmt.{decimal};
+ghost use Rattle.stream_ident.specs.Token.{token_text};
+ghost use Rattle.script_parser.specs.Pieces.{Text, spelling, escaped};
+ghost use Rattle.script_parser.specs.Spelling.{stream_text, grain_text, name_text};
+ghost use Rattle.script_printer.specs.Writing.{Writes};
+
+use itoa::Buffer;
+use std::alloc::AllocError;
+use stream_ident::{GrainId, Name, Payload, StreamId, SubName, Token};
+
+/// A number in decimal behind a text.
+pub(crate) fn push_count(before: &[u8], count: u64, out: &mut Vec<u8>) -> Result<(), AllocError>
+    ensures { Writes out.old.items out.new.items result (before.now ++ decimal count) }
+{
+    out.extend_from_slice(before)?;
+    let mut digits = Buffer::new();
+    out.extend_from_slice(digits.format(count).as_bytes())
+}
+
+/// A token behind a text.
+pub(crate) fn push_placed(before: &[u8], token: Token, out: &mut Vec<u8>) -> Result<(), AllocError>
+    ensures { Writes out.old.items out.new.items result (before.now ++ token_text token) }
+{
+    push_count(before, token.seq, out)?;
+    push_count(b".", u64::from(token.idx), out)
+}
+
+/// Two names behind a text, joined by `/`.
+pub(crate) fn push_pair(
+    before: &[u8],
+    first: &Name,
+    second: &Name,
+    out: &mut Vec<u8>,
+) -> Result<(), AllocError>
+    ensures { Writes out.old.items out.new.items result (before.now ++ first.now ++ 47 ∷ second.now) }
+{
+    out.extend_from_slice(before)?;
+    out.extend_from_slice(first.as_bytes())?;
+    out.push(b'/')?;
+    out.extend_from_slice(second.as_bytes())
+}
+
+/// A grain behind a text.
+pub(crate) fn push_grain(
+    before: &[u8],
+    grain: &GrainId,
+    out: &mut Vec<u8>,
+) -> Result<(), AllocError>
+    ensures { Writes out.old.items out.new.items result (before.now ++ grain_text grain.now) }
+{
+    push_pair(before, &grain.kind, &grain.key, out)
+}
+
+/// The name of a subscription behind a text.
+pub(crate) fn push_named(before: &[u8], sub: &SubName, out: &mut Vec<u8>) -> Result<(), AllocError>
+    ensures { Writes out.old.items out.new.items result (before.now ++ name_text sub.now) }
+{
+    match sub {
+        SubName::Explicit(number) => push_count(before, u64::from(*number), out),
+        SubName::Implicit { kind, stream } => push_implicit(before, kind, stream, out),
+    }
+}
+
+/// The name of an implicit subscription behind a text.
+fn push_implicit(
+    before: &[u8],
+    kind: &Name,
+    stream: &StreamId,
+    out: &mut Vec<u8>,
+) -> Result<(), AllocError>
+    ensures { Writes out.old.items out.new.items result (before.now ++ kind.now ++ 64 ∷ stream_text stream.now) }
+{
+    out.extend_from_slice(before)?;
+    out.extend_from_slice(kind.as_bytes())?;
+    push_pair(b"@", &stream.namespace, &stream.key, out)
+}
+
+/// A payload as it stands in a line: in quotes, behind a space.
+pub(crate) fn push_quoted(payload: &Payload, out: &mut Vec<u8>) -> Result<(), AllocError>
+    ensures { Writes out.old.items out.new.items result (32 ∷ spelling (Text payload.now)) }
+{
+    out.extend_from_slice(b" \"")?;
+    push_escaped(payload.as_bytes(), out)?;
+    out.push(b'"')?;
+    Ok(())
+}
+
+/// Bytes, with a backslash in front of each quote and each backslash.
+fn push_escaped(bytes: &[u8], out: &mut Vec<u8>) -> Result<(), AllocError>
+    ensures { Writes out.old.items out.new.items result (escaped bytes.now) }
+{
+    for byte in bytes {
+        push_byte(*byte, out)?;
+    }
+    Ok(())
+}
+
+/// A byte of a text in quotes.
+fn push_byte(byte: u8, out: &mut Vec<u8>) -> Result<(), AllocError>
+    ensures { Writes out.old.items out.new.items result (escaped (byte ∷ [])) }
+{
+    if byte == b'"' || byte == b'\\' {
+        return out.extend_from_slice(&[b'\\', byte]);
+    }
+    out.extend_from_slice(&[byte])
+}

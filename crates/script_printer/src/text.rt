@@ -1,0 +1,264 @@
+//! The texts of replies.
+ghost use Rattle.std.specs.Prelude.{◌≡◌, ◌++◌, ◌∷◌, OnOk, OnErr, codes};
+ghost use Rattle.std.specs.Fmt.{decimal};
+ghost use Rattle.std.specs.List.{flat_map};
+ghost use Rattle.stream_ident.specs.Token.{token_text};
+ghost use Rattle.script_printer.specs.Replies.{reply_text, reply_line, drain_text, drain_line, event_text, ack_text, pending_text};
+ghost use Rattle.script_parser.specs.Spelling.{name_text};
+ghost use Rattle.script_printer.specs.Writing.{Writes};
+
+use crate::parts::{push_count, push_grain, push_named, push_placed, push_quoted};
+use std::alloc::AllocError;
+use stream_ident::{Event, SubName, Token};
+use stream_model::{DrainEnd, Pending, Reply};
+
+/// Appends the text of a reply.
+///
+/// # Errors
+/// Memory, and then nothing stays of the text.
+pub fn reply_text(reply: &Reply, out: &mut Vec<u8>) -> Result<(), AllocError>
+    ensures ok { OnOk result (out.new.items ≡ out.old.items ++ reply_text reply.now) }
+    ensures err { OnErr result (out.new.items ≡ out.old.items) }
+{
+    let start = out.len();
+    let written = push_reply(reply, out);
+    if written.is_err() {
+        out.truncate(start);
+    }
+    written
+}
+
+/// Appends the line of a reply: the queue, a space and the text.
+///
+/// # Errors
+/// Memory, and then a front of the line may stay.
+pub fn reply_line(queue: usize, reply: &Reply, out: &mut Vec<u8>) -> Result<(), AllocError>
+    ensures { Writes out.old.items out.new.items result (reply_line queue reply.now) }
+{
+    push_count(b"", queue as u64, out)?;
+    out.extend_from_slice(b" ")?;
+    push_reply(reply, out)?;
+    out.extend_from_slice(b"\n")
+}
+
+/// Appends the text of a reply, or a front of it where memory runs out.
+#[tactic(auto, unfolding(crate::specs::Replies::reply_text))]
+fn push_reply(reply: &Reply, out: &mut Vec<u8>) -> Result<(), AllocError>
+    ensures { Writes out.old.items out.new.items result (reply_text reply.now) }
+{
+    match reply {
+        Reply::Published { seq } => push_count(b"published ", *seq, out),
+        Reply::QueueFull => out.extend_from_slice(b"queue-full"),
+        Reply::BadBatch => out.extend_from_slice(b"bad-batch"),
+        Reply::Subscribed { number } => push_count(b"subscribed ", u64::from(*number), out),
+        Reply::Miss {
+            requested,
+            low,
+            high,
+        } => push_miss(*requested, *low, *high, out),
+        Reply::TooMany => out.extend_from_slice(b"too-many"),
+        Reply::Unsubscribed { handled } => push_count(b"unsubscribed ", *handled as u64, out),
+        Reply::NoSuch => out.extend_from_slice(b"no-such"),
+        Reply::Closed => out.extend_from_slice(b"closed"),
+        Reply::Implicit => out.extend_from_slice(b"implicit"),
+        Reply::RuleAdded { from } => push_count(b"rule-added ", *from, out),
+        Reply::RuleThere => out.extend_from_slice(b"rule-there"),
+        Reply::Pulled { count, low, high } => push_pulled(*count as u64, *low, *high, out),
+        Reply::Pressed { by } => push_named(b"pressed ", by, out),
+        Reply::Dry => out.extend_from_slice(b"dry"),
+        Reply::StaleAgent { now } => push_count(b"stale-agent ", *now, out),
+        Reply::Delivered { token } => push_placed(b"delivered ", *token, out),
+        Reply::Nothing => out.extend_from_slice(b"nothing"),
+        Reply::MailboxFull => out.extend_from_slice(b"mailbox-full"),
+        Reply::Rewound => out.extend_from_slice(b"rewound"),
+        Reply::Acked => out.extend_from_slice(b"acked"),
+        Reply::NotHandled => out.extend_from_slice(b"not-handled"),
+        Reply::Purged { low } => push_placed(b"purged low ", *low, out),
+        Reply::Turn {
+            sub,
+            activation,
+            turn,
+            events,
+            note,
+        } => push_turn(sub, *activation, *turn, events.as_slice(), *note, out),
+        Reply::Dropped { sub, token } => push_handled(b"dropped ", sub, *token, out),
+        Reply::Empty => out.extend_from_slice(b"empty"),
+        Reply::Busy => out.extend_from_slice(b"busy"),
+        Reply::Committed { sub, token } => push_handled(b"committed ", sub, *token, out),
+        Reply::Stale => out.extend_from_slice(b"stale"),
+        Reply::Deactivated { lost } => push_count(b"deactivated ", *lost as u64, out),
+        Reply::NotActive => out.extend_from_slice(b"not-active"),
+        Reply::Moved { generation, low } => push_moved(*generation, *low, out),
+        Reply::Next(grain) => push_grain(b"next ", grain, out),
+        Reply::NoneReady => out.extend_from_slice(b"none-ready"),
+        Reply::DueSub { sub, ack } => push_due(sub, *ack, out),
+        Reply::NoneDue => out.extend_from_slice(b"none-due"),
+        Reply::Spent => out.extend_from_slice(b"spent"),
+        Reply::IsQuiet => out.extend_from_slice(b"quiet"),
+        Reply::NotQuiet(why) => push_pending(why, out),
+    }
+}
+
+fn push_miss(requested: Token, low: Token, high: Token, out: &mut Vec<u8>) -> Result<(), AllocError>
+    ensures { Writes out.old.items out.new.items result
+        (codes "miss " ++ token_text requested ++ codes " low " ++ token_text low ++ codes " high " ++ token_text high) }
+{
+    push_placed(b"miss ", requested, out)?;
+    push_placed(b" low ", low, out)?;
+    push_placed(b" high ", high, out)
+}
+
+fn push_pulled(count: u64, low: Token, high: Token, out: &mut Vec<u8>) -> Result<(), AllocError>
+    ensures { Writes out.old.items out.new.items result
+        (codes "pulled " ++ decimal count ++ codes " low " ++ token_text low ++ codes " high " ++ token_text high) }
+{
+    push_count(b"pulled ", count, out)?;
+    push_placed(b" low ", low, out)?;
+    push_placed(b" high ", high, out)
+}
+
+fn push_moved(generation: u64, low: Token, out: &mut Vec<u8>) -> Result<(), AllocError>
+    ensures { Writes out.old.items out.new.items result
+        (codes "moved " ++ decimal generation ++ codes " low " ++ token_text low) }
+{
+    push_count(b"moved ", generation, out)?;
+    push_placed(b" low ", low, out)
+}
+
+/// A subscription and the token of an event of it behind a text.
+fn push_handled(
+    before: &[u8],
+    sub: &SubName,
+    token: Token,
+    out: &mut Vec<u8>,
+) -> Result<(), AllocError>
+    ensures { Writes out.old.items out.new.items result (before.now ++ name_text sub.now ++ 32 ∷ token_text token) }
+{
+    push_named(before, sub, out)?;
+    push_placed(b" ", token, out)
+}
+
+fn push_turn(
+    sub: &SubName,
+    activation: u64,
+    turn: u64,
+    events: &[Event],
+    note: u64,
+    out: &mut Vec<u8>,
+) -> Result<(), AllocError>
+    ensures { Writes out.old.items out.new.items result
+        (codes "turn " ++ decimal turn ++ codes " sub " ++ name_text sub.now ++ codes " activation " ++ decimal activation
+        ++ flat_map event_text events.now ++ codes " note " ++ decimal note) }
+{
+    push_running(sub, activation, turn, out)?;
+    push_handed(events, note, out)
+}
+
+/// Which turn runs.
+fn push_running(
+    sub: &SubName,
+    activation: u64,
+    turn: u64,
+    out: &mut Vec<u8>,
+) -> Result<(), AllocError>
+    ensures { Writes out.old.items out.new.items result
+        (codes "turn " ++ decimal turn ++ codes " sub " ++ name_text sub.now ++ codes " activation " ++ decimal activation) }
+{
+    push_count(b"turn ", turn, out)?;
+    push_named(b" sub ", sub, out)?;
+    push_count(b" activation ", activation, out)
+}
+
+/// What it is handed: its events and the note.
+fn push_handed(events: &[Event], note: u64, out: &mut Vec<u8>) -> Result<(), AllocError>
+    ensures { Writes out.old.items out.new.items result (flat_map event_text events.now ++ codes " note " ++ decimal note) }
+{
+    push_events(events, out)?;
+    push_count(b" note ", note, out)
+}
+
+fn push_events(events: &[Event], out: &mut Vec<u8>) -> Result<(), AllocError>
+    ensures { Writes out.old.items out.new.items result (flat_map event_text events.now) }
+{
+    for event in events {
+        push_event(event, out)?;
+    }
+    Ok(())
+}
+
+fn push_event(event: &Event, out: &mut Vec<u8>) -> Result<(), AllocError>
+    ensures { Writes out.old.items out.new.items result (event_text event.now) }
+{
+    push_placed(b" event ", event.token, out)?;
+    push_quoted(&event.payload, out)
+}
+
+fn push_due(sub: &SubName, ack: Option<Token>, out: &mut Vec<u8>) -> Result<(), AllocError>
+    ensures { Writes out.old.items out.new.items result (codes "due " ++ name_text sub.now ++ codes " ack " ++ ack_text ack) }
+{
+    push_named(b"due ", sub, out)?;
+    push_ack(ack, out)
+}
+
+/// What a due subscription has to acknowledge.
+fn push_ack(ack: Option<Token>, out: &mut Vec<u8>) -> Result<(), AllocError>
+    ensures { Writes out.old.items out.new.items result (codes " ack " ++ ack_text ack) }
+{
+    match ack {
+        None => out.extend_from_slice(b" ack -"),
+        Some(token) => push_placed(b" ack ", token, out),
+    }
+}
+
+fn push_pending(why: &Pending, out: &mut Vec<u8>) -> Result<(), AllocError>
+    ensures { Writes out.old.items out.new.items result (pending_text why.now) }
+{
+    match why {
+        Pending::Behind => out.extend_from_slice(b"behind"),
+        Pending::Deliverable(sub) => push_named(b"deliverable ", sub, out),
+        Pending::Waiting(grain) => push_grain(b"waiting ", grain, out),
+        Pending::Running(grain) => push_grain(b"running ", grain, out),
+    }
+}
+
+/// Appends the text of how a drain ended.
+///
+/// # Errors
+/// Memory, and then nothing stays of the text.
+pub fn drain_text(end: &DrainEnd, out: &mut Vec<u8>) -> Result<(), AllocError>
+    ensures ok { OnOk result (out.new.items ≡ out.old.items ++ drain_text end.now) }
+    ensures err { OnErr result (out.new.items ≡ out.old.items) }
+{
+    let before = out.len();
+    let written = push_end(end, out);
+    if written.is_err() {
+        out.truncate(before);
+    }
+    written
+}
+
+/// Appends the line of a drain: the queue, a space and the text.
+///
+/// # Errors
+/// Memory, and then a front of the line may stay.
+pub fn drain_line(queue: usize, end: &DrainEnd, out: &mut Vec<u8>) -> Result<(), AllocError>
+    ensures { Writes out.old.items out.new.items result (drain_line queue end.now) }
+{
+    push_count(b"", queue as u64, out)?;
+    out.extend_from_slice(b" ")?;
+    push_end(end, out)?;
+    out.extend_from_slice(b"\n")
+}
+
+/// Appends the text of how a drain ended, or a front of it where memory runs out.
+#[tactic(auto, unfolding(crate::specs::Replies::drain_text))]
+fn push_end(end: &DrainEnd, out: &mut Vec<u8>) -> Result<(), AllocError>
+    ensures { Writes out.old.items out.new.items result (drain_text end.now) }
+{
+    match end {
+        DrainEnd::Drained { turns } => push_count(b"drained ", *turns as u64, out),
+        DrainEnd::Stuck { grain } => push_grain(b"stuck ", grain, out),
+        DrainEnd::TooMany => out.extend_from_slice(b"too-many"),
+        DrainEnd::Spent => out.extend_from_slice(b"spent"),
+    }
+}

@@ -1,0 +1,172 @@
+//! Scripts that end inside a line, and lines of one byte.
+use crate::sim::{faulty, simulate};
+use std::alloc::{AllocError, Global};
+use std::test::Fail;
+use stream_script::{FaultKind, SimError};
+
+/// How a script ends that is cut inside a line: with the fault of what is left of it, or with its reply.
+#[derive(Clone, Copy)]
+enum Ending {
+    Fault(FaultKind),
+    Reply(&'static str),
+}
+
+/// A line, and how it ends where it is cut at a length up to each of these.
+#[derive(Clone, Copy)]
+struct Line {
+    number: usize,
+    text: &'static str,
+    cuts: &'static [(usize, Ending)],
+}
+
+const LINES: [Line; 6] = [
+    Line {
+        number: 1,
+        text: "sub o/k g/x latest",
+        cuts: &[
+            (0, Ending::Reply("")),
+            (2, Ending::Fault(FaultKind::BadCommand)),
+            (12, Ending::Fault(FaultKind::WordCount)),
+            (17, Ending::Fault(FaultKind::BadCommand)),
+            (18, Ending::Reply("0 subscribed 1\n")),
+        ],
+    },
+    Line {
+        number: 2,
+        text: "pub o/k \"a\"",
+        cuts: &[
+            (0, Ending::Reply("")),
+            (2, Ending::Fault(FaultKind::BadCommand)),
+            (4, Ending::Fault(FaultKind::WordCount)),
+            (6, Ending::Fault(FaultKind::BadName)),
+            (8, Ending::Reply("0 bad-batch\n")),
+            (10, Ending::Fault(FaultKind::BadText)),
+            (11, Ending::Reply("0 published 0\n")),
+        ],
+    },
+    Line {
+        number: 3,
+        text: "pull 0 0 32",
+        cuts: &[
+            (0, Ending::Reply("")),
+            (3, Ending::Fault(FaultKind::BadCommand)),
+            (9, Ending::Fault(FaultKind::WordCount)),
+            (11, Ending::Reply("0 pulled 1 low 0.0 high 1.0\n")),
+        ],
+    },
+    Line {
+        number: 4,
+        text: "deliver 0 0:1",
+        cuts: &[
+            (0, Ending::Reply("")),
+            (6, Ending::Fault(FaultKind::BadCommand)),
+            (10, Ending::Fault(FaultKind::WordCount)),
+            (11, Ending::Fault(FaultKind::BadName)),
+            (12, Ending::Fault(FaultKind::BadNumber)),
+            (13, Ending::Reply("0 delivered 0.0\n")),
+        ],
+    },
+    Line {
+        number: 5,
+        text: "begin 0 g/x",
+        cuts: &[
+            (0, Ending::Reply("")),
+            (4, Ending::Fault(FaultKind::BadCommand)),
+            (8, Ending::Fault(FaultKind::WordCount)),
+            (10, Ending::Fault(FaultKind::BadName)),
+            (
+                11,
+                Ending::Reply("0 turn 1 sub 1 activation 1 event 0.0 \"a\" note 0\n"),
+            ),
+        ],
+    },
+    Line {
+        number: 6,
+        text: "commit 0 g/x 1 1 1",
+        cuts: &[
+            (0, Ending::Reply("")),
+            (5, Ending::Fault(FaultKind::BadCommand)),
+            (17, Ending::Fault(FaultKind::WordCount)),
+            (18, Ending::Reply("0 committed 1 0.0\n")),
+        ],
+    },
+];
+
+/// How a line ends that is cut to this length.
+fn ending_of(line: &Line, len: usize) -> Ending {
+    for (most, ending) in line.cuts {
+        if len <= *most {
+            return *ending;
+        }
+    }
+    Ending::Reply("")
+}
+
+/// Whether the script that is cut to this length of a line ends so, behind the replies to whole lines.
+fn ends_so(
+    alloc: Global,
+    whole: &[u8],
+    replies: &[u8],
+    number: usize,
+    part: &[u8],
+    ending: Ending,
+) -> Result<bool, AllocError> {
+    let mut script = Vec::from_slice(alloc, whole)?;
+    script.extend_from_slice(part)?;
+    let mut wanted = Vec::from_slice(alloc, replies)?;
+    let mut outcome: Result<(), SimError> = Ok(());
+    match ending {
+        Ending::Fault(kind) => outcome = faulty(number, kind),
+        Ending::Reply(reply) => wanted.extend_from_slice(reply.as_bytes())?,
+    }
+    let (ended, text) = simulate(alloc, &script);
+    Ok(ended == outcome && text.as_slice() == wanted.as_slice())
+}
+
+#[test]
+fn a_script_may_end_at_each_byte(rt: HostRuntime) -> Result<(), Fail> {
+    let mut script = Vec::new(rt.alloc());
+    let mut replies = Vec::new(rt.alloc());
+    for line in &LINES {
+        let text = line.text.as_bytes();
+        for len in 0..=text.len() {
+            let so = ends_so(
+                rt.alloc(),
+                &script,
+                &replies,
+                line.number,
+                &text[..len],
+                ending_of(line, len),
+            )?;
+            assert!(rt; so, "\"{}\" cut to {len}", line.text);
+        }
+        if let Ending::Reply(reply) = ending_of(line, text.len()) {
+            replies.extend_from_slice(reply.as_bytes())?;
+        }
+        script.extend_from_slice(text)?;
+        script.push(b'\n')?;
+    }
+    Ok(())
+}
+
+/// What a line of one byte is: a fault, or nothing.
+fn fault_of(byte: u8) -> Result<(), SimError> {
+    match byte {
+        b' ' | b'#' | b'\n' | b'\r' => Ok(()),
+        b'"' => faulty(2, FaultKind::BadText),
+        b'!'..=b'~' => faulty(2, FaultKind::BadCommand),
+        _ => faulty(2, FaultKind::BadByte),
+    }
+}
+
+#[test]
+fn a_line_may_be_any_byte(rt: HostRuntime) -> Result<(), Fail> {
+    for byte in 0..=u8::MAX {
+        let mut script = Vec::from_slice(rt.alloc(), b"pub o/k \"a\"\n")?;
+        script.push(byte)?;
+        let (outcome, text) = simulate(rt.alloc(), &script);
+        assert_eq!(rt; outcome, fault_of(byte), "at byte {byte}");
+        assert_eq!(rt; text.as_slice(), &b"0 published 0\n"[..]);
+    }
+    Ok(())
+}

@@ -1,0 +1,300 @@
+//! What lines are read as.
+use std::test::Fail;
+use stream_script::{Fault, FaultKind, Mode, Parsed, parse_line};
+
+/// Lines of a script that is simulated on one queue, and how the command that each reads as is printed.
+const COMMANDS: &[(&str, &str)] = &[
+    (
+        r#"pub o/k"#,
+        "Command(Step { queue: 0, op: Publish { stream: StreamId { namespace: o, key: k }, payloads: Batch { payloads: [] } } })",
+    ),
+    (
+        r#"  pub   o/k "a\"b\\c"  "" "#,
+        r#"Command(Step { queue: 0, op: Publish { stream: StreamId { namespace: o, key: k }, payloads: Batch { payloads: [a"b\c, ] } } })"#,
+    ),
+    (
+        "sub o/k g/x latest",
+        "Command(Step { queue: 0, op: Subscribe { stream: StreamId { namespace: o, key: k }, grain: GrainId { kind: g, key: x }, start: Latest } })",
+    ),
+    (
+        "sub o/k g/x from 7.2",
+        "Command(Step { queue: 0, op: Subscribe { stream: StreamId { namespace: o, key: k }, grain: GrainId { kind: g, key: x }, start: At(Token { seq: 7, idx: 2 }) } })",
+    ),
+    (
+        "pull 0 18446744073709551615 4294967295",
+        "Command(Step { queue: 0, op: Pull { generation: 18446744073709551615, max: 4294967295 } })",
+    ),
+    (
+        "deliver 3 0:1",
+        "Command(Step { queue: 0, op: Deliver { generation: 3, sub: Explicit(1) } })",
+    ),
+    (
+        "deliver 3 0:g@o/k",
+        "Command(Step { queue: 0, op: Deliver { generation: 3, sub: Implicit { kind: g, stream: StreamId { namespace: o, key: k } } } })",
+    ),
+    (
+        "begin 0 g/x",
+        "Command(Step { queue: 0, op: Begin { grain: GrainId { kind: g, key: x }, max: 1 } })",
+    ),
+    (
+        "begin 0 g/x 0",
+        "Command(Step { queue: 0, op: Begin { grain: GrainId { kind: g, key: x }, max: 0 } })",
+    ),
+    (
+        "commit 0 g/x 1 2 9",
+        "Command(Step { queue: 0, op: Commit { grain: GrainId { kind: g, key: x }, activation: 1, turn: 2, note: 9 } })",
+    ),
+    (
+        "unsub 0:2",
+        "Command(Step { queue: 0, op: Unsubscribe { sub: Explicit(2) } })",
+    ),
+    (
+        "retry 3 0:1",
+        "Command(Step { queue: 0, op: Retry { generation: 3, sub: Explicit(1) } })",
+    ),
+    (
+        "ack 3 0:1 7.2",
+        "Command(Step { queue: 0, op: Ack { generation: 3, sub: Explicit(1), token: Token { seq: 7, idx: 2 } } })",
+    ),
+    (
+        "purge 0 3 4294967295",
+        "Command(Step { queue: 0, op: Purge { generation: 3, keep: 4294967295 } })",
+    ),
+    (
+        "move 0 15",
+        "Command(Step { queue: 0, op: Move { silo: 15 } })",
+    ),
+    (
+        "deactivate 0 g/x",
+        "Command(Step { queue: 0, op: Deactivate { grain: GrainId { kind: g, key: x } } })",
+    ),
+    (
+        "ready 0",
+        "Command(Step { queue: 0, op: Ready { after: None } })",
+    ),
+    (
+        "ready 0 g/x",
+        "Command(Step { queue: 0, op: Ready { after: Some(GrainId { kind: g, key: x }) } })",
+    ),
+    (
+        "due 0",
+        "Command(Step { queue: 0, op: Due { after: None } })",
+    ),
+    (
+        "due 0 0:1",
+        "Command(Step { queue: 0, op: Due { after: Some(Explicit(1)) } })",
+    ),
+    ("rule g o", "Command(Each(Rule { kind: g, namespace: o }))"),
+    ("quiet", "Command(Each(Quiet))"),
+    ("report", "Command(Report)"),
+    ("drain", "Command(Drain)"),
+];
+
+/// Lines of a script that is run, and how what each reads as is printed.
+const RUN_COMMANDS: &[(&str, &str)] = &[
+    ("up 15", "Command(Up { silo: 15 })"),
+    (" down 0 ", "Command(Down { silo: 0 })"),
+    ("drain", "Command(Drain)"),
+    (
+        "pub o/k",
+        "Command(Step { queue: 0, op: Publish { stream: StreamId { namespace: o, key: k }, payloads: Batch { payloads: [] } } })",
+    ),
+    (
+        "sub o/k g/x latest",
+        "Command(Step { queue: 0, op: Subscribe { stream: StreamId { namespace: o, key: k }, grain: GrainId { kind: g, key: x }, start: Latest } })",
+    ),
+    (
+        "unsub 0:1",
+        "Command(Step { queue: 0, op: Unsubscribe { sub: Explicit(1) } })",
+    ),
+    ("rule g o", "Command(Each(Rule { kind: g, namespace: o }))"),
+    ("", "Skip"),
+    ("   ", "Skip"),
+    ("#", "Skip"),
+    ("# pub", "Skip"),
+    ("#\tpub \"", "Skip"),
+    ("#pub o/k \"a\"", "Skip"),
+];
+
+#[test]
+fn commands(rt: HostRuntime) -> Result<(), Fail> {
+    for (mode, rows) in [(Mode::Sim, COMMANDS), (Mode::Run, RUN_COMMANDS)] {
+        for (line, wanted) in rows {
+            let parsed = parse_line(rt.alloc(), line.as_bytes(), 7, 1, mode)?;
+            let shown = format!(in rt.alloc(); "{parsed:?}")?;
+            assert_eq!(rt; shown.as_str(), *wanted, "at {line}");
+        }
+    }
+    Ok(())
+}
+
+/// Faults, and lines of a script that is simulated on one queue which have them.
+const FAULTS: &[(FaultKind, &str)] = &[
+    (
+        FaultKind::BadByte,
+        "pub o/k\t\"a\"\n\
+         fly \"\x7f",
+    ),
+    (
+        FaultKind::BadText,
+        "pub o/k \"a\n\
+         pub o/k \"a\\\n\
+         pub o/k \"a\\x\"\n\
+         pub o/k a\"b\"\n\
+         pub o/k \"a\"b\n\
+         pub o/k \"a\"\"b\"",
+    ),
+    (
+        FaultKind::BadCommand,
+        "fly\n\x20# pub\n\
+         \"pub\"\n\
+         Pub o/k\n\
+         sub o/k g/x later\n\
+         sub o/k g/x latest 7.2\n\
+         sub o/k g/x from\n\
+         upp 0",
+    ),
+    (
+        FaultKind::NotInSim,
+        "up 1\n\
+         down\n\
+         up \"x\" 99",
+    ),
+    (
+        FaultKind::WordCount,
+        "pub\n\
+         pub \"a\"\n\
+         pub o!k a\n\
+         sub o/k g/x\n\
+         pull 0 0 \"32\"\n\
+         pull 0 0\n\
+         begin 0 g/x 1 1",
+    ),
+    (
+        FaultKind::BadName,
+        "pub o/k! \"b\"\n\
+         pub ok \"b\"\n\
+         pub o/k/l \"b\"\n\
+         sub o/k gx later\n\
+         deliver 0 01\n\
+         deliver 0 0:1:2\n\
+         deliver 0 0:k@o\n\
+         deliver 0 0:k@o/k@l",
+    ),
+    (
+        FaultKind::BadNumber,
+        "pull 0 00 32\n\
+         pull 0 0 4294967296\n\
+         pull 4294967296 0 32\n\
+         pull 0 18446744073709551616 32\n\
+         deliver 0 0:0\n\
+         deliver 0 0:01",
+    ),
+    (FaultKind::BadToken, "sub o/k g/x from 7.02"),
+    (
+        FaultKind::NoQueue,
+        "deliver 0 1:1\n\
+         deliver 0 1:0\n\
+         pull 1 x 32",
+    ),
+];
+
+/// Faults, and lines of a script that is simulated on two queues which have them.
+const FAULTS_OF_TWO: &[(FaultKind, &str)] = &[
+    (
+        FaultKind::WordCount,
+        "unsub\n\
+         unsub 0:1 0:2\n\
+         rule g\n\
+         quiet 0\n\
+         drain x\n\
+         report 0\n\
+         ready\n\
+         due 0 0:1 0:2\n\
+         move 0 \"1\"",
+    ),
+    (
+        FaultKind::NoQueue,
+        "unsub 2:0\n\
+         move 2 16\n\
+         due 1 0:0\n\
+         due 1 2:0",
+    ),
+    (
+        FaultKind::BadNumber,
+        "move 0 16\n\
+         purge 0 0 4294967296\n\
+         retry x 0\n\
+         due 1 1:0",
+    ),
+    (
+        FaultKind::BadName,
+        "due 1 0:1:1\n\
+         ack 0 0:k@o x\n\
+         deactivate 0 gx\n\
+         rule g o!",
+    ),
+    (FaultKind::BadToken, "ack 0 0:1 7"),
+];
+
+/// Faults, and lines of a script that is run which have them.
+const RUN_FAULTS: &[(FaultKind, &str)] = &[
+    (
+        FaultKind::WordCount,
+        "up\n\
+         down 1 2\n\
+         up \"1\"",
+    ),
+    (
+        FaultKind::BadNumber,
+        "down 16\n\
+         up 01",
+    ),
+    (
+        FaultKind::NotInRun,
+        "pull 0 0 32\n\
+         deliver\n\
+         begin \"0\"\n\
+         report\n\
+         due 9",
+    ),
+];
+
+#[test]
+fn faults(rt: HostRuntime) -> Result<(), Fail> {
+    for (queues, mode, rows) in [
+        (1, Mode::Sim, FAULTS),
+        (2, Mode::Sim, FAULTS_OF_TWO),
+        (1, Mode::Run, RUN_FAULTS),
+    ] {
+        for (kind, lines) in rows {
+            for line in lines.lines() {
+                let parsed = parse_line(rt.alloc(), line.as_bytes(), 7, queues, mode)?;
+                assert!(rt; is_fault(&parsed, *kind), "at {line}");
+            }
+        }
+    }
+    Ok(())
+}
+
+/// Whether this is such a fault of the seventh line.
+fn is_fault(parsed: &Parsed, kind: FaultKind) -> bool {
+    match parsed {
+        Parsed::Fault(fault) => *fault == Fault { line: 7, kind },
+        _ => false,
+    }
+}
+
+#[test]
+fn long_texts(rt: HostRuntime) -> Result<(), Fail> {
+    for (len, is_too_long) in [(256, false), (257, true)] {
+        let mut line = Vec::from_slice(rt.alloc(), b"pub o/k \"")?;
+        for _ in 0..len {
+            line.extend_from_slice(b"\\\"")?;
+        }
+        line.push(b'"')?;
+        let parsed = parse_line(rt.alloc(), &line, 7, 1, Mode::Sim)?;
+        assert_eq!(rt; is_fault(&parsed, FaultKind::BadText), is_too_long);
+    }
+    Ok(())
+}

@@ -1,0 +1,328 @@
+//! What no clause says of the simulator: that it succeeds, what whole scripts print, and what a failing
+//! reader or writer leads to.
+ghost use Rattle.stream_script.specs.Simulation.{IsSimConfig};
+
+use std::alloc::Global;
+use std::io::{self, ErrorKind, Read, Write};
+use std::test::Fail;
+use stream_model::Limits;
+use stream_script::{Counted, Failed, Fault, FaultKind, SimConfig, SimError, Sink, sim};
+
+/// How calls go: each takes `most` bytes at most, and the one with the number `fails_at` fails with an error
+/// of this kind, or where a write fails with `WriteZero`, by taking no byte.
+#[derive(Clone, Copy)]
+struct Calls {
+    most: usize,
+    fails_at: u32,
+    kind: ErrorKind,
+}
+
+/// Calls that never fail.
+const SOUND: Calls = Calls {
+    most: 65_536,
+    fails_at: u32::MAX,
+    kind: ErrorKind::BrokenPipe,
+};
+
+/// A reader or a writer whose calls go so.
+#[derive(Drop)]
+struct Flaky<T> {
+    inner: T,
+    calls: Calls,
+}
+
+impl<T> Flaky<T> {
+    fn next_call(&mut self) -> io::Result<()> {
+        if self.calls.fails_at == 0 {
+            self.calls.fails_at = u32::MAX;
+            return Err(io::Error::from(self.calls.kind));
+        }
+        self.calls.fails_at -= 1;
+        Ok(())
+    }
+}
+
+impl<R: Read> Read for Flaky<R> {
+    fn read(&mut self, buf: &mut [u8]) -> io::Result<usize> {
+        self.next_call()?;
+        let most = buf.len().min(self.calls.most);
+        self.inner.read(&mut buf[..most])
+    }
+}
+
+impl<W: Write> Write for Flaky<W> {
+    fn write(&mut self, buf: &[u8]) -> io::Result<usize> {
+        if let Err(error) = self.next_call() {
+            return match error.kind() {
+                ErrorKind::WriteZero => Ok(0),
+                _ => Err(error),
+            };
+        }
+        let most = buf.len().min(self.calls.most);
+        self.inner.write(&buf[..most])
+    }
+
+    fn flush(&mut self) -> io::Result<()> {
+        self.next_call()?;
+        self.inner.flush()
+    }
+}
+
+fn one_queue() -> SimConfig
+    ensures { IsSimConfig result }
+{
+    SimConfig {
+        queues: 1,
+        blocks: 2,
+        limits: Limits::GREATEST,
+    }
+}
+
+/// What came of a script: how it ended, how often reads and writes failed, and what was written.
+type End = (Result<(), SimError>, [u64; 2], Vec<u8>);
+
+/// What comes of a script whose reads and writes go so.
+fn simulate_over(alloc: Global, script: &[u8], reads: Calls, writes: Calls) -> End {
+    let mut source = Counted::new(Flaky {
+        inner: script,
+        calls: reads,
+    });
+    let mut sink = Counted::new(Flaky {
+        inner: Vec::new(alloc),
+        calls: writes,
+    });
+    let outcome = sim(alloc, one_queue(), &mut source, &mut sink);
+    let failures = [source.failures(), sink.failures()];
+    (outcome, failures, sink.into_inner().inner)
+}
+
+/// The outcome of a script, and what it wrote.
+pub(crate) fn simulate(alloc: Global, script: &[u8]) -> (Result<(), SimError>, Vec<u8>) {
+    let (outcome, _failures, text) = simulate_over(alloc, script, SOUND, SOUND);
+    (outcome, text)
+}
+
+pub(crate) fn faulty(line: usize, kind: FaultKind) -> Result<(), SimError> {
+    Err(SimError::ScriptFault(Fault { line, kind }))
+}
+
+const SCRIPT: &[u8] =
+    b"sub o/k g/x latest\npub o/k \"a\"\npull 0 0 32\ndeliver 0 0:1\nbegin 0 g/x\ncommit 0 g/x 1 1 1\n";
+
+const REPLIES: &[u8] =
+    b"0 subscribed 1\n0 published 0\n0 pulled 1 low 0.0 high 1.0\n0 delivered 0.0\n0 turn 1 sub 1 activation 1 event 0.0 \"a\" note 0\n0 committed 1 0.0\n";
+
+/// Scripts, how they end, and what they write.
+const SCRIPTS: &[(&[u8], Result<(), SimError>, &[u8])] = &[
+    (b"", Ok(()), b""),
+    (SCRIPT, Ok(()), REPLIES),
+    // comments, returns, and a last line without a feed
+    (
+        b"# none\n\n  \r\npub o/k \"\" \"\\\\\"\r\npull 0 0 1",
+        Ok(()),
+        b"0 published 0\n0 pulled 1 low 0.0 high 0.1\n",
+    ),
+    // a fault ends the script
+    (
+        b"nonsense\npull 0 0 1\n",
+        Err(SimError::ScriptFault(Fault {
+            line: 1,
+            kind: FaultKind::BadCommand,
+        })),
+        b"",
+    ),
+    (
+        b"pull 0 0 1\npull 1 0 1\npull 0 0 1\n",
+        Err(SimError::ScriptFault(Fault {
+            line: 2,
+            kind: FaultKind::NoQueue,
+        })),
+        b"0 dry\n",
+    ),
+];
+
+#[test]
+fn scripts_are_done_line_by_line(rt: HostRuntime) {
+    for (script, outcome, replies) in SCRIPTS {
+        let (ended, text) = simulate(rt.alloc(), script);
+        assert_eq!(rt; ended, *outcome);
+        assert_eq!(rt; text.as_slice(), *replies);
+    }
+}
+
+#[test]
+fn a_script_that_is_too_long_is_not_begun(rt: HostRuntime) -> Result<(), Fail> {
+    let script = vec![in rt.alloc(); b'#'; 4_194_305]?;
+    let (outcome, text) = simulate(rt.alloc(), &script);
+    assert_eq!(rt; outcome, faulty(0, FaultKind::TooLong));
+    assert!(rt; text.is_empty());
+    let (outcome, text) = simulate(rt.alloc(), &script[1..]);
+    assert_eq!(rt; outcome, Ok(()));
+    assert!(rt; text.is_empty());
+    Ok(())
+}
+
+/// 4,096 bytes are read at each of 1,024 calls, and the one byte too many at the next.
+#[test]
+fn nothing_is_read_past_the_limit(rt: HostRuntime) -> Result<(), Fail> {
+    let script = vec![in rt.alloc(); b'#'; 4_200_000]?;
+    let cases = [
+        (1024, Err(SimError::ReadFault), [1, 0]),
+        (1025, faulty(0, FaultKind::TooLong), [0, 0]),
+    ];
+    for (fails_at, outcome, failures) in cases {
+        let reads = Calls {
+            most: 4096,
+            fails_at,
+            kind: ErrorKind::BrokenPipe,
+        };
+        let (ended, failed, text) = simulate_over(rt.alloc(), &script, reads, SOUND);
+        assert_eq!(rt; (ended, failed, text.len()), (outcome, failures, 0));
+    }
+    Ok(())
+}
+
+/// Kinds of failed reads, and what comes of each: an interrupted call is made again.
+const READS: &[(ErrorKind, Result<(), SimError>, u64)] = &[
+    (ErrorKind::BrokenPipe, Err(SimError::ReadFault), 1),
+    (ErrorKind::Interrupted, Ok(()), 0),
+];
+
+#[test]
+fn a_failed_read_is_told(rt: HostRuntime) {
+    for fails_at in [0, 1, 2] {
+        for (kind, outcome, failures) in READS {
+            let reads = Calls {
+                most: 3,
+                fails_at,
+                kind: *kind,
+            };
+            let (ended, failed, text) = simulate_over(rt.alloc(), b"# no", reads, SOUND);
+            assert_eq!(rt; (ended, failed, text.len()), (*outcome, [*failures, 0], 0));
+        }
+    }
+}
+
+/// Three events, done by a drain.
+const DRAINED: &[u8] =
+    b"sub o/k g/x latest\npub o/k \"a\"\npub o/k \"b\"\npub o/k \"c\"\ndrain\nreport\n";
+
+const DRAINED_REPLIES: &[u8] =
+    b"0 subscribed 1\n0 published 0\n0 published 1\n0 published 2\n0 drained 3\nreport\n0:1 o/k g/x 0.0 3\n  0.0 \"a\"\n  1.0 \"b\"\n  2.0 \"c\"\n";
+
+/// Scripts and how their writes go; how each ends, how often a write has failed, and what was written.
+const WRITES: &[(
+    &[u8],
+    usize,
+    u32,
+    ErrorKind,
+    Result<(), SimError>,
+    u64,
+    &[u8],
+)] = &[
+    // the flush of a script that writes nothing
+    (
+        b"",
+        3,
+        0,
+        ErrorKind::BrokenPipe,
+        Err(SimError::WriteFault),
+        1,
+        b"",
+    ),
+    (b"", 3, 0, ErrorKind::Interrupted, Ok(()), 0, b""),
+    // a line of fifteen bytes takes five calls, so the second line is cut at its fourth byte
+    (
+        SCRIPT,
+        3,
+        6,
+        ErrorKind::BrokenPipe,
+        Err(SimError::WriteFault),
+        1,
+        b"0 subscribed 1\n0 p",
+    ),
+    (SCRIPT, 3, 6, ErrorKind::Interrupted, Ok(()), 0, REPLIES),
+    // the call behind the last byte is the flush, and the one behind it is never made
+    (
+        DRAINED,
+        1,
+        124,
+        ErrorKind::BrokenPipe,
+        Err(SimError::WriteFault),
+        1,
+        DRAINED_REPLIES,
+    ),
+    (
+        DRAINED,
+        1,
+        125,
+        ErrorKind::BrokenPipe,
+        Ok(()),
+        0,
+        DRAINED_REPLIES,
+    ),
+];
+
+#[test]
+fn a_failed_write_is_told(rt: HostRuntime) {
+    for (script, most, fails_at, kind, outcome, failures, wanted) in WRITES {
+        let writes = Calls {
+            most: *most,
+            fails_at: *fails_at,
+            kind: *kind,
+        };
+        let (ended, failed, text) = simulate_over(rt.alloc(), script, SOUND, writes);
+        assert_eq!(rt; (ended, failed), (*outcome, [0, *failures]));
+        assert_eq!(rt; text.as_slice(), *wanted);
+    }
+}
+
+/// A slice that is full takes no byte.
+#[test]
+fn a_full_writer_has_failed(rt: HostRuntime) {
+    let mut room = [0u8; 4];
+    let mut sink = Counted::new(&mut room[..]);
+    assert_eq!(rt; sink.write(b"abc"), Ok(3));
+    assert_eq!(rt; sink.write(b"de"), Ok(1));
+    assert_eq!(rt; sink.write(b"e"), Err(Failed));
+    assert_eq!(rt; sink.failures(), 1);
+}
+
+/// A read of each byte, and one that finds the end.
+#[test]
+fn each_read_that_fails_is_told(rt: HostRuntime) {
+    for fails_at in 0..70 {
+        let reads = Calls {
+            most: 1,
+            fails_at,
+            kind: ErrorKind::TimedOut,
+        };
+        let wanted = if fails_at < 69 {
+            (Err(SimError::ReadFault), [1, 0], 0)
+        } else {
+            (Ok(()), [0, 0], 124)
+        };
+        let (ended, failed, text) = simulate_over(rt.alloc(), DRAINED, reads, SOUND);
+        assert_eq!(rt; (ended, failed, text.len()), wanted, "at call {fails_at}");
+    }
+}
+
+/// A write of each byte: where one fails or takes none, those before it were taken.
+#[test]
+fn each_write_that_fails_is_told(rt: HostRuntime) {
+    for kind in [ErrorKind::BrokenPipe, ErrorKind::WriteZero] {
+        for fails_at in 0..124 {
+            let writes = Calls {
+                most: 1,
+                fails_at,
+                kind,
+            };
+            let (ended, failed, text) = simulate_over(rt.alloc(), DRAINED, SOUND, writes);
+            assert_eq!(rt;
+                (ended, failed, text.len()),
+                (Err(SimError::WriteFault), [0, 1], fails_at as usize)
+            );
+            assert!(rt; DRAINED_REPLIES.starts_with(&text), "at call {fails_at}");
+        }
+    }
+}

@@ -1,0 +1,51 @@
+-- The words on lists.
+use Rattle.std.proofs.Common.{◌≡◌, ◌∙◌, ℕ, zero, suc, ◌+◌, ◌≤◌, ◌<◌, List, [], ◌∷◌, ◌++◌, length, take, drop, get_or, Option, Some, None, refl, sym, ap, arith}
+use Rattle.std.specs.List.{AllByRecursion}
+use Rattle.std.specs.Option.{is_some, option_map}
+use Rattle.std.specs.Prelude.{set}
+use Rattle.std.proofs.lemmas.List.{drop_more, length-take, take-take}
+use Rattle.stream_ident.specs.Words.{change_at, or_else, past_from}
+
+pub or_else-none : {A : Type 0} (o : Option A) → or_else o None ≡ o
+or_else-none None = refl
+or_else-none (Some x) = refl
+
+pub or_else-parts : {A : Type 0} (a b : Option A) → or_else a b ≡ None → (a ≡ None) × (b ≡ None)
+or_else-parts None b none = (refl, none)
+or_else-parts (Some x) b none = cc
+
+pub past_from-append : (n : ℕ) (first second : List ℕ) → past_from n (first ++ second) ≡ past_from (past_from n first) second
+past_from-append n [] second = refl
+past_from-append n (position ∷ first) second = past_from-append (suc position) first second
+
+-- a front of a front
+pub front-of-front : {X : Type 0} (xs ys zs : List X) → take (length xs) ys ≡ xs → take (length ys) zs ≡ ys → take (length xs) zs ≡ xs
+front-of-front xs ys zs first second =
+    let size = ap length first in
+    let short : length xs ≤ length ys = omega (arith, length-take (length xs) ys, size) in
+    sym (take-take (length xs) (length ys) zs short) ∙ ap (take (length xs)) second ∙ first
+
+-- a change at a place sets the entry there
+pub set-change_at : {K V : Type 0} (change : V → V) (i : ℕ) (entries : List (K × V)) (d : K × V) → i < length entries → set entries i ((get_or entries i d).0, change (get_or entries i d).1) ≡ change_at change i entries
+set-change_at change i [] d h = absurd (omega arith)
+set-change_at change zero (entry ∷ entries) d h = refl
+set-change_at change (suc i) (entry ∷ entries) d h = ap (λ rest. entry ∷ rest) (set-change_at change i entries d (omega arith))
+
+pub length-change_at : {K V : Type 0} (f : V → V) (j : ℕ) (xs : List (K × V)) → length (change_at f j xs) ≡ length xs
+length-change_at f j [] = refl
+length-change_at f zero (x ∷ xs) = refl
+length-change_at f (suc j) (x ∷ xs) = ap suc (length-change_at f j xs)
+
+pub is_some-map : {A B : Type 0} (f : A → B) (o : Option A) → is_some (option_map f o) ≡ is_some o
+is_some-map f None = refl
+is_some-map f (Some x) = refl
+
+-- what holds of each element holds of the one with a number
+pub All-at : {A : Type 0} (P : A → Type 0) (xs : List A) (i : ℕ) (d : A) → AllByRecursion P xs → i < length xs → P (get_or xs i d)
+All-at P [] i d all within = absurd (omega (arith, within))
+All-at P (x ∷ xs) zero d all within = all.0
+All-at P (x ∷ xs) (suc i) d all within = All-at P xs i d all.1 (omega (arith, within))
+
+-- what is left from a place on begins with what stands there
+pub drop-read : {A : Type 0} (xs : List A) (i : ℕ) (x : A) → i < length xs → x ≡ get_or xs i x → drop i xs ≡ x ∷ drop (i + 1) xs
+drop-read xs i x within read = drop_more xs i x within ∙ ap (λ y. y ∷ drop (i + 1) xs) (sym read)

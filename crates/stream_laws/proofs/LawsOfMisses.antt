@@ -1,0 +1,50 @@
+-- The law on refused start tokens, from what holds of a legal history.
+use Rattle.std.proofs.Common.{◌≡◌, ◌≢◌, true, false, ◌∷◌, length, sym, ap, subst, ◌∙◌, nat_le}
+use Rattle.std.proofs.lemmas.Bool.{cond-false, cond-true, cond_both}
+use Rattle.stream_ident.specs.declared.ident.GrainId.{GrainId}
+use Rattle.stream_ident.specs.declared.ident.StreamId.{StreamId}
+use Rattle.stream_ident.specs.declared.token.Token.{Token}
+use Rattle.stream_ident.specs.Token.{token_lt}
+use Rattle.stream_model.specs.declared.op.Op.TheVariants.{Subscribe}
+use Rattle.stream_model.specs.declared.op.Start.TheVariants.{At}
+use Rattle.stream_model.specs.declared.plain.PlainPartition.{PlainPartition}
+use Rattle.stream_model.specs.declared.reply.Reply.{Reply}
+use Rattle.stream_model.specs.declared.reply.Reply.TheVariants.{Miss}
+use Rattle.stream_laws.specs.Laws.{MissesBelowLow}
+use Rattle.stream_model.specs.Positions.{high_token, low_token, lower_bound}
+use Rattle.stream_model.specs.Publishing.{subscribe, subscribe_at}
+use Rattle.stream_model.specs.Step.{step}
+use Rattle.stream_laws.proofs.Legal.{StepsKeep, reaches-stands}
+
+missed : (p : PlainPartition) (stream : StreamId) (grain : GrainId) (token : Token) → token_lt token (low_token p) ≡ true → (step p (Subscribe stream grain (At token))).1 ≡ Miss token (low_token p) (high_token p)
+unfolding step subscribe
+missed p stream grain token below =
+    ap (λ (out : PlainPartition × Reply). out.1) (cond-true (token_lt token (low_token p)) (p, Miss token (low_token p) (high_token p)) (subscribe_at p stream grain token (lower_bound p token)) below)
+
+-- no reply of these is a miss
+subscribed-no_miss : (p : PlainPartition) (stream : StreamId) (grain : GrainId) (token requested low high : Token) → (subscribe_at p stream grain token (lower_bound p token)).1 ≢ Miss requested low high
+unfolding subscribe_at
+subscribed-no_miss p stream grain token requested low high =
+    cond_both (nat_le p.limits.subs (length p.subs)) _ _ (λ (out : PlainPartition × Reply). out.1 ≢ Miss requested low high) (λ full told. cc) (λ room told. cc)
+
+not-missed : (p : PlainPartition) (stream : StreamId) (grain : GrainId) (token requested low high : Token) → token_lt token (low_token p) ≡ false → (step p (Subscribe stream grain (At token))).1 ≢ Miss requested low high
+unfolding step subscribe
+not-missed p stream grain token requested low high there told =
+    subscribed-no_miss p stream grain token requested low high
+    (sym (ap (λ (out : PlainPartition × Reply). out.1) (cond-false (token_lt token (low_token p)) (p, Miss token (low_token p) (high_token p)) (subscribe_at p stream grain token (lower_bound p token)) there)) ∙ told)
+
+pub misses_below_low-from : StepsKeep → MissesBelowLow
+misses_below_low-from keep blocks limits before e later q stands stream grain token asked =
+    let reaches = reaches-stands keep blocks limits before (e ∷ later) q stands in
+    let low = reaches.fits.log.low in
+    let told : (step reaches.state (Subscribe stream grain (At token))).1 ≡ e.reply =
+    ap (λ op. (step reaches.state op).1) (sym asked) ∙ reaches.leads.0 in (
+      λ below.
+          let below_state : token_lt token (low_token reaches.state) ≡ true = subst (λ bound. token_lt token bound ≡ true) low below in (
+            high_token reaches.state,
+            sym told ∙ (missed reaches.state stream grain token below_state ∙ ap (λ bound. Miss token bound (high_token reaches.state)) (sym low)),
+          ),
+      λ there requested from to is_miss.
+          let there_state : token_lt token (low_token reaches.state) ≡ false = subst (λ bound. token_lt token bound ≡ false) low there in
+          not-missed reaches.state stream grain token requested from to there_state (told ∙ is_miss),
+    )

@@ -1,0 +1,120 @@
+-- Events on the log: their marks, their tokens, and the least position of one that passes.
+use Rattle.std.proofs.Common.{◌≡◌, ◌∙◌, ap, sym, refl, ℕ, zero, suc, ◌+◌, ◌-◌, ◌<◌, ◌≤◌, not, Bool, true, false, List, [], ◌∷◌, length, get_or, drop, Some, None, if◌then◌else◌, ⊎_elim, arith}
+use Rattle.std.proofs.lemmas.Bool.{cases_lt, and_right}
+use Rattle.std.proofs.lemmas.Bool.Decides.{nat_tests}
+use Rattle.std.proofs.lemmas.List.{get_or_past, get_or-take, get_or-drop, length-map, length-take, length-drop}
+use Rattle.stream_ident.specs.declared.event.Event.{Event}
+use Rattle.stream_ident.specs.declared.ident.StreamId.{StreamId}
+use Rattle.stream_ident.specs.declared.token.Token.{Token}
+use Rattle.stream_ident.specs.Token.{token_lt}
+use Rattle.stream_ident.specs.Name.{same_stream}
+use Rattle.stream_ident.specs.Event.{is_owed}
+use Rattle.stream_model.specs.Positions.{between, no_event}
+use Rattle.stream_ident.specs.Words.{first_at}
+use Rattle.stream_laws.proofs.EventLemmas.{mark-at}
+use Rattle.stream_laws.proofs.Invariant.{marks_of}
+use Rattle.stream_laws.proofs.Marks.{IsClear}
+
+-- ---- tokens
+
+-- a token before another is before all that aren't before that
+pub token_lt-before : (a b c : Token) → token_lt a b ≡ true → token_lt c b ≡ false → token_lt a c ≡ true
+token_lt-before a b c ab cb = grind (arith, nat_tests)
+
+pub token_lt-false : (a b : Token) → token_lt a b ≡ true → token_lt b a ≡ false
+token_lt-false a b ab = grind (arith, nat_tests)
+
+pub token_lt-same : (a : Token) → token_lt a a ≡ false
+token_lt-same a = grind (arith, nat_tests)
+
+-- ---- marks
+
+pub length-marks_of : (stream : StreamId) (start : Token) (log : List Event) → length (marks_of stream start log) ≡ length log
+length-marks_of stream start log = length-map log (λ event. is_owed stream start event)
+
+-- an event before the start isn't owed
+pub owed-before : (stream : StreamId) (start : Token) (event : Event) → token_lt event.token start ≡ true → is_owed stream start event ≡ false
+owed-before stream start event before = and_right (same_stream stream event.stream) (not (token_lt event.token start)) (ap not before)
+
+-- where all events of a stretch are before the start, none is marked
+pub clear-before : (stream : StreamId) (start : Token) (log : List Event) (a b : ℕ) → ((q : ℕ) → a ≤ q → q < b → q < length log → token_lt (get_or log q no_event).token start ≡ true) → IsClear (marks_of stream start log) a b
+clear-before stream start log a b before q from to =
+    ⊎_elim
+    (λ (within : q < length log). mark-at (λ event. is_owed stream start event) log q within ∙ owed-before stream start (get_or log q no_event) (before q from to within))
+    (λ (beyond : length log ≤ q). get_or_past (marks_of stream start log) q false (omega (arith, length-marks_of stream start log)))
+    (cases_lt q (length log))
+
+-- ---- the least position of an element that passes
+
+-- the element at a place passes and none before it does
+abbrev pub IsFirst : {A : Type 0} → (A → Bool) → List A → A → ℕ → Type 0
+IsFirst passes xs d j = (j < length xs) × (passes (get_or xs j d) ≡ true) × ((k : ℕ) → k < j → passes (get_or xs k d) ≡ false)
+
+first_here : {A : Type 0} (passes : A → Bool) (x : A) (xs : List A) (d : A) (n i : ℕ) → passes x ≡ true → n ≡ i → (j : ℕ) × (i ≡ n + j) × IsFirst passes (x ∷ xs) d j
+first_here passes x xs d n i here is = (0, omega arith, (omega arith, here, λ k below. absurd (omega arith)))
+
+first_later : {A : Type 0} (passes : A → Bool) (x : A) (xs : List A) (d : A) (n i : ℕ) → passes x ≡ false → (j : ℕ) × (i ≡ suc n + j) × IsFirst passes xs d j → (j : ℕ) × (i ≡ n + j) × IsFirst passes (x ∷ xs) d j
+first_later passes x xs d n i not_here found =
+    let within = found.2.0 in
+    (suc found.0, omega (arith, found.1), (omega (arith, within), found.2.1, before))
+  where
+    before : (k : ℕ) → k < suc found.0 → passes (get_or (x ∷ xs) k d) ≡ false
+    before zero below = not_here
+    before (suc k) below = found.2.2 k (omega arith)
+
+-- in a list whose first element has position n: the found one is the first that passes
+pub first_at-found : {A : Type 0} (passes : A → Bool) (n : ℕ) (xs : List A) (d : A) (i : ℕ) → first_at passes n xs ≡ Some i → (j : ℕ) × (i ≡ n + j) × IsFirst passes xs d j
+first_at-found passes n [] d i e = cc
+first_at-found {A} passes n (x ∷ xs) d i e =
+    (elim (passes x) as (λ b. passes x ≡ b → (if b then Some n else first_at passes (suc n) xs) ≡ Some i → (j : ℕ) × (i ≡ n + j) × IsFirst passes (x ∷ xs) d j) [
+      | true ↦ λ here e. first_here passes x xs d n i here (cc)
+      | false ↦ λ later e. first_later passes x xs d n i later (first_at-found passes (suc n) xs d i e)
+    ]) refl e
+
+-- where none is found, none passes
+pub first_at-none : {A : Type 0} (passes : A → Bool) (n : ℕ) (xs : List A) (d : A) → first_at passes n xs ≡ None → (k : ℕ) → k < length xs → passes (get_or xs k d) ≡ false
+first_at-none passes n [] d e k below = absurd (omega arith)
+first_at-none {A} passes n (x ∷ xs) d e k below =
+    (elim (passes x) as (λ b. passes x ≡ b → (if b then Some n else first_at passes (suc n) xs) ≡ None → (k : ℕ) → k < suc (length xs) → passes (get_or (x ∷ xs) k d) ≡ false) [
+      | true ↦ λ here e. cc
+      | false ↦ λ later e. elim [
+        | zero ↦ λ below. later
+        | suc k ↦ λ below. first_at-none passes (suc n) xs d e k (omega arith)
+      ]
+    ]) refl e k below
+
+-- ---- stretches of the log
+
+pub length-between : (log : List Event) (from to : ℕ) → to ≤ length log → length (between log from to) ≡ to - from
+length-between log from to within = omega (arith, length-take (to - from) (drop from log), length-drop from log)
+
+pub between-at : (log : List Event) (from to k : ℕ) → from + k < to → get_or (between log from to) k no_event ≡ get_or log (from + k) no_event
+between-at log from to k below = get_or-take (to - from) (drop from log) k no_event (omega arith) ∙ get_or-drop from log k no_event
+
+-- the least position at or past from that is found below to: none from there on is marked before it
+pub next_found : (stream : StreamId) (start : Token) (log : List Event) (from to position : ℕ) → to ≤ length log → first_at (λ event. is_owed stream start event) from (between log from to) ≡ Some position → (from ≤ position) × (position < to) × (get_or (marks_of stream start log) position false ≡ true) × IsClear (marks_of stream start log) from position
+next_found stream start log from to position within e =
+    let found = first_at-found (λ event. is_owed stream start event) from (between log from to) no_event position e in
+    let is : position ≡ from + found.0 = found.1 in
+    let some : found.0 < length (between log from to) = found.2.0 in
+    let size = length-between log from to within in
+    let marked : get_or (marks_of stream start log) (from + found.0) false ≡ true =
+    mark-at (λ event. is_owed stream start event) log (from + found.0) (omega arith) ∙ ap (λ event. is_owed stream start event) (sym (between-at log from to found.0 (omega arith))) ∙ found.2.1
+    in (
+      omega arith,
+      omega arith,
+      ap (λ q. get_or (marks_of stream start log) q false) is ∙ marked,
+      λ q at_least below.
+          let same : from + (q - from) ≡ q = omega arith in
+          ap (λ q. get_or (marks_of stream start log) q false) (sym same)
+          ∙ mark-at (λ event. is_owed stream start event) log (from + (q - from)) (omega arith) ∙ ap (λ event. is_owed stream start event) (sym (between-at log from to (q - from) (omega arith))) ∙ found.2.2 (q - from) (omega arith),
+    )
+
+-- where none is found, none is marked
+pub next_none : (stream : StreamId) (start : Token) (log : List Event) (from to : ℕ) → to ≤ length log → first_at (λ event. is_owed stream start event) from (between log from to) ≡ None → IsClear (marks_of stream start log) from to
+next_none stream start log from to within e q at_least below =
+    let size = length-between log from to within in
+    let none = first_at-none (λ event. is_owed stream start event) from (between log from to) no_event e (q - from) (omega arith) in
+    let same : from + (q - from) ≡ q = omega arith in
+    ap (λ q. get_or (marks_of stream start log) q false) (sym same)
+    ∙ mark-at (λ event. is_owed stream start event) log (from + (q - from)) (omega arith) ∙ ap (λ event. is_owed stream start event) (sym (between-at log from to (q - from) (omega arith))) ∙ none

@@ -1,0 +1,169 @@
+-- Worked examples: what a new partition replies to a few operations, by computation.
+use Rattle.std.proofs.Common.{◌≡◌, ℕ, List, [], ◌∷◌, ◌++◌, map, Some, refl}
+use Rattle.std.specs.List.{range_with_len}
+use Rattle.std.specs.Prelude.{codes, reverse}
+use Rattle.stream_ident.specs.declared.event.Event.{Event}
+use Rattle.stream_ident.specs.declared.ident.GrainId.{GrainId}
+use Rattle.stream_ident.specs.declared.ident.StreamId.{StreamId}
+use Rattle.stream_ident.specs.declared.ident.SubName.{SubName}
+use Rattle.stream_ident.specs.declared.ident.SubName.TheVariants.{Explicit, Implicit}
+use Rattle.stream_ident.specs.declared.token.Token.{Token}
+use Rattle.stream_model.specs.declared.drain_end.DrainEnd.TheVariants.{Drained}
+use Rattle.stream_model.specs.declared.limits.Limits.{Limits}
+use Rattle.stream_model.specs.declared.op.Op.{Op}
+use Rattle.stream_model.specs.declared.op.Op.TheVariants.{Publish, Subscribe, Unsubscribe, AddRule, Pull, Deliver, Begin, Commit, Deactivate, Move}
+use Rattle.stream_model.specs.declared.op.Start.TheVariants.{Latest, At}
+use Rattle.stream_model.specs.declared.plain.PlainPartition.{PlainPartition}
+use Rattle.stream_model.specs.declared.reply.Reply.{Reply}
+use Rattle.stream_model.specs.declared.reply.Reply.TheVariants as reply
+use Rattle.stream_model.specs.Draining.{drain, drain_all, after_pull, serve_each, serve, deliver_all, after_deliver, acknowledge, deliver_once_more, take_turn, take_turns}
+use Rattle.stream_model.specs.NewestFirst.{Entry, handled_events, owed_events}
+use Rattle.stream_model.specs.Positions.{empty}
+use Rattle.stream_model.specs.Publishing.{publish, subscribe, subscribe_at, unsubscribe, unsubscribe_from, add_rule}
+use Rattle.stream_model.specs.Pulling.{pull, pull_want, pull_count, pull_events, deliver, deliver_to, deliver_position, ack, ack_of, ack_position, move, move_to}
+use Rattle.stream_model.specs.Step.{step, after_steps, replies_of}
+use Rattle.stream_model.specs.Turns.{begin, begin_in, begin_front, begin_for, begin_turn, commit, commit_running, commit_for, deactivate, deactivate_in}
+use Prim.Native.String.{String}
+
+-- `unfolding steps` lets `refl` compute the steps of a partition
+steps : Unit {0}
+unfolding step publish subscribe subscribe_at unsubscribe unsubscribe_from add_rule pull pull_want pull_count pull_events deliver deliver_to deliver_position ack ack_of ack_position begin begin_in begin_front begin_for begin_turn commit commit_running commit_for deactivate deactivate_in move move_to
+steps = tt
+
+-- and `unfolding steps drains` its drains
+drains : Unit {0}
+unfolding drain drain_all after_pull serve_each serve deliver_all after_deliver acknowledge deliver_once_more take_turn take_turns
+drains = tt
+
+-- the greatest limits
+abbrev greatest : Limits
+greatest = record { events = 1000000; subs = 10000; rules = 64; rises = 4000000 }
+
+-- Names and payloads are written as ASCII texts, of which `codes` is the list of the bytes.
+abbrev stream : String → String → StreamId
+stream namespace key = record { namespace = codes namespace; key = codes key }
+
+abbrev grain : String → String → GrainId
+grain kind key = record { kind = codes kind; key = codes key }
+
+-- the subscription that a rule makes of a stream
+abbrev implicit : String → String → String → SubName
+implicit kind namespace key = Implicit (codes kind) (stream namespace key)
+
+abbrev token : ℕ → ℕ → Token
+token seq idx = record { seq = seq; idx = idx }
+
+-- a batch of one payload
+abbrev batch : String → List (List ℕ)
+batch payload = codes payload ∷ []
+
+abbrev event : StreamId → Token → String → Event
+event stream token payload = record { stream = stream; token = token; payload = codes payload }
+
+-- an operation and its reply
+infix 70 ◌⇒◌
+abbrev ◌⇒◌ : Op → Reply → Entry
+op ⇒ answer = record { op = op; reply = answer }
+
+abbrev operations : List Entry → List Op
+operations entries = map (λ e. e.op) entries
+
+abbrev replies : List Entry → List Reply
+replies entries = map (λ e. e.reply) entries
+
+-- the partition after these operations
+abbrev after : PlainPartition → List Entry → PlainPartition
+after p entries = after_steps p (operations entries)
+
+-- and after a drain
+abbrev drained : PlainPartition → PlainPartition
+drained p = (drain p).0.now
+
+-- Deliveries that a deactivated grain loses are made again, the first event first, and the grain's next
+-- turn is of another activation.
+abbrev lost_deliveries : List Entry
+lost_deliveries =
+    Subscribe (stream "o" "k") (grain "g" "x") Latest ⇒ reply.Subscribed 1
+    ∷ Publish (stream "o" "k") (batch "a") ⇒ reply.Published 0
+    ∷ Publish (stream "o" "k") (batch "b") ⇒ reply.Published 1
+    ∷ Pull 0 32 ⇒ reply.Pulled 2 (token 0 0) (token 2 0)
+    ∷ Deliver 0 (Explicit 1) ⇒ reply.Delivered (token 0 0)
+    ∷ Deliver 0 (Explicit 1) ⇒ reply.Delivered (token 1 0)
+    ∷ Deactivate (grain "g" "x") ⇒ reply.Deactivated 2
+    ∷ Deliver 0 (Explicit 1) ⇒ reply.Delivered (token 0 0)
+    ∷ Begin (grain "g" "x") 1 ⇒ reply.Turn (Explicit 1) 2 1 (event (stream "o" "k") (token 0 0) "a" ∷ []) 0
+    ∷ []
+
+pub lost_deliveries_come_again : replies_of (empty 4 greatest) (operations lost_deliveries) ≡ replies lost_deliveries
+unfolding steps
+lost_deliveries_come_again = refl
+
+-- A cache of one block is full of events that are not yet acknowledged, and a drain moves it on. Then a
+-- start below the low token is a miss, and one at the low token is none.
+abbrev full_cache : List Entry
+full_cache =
+    Subscribe (stream "o" "k") (grain "g" "x") Latest ⇒ reply.Subscribed 1
+    ∷ map (λ seq. Publish (stream "o" "k") (batch "e") ⇒ reply.Published seq) (range_with_len 0 65)
+    ++ Pull 0 64 ⇒ reply.Pulled 64 (token 0 0) (token 64 0)
+    ∷ Pull 0 64 ⇒ reply.Pressed (Explicit 1)
+    ∷ []
+
+abbrev starts_in_the_past : List Entry
+starts_in_the_past =
+    Subscribe (stream "o" "k") (grain "g" "y") (At (token 0 0)) ⇒ reply.Miss (token 0 0) (token 64 0) (token 65 0)
+    ∷ Subscribe (stream "o" "k") (grain "g" "y") (At (token 64 0)) ⇒ reply.Subscribed 2
+    ∷ []
+
+pub start_below_low_is_a_miss :
+    (replies_of (empty 1 greatest) (operations full_cache) ≡ replies full_cache)
+    × ((drain (after (empty 1 greatest) full_cache)).1 ≡ Some (Drained 65))
+    × (replies_of (drained (after (empty 1 greatest) full_cache)) (operations starts_in_the_past) ≡ replies starts_in_the_past)
+unfolding steps drains
+start_below_low_is_a_miss = (refl, refl, refl)
+
+-- A rule makes a subscription of the stream's later events. After a move the subscription is the same one:
+-- the event that it has handled isn't handled again, and only the event of the other stream is left.
+abbrev rule_and_move : List Entry
+rule_and_move =
+    Publish (stream "o" "a") (batch "1") ⇒ reply.Published 0
+    ∷ AddRule (codes "log") (codes "o") ⇒ reply.RuleAdded 1
+    ∷ Publish (stream "o" "a") (batch "2") ⇒ reply.Published 1
+    ∷ Publish (stream "o" "b") (batch "3") ⇒ reply.Published 2
+    ∷ Pull 0 32 ⇒ reply.Pulled 3 (token 0 0) (token 3 0)
+    ∷ Deliver 0 (implicit "log" "o" "a") ⇒ reply.Delivered (token 1 0)
+    ∷ Begin (grain "log" "a") 1 ⇒ reply.Turn (implicit "log" "o" "a") 1 1 (event (stream "o" "a") (token 1 0) "2" ∷ []) 0
+    ∷ Commit (grain "log" "a") 1 1 1 ⇒ reply.Committed (implicit "log" "o" "a") (token 1 0)
+    ∷ Move 1 ⇒ reply.Moved 1 (token 0 0)
+    ∷ []
+
+abbrev refusals_of_implicit : List Entry
+refusals_of_implicit =
+    Unsubscribe (implicit "log" "o" "a") ⇒ reply.Implicit
+    ∷ AddRule (codes "log") (codes "o") ⇒ reply.RuleThere
+    ∷ []
+
+pub implicit_subscription_outlives_a_move :
+    (replies_of (empty 4 greatest) (operations rule_and_move) ≡ replies rule_and_move)
+    × ((drain (after (empty 4 greatest) rule_and_move)).1 ≡ Some (Drained 1))
+    × (replies_of (drained (after (empty 4 greatest) rule_and_move)) (operations refusals_of_implicit) ≡ replies refusals_of_implicit)
+unfolding steps drains
+implicit_subscription_outlives_a_move = (refl, refl, refl)
+
+-- One event from its publish to its commit: the event that the subscription is owed is the one that it
+-- has handled.
+abbrev one_event : List Entry
+one_event =
+    Subscribe (stream "o" "k") (grain "g" "x") Latest ⇒ reply.Subscribed 1
+    ∷ Publish (stream "o" "k") (batch "a") ⇒ reply.Published 0
+    ∷ Pull 0 32 ⇒ reply.Pulled 1 (token 0 0) (token 1 0)
+    ∷ Deliver 0 (Explicit 1) ⇒ reply.Delivered (token 0 0)
+    ∷ Begin (grain "g" "x") 1 ⇒ reply.Turn (Explicit 1) 1 1 (event (stream "o" "k") (token 0 0) "a" ∷ []) 0
+    ∷ Commit (grain "g" "x") 1 1 1 ⇒ reply.Committed (Explicit 1) (token 0 0)
+    ∷ []
+
+pub one_event_from_publish_to_commit :
+    (replies_of (empty 4 greatest) (operations one_event) ≡ replies one_event)
+    × (handled_events (reverse one_event) (Explicit 1) ≡ event (stream "o" "k") (token 0 0) "a" ∷ [])
+    × (owed_events (reverse one_event) (Explicit 1) ≡ event (stream "o" "k") (token 0 0) "a" ∷ [])
+unfolding steps
+one_event_from_publish_to_commit = (refl, refl, refl)

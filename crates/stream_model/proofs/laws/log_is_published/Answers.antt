@@ -1,6 +1,0 @@
-use Rattle.stream_model.proofs.KeptStep.{kept-step}
-use Rattle.stream_model.proofs.LawsOfEvents.{log_is_published-from}
-use Rattle.stream_model.proofs.laws.log_is_published.Goals as goal
-
-pub returns : goal.returns
-returns c = log_is_published-from kept-step

@@ -1,6 +1,0 @@
-use Rattle.stream_model.proofs.KeptStep.{kept-step}
-use Rattle.stream_model.proofs.LawsOfEvents.{owed_is_kept-from}
-use Rattle.stream_model.proofs.laws.owed_is_kept.Goals as goal
-
-pub returns : goal.returns
-returns c = owed_is_kept-from kept-step

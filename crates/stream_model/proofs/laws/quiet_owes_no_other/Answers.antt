@@ -1,6 +1,0 @@
-use Rattle.stream_model.proofs.KeptStep.{kept-step}
-use Rattle.stream_model.proofs.LawsOfQuiet.{quiet_owes_no_other-from}
-use Rattle.stream_model.proofs.laws.quiet_owes_no_other.Goals as goal
-
-pub returns : goal.returns
-returns c = quiet_owes_no_other-from kept-step

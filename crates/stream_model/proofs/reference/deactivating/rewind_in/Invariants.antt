@@ -1,9 +1,0 @@
-use Rattle.std.proofs.Common.{◌≡◌, ◌++◌, ◌&&◌, drop, take}
-use Rattle.stream_ident.specs.Name.{same_grain}
-use Rattle.stream_model.specs.Pulling.{rewound_where}
-use Rattle.stream_ident.specs.Words.{each_value}
-use Rattle.stream_model.proofs.reference.deactivating.rewind_in.Given as goal
-
-abbrev pub invariant-loop-entry : goal.invariant-loop-entry
-invariant-loop-entry l =
-    l.subs ≡ each_value (λ r. rewound_where (same_grain l.id r.grain && r.is_open) r) (take l.entry-index l.initial.subs) ++ drop l.entry-index l.initial.subs

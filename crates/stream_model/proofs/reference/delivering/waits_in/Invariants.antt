@@ -1,6 +1,0 @@
-use Rattle.std.proofs.Common.{◌≡◌, drop}
-use Rattle.stream_model.specs.Positions.{waiting_in}
-use Rattle.stream_model.proofs.reference.delivering.waits_in.Given as goal
-
-abbrev pub invariant-loop-delivery : goal.invariant-loop-delivery
-invariant-loop-delivery l = waiting_in l.sub (drop l.delivery-index l.delivery-items) ≡ waiting_in l.sub l.mailbox

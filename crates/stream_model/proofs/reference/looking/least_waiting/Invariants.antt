@@ -1,8 +1,0 @@
-use Rattle.std.proofs.Common.{◌≡◌, drop, None}
-use Rattle.stream_ident.specs.Name.{grain_lt}
-use Rattle.stream_model.specs.Looks.{is_waiting}
-use Rattle.stream_model.specs.Least.{least_key}
-use Rattle.stream_model.proofs.reference.looking.least_waiting.Given as goal
-
-abbrev pub invariant-loop-index : goal.invariant-loop-index
-invariant-loop-index l = l.least ≡ least_key grain_lt None is_waiting (drop l.index l.grains)

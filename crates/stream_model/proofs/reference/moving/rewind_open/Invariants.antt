@@ -1,9 +1,0 @@
-use Rattle.std.proofs.Common.{◌≡◌}
-use Rattle.stream_model.specs.declared.plain.Subscription.{Subscription}
-use Rattle.stream_model.specs.Pulling.{rewound_where}
-use Rattle.stream_model.proofs.EachValue.{changed_front}
-use Rattle.stream_model.proofs.reference.moving.rewind_open.Given as goal
-
-abbrev pub invariant-loop-place : goal.invariant-loop-place
-invariant-loop-place l =
-    l.subs ≡ changed_front (λ (r : Subscription). rewound_where r.is_open r) l.place l.initial.subs

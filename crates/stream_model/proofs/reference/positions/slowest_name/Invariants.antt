@@ -1,6 +1,0 @@
-use Rattle.std.proofs.Common.{◌≡◌, drop}
-use Rattle.stream_model.proofs.SlowestName.{least_at}
-use Rattle.stream_model.proofs.reference.positions.slowest_name.Given as goal
-
-abbrev pub invariant-loop-index : goal.invariant-loop-index
-invariant-loop-index l = l.least ≡ least_at l.resume (drop l.index l.subs)

@@ -1,7 +1,0 @@
-use Rattle.std.proofs.Common.{◌≡◌, ℕ, drop}
-use Rattle.stream_model.specs.Pulling.{all_implied}
-use Rattle.stream_model.proofs.ImpliedNames.{has}
-use Rattle.stream_model.proofs.reference.pulling.makes.Given as goal
-
-abbrev pub invariant-loop-event : goal.invariant-loop-event
-invariant-loop-event l = (position : ℕ) → has l.name (all_implied l.rules position (drop l.event-index l.events)) ≡ has l.name (all_implied l.rules position l.events)

@@ -1,9 +1,0 @@
-use Rattle.std.proofs.Common.{◌≡◌, drop}
-use Rattle.stream_ident.specs.Name.{same_grain}
-use Rattle.stream_ident.specs.Words.{first_at}
-use Rattle.stream_model.specs.Places.{place_of}
-use Rattle.stream_model.proofs.reference.records.place_of_grain.Given as goal
-
-abbrev pub invariant-loop-place : goal.invariant-loop-place
-invariant-loop-place l =
-    first_at (λ entry. same_grain l.id entry.0) l.place (drop l.place l.grains) ≡ place_of same_grain l.id l.grains

@@ -1,8 +1,0 @@
-use Rattle.std.proofs.Common.{refl, false}
-use Rattle.stream_model.specs.declared.plain.Subscription.{Subscription}
-use Rattle.stream_model.proofs.Lookups.{change_at-written}
-use Rattle.stream_model.proofs.reference.unsubscribing.close.Goals as goal
-
-pub returns : goal.returns
-returns c =
-    change_at-written (λ (r : Subscription). record r { is_open = false }) c.args.place c.subs.inside.items.items c.args.subs.now c.index_mut.result.now _ c.subs.view_is c.index_mut.ensures.value c.requires refl

@@ -1,0 +1,17 @@
+use Rattle.std.proofs.Common.{◌≡◌, ℕ, ◌-◌, ◌<◌, ◌≤◌, true, false, length, get_or}
+use Rattle.stream_ident.specs.Token.{token_lt}
+use Rattle.partition_queue.specs.Queue.{token_at}
+use Rattle.subscription_table.proofs.progress.lower_bound.Given as goal
+
+-- the tokens below low are less than the one sought, and those from high on aren't
+abbrev pub invariant-loop-low : goal.invariant-loop-low
+invariant-loop-low l =
+    record {
+      order : l.low ≤ l.high;
+      within : l.high ≤ length l.handled;
+      less : (i : ℕ) → i < l.low → token_lt (token_at l.queue (get_or l.handled i 0)) l.token ≡ true;
+      others : (i : ℕ) → l.high ≤ i → i < length l.handled → token_lt (token_at l.queue (get_or l.handled i 0)) l.token ≡ false;
+    }
+
+abbrev pub decreases-loop-low : goal.decreases-loop-low
+decreases-loop-low l = l.high - l.low

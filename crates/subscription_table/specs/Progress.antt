@@ -1,0 +1,47 @@
+-- How a subscription goes on over the log: what each call makes of its state, and what it tells.
+use Rattle.std.specs.Prelude.{ℕ, ◌<◌, ◌≤◌, Bool, not, List, [], ◌∷◌, filter, Option, Some, None, if◌then◌else◌}
+use Rattle.stream_ident.specs.declared.ident.StreamId.{StreamId}
+use Rattle.stream_ident.specs.declared.token.Token.{Token}
+use Rattle.stream_ident.specs.Token.{same_token}
+use Rattle.partition_queue.specs.Queue.{PlainQueue, token_at}
+use Rattle.queue_cache.specs.Cache.{PlainCache, high}
+use Rattle.cache_cursor.specs.Cursor.{next_in}
+use Rattle.consumer_grain.specs.Subscriptions.{PlainState, acknowledged, caught_up, rewound}
+use Rattle.subscription_table.specs.declared.progress.Acked.{Acked}
+use Rattle.subscription_table.specs.declared.progress.Acked.TheVariants as ack_told
+use Rattle.subscription_table.specs.declared.progress.Retried.{Retried}
+use Rattle.subscription_table.specs.declared.progress.Retried.TheVariants as retry_told
+use Rattle.subscription_table.specs.declared.progress.Sought.{Sought}
+use Rattle.subscription_table.specs.declared.progress.Sought.TheVariants as sought
+
+-- with nothing more for it in the cache, it has caught up
+abbrev pub next_at : PlainCache → PlainState → Bool → Option ℕ → PlainState × Sought
+next_at cache state outstanding None = (caught_up (high cache) outstanding state, sought.Nothing)
+next_at cache state outstanding (Some position) = (state, sought.Next position)
+
+-- the next event of a cache that it is owed
+abbrev pub next_event : PlainCache → PlainState → StreamId → Bool → PlainState × Sought
+next_event cache state stream outstanding =
+    if not state.is_open then (state, sought.Closed) else next_at cache state outstanding (next_in cache state.cursor stream state.start)
+
+-- an event that was found is in the cache, and not before the cursor
+abbrev pub IsFound : PlainCache → PlainState → Sought → Type 0
+IsFound cache state (sought.Next position) = (state.cursor ≤ position) × (position < high cache)
+IsFound cache state _ = Unit {0}
+
+-- what isn't acknowledged is sought again
+abbrev pub retry : PlainState → PlainState × Retried
+retry state = if not state.is_open then (state, retry_told.Closed) else (rewound state, retry_told.Rewound)
+
+-- the handled positions with this token
+abbrev pub handled_at : List ℕ → PlainQueue → Token → List ℕ
+handled_at handled queue token = filter (λ position. same_token (token_at queue position) token) handled
+
+abbrev pub ack_at : PlainState → List ℕ → PlainState × Acked
+ack_at state [] = (state, ack_told.NotHandled)
+ack_at state (position ∷ positions) = (acknowledged position state, ack_told.Acked)
+
+-- what it is owed up to and with a handled event is acknowledged
+abbrev pub ack : PlainState → PlainQueue → Token → PlainState × Acked
+ack state queue token =
+    if not state.is_open then (state, ack_told.Closed) else ack_at state (handled_at state.handled queue token)

@@ -1,5 +1,0 @@
-mod agreeing;
-mod calls;
-mod fixture;
-mod refused_memory;
-mod walks;

@@ -1,5 +1,0 @@
-use Rattle.turnstile.specs.Calls.{IsOf}
-use Rattle.turnstile.proofs.tests.add_many.Given as goal
-
-abbrev pub invariant-loop-amount : goal.invariant-loop-amount
-invariant-loop-amount g l = IsOf (λ t. t.sum) l.turnstile l.pass
