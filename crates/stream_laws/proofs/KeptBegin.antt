@@ -180,7 +180,7 @@ kept-begin_front t p g max_events n [] some bound active idle is_mailbox fits = 
 kept-begin_front t p g max_events n (d ∷ deliveries) some bound active idle is_mailbox fits =
     kept-begin_for t p g max_events n d deliveries (sub_at p d.sub) some bound active idle is_mailbox refl fits
 
-none-there : {A : Type 0} (o : Option A) → is_some o ≡ false → o ≡ None
+pub none-there : {A : Type 0} (o : Option A) → is_some o ≡ false → o ≡ None
 none-there None e = refl
 none-there (Some x) e = absurd (true≢false e)
 

@@ -39,8 +39,12 @@ pub mod KeptUnsubscribe
 pub mod KeyLists
 pub mod LastHandled
 pub mod LawsOfEvents
+pub mod LawsOfFronts
+pub mod LawsOfHistories
 pub mod LawsOfMisses
 pub mod LawsOfQuiet
+pub mod LawsOfRecords
+pub mod LawsOfTokens
 pub mod LawsOfTurns
 pub mod Legal
 pub mod LogGrown
