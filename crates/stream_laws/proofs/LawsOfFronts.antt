@@ -17,6 +17,7 @@ use Rattle.stream_model.specs.declared.plain.Subscription.{Subscription}
 use Rattle.stream_model.specs.declared.reply.Reply.{Reply}
 use Rattle.stream_model.specs.declared.reply.Reply.TheVariants.{Turn}
 use Rattle.stream_model.specs.Positions.{events_at, grain_at, is_spent, sub_at}
+use Rattle.stream_model.specs.Step.{step}
 use Rattle.stream_model.specs.Turns.{begin, begin_for, begin_front, begin_in, begin_turn, front_of}
 use Rattle.stream_laws.specs.Laws.{IsGreatest, IsTurnFront, TurnsAreLongest}
 use Rattle.stream_laws.proofs.EventLemmas.{length-events_at}
@@ -174,4 +175,5 @@ longest-begin p g max_events =
     (λ _. longest-begin_front p g (turn_size max_events) st st.mailbox refl))
 
 pub turns-longest : TurnsAreLongest
+unfolding step
 turns-longest p grain max_events s activation turn note events told = longest-begin p grain max_events s activation turn note events told

@@ -39,7 +39,8 @@ use Rattle.stream_laws.proofs.UniqueSteps.{steady-legal}
 pub cache_in_bounds-from : StepsKeep → CacheInBounds
 cache_in_bounds-from keep blocks limits history p stands =
     let log = (fits-stands keep blocks limits history p stands).log in
-    (log.low_high, subst (λ events. p.high ≤ length events) log.log log.high_end)
+    let steady = steady-legal blocks limits history p stands in
+    (log.low_high, subst (λ events. p.high ≤ length events) log.log log.high_end, omega (arith, steady.size, steady.blocks))
 
 pub records_are_open-from : StepsKeep → RecordsAreOpen
 records_are_open-from keep blocks limits history p stands s r found =

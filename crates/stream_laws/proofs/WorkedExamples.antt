@@ -1,5 +1,5 @@
 -- Worked examples: what a new partition replies to a few operations, by computation.
-use Rattle.std.proofs.Common.{◌≡◌, ℕ, Bool, true, false, List, [], ◌∷◌, ◌++◌, length, map, Option, Some, None, option_map, refl}
+use Rattle.std.proofs.Common.{◌≡◌, ℕ, ◌-◌, Bool, true, false, List, [], ◌∷◌, ◌++◌, length, map, Option, Some, None, option_map, refl}
 use Rattle.std.specs.List.{range_with_len}
 use Rattle.std.specs.Prelude.{codes, reverse}
 use Rattle.stream_ident.specs.declared.event.Event.{Event}
@@ -234,11 +234,13 @@ unfolding steps
 turn_ends_at_another_or_a_repeat = refl
 
 -- Of those operations, the tokens that were published rise within a batch and from one to the next, and the
--- cache reaches from the first of them to the last. Before the first operation it is empty.
+-- cache reaches from the first of them to the last. Before the first operation it is empty, and a cache of
+-- one block may have all its 64 events.
 pub cache_reaches_what_was_published :
     (map (λ (published : Event). published.token) (published_events (reverse turns_of_a_mailbox)) ≡ token 0 0 ∷ token 0 1 ∷ token 0 2 ∷ token 1 0 ∷ [])
     × ((after (empty 4 greatest) turns_of_a_mailbox).low ≡ 0)
     × ((after (empty 4 greatest) turns_of_a_mailbox).high ≡ length (published_events (reverse turns_of_a_mailbox)))
     × ((empty 4 greatest).low ≡ (empty 4 greatest).high)
+    × ((after (empty 1 greatest) full_cache).high - (after (empty 1 greatest) full_cache).low ≡ 64)
 unfolding steps
-cache_reaches_what_was_published = (refl, refl, refl, refl)
+cache_reaches_what_was_published = (refl, refl, refl, refl, refl)

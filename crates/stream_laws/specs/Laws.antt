@@ -11,7 +11,7 @@ use Rattle.stream_ident.specs.declared.token.Token.{Token}
 use Rattle.stream_ident.specs.Token.{token_lt}
 use Rattle.stream_model.specs.declared.limits.Limits.{Limits}
 use Rattle.stream_model.specs.declared.op.Op.{Op}
-use Rattle.stream_model.specs.declared.op.Op.TheVariants.{Subscribe, Commit}
+use Rattle.stream_model.specs.declared.op.Op.TheVariants.{Subscribe, Begin, Commit}
 use Rattle.stream_model.specs.declared.op.Start.{Start}
 use Rattle.stream_model.specs.declared.op.Start.TheVariants.{Latest, At}
 use Rattle.stream_model.specs.declared.plain.Delivery.{Delivery}
@@ -23,8 +23,7 @@ use Rattle.stream_model.specs.History.{Entry, binding_of, handled_events, is_clo
 use Rattle.stream_model.specs.Looks.{quiet}
 use Rattle.stream_model.specs.Positions.{events_at, grain_at, slowest, sub_at}
 use Rattle.stream_model.specs.Pulling.{drops, purges, room}
-use Rattle.stream_model.specs.Step.{Leads, Stands, after_steps, replies_of}
-use Rattle.stream_model.specs.Turns.{begin}
+use Rattle.stream_model.specs.Step.{Leads, Stands, after_steps, replies_of, step}
 use Rattle.stream_ident.specs.Words.{IsPrefixOf}
 
 -- P holds of each legal history and of the partition that it leaves
@@ -100,7 +99,7 @@ pub record IsTurnFront (mailbox : List Delivery) (most : ℕ) (s : SubName) (n :
 abbrev pub TurnsAreLongest : Type 0
 TurnsAreLongest =
     (p : PlainPartition) (grain : GrainId) (max_events : ℕ) (s : SubName) (activation turn note : ℕ) (events : List Event)
-    → (begin p grain max_events).1 ≡ Turn s activation turn events note
+    → (step p (Begin grain max_events)).1 ≡ Turn s activation turn events note
     → (events ≡ events_at p.log (map (λ d. d.position) (take (length events) (grain_at p grain).mailbox)))
     × IsGreatest (IsTurnFront (grain_at p grain).mailbox (min 16 (max 1 max_events)) s) (length events)
 
@@ -169,9 +168,12 @@ LatestIsNeverMissed =
     AtEach (λ before e. (stream : StreamId) (grain : GrainId) → e.op ≡ Subscribe stream grain Latest
     → (requested low high : Token) → e.reply ≢ Miss requested low high)
 
--- The cache begins no later than it ends, and ends no later than what was published.
+-- The cache begins no later than it ends, ends no later than what was published, and has no more events than
+-- its blocks hold.
 abbrev pub CacheInBounds : Type 0
-CacheInBounds = Always (λ history p. (p.low ≤ p.high) × (p.high ≤ length (published_events history)))
+CacheInBounds =
+    (blocks : ℕ) (limits : Limits) (history : List Entry) (p : PlainPartition) → Stands blocks limits history p
+    → (p.low ≤ p.high) × (p.high ≤ length (published_events history)) × (p.high - p.low ≤ 64 * blocks)
 
 -- What an open subscription is owed and hasn't handled isn't below the low token.
 abbrev pub OwedIsKept : Type 0

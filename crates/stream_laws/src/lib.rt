@@ -99,7 +99,8 @@ pub fn latest_is_never_missed()
     ensures { LatestIsNeverMissed }
 {}
 
-/// The cache begins no later than it ends, and ends no later than what was published.
+/// The cache begins no later than it ends, ends no later than what was published, and has no more events than
+/// its blocks hold.
 pub fn cache_in_bounds()
     ensures { CacheInBounds }
 {}
