@@ -30,7 +30,7 @@ use Rattle.stream_model.specs.Publishing.{subscribe, subscribe_at}
 use Rattle.stream_model.specs.Step.{step}
 use Rattle.stream_laws.specs.Laws.{CacheInBounds, NamesDiffer, NumbersAreNew, RecordsAreOpen, UnknownHasNoRecord, gives, is_given}
 use Rattle.stream_laws.proofs.Invariant.{Fits}
-use Rattle.stream_laws.proofs.KeptBegin.{none-there}
+use Rattle.stream_laws.proofs.IdleGrains.{none-there}
 use Rattle.stream_laws.proofs.Legal.{StepsKeep, fits-stands, reaches-stands}
 use Rattle.stream_laws.proofs.Summary.{Summary, summary}
 use Rattle.stream_laws.proofs.Unique.{AreUnique}

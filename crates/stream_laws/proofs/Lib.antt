@@ -45,6 +45,7 @@ pub mod LawsOfMisses
 pub mod LawsOfQuiet
 pub mod LawsOfRecords
 pub mod LawsOfTokens
+pub mod LawsOfRunning
 pub mod LawsOfTurns
 pub mod Legal
 pub mod LogGrown
@@ -57,6 +58,7 @@ pub mod OneChanged
 pub mod OpenResumes
 pub mod PassedPositions
 pub mod RuleLemmas
+pub mod RunningSteps
 pub mod RunningTurns
 pub mod ServedLemmas
 pub mod Summary

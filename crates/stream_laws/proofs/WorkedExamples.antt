@@ -233,7 +233,32 @@ pub turn_ends_at_another_or_a_repeat : replies_of (empty 4 greatest) (operations
 unfolding steps
 turn_ends_at_another_or_a_repeat = refl
 
--- Of those operations, the tokens that were published rise within a batch and from one to the next, and the
+-- While a turn of a grain runs no other begins; after a deactivation, and after a commit that is answered
+-- Closed, the next one does.
+abbrev turn_after_turn : List Entry
+turn_after_turn =
+    Subscribe (stream "o" "k") (grain "g" "x") Latest ⇒ reply.Subscribed 1
+    ∷ Subscribe (stream "o" "k") (grain "g" "x") Latest ⇒ reply.Subscribed 2
+    ∷ Publish (stream "o" "k") (batch "a") ⇒ reply.Published 0
+    ∷ Pull 0 32 ⇒ reply.Pulled 1 (token 0 0) (token 1 0)
+    ∷ Deliver 0 (Explicit 1) ⇒ reply.Delivered (token 0 0)
+    ∷ Begin (grain "g" "x") 1 ⇒ reply.Turn (Explicit 1) 1 1 (event (stream "o" "k") (token 0 0) "a" ∷ []) 0
+    ∷ Begin (grain "g" "x") 1 ⇒ reply.Busy
+    ∷ Deactivate (grain "g" "x") ⇒ reply.Deactivated 1
+    ∷ Deliver 0 (Explicit 1) ⇒ reply.Delivered (token 0 0)
+    ∷ Begin (grain "g" "x") 1 ⇒ reply.Turn (Explicit 1) 2 2 (event (stream "o" "k") (token 0 0) "a" ∷ []) 0
+    ∷ Unsubscribe (Explicit 1) ⇒ reply.Unsubscribed 0
+    ∷ Deliver 0 (Explicit 2) ⇒ reply.Delivered (token 0 0)
+    ∷ Begin (grain "g" "x") 1 ⇒ reply.Busy
+    ∷ Commit (grain "g" "x") 2 2 1 ⇒ reply.Closed
+    ∷ Begin (grain "g" "x") 1 ⇒ reply.Turn (Explicit 2) 2 3 (event (stream "o" "k") (token 0 0) "a" ∷ []) 0
+    ∷ []
+
+pub turn_begins_after_the_last : replies_of (empty 4 greatest) (operations turn_after_turn) ≡ replies turn_after_turn
+unfolding steps
+turn_begins_after_the_last = refl
+
+-- Of the operations on a mailbox, the tokens that were published rise within a batch and from one to the next, and the
 -- cache reaches from the first of them to the last. Before the first operation it is empty, and a cache of
 -- one block may have all its 64 events.
 pub cache_reaches_what_was_published :

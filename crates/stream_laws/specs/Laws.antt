@@ -1,6 +1,6 @@
 -- What holds of every legal history, from the definitions alone. A history stands as it is told, its oldest
 -- entry first.
-use Rattle.std.specs.Prelude.{◌≡◌, ◌≢◌, ◌⊎◌, ℕ, ◌+◌, ◌-◌, ◌*◌, ◌/◌, ◌≤◌, ◌<◌, min, max, Bool, true, false, not, List, [], ◌∷◌, ◌++◌, length, map, take, drop, zip, All, AllPairs, Some, None, is_some, ◌==◌}
+use Rattle.std.specs.Prelude.{◌≡◌, ◌≢◌, ◌⊎◌, ℕ, ◌+◌, ◌-◌, ◌*◌, ◌/◌, ◌≤◌, ◌<◌, min, max, Bool, true, false, ◌&&◌, not, List, [], ◌∷◌, ◌++◌, length, map, take, drop, zip, All, AllPairs, Some, None, is_some, ◌==◌}
 use Rattle.std.specs.List.{AllByRecursion, list_any}
 use Rattle.stream_ident.specs.declared.event.Event.{Event}
 use Rattle.stream_ident.specs.declared.ident.GrainId.{GrainId}
@@ -8,17 +8,18 @@ use Rattle.stream_ident.specs.declared.ident.StreamId.{StreamId}
 use Rattle.stream_ident.specs.declared.ident.SubName.{SubName}
 use Rattle.stream_ident.specs.declared.ident.SubName.TheVariants as name
 use Rattle.stream_ident.specs.declared.token.Token.{Token}
+use Rattle.stream_ident.specs.Name.{same_grain}
 use Rattle.stream_ident.specs.Token.{token_lt}
 use Rattle.stream_model.specs.declared.limits.Limits.{Limits}
 use Rattle.stream_model.specs.declared.op.Op.{Op}
-use Rattle.stream_model.specs.declared.op.Op.TheVariants.{Subscribe, Begin, Commit}
+use Rattle.stream_model.specs.declared.op.Op.TheVariants.{Subscribe, Begin, Commit, Deactivate}
 use Rattle.stream_model.specs.declared.op.Start.{Start}
 use Rattle.stream_model.specs.declared.op.Start.TheVariants.{Latest, At}
 use Rattle.stream_model.specs.declared.plain.Delivery.{Delivery}
 use Rattle.stream_model.specs.declared.plain.PlainPartition.{PlainPartition}
 use Rattle.stream_model.specs.declared.plain.Subscription.{Subscription}
 use Rattle.stream_model.specs.declared.reply.Reply.{Reply}
-use Rattle.stream_model.specs.declared.reply.Reply.TheVariants.{Subscribed, Miss, Turn, Committed, IsQuiet}
+use Rattle.stream_model.specs.declared.reply.Reply.TheVariants.{Subscribed, Miss, Turn, Committed, Closed, Deactivated, IsQuiet}
 use Rattle.stream_model.specs.History.{Entry, binding_of, handled_events, is_closed, last_note, low_told, owed_events, published_events, times_begun, times_committed}
 use Rattle.stream_model.specs.Looks.{quiet}
 use Rattle.stream_model.specs.Positions.{events_at, grain_at, slowest, sub_at}
@@ -82,6 +83,26 @@ abbrev pub TurnsInOrder : Type 0
 TurnsInOrder =
     AtEach (λ before e. (s : SubName) (activation turn note : ℕ) (events : List Event)
     → e.reply ≡ Turn s activation turn events note → IsNextTurn before s events note)
+
+-- an entry begins the turn of a grain with this number
+abbrev pub begins : GrainId → ℕ → Op → Reply → Bool
+begins grain number (Begin g max_events) (Turn s activation turn events note) = same_grain grain g && (turn == number)
+begins grain number _ _ = false
+
+-- an entry ends it: by its commit, also where the subscription is closed, or by a deactivation of the grain
+abbrev pub ends : GrainId → ℕ → Op → Reply → Bool
+ends grain number (Commit g activation turn note) (Committed s token) = same_grain grain g && (turn == number)
+ends grain number (Commit g activation turn note) Closed = same_grain grain g && (turn == number)
+ends grain number (Deactivate g) (Deactivated lost) = same_grain grain g
+ends grain number _ _ = false
+
+-- One turn of a grain runs at a time: between the begins of two the first of them is ended.
+abbrev pub OneTurnAtATime : Type 0
+OneTurnAtATime =
+    (blocks : ℕ) (limits : Limits) (before : List Entry) (first : Entry) (between : List Entry) (second : Entry) (later : List Entry) (p : PlainPartition)
+    → Stands blocks limits (before ++ first ∷ (between ++ second ∷ later)) p
+    → (grain : GrainId) (turn next : ℕ) → begins grain turn first.op first.reply ≡ true → begins grain next second.op second.reply ≡ true
+    → list_any (λ e. ends grain turn e.op e.reply) between ≡ true
 
 -- n is the greatest number that has P
 abbrev pub IsGreatest : (ℕ → Type 0) → ℕ → Type 0

@@ -6,7 +6,7 @@
 #![tactic(auto)]
 
 ghost use Rattle.stream_laws.specs.DrainLaws.{DrainEnds, DrainStands, DrainedIsQuiet, DrainedTurns};
-ghost use Rattle.stream_laws.specs.Laws.{CacheInBounds, CommitsBegun, CommittedOnce, DropsAreLeast, FrontsAreLegal, HandledInOrder, HistoriesGrow, LatestIsNeverMissed, LogIsPublished, MissesBelowLow, NamesDiffer, NoneAfterClose, NoneTwice, NumbersAreNew, OneHistory, OwedIsKept, PurgesAreLeast, QuietIsDone, QuietOwesNoOther, RecordsAgree, RecordsAreOpen, TokensRise, TurnsAreLongest, TurnsInOrder, UnknownHasNoRecord};
+ghost use Rattle.stream_laws.specs.Laws.{CacheInBounds, CommitsBegun, CommittedOnce, DropsAreLeast, FrontsAreLegal, HandledInOrder, HistoriesGrow, LatestIsNeverMissed, LogIsPublished, MissesBelowLow, NamesDiffer, NoneAfterClose, NoneTwice, NumbersAreNew, OneHistory, OneTurnAtATime, OwedIsKept, PurgesAreLeast, QuietIsDone, QuietOwesNoOther, RecordsAgree, RecordsAreOpen, TokensRise, TurnsAreLongest, TurnsInOrder, UnknownHasNoRecord};
 
 /// What every legal history promises, in one: each subscription handles what it is owed in order, no event
 /// twice and none after its unsubscribe, and a start token is refused exactly where it is below the low token.
@@ -43,6 +43,12 @@ pub fn committed_once()
 /// A turn has 1 to 16 events, those that its subscription is owed next, and the note of its last commit.
 pub fn turns_in_order()
     ensures { TurnsInOrder }
+{}
+
+/// One turn of a grain runs at a time: between the begins of two the first of them is ended, by its commit or
+/// by a deactivation of the grain.
+pub fn one_turn_at_a_time()
+    ensures { OneTurnAtATime }
 {}
 
 /// A turn is the longest front of the mailbox that may be one: at most 16 events and no more than were asked
