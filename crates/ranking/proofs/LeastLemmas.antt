@@ -7,7 +7,7 @@ use Rattle.std.specs.Prelude.{slice_index, if◌then◌else◌}
 use Rattle.stream_ident.specs.Words.{above, least, lesser, next_after, or_else}
 use Rattle.least_tree.specs.Keys.{first_at_most, is_at_most}
 use Rattle.ranking.specs.Ranked.{entry_at, is_past, AreKeys, AreRanked, IsFirstPast}
-use Rattle.ranking.proofs.FirstLemmas.{first_at-None, first_at-Some}
+use Rattle.stream_ident.proofs.FirstLemmas.{first_at-None, first_at-Some}
 use Rattle.stream_ident.proofs.Order.{IsOrder}
 
 some_equal : {A : Type 0} (a b : A) → Some a ≡ Some b → a ≡ b

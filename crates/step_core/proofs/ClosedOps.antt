@@ -16,7 +16,7 @@ use Rattle.stream_model.specs.declared.reply.Reply.{Reply}
 use Rattle.stream_model.specs.declared.reply.Reply.TheVariants as reply
 use Rattle.stream_model.specs.Publishing as plain
 use Rattle.stream_model.proofs.ChangedValues.{All-changed, place_of-changed, place_of-unchanged}
-use Rattle.stream_laws.proofs.LogLemmas.{first_at-found}
+use Rattle.stream_ident.proofs.FirstLemmas.{first_at-Some}
 use Rattle.stream_model.proofs.Lookups.{place_of-value, place_of-within}
 use Rattle.stream_ident.proofs.SameValues.{same_sub-equal}
 use Rattle.consumer_grain.specs.declared.delivery.Delivery.{Delivery}
@@ -46,9 +46,9 @@ use Rattle.stream_model.proofs.EachOf.{All-filter}
 -- the entry with the number of a name has the name
 pub name-found : (s : SubName) (names : List (SubName × Registration)) (number : ℕ) (d : SubName × Registration) → place_of same_sub s names ≡ Some number → (get_or names number d).0 ≡ s
 name-found s names number d found =
-    let first = first_at-found (λ (entry : SubName × Registration). same_sub s entry.0) 0 names d number found in
-    let place : number ≡ first.0 = omega (arith, first.1) in
-    ap (λ n. (get_or names n d).0) place ∙ sym (same_sub-equal s (get_or names first.0 d).0 first.2.1)
+    let first = first_at-Some (λ (entry : SubName × Registration). same_sub s entry.0) 0 names d number found in
+    let place : number ≡ first.place = omega (arith, first.at) in
+    ap (λ n. (get_or names n d).0) place ∙ sym (same_sub-equal s (get_or names first.place d).0 first.is)
 
 -- ---- the grain forgets the record
 

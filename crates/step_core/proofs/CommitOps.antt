@@ -270,11 +270,3 @@ commit-assembled parts g i activation turn note run subs grains told assembled r
     (subst (AreKnown parts.subs.registry.names subs.states) (sym is_grains)
     (subst (λ (out : PlainTable × Reply). AreKnown parts.subs.registry.names out.0.states (change_at (λ a. (commit a activation turn).0) i parts.grains)) (sym is_handled)
     (commit-known parts g i activation turn note run assembled reached distinct lengths found is_current)))
-
--- the past of positions of the log
-pub past-within : (n : ℕ) (positions : List ℕ) → AllByRecursion (λ position. position < n) positions → past positions ≤ n
-past-within n positions all = by 0 positions (omega arith) all
-  where
-    by : (m : ℕ) (positions : List ℕ) → m ≤ n → AllByRecursion (λ position. position < n) positions → past_from m positions ≤ n
-    by m [] le all = le
-    by m (position ∷ positions) le all = by (suc position) positions (omega (arith, all.0)) all.1

@@ -16,7 +16,7 @@ use Rattle.stream_ident.specs.Blocks.{turn_size}
 use Rattle.consumer_grain.specs.declared.delivery.Delivery.{Delivery}
 use Rattle.consumer_grain.specs.declared.turn.RunningTurn.{RunningTurn}
 use Rattle.consumer_grain.specs.Subscriptions.{PlainState}
-use Rattle.grain_table.proofs.FirstLemmas.{first_at-Some}
+use Rattle.stream_ident.proofs.FirstLemmas.{first_at-Some}
 use Rattle.grain_table.specs.Changes.{activation_at, grain_at, no_grain}
 use Rattle.grain_table.specs.Grains as table
 use Rattle.pubsub_registry.specs.declared.registration.Registration.{Registration}

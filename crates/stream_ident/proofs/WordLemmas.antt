@@ -1,10 +1,10 @@
 -- The words on lists.
-use Rattle.std.proofs.Common.{◌≡◌, ◌∙◌, ℕ, zero, suc, ◌+◌, ◌≤◌, ◌<◌, List, [], ◌∷◌, ◌++◌, length, take, drop, get_or, Option, Some, None, refl, sym, ap, arith}
+use Rattle.std.proofs.Common.{◌≡◌, ◌∙◌, ℕ, zero, suc, ◌+◌, ◌-◌, ◌≤◌, ◌<◌, List, [], ◌∷◌, ◌++◌, length, take, drop, get_or, Option, Some, None, refl, sym, ap, arith}
 use Rattle.std.specs.List.{AllByRecursion}
 use Rattle.std.specs.Option.{is_some, option_map}
 use Rattle.std.specs.Prelude.{set}
 use Rattle.std.proofs.lemmas.List.{drop_more, length-take, take-take}
-use Rattle.stream_ident.specs.Words.{change_at, or_else, past_from}
+use Rattle.stream_ident.specs.Words.{change_at, or_else, past, past_from}
 
 pub or_else-none : {A : Type 0} (o : Option A) → or_else o None ≡ o
 or_else-none None = refl
@@ -17,6 +17,22 @@ or_else-parts (Some x) b none = cc
 pub past_from-append : (n : ℕ) (first second : List ℕ) → past_from n (first ++ second) ≡ past_from (past_from n first) second
 past_from-append n [] second = refl
 past_from-append n (position ∷ first) second = past_from-append (suc position) first second
+
+past_from-last : (n : ℕ) (xs : List ℕ) (k : ℕ) → suc k ≡ length xs → past_from n xs ≡ suc (get_or xs k 0)
+past_from-last n [] k len = absurd (omega arith)
+past_from-last n (x ∷ []) zero len = refl
+past_from-last n (x ∷ []) (suc k) len = absurd (omega arith)
+past_from-last n (x ∷ y ∷ xs) zero len = absurd (omega arith)
+past_from-last n (x ∷ y ∷ xs) (suc k) len = past_from-last (suc x) (y ∷ xs) k (omega arith)
+
+-- one past rising positions is one past the last
+pub past-last : (xs : List ℕ) → 0 < length xs → past xs ≡ suc (get_or xs (length xs - 1) 0)
+past-last xs some = past_from-last 0 xs (length xs - 1) (omega arith)
+
+-- where each position is below a number, one past the last is not above it
+pub past_from-within : (n end : ℕ) (xs : List ℕ) → n ≤ end → AllByRecursion (λ position. position < end) xs → past_from n xs ≤ end
+past_from-within n end [] below all = below
+past_from-within n end (x ∷ xs) below all = past_from-within (suc x) end xs (omega (arith, all.0)) all.1
 
 -- a front of a front
 pub front-of-front : {X : Type 0} (xs ys zs : List X) → take (length xs) ys ≡ xs → take (length ys) zs ≡ ys → take (length xs) zs ≡ xs

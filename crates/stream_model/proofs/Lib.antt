@@ -8,7 +8,6 @@ pub mod DeactivatingBounds
 pub mod DeliveringBounds
 pub mod EachOf
 pub mod EachValue
-pub mod Fronts
 pub mod LeastKey
 pub mod Looking
 pub mod Lookups
