@@ -16,7 +16,6 @@ use Rattle.stream_model.specs.declared.reply.Reply.{Reply}
 use Rattle.stream_model.specs.declared.reply.Reply.TheVariants as reply
 use Rattle.stream_model.specs.Publishing as plain
 use Rattle.stream_model.proofs.ChangedValues.{All-changed, place_of-changed, place_of-unchanged}
-use Rattle.stream_ident.proofs.FirstLemmas.{first_at-Some}
 use Rattle.stream_model.proofs.Lookups.{place_of-value, place_of-within}
 use Rattle.stream_ident.proofs.SameValues.{same_sub-equal}
 use Rattle.consumer_grain.specs.declared.delivery.Delivery.{Delivery}
@@ -38,17 +37,10 @@ use Rattle.step_core.specs.declared.parts.Parts.{Parts}
 use Rattle.step_core.proofs.AssembledTable.{IsAsLarge, assembled-subs}
 use Rattle.step_core.proofs.KnownMore.{known-forgotten, known-names, shut-grain, shut-length}
 use Rattle.step_core.proofs.KnownOps.{known-state}
-use Rattle.step_core.proofs.NamesOps.{name-of-entry}
+use Rattle.step_core.proofs.NamesOps.{name-of-entry, name-of-place}
 use Rattle.step_core.proofs.Shared.{distinct-of-unique}
 use Rattle.step_core.proofs.SubscriberOps.{forgotten-is, unsubscribe-implicit, unsubscribe-parts, with_shut}
 use Rattle.stream_model.proofs.EachOf.{All-filter}
-
--- the entry with the number of a name has the name
-pub name-found : (s : SubName) (names : List (SubName × Registration)) (number : ℕ) (d : SubName × Registration) → place_of same_sub s names ≡ Some number → (get_or names number d).0 ≡ s
-name-found s names number d found =
-    let first = first_at-Some (λ (entry : SubName × Registration). same_sub s entry.0) 0 names d number found in
-    let place : number ≡ first.place = omega (arith, first.at) in
-    ap (λ n. (get_or names n d).0) place ∙ sym (same_sub-equal s (get_or names first.place d).0 first.is)
 
 -- ---- the grain forgets the record
 
@@ -91,7 +83,7 @@ with_shut_name t n number =
 
 close-found : (t : PlainTable) (s : SubName) (number : ℕ) → place_of same_sub s t.registry.names ≡ Some number → close t number ≡ closed_by t number (close_found t.registry s (Some (registration_at t number)))
 close-found t s number found =
-    ap (λ s. closed_by t number (close_found t.registry s (value_at same_sub s t.registry.names))) (name-found s t.registry.names number no_entry found)
+    ap (λ s. closed_by t number (close_found t.registry s (value_at same_sub s t.registry.names))) (sym (name-of-place s t.registry.names number no_entry found))
     ∙ ap (λ (o : Option Registration). closed_by t number (close_found t.registry s o)) (place_of-value same_sub s number t.registry.names no_entry found)
 
 close-explicit : (t : PlainTable) (n number : ℕ) → AreRecords t → place_of same_sub (name.Explicit n) t.registry.names ≡ Some number
@@ -188,7 +180,7 @@ module _ (parts : Parts) (number : ℕ) where
         forgets : (n : ℕ) → place_of same_sub (name.Explicit n) names ≡ Some number → changed_value same_grain (registration_at parts.subs number).grain (plain.without (name.Explicit n)) (grains_of names parts.grains) ≡ grains_of names left_grains
         forgets n found =
             let within = place_of-within same_sub (name.Explicit n) number names found in
-            let is_name : name_at names number ≡ name.Explicit n = name-of-entry names number no_entry within ∙ name-found (name.Explicit n) names number no_entry found in
+            let is_name : name_at names number ≡ name.Explicit n = name-of-entry names number no_entry within ∙ sym (name-of-place (name.Explicit n) names number no_entry found) in
             subst (λ s. changed_value same_grain (registration_at parts.subs number).grain (plain.without s) (grains_of names parts.grains) ≡ grains_of names left_grains) is_name
             (forgotten-names names (registration_at parts.subs number).grain number parts.grains (distinct-of-unique names unique) within agrees.assembled.numbered)
 

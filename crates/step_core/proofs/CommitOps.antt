@@ -24,6 +24,7 @@ use Rattle.stream_laws.proofs.Invariant.{marks_of, running_of}
 use Rattle.stream_model.proofs.Lookups.{place_of-within}
 use Rattle.stream_laws.proofs.Marks.{IsNext}
 use Rattle.stream_model.proofs.RecordBounds.{grain-fits}
+use Rattle.stream_ident.proofs.FirstLemmas.{place_of-key}
 use Rattle.stream_ident.proofs.SameValues.{same_sub-refl}
 use Rattle.consumer_grain.specs.declared.delivery.Delivery.{Delivery}
 use Rattle.consumer_grain.specs.declared.turn.RunningTurn.{RunningTurn}
@@ -46,7 +47,7 @@ use Rattle.step_core.specs.TurnReplies.{handle}
 use Rattle.step_core.specs.View.{name_at, turn_of}
 use Rattle.step_core.proofs.GrainOps.{grain-found}
 use Rattle.step_core.proofs.KnownOps.{known-grain, known-state, or-right}
-use Rattle.step_core.proofs.KnownTurns.{ended-holds, found-own}
+use Rattle.step_core.proofs.KnownTurns.{ended-holds}
 use Rattle.step_core.proofs.NamesOps.{record-of-number}
 use Rattle.step_core.proofs.NumberedOps.{All-change_at, change_at-by, known-at}
 use Rattle.step_core.proofs.RecordOps.{record_at}
@@ -248,7 +249,7 @@ commit-known parts g i activation turn note run assembled reached distinct lengt
     below = running-below (length names) a.running run (known-at parts i assembled inside).running running
 
     theirs : IsOf names parts.grains run.sub i
-    theirs = subst (λ (h : GrainId). same_grain h (grains.grain_at parts.grains i) ≡ true) (sym (running-grain parts g i run reached found running distinct lengths below)) (found-own g i parts.grains found)
+    theirs = subst (λ (h : GrainId). same_grain h (grains.grain_at parts.grains i) ≡ true) (sym (running-grain parts g i run reached found running distinct lengths below)) (place_of-key same_grain g parts.grains no_grain i found)
 
     held : holds run.sub a ≡ true
     held = or-right (list_any (λ (d : Delivery). run.sub == d.sub) a.mailbox) (runs run.sub a.running) (ap (runs run.sub) running ∙ eq-eqb run.sub run.sub refl)

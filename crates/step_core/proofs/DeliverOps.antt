@@ -1,7 +1,7 @@
 -- An agent delivers, done by the parts.
 use Rattle.std.proofs.Common.{◌≡◌, ◌∙◌, ap, sym, refl, ℕ, zero, suc, ◌≤◌, Bool, true, false, ◌&&◌, not, List, [], ◌∷◌, ◌++◌, length, get_or, set, take, drop, map, max, Some, None, ◌==◌, nat_le, arith}
 use Rattle.std.specs.Prelude.{if◌then◌else◌, unwrap_or, ◌-◌}
-use Rattle.std.proofs.lemmas.List.{drop-drop, map-append}
+use Rattle.std.proofs.lemmas.List.{drop-drop, length-map, map-append}
 use Rattle.std.specs.Option.{option_map}
 use Rattle.stream_ident.specs.declared.event.Event.{Event}
 use Rattle.stream_ident.specs.declared.ident.GrainId.{GrainId}
@@ -28,7 +28,6 @@ use Rattle.step_core.specs.declared.parts.Parts.{Parts}
 use Rattle.step_core.specs.PlainOf.{plain_of}
 use Rattle.step_core.specs.Assembly.{HasEvents}
 use Rattle.step_core.specs.View.{delivery_of, grain_of, name_at, turn_of}
-use Rattle.step_core.proofs.DeactivateOps.{length-map}
 use Rattle.step_core.proofs.GrainOps.{activation_at, grain-added, grain-found, grain-new, grain-set}
 use Rattle.step_core.proofs.RecordOps.{no-record, record-found, record-set, record_at}
 use Rattle.std.proofs.Math.Seq.{take-nil}
@@ -123,7 +122,7 @@ deliver-next parts generation s i j position c d e seeks some is_name found =
     deliver-open parts generation s i c e seeks
     ∙ ap (λ o. plain.deliver_position (plain_of parts) s r (grain_at (plain_of parts) r.grain) o) some
     ∙ ap (λ st. plain.deliver_position (plain_of parts) s r st (Some position)) (grain-found parts r.grain j d found)
-    ∙ by (nat_le 16 (length (map (delivery_of parts.subs.registry.names) a.mailbox))) (nat_le 16 (length a.mailbox)) (ap (λ n. nat_le 16 n) (length-map (delivery_of parts.subs.registry.names) a.mailbox)) (not a.active && nat_le parts.limits.rises parts.rises)
+    ∙ by (nat_le 16 (length (map (delivery_of parts.subs.registry.names) a.mailbox))) (nat_le 16 (length a.mailbox)) (ap (λ n. nat_le 16 n) (length-map a.mailbox (delivery_of parts.subs.registry.names))) (not a.active && nat_le parts.limits.rises parts.rises)
   where
     r : Subscription
     r = record_at parts i c e

@@ -1,5 +1,6 @@
 -- Blocks that leave the cache and an agent that takes over leave parts that agree with each other.
 use Rattle.std.proofs.Common.{◌≡◌, ◌∙◌, ap, sym, subst, refl, ℕ, zero, suc, ◌+◌, ◌-◌, ◌*◌, ◌<◌, ◌≤◌, min, Bool, true, false, List, [], ◌∷◌, length, take, drop, get_or, map, arith}
+use Rattle.std.proofs.lemmas.List.{length-map}
 use Rattle.std.specs.Prelude.{if◌then◌else◌, Ok, Err}
 use Rattle.stream_ident.specs.declared.token.Token.{Token}
 use Rattle.stream_ident.specs.Words.{least_with}
@@ -20,7 +21,6 @@ use Rattle.step_core.specs.View.{sub_of}
 use Rattle.step_core.specs.declared.parts.Parts.{Parts}
 use Rattle.step_core.proofs.CachedEvents.{between-drop}
 use Rattle.step_core.proofs.CheckOps.{check-current, check-stale}
-use Rattle.step_core.proofs.DeactivateOps.{length-map}
 use Rattle.step_core.proofs.KnownOps.{known-rewound}
 use Rattle.step_core.proofs.LeafOps.{moved-to, slowest-is}
 use Rattle.step_core.proofs.MoveOps.{AreAllRewound, free-le, high-without, move-parts, moved, purge-parts, purge-stale, purged_by}
@@ -115,7 +115,7 @@ module _ (parts : Parts) (silo position : ℕ) where
       let rises : parts.rises + 1 ≡ suc parts.rises = omega arith in
       ap {B = PlainPartition × Reply} (λ n. (plain_of (record taken_over { rises = n }), reply.Moved (suc parts.agent.generation) (token_at (plain_of parts) position))) rises
       ∙ ap (λ (spent : Bool). if spent then (plain_of parts, reply.Spent) else (plain_of (moved parts silo position (rewound_all parts.subs).states), reply.Moved (suc parts.agent.generation) (token_at (plain_of parts) position))) (sym left)
-      ∙ sym (move-parts parts silo position (rewound_all parts.subs).states (sym records.long) (length-map rewound_open parts.subs.states) least (all-rewound parts records))
+      ∙ sym (move-parts parts silo position (rewound_all parts.subs).states (sym records.long) (length-map parts.subs.states rewound_open) least (all-rewound parts records))
 
   module _ (new : agent.PlainAgent) (generation : ℕ) (subs : PlainTable) (took : (new, generation) ≡ agent.take_over parts.agent silo position) (rewinds : subs ≡ rewound_all parts.subs) where
     pub moved-assembled : AreRecords parts.subs → IsAssembled parts → IsAssembled (record parts { agent = new; subs = subs; rises = parts.rises + 1 })

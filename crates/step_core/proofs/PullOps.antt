@@ -25,8 +25,9 @@ use Rattle.pubsub_registry.specs.declared.registration.Registration.{Registratio
 use Rattle.pubsub_registry.specs.Implying as implying
 use Rattle.subscription_table.specs.Table.{new_states}
 use Rattle.step_core.specs.Known.{AreKnown}
-use Rattle.step_core.specs.Numbers.{IsBelow, TurnIsBelow}
+use Rattle.step_core.specs.Numbers.{IsBelow}
 use Rattle.step_core.specs.View.{grains_of, sub_of, subs_of}
+use Rattle.step_core.proofs.MoreNumbers.{numbered-more}
 use Rattle.step_core.proofs.KnownTurns.{known-grown}
 use Rattle.step_core.proofs.SubscribeOps.{grains-before}
 use Rattle.step_core.proofs.ViewLemmas.{record-added, records-length}
@@ -169,24 +170,8 @@ made-length rules position names states events lengths =
 
 -- ---- the grains see the same names
 
-turn-further : (n m : ℕ) (running : Option RunningTurn) → n ≤ m → TurnIsBelow n running → TurnIsBelow m running
-turn-further n m None further below = tt
-turn-further n m (Some run) further below = omega (arith, further, below)
-
-below-further : (n m : ℕ) (a : PlainActivation) → n ≤ m → IsBelow n a → IsBelow m a
-below-further n m a further below =
-    record {
-      waiting = All-weaken (λ (d : Delivery). d.sub < n) (λ (d : Delivery). d.sub < m) (λ d less. omega (arith, further, less)) a.mailbox below.waiting;
-      running = turn-further n m a.running further below.running;
-      subs = All-weaken (λ sub. sub < n) (λ sub. sub < m) (λ sub less. omega (arith, further, less)) a.subs below.subs;
-    }
-
 abbrev AreBelow : ℕ → List (GrainId × PlainActivation) → Type 0
 AreBelow n grains = AllByRecursion (λ (g : GrainId × PlainActivation). IsBelow n g.1) grains
-
-grains-further : (n m : ℕ) (grains : List (GrainId × PlainActivation)) → n ≤ m → AreBelow n grains → AreBelow m grains
-grains-further n m grains further below =
-    All-weaken (λ (g : GrainId × PlainActivation). IsBelow n g.1) (λ (g : GrainId × PlainActivation). IsBelow m g.1) (λ g below. below-further n m g.1 further below) grains below
 
 longer : {A : Type 0} (xs ys : List A) → length xs ≤ length (xs ++ ys)
 longer [] ys = omega arith
@@ -196,7 +181,7 @@ grains-same : (names more : List (SubName × Registration)) (grains : List (Grai
 grains-same names [] grains below = ap (λ ns. grains_of ns grains) (append-nil names)
 grains-same names (entry ∷ more) grains below =
     ap (λ ns. grains_of ns grains) (sym (append-one names entry more))
-    ∙ grains-same (names ++ entry ∷ []) more grains (grains-further (length names) (length (names ++ entry ∷ [])) grains (longer names (entry ∷ [])) below)
+    ∙ grains-same (names ++ entry ∷ []) more grains (numbered-more (length names) (length (names ++ entry ∷ [])) (longer names (entry ∷ [])) grains below)
     ∙ grains-before names entry grains below
 
 pub made-grains : (rules : List Rule) (names : List (SubName × Registration)) (events : List Event) (grains : List (GrainId × PlainActivation)) → AreBelow (length names) grains → grains_of (implying.names_with rules names events) grains ≡ grains_of names grains
@@ -217,6 +202,6 @@ made-known rules position names states events grains lengths below known =
 
 pub made-below : (rules : List Rule) (names : List (SubName × Registration)) (events : List Event) (grains : List (GrainId × PlainActivation)) → AreBelow (length names) grains → AreBelow (length (implying.names_with rules names events)) grains
 made-below rules names events grains below =
-    grains-further (length names) (length (implying.names_with rules names events)) grains
+    numbered-more (length names) (length (implying.names_with rules names events))
     (let further = longer names (new_of names (implying.all_implied rules events)) in omega (arith, further, ap length (names-added names (implying.all_implied rules events))))
-    below
+    grains below

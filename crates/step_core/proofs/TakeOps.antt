@@ -18,11 +18,12 @@ use Rattle.pubsub_registry.specs.Implying as implying
 use Rattle.queue_cache.specs.Cache.{high}
 use Rattle.subscription_table.specs.Table.{PlainTable, implied_by, new_states}
 use Rattle.subscription_table.specs.Table as table
+use Rattle.stream_model.proofs.Answering.{on-error}
 use Rattle.step_core.specs.Assembly.{HasEvents, IsAssembled}
 use Rattle.step_core.specs.declared.parts.Parts.{Parts}
 use Rattle.step_core.specs.PlainOf.{plain_of}
 use Rattle.step_core.specs.Taking.{ahead, filled, taken}
-use Rattle.step_core.proofs.HandOps.{Answer, on-error, with_subs}
+use Rattle.step_core.proofs.HandOps.{Answer, with_subs}
 use Rattle.step_core.proofs.PullOps.{made-below, made-grains, made-known, made-length, made-view}
 use Rattle.std.proofs.Math.Seq.{take-nil}
 

@@ -1,7 +1,7 @@
 -- The first element that passes, by its place.
-use Rattle.std.proofs.Common.{◌≡◌, ◌∙◌, ap, refl, ℕ, zero, suc, ◌+◌, ◌<◌, Bool, true, false, List, [], ◌∷◌, length, get_or, Option, Some, None, arith}
+use Rattle.std.proofs.Common.{◌≡◌, ◌∙◌, ap, subst, refl, ℕ, zero, suc, ◌+◌, ◌<◌, Bool, true, false, List, [], ◌∷◌, length, get_or, Option, Some, None, arith}
 use Rattle.std.specs.Prelude.{if◌then◌else◌}
-use Rattle.stream_ident.specs.Words.{first_at}
+use Rattle.stream_ident.specs.Words.{first_at, place_of}
 
 -- the place of the first element that passes
 pub first_at-there : {A : Type 0} (passes : A → Bool) (n : ℕ) (xs : List A) (d : A) (i : ℕ) → i < length xs → passes (get_or xs i d) ≡ true → ((j : ℕ) → j < i → passes (get_or xs j d) ≡ false) → first_at passes n xs ≡ Some (n + i)
@@ -54,3 +54,10 @@ first_at-None {A} passes n (x ∷ xs) d e j within = by (passes x) refl e (λ la
     by true is e rest j within = absurd (cc)
     by false is e rest zero within = is
     by false is e rest (suc j) within = rest e j (omega arith)
+
+-- the entry at the place of a key has the key
+pub place_of-key : {K V : Type 0} (same : K → K → Bool) (key : K) (entries : List (K × V)) (d : K × V) (i : ℕ) → place_of same key entries ≡ Some i → same key (get_or entries i d).0 ≡ true
+place_of-key {K} {V} same key entries d i found =
+    let first = first_at-Some (λ (entry : K × V). same key entry.0) 0 entries d i found in
+    let place : first.place ≡ i = omega (arith, first.at) in
+    subst (λ (n : ℕ). same key (get_or entries n d).0 ≡ true) place first.is

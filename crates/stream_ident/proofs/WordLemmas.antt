@@ -1,9 +1,10 @@
 -- The words on lists.
-use Rattle.std.proofs.Common.{◌≡◌, ◌∙◌, ℕ, zero, suc, ◌+◌, ◌-◌, ◌≤◌, ◌<◌, List, [], ◌∷◌, ◌++◌, length, take, drop, get_or, Option, Some, None, refl, sym, ap, arith}
+use Rattle.std.proofs.Common.{◌≡◌, ◌∙◌, ℕ, zero, suc, ◌+◌, ◌-◌, ◌≤◌, ◌<◌, Bool, false, true≢false, nat_lt, List, [], ◌∷◌, ◌++◌, length, take, drop, get_or, Option, Some, None, refl, sym, ap, arith}
 use Rattle.std.specs.List.{AllByRecursion}
 use Rattle.std.specs.Option.{is_some, option_map}
 use Rattle.std.specs.Prelude.{set}
-use Rattle.std.proofs.lemmas.List.{drop_more, length-take, take-take}
+use Rattle.std.proofs.lemmas.Bool.{ltb-false}
+use Rattle.std.proofs.lemmas.List.{drop_more, length-take, nil_from_length, take-take}
 use Rattle.stream_ident.specs.Words.{change_at, or_else, past, past_from}
 
 pub or_else-none : {A : Type 0} (o : Option A) → or_else o None ≡ o
@@ -55,6 +56,14 @@ length-change_at f (suc j) (x ∷ xs) = ap suc (length-change_at f j xs)
 pub is_some-map : {A B : Type 0} (f : A → B) (o : Option A) → is_some (option_map f o) ≡ is_some o
 is_some-map f None = refl
 is_some-map f (Some x) = refl
+
+-- an option and a list with nothing in them
+pub none_from_is_some : {A : Type 0} (o : Option A) → is_some o ≡ false → o ≡ None
+none_from_is_some None none = refl
+none_from_is_some (Some x) none = absurd (true≢false none)
+
+pub nil_from_nat_lt : {A : Type 0} (xs : List A) → nat_lt 0 (length xs) ≡ false → xs ≡ []
+nil_from_nat_lt xs none = nil_from_length xs (omega (arith, ltb-false 0 (length xs) none))
 
 -- what holds of each element holds of the one with a number
 pub All-at : {A : Type 0} (P : A → Type 0) (xs : List A) (i : ℕ) (d : A) → AllByRecursion P xs → i < length xs → P (get_or xs i d)
