@@ -34,8 +34,9 @@ use Rattle.step_core.specs.Numbers.{AreDistinct, IsBelow}
 use Rattle.step_core.specs.PlainOf.{plain_of}
 use Rattle.step_core.specs.View.{grain_of, grains_of, name_at}
 use Rattle.step_core.specs.declared.parts.Parts.{Parts}
+use Rattle.pubsub_registry.proofs.Entries.{length-shut}
 use Rattle.step_core.proofs.AssembledTable.{IsAsLarge, assembled-subs}
-use Rattle.step_core.proofs.KnownMore.{known-forgotten, known-names, shut-grain, shut-length}
+use Rattle.step_core.proofs.KnownMore.{known-forgotten, known-names, shut-grain}
 use Rattle.step_core.proofs.KnownOps.{known-state}
 use Rattle.step_core.proofs.NamesOps.{name-of-entry, name-of-place}
 use Rattle.step_core.proofs.Shared.{distinct-of-unique}
@@ -113,7 +114,7 @@ close-large t (name.Explicit n) number records found =
     picked is_open = if is_open then (with_shut_name t n number, close_told.Done) else (t, close_told.Closed)
 
     by : (is_open : Bool) → IsAsLarge t (picked is_open).0
-    by true = record { names = shut-length (name.Explicit n) t.registry.names; most_names = refl; most_rules = refl }
+    by true = record { names = length-shut t.registry.names (name.Explicit n); most_names = refl; most_rules = refl }
     by false = record { names = refl; most_names = refl; most_rules = refl }
 
 -- what the grains know stays so
@@ -134,7 +135,7 @@ close-known t grains (name.Explicit n) number records found known =
     by true =
         known-names t.registry.names (changed_value same_sub (name.Explicit n) shut t.registry.names) (set t.states number (closed (state_at t number))) grains
         (known-state t.registry.names t.states grains number (closed (state_at t number)) known within (λ is_open. absurd (false≢true is_open)) (λ at none unheld. (at, none)))
-        (shut-length (name.Explicit n) t.registry.names) (shut-grain (name.Explicit n) t.registry.names)
+        (length-shut t.registry.names (name.Explicit n)) (shut-grain (name.Explicit n) t.registry.names)
     by false = known
 
 -- a record that was closed now is so

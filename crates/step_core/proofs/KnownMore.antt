@@ -132,14 +132,6 @@ known-names names others states grains known long same = record {
     back : (k n : ℕ) → IsOf others grains n k → IsOf names grains n k
     back k n is = subst (λ (g : GrainId). same_grain g (grain_at grains k) ≡ true) (same n) is
 
-pub shut-length : (s : SubName) (names : List (SubName × Registration)) → length (changed_value same_sub s shut names) ≡ length names
-shut-length s [] = refl
-shut-length s (entry ∷ names) = by (same_sub s entry.0) (shut-length s names)
-  where
-    by : (b : Bool) → length (changed_value same_sub s shut names) ≡ length names → length (if b then (entry.0, shut entry.1) ∷ names else entry ∷ changed_value same_sub s shut names) ≡ suc (length names)
-    by true rest = refl
-    by false rest = ap suc rest
-
 pub shut-grain : (s : SubName) (names : List (SubName × Registration)) (n : ℕ) → (get_or (changed_value same_sub s shut names) n no_entry).1.grain ≡ (get_or names n no_entry).1.grain
 shut-grain s [] n = refl
 shut-grain s (entry ∷ names) n = by (same_sub s entry.0) n (shut-grain s names)

@@ -7,6 +7,9 @@ use Rattle.std.proofs.lemmas.Bool.{ltb-false}
 use Rattle.std.proofs.lemmas.List.{drop_more, length-take, nil_from_length, take-take}
 use Rattle.stream_ident.specs.Words.{change_at, or_else, past, past_from}
 
+pub one-add : (n : ℕ) → 1 + n ≡ suc n
+one-add n = omega arith
+
 pub or_else-none : {A : Type 0} (o : Option A) → or_else o None ≡ o
 or_else-none None = refl
 or_else-none (Some x) = refl
