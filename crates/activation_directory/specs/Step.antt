@@ -3,7 +3,7 @@
 use Rattle.std.specs.Prelude.{◌≡◌, ℕ, suc, Bool, false, ◌&&◌, not, ◌==◌, nat_lt, List, [], ◌∷◌, Option, Some, None, is_some, Result, Ok, Err, if◌then◌else◌}
 use Rattle.std.specs.declared.alloc.AllocError.{AllocError}
 use Rattle.stream_ident.specs.declared.ident.GrainId.{GrainId}
-use Rattle.stream_ident.specs.Words.{has_number}
+use Rattle.stream_ident.specs.Words.{has_number, LeadsBy}
 use Rattle.activation_directory.specs.declared.op.DirectoryOp.{DirectoryOp}
 use Rattle.activation_directory.specs.declared.op.DirectoryOp.TheVariants.{Enter, Leave, Unplace, Down}
 use Rattle.activation_directory.specs.declared.place.Place.{Place}
@@ -55,8 +55,7 @@ pub record Entry : Type 0 where
 
 -- from d the entries, the oldest first, lead to e, each with the reply of its step
 abbrev pub Leads : PlainDirectory → List Entry → PlainDirectory → Type 0
-Leads d [] e = e ≡ d
-Leads d (entry ∷ entries) e = ((step d entry.op).1 ≡ entry.reply) × Leads (step d entry.op).0 entries e
+Leads d entries e = LeadsBy (λ (entry : Entry). entry.op) (λ (entry : Entry). entry.reply) step d entries e
 
 -- the history, the oldest entry first, is legal, and d is what it leaves
 abbrev pub Stands : ℕ → List Entry → PlainDirectory → Type 0

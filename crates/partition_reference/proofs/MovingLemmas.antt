@@ -11,11 +11,6 @@ use Rattle.stream_model.specs.Positions.{is_spent, least_or, open_resumes, slowe
 use Rattle.stream_model.specs.Pulling.{move, move_to, rewound_where}
 use Rattle.stream_ident.specs.Words.{each_value, least_with}
 
-pub move-spent : (p : PlainPartition) (silo : ℕ) → is_spent p ≡ true → (p, reply.Spent) ≡ move p silo
-unfolding move
-move-spent p silo spent =
-    sym (ap {B = PlainPartition × Reply} (λ b. if b then (p, reply.Spent) else move_to p silo (least_with p.high (open_resumes p))) spent)
-
 -- the least of some numbers and one more, by the least of them
 least_with-or : (n : ℕ) (xs : List ℕ) → min n (least_or n xs) ≡ least_with n xs
 least_with-or n [] = omega arith

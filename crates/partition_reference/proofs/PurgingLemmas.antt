@@ -8,11 +8,6 @@ use Rattle.stream_model.specs.declared.reply.Reply.TheVariants as reply
 use Rattle.stream_model.specs.Positions.{token_at}
 use Rattle.stream_model.specs.Pulling.{is_stale, purge, purge_to, purges}
 
-pub purge-stale : (p : PlainPartition) (generation keep : ℕ) → is_stale p generation ≡ true → (p, reply.StaleAgent p.generation) ≡ purge p generation keep
-unfolding purge
-purge-stale p generation keep stale =
-    sym (ap {B = PlainPartition × Reply} (λ b. if b then (p, reply.StaleAgent p.generation) else purge_to p (p.low + 64 * purges p keep)) stale)
-
 pub purge-done : (p : PlainPartition) (generation keep blocks : ℕ) (token : Token) → is_stale p generation ≡ false → blocks ≡ purges p keep → token ≡ token_at p (p.low + 64 * blocks) → (record p { low = p.low + 64 * blocks }, reply.Purged token) ≡ purge p generation keep
 unfolding purge purge_to
 purge-done p generation keep blocks token current is_blocks is_token =

@@ -22,19 +22,6 @@ unsubscribe-at : (p : PlainPartition) (s : SubName) (found : Option Subscription
 unfolding unsubscribe
 unsubscribe-at p s found is_found = ap (unsubscribe_from p s) is_found
 
-from-none : (p : PlainPartition) (s : SubName) → (p, reply.NoSuch) ≡ unsubscribe_from p s None
-unfolding unsubscribe_from
-from-none p (Explicit n) = refl
-from-none p (Implicit kind stream) = refl
-
-pub unsubscribe-unknown : (p : PlainPartition) (s : SubName) → place_of same_sub s p.subs ≡ None → (p, reply.NoSuch) ≡ unsubscribe p s
-unsubscribe-unknown p s e = from-none p s ∙ sym (unsubscribe-at p s None (place_of-none same_sub s p.subs e))
-
-pub unsubscribe-implicit : (p : PlainPartition) (s : SubName) (kind : List ℕ) (stream : StreamId) (r : Subscription) → s ≡ Implicit kind stream → sub_at p s ≡ Some r → (p, reply.Implicit) ≡ unsubscribe p s
-unfolding unsubscribe_from
-unsubscribe-implicit p s kind stream r is is_r =
-    ap (λ s. unsubscribe_from p s (Some r)) (sym is) ∙ sym (unsubscribe-at p s (Some r) is_r)
-
 -- an explicit name that has a record
 unsubscribe-explicit : (p : PlainPartition) (s : SubName) (n : ℕ) (r : Subscription) → s ≡ Explicit n → sub_at p s ≡ Some r → unsubscribe p s ≡ (if not r.is_open then (p, reply.Closed) else (unsubscribed p s r, reply.Unsubscribed (length r.handled)))
 unfolding unsubscribe_from

@@ -11,7 +11,8 @@ use Rattle.pubsub_registry.specs.Registry.{PlainRegistry}
 use Rattle.pubsub_registry.specs.Sound.{IsSound}
 use Rattle.pubsub_registry.specs.declared.registration.Registration.{Registration}
 use Rattle.pubsub_registry.proofs.Entries.{Names, streams_of-found, streams_of-none}
-use Rattle.pubsub_registry.proofs.ImpliedNames.{has, has-explicit, has-fold}
+use Rattle.pubsub_registry.proofs.ImpliedNames.{has-explicit}
+use Rattle.stream_ident.proofs.NewNames.{has, has-fold}
 
 module _ (r : PlainRegistry) (sound : IsSound r) (events : List Event) where
   explicit-there : (number : ℕ) → has (name.Explicit number) r.names ≡ true → number ≤ r.explicit

@@ -65,14 +65,14 @@ add_implied r kind stream start =
       implied_told.Implied,
     )
 
-abbrev pub shut : Registration → Registration
-shut registration = record registration { is_open = false }
+abbrev pub closed_registration : Registration → Registration
+closed_registration registration = record registration { is_open = false }
 
 abbrev pub close_found : PlainRegistry → SubName → Option Registration → PlainRegistry × Closing
 close_found r s None = (r, close_told.NoSuch)
 close_found r (name.Implicit kind stream) (Some registration) = (r, close_told.Implicit)
 close_found r (name.Explicit number) (Some registration) =
-    if registration.is_open then (record r { names = changed_value same_sub (name.Explicit number) shut r.names }, close_told.Done)
+    if registration.is_open then (record r { names = changed_value same_sub (name.Explicit number) closed_registration r.names }, close_told.Done)
     else (r, close_told.Closed)
 
 abbrev pub close : PlainRegistry → SubName → PlainRegistry × Closing

@@ -7,7 +7,8 @@ ghost use Rattle.stream_ident.specs.SubName.{same_sub};
 ghost use Rattle.stream_ident.specs.Token.{token_lt};
 ghost use Rattle.stream_ident.specs.Words.{value_at, Performs};
 ghost use Rattle.stream_ident.specs.declared.event.Event.{Event};
-ghost use Rattle.pubsub_registry.specs.Implying.{added, imply, made, makes_any, names_with, rule_count};
+ghost use Rattle.stream_ident.specs.Implying.{added};
+ghost use Rattle.pubsub_registry.specs.Implying.{imply, made, makes_any, names_with, rule_count};
 
 use crate::registry::{Registry, implied_grain, opened};
 use crate::rules::Rules;

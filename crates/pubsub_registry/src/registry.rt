@@ -123,7 +123,7 @@ impl Registry {
         match sub {
             SubName::Implicit { .. } => Closing::Implicit,
             SubName::Explicit(_) if registration.is_open => {
-                self.subscriptions.shut(sub);
+                self.subscriptions.close(sub);
                 Closing::Done
             }
             SubName::Explicit(_) => Closing::Closed,

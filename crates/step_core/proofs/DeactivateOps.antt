@@ -72,7 +72,3 @@ deactivate-parts parts g i d new lengths as_long found rewinds =
     by true =
         ap {B = PlainPartition × Reply} (λ p. (p, reply.Deactivated (length (map (delivery_of parts.subs.registry.names) a.mailbox) + plain.running_count (option_map (turn_of parts.subs.registry.names) a.running)))) state
         ∙ ap {B = PlainPartition × Reply} (λ n. (plain_of (record (with_activation parts i (deactivated a)) { subs = record parts.subs { states = new } }), reply.Deactivated n)) counts
-
-pub deactivate-none : (parts : Parts) (g : GrainId) → place_of same_grain g parts.grains ≡ None → plain.deactivate (plain_of parts) g ≡ (plain_of parts, reply.NotActive)
-unfolding plain.deactivate plain.deactivate_in
-deactivate-none parts g none = rw (grain-new parts g none) refl

@@ -58,15 +58,6 @@ lower-is parts token has =
 
 -- ---- what an agent hands over
 
--- one that was replaced, and a name without a record
-pub deliver-stale : (parts : Parts) (generation : ℕ) (s : SubName) → (generation == parts.agent.generation) ≡ false → plain.deliver (plain_of parts) generation s ≡ (plain_of parts, reply.StaleAgent parts.agent.generation)
-unfolding plain.deliver
-deliver-stale parts generation s stale = rw stale refl
-
-pub deliver-none : (parts : Parts) (generation : ℕ) (s : SubName) → length parts.subs.registry.names ≡ length parts.subs.states → (generation == parts.agent.generation) ≡ true → place_of same_sub s parts.subs.registry.names ≡ None → plain.deliver (plain_of parts) generation s ≡ (plain_of parts, reply.NoSuch)
-unfolding plain.deliver plain.deliver_to
-deliver-none parts generation s lengths current none = rw (current, no-record parts s lengths none) refl
-
 pub deliver-closed : (parts : Parts) (generation : ℕ) (s : SubName) (i : ℕ) (d : SubName × Registration) (e : PlainState) → length parts.subs.registry.names ≡ length parts.subs.states → (generation == parts.agent.generation) ≡ true → place_of same_sub s parts.subs.registry.names ≡ Some i → (get_or parts.subs.states i e).is_open ≡ false
     → plain.deliver (plain_of parts) generation s ≡ (plain_of parts, reply.Closed)
 unfolding plain.deliver plain.deliver_to

@@ -1,4 +1,5 @@
 -- What an agent plans to pull is what the plain pull does.
+use Rattle.stream_model.proofs.Refusals.{pull-stale}
 use Rattle.std.proofs.Common.{◌≡◌, ◌∙◌, ap, sym, refl, ℕ, ◌+◌, ◌-◌, ◌*◌, ◌/◌, min, Bool, true, false, ◌&&◌, List, [], ◌∷◌, length, map, filter, Option, Some, None, ◌==◌, arith}
 use Rattle.std.specs.Prelude.{if◌then◌else◌, unwrap_or, Ok, Err}
 use Rattle.stream_ident.specs.declared.ident.SubName.{SubName}
@@ -137,11 +138,7 @@ planned-is parts generation max_events checked current len least made is_len is_
     ∙ sym (pull-planned parts generation max_events (check-current parts.agent generation checked current))
 
 -- the agent was replaced
-pull-stale : (parts : Parts) (generation max_events : ℕ) → (generation == parts.agent.generation) ≡ false → plain.pull (plain_of parts) generation max_events ≡ (plain_of parts, reply.StaleAgent parts.agent.generation)
-unfolding plain.pull
-pull-stale parts generation max_events stale = rw stale refl
-
 pub pull-replaced : (parts : Parts) (generation max_events : ℕ) (stale : StaleAgent) → Err stale ≡ agent.check parts.agent generation → (plain_of parts, reply.StaleAgent stale.now) ≡ plain.pull (plain_of parts) generation max_events
 pull-replaced parts generation max_events stale checked =
     let replaced = check-stale parts.agent generation stale checked in
-    ap {B = PlainPartition × Reply} (λ now. (plain_of parts, reply.StaleAgent now)) replaced.now ∙ sym (pull-stale parts generation max_events replaced.other)
+    ap {B = PlainPartition × Reply} (λ now. (plain_of parts, reply.StaleAgent now)) replaced.now ∙ pull-stale (plain_of parts) generation max_events (ap not replaced.other)

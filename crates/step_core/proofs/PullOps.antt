@@ -14,6 +14,7 @@ use Rattle.stream_ident.specs.Name.{same_name}
 use Rattle.stream_ident.specs.SubName.{same_sub}
 use Rattle.stream_ident.specs.Token.{token_lt}
 use Rattle.stream_ident.specs.Words.{value_at}
+use Rattle.stream_ident.specs.Implying.{added}
 use Rattle.stream_model.specs.declared.plain.Subscription.{Subscription}
 use Rattle.stream_model.specs.Pulling as plain
 use Rattle.stream_model.proofs.EachOf.{All-weaken}
@@ -89,14 +90,14 @@ append-one : {A : Type 0} (xs : List A) (x : A) (ys : List A) → (xs ++ x ∷ [
 append-one [] x ys = refl
 append-one (first ∷ xs) x ys = ap (λ rest. first ∷ rest) (append-one xs x ys)
 
-names-added : (names entries : List (SubName × Registration)) → fold implying.added names entries ≡ names ++ new_of names entries
+names-added : (names entries : List (SubName × Registration)) → fold added names entries ≡ names ++ new_of names entries
 unfolding new_of
 names-added names [] = sym (append-nil names)
 names-added names (entry ∷ entries) =
     by (is_some (value_at same_sub entry.0 names)) (names-added names entries) (names-added (names ++ entry ∷ []) entries)
   where
-    by : (there : Bool) → fold implying.added names entries ≡ names ++ new_of names entries → fold implying.added (names ++ entry ∷ []) entries ≡ (names ++ entry ∷ []) ++ new_of (names ++ entry ∷ []) entries
-        → fold implying.added (if there then names else names ++ entry ∷ []) entries ≡ names ++ (if there then new_of names entries else entry ∷ new_of (names ++ entry ∷ []) entries)
+    by : (there : Bool) → fold added names entries ≡ names ++ new_of names entries → fold added (names ++ entry ∷ []) entries ≡ (names ++ entry ∷ []) ++ new_of (names ++ entry ∷ []) entries
+        → fold added (if there then names else names ++ entry ∷ []) entries ≡ names ++ (if there then new_of names entries else entry ∷ new_of (names ++ entry ∷ []) entries)
     by true kept more = kept
     by false kept more = more ∙ append-one names entry (new_of (names ++ entry ∷ []) entries)
 
@@ -108,13 +109,13 @@ length-one (first ∷ xs) (other ∷ ys) x y same = ap suc (length-one xs ys x y
 
 -- and their records
 records-made : (position : ℕ) (names entries : List (SubName × Registration)) (states : List PlainState) → length names ≡ length states
-    → fold plain.added (subs_of names states) (new_records position entries) ≡ subs_of (names ++ new_of names entries) (states ++ new_states position (new_of names entries))
+    → fold added (subs_of names states) (new_records position entries) ≡ subs_of (names ++ new_of names entries) (states ++ new_states position (new_of names entries))
 unfolding new_of
 records-made position names [] states lengths =
     ap (λ ns. subs_of ns states) (sym (append-nil names))
     ∙ ap (λ ss. subs_of (names ++ []) ss) (sym (append-nil states))
 records-made position names (entry ∷ entries) states lengths =
-    ap (λ there. fold plain.added (if there then subs_of names states else subs_of names states ++ new_record position entry ∷ []) (new_records position entries)) (there-is entry.0 names states lengths)
+    ap (λ there. fold added (if there then subs_of names states else subs_of names states ++ new_record position entry ∷ []) (new_records position entries)) (there-is entry.0 names states lengths)
     ∙ by (is_some (value_at same_sub entry.0 names)) (records-made position names entries states lengths)
     (records-made position (names ++ entry ∷ []) entries (states ++ state ∷ []) (length-one names states entry state lengths))
   where
@@ -122,15 +123,15 @@ records-made position names (entry ∷ entries) states lengths =
     state = new_state entry.1.start position
 
     Made : List (SubName × Registration) → List (SubName × Registration) → List PlainState → List PlainState → Type 0
-    Made ns more ss made = fold plain.added (subs_of ns ss) (new_records position entries) ≡ subs_of (ns ++ more) (ss ++ made)
+    Made ns more ss made = fold added (subs_of ns ss) (new_records position entries) ≡ subs_of (ns ++ more) (ss ++ made)
 
     by : (there : Bool) → Made names (new_of names entries) states (new_states position (new_of names entries))
         → Made (names ++ entry ∷ []) (new_of (names ++ entry ∷ []) entries) (states ++ state ∷ []) (new_states position (new_of (names ++ entry ∷ []) entries))
-        → fold plain.added (if there then subs_of names states else subs_of names states ++ new_record position entry ∷ []) (new_records position entries)
+        → fold added (if there then subs_of names states else subs_of names states ++ new_record position entry ∷ []) (new_records position entries)
         ≡ subs_of (names ++ (if there then new_of names entries else entry ∷ new_of (names ++ entry ∷ []) entries)) (states ++ new_states position (if there then new_of names entries else entry ∷ new_of (names ++ entry ∷ []) entries))
     by true kept more = kept
     by false kept more =
-        ap (λ subs. fold plain.added subs (new_records position entries)) (sym (record-added names states entry state lengths))
+        ap (λ subs. fold added subs (new_records position entries)) (sym (record-added names states entry state lengths))
         ∙ more
         ∙ ap (λ ns. subs_of ns ((states ++ state ∷ []) ++ new_states position (new_of (names ++ entry ∷ []) entries))) (append-one names entry (new_of (names ++ entry ∷ []) entries))
         ∙ ap (λ ss. subs_of (names ++ entry ∷ new_of (names ++ entry ∷ []) entries) ss) (append-one states state (new_states position (new_of (names ++ entry ∷ []) entries)))
@@ -142,7 +143,7 @@ made-view rules position names states events lengths =
     ap (λ ns. subs_of ns (states ++ new_states position (drop (length names) ns))) (names-added names entries)
     ∙ ap (λ more. subs_of (names ++ new_of names entries) (states ++ new_states position more)) (drop-append_seam names (new_of names entries))
     ∙ sym (records-made position names entries states lengths)
-    ∙ ap (λ made. fold plain.added (subs_of names states) made) (sym (all-implied rules position events))
+    ∙ ap (λ made. fold added (subs_of names states) made) (sym (all-implied rules position events))
   where
     entries : List (SubName × Registration)
     entries = implying.all_implied rules events

@@ -2,6 +2,7 @@ pub mod EventLemmas
 pub mod FirstLemmas
 pub mod NameLemmas
 pub mod NameOrders
+pub mod NewNames
 pub mod NumberLemmas
 pub mod Order
 pub mod OrderLemmas

@@ -5,7 +5,7 @@ use Rattle.std.proofs.Common.{ap, arith}
 use Rattle.std.proofs.lemmas.Bool.{not-false, le-ltb, ltb-false, ne_eqb, eqb-false}
 use Rattle.std.proofs.lemmas.List.{take_all, take_at, length-append, length-replicate}
 use Rattle.std.proofs.lemmas.List.Sums.{list_all-from_AllPass, fails_before_first}
-use Rattle.stream_ident.specs.Text.{or_else, wrong_place, IsPadded}
+use Rattle.stream_ident.specs.Text.{wrong_place, IsPadded}
 use Rattle.stream_ident.specs.Alphabet.{is_name_byte, IsName, wrong_in_name, is_printable, IsPayload, wrong_in_payload}
 use Rattle.stream_ident.proofs.WordLemmas.{or_else-none, or_else-parts}
 

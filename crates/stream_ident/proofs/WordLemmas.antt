@@ -1,11 +1,11 @@
 -- The words on lists.
-use Rattle.std.proofs.Common.{◌≡◌, ◌∙◌, ℕ, zero, suc, ◌+◌, ◌-◌, ◌≤◌, ◌<◌, Bool, false, true≢false, nat_lt, List, [], ◌∷◌, ◌++◌, length, take, drop, get_or, Option, Some, None, refl, sym, ap, arith}
+use Rattle.std.proofs.Common.{List, None, Option, Some, [], ap, arith, drop, false, get_or, if◌then◌else◌, length, nat_lt, refl, suc, sym, take, true, true≢false, zero, ℕ, ◌++◌, ◌+◌, ◌-◌, ◌<◌, ◌∙◌, ◌∷◌, ◌≡◌, ◌≤◌}
 use Rattle.std.specs.List.{AllByRecursion}
 use Rattle.std.specs.Option.{is_some, option_map}
 use Rattle.std.specs.Prelude.{set}
 use Rattle.std.proofs.lemmas.Bool.{ltb-false}
 use Rattle.std.proofs.lemmas.List.{drop_more, length-take, nil_from_length, take-take}
-use Rattle.stream_ident.specs.Words.{change_at, or_else, past, past_from}
+use Rattle.stream_ident.specs.Words.{change_at, changed_value, or_else, past, past_from, value_at}
 
 pub one-add : (n : ℕ) → 1 + n ≡ suc n
 one-add n = omega arith
@@ -77,3 +77,12 @@ All-at P (x ∷ xs) (suc i) d all within = All-at P xs i d all.1 (omega (arith, 
 -- what is left from a place on begins with what stands there
 pub drop-read : {A : Type 0} (xs : List A) (i : ℕ) (x : A) → i < length xs → x ≡ get_or xs i x → drop i xs ≡ x ∷ drop (i + 1) xs
 drop-read xs i x within read = drop_more xs i x within ∙ ap (λ y. y ∷ drop (i + 1) xs) (sym read)
+
+-- a key with no value changes nothing
+pub changed_value-none : {K V : Type 0} (same : K → K → Bool) (key : K) (change : V → V) (entries : List (K × V)) → value_at same key entries ≡ None → changed_value same key change entries ≡ entries
+changed_value-none same key change [] e = refl
+changed_value-none same key change (entry ∷ entries) e =
+    (elim (same key entry.0) as (λ b. (if b then Some entry.1 else value_at same key entries) ≡ None → (if b then (entry.0, change entry.1) ∷ entries else entry ∷ changed_value same key change entries) ≡ entry ∷ entries) [
+      | true ↦ λ e. absurd (cc)
+      | false ↦ λ e. ap (λ rest. entry ∷ rest) (changed_value-none same key change entries e)
+    ]) e

@@ -93,6 +93,12 @@ abbrev pub Performs : {S R : Type 0} → S → S → Result R AllocError → S �
 Performs old new (Ok told) stepped = (new, told) ≡ stepped
 Performs old new (Err e) stepped = new ≡ old
 
+-- From s the entries, the oldest first, lead to t, each with the reply of its step. The operation and the
+-- reply of an entry are given by functions.
+abbrev pub LeadsBy : {S E O R : Type 0} → (E → O) → (E → R) → (S → O → S × R) → S → List E → S → Type 0
+LeadsBy op_of reply_of step s [] t = t ≡ s
+LeadsBy op_of reply_of step s (e ∷ entries) t = ((step s (op_of e)).1 ≡ reply_of e) × LeadsBy op_of reply_of step (step s (op_of e)).0 entries t
+
 -- The positions of the longest front of the deliveries, at most n, that are all of one subscription and rise
 -- from this position on. The subscription and the position of a delivery are given by functions.
 abbrev pub rising_front : {D K : Type 0} → (K → K → Bool) → (D → K) → (D → ℕ) → ℕ → K → ℕ → List D → List ℕ

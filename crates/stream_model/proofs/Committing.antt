@@ -1,6 +1,6 @@
 -- What a worker's commit leaves and answers, case by case.
-use Rattle.std.proofs.Common.{◌≡◌, ℕ, pred, true, false, ◌&&◌, ◌==◌, not, List, Option, Some, None, Result, Ok, Err, refl, sym, ap, ◌∙◌}
-use Rattle.std.specs.Prelude.{if◌then◌else◌, OnErr}
+use Rattle.std.proofs.Common.{◌≡◌, ℕ, pred, true, false, ◌&&◌, ◌==◌, not, List, Option, Some, None, refl, sym, ap, ◌∙◌}
+use Rattle.std.specs.Prelude.{if◌then◌else◌}
 use Rattle.stream_ident.specs.declared.ident.GrainId.{GrainId}
 use Rattle.stream_ident.specs.declared.ident.SubName.{SubName}
 use Rattle.stream_ident.specs.declared.token.Token.{Token}

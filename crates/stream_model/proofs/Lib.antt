@@ -19,6 +19,7 @@ pub mod PullingSteps
 pub mod PurgingBounds
 pub mod Reaching
 pub mod RecordBounds
+pub mod Refusals
 pub mod RulesBounds
 pub mod StepBounds
 pub mod SubNames

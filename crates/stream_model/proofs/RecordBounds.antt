@@ -1,5 +1,5 @@
 -- Changes of records keep the limits.
-use Rattle.std.proofs.Common.{◌≡◌, ℕ, suc, ◌+◌, ◌-◌, ◌<◌, ◌≤◌, Bool, true, false, List, [], ◌∷◌, length, drop, Option, Some, None, unwrap_or, if◌then◌else◌, is_some, refl, arith, ap, length-drop}
+use Rattle.std.proofs.Common.{◌≡◌, ℕ, ◌-◌, ◌<◌, ◌≤◌, Bool, true, List, [], ◌∷◌, length, drop, Option, Some, None, unwrap_or, is_some, refl, arith, ap, length-drop}
 use Rattle.std.proofs.lemmas.Bool.{cond_both}
 use Rattle.std.proofs.lemmas.List.{length-take}
 use Rattle.std.specs.List.{AllByRecursion}
@@ -12,6 +12,7 @@ use Rattle.stream_model.specs.declared.plain.Delivery.{Delivery}
 use Rattle.stream_model.specs.declared.plain.Grain.{Grain}
 use Rattle.stream_model.specs.declared.plain.PlainPartition.{PlainPartition}
 use Rattle.stream_model.specs.declared.plain.Subscription.{Subscription}
+use Rattle.stream_model.specs.declared.reply.Reply.{Reply}
 use Rattle.stream_model.specs.Bounds.{AreIn, IsWithinLimits, running_positions}
 use Rattle.stream_model.specs.Positions.{between, grain_at, new_grain, no_event, sub_at}
 use Rattle.stream_ident.specs.Words.{first_at, value_at, with_value}
@@ -19,6 +20,10 @@ use Rattle.stream_ident.proofs.FirstLemmas.{first_at-Some}
 use Rattle.stream_model.proofs.Beginning.{All-value_at}
 use Rattle.stream_model.proofs.EachOf.{All-weaken}
 use Rattle.stream_model.proofs.SubNames.{AreGiven, AreGiven-with_value, length-with_value}
+
+-- what an operation leaves is within the limits
+abbrev pub KeepsLimits : PlainPartition × Reply → Type 0
+KeepsLimits out = IsWithinLimits out.0
 
 -- what the grains of a partition keep, with this many rises
 abbrev pub GrainFits : List Event → ℕ → Grain → Type 0

@@ -18,7 +18,8 @@ use Rattle.stream_ident.specs.declared.rule.Rule.{Rule}
 use Rattle.stream_ident.specs.declared.token.Token.{Token}
 use Rattle.queue_mapper.specs.Place.{tag_of}
 use Rattle.consumer_grain.specs.Subscriptions.{PlainState, new_state}
-use Rattle.pubsub_registry.specs.Implying.{added, all_implied, implied, imply, names_with}
+use Rattle.stream_ident.specs.Implying.{added}
+use Rattle.pubsub_registry.specs.Implying.{all_implied, implied, imply, names_with}
 use Rattle.pubsub_registry.specs.Registry.{PlainRegistry, add, is_full, registered, truncated, with_name}
 use Rattle.pubsub_registry.specs.declared.told.Added.{Added}
 use Rattle.pubsub_registry.specs.declared.told.Added.TheVariants as add_told

@@ -1,6 +1,7 @@
 use Rattle.std.proofs.Common.{◌∙◌, ap, sym, fold}
-use Rattle.stream_model.specs.Pulling.{added, implied}
-use Rattle.partition_reference.proofs.ImpliedNames.{added-more}
+use Rattle.stream_ident.specs.Implying.{added}
+use Rattle.stream_model.specs.Pulling.{implied}
+use Rattle.stream_ident.proofs.NewNames.{added-more}
 use Rattle.stream_ident.proofs.WordLemmas.{front-of-front}
 use Rattle.partition_reference.proofs.pulling.push_for_event.Goals as goal
 
