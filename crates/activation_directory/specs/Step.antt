@@ -1,7 +1,6 @@
 -- One operation on a directory: what it leaves, and its reply. A history is legal where each reply is
 -- that of its step.
-use Rattle.std.specs.Prelude.{◌≡◌, ℕ, suc, Bool, false, ◌&&◌, not, ◌==◌, nat_lt, List, [], ◌∷◌, Option, Some, None, is_some, Result, Ok, Err, if◌then◌else◌}
-use Rattle.std.specs.declared.alloc.AllocError.{AllocError}
+use Rattle.std.specs.Prelude.{ℕ, suc, Bool, false, ◌&&◌, not, ◌==◌, nat_lt, List, Option, Some, None, is_some, if◌then◌else◌}
 use Rattle.stream_ident.specs.declared.ident.GrainId.{GrainId}
 use Rattle.stream_ident.specs.Words.{has_number, LeadsBy}
 use Rattle.activation_directory.specs.declared.op.DirectoryOp.{DirectoryOp}

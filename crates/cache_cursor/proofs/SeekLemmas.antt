@@ -1,21 +1,20 @@
 -- Events that tags rule out, first places in a block and in the cache, and what `first_at` gives for them.
-use Rattle.std.proofs.Common.{◌≡◌, ◌≢◌, ℕ, zero, suc, ◌+◌, ◌-◌, ◌*◌, ◌<◌, ◌≤◌, Bool, true, false, List, [], ◌∷◌, length, get_or, take, drop, Some, None, refl, sym, ◌∙◌, ap, subst, arith, ⊎_elim, ◌↔◌, length-drop, length-take}
-use Rattle.std.proofs.lemmas.Bool.{and_parts, cases_Bool, cases_lt}
+use Rattle.std.proofs.Common.{◌≡◌, ◌≢◌, ℕ, ◌+◌, ◌-◌, ◌*◌, ◌<◌, ◌≤◌, Bool, true, false, List, length, get_or, take, drop, Some, None, sym, ◌∙◌, ap, subst, arith, ⊎_elim, ◌↔◌, length-drop, length-take}
+use Rattle.std.proofs.lemmas.Bool.{cases_Bool, cases_lt}
 use Rattle.std.proofs.lemmas.List.{get_or-map, get_or-take, get_or-drop, get_or_read}
 use Rattle.std.specs.Prelude.{unwrap_or}
-use Rattle.std.specs.Cmp.Lexicographic.{bytes_decides}
 use Rattle.std.specs.Int.{bit_at}
 use Rattle.stream_ident.specs.declared.event.Event.{Event}
 use Rattle.stream_ident.specs.declared.ident.StreamId.{StreamId}
 use Rattle.stream_ident.specs.declared.token.Token.{Token}
 use Rattle.stream_ident.specs.Event.{is_owed, no_event}
-use Rattle.stream_ident.specs.Name.{same_name, same_stream}
+use Rattle.stream_ident.specs.Name.{same_stream}
 use Rattle.stream_ident.specs.Words.{first_at}
 use Rattle.queue_mapper.specs.Place.{tag_of}
 use Rattle.queue_cache.specs.Cache.{tags_of}
 use Rattle.tag_scan.specs.Tags.{IsAbsentBetween}
-use Rattle.cache_cursor.specs.Seek.{NoneBetween, IsFirst, NoneMarked}
 use Rattle.stream_ident.proofs.FirstLemmas.{first_at-nowhere, first_at-there}
+use Rattle.cache_cursor.specs.Seek.{NoneBetween, IsFirst, NoneMarked}
 use Rattle.stream_ident.proofs.SameValues.{same_stream-equal}
 
 -- an event of another tag isn't owed

@@ -8,8 +8,8 @@ use Rattle.stream_ident.specs.declared.ident.StreamId.{StreamId}
 use Rattle.stream_ident.specs.declared.token.Token.{Token}
 use Rattle.stream_ident.specs.Event.{events_of, no_event}
 use Rattle.stream_ident.specs.Token.{token_lt}
+use Rattle.stream_ident.proofs.EventLemmas.{length-events_of, events_of-token}
 use Rattle.partition_queue.specs.Queue.{PlainQueue, IsLog, TokensRise}
-use Rattle.stream_ident.proofs.EventLemmas.{events_of-token, length-events_of}
 
 -- one more event of a batch is written
 pub one_more : (stream : StreamId) (seq idx : ℕ) (payloads : List (List ℕ)) (payload : List ℕ) (done written all : List Event) → idx < length payloads → payload ≡ get_or payloads idx payload → done ++ events_of stream seq idx (drop idx payloads) ≡ all → written ≡ done ++ record { stream = stream; token = record { seq = seq; idx = idx }; payload = payload } ∷ [] → written ++ events_of stream seq (idx + 1) (drop (idx + 1) payloads) ≡ all

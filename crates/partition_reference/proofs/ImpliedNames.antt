@@ -15,11 +15,11 @@ use Rattle.stream_ident.specs.Token.{token_lt}
 use Rattle.stream_model.specs.declared.plain.Subscription.{Subscription}
 use Rattle.stream_ident.specs.declared.rule.Rule.{Rule}
 use Rattle.stream_ident.specs.Event.{batch_token}
+use Rattle.stream_ident.specs.Words.{value_at}
+use Rattle.stream_ident.proofs.SameValues.{same_sub-equal}
 use Rattle.stream_ident.specs.Implying.{added}
 use Rattle.stream_model.specs.Pulling.{implied}
-use Rattle.stream_ident.specs.Words.{value_at}
 use Rattle.stream_ident.proofs.NewNames.{has, has-append, has-fold}
-use Rattle.stream_ident.proofs.SameValues.{same_sub-equal}
 
 -- ---- loops over what is made of each item
 

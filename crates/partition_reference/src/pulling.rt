@@ -267,7 +267,7 @@ fn makes_by_rule(rule: &Rule, event: &Event, name: &SubName) -> bool
     is_implied(event, rule) && is_same_sub(name, &implied_name(event, rule))
 }
 
-/// Adds what the rules make of these events. Where memory is wanting, the list stays as it was.
+/// Adds what the rules make of these events. Where it fails to allocate, the list stays as it was.
 fn add_implied(
     subs: &mut Sequence<(SubName, Subscription)>,
     alloc: Global,

@@ -4,9 +4,9 @@ use Rattle.std.specs.Prelude.{◌⊎◌, position, nat_lt, slice_get}
 use Rattle.std.specs.List.{IsDistinct, AllByRecursion, position_or_len}
 use Rattle.std.specs.Map.{keys_of, lookup, set_value}
 use Rattle.std.proofs.lemmas.Bool.{lt-ltb, le-ltb, ltb-true, ltb-false}
+use mathlib.Core.Logic.{inl, inr}
 use Rattle.indexmap.specs.IndexMap.{IndexMap, insert_entry}
 use Rattle.indexmap.proofs.CallerLemmas.{insert_entry-new}
-use mathlib.Core.Logic.{inl, inr}
 use Rattle.stream_ident.specs.SubName.{same_sub}
 use Rattle.stream_ident.specs.Words.{changed_value, first_at}
 use Rattle.stream_ident.specs.declared.ident.StreamId.{StreamId}

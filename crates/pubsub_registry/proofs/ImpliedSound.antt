@@ -5,6 +5,7 @@ use Rattle.stream_ident.specs.declared.event.Event.{Event}
 use Rattle.stream_ident.specs.declared.ident.StreamId.{StreamId}
 use Rattle.stream_ident.specs.declared.ident.SubName.TheVariants as name
 use Rattle.stream_ident.specs.SubName.{same_sub}
+use Rattle.stream_ident.proofs.NewNames.{has, has-fold}
 use Rattle.pubsub_registry.specs.Implying.{all_implied, names_with}
 use Rattle.pubsub_registry.specs.Index.{streams_of}
 use Rattle.pubsub_registry.specs.Registry.{PlainRegistry}
@@ -12,7 +13,6 @@ use Rattle.pubsub_registry.specs.Sound.{IsSound}
 use Rattle.pubsub_registry.specs.declared.registration.Registration.{Registration}
 use Rattle.pubsub_registry.proofs.Entries.{Names, streams_of-found, streams_of-none}
 use Rattle.pubsub_registry.proofs.ImpliedNames.{has-explicit}
-use Rattle.stream_ident.proofs.NewNames.{has, has-fold}
 
 module _ (r : PlainRegistry) (sound : IsSound r) (events : List Event) where
   explicit-there : (number : ℕ) → has (name.Explicit number) r.names ≡ true → number ≤ r.explicit

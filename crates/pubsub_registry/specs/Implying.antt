@@ -6,11 +6,11 @@ use Rattle.stream_ident.specs.declared.ident.SubName.{SubName}
 use Rattle.stream_ident.specs.declared.ident.SubName.TheVariants as name
 use Rattle.stream_ident.specs.declared.rule.Rule.{Rule}
 use Rattle.stream_ident.specs.Event.{batch_token}
-use Rattle.stream_ident.specs.Implying.{implied_by, implied_by_all, with_implied}
 use Rattle.stream_ident.specs.Name.{same_name}
 use Rattle.stream_ident.specs.SubName.{same_sub}
 use Rattle.stream_ident.specs.Token.{token_lt}
 use Rattle.stream_ident.specs.Words.{with_new}
+use Rattle.stream_ident.specs.Implying.{implied_by, implied_by_all, with_implied}
 use Rattle.pubsub_registry.specs.declared.registration.Registration.{Registration}
 use Rattle.pubsub_registry.specs.declared.told.Implied.{Implied}
 use Rattle.pubsub_registry.specs.declared.told.Implied.TheVariants as implied_told

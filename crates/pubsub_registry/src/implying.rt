@@ -30,7 +30,8 @@ impl Registry {
     /// the earlier events.
     ///
     /// # Errors
-    /// Memory, and then nothing has changed. It comes only where the subscriptions would all be made.
+    /// The call failed to allocate, and nothing has changed. That can happen only where the subscriptions
+    /// would all be made.
     pub fn imply(&mut self, alloc: Global, events: &[Event]) -> Result<Implied, AllocError>
         requires few { length events.now ≤ 256 }
         ensures performs { Performs self.old self.new result (imply self.old events.now) }
@@ -141,7 +142,7 @@ fn makes(rules: &[Rule], event: &Event, kind: &Name) -> bool
 /// Adds what the rules make of these events.
 ///
 /// # Errors
-/// Memory, and then nothing has changed.
+/// The call failed to allocate, and nothing has changed.
 fn add_all(
     subscriptions: &mut Subscriptions,
     alloc: Global,
@@ -195,7 +196,7 @@ fn push_for_event(
 /// Adds what a rule on its namespace makes of an event, unless the name is there.
 ///
 /// # Errors
-/// Memory, and then nothing has changed.
+/// The call failed to allocate, and nothing has changed.
 fn push_by_rule(
     subscriptions: &mut Subscriptions,
     alloc: Global,

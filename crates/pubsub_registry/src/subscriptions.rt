@@ -95,7 +95,7 @@ impl Subscriptions {
     /// Adds a subscription under a new name, behind the others.
     ///
     /// # Errors
-    /// Memory, and then nothing has changed.
+    /// The call failed to allocate, and nothing has changed.
     pub(crate) fn push(
         &mut self,
         alloc: Global,

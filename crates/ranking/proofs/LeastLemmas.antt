@@ -5,10 +5,10 @@ use Rattle.std.proofs.lemmas.List.{get_or-drop}
 use Rattle.std.proofs.lemmas.Option.{same_Some}
 use Rattle.std.specs.Option.{option_map}
 use Rattle.std.specs.Prelude.{slice_index, if◌then◌else◌}
-use Rattle.stream_ident.specs.Words.{above, is_above, least, lesser, next_after, or_else}
 use Rattle.least_tree.specs.Keys.{first_at_most, is_at_most}
-use Rattle.ranking.specs.Ranked.{entry_at, AreKeys, AreRanked, IsFirstPast}
+use Rattle.stream_ident.specs.Words.{above, least, lesser, next_after, or_else, is_above}
 use Rattle.stream_ident.proofs.FirstLemmas.{first_at-None, first_at-Some}
+use Rattle.ranking.specs.Ranked.{entry_at, AreKeys, AreRanked, IsFirstPast}
 use Rattle.stream_ident.proofs.Order.{IsOrder}
 
 -- the first key from a rank on that is at most the bound

@@ -3,15 +3,15 @@ use Rattle.std.proofs.Common.{◌≡◌, ◌∙◌, ℕ, ◌+◌, ◌<◌, ◌�
 use Rattle.std.proofs.lemmas.Bool.{cases_lt, leb-true, leb-false, le-leb, lt-leb, lt-ltb, le-ltb, eq-eqb, ne_eqb}
 use Rattle.std.proofs.lemmas.List.{get_or-map, length-map}
 use Rattle.std.proofs.lemmas.Option.{same_Some}
-use Rattle.std.specs.Option.{is_some, option_map}
+use Rattle.std.specs.Option.{option_map, is_some}
 use Rattle.std.specs.Prelude.{slice_index, IfNone}
 use Rattle.stream_ident.specs.declared.ident.SubName.{SubName}
 use Rattle.stream_ident.specs.declared.ident.SubName.TheVariants.{Explicit}
 use Rattle.stream_ident.specs.SubName.{same_sub, sub_lt}
-use Rattle.stream_ident.specs.Words.{has_number, or_else}
 use Rattle.least_tree.specs.Keys.{first_at_most, is_at_most, least_key, least_place, place_of_least}
 use Rattle.ranking.specs.Ranked.{IsFirstPast}
 use Rattle.ranking.proofs.LeastLemmas.{first_at_most-met, first_at_most-missed, least_by_rank, next_by_rank, IsFirstKey}
+use Rattle.stream_ident.specs.Words.{or_else, has_number}
 use Rattle.resume_tree.specs.declared.leaf.Leaf.{Leaf}
 use Rattle.resume_tree.specs.Leaves.{due_after, is_due, least_resume, resumes_below, slowest, slowest_at, IsNameAt}
 use Rattle.resume_tree.specs.Ranks.{due_at, due_key, name_of, AreKept}

@@ -1,9 +1,9 @@
 -- What is kept of each subscription's record to find the slowest one and the next one that is due.
-use Rattle.std.specs.Prelude.{◌≡◌, ℕ, ◌<◌, Bool, true, false, ◌&&◌, ◌||◌, List, length, map, filter, get_or, Option, Some, None, is_some, nat_lt}
+use Rattle.std.specs.Prelude.{◌≡◌, ℕ, ◌<◌, Bool, true, false, ◌&&◌, ◌||◌, List, length, map, filter, get_or, Option, Some, None, nat_lt, is_some}
 use Rattle.stream_ident.specs.declared.ident.SubName.{SubName}
 use Rattle.stream_ident.specs.SubName.{same_sub, sub_lt}
-use Rattle.stream_ident.specs.Words.{has_number, least, next_after}
 use Rattle.least_tree.specs.Keys.{least_key}
+use Rattle.stream_ident.specs.Words.{least, next_after, has_number}
 use Rattle.resume_tree.specs.declared.leaf.Leaf.{Leaf}
 
 -- the least resume of the open subscriptions, none where none is open

@@ -9,7 +9,6 @@ use Rattle.stream_ident.proofs.NameLemmas.{IsName-from_right, IsPayload-from_rig
 use Rattle.stream_ident.proofs.NumberLemmas.{number_of-decimal, decimal-number_of}
 use Rattle.stream_ident.proofs.SplitLemmas.{split_once-front, split_once-joined}
 use Rattle.stream_ident.proofs.TokenLemmas.{token_of-token_text, token_text-token_of}
-use Rattle.stream_ident.specs.Alphabet.{is_name_byte, is_printable, IsName, IsPayload, wrong_in_name, wrong_in_payload}
 use Rattle.stream_ident.specs.declared.ident.GrainId.{GrainId}
 use Rattle.stream_ident.specs.declared.ident.StreamId.{StreamId}
 use Rattle.stream_ident.specs.declared.token.Token.{Token}
@@ -17,12 +16,13 @@ use Rattle.stream_ident.specs.Name.{name_or, name_of, payload_or, payload_of, fi
 use Rattle.stream_ident.specs.Number.{number_of}
 use Rattle.stream_ident.specs.Text.{split_once}
 use Rattle.stream_ident.specs.Token.{token_of, token_text, IsToken}
+use Rattle.stream_ident.specs.Alphabet.{is_name_byte, IsName, IsPayload, wrong_in_name, wrong_in_payload, is_printable}
+use Rattle.stream_ident.proofs.WordLemmas.{one-add}
 use Rattle.script_parser.specs.declared.command.FaultKind.{FaultKind}
 use Rattle.script_parser.specs.declared.command.FaultKind.TheVariants as kind
 use Rattle.script_parser.specs.Fields.{or_fault, as_fault, guard, number_field, queue_field, stream_field, grain_field, token_field, payload_field, bare_name_field}
 use Rattle.script_parser.specs.Grammar.{IsStream, IsGrain, IsQueue}
 use Rattle.script_parser.specs.Spelling.{stream_text, grain_text}
-use Rattle.stream_ident.proofs.WordLemmas.{one-add}
 
 -- ---- steps that didn't fail
 

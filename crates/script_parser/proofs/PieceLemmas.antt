@@ -7,9 +7,9 @@ use Rattle.std.proofs.lemmas.Option.{cond_some, none-some}
 use Rattle.std.proofs.lemmas.Bool.{cases_Bool, or_parts, or_cases, eqb-true, ltb-false, and_parts, not-true}
 use Rattle.std.proofs.lemmas.Iterator.Adapters.{option_map_id}
 use Rattle.std.proofs.lemmas.List.{append_assoc, append-nil}
+use Rattle.stream_ident.proofs.WordLemmas.{one-add}
 use Rattle.script_parser.specs.Pieces.{Piece, Word, Text, is_space, is_quote, is_backslash, ends_word, is_special}
 use Rattle.script_parser.specs.Lexer.{Place, Between, InWord, InText, Closed, cut, pieces_of, begins_word, begins_with, escape_at, CutsOne}
-use Rattle.stream_ident.proofs.WordLemmas.{one-add}
 
 -- nothing is left, or a byte that passes stands in front
 abbrev pub stops_at : (ℕ → Bool) → List ℕ → Bool

@@ -6,12 +6,12 @@ use Rattle.std.specs.List.{list_all, AllByRecursion}
 use Rattle.std.proofs.Common.{sym, subst, arith, inl, inr}
 use Rattle.std.proofs.lemmas.Bool.{cases_Bool, and_parts, and_from, eqb-true}
 use Rattle.std.proofs.lemmas.Bool.Decides.{nat_tests}
-use Rattle.stream_ident.specs.Alphabet.{IsPayload, is_name_byte, is_printable}
 use Rattle.stream_ident.specs.declared.ident.GrainId.{GrainId}
 use Rattle.stream_ident.specs.declared.ident.StreamId.{StreamId}
 use Rattle.stream_ident.specs.declared.ident.SubName.{SubName}
 use Rattle.stream_ident.specs.declared.token.Token.{Token}
 use Rattle.stream_ident.specs.Token.{token_text, IsToken}
+use Rattle.stream_ident.specs.Alphabet.{is_name_byte, IsPayload, is_printable}
 use Rattle.script_parser.specs.declared.verb.Verb.{Verb}
 use Rattle.script_parser.specs.Pieces.{Piece, Word, Text, is_space, is_special, escaped, spelling, IsLineOf}
 use Rattle.script_parser.specs.Spelling.{stream_text, grain_text, sub_text}

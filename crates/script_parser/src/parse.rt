@@ -26,7 +26,7 @@ pub fn parse_line(
     mode: Mode,
 ) -> Result<Parsed, AllocError>
     requires { 1 ≤ queues }
-    // Which of them it is.
+    // It is the reading of the line.
     ensures exact { IfOk result (λ parsed. parsed ≡ reading queues mode line bytes.now) }
     // A command is of a queue that there is.
     ensures within { IfOk result (IsWithin queues) }

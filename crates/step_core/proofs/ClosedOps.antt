@@ -1,11 +1,13 @@
 -- A subscription that is closed, and the grain that forgets it.
-use Rattle.step_core.proofs.RecordOps.{record-found}
-use Rattle.stream_model.proofs.Refusals.{unsubscribe-implicit}
 use Rattle.std.proofs.Common.{◌≡◌, ◌∙◌, ap, sym, subst, refl, ℕ, ◌<◌, Bool, true, false, not, List, [], ◌∷◌, length, filter, get_or, set, Option, Some, None, ◌==◌, arith}
 use Rattle.std.specs.Prelude.{if◌then◌else◌}
 use Rattle.std.specs.List.{AllByRecursion}
 use Rattle.std.proofs.lemmas.Bool.{cond_both, false≢true}
 use Rattle.std.proofs.lemmas.List.{get_or-set_same}
+use Rattle.stream_model.proofs.Refusals.{unsubscribe-implicit}
+use Rattle.pubsub_registry.specs.Registry.{PlainRegistry, close_found, closed_registration}
+use Rattle.pubsub_registry.proofs.Entries.{length-closed}
+use Rattle.step_core.proofs.RecordOps.{record-found}
 use Rattle.stream_ident.specs.declared.ident.GrainId.{GrainId}
 use Rattle.stream_ident.specs.declared.ident.SubName.{SubName}
 use Rattle.stream_ident.specs.declared.ident.SubName.TheVariants as name
@@ -27,7 +29,6 @@ use Rattle.pubsub_registry.specs.declared.registration.Registration.{Registratio
 use Rattle.pubsub_registry.specs.declared.told.Closing.{Closing}
 use Rattle.pubsub_registry.specs.declared.told.Closing.TheVariants as close_told
 use Rattle.pubsub_registry.specs.Index.{AreUnique}
-use Rattle.pubsub_registry.specs.Registry.{PlainRegistry, close_found, closed_registration}
 use Rattle.subscription_table.specs.Standing.{AreRecords}
 use Rattle.subscription_table.specs.Table.{PlainTable, close, closed_by, no_entry, no_state, number_of, registration_at, state_at}
 use Rattle.step_core.specs.Assembly.{Agrees, IsAssembled}
@@ -36,7 +37,6 @@ use Rattle.step_core.specs.Numbers.{AreDistinct, IsBelow}
 use Rattle.step_core.specs.PlainOf.{plain_of}
 use Rattle.step_core.specs.View.{grain_of, grains_of, name_at}
 use Rattle.step_core.specs.declared.parts.Parts.{Parts}
-use Rattle.pubsub_registry.proofs.Entries.{length-closed}
 use Rattle.step_core.proofs.AssembledTable.{IsAsLarge, assembled-subs}
 use Rattle.step_core.proofs.KnownMore.{known-forgotten, known-names, closed-grain}
 use Rattle.step_core.proofs.KnownOps.{known-state}

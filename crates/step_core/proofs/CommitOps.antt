@@ -24,7 +24,6 @@ use Rattle.stream_laws.proofs.Invariant.{marks_of, running_of}
 use Rattle.stream_model.proofs.Lookups.{place_of-within}
 use Rattle.stream_laws.proofs.Marks.{IsNext}
 use Rattle.stream_model.proofs.RecordBounds.{grain-fits}
-use Rattle.stream_ident.proofs.FirstLemmas.{place_of-key}
 use Rattle.stream_ident.proofs.SameValues.{same_sub-refl}
 use Rattle.consumer_grain.specs.declared.delivery.Delivery.{Delivery}
 use Rattle.consumer_grain.specs.declared.turn.RunningTurn.{RunningTurn}
@@ -38,6 +37,7 @@ use Rattle.pubsub_registry.specs.declared.registration.Registration.{Registratio
 use Rattle.pubsub_registry.specs.Registry.{PlainRegistry}
 use Rattle.subscription_table.specs.Table as table
 use Rattle.subscription_table.specs.Table.{PlainTable, no_entry, no_state, state_at, with_state}
+use Rattle.stream_ident.proofs.FirstLemmas.{place_of-key}
 use Rattle.step_core.specs.Assembly.{IsAssembled}
 use Rattle.step_core.specs.Known.{AreKnown, IsOf}
 use Rattle.step_core.specs.Numbers.{AreDistinct, IsBelow, TurnIsBelow}

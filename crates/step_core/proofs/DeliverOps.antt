@@ -1,8 +1,9 @@
 -- An agent delivers, done by the parts.
 use Rattle.std.proofs.Common.{◌≡◌, ◌∙◌, ap, sym, refl, ℕ, zero, suc, ◌≤◌, Bool, true, false, ◌&&◌, not, List, [], ◌∷◌, ◌++◌, length, get_or, set, take, drop, map, max, Some, None, ◌==◌, nat_le, arith}
 use Rattle.std.specs.Prelude.{if◌then◌else◌, unwrap_or, ◌-◌}
-use Rattle.std.proofs.lemmas.List.{drop-drop, length-map, map-append}
+use Rattle.std.proofs.lemmas.List.{drop-drop, map-append, length-map}
 use Rattle.std.specs.Option.{option_map}
+use Rattle.std.proofs.Math.Seq.{take-nil}
 use Rattle.stream_ident.specs.declared.event.Event.{Event}
 use Rattle.stream_ident.specs.declared.ident.GrainId.{GrainId}
 use Rattle.stream_ident.specs.declared.ident.SubName.{SubName}
@@ -30,7 +31,6 @@ use Rattle.step_core.specs.Assembly.{HasEvents}
 use Rattle.step_core.specs.View.{delivery_of, grain_of, name_at, turn_of}
 use Rattle.step_core.proofs.GrainOps.{activation_at, grain-added, grain-found, grain-new, grain-set}
 use Rattle.step_core.proofs.RecordOps.{no-record, record-found, record-set, record_at}
-use Rattle.std.proofs.Math.Seq.{take-nil}
 
 -- a list's middle from either end
 window : {A : Type 0} (k m : ℕ) (xs : List A) → drop k (take m xs) ≡ take (m - k) (drop k xs)

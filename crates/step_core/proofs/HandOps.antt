@@ -5,7 +5,7 @@ use Rattle.std.specs.List.{AllByRecursion}
 use Rattle.std.specs.Option.{option_map}
 use Rattle.std.specs.declared.alloc.AllocError.{AllocError}
 use Rattle.std.proofs.lemmas.Bool.{eqb-true, le-ltb, true≢false}
-use Rattle.std.proofs.lemmas.List.{length-map, set-get_or}
+use Rattle.std.proofs.lemmas.List.{set-get_or, length-map}
 use Rattle.stream_ident.specs.declared.ident.GrainId.{GrainId}
 use Rattle.stream_ident.specs.declared.ident.StreamId.{StreamId}
 use Rattle.stream_ident.specs.declared.ident.SubName.{SubName}
@@ -21,8 +21,6 @@ use Rattle.stream_model.specs.Positions.{is_outstanding, is_spent, is_unacknowle
 use Rattle.stream_model.specs.Pulling as plain
 use Rattle.stream_model.specs.Step.{takes_memory}
 use Rattle.stream_model.proofs.EachOf.{All-append}
-use Rattle.stream_model.proofs.Lookups.{place_of-within}
-use Rattle.stream_ident.proofs.FirstLemmas.{place_of-key}
 use Rattle.stream_ident.proofs.SameValues.{same_grain-refl, same_sub-equal}
 use Rattle.consumer_grain.specs.declared.delivery.Delivery.{Delivery}
 use Rattle.consumer_grain.specs.declared.told.Offered.{Offered}
@@ -40,6 +38,8 @@ use Rattle.subscription_table.specs.Table.{PlainTable, no_entry, no_state, regis
 use Rattle.subscription_table.specs.Table as table
 use Rattle.subscription_table.specs.declared.progress.Sought.{Sought}
 use Rattle.subscription_table.specs.declared.progress.Sought.TheVariants as sought
+use Rattle.stream_model.proofs.Lookups.{place_of-within}
+use Rattle.stream_ident.proofs.FirstLemmas.{place_of-key}
 use Rattle.stream_model.proofs.Answering.{on-error}
 use Rattle.step_core.specs.Assembly.{Agrees, IsAssembled}
 use Rattle.step_core.specs.Handing.{IsNext, sent}
@@ -53,7 +53,7 @@ use Rattle.step_core.proofs.DeliverOps.{Seeks, deliver-closed, deliver-first, de
 use Rattle.step_core.proofs.GrainOps.{AreSome, activation_at, grain-found, grain-new, outstanding-is}
 use Rattle.step_core.proofs.KnownMore.{known-first}
 use Rattle.step_core.proofs.KnownOps.{known-offered, known-state}
-use Rattle.step_core.proofs.NamesOps.{name-of-place, number-of-name, record-of-number}
+use Rattle.step_core.proofs.NamesOps.{number-of-name, record-of-number, name-of-place}
 use Rattle.step_core.proofs.Shared.{distinct-of-unique, history-of, name-same, high-end}
 use Rattle.stream_ident.proofs.WordLemmas.{All-at}
 

@@ -14,8 +14,8 @@ use Rattle.consumer_grain.specs.declared.delivery.Delivery.{Delivery}
 use Rattle.consumer_grain.specs.Subscriptions.{PlainState}
 use Rattle.grain_table.specs.Changes.{activation_at, grain_at, no_grain}
 use Rattle.pubsub_registry.specs.declared.registration.Registration.{Registration}
-use Rattle.pubsub_registry.specs.Registry.{closed_registration}
 use Rattle.subscription_table.specs.Table.{is_in, no_entry, no_state}
+use Rattle.pubsub_registry.specs.Registry.{closed_registration}
 use Rattle.step_core.specs.Known.{AreKnown, IsOf, IsUnheld, IsUnknown, IsUntouched}
 use Rattle.step_core.proofs.KnownOps.{Either, Left, Right, changed-here, changed-other, eqb-same, none-or, or-none, same-or}
 use Rattle.stream_ident.proofs.WordLemmas.{length-change_at}

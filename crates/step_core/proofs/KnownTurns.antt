@@ -16,11 +16,11 @@ use Rattle.stream_ident.specs.Blocks.{turn_size}
 use Rattle.consumer_grain.specs.declared.delivery.Delivery.{Delivery}
 use Rattle.consumer_grain.specs.declared.turn.RunningTurn.{RunningTurn}
 use Rattle.consumer_grain.specs.Subscriptions.{PlainState}
-use Rattle.stream_ident.proofs.FirstLemmas.{place_of-key}
 use Rattle.grain_table.specs.Changes.{activation_at, grain_at, no_grain}
 use Rattle.grain_table.specs.Grains as table
 use Rattle.pubsub_registry.specs.declared.registration.Registration.{Registration}
 use Rattle.subscription_table.specs.Table.{PlainTable, is_in, new_states, no_entry, no_state, rewound_open, state_at, AreRewound}
+use Rattle.stream_ident.proofs.FirstLemmas.{place_of-key}
 use Rattle.stream_model.specs.Turns.{is_open_of}
 use Rattle.step_core.specs.declared.parts.Parts.{Parts}
 use Rattle.step_core.specs.Known.{AreKnown, IsOf, IsUnknown, IsUntouched}

@@ -1,5 +1,4 @@
 -- Blocks that leave the cache and an agent that takes over leave parts that agree with each other.
-use Rattle.stream_model.proofs.Refusals.{purge-stale}
 use Rattle.std.proofs.Common.{◌≡◌, ◌∙◌, ap, sym, subst, refl, ℕ, zero, suc, ◌+◌, ◌-◌, ◌*◌, ◌<◌, ◌≤◌, min, Bool, true, false, List, [], ◌∷◌, length, take, drop, get_or, map, arith}
 use Rattle.std.proofs.lemmas.List.{length-map}
 use Rattle.std.specs.Prelude.{if◌then◌else◌, Ok, Err}
@@ -16,6 +15,7 @@ use Rattle.pulling_agent.specs.declared.agent.StaleAgent.{StaleAgent}
 use Rattle.queue_cache.specs.Cache.{PlainCache, high}
 use Rattle.subscription_table.specs.Standing.{AreRecords}
 use Rattle.subscription_table.specs.Table.{PlainTable, rewound_all, rewound_open}
+use Rattle.stream_model.proofs.Refusals.{purge-stale}
 use Rattle.step_core.specs.Assembly.{HasEvents, IsAssembled}
 use Rattle.step_core.specs.PlainOf.{plain_of}
 use Rattle.step_core.specs.View.{sub_of}

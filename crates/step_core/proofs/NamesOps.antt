@@ -1,14 +1,14 @@
 -- The number of a name is the place where it stands.
-use Rattle.std.proofs.Common.{◌≡◌, ◌∙◌, ap, sym, refl, ℕ, zero, suc, ◌+◌, ◌<◌, true, false, List, [], ◌∷◌, length, get_or, Option, Some, arith}
+use Rattle.std.proofs.Common.{◌≡◌, ◌∙◌, ap, refl, ℕ, zero, suc, ◌+◌, ◌<◌, true, false, List, [], ◌∷◌, length, get_or, Option, Some, arith, sym}
 use Rattle.std.proofs.lemmas.Bool.{false_from_ne_true}
 use Rattle.stream_ident.specs.declared.ident.SubName.{SubName}
 use Rattle.stream_ident.specs.SubName.{same_sub}
 use Rattle.stream_ident.specs.Words.{first_at, place_of}
 use Rattle.stream_model.specs.Positions.{sub_at}
-use Rattle.stream_ident.proofs.FirstLemmas.{first_at-there, place_of-key}
-use Rattle.stream_ident.proofs.SameValues.{same_sub-equal, same_sub-refl}
 use Rattle.consumer_grain.specs.Subscriptions.{PlainState}
 use Rattle.pubsub_registry.specs.declared.registration.Registration.{Registration}
+use Rattle.stream_ident.proofs.FirstLemmas.{first_at-there, place_of-key}
+use Rattle.stream_ident.proofs.SameValues.{same_sub-refl, same_sub-equal}
 use Rattle.subscription_table.specs.Table.{no_entry}
 use Rattle.step_core.specs.Numbers.{AreDistinct}
 use Rattle.step_core.specs.declared.parts.Parts.{Parts}

@@ -1,5 +1,4 @@
 -- What an agent plans to pull is what the plain pull does.
-use Rattle.stream_model.proofs.Refusals.{pull-stale}
 use Rattle.std.proofs.Common.{◌≡◌, ◌∙◌, ap, sym, refl, ℕ, ◌+◌, ◌-◌, ◌*◌, ◌/◌, min, Bool, true, false, ◌&&◌, List, [], ◌∷◌, length, map, filter, Option, Some, None, ◌==◌, arith}
 use Rattle.std.specs.Prelude.{if◌then◌else◌, unwrap_or, Ok, Err}
 use Rattle.stream_ident.specs.declared.ident.SubName.{SubName}
@@ -23,6 +22,7 @@ use Rattle.queue_cache.specs.Cache as cache
 use Rattle.resume_tree.specs.declared.leaf.Leaf.{Leaf}
 use Rattle.resume_tree.specs.Leaves as leaves
 use Rattle.subscription_table.specs.LeavesOf.{leaf_of, leaves_of, open_resume}
+use Rattle.stream_model.proofs.Refusals.{pull-stale}
 use Rattle.step_core.specs.declared.parts.Parts.{Parts}
 use Rattle.step_core.specs.PlainOf.{plain_of}
 use Rattle.step_core.specs.Taking.{taken}

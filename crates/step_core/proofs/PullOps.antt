@@ -14,7 +14,6 @@ use Rattle.stream_ident.specs.Name.{same_name}
 use Rattle.stream_ident.specs.SubName.{same_sub}
 use Rattle.stream_ident.specs.Token.{token_lt}
 use Rattle.stream_ident.specs.Words.{value_at}
-use Rattle.stream_ident.specs.Implying.{added}
 use Rattle.stream_model.specs.declared.plain.Subscription.{Subscription}
 use Rattle.stream_model.specs.Pulling as plain
 use Rattle.stream_model.proofs.EachOf.{All-weaken}
@@ -25,6 +24,7 @@ use Rattle.consumer_grain.specs.Subscriptions.{PlainState, new_state}
 use Rattle.pubsub_registry.specs.declared.registration.Registration.{Registration}
 use Rattle.pubsub_registry.specs.Implying as implying
 use Rattle.subscription_table.specs.Table.{new_states}
+use Rattle.stream_ident.specs.Implying.{added}
 use Rattle.step_core.specs.Known.{AreKnown}
 use Rattle.step_core.specs.Numbers.{IsBelow}
 use Rattle.step_core.specs.View.{grains_of, sub_of, subs_of}

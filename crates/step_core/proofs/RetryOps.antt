@@ -1,11 +1,11 @@
 -- What agents ask of one record: the replies, and parts that agree with each other.
-use Rattle.step_core.proofs.RecordOps.{no-record}
-use Rattle.stream_model.proofs.Refusals.{ack-stale, ack-unknown, retry-stale, retry-unknown}
-use Rattle.std.proofs.Common.{List, None, Some, [], ap, arith, length, not, refl, subst, sym, true, ℕ, ◌<◌, ◌∙◌, ◌∷◌, ◌≡◌}
+use Rattle.std.proofs.Common.{◌≡◌, ◌∙◌, ap, sym, subst, refl, ℕ, ◌<◌, true, not, List, [], ◌∷◌, length, Some, None, arith}
 use Rattle.std.specs.Prelude.{Ok, Err}
 use Rattle.std.specs.List.{All}
 use Rattle.std.proofs.lemmas.Bool.{cond_both}
 use Rattle.std.proofs.lemmas.List.Elements.{All-from_recursion}
+use Rattle.stream_model.proofs.Refusals.{ack-stale, ack-unknown, retry-stale, retry-unknown}
+use Rattle.step_core.proofs.RecordOps.{no-record}
 use Rattle.stream_ident.specs.declared.ident.SubName.{SubName}
 use Rattle.stream_ident.specs.declared.token.Token.{Token}
 use Rattle.stream_model.specs.declared.plain.PlainPartition.{PlainPartition}

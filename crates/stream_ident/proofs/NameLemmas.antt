@@ -6,7 +6,7 @@ use Rattle.std.proofs.lemmas.Bool.{not-false, le-ltb, ltb-false, ne_eqb, eqb-fal
 use Rattle.std.proofs.lemmas.List.{take_all, take_at, length-append, length-replicate}
 use Rattle.std.proofs.lemmas.List.Sums.{list_all-from_AllPass, fails_before_first}
 use Rattle.stream_ident.specs.Text.{wrong_place, IsPadded}
-use Rattle.stream_ident.specs.Alphabet.{is_name_byte, IsName, wrong_in_name, is_printable, IsPayload, wrong_in_payload}
+use Rattle.stream_ident.specs.Alphabet.{is_name_byte, IsName, wrong_in_name, IsPayload, wrong_in_payload, is_printable}
 use Rattle.stream_ident.proofs.WordLemmas.{or_else-none, or_else-parts}
 
 cond_none : {A : Type 0} (b : Bool) (x : A) (other : Option A) → cond b (Some x) other ≡ None → (b ≡ false) × (other ≡ None)

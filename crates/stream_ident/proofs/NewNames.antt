@@ -1,5 +1,5 @@
 -- Which names are in a list of names with their values, and which come to be in it.
-use Rattle.std.proofs.Common.{◌≡◌, ◌∙◌, ℕ, ◌+◌, ◌<◌, ◌≤◌, ◌||◌, Bool, true, false, List, [], ◌∷◌, ◌++◌, length, take, get_or, Some, is_some, fold, if◌then◌else◌, refl, sym, ap, arith}
+use Rattle.std.proofs.Common.{◌≡◌, ◌∙◌, ◌+◌, ◌<◌, ◌≤◌, ◌||◌, ◌∷◌, ◌++◌, if◌then◌else◌, ℕ, Bool, true, false, List, [], length, take, get_or, Some, is_some, fold, refl, sym, ap, arith}
 use Rattle.std.proofs.Math.Bool.{or-false, or_assoc}
 use Rattle.std.proofs.Math.Seq.{take-length, take-append_seam}
 use Rattle.std.proofs.lemmas.List.{append-nil, length-take, take_more}

@@ -1,11 +1,11 @@
 -- The words on lists.
-use Rattle.std.proofs.Common.{List, None, Option, Some, [], ap, arith, drop, false, get_or, if◌then◌else◌, length, nat_lt, refl, suc, sym, take, true, true≢false, zero, ℕ, ◌++◌, ◌+◌, ◌-◌, ◌<◌, ◌∙◌, ◌∷◌, ◌≡◌, ◌≤◌}
+use Rattle.std.proofs.Common.{◌≡◌, ◌∙◌, ℕ, zero, suc, ◌+◌, ◌≤◌, ◌<◌, List, [], ◌∷◌, ◌++◌, if◌then◌else◌, ◌-◌, length, take, drop, get_or, Option, Some, None, refl, sym, ap, arith, Bool, false, nat_lt, true, true≢false}
 use Rattle.std.specs.List.{AllByRecursion}
 use Rattle.std.specs.Option.{is_some, option_map}
 use Rattle.std.specs.Prelude.{set}
 use Rattle.std.proofs.lemmas.Bool.{ltb-false}
-use Rattle.std.proofs.lemmas.List.{drop_more, length-take, nil_from_length, take-take}
-use Rattle.stream_ident.specs.Words.{change_at, changed_value, or_else, past, past_from, value_at}
+use Rattle.std.proofs.lemmas.List.{drop_more, length-take, take-take, nil_from_length}
+use Rattle.stream_ident.specs.Words.{change_at, or_else, past_from, changed_value, past, value_at}
 
 pub one-add : (n : ℕ) → 1 + n ≡ suc n
 one-add n = omega arith

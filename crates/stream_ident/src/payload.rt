@@ -6,7 +6,7 @@ ghost use Rattle.std.specs.Cmp.Lexicographic.{pointwise, slice_cmp, nat_list_eq_
 ghost use Rattle.std.specs.Cmp.{partial_equiv_from_equiv};
 ghost use Rattle.std.specs.Cmp.Rules.{hashing};
 ghost use Rattle.std.proofs.Common.{rules};
-ghost use Rattle.stream_ident.specs.Alphabet.{is_printable, IsPayload, wrong_in_payload};
+ghost use Rattle.stream_ident.specs.Alphabet.{IsPayload, wrong_in_payload, is_printable};
 
 use crate::padded::padded;
 use std::cmp::Ordering;

@@ -9,8 +9,8 @@ use Rattle.stream_ident.specs.declared.token.Token.{Token}
 use Rattle.stream_ident.specs.Token.{token_lt}
 use Rattle.stream_ident.specs.Event.{batch_token, events_of}
 use Rattle.stream_model.specs.Positions.{no_event}
-use Rattle.stream_ident.proofs.EventLemmas.{events_of-token, length-events_of}
 use Rattle.stream_ident.proofs.TokenLemmas.{token_lt-trans}
+use Rattle.stream_ident.proofs.EventLemmas.{length-events_of, events_of-token}
 
 -- ---- the order of tokens
 

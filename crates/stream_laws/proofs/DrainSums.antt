@@ -9,8 +9,8 @@ use Rattle.stream_ident.specs.SubName.{same_sub}
 use Rattle.stream_model.specs.declared.plain.Grain.{Grain}
 use Rattle.stream_model.specs.declared.plain.Subscription.{Subscription}
 use Rattle.stream_ident.proofs.WordLemmas.{or_else-parts}
-use Rattle.stream_laws.specs.DrainLaws.{sum_open}
 use Rattle.stream_ident.specs.Implying.{added}
+use Rattle.stream_laws.specs.DrainLaws.{sum_open}
 use Rattle.stream_ident.specs.Words.{or_else, value_at, with_value}
 use Rattle.stream_laws.proofs.Unique.{AreUnique, same-swap}
 use Rattle.stream_model.proofs.Values.{append-at}

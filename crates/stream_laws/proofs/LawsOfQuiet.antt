@@ -15,13 +15,13 @@ use Rattle.stream_model.specs.declared.reply.Pending.TheVariants as pending
 use Rattle.stream_model.specs.declared.reply.Reply.TheVariants.{IsQuiet}
 use Rattle.stream_ident.specs.Event.{is_owed}
 use Rattle.stream_model.specs.NewestFirst.{owed_of}
+use Rattle.stream_ident.proofs.WordLemmas.{or_else-parts, nil_from_nat_lt, none_from_is_some}
 use Rattle.stream_laws.specs.Laws.{QuietIsDone, QuietOwesNoOther}
 use Rattle.stream_model.specs.Looks.{behind, deliverable, is_running, is_waiting, pending_in, quiet, quiet_reply, running, waiting}
 use Rattle.stream_model.specs.Positions.{grain_at, new_grain, next_position, running_in, sub_at, waiting_in}
 use Rattle.stream_ident.specs.Words.{keys_where, past, value_at}
 use Rattle.stream_laws.proofs.EventLemmas.{filter-drop-none}
 use Rattle.stream_laws.proofs.KeyLists.{least-none}
-use Rattle.stream_ident.proofs.WordLemmas.{nil_from_nat_lt, none_from_is_some, or_else-parts}
 use Rattle.stream_laws.proofs.Invariant.{Fits, marks_of, running_of, waiting_of}
 use Rattle.stream_laws.proofs.LawsOfEvents.{handled-record, owed-bound}
 use Rattle.stream_laws.proofs.Legal.{StepsKeep, fits-stands}

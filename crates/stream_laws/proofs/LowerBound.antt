@@ -10,8 +10,8 @@ use Rattle.stream_model.specs.declared.plain.PlainPartition.{PlainPartition}
 use Rattle.stream_ident.specs.Event.{batch_token}
 use Rattle.stream_model.specs.Positions.{between, low_token, lower_bound, no_event, token_at}
 use Rattle.stream_ident.specs.Words.{first_at}
-use Rattle.stream_laws.proofs.Invariant.{LogFits, marks_of}
 use Rattle.stream_ident.proofs.FirstLemmas.{first_at-None, first_at-Some}
+use Rattle.stream_laws.proofs.Invariant.{LogFits, marks_of}
 use Rattle.stream_laws.proofs.LogLemmas.{between-at, clear-before, length-between, token_lt-before}
 use Rattle.stream_laws.proofs.Marks.{IsClear}
 use Rattle.stream_laws.proofs.Summary.{Summary}

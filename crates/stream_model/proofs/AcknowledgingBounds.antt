@@ -8,7 +8,7 @@ use Rattle.stream_model.specs.declared.plain.Subscription.{Subscription}
 use Rattle.stream_model.specs.Bounds.{IsWithinLimits}
 use Rattle.stream_model.specs.Positions.{sub_at}
 use Rattle.stream_model.specs.Pulling.{ack, ack_of, ack_position, acknowledged, handled_at, is_stale, retry, retry_of, rewound}
-use Rattle.stream_model.proofs.RecordBounds.{KeepsLimits, handled-in, sub-set}
+use Rattle.stream_model.proofs.RecordBounds.{handled-in, sub-set, KeepsLimits}
 
 bounds-retry_of : (p : PlainPartition) (s : SubName) (found : Option Subscription) → IsWithinLimits p → sub_at p s ≡ found → IsWithinLimits (retry_of p s found).0
 unfolding retry_of

@@ -14,7 +14,7 @@ use Rattle.stream_model.specs.Pulling.{rewound_where}
 use Rattle.stream_model.specs.Turns.{deactivate, deactivate_in, deactivated}
 use Rattle.stream_ident.specs.Words.{each_value}
 use Rattle.stream_model.proofs.EachValue.{All-each_value}
-use Rattle.stream_model.proofs.RecordBounds.{GrainFits, KeepsLimits, changed, grain-fits, grain-set, grains-fit}
+use Rattle.stream_model.proofs.RecordBounds.{GrainFits, changed, grain-fits, grain-set, grains-fit, KeepsLimits}
 
 bounds-deactivated : (p : PlainPartition) (g : GrainId) (st : Grain) → IsWithinLimits p → GrainFits p.log p.rises st → IsWithinLimits (deactivated p g st)
 bounds-deactivated p g st within fits =

@@ -11,7 +11,7 @@ use Rattle.stream_ident.specs.Event.{is_owed}
 use Rattle.stream_model.specs.Positions.{grain_at, is_spent, next_position, sub_at, with_grain, with_sub}
 use Rattle.stream_model.specs.Pulling.{caught_up, deliver, deliver_position, deliver_to, delivered, is_stale}
 use Rattle.stream_model.proofs.EachOf.{All-append}
-use Rattle.stream_model.proofs.RecordBounds.{GrainFits, KeepsLimits, found-in-log, grain-fits, grain-set, handled-in, sub-set}
+use Rattle.stream_model.proofs.RecordBounds.{GrainFits, found-in-log, grain-fits, grain-set, handled-in, sub-set, KeepsLimits}
 
 -- an activation costs a rise
 rise-fits : (active : Bool) (activation rises limit : ℕ) → activation ≤ rises → rises ≤ limit → (not active && nat_le limit rises) ≡ false

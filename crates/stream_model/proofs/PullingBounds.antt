@@ -11,17 +11,17 @@ use Rattle.stream_ident.specs.declared.token.Token.{Token}
 use Rattle.stream_ident.specs.Name.{same_name}
 use Rattle.stream_ident.specs.SubName.{same_sub}
 use Rattle.stream_ident.specs.Token.{token_lt}
+use Rattle.stream_ident.specs.Implying.{added}
+use Rattle.stream_ident.proofs.NewNames.{length-fold}
 use Rattle.stream_model.specs.declared.plain.PlainPartition.{PlainPartition}
 use Rattle.stream_ident.specs.declared.rule.Rule.{Rule}
 use Rattle.stream_model.specs.declared.plain.Subscription.{Subscription}
 use Rattle.stream_model.specs.Bounds.{AreIn, IsGiven, IsWithinLimits}
 use Rattle.stream_ident.specs.Event.{batch_token}
 use Rattle.stream_model.specs.Positions.{between, new_subscription}
-use Rattle.stream_ident.specs.Implying.{added}
 use Rattle.stream_model.specs.Pulling.{all_implied, drops, implied, is_stale, pull, pull_count, pull_events, pull_want, room}
 use Rattle.stream_ident.specs.Blocks.{pull_size}
 use Rattle.stream_ident.specs.Words.{value_at}
-use Rattle.stream_ident.proofs.NewNames.{length-fold}
 use Rattle.stream_model.proofs.PullingSteps.{subs_up_to}
 use Rattle.stream_model.proofs.SubNames.{AreGiven}
 use Rattle.stream_model.proofs.EachOf.{All-append, All-flat_map}

@@ -8,15 +8,15 @@ use Rattle.stream_ident.specs.declared.ident.GrainId.{GrainId}
 use Rattle.stream_ident.specs.declared.ident.SubName.{SubName}
 use Rattle.stream_ident.specs.Name.{same_grain}
 use Rattle.stream_ident.specs.SubName.{same_sub}
+use Rattle.stream_ident.proofs.FirstLemmas.{first_at-Some}
 use Rattle.stream_model.specs.declared.plain.Delivery.{Delivery}
 use Rattle.stream_model.specs.declared.plain.Grain.{Grain}
 use Rattle.stream_model.specs.declared.plain.PlainPartition.{PlainPartition}
 use Rattle.stream_model.specs.declared.plain.Subscription.{Subscription}
 use Rattle.stream_model.specs.declared.reply.Reply.{Reply}
 use Rattle.stream_model.specs.Bounds.{AreIn, IsWithinLimits, running_positions}
-use Rattle.stream_model.specs.Positions.{between, grain_at, new_grain, no_event, sub_at}
+use Rattle.stream_model.specs.Positions.{between, grain_at, new_grain, sub_at, no_event}
 use Rattle.stream_ident.specs.Words.{first_at, value_at, with_value}
-use Rattle.stream_ident.proofs.FirstLemmas.{first_at-Some}
 use Rattle.stream_model.proofs.Beginning.{All-value_at}
 use Rattle.stream_model.proofs.EachOf.{All-weaken}
 use Rattle.stream_model.proofs.SubNames.{AreGiven, AreGiven-with_value, length-with_value}

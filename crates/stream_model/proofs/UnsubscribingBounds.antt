@@ -14,7 +14,7 @@ use Rattle.stream_model.specs.Publishing.{unsubscribe, unsubscribe_from, unsubsc
 use Rattle.stream_ident.specs.Words.{changed_value}
 use Rattle.stream_model.proofs.ChangedValues.{All-changed}
 use Rattle.stream_model.proofs.EachOf.{All-filter}
-use Rattle.stream_model.proofs.RecordBounds.{GrainFits, KeepsLimits, changed, grains-fit, handled-in, sub-set}
+use Rattle.stream_model.proofs.RecordBounds.{GrainFits, changed, grains-fit, handled-in, sub-set, KeepsLimits}
 
 bounds-unsubscribed : (p : PlainPartition) (s : SubName) (r : Subscription) → IsWithinLimits p → sub_at p s ≡ Some r → IsWithinLimits (unsubscribed p s r)
 bounds-unsubscribed p s r within there =

@@ -8,6 +8,7 @@ use Rattle.stream_ident.specs.Blocks as blocks
 use Rattle.stream_ident.specs.Blocks.{pull_size}
 use Rattle.stream_ident.specs.Implying.{implied_by, implied_by_all, with_implied, Making}
 use Rattle.stream_ident.specs.Token.{same_token}
+use Rattle.stream_ident.specs.Words.{least_with, each_value}
 use Rattle.stream_model.specs.declared.plain.Grain.{Grain}
 use Rattle.stream_model.specs.declared.plain.PlainPartition.{PlainPartition}
 use Rattle.stream_ident.specs.declared.rule.Rule.{Rule}
@@ -15,7 +16,6 @@ use Rattle.stream_model.specs.declared.plain.Subscription.{Subscription}
 use Rattle.stream_model.specs.declared.reply.Reply.{Reply}
 use Rattle.stream_model.specs.declared.reply.Reply.TheVariants as reply
 use Rattle.stream_model.specs.Positions.{token_at, between, next_position, sub_at, grain_at, with_sub, with_grain, new_subscription, is_outstanding, open_resumes, slowest, slowest_name, is_spent}
-use Rattle.stream_ident.specs.Words.{least_with, each_value}
 
 abbrev pub is_stale : PlainPartition → ℕ → Bool
 is_stale p generation = not (generation == p.generation)

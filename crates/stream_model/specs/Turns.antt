@@ -1,6 +1,6 @@
 -- What a worker asks (Orleans, Grains: a grain is activated on its first message, handles one turn at a
 -- time and may be deactivated).
-use Rattle.std.specs.Prelude.{Bool, ℕ, suc, pred, ◌+◌, false, ◌&&◌, not, List, [], ◌∷◌, ◌++◌, length, drop, Option, Some, None, is_some, ◌==◌, nat_lt, if◌then◌else◌}
+use Rattle.std.specs.Prelude.{ℕ, suc, pred, ◌+◌, false, ◌&&◌, not, List, [], ◌∷◌, ◌++◌, length, drop, Option, Some, None, is_some, ◌==◌, nat_lt, if◌then◌else◌, Bool}
 use Rattle.stream_ident.specs.declared.ident.GrainId.{GrainId}
 use Rattle.stream_ident.specs.declared.ident.SubName.{SubName}
 use Rattle.stream_ident.specs.Name.{same_grain}

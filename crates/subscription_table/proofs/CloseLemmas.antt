@@ -11,7 +11,6 @@ use Rattle.stream_ident.specs.declared.ident.SubName.TheVariants as name
 use Rattle.queue_mapper.specs.Place.{tag_of}
 use Rattle.consumer_grain.specs.Subscriptions.{PlainState, closed, is_unacknowledged}
 use Rattle.pubsub_registry.specs.Index.{AreUnique}
-use Rattle.pubsub_registry.specs.Registry.{PlainRegistry, close_found, registration_of, closed_registration}
 use Rattle.pubsub_registry.specs.Registry as registry
 use Rattle.pubsub_registry.specs.declared.registration.Registration.{Registration}
 use Rattle.pubsub_registry.specs.declared.told.Closing.{Closing}
@@ -19,6 +18,7 @@ use Rattle.pubsub_registry.specs.declared.told.Closing.TheVariants.{Done, NoSuch
 use Rattle.stream_ident.proofs.SameValues.{same_sub-refl}
 use Rattle.resume_tree.specs.declared.leaf.Leaf.{Leaf}
 use Rattle.resume_tree.specs.Leaves.{changed}
+use Rattle.pubsub_registry.specs.Registry.{PlainRegistry, close_found, registration_of, closed_registration}
 use Rattle.subscription_table.specs.LeavesOf.{leaf_of, leaves_of, open_resume}
 use Rattle.subscription_table.specs.Standing.{AreRecords, IsTable, tags_of}
 use Rattle.subscription_table.specs.Table.{PlainTable, close, closed_by, no_entry, no_state, state_at}

@@ -10,8 +10,8 @@ use Rattle.stream_ident.specs.declared.token.Token.{Token}
 use Rattle.stream_ident.specs.Event.{batch_token, no_event}
 use Rattle.stream_ident.specs.Token.{same_token, token_lt}
 use Rattle.consumer_grain.specs.Subscriptions.{rises_from}
-use Rattle.consumer_grain.proofs.NumberLemmas.{rises_from-at_least}
 use Rattle.partition_queue.specs.Queue.{PlainQueue, TokensRise, event_at, token_at}
+use Rattle.consumer_grain.proofs.NumberLemmas.{rises_from-at_least}
 use Rattle.subscription_table.specs.Progress.{handled_at}
 use Rattle.subscription_table.specs.Handled.{first_of, IsBound}
 use Rattle.stream_ident.proofs.TokenLemmas.{token_lt-trans}

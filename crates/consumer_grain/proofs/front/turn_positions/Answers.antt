@@ -1,4 +1,4 @@
-use Rattle.std.proofs.Common.{◌<◌, ◌-◌, ◌+◌, ◌++◌, ◌==◌, length, suc, get_or, take, drop, refl, sym, ap, ◌∙◌, arith}
+use Rattle.std.proofs.Common.{◌<◌, ◌-◌, ◌+◌, ◌++◌, length, suc, get_or, take, drop, sym, ap, ◌∙◌, ◌==◌, arith, refl}
 use Rattle.std.proofs.lemmas.Bool.{eq-eqb}
 use Rattle.std.proofs.lemmas.List.{get_or_default, length_push}
 use Rattle.stream_ident.proofs.RisingFronts.{front-start, front-more, front-full, front-end, front-stop}

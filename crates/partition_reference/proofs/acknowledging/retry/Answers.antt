@@ -1,9 +1,9 @@
-use Rattle.stream_model.proofs.Refusals.{retry-stale, retry-unknown}
 use Rattle.std.proofs.Common.{sym, ◌∙◌}
 use Rattle.stream_ident.specs.SubName.{same_sub}
 use Rattle.stream_model.specs.declared.plain.Subscription.{Subscription}
+use Rattle.stream_model.proofs.Refusals.{retry-stale, retry-unknown}
+use Rattle.stream_model.proofs.Lookups.{place_of-within, place_of-change, place_of-none}
 use Rattle.partition_reference.proofs.AcknowledgingLemmas.{retry-closed, retry-done}
-use Rattle.stream_model.proofs.Lookups.{place_of-change, place_of-none, place_of-within}
 use Rattle.partition_reference.proofs.acknowledging.retry.Goals as goal
 
 pub returns-then-is_stale : goal.returns-then-is_stale

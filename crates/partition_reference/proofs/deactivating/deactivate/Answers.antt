@@ -1,8 +1,8 @@
-use Rattle.stream_model.specs.Positions.{new_grain}
-use Rattle.stream_model.proofs.Refusals.{deactivate-idle}
-use Rattle.std.proofs.Common.{None, [], ap, false, length, refl, sym, ◌+◌, ◌∙◌}
+use Rattle.std.proofs.Common.{◌+◌, [], None, false, length, sym, ap, ◌∙◌, refl}
 use Rattle.stream_ident.specs.Name.{same_grain}
 use Rattle.stream_model.specs.declared.plain.Grain.{Grain}
+use Rattle.stream_model.specs.Positions.{new_grain}
+use Rattle.stream_model.proofs.Refusals.{deactivate-idle}
 use Rattle.stream_model.proofs.Beginning.{grain_at-is, grain_at-new}
 use Rattle.partition_reference.proofs.DeactivatingLemmas.{deactivate-done}
 use Rattle.stream_model.proofs.Lookups.{place_of-change, place_of-within}

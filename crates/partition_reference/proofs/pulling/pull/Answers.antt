@@ -1,7 +1,7 @@
-use Rattle.stream_model.proofs.Refusals.{pull-stale}
 use Rattle.std.proofs.Common.{◌≡◌, ◌-◌, ◌∙◌, min, ap, sym, length}
 use Rattle.stream_ident.specs.Blocks.{pull_size}
 use Rattle.stream_model.proofs.Answering.{performs-along, memory-along}
+use Rattle.stream_model.proofs.Refusals.{pull-stale}
 use Rattle.stream_model.proofs.PullingSteps.{pull-dry, pull-some}
 use Rattle.partition_reference.proofs.pulling.pull.Goals as goal
 

@@ -1,5 +1,5 @@
-use Rattle.std.proofs.Common.{◌≡◌, ◌-◌, length, pred, suc, Some, sym, ap, ◌∙◌, arith}
-use Rattle.std.proofs.lemmas.Option.{same_Some, slice_get-get_or, slice_get_within}
+use Rattle.std.proofs.Common.{◌≡◌, ◌-◌, length, pred, Some, sym, ap, ◌∙◌, arith, suc}
+use Rattle.std.proofs.lemmas.Option.{slice_get_within, same_Some, slice_get-get_or}
 use Rattle.std.specs.List.{slice_get}
 use Rattle.stream_ident.specs.Words.{past}
 use Rattle.stream_ident.proofs.WordLemmas.{past-last}

@@ -5,9 +5,9 @@ use Rattle.stream_model.specs.declared.plain.Grain.{Grain}
 use Rattle.stream_model.specs.Places.{change_at, handled_also}
 use Rattle.stream_model.specs.Positions.{grain_at, token_at}
 use Rattle.stream_model.proofs.Beginning.{grain_at-place}
+use Rattle.stream_model.proofs.Lookups.{place_of-within, place_of-change}
 use Rattle.stream_model.proofs.Answering.{on-error}
 use Rattle.stream_model.proofs.Committing.{commit_for-unknown, commit_for-closed, commit_for-done, commit_for-takes}
-use Rattle.stream_model.proofs.Lookups.{place_of-within, place_of-change}
 use Rattle.partition_reference.proofs.turns.commit_run.Goals as goal
 
 pub returns-in_default-clause-performs : goal.returns-in_default-clause-performs

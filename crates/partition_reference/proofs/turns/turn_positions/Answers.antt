@@ -1,10 +1,10 @@
 use Rattle.std.proofs.Common.{◌<◌, ◌-◌, ◌+◌, ◌++◌, length, suc, take, drop, sym, ap, ◌∙◌, arith}
 use Rattle.std.proofs.lemmas.List.{length_push}
+use Rattle.stream_model.specs.Turns.{front_of}
 use Rattle.stream_ident.specs.SubName.{same_sub}
 use Rattle.stream_ident.proofs.RisingFronts.{front-start, front-more, front-full, front-end, front-stop}
 use Rattle.stream_ident.proofs.SameValues.{same_sub-refl}
 use Rattle.stream_model.specs.declared.plain.Delivery.{Delivery}
-use Rattle.stream_model.specs.Turns.{front_of}
 use Rattle.partition_reference.proofs.turns.turn_positions.Goals as goal
 use Rattle.partition_reference.proofs.turns.turn_positions.Goals.{then-len-most-via-then-len-most, then-len-most-via-else-len-most+then-not-goes_on}
 

@@ -1,8 +1,8 @@
-use Rattle.stream_model.proofs.Refusals.{unsubscribe-implicit, unsubscribe-unknown}
 use Rattle.std.proofs.Common.{sym, ap, length, ◌∙◌, false}
 use Rattle.stream_ident.specs.SubName.{same_sub}
 use Rattle.stream_model.specs.declared.plain.Subscription.{Subscription}
-use Rattle.stream_model.proofs.Lookups.{place_of-change, place_of-none, place_of-within}
+use Rattle.stream_model.proofs.Refusals.{unsubscribe-implicit, unsubscribe-unknown}
+use Rattle.stream_model.proofs.Lookups.{place_of-change, place_of-within, place_of-none}
 use Rattle.partition_reference.proofs.UnsubscribingLemmas.{unsubscribe-closed, unsubscribe-done}
 use Rattle.partition_reference.proofs.unsubscribing.unsubscribe.Goals as goal
 

@@ -1,7 +1,7 @@
-use Rattle.step_core.proofs.RecordOps.{no-record}
-use Rattle.stream_model.proofs.Refusals.{deliver-stale, deliver-unknown}
-use Rattle.std.proofs.Common.{Option, ap, arith, not, subst, sym, true, ℕ, ◌<◌, ◌∙◌, ◌≡◌, ◌≤◌}
+use Rattle.std.proofs.Common.{◌≡◌, ◌∙◌, ap, sym, subst, ℕ, ◌<◌, ◌≤◌, Option, true, arith, not}
 use Rattle.std.specs.Prelude.{OnErr}
+use Rattle.stream_model.proofs.Refusals.{deliver-stale, deliver-unknown}
+use Rattle.step_core.proofs.RecordOps.{no-record}
 use Rattle.stream_model.specs.declared.reply.Reply.TheVariants as reply
 use Rattle.stream_model.specs.Step.{takes_memory}
 use Rattle.grain_table.specs.Grains.{number_of}

@@ -2,8 +2,8 @@ use Rattle.std.proofs.Common.{sym, ap, ◌∙◌}
 use Rattle.stream_model.specs.declared.plain.PlainPartition.{PlainPartition}
 use Rattle.stream_model.specs.declared.reply.Reply.{Reply}
 use Rattle.stream_model.specs.Step.{step, takes_memory}
-use Rattle.step_core.specs.PlainOf.{plain_of}
 use Rattle.stream_model.proofs.Answering.{on-error}
+use Rattle.step_core.specs.PlainOf.{plain_of}
 use Rattle.step_core.proofs.stepping.step.Goals as goal
 
 pub returns-in-Begin-clause-performs : goal.returns-in-Begin-clause-performs

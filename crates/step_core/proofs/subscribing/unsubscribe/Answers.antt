@@ -1,6 +1,6 @@
-use Rattle.step_core.proofs.RecordOps.{no-record}
-use Rattle.stream_model.proofs.Refusals.{unsubscribe-unknown}
 use Rattle.std.proofs.Common.{◌∙◌, List, ap, length, ℕ, subst, sym}
+use Rattle.stream_model.proofs.Refusals.{unsubscribe-unknown}
+use Rattle.step_core.proofs.RecordOps.{no-record}
 use Rattle.stream_ident.specs.declared.ident.GrainId.{GrainId}
 use Rattle.stream_model.specs.declared.plain.PlainPartition.{PlainPartition}
 use Rattle.stream_model.specs.declared.reply.Reply.{Reply}
@@ -11,7 +11,7 @@ use Rattle.pubsub_registry.specs.declared.registration.Registration.{Registratio
 use Rattle.pubsub_registry.specs.declared.told.Closing.TheVariants as close_told
 use Rattle.step_core.specs.Assembly.{IsAssembled}
 use Rattle.step_core.specs.PlainOf.{plain_of}
-use Rattle.step_core.proofs.ClosedOps.{closed-assembled, closed-performs, closed-after, forgotten-assembled, forgotten_by, left_grains}
+use Rattle.step_core.proofs.ClosedOps.{closed-assembled, closed-performs, forgotten-assembled, forgotten_by, left_grains, closed-after}
 use Rattle.step_core.proofs.subscribing.unsubscribe.Goals as goal
 
 pub returns-in_default-clause-performs : goal.returns-in_default-clause-performs

@@ -1,10 +1,10 @@
+use Rattle.std.proofs.Common.{◌∙◌, ap, sym, subst, ℕ, List, refl}
 use Rattle.stream_model.specs.Positions.{new_grain}
+use Rattle.stream_model.proofs.Refusals.{deactivate-idle}
+use Rattle.grain_table.specs.Changes.{activation_at, no_grain}
 use Rattle.step_core.specs.PlainOf.{plain_of}
 use Rattle.step_core.proofs.GrainOps.{grain-found, grain-new}
-use Rattle.stream_model.proofs.Refusals.{deactivate-idle}
-use Rattle.std.proofs.Common.{List, ap, refl, subst, sym, ℕ, ◌∙◌}
 use Rattle.consumer_grain.specs.Activations.{PlainActivation}
-use Rattle.grain_table.specs.Changes.{activation_at, no_grain}
 use Rattle.subscription_table.specs.Table.{AreRewound}
 use Rattle.step_core.proofs.LeaveOps.{deactivate-assembled, deactivate-told}
 use Rattle.step_core.proofs.turns.deactivate.Goals as goal

@@ -3,12 +3,12 @@ use Rattle.stream_ident.specs.Name.{same_stream}
 use Rattle.stream_ident.specs.SubName.{same_sub}
 use Rattle.stream_ident.specs.Words.{changed_value}
 use Rattle.stream_ident.specs.declared.ident.SubName.{SubName}
+use Rattle.stream_ident.proofs.NameOrders.{sub_equal, sub_equal-is}
 use Rattle.pubsub_registry.specs.Registry.{closed_registration}
 use Rattle.pubsub_registry.specs.Rows.{row_of}
 use Rattle.pubsub_registry.specs.declared.subscriptions.Subscriptions.TheInside.{Inside}
 use Rattle.pubsub_registry.proofs.Entries.{Names, closed-written, closed-unwritten}
 use Rattle.pubsub_registry.proofs.IndexLemmas.{indexed-closed}
-use Rattle.stream_ident.proofs.NameOrders.{sub_equal, sub_equal-is}
 use Rattle.pubsub_registry.proofs.subscriptions.Subscriptions.close.Goals as goal
 use Rattle.pubsub_registry.proofs.subscriptions.Subscriptions.close.Goals.{in-Some, in_default}
 
