@@ -1,19 +1,14 @@
 -- The names with those that the rules make of events: their front, and how many they are.
-use Rattle.std.proofs.Common.{◌≡◌, ◌∙◌, ℕ, ◌+◌, ◌*◌, ◌<◌, ◌≤◌, not, Bool, true, false, List, [], ◌∷◌, ◌++◌, length, take, filter, fold, is_some, if◌then◌else◌, refl, sym, ap, arith, length-append}
-use Rattle.std.proofs.Math.Seq.{take-length, take-append_seam}
-use Rattle.std.proofs.lemmas.List.{length-take, take-take}
+use Rattle.std.proofs.Common.{◌≡◌, ℕ, ◌+◌, ◌*◌, ◌≤◌, not, Bool, true, false, List, [], ◌∷◌, ◌++◌, length, take, fold, if◌then◌else◌, refl, ap, arith, length-append}
 use Rattle.std.proofs.lemmas.List.Concat.{length-flat_map}
 use Rattle.std.proofs.lemmas.List.Filters.{length-filter_both}
-use Rattle.std.proofs.lemmas.List.Sums.{fold-append}
 use Rattle.std.specs.List.{flat_map}
 use Rattle.stream_ident.specs.declared.event.Event.{Event}
 use Rattle.stream_ident.specs.declared.ident.SubName.{SubName}
 use Rattle.stream_ident.specs.declared.rule.Rule.{Rule}
 use Rattle.stream_ident.specs.Event.{batch_token}
 use Rattle.stream_ident.specs.Name.{same_name}
-use Rattle.stream_ident.specs.SubName.{same_sub}
 use Rattle.stream_ident.specs.Token.{token_lt}
-use Rattle.stream_ident.specs.Words.{value_at}
 use Rattle.stream_ident.specs.Implying.{added}
 use Rattle.stream_ident.proofs.NewNames.{fold-front, has, length-fold}
 use Rattle.pubsub_registry.specs.Implying.{all_implied, implied, made, names_with, rule_count}

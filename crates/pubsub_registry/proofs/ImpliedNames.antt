@@ -1,6 +1,6 @@
 -- Which names the rules make of events.
-use Rattle.std.proofs.Math.Bool.{or-false, or_assoc}
-use Rattle.std.proofs.Common.{◌≡◌, ◌∙◌, ℕ, ◌&&◌, ◌||◌, not, Bool, true, false, List, [], ◌∷◌, ◌++◌, Some, is_some, fold, if◌then◌else◌, refl, sym, ap}
+use Rattle.std.proofs.Math.Bool.{or-false}
+use Rattle.std.proofs.Common.{◌≡◌, ◌∙◌, ℕ, ◌&&◌, ◌||◌, not, Bool, true, false, List, [], ◌∷◌, ◌++◌, fold, if◌then◌else◌, refl, sym, ap}
 use Rattle.std.specs.List.{flat_map, list_any}
 use Rattle.stream_ident.specs.declared.event.Event.{Event}
 use Rattle.stream_ident.specs.declared.ident.StreamId.{StreamId}
@@ -9,16 +9,14 @@ use Rattle.stream_ident.specs.declared.ident.SubName.TheVariants.{Explicit, Impl
 use Rattle.stream_ident.specs.declared.rule.Rule.{Rule}
 use Rattle.stream_ident.specs.Event.{batch_token}
 use Rattle.stream_ident.specs.Name.{same_name, same_stream}
-use Rattle.stream_ident.specs.SubName.{same_sub}
 use Rattle.stream_ident.specs.Token.{token_lt}
-use Rattle.stream_ident.specs.Words.{value_at}
 use Rattle.stream_ident.specs.Implying.{added}
 use Rattle.stream_ident.proofs.NewNames.{has, has-append, has-cons, has-fold}
 use Rattle.pubsub_registry.specs.Implying.{all_implied, implied, made, makes_any, names_with}
 use Rattle.pubsub_registry.specs.Registry.{registered}
 use Rattle.pubsub_registry.specs.declared.registration.Registration.{Registration}
 use Rattle.pubsub_registry.proofs.Entries.{Names}
-use Rattle.stream_ident.proofs.SameValues.{same_stream-equal, same_stream-refl, same_sub-equal}
+use Rattle.stream_ident.proofs.SameValues.{same_stream-equal, same_stream-refl}
 use Rattle.pubsub_registry.proofs.RuleLemmas.{on}
 
 abbrev pub entry : Event → Rule → SubName × Registration

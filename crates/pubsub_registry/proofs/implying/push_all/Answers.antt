@@ -1,4 +1,4 @@
-use Rattle.std.proofs.Common.{◌∙◌, ap, sym, fold}
+use Rattle.std.proofs.Common.{◌∙◌, sym, fold}
 use Rattle.std.specs.List.{flat_map}
 use Rattle.stream_ident.specs.Implying.{added}
 use Rattle.pubsub_registry.specs.Implying.{made}
