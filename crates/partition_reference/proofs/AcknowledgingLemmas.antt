@@ -9,11 +9,9 @@ use Rattle.stream_model.specs.declared.plain.PlainPartition.{PlainPartition}
 use Rattle.stream_model.specs.declared.plain.Subscription.{Subscription}
 use Rattle.stream_model.specs.declared.reply.Reply.{Reply}
 use Rattle.stream_model.specs.declared.reply.Reply.TheVariants as reply
-use Rattle.stream_model.specs.Places.{place_of}
 use Rattle.stream_model.specs.Positions.{sub_at, with_sub}
 use Rattle.stream_model.specs.Pulling.{ack, ack_of, ack_position, acknowledged, handled_at, is_stale, retry, retry_of, rewound}
 use Rattle.stream_ident.specs.Words.{with_value}
-use Rattle.stream_model.proofs.Lookups.{place_of-none}
 
 -- the subscription's record decides
 retry-current : (p : PlainPartition) (generation : ℕ) (s : SubName) (found : Option Subscription) → is_stale p generation ≡ false → sub_at p s ≡ found → retry p generation s ≡ retry_of p s found

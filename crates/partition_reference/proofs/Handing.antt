@@ -1,6 +1,6 @@
 -- What an agent's deliver leaves and answers, case by case.
 use Rattle.std.proofs.Common.{◌≡◌, ℕ, suc, ◌+◌, ◌-◌, ◌<◌, ◌≤◌, Bool, true, false, ◌&&◌, ◌||◌, not, List, ◌∷◌, length, get_or, take, drop, max, Option, Some, None, sym, ap, subst, ◌∙◌, nat_lt, arith}
-use Rattle.std.proofs.lemmas.Bool.{eq-eqb, ne_eqb, le-leb, lt-leb}
+use Rattle.std.proofs.lemmas.Bool.{eq-eqb, le-leb, lt-leb}
 use Rattle.std.proofs.lemmas.List.{drop_more}
 use Rattle.std.proofs.lemmas.Option.{same_Some}
 use Rattle.std.specs.Int.{from_bool}
@@ -24,7 +24,6 @@ use Rattle.stream_model.specs.Pulling.{caught_up, deliver, deliver_to, deliver_p
 use Rattle.stream_model.specs.Step.{takes_memory}
 use Rattle.stream_ident.specs.Words.{first_at, with_value}
 use Rattle.stream_model.proofs.Beginning.{grain_at-new}
-use Rattle.stream_model.proofs.Lookups.{place_of-none}
 use Rattle.stream_model.proofs.EachOf.{All-weaken}
 
 -- what the cache has from a position on, by its first event

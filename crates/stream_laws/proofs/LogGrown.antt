@@ -11,6 +11,7 @@ use Rattle.stream_ident.specs.Event.{is_owed}
 use Rattle.stream_model.specs.Positions.{events_at, no_event}
 use Rattle.stream_ident.specs.Words.{past, past_from}
 use Rattle.stream_model.proofs.EachOf.{All-append}
+use Rattle.stream_ident.proofs.WordLemmas.{past_from-within}
 use Rattle.stream_laws.proofs.Invariant.{marks_of}
 use Rattle.stream_laws.proofs.MarkLemmas.{IsClear-marks, IsCovering-marks, IsNext-marks, marked-within, marked_below-marks}
 use Rattle.stream_laws.proofs.Marks.{IsInTurn, IsNext, IsServed, marked_below, reach}
