@@ -14,14 +14,11 @@ Leads-split d (x ∷ xs) later e leads =
     let rest = Leads-split (step d x.op).0 xs later e leads.1 in
     (rest.0, (leads.0, rest.1), rest.2)
 
-Contains-first : (x y : Entry) (xs : List Entry) → x ≡ y → Contains (x ∷ xs) y
-Contains-first x y xs same = subst (Contains (x ∷ xs)) same (Contains-get_or (x ∷ xs) 0 x (omega arith))
-
 pub IsFreed-left : (x : Entry) (xs : List Entry) (grain : GrainId) (silo permit : ℕ) → x ≡ left grain permit → IsFreed (x ∷ xs) grain silo permit
-IsFreed-left x xs grain silo permit same = inl (Contains-first x (left grain permit) xs same)
+IsFreed-left x xs grain silo permit same = inl (0, omega arith, same)
 
 pub IsFreed-released : (x : Entry) (xs : List Entry) (grain : GrainId) (silo permit count : ℕ) → x ≡ released grain silo count → IsFreed (x ∷ xs) grain silo permit
-IsFreed-released x xs grain silo permit count same = inr (count, Contains-first x (released grain silo count) xs same)
+IsFreed-released x xs grain silo permit count same = inr (count, (0, omega arith, same))
 
 pub IsFreed-later : (x : Entry) (xs : List Entry) (grain : GrainId) (silo permit : ℕ) → IsFreed xs grain silo permit → IsFreed (x ∷ xs) grain silo permit
 IsFreed-later x xs grain silo permit (inl there) = inl (Contains-append_right (x ∷ []) xs (left grain permit) there)

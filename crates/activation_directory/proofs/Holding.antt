@@ -5,6 +5,7 @@ use Rattle.std.proofs.lemmas.Bool.{eqb-true}
 use mathlib.Core.Logic.{inl, inr}
 use Rattle.stream_ident.specs.declared.ident.GrainId.{GrainId}
 use Rattle.stream_ident.specs.Name.{same_grain}
+use Rattle.stream_ident.specs.Words.{has_number}
 use Rattle.activation_directory.specs.declared.op.DirectoryOp.{DirectoryOp}
 use Rattle.activation_directory.specs.declared.op.DirectoryOp.TheVariants.{Enter, Leave, Unplace, Down}
 use Rattle.activation_directory.specs.declared.place.Place.{Place}
@@ -13,7 +14,7 @@ use Rattle.activation_directory.specs.declared.reply.DirectoryReply.TheVariants.
 use Rattle.activation_directory.specs.Laws.{IsFreed, entered}
 use Rattle.activation_directory.specs.Placed.{place_in, without, least_on, count_on}
 use Rattle.activation_directory.specs.Plain.{PlainDirectory}
-use Rattle.activation_directory.specs.Step.{Entry, Leads, admit, enter, is_out, leave, unplace, down, step}
+use Rattle.activation_directory.specs.Step.{Entry, Leads, admit, enter, leave, unplace, down, step}
 use Rattle.activation_directory.proofs.Cases.{if-cases}
 use Rattle.stream_ident.proofs.SameValues.{same_grain-equal}
 use Rattle.activation_directory.proofs.Histories.{IsFreed-left, IsFreed-released, IsFreed-later}
@@ -50,7 +51,7 @@ enter-other d grain other silo (Some place) apart =
 leave-other : (d : PlainDirectory) (grain other : GrainId) (permit : ℕ) (found : Option Place) → same_grain grain other ≡ false → Rests grain d (leave d other permit found)
 leave-other d grain other permit None apart = refl
 leave-other d grain other permit (Some place) apart =
-    if-cases (Rests grain d) (is_out permit place.permit) _ _ (λ is. place_in-other d.placed grain other _ apart) (λ isnt. refl)
+    if-cases (Rests grain d) (has_number permit place.permit) _ _ (λ is. place_in-other d.placed grain other _ apart) (λ isnt. refl)
 
 unplace-other : (d : PlainDirectory) (grain other : GrainId) (found : Option Place) → same_grain grain other ≡ false → Rests grain d (unplace d other found)
 unplace-other d grain other None apart = refl

@@ -2,6 +2,7 @@
 use Rattle.std.proofs.Common.{◌≡◌, ℕ, suc, ◌≤◌, List, [], ◌∷◌, Option, Some, None, is_some, sym, subst, arith}
 use Rattle.std.specs.Prelude.{nat_lt, ◌==◌}
 use Rattle.stream_ident.specs.declared.ident.GrainId.{GrainId}
+use Rattle.stream_ident.specs.Words.{has_number}
 use Rattle.activation_directory.specs.declared.op.DirectoryOp.{DirectoryOp}
 use Rattle.activation_directory.specs.declared.op.DirectoryOp.TheVariants.{Enter, Leave, Unplace, Down}
 use Rattle.activation_directory.specs.declared.place.Place.{Place}
@@ -9,7 +10,7 @@ use Rattle.activation_directory.specs.declared.reply.DirectoryReply.{DirectoryRe
 use Rattle.activation_directory.specs.declared.reply.DirectoryReply.TheVariants.{Entered}
 use Rattle.activation_directory.specs.Placed.{place_in, least_on}
 use Rattle.activation_directory.specs.Plain.{PlainDirectory}
-use Rattle.activation_directory.specs.Step.{Entry, Leads, admit, enter, is_out, leave, unplace, down, step}
+use Rattle.activation_directory.specs.Step.{Entry, Leads, admit, enter, leave, unplace, down, step}
 use Rattle.activation_directory.proofs.Cases.{if-cases}
 
 abbrev Grows : PlainDirectory → PlainDirectory × DirectoryReply → Type 0
@@ -26,7 +27,7 @@ grows-enter d grain silo (Some place) =
 
 grows-leave : (d : PlainDirectory) (grain : GrainId) (permit : ℕ) (found : Option Place) → Grows d (leave d grain permit found)
 grows-leave d grain permit None = omega arith
-grows-leave d grain permit (Some place) = if-cases (Grows d) (is_out permit place.permit) _ _ (λ is. omega arith) (λ isnt. omega arith)
+grows-leave d grain permit (Some place) = if-cases (Grows d) (has_number permit place.permit) _ _ (λ is. omega arith) (λ isnt. omega arith)
 
 grows-unplace : (d : PlainDirectory) (grain : GrainId) (found : Option Place) → Grows d (unplace d grain found)
 grows-unplace d grain None = omega arith

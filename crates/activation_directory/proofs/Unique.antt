@@ -4,6 +4,7 @@ use Rattle.std.proofs.Common.{◌≡◌, ◌∙◌, ℕ, true, false, List, [], 
 use Rattle.std.specs.Prelude.{nat_lt, ◌==◌, if◌then◌else◌}
 use Rattle.stream_ident.specs.declared.ident.GrainId.{GrainId}
 use Rattle.stream_ident.specs.Name.{grain_lt, same_grain}
+use Rattle.stream_ident.specs.Words.{has_number}
 use Rattle.activation_directory.specs.declared.op.DirectoryOp.{DirectoryOp}
 use Rattle.activation_directory.specs.declared.op.DirectoryOp.TheVariants.{Enter, Leave, Unplace, Down}
 use Rattle.activation_directory.specs.declared.place.Place.{Place}
@@ -11,7 +12,7 @@ use Rattle.activation_directory.specs.declared.reply.DirectoryReply.{DirectoryRe
 use Rattle.stream_ident.specs.Words.{lesser}
 use Rattle.activation_directory.specs.Placed.{Placed, place_in, with_place, without, least_on}
 use Rattle.activation_directory.specs.Plain.{PlainDirectory}
-use Rattle.activation_directory.specs.Step.{Entry, Leads, admit, enter, is_out, leave, unplace, down, step}
+use Rattle.activation_directory.specs.Step.{Entry, Leads, admit, enter, leave, unplace, down, step}
 use Rattle.activation_directory.proofs.Cases.{if-cases}
 use Rattle.stream_ident.proofs.SameValues.{same_grain-equal, same_grain-refl}
 use Rattle.activation_directory.proofs.PlacedLemmas.{place_in-other, place_in-without}
@@ -61,7 +62,7 @@ module _ (d : PlainDirectory) (unique : IsUnique d.placed) where
   unique-leave : (grain : GrainId) (permit : ℕ) (found : Option Place) → KeepsUnique (leave d grain permit found)
   unique-leave grain permit None = unique
   unique-leave grain permit (Some place) =
-      if-cases KeepsUnique (is_out permit place.permit) _ _ (λ is. unique-with d.placed grain _ unique) (λ isnt. unique)
+      if-cases KeepsUnique (has_number permit place.permit) _ _ (λ is. unique-with d.placed grain _ unique) (λ isnt. unique)
 
   unique-unplace : (grain : GrainId) (found : Option Place) → KeepsUnique (unplace d grain found)
   unique-unplace grain None = unique

@@ -1,8 +1,8 @@
 -- One operation on a directory: what it leaves, and its reply. A history is legal where each reply is
 -- that of its step.
-use Rattle.std.specs.Prelude.{◌≡◌, ℕ, suc, Bool, false, ◌&&◌, not, ◌==◌, nat_lt, List, [], ◌∷◌, Option, Some, None, is_some, Result, Ok, Err, if◌then◌else◌}
-use Rattle.std.specs.declared.alloc.AllocError.{AllocError}
+use Rattle.std.specs.Prelude.{ℕ, suc, Bool, false, ◌&&◌, not, ◌==◌, nat_lt, List, Option, Some, None, is_some, if◌then◌else◌}
 use Rattle.stream_ident.specs.declared.ident.GrainId.{GrainId}
+use Rattle.stream_ident.specs.Words.{has_number, LeadsBy}
 use Rattle.activation_directory.specs.declared.op.DirectoryOp.{DirectoryOp}
 use Rattle.activation_directory.specs.declared.op.DirectoryOp.TheVariants.{Enter, Leave, Unplace, Down}
 use Rattle.activation_directory.specs.declared.place.Place.{Place}
@@ -23,15 +23,10 @@ enter d grain silo None = admit d grain silo
 enter d grain silo (Some place) =
     if place.silo == silo then (if is_some place.permit then (d, Busy) else admit d grain silo) else (d, Elsewhere place.silo)
 
--- whether this permit is out
-abbrev pub is_out : ℕ → Option ℕ → Bool
-is_out permit None = false
-is_out permit (Some out) = out == permit
-
 abbrev pub leave : PlainDirectory → GrainId → ℕ → Option Place → PlainDirectory × DirectoryReply
 leave d grain permit None = (d, NotYours)
 leave d grain permit (Some place) =
-    if is_out permit place.permit
+    if has_number permit place.permit
     then (record { placed = with_place d.placed grain (record { silo = place.silo; permit = None }); given = d.given; permits = d.permits }, Left)
     else (d, NotYours)
 
@@ -59,8 +54,7 @@ pub record Entry : Type 0 where
 
 -- from d the entries, the oldest first, lead to e, each with the reply of its step
 abbrev pub Leads : PlainDirectory → List Entry → PlainDirectory → Type 0
-Leads d [] e = e ≡ d
-Leads d (entry ∷ entries) e = ((step d entry.op).1 ≡ entry.reply) × Leads (step d entry.op).0 entries e
+Leads d entries e = LeadsBy (λ (entry : Entry). entry.op) (λ (entry : Entry). entry.reply) step d entries e
 
 -- the history, the oldest entry first, is legal, and d is what it leaves
 abbrev pub Stands : ℕ → List Entry → PlainDirectory → Type 0

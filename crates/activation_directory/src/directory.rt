@@ -54,8 +54,9 @@ impl Directory {
     /// the entries of the grains that were placed after it. Down walks over all placed grains, once.
     ///
     /// # Errors
-    /// Memory, and then nothing has changed. It comes only at an Enter that would place a grain and give a
-    /// permit: each refusal, each Enter of a placed grain and each other operation takes no memory.
+    /// The call failed to allocate, and nothing has changed. That can happen only at an Enter that would
+    /// place a grain and give a permit: each refusal, each Enter of a placed grain and each other operation
+    /// takes no memory.
     pub fn step(&mut self, _alloc: Global, op: DirectoryOp) -> Result<DirectoryReply, AllocError>
         ensures performs { Performs self.old self.new result (step self.old op) }
         ensures memory { OnErr result (takes_memory self.old op ≡ true) }

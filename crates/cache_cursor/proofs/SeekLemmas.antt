@@ -1,19 +1,19 @@
 -- Events that tags rule out, first places in a block and in the cache, and what `first_at` gives for them.
-use Rattle.std.proofs.Common.{◌≡◌, ◌≢◌, ℕ, zero, suc, ◌+◌, ◌-◌, ◌*◌, ◌<◌, ◌≤◌, Bool, true, false, List, [], ◌∷◌, length, get_or, take, drop, Some, None, refl, sym, ◌∙◌, ap, subst, arith, ⊎_elim, ◌↔◌, length-drop, length-take}
-use Rattle.std.proofs.lemmas.Bool.{and_parts, cases_Bool, cases_lt}
+use Rattle.std.proofs.Common.{◌≡◌, ◌≢◌, ℕ, ◌+◌, ◌-◌, ◌*◌, ◌<◌, ◌≤◌, Bool, true, false, List, length, get_or, take, drop, Some, None, sym, ◌∙◌, ap, subst, arith, ⊎_elim, ◌↔◌, length-drop, length-take}
+use Rattle.std.proofs.lemmas.Bool.{cases_Bool, cases_lt}
 use Rattle.std.proofs.lemmas.List.{get_or-map, get_or-take, get_or-drop, get_or_read}
 use Rattle.std.specs.Prelude.{unwrap_or}
-use Rattle.std.specs.Cmp.Lexicographic.{bytes_decides}
 use Rattle.std.specs.Int.{bit_at}
 use Rattle.stream_ident.specs.declared.event.Event.{Event}
 use Rattle.stream_ident.specs.declared.ident.StreamId.{StreamId}
 use Rattle.stream_ident.specs.declared.token.Token.{Token}
 use Rattle.stream_ident.specs.Event.{is_owed, no_event}
-use Rattle.stream_ident.specs.Name.{same_name, same_stream}
+use Rattle.stream_ident.specs.Name.{same_stream}
 use Rattle.stream_ident.specs.Words.{first_at}
 use Rattle.queue_mapper.specs.Place.{tag_of}
 use Rattle.queue_cache.specs.Cache.{tags_of}
 use Rattle.tag_scan.specs.Tags.{IsAbsentBetween}
+use Rattle.stream_ident.proofs.FirstLemmas.{first_at-nowhere, first_at-there}
 use Rattle.cache_cursor.specs.Seek.{NoneBetween, IsFirst, NoneMarked}
 use Rattle.stream_ident.proofs.SameValues.{same_stream-equal}
 
@@ -121,32 +121,19 @@ module _ (stream : StreamId) (start : Token) (events : List Event) (tag from at 
   miss other =
       none_more (λ e. is_owed stream start e) events from place none_before (ap (λ e. is_owed stream start e) (sym is_read) ∙ other)
 
-pub first_at-found : (passes : Event → Bool) (n : ℕ) (events : List Event) (place : ℕ) → place < length events → passes (get_or events place no_event) ≡ true
-    → ((other : ℕ) → other < place → passes (get_or events other no_event) ≡ false) → first_at passes n events ≡ Some (n + place)
-first_at-found passes n [] place within found before = absurd (omega arith)
-first_at-found passes n (event ∷ events) zero within found before = rw found (ap Some (omega arith))
-first_at-found passes n (event ∷ events) (suc place) within found before =
-    rw (before 0 (omega arith))
-    (first_at-found passes (suc n) events place (omega arith) found (λ other low. before (suc other) (omega arith)) ∙ ap Some (omega arith))
-
-pub first_at-none : (passes : Event → Bool) (n : ℕ) (events : List Event) → ((other : ℕ) → other < length events → passes (get_or events other no_event) ≡ false) → first_at passes n events ≡ None
-first_at-none passes n [] none = refl
-first_at-none passes n (event ∷ events) none =
-    rw (none 0 (omega arith)) (first_at-none passes (suc n) events (λ other low. none (suc other) (omega arith)))
-
 -- past the places before `from`
 pub first_at-drop_found : (passes : Event → Bool) (n : ℕ) (events : List Event) (from place : ℕ) → IsFirst passes events from place → first_at passes (n + from) (drop from events) ≡ Some (n + place)
 first_at-drop_found passes n events from place first =
     let inside = place - from in
     let at : from + inside ≡ place = omega (arith, first.reached) in
-    first_at-found passes (n + from) (drop from events) inside (omega (arith, length-drop from events, first.within))
+    first_at-there passes (n + from) (drop from events) no_event inside (omega (arith, length-drop from events, first.within))
     (ap passes (get_or-drop from events inside no_event) ∙ ap (λ k. passes (get_or events k no_event)) at ∙ first.found)
     (λ other low. ap passes (get_or-drop from events other no_event) ∙ first.before (from + other) (omega arith) (omega arith) (omega (arith, first.within)))
     ∙ ap Some (omega arith)
 
 pub first_at-drop_none : (passes : Event → Bool) (n : ℕ) (events : List Event) (from : ℕ) → NoneBetween passes events from (length events) → first_at passes n (drop from events) ≡ None
 first_at-drop_none passes n events from none =
-    first_at-none passes n (drop from events)
+    first_at-nowhere passes n (drop from events) no_event
     (λ other low.
     let within : from + other < length events = omega (arith, length-drop from events) in
     ap passes (get_or-drop from events other no_event) ∙ none (from + other) (omega arith) within within)
@@ -171,10 +158,10 @@ none_there passes events block from index same before none =
 pub least-found : (passes : Event → Bool) (events : List Event) (low high place : ℕ) → IsFirst passes events 0 place → low + place ≡ unwrap_or (first_at passes low events) high
 least-found passes events low high place first =
     sym (ap (λ found. unwrap_or found high)
-    (first_at-found passes low events place first.within first.found
+    (first_at-there passes low events no_event place first.within first.found
     (λ other below. first.before other (omega arith) below (omega (arith, first.within)))))
 
 pub least-none : (passes : Event → Bool) (events : List Event) (low high to : ℕ) → length events ≤ to → NoneBetween passes events 0 to → high ≡ unwrap_or (first_at passes low events) high
 least-none passes events low high to all none =
     sym (ap (λ found. unwrap_or found high)
-    (first_at-none passes low events (λ other below. none other (omega arith) (omega arith) below)))
+    (first_at-nowhere passes low events no_event (λ other below. none other (omega arith) (omega arith) below)))

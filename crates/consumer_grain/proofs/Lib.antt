@@ -1,3 +1,3 @@
 mod FrontLemmas
-mod NumberLemmas
+pub mod NumberLemmas
 mod RisingLemmas

@@ -7,13 +7,13 @@ use Rattle.consumer_grain.specs.Subscriptions.{rises_from}
 use Rattle.consumer_grain.proofs.RisingLemmas.{rises_from-lower}
 
 -- none is below where they rise from
-above : (n : ℕ) (xs : List ℕ) (i : ℕ) → rises_from n xs ≡ true → i < length xs → n ≤ get_or xs i 0
-above n [] i rises within = absurd (omega arith)
-above n (x ∷ xs) zero rises within = leb-true n x (and_parts (nat_le n x) (rises_from (suc x) xs) rises).0
-above n (x ∷ xs) (suc i) rises within =
+pub rises_from-at_least : (n : ℕ) (xs : List ℕ) (i : ℕ) → rises_from n xs ≡ true → i < length xs → n ≤ get_or xs i 0
+rises_from-at_least n [] i rises within = absurd (omega arith)
+rises_from-at_least n (x ∷ xs) zero rises within = leb-true n x (and_parts (nat_le n x) (rises_from (suc x) xs) rises).0
+rises_from-at_least n (x ∷ xs) (suc i) rises within =
     let parts = and_parts (nat_le n x) (rises_from (suc x) xs) rises in
     let first = leb-true n x parts.0 in
-    let rest = above (suc x) xs i parts.1 (omega arith) in
+    let rest = rises_from-at_least (suc x) xs i parts.1 (omega arith) in
     omega arith
 
 -- by index, as a binary search asks
@@ -21,7 +21,7 @@ pub rises-index : (n : ℕ) (xs : List ℕ) → rises_from n xs ≡ true → (i 
 rises-index n [] rises i j le within = absurd (omega arith)
 rises-index n (x ∷ xs) rises zero zero le within = omega arith
 rises-index n (x ∷ xs) rises zero (suc j) le within =
-    let rest = above (suc x) xs j (and_parts (nat_le n x) (rises_from (suc x) xs) rises).1 (omega arith) in
+    let rest = rises_from-at_least (suc x) xs j (and_parts (nat_le n x) (rises_from (suc x) xs) rises).1 (omega arith) in
     omega arith
 rises-index n (x ∷ xs) rises (suc i) zero le within = absurd (omega arith)
 rises-index n (x ∷ xs) rises (suc i) (suc j) le within =
@@ -36,7 +36,7 @@ with_number-there k n (x ∷ xs) zero rises within is =
     rw (not_less, same) refl
 with_number-there k n (x ∷ xs) (suc i) rises within is =
     let rest = (and_parts (nat_le k x) (rises_from (suc x) xs) rises).1 in
-    let more = above (suc x) xs i rest (omega arith) in
+    let more = rises_from-at_least (suc x) xs i rest (omega arith) in
     let not_less = le-ltb n x (omega arith) in
     let other = ne_eqb n x (λ same. omega arith) in
     rw (not_less, other) (ap (λ ys. x ∷ ys) (with_number-there (suc x) n xs i rest (omega arith) is))

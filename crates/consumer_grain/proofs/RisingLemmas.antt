@@ -1,19 +1,8 @@
--- Positions that rise, and one past the last of them.
+-- Positions that rise.
 use Rattle.std.proofs.Common.{◌≡◌, ℕ, zero, suc, ◌-◌, ◌<◌, ◌≤◌, true, List, [], ◌∷◌, ◌++◌, length, get_or, refl, nat_le, arith}
 use Rattle.std.proofs.lemmas.Bool.{and_from, and_parts, le-leb, leb-true}
 use Rattle.stream_ident.specs.Words.{past, past_from}
 use Rattle.consumer_grain.specs.Subscriptions.{rises_from}
-
-past_from-last : (n : ℕ) (xs : List ℕ) (k : ℕ) → suc k ≡ length xs → past_from n xs ≡ suc (get_or xs k 0)
-past_from-last n [] k len = absurd (omega arith)
-past_from-last n (x ∷ []) zero len = refl
-past_from-last n (x ∷ []) (suc k) len = absurd (omega arith)
-past_from-last n (x ∷ y ∷ xs) zero len = absurd (omega arith)
-past_from-last n (x ∷ y ∷ xs) (suc k) len = past_from-last (suc x) (y ∷ xs) k (omega arith)
-
--- one past rising positions is one past the last
-pub past-last : (xs : List ℕ) → 0 < length xs → past xs ≡ suc (get_or xs (length xs - 1) 0)
-past-last xs some = past_from-last 0 xs (length xs - 1) (omega arith)
 
 -- where some are there, it doesn't matter what one past is without them
 pub past_from-any : (m n : ℕ) (xs : List ℕ) → 0 < length xs → past_from m xs ≡ past_from n xs

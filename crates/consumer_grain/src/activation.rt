@@ -45,7 +45,7 @@ impl Activation {
     /// A grain that was never active. It takes the memory of its mailbox.
     ///
     /// # Errors
-    /// Memory.
+    /// The call failed to allocate.
     pub fn new(alloc: Global) -> Result<Activation, AllocError>
         ensures { IfOk result (λ a. a ≡ new_activation) }
     {
@@ -130,7 +130,8 @@ impl Activation {
     /// which moves those after it.
     ///
     /// # Errors
-    /// Memory, and then nothing has changed. It comes only at a delivery that would be taken.
+    /// The call failed to allocate, and nothing has changed. That can happen only at a delivery that would be
+    /// taken.
     pub fn offer(&mut self, _alloc: Global, delivery: Delivery) -> Result<Offered, AllocError>
         requires number { self.old.number + 1 < 2 ^ 64 }
         requires position { delivery.position + 1 < 2 ^ 64 }
@@ -219,7 +220,7 @@ impl Activation {
         remove_number(&mut self.subs, sub);
     }
 
-    /// The grain leaves memory: what waits and what runs is lost. Gives how many deliveries that are. The
+    /// The grain leaves memory: what waits and what runs is lost. It gives how many deliveries that are. The
     /// activation's number stays, and so do the subscriptions. It takes no memory.
     pub fn deactivate(&mut self) -> usize
         ensures state { self.new ≡ deactivated self.old }

@@ -35,7 +35,7 @@ impl Mailbox {
     /// A mailbox in which nothing waits.
     ///
     /// # Errors
-    /// Memory for its places.
+    /// The call failed to allocate its places.
     pub fn new(alloc: Global) -> Result<Mailbox, AllocError>
         ensures { IfOk result (λ mailbox. mailbox ≡ []) }
     {

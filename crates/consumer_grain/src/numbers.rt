@@ -9,7 +9,8 @@ use std::alloc::AllocError;
 /// insertion.
 ///
 /// # Errors
-/// Memory, and then the numbers are as they were. It comes only where the number isn't there.
+/// The call failed to allocate, and the numbers are as they were. That can happen only where the number isn't
+/// there.
 pub fn add_number(numbers: &mut Vec<usize>, number: usize) -> Result<(), AllocError>
     requires { rises_from 0 numbers.old.items ≡ true }
     ensures { numbers.new.items ≡ (if is_ok result then with_number number numbers.old.items else numbers.old.items) }

@@ -114,7 +114,7 @@ impl SubState {
     /// the note.
     ///
     /// # Errors
-    /// Memory, and then nothing has changed.
+    /// The call failed to allocate, and nothing has changed.
     pub fn commit(
         &mut self,
         _alloc: Global,

@@ -8,20 +8,20 @@ use stream_ident::Row;
 pub enum Offered {
     /// It waits in the mailbox, as the last one, and the grain is active.
     Delivered,
-    /// Refused: sixteen deliveries wait already. Nothing has changed.
+    /// It is refused, since sixteen deliveries wait already. Nothing has changed.
     MailboxFull,
 }
 
 /// What a grain begins with.
 #[derive(Debug, Drop)]
 pub enum Begun {
-    /// Refused: a turn runs already. Nothing has changed.
+    /// No turn begins, since one runs already. Nothing has changed.
     Busy,
     /// Nothing waits, or the grain isn't active. Nothing has changed.
     Empty,
     /// The front delivery was handled before: it has left the mailbox, alone, and no turn has begun.
     Dropped(Delivery),
-    /// Refused: no number is left for a turn. Nothing has changed.
+    /// No turn begins, since no number is left for it. Nothing has changed.
     Spent,
     /// A turn runs, and its deliveries have left the mailbox.
     Turn {
@@ -37,6 +37,7 @@ pub enum Begun {
 pub enum TurnEnd {
     /// It ran, and runs no longer.
     Ended,
-    /// Refused: no turn runs, or another one, or one of another activation. Nothing has changed.
+    /// It is refused, since no turn runs, or another one does, or one of another activation. Nothing has
+    /// changed.
     Stale,
 }

@@ -1,3 +1,2 @@
 pub mod ChangeLemmas
-pub mod FirstLemmas
 pub mod TableLemmas

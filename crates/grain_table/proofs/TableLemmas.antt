@@ -11,8 +11,8 @@ use Rattle.consumer_grain.specs.Activations.{PlainActivation}
 use Rattle.least_tree.specs.Keys.{is_at_most}
 use Rattle.ranking.specs.Ranked.{entry_at, AreKeys, IsFirstPast}
 use Rattle.ranking.proofs.EntryLemmas.{distinct_names, keys-insert, ranked-insert}
-use Rattle.ranking.proofs.FirstLemmas.{first_at-None, first_at-nowhere, first_at-there}
 use Rattle.ranking.proofs.LeastLemmas.{least_by_rank, none_by_rank}
+use Rattle.stream_ident.proofs.FirstLemmas.{first_at-None, first_at-nowhere, first_at-there}
 use Rattle.grain_table.specs.Grains.{PlainGrains, AreDistinct, is_ready, number_of}
 use Rattle.grain_table.specs.Changes.{no_grain, grain_at, activation_at}
 use Rattle.grain_table.specs.Table.{entry_key, name_of, ready_key, IsInOrder, IsTable}

@@ -112,7 +112,7 @@ impl GrainTable {
     /// whose names are greater; where a row has to grow, once as much as all.
     ///
     /// # Errors
-    /// Memory, and then nothing has changed.
+    /// The call failed to allocate, and nothing has changed.
     pub fn add(
         &mut self,
         alloc: Global,
@@ -141,7 +141,8 @@ impl GrainTable {
     /// logarithm of the length.
     ///
     /// # Errors
-    /// Memory, and then nothing has changed. It comes only at a delivery that would be taken.
+    /// The call failed to allocate, and nothing has changed. That can happen only at a delivery that would be
+    /// taken.
     pub fn offer(
         &mut self,
         alloc: Global,
@@ -243,7 +244,7 @@ impl GrainTable {
 /// The activation of a grain that becomes active with a first delivery.
 ///
 /// # Errors
-/// Memory.
+/// The call failed to allocate.
 fn activated(alloc: Global, delivery: Delivery) -> Result<Activation, AllocError>
     requires { delivery.position + 1 < 2 ^ 64 }
     ensures { IfOk result (λ a. a ≡ woken new_activation delivery) }

@@ -3,7 +3,7 @@ use Rattle.std.proofs.Common.{◌≡◌, ℕ, zero, suc, ◌+◌, ◌-◌, ◌<�
 use Rattle.std.proofs.lemmas.Bool.{cases_lt, lt-ltb, le-ltb, le-leb, lt-leb}
 use Rattle.std.proofs.lemmas.List.{get_or-drop, get_or-map, length-drop, length-map}
 use Rattle.std.specs.Prelude.{slice_index}
-use Rattle.stream_ident.specs.Words.{first_at}
+use Rattle.stream_ident.proofs.FirstLemmas.{first_at-nowhere, first_at-there}
 use Rattle.least_tree.specs.Keys.{lesser_key, least_key, is_at_most, first_at_most}
 use Rattle.least_tree.specs.Tree.{no_key, key_of, keys_of, doubled, IsLeastTree, AreGreater, IsFirstAtMost}
 use Rattle.least_tree.proofs.Doubled.{doubled-twice}
@@ -107,24 +107,6 @@ least_key-root nodes first_leaf len is some =
     height_of zero first_leaf twice some = absurd (omega arith)
     height_of (suc exponent) first_leaf twice some = (exponent, omega (arith, twice, doubled-twice exponent 1))
 
--- the first element that passes
-first_at-found : {A : Type 0} (passes : A → Bool) (xs : List A) (d : A) (n j : ℕ) → j < length xs → passes (get_or xs j d) ≡ true
-    → ((i : ℕ) → i < j → passes (get_or xs i d) ≡ false) → first_at passes n xs ≡ Some (n + j)
-first_at-found passes [] d n j within here before = absurd (omega arith)
-first_at-found passes (x ∷ xs) d n zero within here before =
-    ap (λ (b : Bool). cond b (Some n) (first_at passes (suc n) xs)) here ∙ ap Some (let same : n ≡ n + zero = omega arith in same)
-first_at-found passes (x ∷ xs) d n (suc j) within here before =
-    ap (λ (b : Bool). cond b (Some n) (first_at passes (suc n) xs)) (before 0 (omega arith))
-    ∙ first_at-found passes xs d (suc n) j (omega arith) here (λ i less. before (suc i) (omega arith))
-    ∙ ap Some (let same : suc n + j ≡ n + suc j = omega arith in same)
-
-first_at-none : {A : Type 0} (passes : A → Bool) (xs : List A) (d : A) (n : ℕ) → ((i : ℕ) → i < length xs → passes (get_or xs i d) ≡ false)
-    → first_at passes n xs ≡ None
-first_at-none passes [] d n before = refl
-first_at-none passes (x ∷ xs) d n before =
-    ap (λ (b : Bool). cond b (Some n) (first_at passes (suc n) xs)) (before 0 (omega arith))
-    ∙ first_at-none passes xs d (suc n) (λ i within. before (suc i) (omega arith))
-
 at_most-key_of : (bound leaf : ℕ) → leaf ≤ min bound (no_key - 1) → is_at_most bound (key_of leaf) ≡ true
 at_most-key_of bound leaf small = ap (is_at_most bound) (key_of-some leaf (omega arith)) ∙ le-leb leaf bound (omega arith)
 
@@ -155,7 +137,7 @@ pub first_at_most-none : (nodes : List ℕ) (first_leaf len from bound : ℕ) �
     → AreGreater (first_leaf + from) (length nodes) (min bound (no_key - 1)) nodes → first_at_most from bound (keys_of nodes first_leaf len) ≡ None
 first_at_most-none nodes first_leaf len from bound is greater =
     let long = length-from nodes first_leaf len from is.halves is.room in
-    first_at-none (is_at_most bound) (drop from (keys_of nodes first_leaf len)) None from
+    first_at-nowhere (is_at_most bound) from (drop from (keys_of nodes first_leaf len)) None
     (λ i within.
     let inside : from + i < len = omega (arith, long) in
     ap (is_at_most bound) (key-from nodes first_leaf len from i is.halves is.room inside)
@@ -178,7 +160,7 @@ first_at_most-some nodes first_leaf len from bound leaf is first =
     let reached = first.reached in
     let j = leaf - first_leaf - from in
     let here : first_leaf + from + j ≡ leaf = omega arith in
-    first_at-found (is_at_most bound) (drop from (keys_of nodes first_leaf len)) None from j (omega (arith, long))
+    first_at-there (is_at_most bound) from (drop from (keys_of nodes first_leaf len)) None j (omega (arith, long))
     (ap (is_at_most bound) (key-from nodes first_leaf len from j is.halves is.room (omega arith) ∙ ap (λ (k : ℕ). key_of (slice_index nodes k)) here)
     ∙ at_most-key_of bound (slice_index nodes leaf) first.small)
     (λ i before.

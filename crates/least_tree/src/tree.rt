@@ -82,7 +82,7 @@ impl LeastTree {
     /// length and what stands behind the place; where the row has to grow, once as much as the whole row.
     ///
     /// # Errors
-    /// Memory. The row is then as before.
+    /// The call failed to allocate. The row is then as before.
     pub fn insert(
         &mut self,
         alloc: Global,

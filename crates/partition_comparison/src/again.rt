@@ -1,9 +1,9 @@
-//! A second try where memory is wanting.
+//! A second try where a call failed to allocate.
 
-/// What a call gives, which is made once more where memory was wanting.
+/// The result of a call, which is made once more where it failed to allocate.
 ///
 /// # Errors
-/// Memory, where it was wanting twice.
+/// The call failed to allocate twice.
 pub fn again<T, E: Drop, F: Fn() -> Result<T, E>>(call: F) -> Result<T, E>
     requires { F.IsAlwaysCallable call }
 {

@@ -18,10 +18,10 @@ pub struct Difference {
     pub expected: String,
 }
 
-/// A place in a history, of which differences are told.
+/// A place in a history, where a difference may be found.
 #[derive(Clone, Copy)]
 pub struct Place {
-    /// Where memory is taken.
+    /// The allocator.
     pub alloc: Global,
     /// The seed of the history.
     pub seed: u64,
@@ -30,7 +30,7 @@ pub struct Place {
 }
 
 impl Place {
-    /// The fault that tells of two values which should be the same, or want of memory for its text.
+    /// The fault that reports two values which should be the same, or a failure to allocate its text.
     pub fn difference<F: Debug, E: Debug>(self, found: &F, expected: &E) -> Fault {
         match self.tell(found, expected) {
             Ok(difference) => Fault::Different(difference),

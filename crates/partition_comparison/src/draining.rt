@@ -1,4 +1,4 @@
-//! Drains, which go on where memory was wanting.
+//! Drains, which go on where they failed to allocate.
 use crate::tally::Tally;
 use std::alloc::{AllocError, Global};
 use step_core::{DrainEnd, Op, Partition};
@@ -8,8 +8,8 @@ use step_core::{DrainEnd, Op, Partition};
 pub struct Drained {
     /// How the last drain ended.
     pub end: DrainEnd,
-    /// Whether it was the only one. Else memory was wanting, and a turn may have been lost, which took a
-    /// rise.
+    /// Whether it was the only one. Else the first drain failed to allocate, and a turn may have been lost,
+    /// which took a rise.
     pub is_whole: bool,
 }
 
@@ -34,10 +34,10 @@ fn are_whole(one: &Drained, other: &Drained) -> bool {
     one.is_whole && other.is_whole
 }
 
-/// Drains a partition, and drains on where memory was wanting.
+/// Drains a partition, and drains it again where the drain failed to allocate.
 ///
 /// # Errors
-/// Memory.
+/// The call failed to allocate.
 pub fn drain(
     alloc: Global,
     partition: &mut Partition,

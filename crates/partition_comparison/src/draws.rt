@@ -70,7 +70,7 @@ impl Draws {
         }
     }
 
-    /// The generation that was told last, and now and then another.
+    /// The last generation that a reply gave, and now and then another.
     fn generation(&mut self, heard: &Heard) -> u64 {
         match self.below(32) {
             0 => heard.generation.wrapping_add(1),
@@ -208,7 +208,7 @@ impl Draws {
     /// An operation of one who isn't idle.
     ///
     /// # Errors
-    /// Memory.
+    /// The call failed to allocate.
     pub fn operation(
         &mut self,
         alloc: Global,

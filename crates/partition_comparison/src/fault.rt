@@ -15,19 +15,19 @@ pub enum Fault {
     /// The partition isn't what it has to be.
     #[error("{0}")]
     Different(Difference),
-    /// Memory was wanting twice.
+    /// A call failed to allocate twice.
     #[error("out of memory")]
     Memory,
     /// The output couldn't be written.
     #[error("write fault")]
     Write,
-    /// A name or a payload that operations are made of is none.
+    /// A text that operations are made of is no name or no payload.
     #[error("bad name")]
     Name,
 }
 
 impl Fault {
-    /// Tells the fault on standard error, and gives the exit status.
+    /// Prints the fault on standard error, and gives the exit status.
     pub fn report<R: Eprint>(&self, rt: &R) -> ExitCode {
         let _ = eprintln!(rt; "{self}");
         ExitCode::from(self.status())

@@ -1,4 +1,4 @@
-//! What the replies told.
+//! What the replies said.
 use step_core::{Op, Pending, Reply};
 use stream_ident::{GrainId, SubName, Token};
 
@@ -25,14 +25,14 @@ pub struct HandledEvent {
     pub token: Token,
 }
 
-/// What the replies told, so that operations which answer them are made.
+/// What the replies said, so that operations which answer them can be made.
 #[derive(Clone, Copy)]
 pub struct Heard {
-    /// The generation that was told last.
+    /// The last generation that a reply gave.
     pub generation: u64,
     /// The number of the last explicit subscription, 0 before the first.
     pub explicit: u32,
-    /// The token that the cache began with when it was told.
+    /// The token that the cache began with, by the last reply that gave it.
     pub low: Token,
     /// A grain for which there was something to do.
     pub grain: GrainId,
@@ -49,7 +49,7 @@ pub struct Heard {
 }
 
 impl Heard {
-    /// What is taken for heard before the first reply.
+    /// What counts as heard before the first reply.
     pub fn nothing(grain: &GrainId) -> Heard {
         Heard {
             generation: 0,
@@ -126,13 +126,13 @@ impl Heard {
         }
     }
 
-    /// A turn was given.
+    /// Hears that a turn was given.
     fn begin(&mut self, turn: GivenTurn) {
         self.turn_before = self.turn;
         self.turn = turn;
     }
 
-    /// An event of a subscription was handled, or is told again.
+    /// Hears that an event of a subscription was handled, or that a reply gives it again.
     fn handle(&mut self, sub: SubName, token: Token) {
         self.handled_before = self.handled;
         self.handled = HandledEvent { sub, token };

@@ -22,7 +22,7 @@ const DRAINS: usize = 5;
 /// Compares one history after another, and counts the replies.
 ///
 /// # Errors
-/// A difference, or memory.
+/// There is a difference, or the call failed to allocate.
 pub fn compare(alloc: Global, plan: Plan) -> Result<Tally, Fault> {
     let mut tally = Tally::new();
     for run in 0..plan.runs {
@@ -76,8 +76,8 @@ impl History {
         Ok(())
     }
 
-    /// The operations of a round at once. Where memory was wanting, the first of them are done, and the
-    /// others are done then.
+    /// Does the operations of a round at once. Where that fails to allocate, the first of them are done, and
+    /// the others are done after it.
     fn run_round(&mut self, idle: Idle, tally: &mut Tally) -> Result<(), Fault> {
         let ops = self.draw_round(idle)?;
         let done = self.run(ops.as_slice(), tally)?;
@@ -100,7 +100,7 @@ impl History {
         Ok(ops)
     }
 
-    /// Does operations at once, and tells how many of them are done.
+    /// Does operations at once, and gives how many of them are done.
     fn run(&mut self, ops: &[Op], tally: &mut Tally) -> Result<usize, Fault> {
         let replies = self.both.run(ops, tally)?;
         for (op, reply) in ops.iter().zip(replies.as_slice().iter()) {

@@ -47,7 +47,7 @@ pub fn operation_kind(op: &Op) -> usize
     }
 }
 
-/// Whether memory may be wanting for an operation.
+/// Whether an operation may fail to allocate.
 pub fn takes_memory(op: &Op) -> bool {
     matches!(
         op,
@@ -60,7 +60,8 @@ pub fn takes_memory(op: &Op) -> bool {
     )
 }
 
-/// Whether the partition keeps more after this reply than before, so that memory may have been wanting.
+/// Whether the partition keeps more after this reply than before, so that the operation may have failed to
+/// allocate.
 pub fn keeps_more(reply: &Reply) -> bool {
     matches!(
         reply,

@@ -25,7 +25,7 @@ impl Looks {
     /// Looks at a partition.
     ///
     /// # Errors
-    /// Memory.
+    /// The call failed to allocate.
     pub fn of(alloc: Global, partition: &Partition) -> Result<Looks, AllocError> {
         let subs = partition.subs(alloc)?;
         let handled = handled(alloc, partition, subs.as_slice())?;
@@ -42,7 +42,7 @@ impl Looks {
     /// Looks at the plain program, which keeps positions where a partition shows tokens and events.
     ///
     /// # Errors
-    /// Memory.
+    /// The call failed to allocate.
     pub fn of_reference(
         alloc: Global,
         reference: &partition_reference::Partition,
@@ -84,7 +84,7 @@ fn plain_subs(alloc: Global, plain: &PlainPartition) -> Result<Vec<SubSummary>, 
     Ok(subs)
 }
 
-/// What is told of a record.
+/// The summary of a record.
 fn summary(name: &SubName, record: &Subscription) -> SubSummary {
     SubSummary {
         name: *name,
@@ -131,7 +131,7 @@ fn plain_events(
 /// owed, and a closed one what it had handled before.
 ///
 /// # Errors
-/// Memory.
+/// The call failed to allocate.
 pub fn all_owed(
     alloc: Global,
     plain: &PlainPartition,

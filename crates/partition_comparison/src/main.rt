@@ -25,8 +25,8 @@ use crate::options::{Plan, parse};
 use crate::tally::Tally;
 use std::process::ExitCode;
 
-/// Exit statuses: 0 no difference, 1 a difference, 2 a faulty command line, 3 no answer, since memory was
-/// wanting twice or the output couldn't be written.
+/// Exit statuses: 0 no difference, 1 a difference, 2 a faulty command line, 3 no answer, since a call failed
+/// to allocate twice or the output couldn't be written.
 fn main(rt: HostRuntime) -> ExitCode {
     match run(&rt) {
         Ok(()) => ExitCode::SUCCESS,

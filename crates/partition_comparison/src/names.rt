@@ -22,7 +22,7 @@ impl Names {
     /// The names.
     ///
     /// # Errors
-    /// None: all of them are names.
+    /// There is none, since all of them are names.
     pub fn new() -> Result<Names, Fault> {
         let streams = [
             StreamId::new(b"orders", b"a")?,

@@ -27,7 +27,7 @@ impl SideBySide {
     /// All of them before the first operation.
     ///
     /// # Errors
-    /// Memory.
+    /// The call failed to allocate.
     pub fn new(
         alloc: Global,
         seed: u64,
@@ -53,17 +53,18 @@ impl SideBySide {
     /// Does an operation to each, and gives the reply, which is the same.
     ///
     /// # Errors
-    /// A difference, or memory.
+    /// There is a difference, or the call failed to allocate.
     pub fn step(&mut self, op: &Op, tally: &mut Tally) -> Result<Reply, Fault> {
         let reply = step_partition(self.place, &mut self.partition, &self.reference, op, tally)?;
         self.follow(op, &reply, tally)?;
         Ok(reply)
     }
 
-    /// Does the operations at once, or the first of them where memory was wanting, and gives their replies.
+    /// Does the operations at once, or the first of them where that fails to allocate, and gives their
+    /// replies.
     ///
     /// # Errors
-    /// A difference, or memory.
+    /// There is a difference, or the call failed to allocate.
     pub fn run(&mut self, ops: &[Op], tally: &mut Tally) -> Result<Vec<Reply>, Fault> {
         let alloc = self.place.alloc;
         let copies = again(|| copies(alloc, ops))?;
@@ -110,7 +111,7 @@ impl SideBySide {
     /// Compares all that can be looked at.
     ///
     /// # Errors
-    /// A difference, or memory.
+    /// There is a difference, or the call failed to allocate.
     pub fn compare_looks(&self) -> Result<(), Fault> {
         compare_looks(self.place, &self.partition, &self.reference)
     }
@@ -119,7 +120,7 @@ impl SideBySide {
     /// drain, and tells what is owed.
     ///
     /// # Errors
-    /// A difference, or memory.
+    /// There is a difference, or the call failed to allocate.
     pub fn drain(&mut self, tally: &mut Tally) -> Result<DrainEnd, Fault> {
         let drained = drain(self.place.alloc, &mut self.partition, tally)?;
         let twins = drain(self.place.alloc, &mut self.twin, tally)?;

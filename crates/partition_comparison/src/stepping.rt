@@ -1,4 +1,4 @@
-//! Single operations, which are done again where memory was wanting.
+//! Single operations, which are done again where they failed to allocate.
 use crate::again::again;
 use crate::difference::Place;
 use crate::fault::Fault;
@@ -8,11 +8,11 @@ use crate::tally::Tally;
 use std::alloc::{AllocError, Global};
 use step_core::{Op, Partition, Reply};
 
-/// Does an operation to a partition. Where memory was wanting, the partition has to look as before, which
-/// is how the plain program looks, and the operation is done then.
+/// Does an operation to a partition. Where it fails to allocate, the partition has to look as before, which
+/// is how the plain program looks, and the operation is done again.
 ///
 /// # Errors
-/// A difference, or memory.
+/// There is a difference, or the call failed to allocate.
 pub fn step_partition(
     place: Place,
     partition: &mut Partition,
@@ -34,10 +34,10 @@ pub fn step_partition(
     Ok(reply)
 }
 
-/// Does an operation to the plain program, and does it again where memory was wanting.
+/// Does an operation to the plain program, and does it again where it failed to allocate.
 ///
 /// # Errors
-/// Memory.
+/// The call failed to allocate.
 pub fn step_reference(
     alloc: Global,
     reference: &mut partition_reference::Partition,
@@ -54,7 +54,7 @@ pub fn step_reference(
 /// Compares all that can be looked at of a partition and of the plain program.
 ///
 /// # Errors
-/// A difference, or memory.
+/// There is a difference, or the call failed to allocate.
 pub fn compare_looks(
     place: Place,
     partition: &Partition,

@@ -3,7 +3,7 @@ use crate::kinds::{ENDS, OPERATIONS, REPLIES, end_kind, operation_kind, reply_ki
 use std::io;
 use step_core::{DrainEnd, Op, Reply};
 
-/// How often each operation had each reply, and where memory was wanting.
+/// How often each operation had each reply, and which of them failed to allocate.
 #[derive(Drop)]
 pub struct Tally {
     replies: [[u64; 42]; 16],
@@ -37,18 +37,18 @@ impl Tally {
         *count = count.saturating_add(1);
     }
 
-    /// Counts that memory was wanting for an operation.
+    /// Counts an operation that failed to allocate.
     pub fn want(&mut self, op: &Op) {
         let count = &mut self.wants[operation_kind(op)];
         *count = count.saturating_add(1);
     }
 
-    /// Counts that memory was wanting for a run.
+    /// Counts a run that failed to allocate.
     pub fn want_run(&mut self) {
         self.runs = self.runs.saturating_add(1);
     }
 
-    /// Counts that memory was wanting for a drain.
+    /// Counts a drain that failed to allocate.
     pub fn want_drain(&mut self) {
         self.drains = self.drains.saturating_add(1);
     }
@@ -79,7 +79,7 @@ impl Tally {
     /// Prints a line for each operation, with the replies that it had.
     ///
     /// # Errors
-    /// A fault of the output.
+    /// The output couldn't be written.
     pub fn print(&self, rt: &impl Print) -> io::Result<()> {
         for (name, counts) in OPERATIONS.iter().zip(self.replies.iter()) {
             print!(rt; "{name:<12}")?;
@@ -89,11 +89,10 @@ impl Tally {
         print_counts(rt, ENDS.as_slice(), self.ends.as_slice())
     }
 
-    /// Tells for what memory was wanting, on standard error, since the output is the same as if it hadn't
-    /// been.
+    /// Prints what failed to allocate on standard error, since the output is the same as if nothing had.
     ///
     /// # Errors
-    /// A fault of the output.
+    /// The output couldn't be written.
     pub fn tell_wants(&self, rt: &impl Eprint) -> io::Result<()> {
         for (name, count) in OPERATIONS.iter().zip(self.wants.iter()) {
             tell_want(rt, name, *count)?;
@@ -103,7 +102,7 @@ impl Tally {
     }
 }
 
-/// Tells how often memory was wanting for something, if it was.
+/// Prints how often something failed to allocate, if it did.
 fn tell_want(rt: &impl Eprint, name: &str, count: u64) -> io::Result<()> {
     if count == 0 {
         return Ok(());

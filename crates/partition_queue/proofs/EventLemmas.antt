@@ -8,8 +8,8 @@ use Rattle.stream_ident.specs.declared.ident.StreamId.{StreamId}
 use Rattle.stream_ident.specs.declared.token.Token.{Token}
 use Rattle.stream_ident.specs.Event.{events_of, no_event}
 use Rattle.stream_ident.specs.Token.{token_lt}
+use Rattle.stream_ident.proofs.EventLemmas.{length-events_of, events_of-token}
 use Rattle.partition_queue.specs.Queue.{PlainQueue, IsLog, TokensRise}
-use Rattle.stream_ident.proofs.EventLemmas.{length-events_of}
 
 -- one more event of a batch is written
 pub one_more : (stream : StreamId) (seq idx : ℕ) (payloads : List (List ℕ)) (payload : List ℕ) (done written all : List Event) → idx < length payloads → payload ≡ get_or payloads idx payload → done ++ events_of stream seq idx (drop idx payloads) ≡ all → written ≡ done ++ record { stream = stream; token = record { seq = seq; idx = idx }; payload = payload } ∷ [] → written ++ events_of stream seq (idx + 1) (drop (idx + 1) payloads) ≡ all
@@ -24,14 +24,6 @@ all_written stream seq idx payloads done all end was =
     let none : drop idx payloads ≡ [] = drop_all idx payloads end in
     sym (append-nil done) ∙ rw none at was
 
--- the token of an event of a batch
-token_in : (stream : StreamId) (seq idx : ℕ) (payloads : List (List ℕ)) (i : ℕ) → i < length payloads → (get_or (events_of stream seq idx payloads) i no_event).token ≡ record { seq = seq; idx = idx + i }
-token_in stream seq idx [] i within = absurd (omega arith)
-token_in stream seq idx (payload ∷ payloads) zero within = let same : idx ≡ idx + 0 = omega arith in ap {B = Token} (λ n. record { seq = seq; idx = n }) same
-token_in stream seq idx (payload ∷ payloads) (suc i) within =
-    let same : suc idx + i ≡ idx + suc i = omega arith in
-    token_in stream seq (suc idx) payloads i (omega arith) ∙ ap {B = Token} (λ n. record { seq = seq; idx = n }) same
-
 before_by_seq : (a b : Token) → a.seq < b.seq → token_lt a b ≡ true
 before_by_seq a b less = grind (arith, nat_tests)
 
@@ -44,7 +36,7 @@ token_old xs ys i old = ap (λ event. event.token) (get_or_append_left xs ys no_
 
 token_new : (xs : List Event) (stream : StreamId) (seq : ℕ) (payloads : List (List ℕ)) (i : ℕ) → length xs ≤ i → i - length xs < length payloads → (get_or (xs ++ events_of stream seq 0 payloads) i no_event).token ≡ record { seq = seq; idx = 0 + (i - length xs) }
 token_new xs stream seq payloads i new within =
-    ap (λ event. event.token) (get_or-append_right xs (events_of stream seq 0 payloads) (length xs) i no_event refl new) ∙ token_in stream seq 0 payloads (i - length xs) within
+    ap (λ event. event.token) (get_or-append_right xs (events_of stream seq 0 payloads) (length xs) i no_event refl new) ∙ events_of-token stream seq 0 payloads (i - length xs) within
 
 -- two tokens of the longer log, and the number of one
 rising_more : (q : PlainQueue) (stream : StreamId) (payloads : List (List ℕ)) (i j : ℕ) → TokensRise q → i < j → j < length q.events + length payloads → token_lt (get_or (q.events ++ events_of stream q.batches 0 payloads) i no_event).token (get_or (q.events ++ events_of stream q.batches 0 payloads) j no_event).token ≡ true

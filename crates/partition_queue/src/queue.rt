@@ -55,7 +55,8 @@ impl PartitionQueue {
     /// one, which copies every event.
     ///
     /// # Errors
-    /// Memory, and then nothing has changed. It comes only at a batch that would be accepted.
+    /// The call failed to allocate, and nothing has changed. That can happen only at a batch that would be
+    /// accepted.
     pub fn append(
         &mut self,
         _alloc: Global,

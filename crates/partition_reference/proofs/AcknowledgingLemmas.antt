@@ -9,16 +9,9 @@ use Rattle.stream_model.specs.declared.plain.PlainPartition.{PlainPartition}
 use Rattle.stream_model.specs.declared.plain.Subscription.{Subscription}
 use Rattle.stream_model.specs.declared.reply.Reply.{Reply}
 use Rattle.stream_model.specs.declared.reply.Reply.TheVariants as reply
-use Rattle.stream_model.specs.Places.{place_of}
 use Rattle.stream_model.specs.Positions.{sub_at, with_sub}
 use Rattle.stream_model.specs.Pulling.{ack, ack_of, ack_position, acknowledged, handled_at, is_stale, retry, retry_of, rewound}
 use Rattle.stream_ident.specs.Words.{with_value}
-use Rattle.stream_model.proofs.Lookups.{place_of-none}
-
-pub retry-stale : (p : PlainPartition) (generation : ℕ) (s : SubName) → is_stale p generation ≡ true → (p, reply.StaleAgent p.generation) ≡ retry p generation s
-unfolding retry
-retry-stale p generation s stale =
-    sym (ap {B = PlainPartition × Reply} (λ b. if b then (p, reply.StaleAgent p.generation) else retry_of p s (sub_at p s)) stale)
 
 -- the subscription's record decides
 retry-current : (p : PlainPartition) (generation : ℕ) (s : SubName) (found : Option Subscription) → is_stale p generation ≡ false → sub_at p s ≡ found → retry p generation s ≡ retry_of p s found
@@ -26,10 +19,6 @@ unfolding retry
 retry-current p generation s found current is_found =
     ap {B = PlainPartition × Reply} (λ b. if b then (p, reply.StaleAgent p.generation) else retry_of p s (sub_at p s)) current
     ∙ ap (retry_of p s) is_found
-
-pub retry-unknown : (p : PlainPartition) (generation : ℕ) (s : SubName) → is_stale p generation ≡ false → place_of same_sub s p.subs ≡ None → (p, reply.NoSuch) ≡ retry p generation s
-unfolding retry_of
-retry-unknown p generation s current e = sym (retry-current p generation s None current (place_of-none same_sub s p.subs e))
 
 pub retry-closed : (p : PlainPartition) (generation : ℕ) (s : SubName) (r : Subscription) → is_stale p generation ≡ false → sub_at p s ≡ Some r → r.is_open ≡ false → (p, reply.Closed) ≡ retry p generation s
 unfolding retry_of
@@ -44,21 +33,12 @@ retry-done p generation s r subs current is_r is_open changed =
     ∙ sym (retry-current p generation s (Some r) current is_r
     ∙ ap {B = PlainPartition × Reply} (λ b. if not b then (p, reply.Closed) else (with_sub p s (rewound r), reply.Rewound)) is_open)
 
-pub ack-stale : (p : PlainPartition) (generation : ℕ) (s : SubName) (token : Token) → is_stale p generation ≡ true → (p, reply.StaleAgent p.generation) ≡ ack p generation s token
-unfolding ack
-ack-stale p generation s token stale =
-    sym (ap {B = PlainPartition × Reply} (λ b. if b then (p, reply.StaleAgent p.generation) else ack_of p s token (sub_at p s)) stale)
-
 -- the subscription's record decides
 ack-current : (p : PlainPartition) (generation : ℕ) (s : SubName) (token : Token) (found : Option Subscription) → is_stale p generation ≡ false → sub_at p s ≡ found → ack p generation s token ≡ ack_of p s token found
 unfolding ack
 ack-current p generation s token found current is_found =
     ap {B = PlainPartition × Reply} (λ b. if b then (p, reply.StaleAgent p.generation) else ack_of p s token (sub_at p s)) current
     ∙ ap (ack_of p s token) is_found
-
-pub ack-unknown : (p : PlainPartition) (generation : ℕ) (s : SubName) (token : Token) → is_stale p generation ≡ false → place_of same_sub s p.subs ≡ None → (p, reply.NoSuch) ≡ ack p generation s token
-unfolding ack_of
-ack-unknown p generation s token current e = sym (ack-current p generation s token None current (place_of-none same_sub s p.subs e))
 
 pub ack-closed : (p : PlainPartition) (generation : ℕ) (s : SubName) (token : Token) (r : Subscription) → is_stale p generation ≡ false → sub_at p s ≡ Some r → r.is_open ≡ false → (p, reply.Closed) ≡ ack p generation s token
 unfolding ack_of

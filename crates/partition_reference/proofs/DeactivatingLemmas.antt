@@ -8,25 +8,15 @@ use Rattle.stream_model.specs.declared.plain.PlainPartition.{PlainPartition}
 use Rattle.stream_model.specs.declared.plain.Subscription.{Subscription}
 use Rattle.stream_model.specs.declared.reply.Reply.{Reply}
 use Rattle.stream_model.specs.declared.reply.Reply.TheVariants as reply
-use Rattle.stream_model.specs.Places.{place_of}
-use Rattle.stream_model.specs.Positions.{grain_at, new_grain}
+use Rattle.stream_model.specs.Positions.{grain_at}
 use Rattle.stream_model.specs.Pulling.{rewound_where}
 use Rattle.stream_model.specs.Turns.{deactivate, deactivate_in, deactivated, running_count}
 use Rattle.stream_ident.specs.Words.{each_value, with_value}
-use Rattle.stream_model.proofs.Beginning.{grain_at-new}
 
 -- the grain's record decides
 deactivate-at : (p : PlainPartition) (g : GrainId) (st : Grain) → grain_at p g ≡ st → deactivate p g ≡ (if not st.active then (p, reply.NotActive) else (deactivated p g st, reply.Deactivated (length st.mailbox + running_count st.running)))
 unfolding deactivate deactivate_in
 deactivate-at p g st is_st = ap (deactivate_in p g) is_st
-
-pub deactivate-idle : (p : PlainPartition) (g : GrainId) (st : Grain) → grain_at p g ≡ st → st.active ≡ false → (p, reply.NotActive) ≡ deactivate p g
-deactivate-idle p g st is_st idle =
-    sym (deactivate-at p g st is_st
-    ∙ ap {B = PlainPartition × Reply} (λ b. if not b then (p, reply.NotActive) else (deactivated p g st, reply.Deactivated (length st.mailbox + running_count st.running))) idle)
-
-pub deactivate-unknown : (p : PlainPartition) (g : GrainId) → place_of same_grain g p.grains ≡ None → (p, reply.NotActive) ≡ deactivate p g
-deactivate-unknown p g e = sym (deactivate-at p g new_grain (grain_at-new p g e))
 
 pub deactivate-done : (p : PlainPartition) (g : GrainId) (st : Grain) (subs : List (SubName × Subscription)) (grains : List (GrainId × Grain)) (lost : ℕ) → grain_at p g ≡ st → st.active ≡ true → subs ≡ each_value (λ r. rewound_where (same_grain g r.grain && r.is_open) r) p.subs → grains ≡ with_value same_grain g (record st { active = false; mailbox = []; running = None }) p.grains → lost ≡ length st.mailbox + running_count st.running → (record p { subs = subs; grains = grains }, reply.Deactivated lost) ≡ deactivate p g
 deactivate-done p g st subs grains lost is_st active is_subs is_grains is_lost =

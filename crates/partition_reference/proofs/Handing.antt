@@ -1,6 +1,6 @@
 -- What an agent's deliver leaves and answers, case by case.
 use Rattle.std.proofs.Common.{◌≡◌, ℕ, suc, ◌+◌, ◌-◌, ◌<◌, ◌≤◌, Bool, true, false, ◌&&◌, ◌||◌, not, List, ◌∷◌, length, get_or, take, drop, max, Option, Some, None, sym, ap, subst, ◌∙◌, nat_lt, arith}
-use Rattle.std.proofs.lemmas.Bool.{eq-eqb, ne_eqb, le-leb, lt-leb}
+use Rattle.std.proofs.lemmas.Bool.{eq-eqb, le-leb, lt-leb}
 use Rattle.std.proofs.lemmas.List.{drop_more}
 use Rattle.std.proofs.lemmas.Option.{same_Some}
 use Rattle.std.specs.Int.{from_bool}
@@ -24,7 +24,6 @@ use Rattle.stream_model.specs.Pulling.{caught_up, deliver, deliver_to, deliver_p
 use Rattle.stream_model.specs.Step.{takes_memory}
 use Rattle.stream_ident.specs.Words.{first_at, with_value}
 use Rattle.stream_model.proofs.Beginning.{grain_at-new}
-use Rattle.stream_model.proofs.Lookups.{place_of-none}
 use Rattle.stream_model.proofs.EachOf.{All-weaken}
 
 -- what the cache has from a position on, by its first event
@@ -48,20 +47,11 @@ first_between-more passes log from to e below within read fails =
     ∙ sym (ap (first_at passes from) (between-more log from to e below within read)
     ∙ ap (λ b. if b then Some from else first_at passes (suc from) (between log (from + 1) to)) fails)
 
-pub deliver-stale : (p : PlainPartition) (generation : ℕ) (s : SubName) → (generation ≡ p.generation → ⊥) → (p, reply.StaleAgent p.generation) ≡ deliver p generation s
-unfolding deliver
-deliver-stale p generation s other =
-    sym (ap {B = PlainPartition × Reply} (λ b. if not b then (p, reply.StaleAgent p.generation) else deliver_to p s (sub_at p s)) (ne_eqb generation p.generation other))
-
 deliver-current : (p : PlainPartition) (generation : ℕ) (s : SubName) (r : Option Subscription) → generation ≡ p.generation → sub_at p s ≡ r → deliver p generation s ≡ deliver_to p s r
 unfolding deliver
 deliver-current p generation s r current is_r =
     ap {B = PlainPartition × Reply} (λ b. if not b then (p, reply.StaleAgent p.generation) else deliver_to p s (sub_at p s)) (eq-eqb generation p.generation current)
     ∙ ap (deliver_to p s) is_r
-
-pub deliver-unknown : (p : PlainPartition) (generation : ℕ) (s : SubName) → generation ≡ p.generation → place_of same_sub s p.subs ≡ None → (p, reply.NoSuch) ≡ deliver p generation s
-unfolding deliver_to
-deliver-unknown p generation s current e = sym (deliver-current p generation s None current (place_of-none same_sub s p.subs e))
 
 pub deliver-closed : (p : PlainPartition) (generation : ℕ) (s : SubName) (r : Subscription) → generation ≡ p.generation → sub_at p s ≡ Some r → r.is_open ≡ false → (p, reply.Closed) ≡ deliver p generation s
 unfolding deliver_to

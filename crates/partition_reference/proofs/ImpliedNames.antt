@@ -1,62 +1,19 @@
--- Which names are in a list of subscriptions, and which come to be in it.
-use Rattle.std.proofs.Math.Bool.{or-false, or_assoc}
-use Rattle.std.proofs.Common.{◌≡◌, ◌∙◌, ap, sym, refl, ℕ, ◌+◌, ◌<◌, ◌&&◌, ◌||◌, not, Bool, true, false, List, [], ◌∷◌, ◌++◌, length, take, drop, get_or, Some, is_some, fold, if◌then◌else◌, arith}
+-- Which of the names that rules make come to be in a list of subscriptions.
+use Rattle.std.proofs.Common.{◌≡◌, ◌∙◌, ap, sym, refl, ℕ, ◌+◌, ◌<◌, ◌&&◌, ◌||◌, not, Bool, true, false, List, ◌∷◌, length, drop, get_or, fold, arith}
 use Rattle.std.proofs.lemmas.Bool.{not-true, not-false}
-use Rattle.std.proofs.lemmas.Grind.{fold-append}
-use Rattle.std.proofs.lemmas.List.{append-nil, at_drop_more, length_push, take_more}
-use Rattle.std.proofs.lemmas.List.Concat.{flat_map-append}
+use Rattle.std.proofs.lemmas.List.{at_drop_more, length_push}
 use Rattle.std.specs.List.{flat_map}
 use Rattle.stream_ident.specs.declared.event.Event.{Event}
 use Rattle.stream_ident.specs.declared.ident.SubName.{SubName}
 use Rattle.stream_ident.specs.declared.ident.SubName.TheVariants.{Implicit}
 use Rattle.stream_ident.specs.Name.{same_name}
-use Rattle.stream_ident.specs.SubName.{same_sub}
 use Rattle.stream_ident.specs.Token.{token_lt}
 use Rattle.stream_model.specs.declared.plain.Subscription.{Subscription}
 use Rattle.stream_ident.specs.declared.rule.Rule.{Rule}
 use Rattle.stream_ident.specs.Event.{batch_token}
-use Rattle.stream_model.specs.Pulling.{added, implied}
-use Rattle.stream_ident.specs.Words.{value_at}
-use Rattle.stream_ident.proofs.SameValues.{same_sub-equal}
-
--- whether a name is in a list
-abbrev pub has : SubName → List (SubName × Subscription) → Bool
-has s subs = is_some (value_at same_sub s subs)
-
-pub has-cons : (s : SubName) (entry : SubName × Subscription) (subs : List (SubName × Subscription)) → has s (entry ∷ subs) ≡ same_sub s entry.0 || has s subs
-has-cons s entry subs = by (same_sub s entry.0)
-  where
-    by : (same : Bool) → is_some (if same then Some entry.1 else value_at same_sub s subs) ≡ same || has s subs
-    by true = refl
-    by false = refl
-
-pub has-append : (s : SubName) (xs ys : List (SubName × Subscription)) → has s (xs ++ ys) ≡ has s xs || has s ys
-has-append s [] ys = refl
-has-append s (x ∷ xs) ys =
-    has-cons s x (xs ++ ys) ∙ ap (λ rest. same_sub s x.0 || rest) (has-append s xs ys)
-    ∙ sym (or_assoc (same_sub s x.0) (has s xs) (has s ys)) ∙ ap (λ first. first || has s ys) (sym (has-cons s x xs))
-
--- a name is there after one is added where it was, or is that one
-has-added : (s : SubName) (subs : List (SubName × Subscription)) (entry : SubName × Subscription) → has s (added subs entry) ≡ has s subs || same_sub s entry.0
-has-added s subs entry = by (has entry.0 subs) refl
-  where
-    same-there : has entry.0 subs ≡ true → (same : Bool) → same_sub s entry.0 ≡ same → has s subs ≡ has s subs || same
-    same-there there true same =
-        let is : has s subs ≡ true = ap (λ name. has name subs) (same_sub-equal s entry.0 same) ∙ there in
-        is ∙ sym (ap (λ b. b || true) is)
-    same-there there false same = sym (or-false (has s subs))
-
-    by : (there : Bool) → has entry.0 subs ≡ there → has s (if there then subs else subs ++ entry ∷ []) ≡ has s subs || same_sub s entry.0
-    by true there = same-there there (same_sub s entry.0) refl
-    by false there =
-        has-append s subs (entry ∷ []) ∙ ap (λ last. has s subs || last) (has-cons s entry [] ∙ or-false (same_sub s entry.0))
-
--- a name is there after these are added where it was, or is one of them
-pub has-fold : (s : SubName) (subs entries : List (SubName × Subscription)) → has s (fold added subs entries) ≡ has s subs || has s entries
-has-fold s subs [] = sym (or-false (has s subs))
-has-fold s subs (entry ∷ entries) =
-    has-fold s (added subs entry) entries ∙ ap (λ first. first || has s entries) (has-added s subs entry)
-    ∙ or_assoc (has s subs) (same_sub s entry.0) (has s entries) ∙ ap (λ rest. has s subs || rest) (sym (has-cons s entry entries))
+use Rattle.stream_ident.specs.Implying.{added}
+use Rattle.stream_model.specs.Pulling.{implied}
+use Rattle.stream_ident.proofs.NewNames.{has, has-append, has-fold}
 
 -- ---- loops over what is made of each item
 
@@ -71,13 +28,6 @@ pub has-later : {X : Type 0} (made : X → List (SubName × Subscription)) (s : 
 has-later made s xs i x within is not_here =
     sym (at_drop_more (λ rest. has s (flat_map made rest)) xs i x within ∙ ap (λ first. has s (flat_map made (first ∷ drop (i + 1) xs))) (sym is)
     ∙ has-append s (made x) (flat_map made (drop (i + 1) xs)) ∙ ap (λ first. first || has s (flat_map made (drop (i + 1) xs))) not_here)
-
--- one item more is added
-pub added-more : {X : Type 0} (made : X → List (SubName × Subscription)) (subs : List (SubName × Subscription)) (xs : List X) (i : ℕ) (x : X) → i < length xs → x ≡ get_or xs i x → fold added subs (flat_map made (take (i + 1) xs)) ≡ fold added (fold added subs (flat_map made (take i xs))) (made x)
-added-more made subs xs i x within is =
-    ap (λ front. fold added subs (flat_map made front)) (take_more xs i x within ∙ ap (λ last. take i xs ++ last ∷ []) (sym is))
-    ∙ ap (fold added subs) (flat_map-append made (take i xs) (x ∷ []) ∙ ap (λ last. flat_map made (take i xs) ++ last) (append-nil (made x)))
-    ∙ fold-append added subs (flat_map made (take i xs)) (made x)
 
 -- ---- how many are added
 

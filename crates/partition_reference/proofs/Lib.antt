@@ -3,7 +3,6 @@ pub mod DeactivatingLemmas
 pub mod Handing
 pub mod ImpliedNames
 pub mod MovingLemmas
-pub mod NameOrder
 pub mod PurgingLemmas
 pub mod RulesLemmas
 pub mod SlowestName

@@ -1,5 +1,5 @@
 -- What a move of the queue leaves and answers, case by case.
-use Rattle.std.proofs.Common.{◌≡◌, ℕ, suc, min, true, false, List, [], ◌∷◌, sym, ap, ◌∙◌, arith}
+use Rattle.std.proofs.Common.{◌≡◌, ℕ, suc, min, false, List, [], ◌∷◌, sym, ap, ◌∙◌, arith}
 use Rattle.std.specs.Prelude.{if◌then◌else◌}
 use Rattle.stream_ident.specs.declared.ident.SubName.{SubName}
 use Rattle.stream_ident.specs.declared.token.Token.{Token}
@@ -10,11 +10,6 @@ use Rattle.stream_model.specs.declared.reply.Reply.TheVariants as reply
 use Rattle.stream_model.specs.Positions.{is_spent, least_or, open_resumes, slowest, token_at}
 use Rattle.stream_model.specs.Pulling.{move, move_to, rewound_where}
 use Rattle.stream_ident.specs.Words.{each_value, least_with}
-
-pub move-spent : (p : PlainPartition) (silo : ℕ) → is_spent p ≡ true → (p, reply.Spent) ≡ move p silo
-unfolding move
-move-spent p silo spent =
-    sym (ap {B = PlainPartition × Reply} (λ b. if b then (p, reply.Spent) else move_to p silo (least_with p.high (open_resumes p))) spent)
 
 -- the least of some numbers and one more, by the least of them
 least_with-or : (n : ℕ) (xs : List ℕ) → min n (least_or n xs) ≡ least_with n xs

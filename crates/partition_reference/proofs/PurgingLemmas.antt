@@ -1,5 +1,5 @@
 -- What an agent's purge leaves and answers, case by case.
-use Rattle.std.proofs.Common.{◌≡◌, ℕ, ◌+◌, ◌*◌, true, false, sym, ap, ◌∙◌}
+use Rattle.std.proofs.Common.{◌≡◌, ℕ, ◌+◌, ◌*◌, false, sym, ap, ◌∙◌}
 use Rattle.std.specs.Prelude.{if◌then◌else◌}
 use Rattle.stream_ident.specs.declared.token.Token.{Token}
 use Rattle.stream_model.specs.declared.plain.PlainPartition.{PlainPartition}
@@ -7,11 +7,6 @@ use Rattle.stream_model.specs.declared.reply.Reply.{Reply}
 use Rattle.stream_model.specs.declared.reply.Reply.TheVariants as reply
 use Rattle.stream_model.specs.Positions.{token_at}
 use Rattle.stream_model.specs.Pulling.{is_stale, purge, purge_to, purges}
-
-pub purge-stale : (p : PlainPartition) (generation keep : ℕ) → is_stale p generation ≡ true → (p, reply.StaleAgent p.generation) ≡ purge p generation keep
-unfolding purge
-purge-stale p generation keep stale =
-    sym (ap {B = PlainPartition × Reply} (λ b. if b then (p, reply.StaleAgent p.generation) else purge_to p (p.low + 64 * purges p keep)) stale)
 
 pub purge-done : (p : PlainPartition) (generation keep blocks : ℕ) (token : Token) → is_stale p generation ≡ false → blocks ≡ purges p keep → token ≡ token_at p (p.low + 64 * blocks) → (record p { low = p.low + 64 * blocks }, reply.Purged token) ≡ purge p generation keep
 unfolding purge purge_to

@@ -1,5 +1,5 @@
 -- The least name of an open subscription with a resume, found from the last to the first.
-use Rattle.std.proofs.Common.{◌≡◌, ℕ, ◌-◌, ◌<◌, ◌==◌, ◌&&◌, Bool, true, false, List, Option, Some, None, length, drop, get_or}
+use Rattle.std.proofs.Common.{◌≡◌, ℕ, ◌-◌, ◌<◌, ◌==◌, ◌&&◌, true, false, List, Option, Some, None, length, drop, get_or}
 use Rattle.stream_ident.specs.declared.ident.SubName.{SubName}
 use Rattle.stream_ident.specs.SubName.{sub_lt}
 use Rattle.stream_model.specs.declared.plain.Subscription.{Subscription}

@@ -1,5 +1,5 @@
 -- The least resume of open subscriptions, found from the first to the last.
-use Rattle.std.proofs.Common.{◌≡◌, ◌∙◌, ap, sym, refl, ℕ, min, true, false, List, [], ◌∷◌, Option, Some, None, map, filter, unwrap_or, ◌+◌, ◌<◌, length, drop, get_or, arith}
+use Rattle.std.proofs.Common.{◌≡◌, ◌∙◌, ap, sym, refl, ℕ, min, true, false, List, [], ◌∷◌, Option, Some, None, unwrap_or, ◌+◌, ◌<◌, length, drop, get_or, arith}
 use Rattle.std.proofs.lemmas.List.{at_drop_more}
 use Rattle.stream_ident.specs.declared.ident.SubName.{SubName}
 use Rattle.stream_model.specs.declared.plain.Subscription.{Subscription}

@@ -1,9 +1,8 @@
 -- What an unsubscribe leaves and answers, case by case.
-use Rattle.std.proofs.Common.{◌≡◌, ℕ, true, false, not, List, Option, Some, None, if◌then◌else◌, length, refl, sym, ap, ◌∙◌}
+use Rattle.std.proofs.Common.{◌≡◌, ℕ, true, false, not, List, Option, Some, if◌then◌else◌, length, sym, ap, ◌∙◌}
 use Rattle.stream_ident.specs.declared.ident.GrainId.{GrainId}
-use Rattle.stream_ident.specs.declared.ident.StreamId.{StreamId}
 use Rattle.stream_ident.specs.declared.ident.SubName.{SubName}
-use Rattle.stream_ident.specs.declared.ident.SubName.TheVariants.{Explicit, Implicit}
+use Rattle.stream_ident.specs.declared.ident.SubName.TheVariants.{Explicit}
 use Rattle.stream_ident.specs.Name.{same_grain}
 use Rattle.stream_ident.specs.SubName.{same_sub}
 use Rattle.stream_model.specs.declared.plain.Grain.{Grain}
@@ -11,29 +10,14 @@ use Rattle.stream_model.specs.declared.plain.PlainPartition.{PlainPartition}
 use Rattle.stream_model.specs.declared.plain.Subscription.{Subscription}
 use Rattle.stream_model.specs.declared.reply.Reply.{Reply}
 use Rattle.stream_model.specs.declared.reply.Reply.TheVariants as reply
-use Rattle.stream_model.specs.Places.{place_of}
 use Rattle.stream_model.specs.Positions.{sub_at}
 use Rattle.stream_model.specs.Publishing.{unsubscribe, unsubscribe_from, unsubscribed, without}
 use Rattle.stream_ident.specs.Words.{changed_value, with_value}
-use Rattle.stream_model.proofs.Lookups.{place_of-none}
 
 -- the name's record decides
 unsubscribe-at : (p : PlainPartition) (s : SubName) (found : Option Subscription) → sub_at p s ≡ found → unsubscribe p s ≡ unsubscribe_from p s found
 unfolding unsubscribe
 unsubscribe-at p s found is_found = ap (unsubscribe_from p s) is_found
-
-from-none : (p : PlainPartition) (s : SubName) → (p, reply.NoSuch) ≡ unsubscribe_from p s None
-unfolding unsubscribe_from
-from-none p (Explicit n) = refl
-from-none p (Implicit kind stream) = refl
-
-pub unsubscribe-unknown : (p : PlainPartition) (s : SubName) → place_of same_sub s p.subs ≡ None → (p, reply.NoSuch) ≡ unsubscribe p s
-unsubscribe-unknown p s e = from-none p s ∙ sym (unsubscribe-at p s None (place_of-none same_sub s p.subs e))
-
-pub unsubscribe-implicit : (p : PlainPartition) (s : SubName) (kind : List ℕ) (stream : StreamId) (r : Subscription) → s ≡ Implicit kind stream → sub_at p s ≡ Some r → (p, reply.Implicit) ≡ unsubscribe p s
-unfolding unsubscribe_from
-unsubscribe-implicit p s kind stream r is is_r =
-    ap (λ s. unsubscribe_from p s (Some r)) (sym is) ∙ sym (unsubscribe-at p s (Some r) is_r)
 
 -- an explicit name that has a record
 unsubscribe-explicit : (p : PlainPartition) (s : SubName) (n : ℕ) (r : Subscription) → s ≡ Explicit n → sub_at p s ≡ Some r → unsubscribe p s ≡ (if not r.is_open then (p, reply.Closed) else (unsubscribed p s r, reply.Unsubscribed (length r.handled)))

@@ -21,8 +21,8 @@ use std::alloc::{AllocError, Global};
 use stream_ident::{Event, GrainId, SubName, Token};
 use stream_model::{Delivery, Grain, PlainPartition, Reply, RunningTurn, Sequence, Subscription};
 
-/// The agent hands the next event of a subscription to its grain's mailbox. Where memory is wanting nothing
-/// has changed.
+/// The agent hands the next event of a subscription to its grain's mailbox. Where it fails to allocate,
+/// nothing has changed.
 pub fn deliver(
     p: &mut PlainPartition,
     alloc: Global,

@@ -88,8 +88,8 @@ impl Partition {
         }
     }
 
-    /// One operation: its reply, refusals included. Where memory is wanting nothing has changed, and that
-    /// comes only where the step keeps more than before.
+    /// One operation: its reply, refusals included. Where it fails to allocate, nothing has changed, and that
+    /// can happen only where the step keeps more than before.
     pub fn step(&mut self, alloc: Global, op: Op) -> Result<Reply, AllocError>
         ensures performs { Performs self.old self.new result (step self.old op) }
         ensures memory { OnErr result (takes_memory (step self.old op).1 ≡ true) }

@@ -3,10 +3,11 @@ ghost use Rattle.std.specs.Prelude.{◌≡◌, ◌&&◌, None, is_some, not};
 ghost use Rattle.stream_ident.specs.Name.{grain_lt};
 ghost use Rattle.stream_ident.specs.SubName.{sub_lt};
 ghost use Rattle.stream_model.specs.declared.plain.Subscription.{Subscription};
-ghost use Rattle.stream_model.specs.Least.{is_above, least_key};
+ghost use Rattle.stream_model.specs.Least.{least_key};
 ghost use Rattle.stream_model.specs.Looks.{due, is_due, is_running, is_waiting, pending_in, quiet, ready, to_acknowledge};
 ghost use Rattle.stream_model.specs.Positions.{next_position, sub_at};
 ghost use Rattle.stream_ident.specs.Words as words;
+ghost use Rattle.stream_ident.specs.Words.{is_above};
 
 use crate::delivering::{is_unacknowledged, next_position};
 use crate::positions::{is_sub_before, lesser_name, token_at};

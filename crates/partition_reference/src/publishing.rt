@@ -124,7 +124,7 @@ fn is_bad_batch(payloads: &[Payload]) -> bool
     payloads.is_empty() || payloads.len() > BATCH_MAX
 }
 
-/// Adds the events of a batch at the end. Where memory is wanting, the log stays as it was.
+/// Adds the events of a batch at the end. Where it fails to allocate, the log stays as it was.
 fn append_events(
     log: &mut Sequence<Event>,
     stream: &StreamId,

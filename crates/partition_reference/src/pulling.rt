@@ -7,7 +7,8 @@ ghost use Rattle.stream_ident.specs.Token.{token_lt};
 ghost use Rattle.stream_model.specs.Bounds.{IsWithinLimits};
 ghost use Rattle.stream_ident.specs.Event.{batch_token};
 ghost use Rattle.stream_model.specs.Positions.{between};
-ghost use Rattle.stream_model.specs.Pulling.{added, all_implied, drops, free_blocks, implied, is_stale, pull, pull_events, pull_want, room, subs_with};
+ghost use Rattle.stream_ident.specs.Implying.{added};
+ghost use Rattle.stream_model.specs.Pulling.{all_implied, drops, free_blocks, implied, is_stale, pull, pull_events, pull_want, room, subs_with};
 ghost use Rattle.stream_ident.specs.Blocks.{pull_size};
 ghost use Rattle.stream_model.specs.Step.{takes_memory};
 ghost use Rattle.stream_ident.specs.Words.{Performs, value_at};
@@ -266,7 +267,7 @@ fn makes_by_rule(rule: &Rule, event: &Event, name: &SubName) -> bool
     is_implied(event, rule) && is_same_sub(name, &implied_name(event, rule))
 }
 
-/// Adds what the rules make of these events. Where memory is wanting, the list stays as it was.
+/// Adds what the rules make of these events. Where it fails to allocate, the list stays as it was.
 fn add_implied(
     subs: &mut Sequence<(SubName, Subscription)>,
     alloc: Global,

@@ -123,7 +123,7 @@ pub fn end_turn(grains: &mut Sequence<(GrainId, Grain)>, place: usize)
     grain.running = None;
 }
 
-/// Wakes a grain for one more delivery. Where memory is wanting nothing has changed.
+/// Wakes a grain for one more delivery. Where it fails to allocate, nothing has changed.
 fn wake_grain(grain: &mut Grain, sub: SubName, position: usize) -> Result<(), AllocError>
     requires { grain.old.activation ≤ 4000000 }
     ensures { grain.new ≡ (if is_ok result then woken grain.old sub position else grain.old) }
@@ -137,7 +137,7 @@ fn wake_grain(grain: &mut Grain, sub: SubName, position: usize) -> Result<(), Al
     Ok(())
 }
 
-/// Wakes the grain at a place for one more delivery. Where memory is wanting nothing has changed.
+/// Wakes the grain at a place for one more delivery. Where it fails to allocate, nothing has changed.
 pub fn wake(
     grains: &mut Sequence<(GrainId, Grain)>,
     place: usize,
@@ -153,7 +153,7 @@ pub fn wake(
     wake_grain(grain, sub, position)
 }
 
-/// Adds a grain that was never active, awake for its first delivery. Where memory is wanting nothing has
+/// Adds a grain that was never active, awake for its first delivery. Where it fails to allocate, nothing has
 /// changed.
 pub fn add_grain(
     grains: &mut Sequence<(GrainId, Grain)>,
@@ -200,8 +200,8 @@ pub fn set_cursor(subs: &mut Sequence<(SubName, Subscription)>, place: usize, cu
     sub.cursor = cursor;
 }
 
-/// Adds the positions of a turn to those that a subscription has handled, and leaves the note. Where
-/// memory is wanting nothing has changed.
+/// Adds the positions of a turn to those that a subscription has handled, and leaves the note. Where it fails
+/// to allocate, nothing has changed.
 pub fn handle(
     subs: &mut Sequence<(SubName, Subscription)>,
     place: usize,

@@ -12,8 +12,8 @@ use std::alloc::AllocError;
 use stream_ident::{Name, Rule};
 use stream_model::{PlainPartition, Reply};
 
-/// Grains of a kind shall consume the streams of a namespace: the rule goes to the end of the list. Where
-/// memory is wanting nothing has changed.
+/// Grains of a kind shall consume the streams of a namespace: the rule goes to the end of the list. Where it
+/// fails to allocate, nothing has changed.
 pub fn add_rule(p: &mut PlainPartition, kind: Name, namespace: Name) -> Result<Reply, AllocError>
     ensures performs { Performs p.old p.new result (add_rule p.old kind namespace) }
     ensures memory { OnErr result (takes_memory (add_rule p.old kind namespace).1 ≡ true) }

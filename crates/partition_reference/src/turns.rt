@@ -127,7 +127,7 @@ fn begin_turn(
     }
 }
 
-/// A worker ends the running turn of a grain: its events are handled. Where memory is wanting nothing has
+/// A worker ends the running turn of a grain: its events are handled. Where it fails to allocate, nothing has
 /// changed.
 pub fn commit(
     p: &mut PlainPartition,

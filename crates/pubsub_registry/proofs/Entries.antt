@@ -4,15 +4,16 @@ use Rattle.std.specs.Prelude.{◌⊎◌, position, nat_lt, slice_get}
 use Rattle.std.specs.List.{IsDistinct, AllByRecursion, position_or_len}
 use Rattle.std.specs.Map.{keys_of, lookup, set_value}
 use Rattle.std.proofs.lemmas.Bool.{lt-ltb, le-ltb, ltb-true, ltb-false}
+use mathlib.Core.Logic.{inl, inr}
 use Rattle.indexmap.specs.IndexMap.{IndexMap, insert_entry}
 use Rattle.indexmap.proofs.CallerLemmas.{insert_entry-new}
-use mathlib.Core.Logic.{inl, inr}
 use Rattle.stream_ident.specs.SubName.{same_sub}
 use Rattle.stream_ident.specs.Words.{changed_value, first_at}
 use Rattle.stream_ident.specs.declared.ident.StreamId.{StreamId}
 use Rattle.stream_ident.specs.declared.ident.SubName.{SubName}
+use Rattle.stream_ident.proofs.WordLemmas.{changed_value-none}
 use Rattle.pubsub_registry.specs.Index.{streams_of, AreUnique}
-use Rattle.pubsub_registry.specs.Registry.{shut}
+use Rattle.pubsub_registry.specs.Registry.{closed_registration}
 use Rattle.pubsub_registry.specs.declared.registration.Registration.{Registration}
 use Rattle.pubsub_registry.proofs.Elements.{Contains-here, Contains-later, Contains-cases, Contains-none}
 use Rattle.stream_ident.proofs.SameValues.{same_sub-equal, same_sub-refl}
@@ -53,54 +54,44 @@ streams_of-found (entry ∷ entries) s registration found =
         Contains-later (entry.0, entry.1.stream) (streams_of entries) (s, registration.stream) (rest found)
 
 -- closing changes no stream
-pub streams_of-shut : (names : Names) (s : SubName) → streams_of (changed_value same_sub s shut names) ≡ streams_of names
-streams_of-shut [] s = refl
-streams_of-shut (entry ∷ entries) s =
-    elim (same_sub s entry.0) as (λ b. streams_of (if b then (entry.0, shut entry.1) ∷ entries else entry ∷ changed_value same_sub s shut entries) ≡ streams_of (entry ∷ entries)) [
+pub streams_of-closed : (names : Names) (s : SubName) → streams_of (changed_value same_sub s closed_registration names) ≡ streams_of names
+streams_of-closed [] s = refl
+streams_of-closed (entry ∷ entries) s =
+    elim (same_sub s entry.0) as (λ b. streams_of (if b then (entry.0, closed_registration entry.1) ∷ entries else entry ∷ changed_value same_sub s closed_registration entries) ≡ streams_of (entry ∷ entries)) [
       | true ↦ refl
-      | false ↦ ap (λ rest. (entry.0, entry.1.stream) ∷ rest) (streams_of-shut entries s)
+      | false ↦ ap (λ rest. (entry.0, entry.1.stream) ∷ rest) (streams_of-closed entries s)
     ]
 
-pub length-shut : (names : Names) (s : SubName) → length (changed_value same_sub s shut names) ≡ length names
-length-shut [] s = refl
-length-shut (entry ∷ entries) s =
-    elim (same_sub s entry.0) as (λ b. length (if b then (entry.0, shut entry.1) ∷ entries else entry ∷ changed_value same_sub s shut entries) ≡ length (entry ∷ entries)) [
+pub length-closed : (names : Names) (s : SubName) → length (changed_value same_sub s closed_registration names) ≡ length names
+length-closed [] s = refl
+length-closed (entry ∷ entries) s =
+    elim (same_sub s entry.0) as (λ b. length (if b then (entry.0, closed_registration entry.1) ∷ entries else entry ∷ changed_value same_sub s closed_registration entries) ≡ length (entry ∷ entries)) [
       | true ↦ refl
-      | false ↦ ap suc (length-shut entries s)
+      | false ↦ ap suc (length-closed entries s)
     ]
 
 -- a registration that was found, written back closed
-pub changed-found : (names : Names) (s : SubName) (registration : Registration) → lookup (same_sub s) names ≡ Some registration → set_value (same_sub s) names (shut registration) ≡ changed_value same_sub s shut names
+pub changed-found : (names : Names) (s : SubName) (registration : Registration) → lookup (same_sub s) names ≡ Some registration → set_value (same_sub s) names (closed_registration registration) ≡ changed_value same_sub s closed_registration names
 changed-found [] s registration found = refl
 changed-found (entry ∷ entries) s registration found = by (same_sub s entry.0) found (changed-found entries s registration)
   where
     by : (b : Bool) → (if b then Some entry.1 else lookup (same_sub s) entries) ≡ Some registration
-        → (lookup (same_sub s) entries ≡ Some registration → set_value (same_sub s) entries (shut registration) ≡ changed_value same_sub s shut entries)
-        → (if b then (entry.0, shut registration) ∷ entries else entry ∷ set_value (same_sub s) entries (shut registration)) ≡ (if b then (entry.0, shut entry.1) ∷ entries else entry ∷ changed_value same_sub s shut entries)
+        → (lookup (same_sub s) entries ≡ Some registration → set_value (same_sub s) entries (closed_registration registration) ≡ changed_value same_sub s closed_registration entries)
+        → (if b then (entry.0, closed_registration registration) ∷ entries else entry ∷ set_value (same_sub s) entries (closed_registration registration)) ≡ (if b then (entry.0, closed_registration entry.1) ∷ entries else entry ∷ changed_value same_sub s closed_registration entries)
     by true found rest =
-        let value : registration ≡ entry.1 = cc in ap (λ (r : Registration). (entry.0, shut r) ∷ entries) value
+        let value : registration ≡ entry.1 = cc in ap (λ (r : Registration). (entry.0, closed_registration r) ∷ entries) value
     by false found rest = ap (λ more. entry ∷ more) (rest found)
 
--- where none is found nothing changes
-pub changed-none : (names : Names) (s : SubName) → lookup (same_sub s) names ≡ None → changed_value same_sub s shut names ≡ names
-changed-none [] s none = refl
-changed-none (entry ∷ entries) s none = by (same_sub s entry.0) none (changed-none entries s)
-  where
-    by : (b : Bool) → (if b then Some entry.1 else lookup (same_sub s) entries) ≡ None → (lookup (same_sub s) entries ≡ None → changed_value same_sub s shut entries ≡ entries)
-        → (if b then (entry.0, shut entry.1) ∷ entries else entry ∷ changed_value same_sub s shut entries) ≡ entry ∷ entries
-    by true none rest = absurd (cc)
-    by false none rest = ap (λ more. entry ∷ more) (rest none)
-
 -- what is left where a registration that a test of the name found is written back closed
-pub shut-written : (test : SubName → Bool) (s : SubName) → test ≡ same_sub s → (names entries : Names) (registration : Registration) → Some registration ≡ lookup test names
-    → entries ≡ set_value test names (shut registration) → entries ≡ changed_value same_sub s shut names
-shut-written test s is names entries registration found written =
+pub closed-written : (test : SubName → Bool) (s : SubName) → test ≡ same_sub s → (names entries : Names) (registration : Registration) → Some registration ≡ lookup test names
+    → entries ≡ set_value test names (closed_registration registration) → entries ≡ changed_value same_sub s closed_registration names
+closed-written test s is names entries registration found written =
     let there = subst (λ (test : SubName → Bool). lookup test names ≡ Some registration) is (sym found) in
-    written ∙ ap (λ (test : SubName → Bool). set_value test names (shut registration)) is ∙ changed-found names s registration there
+    written ∙ ap (λ (test : SubName → Bool). set_value test names (closed_registration registration)) is ∙ changed-found names s registration there
 
-pub shut-unwritten : (test : SubName → Bool) (s : SubName) → test ≡ same_sub s → (names entries : Names) → None ≡ lookup test names → entries ≡ names → entries ≡ changed_value same_sub s shut names
-shut-unwritten test s is names entries none unwritten =
-    unwritten ∙ sym (changed-none names s (subst (λ (test : SubName → Bool). lookup test names ≡ None) is (sym none)))
+pub closed-unwritten : (test : SubName → Bool) (s : SubName) → test ≡ same_sub s → (names entries : Names) → None ≡ lookup test names → entries ≡ names → entries ≡ changed_value same_sub s closed_registration names
+closed-unwritten test s is names entries none unwritten =
+    unwritten ∙ sym (changed_value-none same_sub s closed_registration names (subst (λ (test : SubName → Bool). lookup test names ≡ None) is (sym none)))
 
 -- a new name goes last
 pub pushed : {S : Type 0} (same : SubName → SubName → Bool) → same ≡ same_sub → (map : IndexMap SubName Registration S) (now inside entries : Names) (s : SubName) (registration : Registration)

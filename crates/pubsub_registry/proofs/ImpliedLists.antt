@@ -1,50 +1,29 @@
 -- The names with those that the rules make of events: their front, and how many they are.
-use Rattle.std.proofs.Common.{◌≡◌, ◌∙◌, ℕ, ◌+◌, ◌*◌, ◌<◌, ◌≤◌, not, Bool, true, false, List, [], ◌∷◌, ◌++◌, length, take, filter, fold, is_some, if◌then◌else◌, refl, sym, ap, arith, length-append}
-use Rattle.std.proofs.Math.Seq.{take-length, take-append_seam}
-use Rattle.std.proofs.lemmas.List.{length-take, take-take}
+use Rattle.std.proofs.Common.{◌≡◌, ℕ, ◌+◌, ◌*◌, ◌≤◌, not, Bool, true, false, List, [], ◌∷◌, ◌++◌, length, take, fold, if◌then◌else◌, refl, ap, arith, length-append}
 use Rattle.std.proofs.lemmas.List.Concat.{length-flat_map}
 use Rattle.std.proofs.lemmas.List.Filters.{length-filter_both}
-use Rattle.std.proofs.lemmas.List.Sums.{fold-append}
 use Rattle.std.specs.List.{flat_map}
 use Rattle.stream_ident.specs.declared.event.Event.{Event}
 use Rattle.stream_ident.specs.declared.ident.SubName.{SubName}
 use Rattle.stream_ident.specs.declared.rule.Rule.{Rule}
 use Rattle.stream_ident.specs.Event.{batch_token}
 use Rattle.stream_ident.specs.Name.{same_name}
-use Rattle.stream_ident.specs.SubName.{same_sub}
 use Rattle.stream_ident.specs.Token.{token_lt}
-use Rattle.stream_ident.specs.Words.{value_at}
-use Rattle.pubsub_registry.specs.Implying.{added, all_implied, implied, made, names_with, rule_count}
+use Rattle.stream_ident.specs.Implying.{added}
+use Rattle.stream_ident.proofs.NewNames.{fold-front, has, length-fold}
+use Rattle.pubsub_registry.specs.Implying.{all_implied, implied, made, names_with, rule_count}
 use Rattle.pubsub_registry.specs.declared.registration.Registration.{Registration}
 use Rattle.pubsub_registry.proofs.Entries.{Names}
-use Rattle.pubsub_registry.proofs.ImpliedNames.{has, implied-on}
+use Rattle.pubsub_registry.proofs.ImpliedNames.{implied-on}
 use Rattle.pubsub_registry.proofs.RuleLemmas.{on}
-use Rattle.stream_ident.proofs.WordLemmas.{front-of-front}
 
 -- ---- the front
-
-added-front : (names : Names) (entry : SubName × Registration) → take (length names) (added names entry) ≡ names
-added-front names entry = by (has entry.0 names)
-  where
-    by : (there : Bool) → take (length names) (if there then names else names ++ entry ∷ []) ≡ names
-    by true = take-length names
-    by false = take-append_seam names (entry ∷ [])
-
-pub fold-front : (names entries : Names) → take (length names) (fold added names entries) ≡ names
-fold-front names [] = take-length names
-fold-front names (entry ∷ entries) =
-    front-of-front names (added names entry) (fold added (added names entry) entries) (added-front names entry) (fold-front (added names entry) entries)
 
 -- the names stay where they are, and the new ones follow
 pub names-front : (rules : List Rule) (names : Names) (events : List Event) → take (length names) (names_with rules names events) ≡ names
 names-front rules names events = fold-front names (all_implied rules events)
 
 -- ---- how many there are
-
-pub length-fold : (names entries : Names) → length names ≤ length (fold added names entries)
-length-fold names entries =
-    let size = ap length (fold-front names entries) in
-    omega (arith, length-take (length names) (fold added names entries), size)
 
 pub length-names_with : (rules : List Rule) (names : Names) (events : List Event) → length names ≤ length (names_with rules names events)
 length-names_with rules names events = length-fold names (all_implied rules events)

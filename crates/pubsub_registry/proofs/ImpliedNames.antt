@@ -1,6 +1,6 @@
--- Which names are there, and which the rules make of events.
-use Rattle.std.proofs.Math.Bool.{or-false, or_assoc}
-use Rattle.std.proofs.Common.{◌≡◌, ◌∙◌, ℕ, ◌&&◌, ◌||◌, not, Bool, true, false, List, [], ◌∷◌, ◌++◌, Some, is_some, fold, if◌then◌else◌, refl, sym, ap}
+-- Which names the rules make of events.
+use Rattle.std.proofs.Math.Bool.{or-false}
+use Rattle.std.proofs.Common.{◌≡◌, ◌∙◌, ℕ, ◌&&◌, ◌||◌, not, Bool, true, false, List, [], ◌∷◌, ◌++◌, fold, if◌then◌else◌, refl, sym, ap}
 use Rattle.std.specs.List.{flat_map, list_any}
 use Rattle.stream_ident.specs.declared.event.Event.{Event}
 use Rattle.stream_ident.specs.declared.ident.StreamId.{StreamId}
@@ -9,57 +9,15 @@ use Rattle.stream_ident.specs.declared.ident.SubName.TheVariants.{Explicit, Impl
 use Rattle.stream_ident.specs.declared.rule.Rule.{Rule}
 use Rattle.stream_ident.specs.Event.{batch_token}
 use Rattle.stream_ident.specs.Name.{same_name, same_stream}
-use Rattle.stream_ident.specs.SubName.{same_sub}
 use Rattle.stream_ident.specs.Token.{token_lt}
-use Rattle.stream_ident.specs.Words.{value_at}
-use Rattle.pubsub_registry.specs.Implying.{added, all_implied, implied, made, makes_any, names_with}
+use Rattle.stream_ident.specs.Implying.{added}
+use Rattle.stream_ident.proofs.NewNames.{has, has-append, has-cons, has-fold}
+use Rattle.pubsub_registry.specs.Implying.{all_implied, implied, made, makes_any, names_with}
 use Rattle.pubsub_registry.specs.Registry.{registered}
 use Rattle.pubsub_registry.specs.declared.registration.Registration.{Registration}
 use Rattle.pubsub_registry.proofs.Entries.{Names}
-use Rattle.stream_ident.proofs.SameValues.{same_stream-equal, same_stream-refl, same_sub-equal}
+use Rattle.stream_ident.proofs.SameValues.{same_stream-equal, same_stream-refl}
 use Rattle.pubsub_registry.proofs.RuleLemmas.{on}
-
--- ---- names that are there
-
-abbrev pub has : SubName → Names → Bool
-has s names = is_some (value_at same_sub s names)
-
-has-cons : (s : SubName) (entry : SubName × Registration) (names : Names) → has s (entry ∷ names) ≡ same_sub s entry.0 || has s names
-has-cons s entry names = by (same_sub s entry.0)
-  where
-    by : (same : Bool) → is_some (if same then Some entry.1 else value_at same_sub s names) ≡ same || has s names
-    by true = refl
-    by false = refl
-
-has-append : (s : SubName) (xs ys : Names) → has s (xs ++ ys) ≡ has s xs || has s ys
-has-append s [] ys = refl
-has-append s (x ∷ xs) ys =
-    has-cons s x (xs ++ ys) ∙ ap (λ rest. same_sub s x.0 || rest) (has-append s xs ys)
-    ∙ sym (or_assoc (same_sub s x.0) (has s xs) (has s ys)) ∙ ap (λ first. first || has s ys) (sym (has-cons s x xs))
-
--- a name is there after one is added where it was, or is that one
-has-added : (s : SubName) (names : Names) (entry : SubName × Registration) → has s (added names entry) ≡ has s names || same_sub s entry.0
-has-added s names entry = by (has entry.0 names) refl
-  where
-    same-there : has entry.0 names ≡ true → (same : Bool) → same_sub s entry.0 ≡ same → has s names ≡ has s names || same
-    same-there there true same =
-        let is : has s names ≡ true = ap (λ name. has name names) (same_sub-equal s entry.0 same) ∙ there in
-        is ∙ sym (ap (λ b. b || true) is)
-    same-there there false apart = sym (or-false (has s names))
-
-    by : (there : Bool) → has entry.0 names ≡ there → has s (if there then names else names ++ entry ∷ []) ≡ has s names || same_sub s entry.0
-    by true there = same-there there (same_sub s entry.0) refl
-    by false absent =
-        has-append s names (entry ∷ []) ∙ ap (λ last. has s names || last) (has-cons s entry [] ∙ or-false (same_sub s entry.0))
-
--- a name is there after these are added where it was, or is one of them
-pub has-fold : (s : SubName) (names entries : Names) → has s (fold added names entries) ≡ has s names || has s entries
-has-fold s names [] = sym (or-false (has s names))
-has-fold s names (entry ∷ entries) =
-    has-fold s (added names entry) entries ∙ ap (λ first. first || has s entries) (has-added s names entry)
-    ∙ or_assoc (has s names) (same_sub s entry.0) (has s entries) ∙ ap (λ rest. has s names || rest) (sym (has-cons s entry entries))
-
--- ---- names that rules make
 
 abbrev pub entry : Event → Rule → SubName × Registration
 entry event rule = (Implicit rule.kind event.stream, registered event.stream (record { kind = rule.kind; key = event.stream.key }) (batch_token rule.from))

@@ -5,13 +5,14 @@ use Rattle.stream_ident.specs.declared.event.Event.{Event}
 use Rattle.stream_ident.specs.declared.ident.StreamId.{StreamId}
 use Rattle.stream_ident.specs.declared.ident.SubName.TheVariants as name
 use Rattle.stream_ident.specs.SubName.{same_sub}
+use Rattle.stream_ident.proofs.NewNames.{has, has-fold}
 use Rattle.pubsub_registry.specs.Implying.{all_implied, names_with}
 use Rattle.pubsub_registry.specs.Index.{streams_of}
 use Rattle.pubsub_registry.specs.Registry.{PlainRegistry}
 use Rattle.pubsub_registry.specs.Sound.{IsSound}
 use Rattle.pubsub_registry.specs.declared.registration.Registration.{Registration}
 use Rattle.pubsub_registry.proofs.Entries.{Names, streams_of-found, streams_of-none}
-use Rattle.pubsub_registry.proofs.ImpliedNames.{has, has-explicit, has-fold}
+use Rattle.pubsub_registry.proofs.ImpliedNames.{has-explicit}
 
 module _ (r : PlainRegistry) (sound : IsSound r) (events : List Event) where
   explicit-there : (number : ℕ) → has (name.Explicit number) r.names ≡ true → number ≤ r.explicit

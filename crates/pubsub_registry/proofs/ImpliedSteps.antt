@@ -1,8 +1,5 @@
 -- What one more rule, or one more event, adds to the names.
 use Rattle.std.proofs.Common.{◌≡◌, ◌∙◌, ℕ, ◌+◌, ◌<◌, ◌&&◌, ◌||◌, not, Bool, true, false, List, [], ◌∷◌, ◌++◌, length, take, get_or, fold, if◌then◌else◌, refl, sym, ap, arith, length-append}
-use Rattle.std.proofs.lemmas.List.{append-nil, take_more}
-use Rattle.std.proofs.lemmas.List.Concat.{flat_map-append}
-use Rattle.std.proofs.lemmas.List.Sums.{fold-append}
 use Rattle.std.specs.List.{flat_map, list_any}
 use Rattle.stream_ident.specs.declared.event.Event.{Event}
 use Rattle.stream_ident.specs.declared.ident.SubName.TheVariants.{Implicit}
@@ -10,22 +7,12 @@ use Rattle.stream_ident.specs.declared.rule.Rule.{Rule}
 use Rattle.stream_ident.specs.Event.{batch_token}
 use Rattle.stream_ident.specs.Name.{same_stream}
 use Rattle.stream_ident.specs.Token.{token_lt}
-use Rattle.pubsub_registry.specs.Implying.{added, implied, made, makes_any, names_with}
+use Rattle.stream_ident.specs.Implying.{added}
+use Rattle.stream_ident.proofs.NewNames.{added-last, added-more, has}
+use Rattle.pubsub_registry.specs.Implying.{implied, made, makes_any, names_with}
 use Rattle.pubsub_registry.proofs.Entries.{Names}
-use Rattle.pubsub_registry.proofs.ImpliedNames.{entry, has, has-so_far, implied-on}
+use Rattle.pubsub_registry.proofs.ImpliedNames.{entry, has-so_far, implied-on}
 use Rattle.pubsub_registry.proofs.RuleLemmas.{on}
-
-added-last : {X : Type 0} (make : X → Names) (names : Names) (xs : List X) (x : X) → fold added names (flat_map make (xs ++ x ∷ [])) ≡ fold added (fold added names (flat_map make xs)) (make x)
-added-last make names xs x =
-    ap (fold added names) (flat_map-append make xs (x ∷ []) ∙ ap (λ last. flat_map make xs ++ last) (append-nil (make x)))
-    ∙ fold-append added names (flat_map make xs) (make x)
-
--- one more item of a list that is walked through
-pub added-more : {X : Type 0} (make : X → Names) (names : Names) (xs : List X) (i : ℕ) (x : X) → i < length xs → x ≡ get_or xs i x
-    → fold added names (flat_map make (take (i + 1) xs)) ≡ fold added (fold added names (flat_map make (take i xs))) (make x)
-added-more make names xs i x within is =
-    ap (λ front. fold added names (flat_map make front)) (take_more xs i x within ∙ ap (λ last. take i xs ++ last ∷ []) (sym is))
-    ∙ added-last make names (take i xs) x
 
 -- one more event
 pub event-last : (rules : List Rule) (names : Names) (events : List Event) (event : Event)

@@ -13,11 +13,11 @@ use Rattle.stream_ident.specs.declared.ident.StreamId.{StreamId}
 use Rattle.stream_ident.specs.declared.ident.SubName.{SubName}
 use Rattle.pubsub_registry.specs.Ascending.{IsPlaceOf}
 use Rattle.pubsub_registry.specs.Index.{streams_of, IsIndexed, IsRowOf}
-use Rattle.pubsub_registry.specs.Registry.{shut}
+use Rattle.pubsub_registry.specs.Registry.{closed_registration}
 use Rattle.pubsub_registry.specs.declared.registration.Registration.{Registration}
 use Rattle.pubsub_registry.proofs.Ascending.{ascending-insert, ascending-filter}
 use Rattle.pubsub_registry.proofs.Elements.{Contains-insert_here, Contains-insert, Contains-insert_cases, Contains-filter, Contains-filter_parts}
-use Rattle.pubsub_registry.proofs.Entries.{streams_of-none, streams_of-shut}
+use Rattle.pubsub_registry.proofs.Entries.{streams_of-none, streams_of-closed}
 use Rattle.stream_ident.proofs.SameValues.{same_stream-equal, same_stream-refl, same_sub-equal, same_sub-refl}
 
 abbrev Streams : Type 0
@@ -100,10 +100,10 @@ pub indexed-same : (names : List (SubName × Registration)) (old new : StreamId 
 indexed-same names old new indexed same stream = subst (IsRowOf (streams_of names) stream) (sym (same stream)) (indexed stream)
 
 -- closing changes no row
-pub indexed-shut : (names entries : List (SubName × Registration)) (s : SubName) (old new : StreamId → List SubName) → entries ≡ changed_value same_sub s shut names → IsIndexed names old
+pub indexed-closed : (names entries : List (SubName × Registration)) (s : SubName) (old new : StreamId → List SubName) → entries ≡ changed_value same_sub s closed_registration names → IsIndexed names old
     → ((other : StreamId) → new other ≡ old other) → IsIndexed entries new
-indexed-shut names entries s old new is indexed same stream =
-    subst (λ streams. IsRowOf streams stream (new stream)) (sym (ap streams_of is ∙ streams_of-shut names s)) (indexed-same names old new indexed same stream)
+indexed-closed names entries s old new is indexed same stream =
+    subst (λ streams. IsRowOf streams stream (new stream)) (sym (ap streams_of is ∙ streams_of-closed names s)) (indexed-same names old new indexed same stream)
 
 module _ (names : List (SubName × Registration)) (old new : StreamId → List SubName) (s : SubName) (registration : Registration) where
   pub indexed-push : (at : ℕ) → IsIndexed names old → IsPlaceOf (old registration.stream) s at

@@ -13,10 +13,10 @@ use Rattle.stream_ident.specs.declared.ident.StreamId.{StreamId}
 use Rattle.stream_ident.specs.declared.ident.SubName.{SubName}
 use Rattle.stream_ident.specs.declared.ident.SubName.TheVariants as name
 use Rattle.pubsub_registry.specs.Index.{streams_of}
-use Rattle.pubsub_registry.specs.Registry.{PlainRegistry, is_full, shut}
+use Rattle.pubsub_registry.specs.Registry.{PlainRegistry, is_full, closed_registration}
 use Rattle.pubsub_registry.specs.Sound.{IsSound}
 use Rattle.pubsub_registry.specs.declared.registration.Registration.{Registration}
-use Rattle.pubsub_registry.proofs.Entries.{Names, streams_of-found, streams_of-shut, length-shut}
+use Rattle.pubsub_registry.proofs.Entries.{Names, streams_of-found, streams_of-closed, length-closed}
 use Rattle.pubsub_registry.proofs.IndexLemmas.{Same, name-of, streams_of-push}
 
 -- each explicit number is at most this one
@@ -58,13 +58,13 @@ module _ (r : PlainRegistry) (sound : IsSound r) where
       }
 
   -- one is closed
-  pub sound-shut : (names : Names) (s : SubName) → names ≡ changed_value same_sub s shut r.names → IsSound (record r { names = names })
-  sound-shut names s is = record {
-    names_fit = let same = ap length is ∙ length-shut r.names s in let fits = sound.names_fit in omega (arith, same);
+  pub sound-closed : (names : Names) (s : SubName) → names ≡ changed_value same_sub s closed_registration r.names → IsSound (record r { names = names })
+  sound-closed names s is = record {
+    names_fit = let same = ap length is ∙ length-closed r.names s in let fits = sound.names_fit in omega (arith, same);
     few_names = sound.few_names;
     rules_fit = sound.rules_fit;
     few_rules = sound.few_rules;
-    numbered = λ number stream there. sound.numbered number stream (subst (λ streams. Contains streams (name.Explicit number, stream)) (ap streams_of is ∙ streams_of-shut r.names s) there);
+    numbered = λ number stream there. sound.numbered number stream (subst (λ streams. Contains streams (name.Explicit number, stream)) (ap streams_of is ∙ streams_of-closed r.names s) there);
   }
 
   -- the last ones are taken back

@@ -1,16 +1,14 @@
 -- The subscriptions that the rules make of events.
-use Rattle.std.specs.Prelude.{ℕ, Bool, ◌&&◌, not, List, [], ◌∷◌, ◌++◌, length, filter, fold, is_some, nat_lt, if◌then◌else◌}
-use Rattle.std.specs.List.{flat_map, list_any, sum_by}
+use Rattle.std.specs.Prelude.{ℕ, Bool, ◌&&◌, not, List, [], ◌∷◌, length, filter, nat_lt, if◌then◌else◌}
+use Rattle.std.specs.List.{list_any, sum_by}
 use Rattle.stream_ident.specs.declared.event.Event.{Event}
 use Rattle.stream_ident.specs.declared.ident.SubName.{SubName}
 use Rattle.stream_ident.specs.declared.ident.SubName.TheVariants as name
 use Rattle.stream_ident.specs.declared.rule.Rule.{Rule}
 use Rattle.stream_ident.specs.Event.{batch_token}
-use Rattle.stream_ident.specs.Implying.{implied_by}
 use Rattle.stream_ident.specs.Name.{same_name}
-use Rattle.stream_ident.specs.SubName.{same_sub}
 use Rattle.stream_ident.specs.Token.{token_lt}
-use Rattle.stream_ident.specs.Words.{with_new}
+use Rattle.stream_ident.specs.Implying.{implied_by, implied_by_all, with_implied}
 use Rattle.pubsub_registry.specs.declared.registration.Registration.{Registration}
 use Rattle.pubsub_registry.specs.declared.told.Implied.{Implied}
 use Rattle.pubsub_registry.specs.declared.told.Implied.TheVariants as implied_told
@@ -33,15 +31,11 @@ makes_any kind event rules = list_any (λ (rule : Rule). same_name kind rule.kin
 
 -- what the rules make of the events, in order, repeats included
 abbrev pub all_implied : List Rule → List Event → List (SubName × Registration)
-all_implied rules events = flat_map (λ event. flat_map (implied event) rules) events
-
--- the name and its registration, unless the name is there
-abbrev pub added : List (SubName × Registration) → SubName × Registration → List (SubName × Registration)
-added names entry = with_new same_sub names entry
+all_implied rules events = implied_by_all registered rules events
 
 -- the names, with those that the rules make of these events
 abbrev pub names_with : List Rule → List (SubName × Registration) → List Event → List (SubName × Registration)
-names_with rules names events = fold added names (all_implied rules events)
+names_with rules names events = with_implied registered rules names events
 
 -- how many rules there are on the namespaces of the events, counted for each event
 abbrev pub rule_count : List Rule → List Event → ℕ

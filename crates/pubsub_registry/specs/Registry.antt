@@ -1,7 +1,6 @@
 -- The names of subscriptions and the rules of a partition, as plain data, and what each call does to them.
-use Rattle.std.specs.Prelude.{◌≡◌, ℕ, suc, Bool, true, false, ◌&&◌, List, [], ◌∷◌, ◌++◌, length, take, filter, Contains, Option, Some, None, Result, Ok, Err, nat_le, if◌then◌else◌}
+use Rattle.std.specs.Prelude.{◌≡◌, ℕ, suc, Bool, true, false, ◌&&◌, List, [], ◌∷◌, ◌++◌, length, take, filter, Contains, Option, Some, None, nat_le, if◌then◌else◌}
 use Rattle.std.specs.List.{list_any}
-use Rattle.std.specs.declared.alloc.AllocError.{AllocError}
 use Rattle.stream_ident.specs.declared.ident.GrainId.{GrainId}
 use Rattle.stream_ident.specs.declared.ident.StreamId.{StreamId}
 use Rattle.stream_ident.specs.declared.ident.SubName.{SubName}
@@ -65,14 +64,14 @@ add_implied r kind stream start =
       implied_told.Implied,
     )
 
-abbrev pub shut : Registration → Registration
-shut registration = record registration { is_open = false }
+abbrev pub closed_registration : Registration → Registration
+closed_registration registration = record registration { is_open = false }
 
 abbrev pub close_found : PlainRegistry → SubName → Option Registration → PlainRegistry × Closing
 close_found r s None = (r, close_told.NoSuch)
 close_found r (name.Implicit kind stream) (Some registration) = (r, close_told.Implicit)
 close_found r (name.Explicit number) (Some registration) =
-    if registration.is_open then (record r { names = changed_value same_sub (name.Explicit number) shut r.names }, close_told.Done)
+    if registration.is_open then (record r { names = changed_value same_sub (name.Explicit number) closed_registration r.names }, close_told.Done)
     else (r, close_told.Closed)
 
 abbrev pub close : PlainRegistry → SubName → PlainRegistry × Closing

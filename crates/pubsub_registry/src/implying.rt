@@ -7,7 +7,8 @@ ghost use Rattle.stream_ident.specs.SubName.{same_sub};
 ghost use Rattle.stream_ident.specs.Token.{token_lt};
 ghost use Rattle.stream_ident.specs.Words.{value_at, Performs};
 ghost use Rattle.stream_ident.specs.declared.event.Event.{Event};
-ghost use Rattle.pubsub_registry.specs.Implying.{added, imply, made, makes_any, names_with, rule_count};
+ghost use Rattle.stream_ident.specs.Implying.{added};
+ghost use Rattle.pubsub_registry.specs.Implying.{imply, made, makes_any, names_with, rule_count};
 
 use crate::registry::{Registry, implied_grain, opened};
 use crate::rules::Rules;
@@ -29,7 +30,8 @@ impl Registry {
     /// the earlier events.
     ///
     /// # Errors
-    /// Memory, and then nothing has changed. It comes only where the subscriptions would all be made.
+    /// The call failed to allocate, and nothing has changed. That can happen only where the subscriptions
+    /// would all be made.
     pub fn imply(&mut self, alloc: Global, events: &[Event]) -> Result<Implied, AllocError>
         requires few { length events.now ≤ 256 }
         ensures performs { Performs self.old self.new result (imply self.old events.now) }
@@ -140,7 +142,7 @@ fn makes(rules: &[Rule], event: &Event, kind: &Name) -> bool
 /// Adds what the rules make of these events.
 ///
 /// # Errors
-/// Memory, and then nothing has changed.
+/// The call failed to allocate, and nothing has changed.
 fn add_all(
     subscriptions: &mut Subscriptions,
     alloc: Global,
@@ -194,7 +196,7 @@ fn push_for_event(
 /// Adds what a rule on its namespace makes of an event, unless the name is there.
 ///
 /// # Errors
-/// Memory, and then nothing has changed.
+/// The call failed to allocate, and nothing has changed.
 fn push_by_rule(
     subscriptions: &mut Subscriptions,
     alloc: Global,

@@ -62,7 +62,8 @@ impl Registry {
     /// The cost is a look-up, and a walk over the names of the stream's implicit subscriptions.
     ///
     /// # Errors
-    /// Memory, and then nothing has changed. It comes only where a subscription would be added.
+    /// The call failed to allocate, and nothing has changed. That can happen only where a subscription would
+    /// be added.
     pub fn add(
         &mut self,
         alloc: Global,
@@ -91,7 +92,8 @@ impl Registry {
     /// The cost is a look-up, and a walk over the names of the stream's implicit subscriptions.
     ///
     /// # Errors
-    /// Memory, and then nothing has changed. It comes only where a subscription would be added.
+    /// The call failed to allocate, and nothing has changed. That can happen only where a subscription would
+    /// be added.
     pub fn add_implied(
         &mut self,
         alloc: Global,
@@ -123,7 +125,7 @@ impl Registry {
         match sub {
             SubName::Implicit { .. } => Closing::Implicit,
             SubName::Explicit(_) if registration.is_open => {
-                self.subscriptions.shut(sub);
+                self.subscriptions.close(sub);
                 Closing::Done
             }
             SubName::Explicit(_) => Closing::Closed,
@@ -142,7 +144,8 @@ impl Registry {
     /// rules.
     ///
     /// # Errors
-    /// Memory, and then nothing has changed. It comes only where the rule would be added.
+    /// The call failed to allocate, and nothing has changed. That can happen only where the rule would be
+    /// added.
     pub fn add_rule(
         &mut self,
         alloc: Global,

@@ -19,7 +19,7 @@ pub(crate) fn row<'a, K: Eq + Hash, V>(rows: &'a IndexMap<K, Vec<V>>, key: &K) -
 /// Puts a value into the row of a key, at this place in it.
 ///
 /// # Errors
-/// Memory, and then each row is as it was.
+/// The call failed to allocate, and each row is as it was.
 pub(crate) fn put<K: Eq + Hash + Drop, V: Drop>(
     rows: &mut IndexMap<K, Vec<V>>,
     alloc: Global,

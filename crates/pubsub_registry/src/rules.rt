@@ -69,7 +69,7 @@ impl Rules {
     /// Adds a rule behind the others.
     ///
     /// # Errors
-    /// Memory, and then nothing has changed.
+    /// The call failed to allocate, and nothing has changed.
     pub(crate) fn push(&mut self, alloc: Global, rule: Rule) -> Result<(), AllocError>
         ensures ok { OnOk result (self.new ≡ self.old ++ rule ∷ []) }
         ensures err { OnErr result (self.new ≡ self.old) }

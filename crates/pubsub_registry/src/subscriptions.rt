@@ -41,7 +41,7 @@ impl Model for Subscriptions {
 
 impl Subscriptions {
     ghost use Rattle.pubsub_registry.specs.Index.{AreUnique, IsRowOf, streams_of};
-    ghost use Rattle.pubsub_registry.specs.Registry.{shut};
+    ghost use Rattle.pubsub_registry.specs.Registry.{closed_registration};
 
     /// No subscriptions. It takes no memory.
     pub(crate) fn new(alloc: Global) -> Subscriptions
@@ -95,7 +95,7 @@ impl Subscriptions {
     /// Adds a subscription under a new name, behind the others.
     ///
     /// # Errors
-    /// Memory, and then nothing has changed.
+    /// The call failed to allocate, and nothing has changed.
     pub(crate) fn push(
         &mut self,
         alloc: Global,
@@ -114,8 +114,8 @@ impl Subscriptions {
     }
 
     /// Closes the subscription of a name, where there is one.
-    pub(crate) fn shut(&mut self, sub: &SubName)
-        ensures { self.new ≡ changed_value same_sub sub.now shut self.old }
+    pub(crate) fn close(&mut self, sub: &SubName)
+        ensures { self.new ≡ changed_value same_sub sub.now closed_registration self.old }
     {
         if let Some(registration) = self.names.get_mut(sub) {
             registration.is_open = false;

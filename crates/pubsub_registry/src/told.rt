@@ -1,6 +1,6 @@
 //! The replies of a registry. Each refusal leaves the registry as it was.
 
-/// What a grain that subscribes is told.
+/// The reply to a grain that subscribes.
 #[derive(Clone, Copy, Debug, PartialEq, Eq)]
 pub enum Added {
     /// The subscription is there, and open.
@@ -21,7 +21,7 @@ pub enum Implied {
     TooMany,
 }
 
-/// What a grain that unsubscribes is told.
+/// The reply to a grain that unsubscribes.
 #[derive(Clone, Copy, Debug, PartialEq, Eq)]
 pub enum Closing {
     /// The subscription is closed.

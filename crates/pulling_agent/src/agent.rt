@@ -67,7 +67,7 @@ impl Agent {
     /// begins at position 0.
     ///
     /// # Errors
-    /// No memory for the cache.
+    /// The call failed to allocate the cache.
     pub fn new(alloc: Global, blocks: usize) -> Result<Agent, AllocError>
         requires some { 1 ≤ blocks }
         requires few { blocks ≤ 64 }

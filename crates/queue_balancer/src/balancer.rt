@@ -18,7 +18,8 @@ use std::alloc::Global;
 /// - where the old silos meet the first two already, nothing moves.
 ///
 /// # Errors
-/// `NoSilo` where no silo lives, and only there: it comes without memory. `Memory` where none is left.
+/// `NoSilo` where no silo lives, and only there; it takes no memory. `Memory` where the call failed to
+/// allocate.
 pub fn rebalance(alloc: Global, old: &[u8], live: &[u8]) -> Result<Assignment, RebalanceError>
     requires { HasNoDoubles live.now }
     ensures no_silo { (result ≡ Err RebalanceError.NoSilo) ↔ (live.now ≡ []) }

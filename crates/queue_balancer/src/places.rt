@@ -35,7 +35,7 @@ fn order(alloc: Global, old: &[u8], live: &[u8], least: usize) -> Result<Vec<u8>
 /// of all those that had more before.
 ///
 /// # Errors
-/// Memory.
+/// The call failed to allocate.
 pub fn places(alloc: Global, old: &[u8], live: &[u8]) -> Result<Vec<u8>, AllocError>
     requires some { 0 < length live.now }
     requires no_doubles { HasNoDoubles live.now }

@@ -36,7 +36,7 @@ impl QueueCache {
     /// An empty cache of 1 to 64 blocks, whose first event will be at this position.
     ///
     /// # Errors
-    /// No memory for the blocks: some 26 KB for each.
+    /// The call failed to allocate the blocks, which take some 26 KB each.
     pub fn new(alloc: Global, blocks: usize, at: usize) -> Result<QueueCache, AllocError>
         requires some { 1 ≤ blocks }
         requires few { blocks ≤ 64 }

@@ -2,16 +2,14 @@
 use Rattle.std.proofs.Common.{◌≡◌, ◌∙◌, ap, sym, refl, subst, ℕ, zero, suc, ◌+◌, ◌-◌, ◌<◌, ◌≤◌, ◌⊎◌, inl, inr, Bool, true, false, ◌&&◌, List, [], ◌∷◌, length, get_or, drop, map, filter, Option, Some, None, arith, length-drop}
 use Rattle.std.proofs.lemmas.Bool.{and_from, and_left, and_right, both_ways, cases_lt, cases_order, cond_both, cond-true, cond-false}
 use Rattle.std.proofs.lemmas.List.{get_or-drop}
+use Rattle.std.proofs.lemmas.Option.{same_Some}
 use Rattle.std.specs.Option.{option_map}
 use Rattle.std.specs.Prelude.{slice_index, if◌then◌else◌}
-use Rattle.stream_ident.specs.Words.{above, least, lesser, next_after, or_else}
 use Rattle.least_tree.specs.Keys.{first_at_most, is_at_most}
-use Rattle.ranking.specs.Ranked.{entry_at, is_past, AreKeys, AreRanked, IsFirstPast}
-use Rattle.ranking.proofs.FirstLemmas.{first_at-None, first_at-Some}
+use Rattle.stream_ident.specs.Words.{above, least, lesser, next_after, or_else, is_above}
+use Rattle.stream_ident.proofs.FirstLemmas.{first_at-None, first_at-Some}
+use Rattle.ranking.specs.Ranked.{entry_at, AreKeys, AreRanked, IsFirstPast}
 use Rattle.stream_ident.proofs.Order.{IsOrder}
-
-some_equal : {A : Type 0} (a b : A) → Some a ≡ Some b → a ≡ b
-some_equal a b same = cc
 
 -- the first key from a rank on that is at most the bound
 pub record IsFirstKey (from bound rank : ℕ) (keys : List (Option ℕ)) : Type 0 where
@@ -59,7 +57,7 @@ module _ {E N : Type 0} (name : E → N) (lt same : N → N → Bool) (o : IsOrd
   least_not_below passes x d (e ∷ es) all =
       by_first (λ xs. (b : N) → least lt xs ≡ Some b → lt b x ≡ false) passes e es
       (λ is b found.
-      subst (λ z. lt z x ≡ false) (some_equal (lesser lt (name e) (least lt (names_of passes es))) b found)
+      subst (λ z. lt z x ≡ false) (same_Some (lesser lt (name e) (least lt (names_of passes es))) b found)
       (lesser_not_below x (name e) (least lt (names_of passes es)) (all 0 (omega arith) is) (least_not_below passes x d es (λ j within passed. all (suc j) (omega arith) passed))))
       (λ isnt. least_not_below passes x d es (λ j within passed. all (suc j) (omega arith) passed))
 
@@ -103,7 +101,7 @@ module _ {E N : Type 0} (name : E → N) (lt same : N → N → Bool) (o : IsOrd
       (λ _. least_none passes d es (λ j within. all (suc j) (omega arith)))
 
   -- the names past one, of those that pass
-  above_where : (passes : E → Bool) (after : Option N) (es : List E) → above lt after (names_of passes es) ≡ names_of (λ e. passes e && is_past lt after (name e)) es
+  above_where : (passes : E → Bool) (after : Option N) (es : List E) → above lt after (names_of passes es) ≡ names_of (λ e. passes e && is_above lt after (name e)) es
   above_where passes None [] = refl
   above_where passes (Some a) [] = refl
   above_where passes None (e ∷ es) = by (passes e) (above_where passes None es)
@@ -161,22 +159,22 @@ module _ {E N : Type 0} (name : E → N) (lt same : N → N → Bool) (o : IsOrd
           → least lt (above lt after (names_of passes entries)) ≡ option_map name_under (option_map (slice_index order) found)
       least_past after from first None is =
           ap (least lt) (above_where passes after entries)
-          ∙ none_by_rank (λ e. passes e && is_past lt after (name e)) (λ i within. elim (cases_lt i from) [
-            | inl before ↦ and_right (passes (entry_at entries order d i)) (is_past lt after (name (entry_at entries order d i))) (first.before d i before)
+          ∙ none_by_rank (λ e. passes e && is_above lt after (name e)) (λ i within. elim (cases_lt i from) [
+            | inl before ↦ and_right (passes (entry_at entries order d i)) (is_above lt after (name (entry_at entries order d i))) (first.before d i before)
             | inr reached ↦
-                and_left (passes (entry_at entries order d i)) (is_past lt after (name (entry_at entries order d i)))
+                and_left (passes (entry_at entries order d i)) (is_above lt after (name (entry_at entries order d i)))
                 (passes_at i within ∙ first_at_most-missed from bound keys is i reached (omega (arith, keyed.long)))
           ])
       least_past after from first (Some rank) is =
           let met = first_at_most-met from bound rank keys is in
           let below : rank < length order = omega (arith, met.within, keyed.long) in
           ap (least lt) (above_where passes after entries)
-          ∙ least_by_rank (λ e. passes e && is_past lt after (name e)) rank below
-          (and_from (passes (entry_at entries order d rank)) (is_past lt after (name (entry_at entries order d rank))) (passes_at rank below ∙ met.here) (first.past d rank met.reached below))
+          ∙ least_by_rank (λ e. passes e && is_above lt after (name e)) rank below
+          (and_from (passes (entry_at entries order d rank)) (is_above lt after (name (entry_at entries order d rank))) (passes_at rank below ∙ met.here) (first.past d rank met.reached below))
           (λ i low. elim (cases_lt i from) [
-            | inl before ↦ and_right (passes (entry_at entries order d i)) (is_past lt after (name (entry_at entries order d i))) (first.before d i before)
+            | inl before ↦ and_right (passes (entry_at entries order d i)) (is_above lt after (name (entry_at entries order d i))) (first.before d i before)
             | inr reached ↦
-                and_left (passes (entry_at entries order d i)) (is_past lt after (name (entry_at entries order d i))) (passes_at i (omega arith) ∙ met.before i reached low)
+                and_left (passes (entry_at entries order d i)) (is_above lt after (name (entry_at entries order d i))) (passes_at i (omega arith) ∙ met.before i reached low)
           ])
 
       all_past : IsFirstPast name lt None entries order 0

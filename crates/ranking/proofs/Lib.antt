@@ -1,4 +1,3 @@
 pub mod EntryLemmas
-pub mod FirstLemmas
 pub mod LeastLemmas
 pub mod RankLemmas

@@ -1,6 +1,7 @@
 -- Entries whose numbers are ranked by name, and their keys by rank.
 use Rattle.std.specs.Prelude.{◌≡◌, ℕ, ◌<◌, ◌≤◌, Bool, true, false, not, List, length, slice_index, get_or, set, Option, Some, None}
 use Rattle.std.specs.List.{slice_get}
+use Rattle.stream_ident.specs.Words.{is_above}
 use Rattle.ranking.specs.Ranking.{IsRanking}
 
 -- the entry at a rank
@@ -25,16 +26,11 @@ pub record IsKeySet (order : List ℕ) (number : ℕ) (key : Option ℕ) (old ne
   pub at : slice_index order rank ≡ number
   pub is : new ≡ set old rank key
 
--- greater than the given one, where one is given
-abbrev pub is_past : {N : Type 0} → (N → N → Bool) → Option N → N → Bool
-is_past lt None x = true
-is_past lt (Some a) x = lt a x
-
 -- the first rank whose name is greater than the given one, or the first of all
 pub record IsFirstPast {E N : Type 0} (name : E → N) (lt : N → N → Bool) (after : Option N) (entries : List E) (order : List ℕ) (rank : ℕ) : Type 0 where
   pub within : rank ≤ length order
-  pub before : (d : E) (i : ℕ) → i < rank → is_past lt after (name (entry_at entries order d i)) ≡ false
-  pub past : (d : E) (i : ℕ) → rank ≤ i → i < length order → is_past lt after (name (entry_at entries order d i)) ≡ true
+  pub before : (d : E) (i : ℕ) → i < rank → is_above lt after (name (entry_at entries order d i)) ≡ false
+  pub past : (d : E) (i : ℕ) → rank ≤ i → i < length order → is_above lt after (name (entry_at entries order d i)) ≡ true
 
 abbrev pub some_up_to : {E N : Type 0} → (E → N) → (N → N → Bool) → N → Option E → Bool
 some_up_to name lt a None = false

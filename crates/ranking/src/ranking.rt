@@ -56,7 +56,7 @@ impl Ranking {
     /// the numbers behind it; where a row has to grow, once as much as all.
     ///
     /// # Errors
-    /// Memory. All is then as before.
+    /// The call failed to allocate. Everything is then as before.
     pub fn insert(&mut self, rank: usize) -> Result<(), AllocError>
         requires { rank ≤ length self.old }
         ensures numbers { self.new ≡ (if is_ok result then insert self.old rank (length self.old) else self.old) }

@@ -2,17 +2,18 @@
 use Rattle.std.proofs.Common.{◌≡◌, ◌∙◌, ℕ, ◌+◌, ◌<◌, ◌≤◌, inl, inr, Bool, true, false, ◌&&◌, ◌||◌, List, length, get_or, map, Option, Some, None, IfSome, refl, sym, ap, arith}
 use Rattle.std.proofs.lemmas.Bool.{cases_lt, leb-true, leb-false, le-leb, lt-leb, lt-ltb, le-ltb, eq-eqb, ne_eqb}
 use Rattle.std.proofs.lemmas.List.{get_or-map, length-map}
-use Rattle.std.specs.Option.{option_map}
+use Rattle.std.proofs.lemmas.Option.{same_Some}
+use Rattle.std.specs.Option.{option_map, is_some}
 use Rattle.std.specs.Prelude.{slice_index, IfNone}
 use Rattle.stream_ident.specs.declared.ident.SubName.{SubName}
 use Rattle.stream_ident.specs.declared.ident.SubName.TheVariants.{Explicit}
 use Rattle.stream_ident.specs.SubName.{same_sub, sub_lt}
-use Rattle.stream_ident.specs.Words.{or_else}
 use Rattle.least_tree.specs.Keys.{first_at_most, is_at_most, least_key, least_place, place_of_least}
 use Rattle.ranking.specs.Ranked.{IsFirstPast}
 use Rattle.ranking.proofs.LeastLemmas.{first_at_most-met, first_at_most-missed, least_by_rank, next_by_rank, IsFirstKey}
+use Rattle.stream_ident.specs.Words.{or_else, has_number}
 use Rattle.resume_tree.specs.declared.leaf.Leaf.{Leaf}
-use Rattle.resume_tree.specs.Leaves.{due_after, has_resume, is_due, is_open, least_resume, resumes_below, slowest, slowest_at, IsNameAt}
+use Rattle.resume_tree.specs.Leaves.{due_after, is_due, least_resume, resumes_below, slowest, slowest_at, IsNameAt}
 use Rattle.resume_tree.specs.Ranks.{due_at, due_key, name_of, AreKept}
 use Rattle.resume_tree.proofs.LeastKeys.{least_key-is, least_key-same, IsAt}
 use Rattle.stream_ident.proofs.NameOrders.{sub_order}
@@ -21,21 +22,18 @@ use Rattle.stream_ident.proofs.NameOrders.{sub_order}
 some_leaf : Leaf
 some_leaf = record { name = Explicit 0; resume = None; is_unacknowledged = false }
 
-some_equal : (m n : ℕ) → Some m ≡ Some n → m ≡ n
-some_equal m n same = cc
-
 -- a key that is at most the least is the least
-has_least : (least : ℕ) (key : Option ℕ) → is_at_most least key ≡ true → ((own : ℕ) → key ≡ Some own → least ≤ own) → has_resume least key ≡ true
+has_least : (least : ℕ) (key : Option ℕ) → is_at_most least key ≡ true → ((own : ℕ) → key ≡ Some own → least ≤ own) → has_number least key ≡ true
 has_least least None is lower = is
 has_least least (Some own) is lower = eq-eqb own least (let same : own ≡ least = omega (arith, leb-true own least is, lower own refl) in same)
 
-hasnt_least : (least : ℕ) (key : Option ℕ) → is_at_most least key ≡ false → has_resume least key ≡ false
+hasnt_least : (least : ℕ) (key : Option ℕ) → is_at_most least key ≡ false → has_number least key ≡ false
 hasnt_least least None isnt = refl
 hasnt_least least (Some own) isnt = ne_eqb own least (λ same. absurd (omega (arith, leb-false own least isnt)))
 
 -- the key of a leaf is at most high exactly where it is due
 pub due_is : (high : ℕ) (resume : Option ℕ) (is_unacknowledged : Bool)
-    → is_at_most high (due_at resume is_unacknowledged) ≡ (is_open resume && (is_unacknowledged || resumes_below high resume))
+    → is_at_most high (due_at resume is_unacknowledged) ≡ (is_some resume && (is_unacknowledged || resumes_below high resume))
 due_is high None is_unacknowledged = refl
 due_is high (Some resume) true = le-leb 0 high (omega arith)
 due_is high (Some resume) false =
@@ -96,12 +94,12 @@ module _ (leaves : List Leaf) (order : List ℕ) (resumes due : List (Option ℕ
       found resume rank same first =
           let below : rank < length order = omega (arith, first.within, are.resumes_are.long) in
           let lower : (own : ℕ) → get_or resumes rank None ≡ Some own → resume ≤ own =
-          λ own is. let low = (least_key-is resumes).lower rank own first.within is in omega (arith, low.le, some_equal resume low.low (sym same ∙ low.is)) in
+          λ own is. let low = (least_key-is resumes).lower rank own first.within is in omega (arith, low.le, same_Some resume low.low (sym same ∙ low.is)) in
           sym (
           slowest_by (Some resume) same
-          ∙ least_by_rank name_of sub_lt same_sub sub_order leaves order are.ranked d (λ leaf. has_resume resume leaf.resume) rank below
-          (ap (has_resume resume) (sym (are.resumes_are.key_at d rank below)) ∙ has_least resume (get_or resumes rank None) first.here lower)
-          (λ i low. ap (has_resume resume) (sym (are.resumes_are.key_at d i (omega arith))) ∙ hasnt_least resume (get_or resumes i None) (first.before i (omega arith) low)))
+          ∙ least_by_rank name_of sub_lt same_sub sub_order leaves order are.ranked d (λ leaf. has_number resume leaf.resume) rank below
+          (ap (has_number resume) (sym (are.resumes_are.key_at d rank below)) ∙ has_least resume (get_or resumes rank None) first.here lower)
+          (λ i low. ap (has_number resume) (sym (are.resumes_are.key_at d i (omega arith))) ∙ hasnt_least resume (get_or resumes i None) (first.before i (omega arith) low)))
 
       at : (resume : ℕ) (place : Option ℕ) → least_key resumes ≡ Some resume → first_at_most 0 resume resumes ≡ place → option_map (λ number. (get_or leaves number d).name) (option_map (slice_index order) place) ≡ slowest leaves
       at resume None same none =

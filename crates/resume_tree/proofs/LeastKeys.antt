@@ -1,6 +1,7 @@
 -- The least of keys.
 use Rattle.std.proofs.Common.{◌≡◌, ℕ, zero, suc, ◌<◌, ◌≤◌, inl, inr, List, [], ◌∷◌, length, get_or, min, Option, Some, None, refl, ap, arith}
 use Rattle.std.proofs.lemmas.Bool.{cases_lt}
+use Rattle.std.proofs.lemmas.Option.{same_Some}
 use Rattle.least_tree.specs.Keys.{lesser_key, least_key}
 
 -- a key at a place
@@ -23,9 +24,6 @@ pub record IsLeast (least : Option ℕ) (keys : List (Option ℕ)) : Type 0 wher
 at_later : (first : Option ℕ) (keys : List (Option ℕ)) (key : ℕ) → IsAt keys key → IsAt (first ∷ keys) key
 at_later first keys key at = record { at = suc at.at; within = omega (arith, at.within); is = at.is }
 
-some_same : (m n : ℕ) → Some m ≡ Some n → m ≡ n
-some_same m n same = cc
-
 least_more : (first least : Option ℕ) (keys : List (Option ℕ)) → IsLeast least keys → IsLeast (lesser_key first least) (first ∷ keys)
 least_more None least keys is = record {
   met = λ key same. at_later None keys key (is.met key same);
@@ -41,11 +39,11 @@ least_more (Some own) None keys is = record {
 }
   where
     lower : (i key : ℕ) → i < length (Some own ∷ keys) → get_or (Some own ∷ keys) i None ≡ Some key → IsAtMost (Some own) key
-    lower zero key within same = record { low = own; is = refl; le = omega (arith, some_same own key same) }
+    lower zero key within same = record { low = own; is = refl; le = omega (arith, same_Some own key same) }
     lower (suc i) key within same = let at = is.lower i key (omega arith) same in let none : None ≡ Some at.low = at.is in absurd (cc)
 least_more (Some own) (Some least) keys is = record {
   met = λ key same.
-      let is_key : min own least ≡ key = some_same (min own least) key same in
+      let is_key : min own least ≡ key = same_Some (min own least) key same in
       elim (cases_lt least own) [
         | inl less ↦ at_later (Some own) keys key (is.met key (ap Some (let same : least ≡ key = omega arith in same)))
         | inr more ↦ record { at = 0; within = omega arith; is = ap Some (let same : own ≡ key = omega arith in same) }
@@ -54,10 +52,10 @@ least_more (Some own) (Some least) keys is = record {
 }
   where
     lower : (i key : ℕ) → i < length (Some own ∷ keys) → get_or (Some own ∷ keys) i None ≡ Some key → IsAtMost (Some (min own least)) key
-    lower zero key within same = record { low = min own least; is = refl; le = omega (arith, some_same own key same) }
+    lower zero key within same = record { low = min own least; is = refl; le = omega (arith, same_Some own key same) }
     lower (suc i) key within same =
         let at = is.lower i key (omega arith) same in
-        record { low = min own least; is = refl; le = omega (arith, at.le, some_same least at.low at.is) }
+        record { low = min own least; is = refl; le = omega (arith, at.le, same_Some least at.low at.is) }
 
 pub least_key-is : (keys : List (Option ℕ)) → IsLeast (least_key keys) keys
 least_key-is [] = record { met = λ key same. absurd (cc); lower = λ i key within same. absurd (omega arith) }
@@ -80,4 +78,4 @@ least_key-same xs ys to from = by (least_key xs) (least_key ys) (least_key-is xs
         let low = is.lower at.at n at.within at.is in
         let at' = to m (is.met m refl) in
         let low' = is'.lower at'.at m at'.within at'.is in
-        ap Some (omega (arith, low.le, low'.le, some_same m low.low low.is, some_same n low'.low low'.is))
+        ap Some (omega (arith, low.le, low'.le, same_Some m low.low low.is, same_Some n low'.low low'.is))

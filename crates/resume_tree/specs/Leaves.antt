@@ -1,28 +1,23 @@
 -- What is kept of each subscription's record to find the slowest one and the next one that is due.
-use Rattle.std.specs.Prelude.{◌≡◌, ℕ, ◌<◌, Bool, true, false, ◌&&◌, ◌||◌, ◌==◌, List, length, map, filter, get_or, Option, Some, None, nat_lt}
+use Rattle.std.specs.Prelude.{◌≡◌, ℕ, ◌<◌, Bool, true, false, ◌&&◌, ◌||◌, List, length, map, filter, get_or, Option, Some, None, nat_lt, is_some}
 use Rattle.stream_ident.specs.declared.ident.SubName.{SubName}
 use Rattle.stream_ident.specs.SubName.{same_sub, sub_lt}
-use Rattle.stream_ident.specs.Words.{least, next_after}
 use Rattle.least_tree.specs.Keys.{least_key}
+use Rattle.stream_ident.specs.Words.{least, next_after, has_number}
 use Rattle.resume_tree.specs.declared.leaf.Leaf.{Leaf}
 
 -- the least resume of the open subscriptions, none where none is open
 abbrev pub least_resume : List Leaf → Option ℕ
 least_resume leaves = least_key (map (λ (leaf : Leaf). leaf.resume) leaves)
 
--- open, with this resume
-abbrev pub has_resume : ℕ → Option ℕ → Bool
-has_resume resume None = false
-has_resume resume (Some own) = own == resume
-
 -- the names of those that pass
 abbrev pub names_where : (Leaf → Bool) → List Leaf → List SubName
 names_where passes leaves = map (λ (leaf : Leaf). leaf.name) (filter passes leaves)
 
--- the least name of those with this resume
+-- the least name of the open ones with this resume
 abbrev pub slowest_at : Option ℕ → List Leaf → Option SubName
 slowest_at None leaves = None
-slowest_at (Some resume) leaves = least sub_lt (names_where (λ leaf. has_resume resume leaf.resume) leaves)
+slowest_at (Some resume) leaves = least sub_lt (names_where (λ leaf. has_number resume leaf.resume) leaves)
 
 -- the least by resume, and of those the least by name; none where none is open
 abbrev pub slowest : List Leaf → Option SubName
@@ -33,14 +28,9 @@ abbrev pub resumes_below : ℕ → Option ℕ → Bool
 resumes_below high None = false
 resumes_below high (Some resume) = nat_lt resume high
 
--- it has a resume
-abbrev pub is_open : Option ℕ → Bool
-is_open None = false
-is_open (Some resume) = true
-
 -- open, and with something to acknowledge or a resume below high
 abbrev pub is_due : ℕ → Leaf → Bool
-is_due high leaf = is_open leaf.resume && (leaf.is_unacknowledged || resumes_below high leaf.resume)
+is_due high leaf = is_some leaf.resume && (leaf.is_unacknowledged || resumes_below high leaf.resume)
 
 -- the least due name after the given one, else the least
 abbrev pub due_after : ℕ → Option SubName → List Leaf → Option SubName

@@ -22,7 +22,7 @@ pub(crate) fn due_at(resume: Option<usize>, is_unacknowledged: bool) -> Option<u
 /// Puts the keys of an open leaf with nothing to acknowledge at a rank.
 ///
 /// # Errors
-/// Memory. Both trees are then as before.
+/// The call failed to allocate. Both trees are then as before.
 pub(crate) fn insert_keys(
     alloc: Global,
     resumes: &mut LeastTree,

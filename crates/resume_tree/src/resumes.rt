@@ -79,7 +79,7 @@ impl Resumes {
     /// once as much as all.
     ///
     /// # Errors
-    /// Memory. All is then as before.
+    /// The call failed to allocate. Everything is then as before.
     pub fn push(&mut self, alloc: Global, name: SubName, resume: usize) -> Result<(), AllocError>
         requires new { IsNew name self.old }
         requires below { resume + 2 < 2 ^ 64 }

@@ -8,6 +8,7 @@ use Rattle.stream_ident.specs.Name.{◌>>=◌}
 use Rattle.stream_ident.specs.Token.{token_text}
 use Rattle.stream_model.specs.declared.op.Op.{Op}
 use Rattle.stream_model.specs.declared.op.Op.TheVariants as op
+use Rattle.stream_ident.specs.Alphabet.{is_printable}
 use Rattle.script_parser.specs.declared.command.Command.{Command}
 use Rattle.script_parser.specs.declared.command.Command.TheVariants.{Step}
 use Rattle.script_parser.specs.declared.command.Command.TheVariants as made
@@ -22,7 +23,7 @@ use Rattle.script_parser.specs.Spelling.{stream_text, grain_text, sub_text}
 use Rattle.script_parser.proofs.LineLemmas.{pieces_of-line}
 use Rattle.script_parser.specs.Forms.{verb_command}
 use Rattle.script_parser.specs.Grammar.{IsWritten, IsSpelled, MayStand, Reads}
-use Rattle.script_parser.specs.Reading.{command_of, is_printable, is_skipped, reading}
+use Rattle.script_parser.specs.Reading.{command_of, is_skipped, reading}
 use Rattle.script_parser.specs.Verbs.{may_stand, not_here}
 use Rattle.script_parser.specs.declared.verb.Verb.TheVariants.{Pub, Unsub, Pull, Deliver, Retry, Ack, Purge, Move, Begin, Commit, Deactivate, Ready, Due, Quiet, Drain, Report, Up, Down}
 use Rattle.script_parser.proofs.VerbLemmas.{verb_word, verb_of-word}

@@ -3,10 +3,8 @@ use Rattle.std.proofs.Common.{◌≡◌, ℕ, suc, ◌<◌, ◌≤◌, Bool, tru
 use Rattle.std.specs.Option.{option_map}
 use Rattle.std.proofs.lemmas.List.{length-map}
 use Rattle.stream_ident.specs.Text.{split_once}
+use Rattle.stream_ident.proofs.SplitLemmas.{Parts}
 use Rattle.script_parser.specs.Lines.{cut_at_feeds, with_first, without_return, lines_of}
-
-abbrev pub Parts : Type 0
-Parts = List ℕ × List ℕ
 
 -- the lines of a script, from its parts at the first line feed
 abbrev pub from_parts : List ℕ → Option Parts → List (List ℕ)

@@ -4,6 +4,7 @@ use Rattle.std.specs.declared.alloc.AllocError.{AllocError}
 use Rattle.std.specs.List.{list_all}
 use Rattle.std.proofs.Common.{sym, ap, ◌∙◌, subst}
 use Rattle.stream_ident.specs.Name.{◌>>=◌}
+use Rattle.stream_ident.specs.Alphabet.{is_printable}
 use Rattle.script_parser.specs.declared.command.Command.{Command}
 use Rattle.script_parser.specs.declared.command.Command.TheVariants as made
 use Rattle.script_parser.specs.declared.command.EachOp.TheVariants as each
@@ -19,7 +20,7 @@ use Rattle.script_parser.specs.Forms.{verb_command, alone, rule_words, sub_words
 use Rattle.script_parser.specs.Grammar.{IsSpelled, MayStand, Reads}
 use Rattle.script_parser.specs.Lexer.{pieces_of}
 use Rattle.script_parser.specs.Pieces.{Piece, Word}
-use Rattle.script_parser.specs.Reading.{command_of, lexed, is_printable, line_command, is_skipped, parsed_of, reading}
+use Rattle.script_parser.specs.Reading.{command_of, lexed, line_command, is_skipped, parsed_of, reading}
 use Rattle.script_parser.specs.Verbs.{may_stand, not_here, verb_in_front}
 use Rattle.script_parser.proofs.AgentFound.{pull_words-found, deliver_words-found, retry_words-found, ack_words-found, purge_words-found, move_words-found}
 use Rattle.script_parser.proofs.FieldLemmas.{bind_ok, guard_ok}

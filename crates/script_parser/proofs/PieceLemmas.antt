@@ -7,6 +7,7 @@ use Rattle.std.proofs.lemmas.Option.{cond_some, none-some}
 use Rattle.std.proofs.lemmas.Bool.{cases_Bool, or_parts, or_cases, eqb-true, ltb-false, and_parts, not-true}
 use Rattle.std.proofs.lemmas.Iterator.Adapters.{option_map_id}
 use Rattle.std.proofs.lemmas.List.{append_assoc, append-nil}
+use Rattle.stream_ident.proofs.WordLemmas.{one-add}
 use Rattle.script_parser.specs.Pieces.{Piece, Word, Text, is_space, is_quote, is_backslash, ends_word, is_special}
 use Rattle.script_parser.specs.Lexer.{Place, Between, InWord, InText, Closed, cut, pieces_of, begins_word, begins_with, escape_at, CutsOne}
 
@@ -18,16 +19,13 @@ stops_at passes (byte ∷ bytes) = passes byte
 abbrev pub ahead : Piece → Option (List Piece) → Option (List Piece)
 ahead piece pieces = option_map (λ more. piece ∷ more) pieces
 
-one_more : (n : ℕ) → 1 + n ≡ suc n
-one_more n = omega arith
-
 -- up to the first byte that passes, or up to the end
 pub stops_at-drop : (passes : ℕ → Bool) (bytes : List ℕ) → stops_at passes (drop (position_or_len passes bytes) bytes) ≡ true
 stops_at-drop passes [] = refl
 stops_at-drop passes (byte ∷ bytes) =
     elim (cases_Bool (passes byte)) [
       | inl h ↦ rw (h, h) refl
-      | inr h ↦ rw (h, one_more) (stops_at-drop passes bytes)
+      | inr h ↦ rw (h, one-add) (stops_at-drop passes bytes)
     ]
 
 -- a byte inside a word
@@ -42,7 +40,7 @@ cut-word word [] = rw (append-nil word) refl
 cut-word word (byte ∷ bytes) =
     elim (cases_Bool (ends_word byte)) [
       | inl h ↦ rw (h, append-nil word) refl
-      | inr h ↦ rw (h, one_more) (cut-in_word word byte bytes h ∙ (cut-word (word ++ byte ∷ []) bytes ∙ ap (λ (w : List ℕ). cut (InWord w) (drop (position_or_len ends_word bytes) bytes)) (append_assoc word (byte ∷ []) (take (position_or_len ends_word bytes) bytes))))
+      | inr h ↦ rw (h, one-add) (cut-in_word word byte bytes h ∙ (cut-word (word ++ byte ∷ []) bytes ∙ ap (λ (w : List ℕ). cut (InWord w) (drop (position_or_len ends_word bytes) bytes)) (append_assoc word (byte ∷ []) (take (position_or_len ends_word bytes) bytes))))
     ]
 
 ahead_again : (piece : Piece) (pieces : Option (List Piece)) → ahead piece pieces ≡ ahead piece (option_map (λ more. more) pieces)
@@ -68,7 +66,7 @@ position_or_len-le passes [] = omega arith
 position_or_len-le passes (byte ∷ bytes) =
     elim (cases_Bool (passes byte)) [
       | inl h ↦ rw h (omega arith)
-      | inr h ↦ rw (h, one_more) (omega (arith, position_or_len-le passes bytes))
+      | inr h ↦ rw (h, one-add) (omega (arith, position_or_len-le passes bytes))
     ]
 
 -- the first place that passes, or the length, as two calls give it
@@ -108,7 +106,7 @@ cut-text text [] = refl
 cut-text text (byte ∷ bytes) =
     elim (cases_Bool (is_special byte)) [
       | inl h ↦ rw (h, append-nil text) refl
-      | inr h ↦ rw (h, one_more) (cut-in_text text byte bytes h ∙ (cut-text (text ++ byte ∷ []) bytes ∙ ap (λ (t : List ℕ). cut (InText t) (drop (position_or_len is_special bytes) bytes)) (append_assoc text (byte ∷ []) (take (position_or_len is_special bytes) bytes))))
+      | inr h ↦ rw (h, one-add) (cut-in_text text byte bytes h ∙ (cut-text (text ++ byte ∷ []) bytes ∙ ap (λ (t : List ℕ). cut (InText t) (drop (position_or_len is_special bytes) bytes)) (append_assoc text (byte ∷ []) (take (position_or_len is_special bytes) bytes))))
     ]
 
 -- a text's closing quote

@@ -2,7 +2,6 @@
 use Rattle.std.specs.Prelude.{◌≡◌, ℕ, List, [], ◌∷◌, map, Ok, codes, refl}
 use Rattle.std.specs.List.{AllByRecursion}
 use Rattle.std.proofs.Common.{ap, ◌∙◌}
-use Rattle.stream_ident.specs.Alphabet.{IsName, IsPayload}
 use Rattle.stream_ident.specs.declared.ident.GrainId.{GrainId}
 use Rattle.stream_ident.specs.declared.ident.StreamId.{StreamId}
 use Rattle.stream_ident.specs.declared.ident.SubName.{SubName}
@@ -11,12 +10,12 @@ use Rattle.stream_ident.specs.Token.{token_text, IsToken}
 use Rattle.stream_model.specs.declared.op.Op.TheVariants as op
 use Rattle.stream_model.specs.declared.op.Start.{Start}
 use Rattle.stream_model.specs.declared.op.Start.TheVariants as start
+use Rattle.stream_ident.specs.Alphabet.{IsName, IsPayload, is_printable}
 use Rattle.script_parser.specs.declared.command.Command.TheVariants.{Step}
 use Rattle.script_parser.specs.declared.command.Command.TheVariants as made
 use Rattle.script_parser.specs.declared.command.EachOp.TheVariants as each
 use Rattle.script_parser.specs.declared.command.Mode.{Mode}
 use Rattle.script_parser.specs.Pieces.{Piece, Word, Text}
-use Rattle.script_parser.specs.Reading.{is_printable}
 use Rattle.script_parser.specs.Spelling.{stream_text, grain_text, sub_text}
 use Rattle.script_parser.specs.Forms.{texts_of, payloads_of, queue_of, pub_fields, sub_latest, sub_from, unsub_fields, rule_fields, verb_command}
 use Rattle.script_parser.specs.Grammar.{IsStream, IsGrain, IsSub, IsQueue, StartsAt}

@@ -2,11 +2,11 @@
 use Rattle.std.specs.Prelude.{◌≡◌, ℕ, List, [], ◌∷◌, map, Ok, codes, refl}
 use Rattle.std.specs.Cmp.Lexicographic.{same_text}
 use Rattle.std.proofs.Common.{sym, ap, ◌∙◌, subst}
-use Rattle.stream_ident.specs.Name.{◌>>=◌}
 use Rattle.stream_ident.specs.Token.{token_text}
 use Rattle.stream_model.specs.declared.op.Op.TheVariants as op
 use Rattle.stream_model.specs.declared.op.Start.{Start}
 use Rattle.stream_model.specs.declared.op.Start.TheVariants as start
+use Rattle.stream_ident.specs.Name.{◌>>=◌, same_name}
 use Rattle.script_parser.specs.declared.command.Command.{Command}
 use Rattle.script_parser.specs.declared.command.Command.TheVariants.{Step}
 use Rattle.script_parser.specs.declared.command.Command.TheVariants as made
@@ -17,7 +17,6 @@ use Rattle.script_parser.specs.Fields.{guard, stream_field, grain_field, token_f
 use Rattle.script_parser.specs.Forms.{word_of, text_of, texts_of, payloads_of, queue_of, pub_fields, pub_command, sub_latest, sub_from, sub_words, unsub_fields, unsub_words, rule_fields, rule_words}
 use Rattle.script_parser.specs.Pieces.{Piece, Word, Text}
 use Rattle.script_parser.specs.Spelling.{stream_text, grain_text, sub_text}
-use Rattle.script_parser.specs.Verbs.{same_word}
 use Rattle.script_parser.proofs.FieldLemmas.{bind_ok, ok_is, guard_ok, stream_found, grain_found, token_found, bare_name_found}
 use Rattle.script_parser.proofs.StandLemmas.{Stands, may_anywhere, same_words, word_found, text_found, read_all-found, payloads_found}
 use Rattle.script_parser.proofs.SubLemmas.{sub_found}
@@ -44,10 +43,10 @@ pub_found queues (piece ∷ pieces) command e =
 sub_latest-found : (queues : ℕ) (stream grain word : List ℕ) (command : Command) → sub_latest queues stream grain word ≡ Ok command → Stands queues Sub (Word stream ∷ Word grain ∷ Word word ∷ []) command
 unfolding sub_latest
 sub_latest-found queues stream grain word command e =
-    let a = bind_ok (stream_field stream) (λ s. grain_field grain >>= λ g. guard kind.BadCommand (same_word word (codes "latest")) start.Latest >>= λ at_. Ok (Step (queue_of s queues) (op.Subscribe s g at_))) command e in
-    let b = bind_ok (grain_field grain) (λ g. guard kind.BadCommand (same_word word (codes "latest")) start.Latest >>= λ at_. Ok (Step (queue_of a.0 queues) (op.Subscribe a.0 g at_))) command a.2 in
-    let c = bind_ok (guard kind.BadCommand (same_word word (codes "latest")) start.Latest) (λ at_. Ok (Step (queue_of a.0 queues) (op.Subscribe a.0 b.0 at_))) command b.2 in
-    let g = guard_ok kind.BadCommand (same_word word (codes "latest")) start.Latest c.0 c.1 in
+    let a = bind_ok (stream_field stream) (λ s. grain_field grain >>= λ g. guard kind.BadCommand (same_name word (codes "latest")) start.Latest >>= λ at_. Ok (Step (queue_of s queues) (op.Subscribe s g at_))) command e in
+    let b = bind_ok (grain_field grain) (λ g. guard kind.BadCommand (same_name word (codes "latest")) start.Latest >>= λ at_. Ok (Step (queue_of a.0 queues) (op.Subscribe a.0 g at_))) command a.2 in
+    let c = bind_ok (guard kind.BadCommand (same_name word (codes "latest")) start.Latest) (λ at_. Ok (Step (queue_of a.0 queues) (op.Subscribe a.0 b.0 at_))) command b.2 in
+    let g = guard_ok kind.BadCommand (same_name word (codes "latest")) start.Latest c.0 c.1 in
     let s = stream_found stream a.0 a.1 in
     let t = grain_found grain b.0 b.1 in
     let w : word ≡ codes "latest" = same_text word (codes "latest") (sym g.0) in
@@ -59,11 +58,11 @@ sub_latest-found queues stream grain word command e =
 sub_from-found : (queues : ℕ) (stream grain word token : List ℕ) (command : Command) → sub_from queues stream grain word token ≡ Ok command → Stands queues Sub (Word stream ∷ Word grain ∷ Word word ∷ Word token ∷ []) command
 unfolding sub_from
 sub_from-found queues stream grain word token command e =
-    let a = bind_ok (stream_field stream) (λ s. grain_field grain >>= λ g. guard kind.BadCommand (same_word word (codes "from")) token >>= λ bytes. token_field bytes >>= λ t. Ok (Step (queue_of s queues) (op.Subscribe s g (start.At t)))) command e in
-    let b = bind_ok (grain_field grain) (λ g. guard kind.BadCommand (same_word word (codes "from")) token >>= λ bytes. token_field bytes >>= λ t. Ok (Step (queue_of a.0 queues) (op.Subscribe a.0 g (start.At t)))) command a.2 in
-    let c = bind_ok (guard kind.BadCommand (same_word word (codes "from")) token) (λ bytes. token_field bytes >>= λ t. Ok (Step (queue_of a.0 queues) (op.Subscribe a.0 b.0 (start.At t)))) command b.2 in
+    let a = bind_ok (stream_field stream) (λ s. grain_field grain >>= λ g. guard kind.BadCommand (same_name word (codes "from")) token >>= λ bytes. token_field bytes >>= λ t. Ok (Step (queue_of s queues) (op.Subscribe s g (start.At t)))) command e in
+    let b = bind_ok (grain_field grain) (λ g. guard kind.BadCommand (same_name word (codes "from")) token >>= λ bytes. token_field bytes >>= λ t. Ok (Step (queue_of a.0 queues) (op.Subscribe a.0 g (start.At t)))) command a.2 in
+    let c = bind_ok (guard kind.BadCommand (same_name word (codes "from")) token) (λ bytes. token_field bytes >>= λ t. Ok (Step (queue_of a.0 queues) (op.Subscribe a.0 b.0 (start.At t)))) command b.2 in
     let d = bind_ok (token_field c.0) (λ t. Ok (Step (queue_of a.0 queues) (op.Subscribe a.0 b.0 (start.At t)))) command c.2 in
-    let g = guard_ok kind.BadCommand (same_word word (codes "from")) token c.0 c.1 in
+    let g = guard_ok kind.BadCommand (same_name word (codes "from")) token c.0 c.1 in
     let s = stream_found stream a.0 a.1 in
     let t = grain_found grain b.0 b.1 in
     let w : word ≡ codes "from" = same_text word (codes "from") (sym g.0) in

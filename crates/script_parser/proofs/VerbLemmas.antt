@@ -3,11 +3,13 @@ use Rattle.std.specs.Prelude.{◌≡◌, ℕ, List, Option, Some, None, Ok, code
 use Rattle.std.specs.Cmp.Lexicographic.{same_text}
 use Rattle.std.proofs.Common.{sym, ap, subst, inl, inr}
 use Rattle.std.proofs.lemmas.Bool.{cases_Bool}
+use Rattle.stream_ident.specs.Name.{same_name}
+use Rattle.stream_ident.specs.Words.{or_else}
 use Rattle.script_parser.specs.declared.command.FaultKind.TheVariants as kind
 use Rattle.script_parser.specs.declared.verb.Verb.{Verb}
 use Rattle.script_parser.specs.declared.verb.Verb.TheVariants.{Pub, Sub, Unsub, Rule, Pull, Deliver, Retry, Ack, Purge, Move, Begin, Commit, Deactivate, Ready, Due, Quiet, Drain, Report, Up, Down}
 use Rattle.script_parser.specs.Pieces.{Piece, Word, Text}
-use Rattle.script_parser.specs.Verbs.{same_word, producer_verb, agent_verb, worker_verb, look_verb, operator_verb, first_of, verb_of, verb_in_front}
+use Rattle.script_parser.specs.Verbs.{producer_verb, agent_verb, worker_verb, look_verb, operator_verb, verb_of, verb_in_front}
 use Rattle.script_parser.proofs.FieldLemmas.{or_fault_ok}
 
 -- the word of each verb
@@ -37,9 +39,9 @@ abbrev IsVerb : List ℕ → Option Verb → Type 0
 IsVerb word None = Unit {0}
 IsVerb word (Some verb) = word ≡ verb_word verb
 
-verb_first : (word : List ℕ) (verb : Verb) (rest : Option Verb) → IsVerb word rest → IsVerb word (cond (same_word word (verb_word verb)) (Some verb) rest)
+verb_first : (word : List ℕ) (verb : Verb) (rest : Option Verb) → IsVerb word rest → IsVerb word (cond (same_name word (verb_word verb)) (Some verb) rest)
 verb_first word verb rest later =
-    elim (cases_Bool (same_word word (verb_word verb))) [
+    elim (cases_Bool (same_name word (verb_word verb))) [
       | inl h ↦ rw h (same_text word (verb_word verb) (sym h))
       | inr h ↦ rw h later
     ]
@@ -59,7 +61,7 @@ look_verb-is word = verb_first word Ready _ (verb_first word Due _ (verb_first w
 operator_verb-is : (word : List ℕ) → IsVerb word (operator_verb word)
 operator_verb-is word = verb_first word Drain _ (verb_first word Move _ (verb_first word Up _ (verb_first word Down None tt)))
 
-either_verb : (word : List ℕ) (first other : Option Verb) → IsVerb word first → IsVerb word other → IsVerb word (first_of first other)
+either_verb : (word : List ℕ) (first other : Option Verb) → IsVerb word first → IsVerb word other → IsVerb word (or_else first other)
 either_verb word None other is is_other = is_other
 either_verb word (Some verb) other is is_other = is
 

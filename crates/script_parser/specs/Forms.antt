@@ -1,11 +1,11 @@
 -- What stands behind each verb: the command of its pieces, or their first fault from left to right.
 use Rattle.std.specs.Prelude.{ℕ, ◌^◌, List, [], ◌∷◌, Some, None, Result, Ok, Err, codes}
 use Rattle.stream_ident.specs.declared.ident.StreamId.{StreamId}
-use Rattle.stream_ident.specs.Name.{◌>>=◌}
 use Rattle.stream_model.specs.declared.op.Op.{Op}
 use Rattle.stream_model.specs.declared.op.Op.TheVariants as op
 use Rattle.stream_model.specs.declared.op.Start.TheVariants as start
 use Rattle.queue_mapper.specs.Place.{place_of}
+use Rattle.stream_ident.specs.Name.{◌>>=◌, same_name}
 use Rattle.script_parser.specs.declared.command.Command.{Command}
 use Rattle.script_parser.specs.declared.command.Command.TheVariants as command
 use Rattle.script_parser.specs.declared.command.EachOp.{EachOp}
@@ -16,7 +16,6 @@ use Rattle.script_parser.specs.declared.verb.Verb.{Verb}
 use Rattle.script_parser.specs.declared.verb.Verb.TheVariants.{Pub, Sub, Unsub, Rule, Pull, Deliver, Retry, Ack, Purge, Move, Begin, Commit, Deactivate, Ready, Due, Quiet, Drain, Report, Up, Down}
 use Rattle.script_parser.specs.Fields.{guard, number_field, queue_field, stream_field, grain_field, token_field, payload_field, bare_name_field, sub_field, own_sub_field}
 use Rattle.script_parser.specs.Pieces.{Piece, Word, Text}
-use Rattle.script_parser.specs.Verbs.{same_word}
 
 -- each element as it reads, or the first fault
 abbrev pub read_all : {A B : Type 0} → (A → Result B FaultKind) → List A → Result (List B) FaultKind
@@ -69,7 +68,7 @@ unfoldable pub sub_latest : ℕ → List ℕ → List ℕ → List ℕ → Resul
 sub_latest queues stream grain word = do
   stream ← stream_field stream
   grain ← grain_field grain
-  start ← guard kind.BadCommand (same_word word (codes "latest")) start.Latest
+  start ← guard kind.BadCommand (same_name word (codes "latest")) start.Latest
   Ok (command.Step (queue_of stream queues) (op.Subscribe stream grain start))
 
 -- sub STREAM GRAIN from TOKEN
@@ -77,7 +76,7 @@ unfoldable pub sub_from : ℕ → List ℕ → List ℕ → List ℕ → List �
 sub_from queues stream grain word token = do
   stream ← stream_field stream
   grain ← grain_field grain
-  token_bytes ← guard kind.BadCommand (same_word word (codes "from")) token
+  token_bytes ← guard kind.BadCommand (same_name word (codes "from")) token
   token ← token_field token_bytes
   Ok (command.Step (queue_of stream queues) (op.Subscribe stream grain (start.At token)))
 

@@ -2,6 +2,7 @@
 use Rattle.std.specs.Prelude.{◌≡◌, ℕ, ◌<◌, Bool, false, ◌&&◌, ◌||◌, List, [], ◌∷◌, Option, Some, None, Result, Ok, Err, ◌==◌, nat_le, ⊤, if◌then◌else◌}
 use Rattle.std.specs.List.{list_all}
 use Rattle.stream_ident.specs.Name.{◌>>=◌}
+use Rattle.stream_ident.specs.Alphabet.{is_printable}
 use Rattle.script_parser.specs.declared.command.Command.{Command}
 use Rattle.script_parser.specs.declared.command.Command.TheVariants.{Step}
 use Rattle.script_parser.specs.declared.command.LineError.{LineError}
@@ -27,10 +28,6 @@ command_of mode queues (piece ∷ pieces) = do
 abbrev pub lexed : Mode → ℕ → Option (List Piece) → Result Command FaultKind
 lexed mode queues None = Err kind.BadText
 lexed mode queues (Some pieces) = command_of mode queues pieces
-
--- 0x20 to 0x7E
-abbrev pub is_printable : ℕ → Bool
-is_printable byte = nat_le 32 byte && nat_le byte 126
 
 abbrev pub line_command : Mode → ℕ → List ℕ → Result Command FaultKind
 line_command mode queues line = if list_all is_printable line then lexed mode queues (pieces_of line) else Err kind.BadByte

@@ -1,6 +1,7 @@
 -- The words that begin a command, and where a command may stand.
-use Rattle.std.specs.Prelude.{ℕ, Bool, true, false, List, Option, Some, None, Result, Err, nat_eq, codes, if◌then◌else◌}
-use Rattle.std.specs.Cmp.Lexicographic.{pointwise}
+use Rattle.std.specs.Prelude.{ℕ, Bool, true, false, List, Option, Some, None, Result, Err, codes, if◌then◌else◌}
+use Rattle.stream_ident.specs.Name.{same_name}
+use Rattle.stream_ident.specs.Words.{or_else}
 use Rattle.script_parser.specs.declared.command.FaultKind.{FaultKind}
 use Rattle.script_parser.specs.declared.command.FaultKind.TheVariants as kind
 use Rattle.script_parser.specs.declared.command.Mode.{Mode}
@@ -10,62 +11,54 @@ use Rattle.script_parser.specs.declared.verb.Verb.TheVariants.{Pub, Sub, Unsub, 
 use Rattle.script_parser.specs.Fields.{or_fault}
 use Rattle.script_parser.specs.Pieces.{Piece, Word, Text}
 
-abbrev pub same_word : List ℕ → List ℕ → Bool
-same_word a b = pointwise nat_eq a b
-
 -- what producers and subscribers do
 abbrev pub producer_verb : List ℕ → Option Verb
 producer_verb word =
-    if same_word word (codes "pub") then Some Pub
-    else if same_word word (codes "sub") then Some Sub
-    else if same_word word (codes "unsub") then Some Unsub
-    else if same_word word (codes "rule") then Some Rule
+    if same_name word (codes "pub") then Some Pub
+    else if same_name word (codes "sub") then Some Sub
+    else if same_name word (codes "unsub") then Some Unsub
+    else if same_name word (codes "rule") then Some Rule
     else None
 
 -- what pulling agents do
 abbrev pub agent_verb : List ℕ → Option Verb
 agent_verb word =
-    if same_word word (codes "pull") then Some Pull
-    else if same_word word (codes "deliver") then Some Deliver
-    else if same_word word (codes "retry") then Some Retry
-    else if same_word word (codes "ack") then Some Ack
-    else if same_word word (codes "purge") then Some Purge
+    if same_name word (codes "pull") then Some Pull
+    else if same_name word (codes "deliver") then Some Deliver
+    else if same_name word (codes "retry") then Some Retry
+    else if same_name word (codes "ack") then Some Ack
+    else if same_name word (codes "purge") then Some Purge
     else None
 
 -- what workers do
 abbrev pub worker_verb : List ℕ → Option Verb
 worker_verb word =
-    if same_word word (codes "begin") then Some Begin
-    else if same_word word (codes "commit") then Some Commit
-    else if same_word word (codes "deactivate") then Some Deactivate
+    if same_name word (codes "begin") then Some Begin
+    else if same_name word (codes "commit") then Some Commit
+    else if same_name word (codes "deactivate") then Some Deactivate
     else None
 
 -- what is asked
 abbrev pub look_verb : List ℕ → Option Verb
 look_verb word =
-    if same_word word (codes "ready") then Some Ready
-    else if same_word word (codes "due") then Some Due
-    else if same_word word (codes "quiet") then Some Quiet
-    else if same_word word (codes "report") then Some Report
+    if same_name word (codes "ready") then Some Ready
+    else if same_name word (codes "due") then Some Due
+    else if same_name word (codes "quiet") then Some Quiet
+    else if same_name word (codes "report") then Some Report
     else None
 
 -- what an operator does
 abbrev pub operator_verb : List ℕ → Option Verb
 operator_verb word =
-    if same_word word (codes "drain") then Some Drain
-    else if same_word word (codes "move") then Some Move
-    else if same_word word (codes "up") then Some Up
-    else if same_word word (codes "down") then Some Down
+    if same_name word (codes "drain") then Some Drain
+    else if same_name word (codes "move") then Some Move
+    else if same_name word (codes "up") then Some Up
+    else if same_name word (codes "down") then Some Down
     else None
-
--- the first, or where there is none the second
-abbrev pub first_of : Option Verb → Option Verb → Option Verb
-first_of None other = other
-first_of (Some verb) other = Some verb
 
 -- the verb that a word is
 abbrev pub verb_of : List ℕ → Option Verb
-verb_of word = first_of (producer_verb word) (first_of (agent_verb word) (first_of (worker_verb word) (first_of (look_verb word) (operator_verb word))))
+verb_of word = or_else (producer_verb word) (or_else (agent_verb word) (or_else (worker_verb word) (or_else (look_verb word) (operator_verb word))))
 
 -- what may stand in a script that is run: what producers do, a drain, and what changes the silos
 abbrev pub may_run : Verb → Bool

@@ -1,11 +1,12 @@
 //! From a line's bytes to its command.
 ghost use Rattle.std.specs.Prelude.{◌≡◌, ◌≤◌, IfOk, Ok};
 ghost use Rattle.std.specs.List.{list_all};
+ghost use Rattle.stream_ident.specs.Alphabet.{is_printable};
 ghost use Rattle.script_parser.specs.declared.command.Command.{Command};
 ghost use Rattle.script_parser.specs.Grammar.{Reads};
 ghost use Rattle.script_parser.specs.Lexer.{pieces_in};
 ghost use Rattle.script_parser.specs.Pieces.{is_space};
-ghost use Rattle.script_parser.specs.Reading.{Gives, IsWithin, reading, is_printable, is_comment, is_skipped, line_command, command_of};
+ghost use Rattle.script_parser.specs.Reading.{Gives, IsWithin, reading, is_comment, is_skipped, line_command, command_of};
 
 use crate::command::{Command, Fault, FaultKind, LineError, Mode, Parsed};
 use crate::forms;
@@ -25,7 +26,7 @@ pub fn parse_line(
     mode: Mode,
 ) -> Result<Parsed, AllocError>
     requires { 1 ≤ queues }
-    // Which of them it is.
+    // It is the reading of the line.
     ensures exact { IfOk result (λ parsed. parsed ≡ reading queues mode line bytes.now) }
     // A command is of a queue that there is.
     ensures within { IfOk result (IsWithin queues) }

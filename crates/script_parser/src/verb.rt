@@ -43,7 +43,7 @@ pub(crate) enum Verb {
     Quiet,
     /// Drain each queue.
     Drain,
-    /// Tell what each subscription has handled.
+    /// Report what each subscription has handled.
     Report,
     /// Let a silo join.
     Up,

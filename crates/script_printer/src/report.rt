@@ -15,7 +15,7 @@ use stream_ident::{Event, SubName};
 /// that has a record, in the order of their names, its line and those of the events that it has handled.
 ///
 /// # Errors
-/// Memory, and then nothing stays of the text.
+/// The call failed to allocate, and nothing of the text stays.
 pub fn report_text(
     alloc: Global,
     partitions: &[Partition],

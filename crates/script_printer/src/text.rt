@@ -15,7 +15,7 @@ use stream_model::{DrainEnd, Pending, Reply};
 /// Appends the text of a reply.
 ///
 /// # Errors
-/// Memory, and then nothing stays of the text.
+/// The call failed to allocate, and nothing of the text stays.
 pub fn reply_text(reply: &Reply, out: &mut Vec<u8>) -> Result<(), AllocError>
     ensures ok { OnOk result (out.new.items ≡ out.old.items ++ reply_text reply.now) }
     ensures err { OnErr result (out.new.items ≡ out.old.items) }
@@ -31,7 +31,7 @@ pub fn reply_text(reply: &Reply, out: &mut Vec<u8>) -> Result<(), AllocError>
 /// Appends the line of a reply: the queue, a space and the text.
 ///
 /// # Errors
-/// Memory, and then a front of the line may stay.
+/// The call failed to allocate, and a front of the line may stay.
 pub fn reply_line(queue: usize, reply: &Reply, out: &mut Vec<u8>) -> Result<(), AllocError>
     ensures { Writes out.old.items out.new.items result (reply_line queue reply.now) }
 {
@@ -224,7 +224,7 @@ fn push_pending(why: &Pending, out: &mut Vec<u8>) -> Result<(), AllocError>
 /// Appends the text of how a drain ended.
 ///
 /// # Errors
-/// Memory, and then nothing stays of the text.
+/// The call failed to allocate, and nothing of the text stays.
 pub fn drain_text(end: &DrainEnd, out: &mut Vec<u8>) -> Result<(), AllocError>
     ensures ok { OnOk result (out.new.items ≡ out.old.items ++ drain_text end.now) }
     ensures err { OnErr result (out.new.items ≡ out.old.items) }
@@ -240,7 +240,7 @@ pub fn drain_text(end: &DrainEnd, out: &mut Vec<u8>) -> Result<(), AllocError>
 /// Appends the line of a drain: the queue, a space and the text.
 ///
 /// # Errors
-/// Memory, and then a front of the line may stay.
+/// The call failed to allocate, and a front of the line may stay.
 pub fn drain_line(queue: usize, end: &DrainEnd, out: &mut Vec<u8>) -> Result<(), AllocError>
     ensures { Writes out.old.items out.new.items result (drain_line queue end.now) }
 {

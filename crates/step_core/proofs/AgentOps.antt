@@ -55,20 +55,3 @@ ack-parts parts generation s token i d e lengths current found =
     by false positions = ap (λ p. (p, reply.Closed)) (record-kept parts i e)
     by true [] = ap (λ p. (p, reply.NotHandled)) (record-kept parts i e)
     by true (position ∷ positions) = ap (λ p. (p, reply.Acked)) (record-set parts s i d e (acknowledged position old) (λ r. plain.acknowledged r position) lengths found refl)
-
--- an agent that was replaced, and a name without a record
-pub retry-stale : (parts : Parts) (generation : ℕ) (s : SubName) → (generation == parts.agent.generation) ≡ false → plain.retry (plain_of parts) generation s ≡ (plain_of parts, reply.StaleAgent parts.agent.generation)
-unfolding plain.retry
-retry-stale parts generation s stale = rw stale refl
-
-pub retry-none : (parts : Parts) (generation : ℕ) (s : SubName) → length parts.subs.registry.names ≡ length parts.subs.states → (generation == parts.agent.generation) ≡ true → place_of same_sub s parts.subs.registry.names ≡ None → plain.retry (plain_of parts) generation s ≡ (plain_of parts, reply.NoSuch)
-unfolding plain.retry plain.retry_of
-retry-none parts generation s lengths current none = rw (current, no-record parts s lengths none) refl
-
-pub ack-stale : (parts : Parts) (generation : ℕ) (s : SubName) (token : Token) → (generation == parts.agent.generation) ≡ false → plain.ack (plain_of parts) generation s token ≡ (plain_of parts, reply.StaleAgent parts.agent.generation)
-unfolding plain.ack
-ack-stale parts generation s token stale = rw stale refl
-
-pub ack-none : (parts : Parts) (generation : ℕ) (s : SubName) (token : Token) → length parts.subs.registry.names ≡ length parts.subs.states → (generation == parts.agent.generation) ≡ true → place_of same_sub s parts.subs.registry.names ≡ None → plain.ack (plain_of parts) generation s token ≡ (plain_of parts, reply.NoSuch)
-unfolding plain.ack plain.ack_of
-ack-none parts generation s token lengths current none = rw (current, no-record parts s lengths none) refl

@@ -4,6 +4,10 @@ use Rattle.std.specs.Prelude.{if◌then◌else◌}
 use Rattle.std.specs.List.{AllByRecursion}
 use Rattle.std.proofs.lemmas.Bool.{cond_both, false≢true}
 use Rattle.std.proofs.lemmas.List.{get_or-set_same}
+use Rattle.stream_model.proofs.Refusals.{unsubscribe-implicit}
+use Rattle.pubsub_registry.specs.Registry.{PlainRegistry, close_found, closed_registration}
+use Rattle.pubsub_registry.proofs.Entries.{length-closed}
+use Rattle.step_core.proofs.RecordOps.{record-found}
 use Rattle.stream_ident.specs.declared.ident.GrainId.{GrainId}
 use Rattle.stream_ident.specs.declared.ident.SubName.{SubName}
 use Rattle.stream_ident.specs.declared.ident.SubName.TheVariants as name
@@ -16,7 +20,6 @@ use Rattle.stream_model.specs.declared.reply.Reply.{Reply}
 use Rattle.stream_model.specs.declared.reply.Reply.TheVariants as reply
 use Rattle.stream_model.specs.Publishing as plain
 use Rattle.stream_model.proofs.ChangedValues.{All-changed, place_of-changed, place_of-unchanged}
-use Rattle.stream_laws.proofs.LogLemmas.{first_at-found}
 use Rattle.stream_model.proofs.Lookups.{place_of-value, place_of-within}
 use Rattle.stream_ident.proofs.SameValues.{same_sub-equal}
 use Rattle.consumer_grain.specs.declared.delivery.Delivery.{Delivery}
@@ -26,7 +29,6 @@ use Rattle.pubsub_registry.specs.declared.registration.Registration.{Registratio
 use Rattle.pubsub_registry.specs.declared.told.Closing.{Closing}
 use Rattle.pubsub_registry.specs.declared.told.Closing.TheVariants as close_told
 use Rattle.pubsub_registry.specs.Index.{AreUnique}
-use Rattle.pubsub_registry.specs.Registry.{PlainRegistry, close_found, shut}
 use Rattle.subscription_table.specs.Standing.{AreRecords}
 use Rattle.subscription_table.specs.Table.{PlainTable, close, closed_by, no_entry, no_state, number_of, registration_at, state_at}
 use Rattle.step_core.specs.Assembly.{Agrees, IsAssembled}
@@ -36,19 +38,12 @@ use Rattle.step_core.specs.PlainOf.{plain_of}
 use Rattle.step_core.specs.View.{grain_of, grains_of, name_at}
 use Rattle.step_core.specs.declared.parts.Parts.{Parts}
 use Rattle.step_core.proofs.AssembledTable.{IsAsLarge, assembled-subs}
-use Rattle.step_core.proofs.KnownMore.{known-forgotten, known-names, shut-grain, shut-length}
+use Rattle.step_core.proofs.KnownMore.{known-forgotten, known-names, closed-grain}
 use Rattle.step_core.proofs.KnownOps.{known-state}
-use Rattle.step_core.proofs.NamesOps.{name-of-entry}
+use Rattle.step_core.proofs.NamesOps.{name-of-entry, name-of-place}
 use Rattle.step_core.proofs.Shared.{distinct-of-unique}
-use Rattle.step_core.proofs.SubscriberOps.{forgotten-is, unsubscribe-implicit, unsubscribe-parts, with_shut}
+use Rattle.step_core.proofs.SubscriberOps.{forgotten-is, unsubscribe-parts, with_closed}
 use Rattle.stream_model.proofs.EachOf.{All-filter}
-
--- the entry with the number of a name has the name
-pub name-found : (s : SubName) (names : List (SubName × Registration)) (number : ℕ) (d : SubName × Registration) → place_of same_sub s names ≡ Some number → (get_or names number d).0 ≡ s
-name-found s names number d found =
-    let first = first_at-found (λ (entry : SubName × Registration). same_sub s entry.0) 0 names d number found in
-    let place : number ≡ first.0 = omega (arith, first.1) in
-    ap (λ n. (get_or names n d).0) place ∙ sym (same_sub-equal s (get_or names first.0 d).0 first.2.1)
 
 -- ---- the grain forgets the record
 
@@ -85,17 +80,17 @@ forgotten-names names g number (entry ∷ grains) distinct within all =
 
 -- ---- the table closes the record
 
-abbrev with_shut_name : PlainTable → ℕ → ℕ → PlainTable
-with_shut_name t n number =
-    record { registry = record t.registry { names = changed_value same_sub (name.Explicit n) shut t.registry.names }; states = set t.states number (closed (state_at t number)) }
+abbrev with_closed_name : PlainTable → ℕ → ℕ → PlainTable
+with_closed_name t n number =
+    record { registry = record t.registry { names = changed_value same_sub (name.Explicit n) closed_registration t.registry.names }; states = set t.states number (closed (state_at t number)) }
 
 close-found : (t : PlainTable) (s : SubName) (number : ℕ) → place_of same_sub s t.registry.names ≡ Some number → close t number ≡ closed_by t number (close_found t.registry s (Some (registration_at t number)))
 close-found t s number found =
-    ap (λ s. closed_by t number (close_found t.registry s (value_at same_sub s t.registry.names))) (name-found s t.registry.names number no_entry found)
+    ap (λ s. closed_by t number (close_found t.registry s (value_at same_sub s t.registry.names))) (sym (name-of-place s t.registry.names number no_entry found))
     ∙ ap (λ (o : Option Registration). closed_by t number (close_found t.registry s o)) (place_of-value same_sub s number t.registry.names no_entry found)
 
 close-explicit : (t : PlainTable) (n number : ℕ) → AreRecords t → place_of same_sub (name.Explicit n) t.registry.names ≡ Some number
-    → close t number ≡ (if (state_at t number).is_open then (with_shut_name t n number, close_told.Done) else (t, close_told.Closed))
+    → close t number ≡ (if (state_at t number).is_open then (with_closed_name t n number, close_told.Done) else (t, close_told.Closed))
 close-explicit t n number records found =
     close-found t (name.Explicit n) number found
     ∙ ap (λ is_open. closed_by t number (picked is_open)) (sym (records.openness number within))
@@ -105,9 +100,9 @@ close-explicit t n number records found =
     within = omega (arith, place_of-within same_sub (name.Explicit n) number t.registry.names found, records.long)
 
     picked : Bool → PlainRegistry × Closing
-    picked is_open = if is_open then (record t.registry { names = changed_value same_sub (name.Explicit n) shut t.registry.names }, close_told.Done) else (t.registry, close_told.Closed)
+    picked is_open = if is_open then (record t.registry { names = changed_value same_sub (name.Explicit n) closed_registration t.registry.names }, close_told.Done) else (t.registry, close_told.Closed)
 
-    by : (is_open : Bool) → closed_by t number (picked is_open) ≡ (if is_open then (with_shut_name t n number, close_told.Done) else (t, close_told.Closed))
+    by : (is_open : Bool) → closed_by t number (picked is_open) ≡ (if is_open then (with_closed_name t n number, close_told.Done) else (t, close_told.Closed))
     by true = refl
     by false = refl
 
@@ -118,10 +113,10 @@ close-large t (name.Explicit n) number records found =
     subst (λ (stepped : PlainTable × Closing). IsAsLarge t stepped.0) (sym (close-explicit t n number records found)) (by (state_at t number).is_open)
   where
     picked : Bool → PlainTable × Closing
-    picked is_open = if is_open then (with_shut_name t n number, close_told.Done) else (t, close_told.Closed)
+    picked is_open = if is_open then (with_closed_name t n number, close_told.Done) else (t, close_told.Closed)
 
     by : (is_open : Bool) → IsAsLarge t (picked is_open).0
-    by true = record { names = shut-length (name.Explicit n) t.registry.names; most_names = refl; most_rules = refl }
+    by true = record { names = length-closed t.registry.names (name.Explicit n); most_names = refl; most_rules = refl }
     by false = record { names = refl; most_names = refl; most_rules = refl }
 
 -- what the grains know stays so
@@ -136,27 +131,27 @@ close-known t grains (name.Explicit n) number records found known =
     within = omega (arith, place_of-within same_sub (name.Explicit n) number t.registry.names found, records.long)
 
     picked : Bool → PlainTable × Closing
-    picked is_open = if is_open then (with_shut_name t n number, close_told.Done) else (t, close_told.Closed)
+    picked is_open = if is_open then (with_closed_name t n number, close_told.Done) else (t, close_told.Closed)
 
     by : (is_open : Bool) → AreKnown (picked is_open).0.registry.names (picked is_open).0.states grains
     by true =
-        known-names t.registry.names (changed_value same_sub (name.Explicit n) shut t.registry.names) (set t.states number (closed (state_at t number))) grains
+        known-names t.registry.names (changed_value same_sub (name.Explicit n) closed_registration t.registry.names) (set t.states number (closed (state_at t number))) grains
         (known-state t.registry.names t.states grains number (closed (state_at t number)) known within (λ is_open. absurd (false≢true is_open)) (λ at none unheld. (at, none)))
-        (shut-length (name.Explicit n) t.registry.names) (shut-grain (name.Explicit n) t.registry.names)
+        (length-closed t.registry.names (name.Explicit n)) (closed-grain (name.Explicit n) t.registry.names)
     by false = known
 
 -- a record that was closed now is so
-close-shut : (t : PlainTable) (s : SubName) (number : ℕ) → AreRecords t → place_of same_sub s t.registry.names ≡ Some number → (close t number).1 ≡ close_told.Done → (state_at (close t number).0 number).is_open ≡ false
-close-shut t (name.Implicit kind stream) number records found =
+close-closes : (t : PlainTable) (s : SubName) (number : ℕ) → AreRecords t → place_of same_sub s t.registry.names ≡ Some number → (close t number).1 ≡ close_told.Done → (state_at (close t number).0 number).is_open ≡ false
+close-closes t (name.Implicit kind stream) number records found =
     subst (λ (stepped : PlainTable × Closing). stepped.1 ≡ close_told.Done → (state_at stepped.0 number).is_open ≡ false) (sym (close-found t (name.Implicit kind stream) number found)) (λ is. absurd (cc))
-close-shut t (name.Explicit n) number records found =
+close-closes t (name.Explicit n) number records found =
     subst (λ (stepped : PlainTable × Closing). stepped.1 ≡ close_told.Done → (state_at stepped.0 number).is_open ≡ false) (sym (close-explicit t n number records found)) (by (state_at t number).is_open)
   where
     within : number < length t.states
     within = omega (arith, place_of-within same_sub (name.Explicit n) number t.registry.names found, records.long)
 
     picked : Bool → PlainTable × Closing
-    picked is_open = if is_open then (with_shut_name t n number, close_told.Done) else (t, close_told.Closed)
+    picked is_open = if is_open then (with_closed_name t n number, close_told.Done) else (t, close_told.Closed)
 
     by : (is_open : Bool) → (picked is_open).1 ≡ close_told.Done → (state_at (picked is_open).0 number).is_open ≡ false
     by true is = ap (λ (state : PlainState). state.is_open) (get_or-set_same t.states number (closed (state_at t number)) no_state within)
@@ -188,21 +183,21 @@ module _ (parts : Parts) (number : ℕ) where
         forgets : (n : ℕ) → place_of same_sub (name.Explicit n) names ≡ Some number → changed_value same_grain (registration_at parts.subs number).grain (plain.without (name.Explicit n)) (grains_of names parts.grains) ≡ grains_of names left_grains
         forgets n found =
             let within = place_of-within same_sub (name.Explicit n) number names found in
-            let is_name : name_at names number ≡ name.Explicit n = name-of-entry names number no_entry within ∙ name-found (name.Explicit n) names number no_entry found in
+            let is_name : name_at names number ≡ name.Explicit n = name-of-entry names number no_entry within ∙ sym (name-of-place (name.Explicit n) names number no_entry found) in
             subst (λ s. changed_value same_grain (registration_at parts.subs number).grain (plain.without s) (grains_of names parts.grains) ≡ grains_of names left_grains) is_name
             (forgotten-names names (registration_at parts.subs number).grain number parts.grains (distinct-of-unique names unique) within agrees.assembled.numbered)
 
         explicit : (n : ℕ) (is_open : Bool)
-            → closed_as (if is_open then (with_shut_name parts.subs n number, close_told.Done) else (parts.subs, close_told.Closed))
+            → closed_as (if is_open then (with_closed_name parts.subs n number, close_told.Done) else (parts.subs, close_told.Closed))
             ≡ (if not is_open then (plain_of parts, reply.Closed)
-            else (plain_of (with_shut parts (name.Explicit n) (set parts.subs.states number (closed (state_at parts.subs number))) left_grains), reply.Unsubscribed (length (state_at parts.subs number).handled)))
+            else (plain_of (with_closed parts (name.Explicit n) (set parts.subs.states number (closed (state_at parts.subs number))) left_grains), reply.Unsubscribed (length (state_at parts.subs number).handled)))
         explicit n true = refl
         explicit n false = refl
 
         by : (s : SubName) → place_of same_sub s names ≡ Some number → closed_as (close parts.subs number) ≡ plain.unsubscribe (plain_of parts) s
         by (name.Implicit kind stream) found =
             ap closed_as (close-found parts.subs (name.Implicit kind stream) number found)
-            ∙ sym (unsubscribe-implicit parts kind stream number no_entry no_state lengths found)
+            ∙ unsubscribe-implicit (plain_of parts) (name.Implicit kind stream) kind stream _ refl (record-found parts (name.Implicit kind stream) number no_entry no_state lengths found)
         by (name.Explicit n) found =
             ap closed_as (close-explicit parts.subs n number records found)
             ∙ explicit n (state_at parts.subs number).is_open
@@ -216,10 +211,10 @@ module _ (parts : Parts) (number : ℕ) where
         subst (λ (stepped : PlainTable × Closing). IsAssembled (record parts { subs = stepped.0 })) (sym done)
         (assembled-subs parts (close parts.subs number).0 (close-large parts.subs s number records (sym found)) (close-known parts.subs parts.grains s number records (sym found) assembled.known) assembled)
 
-    pub closed-shut : (new : PlainTable) → (new, close_told.Done) ≡ close parts.subs number → (state_at new number).is_open ≡ false
-    closed-shut new done =
+    pub closed-after : (new : PlainTable) → (new, close_told.Done) ≡ close parts.subs number → (state_at new number).is_open ≡ false
+    closed-after new done =
         subst (λ (t : PlainTable). (state_at t number).is_open ≡ false) (sym (ap (λ (stepped : PlainTable × Closing). stepped.0) done))
-        (close-shut parts.subs s number records (sym found) (sym (ap (λ (stepped : PlainTable × Closing). stepped.1) done)))
+        (close-closes parts.subs s number records (sym found) (sym (ap (λ (stepped : PlainTable × Closing). stepped.1) done)))
 
 -- a grain that forgets a closed record knows no other numbers, and all that are open
 forgotten-known : (parts : Parts) (g : GrainId) (number : ℕ) → IsAssembled parts → (state_at parts.subs number).is_open ≡ false → AreKnown parts.subs.registry.names parts.subs.states (forgotten_by g number parts.grains)

@@ -37,6 +37,7 @@ use Rattle.pubsub_registry.specs.declared.registration.Registration.{Registratio
 use Rattle.pubsub_registry.specs.Registry.{PlainRegistry}
 use Rattle.subscription_table.specs.Table as table
 use Rattle.subscription_table.specs.Table.{PlainTable, no_entry, no_state, state_at, with_state}
+use Rattle.stream_ident.proofs.FirstLemmas.{place_of-key}
 use Rattle.step_core.specs.Assembly.{IsAssembled}
 use Rattle.step_core.specs.Known.{AreKnown, IsOf}
 use Rattle.step_core.specs.Numbers.{AreDistinct, IsBelow, TurnIsBelow}
@@ -46,7 +47,7 @@ use Rattle.step_core.specs.TurnReplies.{handle}
 use Rattle.step_core.specs.View.{name_at, turn_of}
 use Rattle.step_core.proofs.GrainOps.{grain-found}
 use Rattle.step_core.proofs.KnownOps.{known-grain, known-state, or-right}
-use Rattle.step_core.proofs.KnownTurns.{ended-holds, found-own}
+use Rattle.step_core.proofs.KnownTurns.{ended-holds}
 use Rattle.step_core.proofs.NamesOps.{record-of-number}
 use Rattle.step_core.proofs.NumberedOps.{All-change_at, change_at-by, known-at}
 use Rattle.step_core.proofs.RecordOps.{record_at}
@@ -248,7 +249,7 @@ commit-known parts g i activation turn note run assembled reached distinct lengt
     below = running-below (length names) a.running run (known-at parts i assembled inside).running running
 
     theirs : IsOf names parts.grains run.sub i
-    theirs = subst (λ (h : GrainId). same_grain h (grains.grain_at parts.grains i) ≡ true) (sym (running-grain parts g i run reached found running distinct lengths below)) (found-own g i parts.grains found)
+    theirs = subst (λ (h : GrainId). same_grain h (grains.grain_at parts.grains i) ≡ true) (sym (running-grain parts g i run reached found running distinct lengths below)) (place_of-key same_grain g parts.grains no_grain i found)
 
     held : holds run.sub a ≡ true
     held = or-right (list_any (λ (d : Delivery). run.sub == d.sub) a.mailbox) (runs run.sub a.running) (ap (runs run.sub) running ∙ eq-eqb run.sub run.sub refl)
@@ -270,11 +271,3 @@ commit-assembled parts g i activation turn note run subs grains told assembled r
     (subst (AreKnown parts.subs.registry.names subs.states) (sym is_grains)
     (subst (λ (out : PlainTable × Reply). AreKnown parts.subs.registry.names out.0.states (change_at (λ a. (commit a activation turn).0) i parts.grains)) (sym is_handled)
     (commit-known parts g i activation turn note run assembled reached distinct lengths found is_current)))
-
--- the past of positions of the log
-pub past-within : (n : ℕ) (positions : List ℕ) → AllByRecursion (λ position. position < n) positions → past positions ≤ n
-past-within n positions all = by 0 positions (omega arith) all
-  where
-    by : (m : ℕ) (positions : List ℕ) → m ≤ n → AllByRecursion (λ position. position < n) positions → past_from m positions ≤ n
-    by m [] le all = le
-    by m (position ∷ positions) le all = by (suc position) positions (omega (arith, all.0)) all.1

@@ -1,5 +1,6 @@
 -- A grain leaves memory, done by the parts.
 use Rattle.std.proofs.Common.{◌≡◌, ◌∙◌, ap, refl, ℕ, suc, ◌+◌, ◌<◌, Bool, true, false, ◌&&◌, not, List, [], ◌∷◌, length, map, get_or, Option, Some, None}
+use Rattle.std.proofs.lemmas.List.{length-map}
 use Rattle.std.specs.Prelude.{if◌then◌else◌}
 use Rattle.std.specs.Option.{option_map}
 use Rattle.stream_ident.specs.declared.ident.GrainId.{GrainId}
@@ -25,19 +26,11 @@ use Rattle.step_core.proofs.RecordOps.{record_at}
 use Rattle.step_core.proofs.TurnOps.{with_activation}
 use Rattle.step_core.proofs.ViewLemmas.{records-changed}
 
--- a record of this grain that is open
-abbrev pub is_its : GrainId → Subscription → Bool
-is_its g r = same_grain g r.grain && r.is_open
-
 -- these states are the old ones, with the cursors of the grain's open records back at their resumes
 abbrev pub AreRewound : GrainId → Parts → List PlainState → Type 0
 AreRewound g parts new =
     (i : ℕ) (d : SubName × Registration) (e : PlainState) → i < length parts.subs.registry.names
-    → (sub_of (get_or parts.subs.registry.names i d) (get_or new i e)).1 ≡ rewound_where (is_its g (record_at parts i d e)) (record_at parts i d e)
-
-pub length-map : {A B : Type 0} (f : A → B) (xs : List A) → length (map f xs) ≡ length xs
-length-map f [] = refl
-length-map f (x ∷ xs) = ap suc (length-map f xs)
+    → (sub_of (get_or parts.subs.registry.names i d) (get_or new i e)).1 ≡ rewound_where (plain.is_open_of g (record_at parts i d e)) (record_at parts i d e)
 
 count-same : (parts : Parts) (running : Option RunningTurn) → plain.running_count (option_map (turn_of parts.subs.registry.names) running) ≡ running_count running
 count-same parts None = refl
@@ -67,11 +60,11 @@ deactivate-parts parts g i d new lengths as_long found rewinds =
     state : plain.deactivated (plain_of parts) g (grain_of parts.subs.registry.names a) ≡ plain_of (record (with_activation parts i (deactivated a)) { subs = record parts.subs { states = new } })
     state =
         ap (λ (p : PlainPartition). record p { subs = each_value (λ r. rewound_where (same_grain g r.grain && r.is_open) r) (plain_of parts).subs }) grains
-        ∙ ap (λ subs. record (plain_of (with_activation parts i (deactivated a))) { subs = subs }) (records-changed (λ r. rewound_where (is_its g r) r) parts.subs.registry.names parts.subs.states new lengths as_long rewinds)
+        ∙ ap (λ subs. record (plain_of (with_activation parts i (deactivated a))) { subs = subs }) (records-changed (λ r. rewound_where (plain.is_open_of g r) r) parts.subs.registry.names parts.subs.states new lengths as_long rewinds)
 
     counts : length (map (delivery_of parts.subs.registry.names) a.mailbox) + plain.running_count (option_map (turn_of parts.subs.registry.names) a.running) ≡ lost a
     counts =
-        ap (λ n. n + plain.running_count (option_map (turn_of parts.subs.registry.names) a.running)) (length-map (delivery_of parts.subs.registry.names) a.mailbox)
+        ap (λ n. n + plain.running_count (option_map (turn_of parts.subs.registry.names) a.running)) (length-map a.mailbox (delivery_of parts.subs.registry.names))
         ∙ ap (λ n. length a.mailbox + n) (count-same parts a.running)
 
     by : (active : Bool) → (if not active then (plain_of parts, reply.NotActive) else left) ≡ (if not active then (plain_of parts, reply.NotActive) else right)
@@ -79,7 +72,3 @@ deactivate-parts parts g i d new lengths as_long found rewinds =
     by true =
         ap {B = PlainPartition × Reply} (λ p. (p, reply.Deactivated (length (map (delivery_of parts.subs.registry.names) a.mailbox) + plain.running_count (option_map (turn_of parts.subs.registry.names) a.running)))) state
         ∙ ap {B = PlainPartition × Reply} (λ n. (plain_of (record (with_activation parts i (deactivated a)) { subs = record parts.subs { states = new } }), reply.Deactivated n)) counts
-
-pub deactivate-none : (parts : Parts) (g : GrainId) → place_of same_grain g parts.grains ≡ None → plain.deactivate (plain_of parts) g ≡ (plain_of parts, reply.NotActive)
-unfolding plain.deactivate plain.deactivate_in
-deactivate-none parts g none = rw (grain-new parts g none) refl

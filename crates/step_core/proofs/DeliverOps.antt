@@ -1,8 +1,9 @@
 -- An agent delivers, done by the parts.
 use Rattle.std.proofs.Common.{◌≡◌, ◌∙◌, ap, sym, refl, ℕ, zero, suc, ◌≤◌, Bool, true, false, ◌&&◌, not, List, [], ◌∷◌, ◌++◌, length, get_or, set, take, drop, map, max, Some, None, ◌==◌, nat_le, arith}
 use Rattle.std.specs.Prelude.{if◌then◌else◌, unwrap_or, ◌-◌}
-use Rattle.std.proofs.lemmas.List.{drop-drop, map-append}
+use Rattle.std.proofs.lemmas.List.{drop-drop, map-append, length-map}
 use Rattle.std.specs.Option.{option_map}
+use Rattle.std.proofs.Math.Seq.{take-nil}
 use Rattle.stream_ident.specs.declared.event.Event.{Event}
 use Rattle.stream_ident.specs.declared.ident.GrainId.{GrainId}
 use Rattle.stream_ident.specs.declared.ident.SubName.{SubName}
@@ -28,10 +29,8 @@ use Rattle.step_core.specs.declared.parts.Parts.{Parts}
 use Rattle.step_core.specs.PlainOf.{plain_of}
 use Rattle.step_core.specs.Assembly.{HasEvents}
 use Rattle.step_core.specs.View.{delivery_of, grain_of, name_at, turn_of}
-use Rattle.step_core.proofs.DeactivateOps.{length-map}
 use Rattle.step_core.proofs.GrainOps.{activation_at, grain-added, grain-found, grain-new, grain-set}
 use Rattle.step_core.proofs.RecordOps.{no-record, record-found, record-set, record_at}
-use Rattle.std.proofs.Math.Seq.{take-nil}
 
 -- a list's middle from either end
 window : {A : Type 0} (k m : ℕ) (xs : List A) → drop k (take m xs) ≡ take (m - k) (drop k xs)
@@ -58,15 +57,6 @@ lower-is parts token has =
     ap (λ events. unwrap_or (first_at (λ event. not (token_lt event.token token)) parts.agent.cache.low events) (high parts.agent.cache)) (sym has)
 
 -- ---- what an agent hands over
-
--- one that was replaced, and a name without a record
-pub deliver-stale : (parts : Parts) (generation : ℕ) (s : SubName) → (generation == parts.agent.generation) ≡ false → plain.deliver (plain_of parts) generation s ≡ (plain_of parts, reply.StaleAgent parts.agent.generation)
-unfolding plain.deliver
-deliver-stale parts generation s stale = rw stale refl
-
-pub deliver-none : (parts : Parts) (generation : ℕ) (s : SubName) → length parts.subs.registry.names ≡ length parts.subs.states → (generation == parts.agent.generation) ≡ true → place_of same_sub s parts.subs.registry.names ≡ None → plain.deliver (plain_of parts) generation s ≡ (plain_of parts, reply.NoSuch)
-unfolding plain.deliver plain.deliver_to
-deliver-none parts generation s lengths current none = rw (current, no-record parts s lengths none) refl
 
 pub deliver-closed : (parts : Parts) (generation : ℕ) (s : SubName) (i : ℕ) (d : SubName × Registration) (e : PlainState) → length parts.subs.registry.names ≡ length parts.subs.states → (generation == parts.agent.generation) ≡ true → place_of same_sub s parts.subs.registry.names ≡ Some i → (get_or parts.subs.states i e).is_open ≡ false
     → plain.deliver (plain_of parts) generation s ≡ (plain_of parts, reply.Closed)
@@ -123,7 +113,7 @@ deliver-next parts generation s i j position c d e seeks some is_name found =
     deliver-open parts generation s i c e seeks
     ∙ ap (λ o. plain.deliver_position (plain_of parts) s r (grain_at (plain_of parts) r.grain) o) some
     ∙ ap (λ st. plain.deliver_position (plain_of parts) s r st (Some position)) (grain-found parts r.grain j d found)
-    ∙ by (nat_le 16 (length (map (delivery_of parts.subs.registry.names) a.mailbox))) (nat_le 16 (length a.mailbox)) (ap (λ n. nat_le 16 n) (length-map (delivery_of parts.subs.registry.names) a.mailbox)) (not a.active && nat_le parts.limits.rises parts.rises)
+    ∙ by (nat_le 16 (length (map (delivery_of parts.subs.registry.names) a.mailbox))) (nat_le 16 (length a.mailbox)) (ap (λ n. nat_le 16 n) (length-map a.mailbox (delivery_of parts.subs.registry.names))) (not a.active && nat_le parts.limits.rises parts.rises)
   where
     r : Subscription
     r = record_at parts i c e

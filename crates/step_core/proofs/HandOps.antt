@@ -5,7 +5,7 @@ use Rattle.std.specs.List.{AllByRecursion}
 use Rattle.std.specs.Option.{option_map}
 use Rattle.std.specs.declared.alloc.AllocError.{AllocError}
 use Rattle.std.proofs.lemmas.Bool.{eqb-true, le-ltb, true≢false}
-use Rattle.std.proofs.lemmas.List.{set-get_or}
+use Rattle.std.proofs.lemmas.List.{set-get_or, length-map}
 use Rattle.stream_ident.specs.declared.ident.GrainId.{GrainId}
 use Rattle.stream_ident.specs.declared.ident.StreamId.{StreamId}
 use Rattle.stream_ident.specs.declared.ident.SubName.{SubName}
@@ -21,7 +21,6 @@ use Rattle.stream_model.specs.Positions.{is_outstanding, is_spent, is_unacknowle
 use Rattle.stream_model.specs.Pulling as plain
 use Rattle.stream_model.specs.Step.{takes_memory}
 use Rattle.stream_model.proofs.EachOf.{All-append}
-use Rattle.stream_model.proofs.Lookups.{first_at-le, place_of-within}
 use Rattle.stream_ident.proofs.SameValues.{same_grain-refl, same_sub-equal}
 use Rattle.consumer_grain.specs.declared.delivery.Delivery.{Delivery}
 use Rattle.consumer_grain.specs.declared.told.Offered.{Offered}
@@ -39,6 +38,9 @@ use Rattle.subscription_table.specs.Table.{PlainTable, no_entry, no_state, regis
 use Rattle.subscription_table.specs.Table as table
 use Rattle.subscription_table.specs.declared.progress.Sought.{Sought}
 use Rattle.subscription_table.specs.declared.progress.Sought.TheVariants as sought
+use Rattle.stream_model.proofs.Lookups.{place_of-within}
+use Rattle.stream_ident.proofs.FirstLemmas.{place_of-key}
+use Rattle.stream_model.proofs.Answering.{on-error}
 use Rattle.step_core.specs.Assembly.{Agrees, IsAssembled}
 use Rattle.step_core.specs.Handing.{IsNext, sent}
 use Rattle.step_core.specs.Known.{AreKnown, IsUnheld}
@@ -47,13 +49,11 @@ use Rattle.step_core.specs.Numbers.{AreDistinct, IsBelow}
 use Rattle.step_core.specs.PlainOf.{plain_of}
 use Rattle.step_core.specs.Records.{record_of}
 use Rattle.step_core.specs.View.{delivery_of, grain_of, grains_of, name_at, turn_of}
-use Rattle.step_core.proofs.DeactivateOps.{length-map}
 use Rattle.step_core.proofs.DeliverOps.{Seeks, deliver-closed, deliver-first, deliver-next, deliver-nothing, next-is, handed, handed_first}
 use Rattle.step_core.proofs.GrainOps.{AreSome, activation_at, grain-found, grain-new, outstanding-is}
 use Rattle.step_core.proofs.KnownMore.{known-first}
 use Rattle.step_core.proofs.KnownOps.{known-offered, known-state}
-use Rattle.step_core.proofs.KnownTurns.{found-own}
-use Rattle.step_core.proofs.NamesOps.{number-of-name, record-of-number}
+use Rattle.step_core.proofs.NamesOps.{number-of-name, record-of-number, name-of-place}
 use Rattle.step_core.proofs.Shared.{distinct-of-unique, history-of, name-same, high-end}
 use Rattle.stream_ident.proofs.WordLemmas.{All-at}
 
@@ -77,23 +77,6 @@ named : (parts : Parts) (number : ℕ) → Stands parts number → place_of same
 named parts number stands =
     subst (λ s. place_of same_sub s parts.subs.registry.names ≡ Some number) (name-same parts.subs number)
     (number-of-name parts.subs.registry.names number (distinct parts number stands) stands.within)
-
--- a name is that under its number
-named-by : (s : SubName) (n number : ℕ) (names : List (SubName × Registration)) (d : SubName × Registration) → first_at (λ (entry : SubName × Registration). same_sub s entry.0) n names ≡ Some (n + number) → s ≡ (get_or names number d).0
-named-by s n number [] d found = absurd (cc)
-named-by s n zero (entry ∷ names) d found = by (same_sub s entry.0) refl found
-  where
-    by : (b : Bool) → same_sub s entry.0 ≡ b → (if b then Some n else first_at (λ (e : SubName × Registration). same_sub s e.0) (suc n) names) ≡ Some (n + zero) → s ≡ entry.0
-    by true same at = same_sub-equal s entry.0 same
-    by false other at = absurd (let later = first_at-le (λ (e : SubName × Registration). same_sub s e.0) (suc n) (n + zero) names at in omega arith)
-named-by s n (suc number) (entry ∷ names) d found =
-    (elim (same_sub s entry.0) as (λ b. (if b then Some n else first_at (λ (e : SubName × Registration). same_sub s e.0) (suc n) names) ≡ Some (n + suc number) → s ≡ (get_or names number d).0) [
-      | true ↦ λ at. let same : n ≡ n + suc number = cc in absurd (omega arith)
-      | false ↦ λ at. named-by s (suc n) number names d (at ∙ ap {B = Option ℕ} Some (omega arith))
-    ]) found
-
-pub name-found : (parts : Parts) (s : SubName) (number : ℕ) → place_of same_sub s parts.subs.registry.names ≡ Some number → s ≡ table.name_at parts.subs number
-name-found parts s number found = named-by s 0 number parts.subs.registry.names no_entry (found ∙ ap {B = Option ℕ} Some (omega arith))
 
 -- an open subscription's cursor isn't behind the cache
 pub cursor-low : (parts : Parts) (number : ℕ) → Stands parts number → (state_at parts.subs number).is_open ≡ true → parts.agent.cache.low ≤ (state_at parts.subs number).cursor
@@ -125,7 +108,7 @@ idle-empty parts g j agrees found idle =
     let fits = (history-of (plain_of parts) agrees.reached).fits.grains.each g in
     let is = grain-found parts g j no_grain found in
     let none = fits.idle (ap (λ (st : Grain). st.active) is ∙ idle) in
-    sym (length-map (delivery_of parts.subs.registry.names) (activation_at parts j no_grain).mailbox)
+    sym (length-map (activation_at parts j no_grain).mailbox (delivery_of parts.subs.registry.names))
     ∙ ap length (sym (ap (λ (st : Grain). st.mailbox) is) ∙ none.0)
 
 -- something is handled and not acknowledged
@@ -391,7 +374,7 @@ handed-assembled parts new d j wakes grains assembled within found offers is =
     (change-all (IsBelow (length parts.subs.registry.names)) (λ a. woken a d) j parts.grains (λ a below. woken-below (length parts.subs.registry.names) a d within below) assembled.numbered))
     (subst (AreKnown parts.subs.registry.names (sent_states parts d)) (sym offers.0)
     (known-offered parts.subs.registry.names parts.subs.states parts.grains d.sub j (advanced d.position (state_at parts.subs d.sub)) d assembled.known within
-    (place_of-within same_grain (record_of parts d.sub).grain j parts.grains found) refl (found-own (record_of parts d.sub).grain j parts.grains found)))
+    (place_of-within same_grain (record_of parts d.sub).grain j parts.grains found) refl (place_of-key same_grain (record_of parts d.sub).grain parts.grains no_grain j found)))
     is
 
 -- ---- to a grain that was never active
@@ -453,11 +436,7 @@ activation-few parts j agrees within =
     numbers [] all = tt
     numbers (g ∷ grains) all = (all.0, numbers grains all.1)
 
--- ---- memory is wanting
-
-pub on-error : {T E : Type 0} {P : Type 0} (r : Result T E) → P → OnErr r P
-on-error (Ok told) is = tt
-on-error (Err e) is = is
+-- ---- a failure to allocate
 
 pub handed-memory : {T E : Type 0} (parts : Parts) (d : Delivery) (j : ℕ) (r : Result T E) → Stands parts d.sub → IsNext parts d → place_of same_grain (record_of parts d.sub).grain parts.grains ≡ Some j
     → nat_le 16 (length (activation j parts.grains).mailbox) ≡ false → HasRise parts (activation j parts.grains).active → OnErr r (takes_memory (ToDo parts d).1 ≡ true)
@@ -513,7 +492,7 @@ pub todo-is : (parts : Parts) (t : PlainTable) (number generation position : ℕ
 todo-is parts t number generation position s outstanding current found sought =
     ap {B = Answer} (λ (t : PlainTable). ToDo (with_subs parts t) (record { sub = number; position = position })) sought.0
     ∙ ap {B = Answer} (λ n. plain.deliver (plain_of parts) n (table.name_at parts.subs number)) (sym (eqb-true generation parts.agent.generation current))
-    ∙ ap {B = Answer} (λ name. plain.deliver (plain_of parts) generation name) (sym (name-found parts s number found))
+    ∙ ap {B = Answer} (λ name. plain.deliver (plain_of parts) generation name) (sym (name-of-place s parts.subs.registry.names number no_entry found))
 
 pub todo-performs : (parts : Parts) (t : PlainTable) (new : PlainPartition) (r : Result Reply AllocError) (before after : Answer) → t ≡ parts.subs → before ≡ after → Performs (plain_of (with_subs parts t)) new r before → Performs (plain_of parts) new r after
 todo-performs parts t new r before after same todo performs =
@@ -526,7 +505,7 @@ pub nothing-performs : (parts : Parts) (t : PlainTable) (number generation : ℕ
 nothing-performs parts t number generation s outstanding stands current found is_out sought =
     ap {B = Answer} (λ (t : PlainTable). (plain_of (with_subs parts t), reply.Nothing)) sought.0
     ∙ sym (deliver-nothing parts generation s number no_entry no_state outstanding (sym stands.agrees.records.long, (current, (found, sought.1)))
-    (sought-next parts number None stands sought.1 sought.2) (ap (λ name. is_outstanding (plain_of parts) name (record_of parts number)) (name-found parts s number found) ∙ sym is_out))
+    (sought-next parts number None stands sought.1 sought.2) (ap (λ name. is_outstanding (plain_of parts) name (record_of parts number)) (name-of-place s parts.subs.registry.names number no_entry found) ∙ sym is_out))
 
 -- where nothing is on its way and nothing is handled, nothing is outstanding
 none-outstanding : (parts : Parts) (number : ℕ) → Stands parts number → (state_at parts.subs number).handled ≡ [] → IsUnheld parts.subs.registry.names parts.grains number
@@ -541,7 +520,7 @@ none-outstanding parts number stands handled unheld = by (place_of same_grain g 
 
     by : (at : Option ℕ) → place_of same_grain g parts.grains ≡ at → is_outstanding (plain_of parts) (table.name_at parts.subs number) (record_of parts number) ≡ false
     by None none = outstanding-nowhere parts number (table.name_at parts.subs number) acknowledged none
-    by (Some j) found = outstanding-held parts number j stands acknowledged found ∙ unheld j (place_of-within same_grain g j parts.grains found) (found-own g j parts.grains found)
+    by (Some j) found = outstanding-held parts number j stands acknowledged found ∙ unheld j (place_of-within same_grain g j parts.grains found) (place_of-key same_grain g parts.grains no_grain j found)
 
 -- and so the resume follows the cursor of a subscription that nothing was offered for
 pub nothing-assembled : (parts : Parts) (t : PlainTable) (number : ℕ) (outstanding : Bool) → Stands parts number → outstanding ≡ is_outstanding (plain_of parts) (table.name_at parts.subs number) (record_of parts number)

@@ -14,8 +14,8 @@ use Rattle.consumer_grain.specs.declared.delivery.Delivery.{Delivery}
 use Rattle.consumer_grain.specs.Subscriptions.{PlainState}
 use Rattle.grain_table.specs.Changes.{activation_at, grain_at, no_grain}
 use Rattle.pubsub_registry.specs.declared.registration.Registration.{Registration}
-use Rattle.pubsub_registry.specs.Registry.{shut}
 use Rattle.subscription_table.specs.Table.{is_in, no_entry, no_state}
+use Rattle.pubsub_registry.specs.Registry.{closed_registration}
 use Rattle.step_core.specs.Known.{AreKnown, IsOf, IsUnheld, IsUnknown, IsUntouched}
 use Rattle.step_core.proofs.KnownOps.{Either, Left, Right, changed-here, changed-other, eqb-same, none-or, or-none, same-or}
 use Rattle.stream_ident.proofs.WordLemmas.{length-change_at}
@@ -132,20 +132,12 @@ known-names names others states grains known long same = record {
     back : (k n : ℕ) → IsOf others grains n k → IsOf names grains n k
     back k n is = subst (λ (g : GrainId). same_grain g (grain_at grains k) ≡ true) (same n) is
 
-pub shut-length : (s : SubName) (names : List (SubName × Registration)) → length (changed_value same_sub s shut names) ≡ length names
-shut-length s [] = refl
-shut-length s (entry ∷ names) = by (same_sub s entry.0) (shut-length s names)
+pub closed-grain : (s : SubName) (names : List (SubName × Registration)) (n : ℕ) → (get_or (changed_value same_sub s closed_registration names) n no_entry).1.grain ≡ (get_or names n no_entry).1.grain
+closed-grain s [] n = refl
+closed-grain s (entry ∷ names) n = by (same_sub s entry.0) n (closed-grain s names)
   where
-    by : (b : Bool) → length (changed_value same_sub s shut names) ≡ length names → length (if b then (entry.0, shut entry.1) ∷ names else entry ∷ changed_value same_sub s shut names) ≡ suc (length names)
-    by true rest = refl
-    by false rest = ap suc rest
-
-pub shut-grain : (s : SubName) (names : List (SubName × Registration)) (n : ℕ) → (get_or (changed_value same_sub s shut names) n no_entry).1.grain ≡ (get_or names n no_entry).1.grain
-shut-grain s [] n = refl
-shut-grain s (entry ∷ names) n = by (same_sub s entry.0) n (shut-grain s names)
-  where
-    by : (b : Bool) (n : ℕ) → ((n : ℕ) → (get_or (changed_value same_sub s shut names) n no_entry).1.grain ≡ (get_or names n no_entry).1.grain)
-        → (get_or (if b then (entry.0, shut entry.1) ∷ names else entry ∷ changed_value same_sub s shut names) n no_entry).1.grain ≡ (get_or (entry ∷ names) n no_entry).1.grain
+    by : (b : Bool) (n : ℕ) → ((n : ℕ) → (get_or (changed_value same_sub s closed_registration names) n no_entry).1.grain ≡ (get_or names n no_entry).1.grain)
+        → (get_or (if b then (entry.0, closed_registration entry.1) ∷ names else entry ∷ changed_value same_sub s closed_registration names) n no_entry).1.grain ≡ (get_or (entry ∷ names) n no_entry).1.grain
     by true zero rest = refl
     by true (suc n) rest = refl
     by false zero rest = refl

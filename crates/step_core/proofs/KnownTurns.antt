@@ -16,17 +16,17 @@ use Rattle.stream_ident.specs.Blocks.{turn_size}
 use Rattle.consumer_grain.specs.declared.delivery.Delivery.{Delivery}
 use Rattle.consumer_grain.specs.declared.turn.RunningTurn.{RunningTurn}
 use Rattle.consumer_grain.specs.Subscriptions.{PlainState}
-use Rattle.grain_table.proofs.FirstLemmas.{first_at-Some}
 use Rattle.grain_table.specs.Changes.{activation_at, grain_at, no_grain}
 use Rattle.grain_table.specs.Grains as table
 use Rattle.pubsub_registry.specs.declared.registration.Registration.{Registration}
 use Rattle.subscription_table.specs.Table.{PlainTable, is_in, new_states, no_entry, no_state, rewound_open, state_at, AreRewound}
+use Rattle.stream_ident.proofs.FirstLemmas.{place_of-key}
+use Rattle.stream_model.specs.Turns.{is_open_of}
 use Rattle.step_core.specs.declared.parts.Parts.{Parts}
 use Rattle.step_core.specs.Known.{AreKnown, IsOf, IsUnknown, IsUntouched}
 use Rattle.step_core.specs.Numbers.{IsBelow, TurnIsBelow}
 use Rattle.step_core.specs.View.{sub_of}
 use Rattle.step_core.proofs.DeactivateOps as deactivating
-use Rattle.step_core.proofs.DeactivateOps.{is_its}
 use Rattle.step_core.proofs.KnownOps.{Either, Left, Right, known-states, none-or, or-none}
 
 -- ---- records more
@@ -199,12 +199,6 @@ any-default [] i d e within = absurd (omega (arith, within))
 any-default (x ∷ xs) zero d e within = refl
 any-default (x ∷ xs) (suc i) d e within = any-default xs i d e (omega (arith, within))
 
-pub found-own : (g : GrainId) (j : ℕ) (grains : List (GrainId × PlainActivation)) → place_of same_grain g grains ≡ Some j → same_grain g (grain_at grains j) ≡ true
-found-own g j grains found =
-    let first = first_at-Some (λ (e : GrainId × PlainActivation). same_grain g e.0) 0 grains no_grain j found in
-    let same = first.at in
-    subst (λ k. same_grain g (grain_at grains k) ≡ true) {x = first.place} {y = j} (omega (arith, same)) first.is
-
 -- the numbers that a grain knows are all whose cursors have to go back
 pub rewound-is : (parts : Parts) (g : GrainId) (j : ℕ) (new : PlainTable) → length parts.subs.states ≡ length parts.subs.registry.names → AreKnown parts.subs.registry.names parts.subs.states parts.grains → table.AreDistinct parts.grains
     → place_of same_grain g parts.grains ≡ Some j → AreRewound (activation_at parts.grains j).subs parts.subs new → deactivating.AreRewound g parts new.states
@@ -223,7 +217,7 @@ rewound-is parts g j new lengths known distinct found rewound i d e within =
     numbers = (activation_at parts.grains j).subs
 
     Same : SubName × Registration → PlainState → PlainState → Type 0
-    Same entry now was = (sub_of entry now).1 ≡ rewound_where (is_its g (sub_of entry was).1) (sub_of entry was).1
+    Same entry now was = (sub_of entry now).1 ≡ rewound_where (is_open_of g (sub_of entry was).1) (sub_of entry was).1
 
     Q : SubName × Registration → PlainState → PlainState → Type 0
     Q entry now e' = Same (get_or names i entry) now (get_or states i e')
@@ -235,7 +229,7 @@ rewound-is parts g j new lengths known distinct found rewound i d e within =
     inside = place_of-within same_grain g j parts.grains found
 
     own : g ≡ grain_at parts.grains j
-    own = same_grain-equal g (grain_at parts.grains j) (found-own g j parts.grains found)
+    own = same_grain-equal g (grain_at parts.grains j) (place_of-key same_grain g parts.grains no_grain j found)
 
     old : PlainState
     old = state_at parts.subs i

@@ -29,11 +29,6 @@ use Rattle.step_core.proofs.NumberedOps.{All-change_at, change_at-by}
 abbrev out_of : Parts → PlainTable → PlainGrains → ℕ → PlainPartition × Reply
 out_of parts subs grains count = (plain_of (with_both parts subs grains), reply.Deactivated count)
 
--- a grain that isn't active
-pub deactivate-idle : (parts : Parts) (g : GrainId) (i : ℕ) → number_of parts.grains g ≡ Some i → (activation_at parts.grains i).active ≡ false → plain.deactivate (plain_of parts) g ≡ (plain_of parts, reply.NotActive)
-unfolding plain.deactivate plain.deactivate_in
-deactivate-idle parts g i found idle = rw (grain-found parts g i no_grain found, idle) refl
-
 pub deactivate-told : (parts : Parts) (g : GrainId) (i : ℕ) (subs : PlainTable) (grains : PlainGrains) (count : ℕ)
     → length parts.subs.registry.names ≡ length parts.subs.states → IsAssembled parts → AreDistinct parts.grains → number_of parts.grains g ≡ Some i → (activation_at parts.grains i).active ≡ true
     → AreRewound (activation_at parts.grains i).subs parts.subs subs → grains ≡ change_at deactivated i parts.grains → count ≡ lost (activation_at parts.grains i)

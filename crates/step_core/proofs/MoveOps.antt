@@ -59,11 +59,6 @@ purge-parts parts generation keep current = rw current drops
         ap {B = PlainPartition × Reply} (λ n. (record (plain_of parts) { low = c.low + 64 * n }, reply.Purged (token_at (plain_of parts) (c.low + 64 * n)))) same
         ∙ ap {B = PlainPartition × Reply} (λ n. (record (plain_of parts) { low = c.low + 64 * blocks; high = n }, reply.Purged (token_at (plain_of parts) (c.low + 64 * blocks)))) (sym (high-without blocks c within))
 
--- the agent was replaced
-pub purge-stale : (parts : Parts) (generation keep : ℕ) → (generation == parts.agent.generation) ≡ false → plain.purge (plain_of parts) generation keep ≡ (plain_of parts, reply.StaleAgent parts.agent.generation)
-unfolding plain.purge
-purge-stale parts generation keep stale = rw stale refl
-
 -- these states are the old ones, with the cursors of the open records back at their resumes
 abbrev pub AreAllRewound : Parts → List PlainState → Type 0
 AreAllRewound parts new =

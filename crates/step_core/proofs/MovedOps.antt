@@ -1,5 +1,6 @@
 -- Blocks that leave the cache and an agent that takes over leave parts that agree with each other.
 use Rattle.std.proofs.Common.{◌≡◌, ◌∙◌, ap, sym, subst, refl, ℕ, zero, suc, ◌+◌, ◌-◌, ◌*◌, ◌<◌, ◌≤◌, min, Bool, true, false, List, [], ◌∷◌, length, take, drop, get_or, map, arith}
+use Rattle.std.proofs.lemmas.List.{length-map}
 use Rattle.std.specs.Prelude.{if◌then◌else◌, Ok, Err}
 use Rattle.stream_ident.specs.declared.token.Token.{Token}
 use Rattle.stream_ident.specs.Words.{least_with}
@@ -14,16 +15,16 @@ use Rattle.pulling_agent.specs.declared.agent.StaleAgent.{StaleAgent}
 use Rattle.queue_cache.specs.Cache.{PlainCache, high}
 use Rattle.subscription_table.specs.Standing.{AreRecords}
 use Rattle.subscription_table.specs.Table.{PlainTable, rewound_all, rewound_open}
+use Rattle.stream_model.proofs.Refusals.{purge-stale}
 use Rattle.step_core.specs.Assembly.{HasEvents, IsAssembled}
 use Rattle.step_core.specs.PlainOf.{plain_of}
 use Rattle.step_core.specs.View.{sub_of}
 use Rattle.step_core.specs.declared.parts.Parts.{Parts}
 use Rattle.step_core.proofs.CachedEvents.{between-drop}
 use Rattle.step_core.proofs.CheckOps.{check-current, check-stale}
-use Rattle.step_core.proofs.DeactivateOps.{length-map}
 use Rattle.step_core.proofs.KnownOps.{known-rewound}
 use Rattle.step_core.proofs.LeafOps.{moved-to, slowest-is}
-use Rattle.step_core.proofs.MoveOps.{AreAllRewound, free-le, high-without, move-parts, moved, purge-parts, purge-stale, purged_by}
+use Rattle.step_core.proofs.MoveOps.{AreAllRewound, free-le, high-without, move-parts, moved, purge-parts, purged_by}
 
 -- ---- blocks leave the cache
 
@@ -65,7 +66,7 @@ module _ (parts : Parts) (generation keep : ℕ) where
   pub purge-replaced : (stale : StaleAgent) → Err stale ≡ agent.check parts.agent generation → (plain_of parts, reply.StaleAgent stale.now) ≡ plain.purge (plain_of parts) generation keep
   purge-replaced stale checked =
       let replaced = check-stale parts.agent generation stale checked in
-      ap {B = PlainPartition × Reply} (λ now. (plain_of parts, reply.StaleAgent now)) replaced.now ∙ sym (purge-stale parts generation keep replaced.other)
+      ap {B = PlainPartition × Reply} (λ now. (plain_of parts, reply.StaleAgent now)) replaced.now ∙ purge-stale (plain_of parts) generation keep (ap not replaced.other)
 
   -- the cache then begins at a position that it had
   pub purged-low : (least : ℕ) (new : agent.PlainAgent) (low : ℕ) → (new, low) ≡ agent.purge parts.agent keep least → low ≤ high parts.agent.cache
@@ -74,11 +75,6 @@ module _ (parts : Parts) (generation keep : ℕ) where
       omega (arith, is, purges-le parts.agent keep least)
 
 -- ---- another agent
-
--- no rise is left
-pub move-spent : (parts : Parts) (silo : ℕ) → is_spent (plain_of parts) ≡ true → (plain_of parts, reply.Spent) ≡ plain.move (plain_of parts) silo
-unfolding plain.move
-move-spent parts silo spent = rw spent refl
 
 map-at : (f : PlainState → PlainState) (states : List PlainState) (i : ℕ) (e : PlainState) → i < length states → get_or (map f states) i e ≡ f (get_or states i e)
 map-at f [] i e within = absurd (omega (arith, within))
@@ -115,7 +111,7 @@ module _ (parts : Parts) (silo position : ℕ) where
       let rises : parts.rises + 1 ≡ suc parts.rises = omega arith in
       ap {B = PlainPartition × Reply} (λ n. (plain_of (record taken_over { rises = n }), reply.Moved (suc parts.agent.generation) (token_at (plain_of parts) position))) rises
       ∙ ap (λ (spent : Bool). if spent then (plain_of parts, reply.Spent) else (plain_of (moved parts silo position (rewound_all parts.subs).states), reply.Moved (suc parts.agent.generation) (token_at (plain_of parts) position))) (sym left)
-      ∙ sym (move-parts parts silo position (rewound_all parts.subs).states (sym records.long) (length-map rewound_open parts.subs.states) least (all-rewound parts records))
+      ∙ sym (move-parts parts silo position (rewound_all parts.subs).states (sym records.long) (length-map parts.subs.states rewound_open) least (all-rewound parts records))
 
   module _ (new : agent.PlainAgent) (generation : ℕ) (subs : PlainTable) (took : (new, generation) ≡ agent.take_over parts.agent silo position) (rewinds : subs ≡ rewound_all parts.subs) where
     pub moved-assembled : AreRecords parts.subs → IsAssembled parts → IsAssembled (record parts { agent = new; subs = subs; rises = parts.rises + 1 })

@@ -1,13 +1,15 @@
 -- The number of a name is the place where it stands.
-use Rattle.std.proofs.Common.{◌≡◌, ◌∙◌, ap, refl, ℕ, zero, suc, ◌+◌, ◌<◌, true, false, List, [], ◌∷◌, length, get_or, Option, Some, arith}
+use Rattle.std.proofs.Common.{◌≡◌, ◌∙◌, ap, refl, ℕ, zero, suc, ◌+◌, ◌<◌, true, false, List, [], ◌∷◌, length, get_or, Option, Some, arith, sym}
 use Rattle.std.proofs.lemmas.Bool.{false_from_ne_true}
 use Rattle.stream_ident.specs.declared.ident.SubName.{SubName}
 use Rattle.stream_ident.specs.SubName.{same_sub}
 use Rattle.stream_ident.specs.Words.{first_at, place_of}
 use Rattle.stream_model.specs.Positions.{sub_at}
-use Rattle.stream_ident.proofs.SameValues.{same_sub-refl}
 use Rattle.consumer_grain.specs.Subscriptions.{PlainState}
 use Rattle.pubsub_registry.specs.declared.registration.Registration.{Registration}
+use Rattle.stream_ident.proofs.FirstLemmas.{first_at-there, place_of-key}
+use Rattle.stream_ident.proofs.SameValues.{same_sub-refl, same_sub-equal}
+use Rattle.subscription_table.specs.Table.{no_entry}
 use Rattle.step_core.specs.Numbers.{AreDistinct}
 use Rattle.step_core.specs.declared.parts.Parts.{Parts}
 use Rattle.step_core.specs.PlainOf.{plain_of}
@@ -20,21 +22,21 @@ name-of-entry [] i d within = absurd (omega (arith, within))
 name-of-entry (entry ∷ entries) zero d within = refl
 name-of-entry (entry ∷ entries) (suc i) d within = name-of-entry entries i d (omega (arith, within))
 
--- the first entry of a name, where none before it has it
-first-own : (s : SubName) (n j : ℕ) (names : List (SubName × Registration)) → j < length names → same_sub s (name_at names j) ≡ true → ((i : ℕ) → i < j → same_sub s (name_at names i) ≡ false) → first_at (λ entry. same_sub s entry.0) n names ≡ Some (n + j)
-first-own s n j [] within own others = absurd (omega (arith, within))
-first-own s n zero (entry ∷ entries) within own others = rw own (ap {B = Option ℕ} Some (omega arith))
-first-own s n (suc j) (entry ∷ entries) within own others =
-    rw (others zero (omega arith))
-    (first-own s (suc n) j entries (omega (arith, within)) own (λ i before. others (suc i) (omega (arith, before)))
-    ∙ ap {B = Option ℕ} Some (omega arith))
+-- and a name is that of the entry at its place
+pub name-of-place : (s : SubName) (names : List (SubName × Registration)) (number : ℕ) (d : SubName × Registration) → place_of same_sub s names ≡ Some number → s ≡ (get_or names number d).0
+name-of-place s names number d found = same_sub-equal s (get_or names number d).0 (place_of-key same_sub s names d number found)
 
 pub number-of-name : (names : List (SubName × Registration)) (j : ℕ) → AreDistinct names → j < length names → place_of same_sub (name_at names j) names ≡ Some j
 number-of-name names j distinct within =
-    first-own (name_at names j) 0 j names within (same_sub-refl (name_at names j))
-    (λ i before. false_from_ne_true (same_sub (name_at names j) (name_at names i)) (λ same.
+    first_at-there (λ (entry : SubName × Registration). same_sub s entry.0) 0 names no_entry j within
+    (ap (same_sub s) (sym (name-of-entry names j no_entry within)) ∙ same_sub-refl s)
+    (λ i before.
+    ap (same_sub s) (sym (name-of-entry names i no_entry (omega (arith, before, within))))
+    ∙ false_from_ne_true (same_sub s (name_at names i)) (λ same.
     let equal = distinct j i within (omega (arith, before, within)) same in absurd (omega (arith, before, equal))))
-    ∙ ap {B = Option ℕ} Some (omega arith)
+  where
+    s : SubName
+    s = name_at names j
 
 -- the record of the name under a number
 pub record-of-number : (parts : Parts) (j : ℕ) (d : SubName × Registration) (e : PlainState) → AreDistinct parts.subs.registry.names → length parts.subs.registry.names ≡ length parts.subs.states → j < length parts.subs.registry.names → sub_at (plain_of parts) (name_at parts.subs.registry.names j) ≡ Some (record_at parts j d e)

@@ -22,6 +22,7 @@ use Rattle.queue_cache.specs.Cache as cache
 use Rattle.resume_tree.specs.declared.leaf.Leaf.{Leaf}
 use Rattle.resume_tree.specs.Leaves as leaves
 use Rattle.subscription_table.specs.LeavesOf.{leaf_of, leaves_of, open_resume}
+use Rattle.stream_model.proofs.Refusals.{pull-stale}
 use Rattle.step_core.specs.declared.parts.Parts.{Parts}
 use Rattle.step_core.specs.PlainOf.{plain_of}
 use Rattle.step_core.specs.Taking.{taken}
@@ -137,11 +138,7 @@ planned-is parts generation max_events checked current len least made is_len is_
     ∙ sym (pull-planned parts generation max_events (check-current parts.agent generation checked current))
 
 -- the agent was replaced
-pull-stale : (parts : Parts) (generation max_events : ℕ) → (generation == parts.agent.generation) ≡ false → plain.pull (plain_of parts) generation max_events ≡ (plain_of parts, reply.StaleAgent parts.agent.generation)
-unfolding plain.pull
-pull-stale parts generation max_events stale = rw stale refl
-
 pub pull-replaced : (parts : Parts) (generation max_events : ℕ) (stale : StaleAgent) → Err stale ≡ agent.check parts.agent generation → (plain_of parts, reply.StaleAgent stale.now) ≡ plain.pull (plain_of parts) generation max_events
 pull-replaced parts generation max_events stale checked =
     let replaced = check-stale parts.agent generation stale checked in
-    ap {B = PlainPartition × Reply} (λ now. (plain_of parts, reply.StaleAgent now)) replaced.now ∙ sym (pull-stale parts generation max_events replaced.other)
+    ap {B = PlainPartition × Reply} (λ now. (plain_of parts, reply.StaleAgent now)) replaced.now ∙ pull-stale (plain_of parts) generation max_events (ap not replaced.other)

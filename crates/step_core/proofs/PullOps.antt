@@ -24,9 +24,11 @@ use Rattle.consumer_grain.specs.Subscriptions.{PlainState, new_state}
 use Rattle.pubsub_registry.specs.declared.registration.Registration.{Registration}
 use Rattle.pubsub_registry.specs.Implying as implying
 use Rattle.subscription_table.specs.Table.{new_states}
+use Rattle.stream_ident.specs.Implying.{added}
 use Rattle.step_core.specs.Known.{AreKnown}
-use Rattle.step_core.specs.Numbers.{IsBelow, TurnIsBelow}
+use Rattle.step_core.specs.Numbers.{IsBelow}
 use Rattle.step_core.specs.View.{grains_of, sub_of, subs_of}
+use Rattle.step_core.proofs.MoreNumbers.{numbered-more}
 use Rattle.step_core.proofs.KnownTurns.{known-grown}
 use Rattle.step_core.proofs.SubscribeOps.{grains-before}
 use Rattle.step_core.proofs.ViewLemmas.{record-added, records-length}
@@ -88,14 +90,14 @@ append-one : {A : Type 0} (xs : List A) (x : A) (ys : List A) → (xs ++ x ∷ [
 append-one [] x ys = refl
 append-one (first ∷ xs) x ys = ap (λ rest. first ∷ rest) (append-one xs x ys)
 
-names-added : (names entries : List (SubName × Registration)) → fold implying.added names entries ≡ names ++ new_of names entries
+names-added : (names entries : List (SubName × Registration)) → fold added names entries ≡ names ++ new_of names entries
 unfolding new_of
 names-added names [] = sym (append-nil names)
 names-added names (entry ∷ entries) =
     by (is_some (value_at same_sub entry.0 names)) (names-added names entries) (names-added (names ++ entry ∷ []) entries)
   where
-    by : (there : Bool) → fold implying.added names entries ≡ names ++ new_of names entries → fold implying.added (names ++ entry ∷ []) entries ≡ (names ++ entry ∷ []) ++ new_of (names ++ entry ∷ []) entries
-        → fold implying.added (if there then names else names ++ entry ∷ []) entries ≡ names ++ (if there then new_of names entries else entry ∷ new_of (names ++ entry ∷ []) entries)
+    by : (there : Bool) → fold added names entries ≡ names ++ new_of names entries → fold added (names ++ entry ∷ []) entries ≡ (names ++ entry ∷ []) ++ new_of (names ++ entry ∷ []) entries
+        → fold added (if there then names else names ++ entry ∷ []) entries ≡ names ++ (if there then new_of names entries else entry ∷ new_of (names ++ entry ∷ []) entries)
     by true kept more = kept
     by false kept more = more ∙ append-one names entry (new_of (names ++ entry ∷ []) entries)
 
@@ -107,13 +109,13 @@ length-one (first ∷ xs) (other ∷ ys) x y same = ap suc (length-one xs ys x y
 
 -- and their records
 records-made : (position : ℕ) (names entries : List (SubName × Registration)) (states : List PlainState) → length names ≡ length states
-    → fold plain.added (subs_of names states) (new_records position entries) ≡ subs_of (names ++ new_of names entries) (states ++ new_states position (new_of names entries))
+    → fold added (subs_of names states) (new_records position entries) ≡ subs_of (names ++ new_of names entries) (states ++ new_states position (new_of names entries))
 unfolding new_of
 records-made position names [] states lengths =
     ap (λ ns. subs_of ns states) (sym (append-nil names))
     ∙ ap (λ ss. subs_of (names ++ []) ss) (sym (append-nil states))
 records-made position names (entry ∷ entries) states lengths =
-    ap (λ there. fold plain.added (if there then subs_of names states else subs_of names states ++ new_record position entry ∷ []) (new_records position entries)) (there-is entry.0 names states lengths)
+    ap (λ there. fold added (if there then subs_of names states else subs_of names states ++ new_record position entry ∷ []) (new_records position entries)) (there-is entry.0 names states lengths)
     ∙ by (is_some (value_at same_sub entry.0 names)) (records-made position names entries states lengths)
     (records-made position (names ++ entry ∷ []) entries (states ++ state ∷ []) (length-one names states entry state lengths))
   where
@@ -121,15 +123,15 @@ records-made position names (entry ∷ entries) states lengths =
     state = new_state entry.1.start position
 
     Made : List (SubName × Registration) → List (SubName × Registration) → List PlainState → List PlainState → Type 0
-    Made ns more ss made = fold plain.added (subs_of ns ss) (new_records position entries) ≡ subs_of (ns ++ more) (ss ++ made)
+    Made ns more ss made = fold added (subs_of ns ss) (new_records position entries) ≡ subs_of (ns ++ more) (ss ++ made)
 
     by : (there : Bool) → Made names (new_of names entries) states (new_states position (new_of names entries))
         → Made (names ++ entry ∷ []) (new_of (names ++ entry ∷ []) entries) (states ++ state ∷ []) (new_states position (new_of (names ++ entry ∷ []) entries))
-        → fold plain.added (if there then subs_of names states else subs_of names states ++ new_record position entry ∷ []) (new_records position entries)
+        → fold added (if there then subs_of names states else subs_of names states ++ new_record position entry ∷ []) (new_records position entries)
         ≡ subs_of (names ++ (if there then new_of names entries else entry ∷ new_of (names ++ entry ∷ []) entries)) (states ++ new_states position (if there then new_of names entries else entry ∷ new_of (names ++ entry ∷ []) entries))
     by true kept more = kept
     by false kept more =
-        ap (λ subs. fold plain.added subs (new_records position entries)) (sym (record-added names states entry state lengths))
+        ap (λ subs. fold added subs (new_records position entries)) (sym (record-added names states entry state lengths))
         ∙ more
         ∙ ap (λ ns. subs_of ns ((states ++ state ∷ []) ++ new_states position (new_of (names ++ entry ∷ []) entries))) (append-one names entry (new_of (names ++ entry ∷ []) entries))
         ∙ ap (λ ss. subs_of (names ++ entry ∷ new_of (names ++ entry ∷ []) entries) ss) (append-one states state (new_states position (new_of (names ++ entry ∷ []) entries)))
@@ -141,7 +143,7 @@ made-view rules position names states events lengths =
     ap (λ ns. subs_of ns (states ++ new_states position (drop (length names) ns))) (names-added names entries)
     ∙ ap (λ more. subs_of (names ++ new_of names entries) (states ++ new_states position more)) (drop-append_seam names (new_of names entries))
     ∙ sym (records-made position names entries states lengths)
-    ∙ ap (λ made. fold plain.added (subs_of names states) made) (sym (all-implied rules position events))
+    ∙ ap (λ made. fold added (subs_of names states) made) (sym (all-implied rules position events))
   where
     entries : List (SubName × Registration)
     entries = implying.all_implied rules events
@@ -169,24 +171,8 @@ made-length rules position names states events lengths =
 
 -- ---- the grains see the same names
 
-turn-further : (n m : ℕ) (running : Option RunningTurn) → n ≤ m → TurnIsBelow n running → TurnIsBelow m running
-turn-further n m None further below = tt
-turn-further n m (Some run) further below = omega (arith, further, below)
-
-below-further : (n m : ℕ) (a : PlainActivation) → n ≤ m → IsBelow n a → IsBelow m a
-below-further n m a further below =
-    record {
-      waiting = All-weaken (λ (d : Delivery). d.sub < n) (λ (d : Delivery). d.sub < m) (λ d less. omega (arith, further, less)) a.mailbox below.waiting;
-      running = turn-further n m a.running further below.running;
-      subs = All-weaken (λ sub. sub < n) (λ sub. sub < m) (λ sub less. omega (arith, further, less)) a.subs below.subs;
-    }
-
 abbrev AreBelow : ℕ → List (GrainId × PlainActivation) → Type 0
 AreBelow n grains = AllByRecursion (λ (g : GrainId × PlainActivation). IsBelow n g.1) grains
-
-grains-further : (n m : ℕ) (grains : List (GrainId × PlainActivation)) → n ≤ m → AreBelow n grains → AreBelow m grains
-grains-further n m grains further below =
-    All-weaken (λ (g : GrainId × PlainActivation). IsBelow n g.1) (λ (g : GrainId × PlainActivation). IsBelow m g.1) (λ g below. below-further n m g.1 further below) grains below
 
 longer : {A : Type 0} (xs ys : List A) → length xs ≤ length (xs ++ ys)
 longer [] ys = omega arith
@@ -196,7 +182,7 @@ grains-same : (names more : List (SubName × Registration)) (grains : List (Grai
 grains-same names [] grains below = ap (λ ns. grains_of ns grains) (append-nil names)
 grains-same names (entry ∷ more) grains below =
     ap (λ ns. grains_of ns grains) (sym (append-one names entry more))
-    ∙ grains-same (names ++ entry ∷ []) more grains (grains-further (length names) (length (names ++ entry ∷ [])) grains (longer names (entry ∷ [])) below)
+    ∙ grains-same (names ++ entry ∷ []) more grains (numbered-more (length names) (length (names ++ entry ∷ [])) (longer names (entry ∷ [])) grains below)
     ∙ grains-before names entry grains below
 
 pub made-grains : (rules : List Rule) (names : List (SubName × Registration)) (events : List Event) (grains : List (GrainId × PlainActivation)) → AreBelow (length names) grains → grains_of (implying.names_with rules names events) grains ≡ grains_of names grains
@@ -217,6 +203,6 @@ made-known rules position names states events grains lengths below known =
 
 pub made-below : (rules : List Rule) (names : List (SubName × Registration)) (events : List Event) (grains : List (GrainId × PlainActivation)) → AreBelow (length names) grains → AreBelow (length (implying.names_with rules names events)) grains
 made-below rules names events grains below =
-    grains-further (length names) (length (implying.names_with rules names events)) grains
+    numbered-more (length names) (length (implying.names_with rules names events))
     (let further = longer names (new_of names (implying.all_implied rules events)) in omega (arith, further, ap length (names-added names (implying.all_implied rules events))))
-    below
+    grains below

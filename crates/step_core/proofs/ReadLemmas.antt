@@ -26,11 +26,6 @@ found-none parts s records none = no-record parts s (sym records.long) none
 pub handled-within : (parts : Parts) (s : SubName) (number : ℕ) → IsWithinLimits (plain_of parts) → AreRecords parts.subs → number_of parts.subs s ≡ Some number → AreIn parts.queue.events (record_at parts number no_entry no_state).handled
 handled-within parts s number within records found = handled-in (plain_of parts) s (record_at parts number no_entry no_state) within (found-sub parts s number records found)
 
--- one past the last of positions of the log
-pub past-within : (most n : ℕ) (positions : List ℕ) → n ≤ most → AllByRecursion (λ position. position < most) positions → past_from n positions ≤ most
-past-within most n [] from all = from
-past-within most n (position ∷ positions) from all = past-within most (suc position) positions (omega (arith, all.0)) all.1
-
 pub last-none : (parts : Parts) (r : Subscription) → r.handled ≡ [] → last_handled (plain_of parts) (Some r) ≡ None
 last-none parts r none = ap {B = Option Token} (λ (positions : List ℕ). if nat_lt 0 (length positions) then Some (token_at (plain_of parts) (pred (past positions))) else None) none
 

@@ -4,6 +4,8 @@ use Rattle.std.specs.Prelude.{Ok, Err}
 use Rattle.std.specs.List.{All}
 use Rattle.std.proofs.lemmas.Bool.{cond_both}
 use Rattle.std.proofs.lemmas.List.Elements.{All-from_recursion}
+use Rattle.stream_model.proofs.Refusals.{ack-stale, ack-unknown, retry-stale, retry-unknown}
+use Rattle.step_core.proofs.RecordOps.{no-record}
 use Rattle.stream_ident.specs.declared.ident.SubName.{SubName}
 use Rattle.stream_ident.specs.declared.token.Token.{Token}
 use Rattle.stream_model.specs.declared.plain.PlainPartition.{PlainPartition}
@@ -27,7 +29,7 @@ use Rattle.step_core.specs.PlainOf.{plain_of}
 use Rattle.step_core.specs.Replies.{of_ack, of_retry}
 use Rattle.step_core.specs.View.{sub_of, subs_of}
 use Rattle.step_core.specs.declared.parts.Parts.{Parts}
-use Rattle.step_core.proofs.AgentOps.{ack-none, ack-parts, ack-stale, retry-none, retry-parts, retry-stale}
+use Rattle.step_core.proofs.AgentOps.{ack-parts, retry-parts}
 use Rattle.step_core.proofs.AssembledTable.{assembled-subs}
 use Rattle.step_core.proofs.CheckOps.{check-current, check-stale}
 use Rattle.step_core.proofs.KnownOps.{known-state}
@@ -74,11 +76,11 @@ module _ (parts : Parts) (generation : ℕ) (s : SubName) where
   pub retry-replaced : (stale : StaleAgent) → Err stale ≡ agent.check parts.agent generation → (plain_of parts, reply.StaleAgent stale.now) ≡ plain.retry (plain_of parts) generation s
   retry-replaced stale checked =
       let replaced = check-stale parts.agent generation stale checked in
-      ap {B = PlainPartition × Reply} (λ now. (plain_of parts, reply.StaleAgent now)) replaced.now ∙ sym (retry-stale parts generation s replaced.other)
+      ap {B = PlainPartition × Reply} (λ now. (plain_of parts, reply.StaleAgent now)) replaced.now ∙ retry-stale (plain_of parts) generation s (ap not replaced.other)
 
   pub retry-nothing : (checked : Unit {0}) → Ok checked ≡ agent.check parts.agent generation → AreRecords parts.subs → None ≡ number_of parts.subs s → (plain_of parts, reply.NoSuch) ≡ plain.retry (plain_of parts) generation s
   retry-nothing checked is records none =
-      sym (retry-none parts generation s (sym records.long) (check-current parts.agent generation checked is) (sym none))
+      retry-unknown (plain_of parts) generation s (ap not (check-current parts.agent generation checked is)) (no-record parts s (sym records.long) (sym none))
 
   pub retry-performs : (checked : Unit {0}) → Ok checked ≡ agent.check parts.agent generation → (number : ℕ) (new : PlainTable) (told : Retried) → AreRecords parts.subs → Some number ≡ number_of parts.subs s
       → (new, told) ≡ stepped parts.subs number (retry (state_at parts.subs number))
@@ -110,11 +112,11 @@ module _ (parts : Parts) (generation : ℕ) (s : SubName) (token : Token) where
   pub ack-replaced : (stale : StaleAgent) → Err stale ≡ agent.check parts.agent generation → (plain_of parts, reply.StaleAgent stale.now) ≡ plain.ack (plain_of parts) generation s token
   ack-replaced stale checked =
       let replaced = check-stale parts.agent generation stale checked in
-      ap {B = PlainPartition × Reply} (λ now. (plain_of parts, reply.StaleAgent now)) replaced.now ∙ sym (ack-stale parts generation s token replaced.other)
+      ap {B = PlainPartition × Reply} (λ now. (plain_of parts, reply.StaleAgent now)) replaced.now ∙ ack-stale (plain_of parts) generation s token (ap not replaced.other)
 
   pub ack-nothing : (checked : Unit {0}) → Ok checked ≡ agent.check parts.agent generation → AreRecords parts.subs → None ≡ number_of parts.subs s → (plain_of parts, reply.NoSuch) ≡ plain.ack (plain_of parts) generation s token
   ack-nothing checked is records none =
-      sym (ack-none parts generation s token (sym records.long) (check-current parts.agent generation checked is) (sym none))
+      ack-unknown (plain_of parts) generation s token (ap not (check-current parts.agent generation checked is)) (no-record parts s (sym records.long) (sym none))
 
   pub ack-performs : (checked : Unit {0}) → Ok checked ≡ agent.check parts.agent generation → (number : ℕ) (new : PlainTable) (told : Acked) → AreRecords parts.subs → Some number ≡ number_of parts.subs s
       → (new, told) ≡ stepped parts.subs number (ack (state_at parts.subs number) parts.queue token)

@@ -24,7 +24,7 @@ use Rattle.consumer_grain.specs.declared.turn.RunningTurn.{RunningTurn}
 use Rattle.consumer_grain.specs.Activations.{PlainActivation, forgotten}
 use Rattle.consumer_grain.specs.Subscriptions.{PlainState, closed}
 use Rattle.pubsub_registry.specs.declared.registration.Registration.{Registration}
-use Rattle.pubsub_registry.specs.Registry.{shut}
+use Rattle.pubsub_registry.specs.Registry.{closed_registration}
 use Rattle.step_core.specs.Numbers.{AreDistinct, IsBelow}
 use Rattle.step_core.specs.declared.parts.Parts.{Parts}
 use Rattle.step_core.specs.PlainOf.{plain_of}
@@ -33,26 +33,26 @@ use Rattle.step_core.proofs.GrainOps.{activation_at, activation-changed, place_o
 use Rattle.step_core.proofs.NumberLemmas.{same-number}
 use Rattle.step_core.proofs.RecordOps.{no-record, record-found, record-set, record_at}
 
--- ---- a name that is shut says the same of its record
+-- ---- a name that is closed says the same of its record
 
-pub shut-records : (s : SubName) (names : List (SubName × Registration)) (states : List PlainState) → subs_of (changed_value same_sub s shut names) states ≡ subs_of names states
-shut-records s [] states = refl
-shut-records s (entry ∷ names) [] = by (same_sub s entry.0)
+pub closed-records : (s : SubName) (names : List (SubName × Registration)) (states : List PlainState) → subs_of (changed_value same_sub s closed_registration names) states ≡ subs_of names states
+closed-records s [] states = refl
+closed-records s (entry ∷ names) [] = by (same_sub s entry.0)
   where
-    by : (b : Bool) → subs_of (if b then (entry.0, shut entry.1) ∷ names else entry ∷ changed_value same_sub s shut names) [] ≡ []
+    by : (b : Bool) → subs_of (if b then (entry.0, closed_registration entry.1) ∷ names else entry ∷ changed_value same_sub s closed_registration names) [] ≡ []
     by true = refl
     by false = refl
-shut-records s (entry ∷ names) (state ∷ states) = by (same_sub s entry.0) (shut-records s names states)
+closed-records s (entry ∷ names) (state ∷ states) = by (same_sub s entry.0) (closed-records s names states)
   where
-    by : (b : Bool) → subs_of (changed_value same_sub s shut names) states ≡ subs_of names states → subs_of (if b then (entry.0, shut entry.1) ∷ names else entry ∷ changed_value same_sub s shut names) (state ∷ states) ≡ sub_of entry state ∷ subs_of names states
+    by : (b : Bool) → subs_of (changed_value same_sub s closed_registration names) states ≡ subs_of names states → subs_of (if b then (entry.0, closed_registration entry.1) ∷ names else entry ∷ changed_value same_sub s closed_registration names) (state ∷ states) ≡ sub_of entry state ∷ subs_of names states
     by true rest = refl
     by false rest = ap (λ subs. sub_of entry state ∷ subs) rest
 
-shut-names : (s : SubName) (names : List (SubName × Registration)) → map (λ (entry : SubName × Registration). entry.0) (changed_value same_sub s shut names) ≡ map (λ (entry : SubName × Registration). entry.0) names
-shut-names s [] = refl
-shut-names s (entry ∷ names) = by (same_sub s entry.0) (shut-names s names)
+closed-names : (s : SubName) (names : List (SubName × Registration)) → map (λ (entry : SubName × Registration). entry.0) (changed_value same_sub s closed_registration names) ≡ map (λ (entry : SubName × Registration). entry.0) names
+closed-names s [] = refl
+closed-names s (entry ∷ names) = by (same_sub s entry.0) (closed-names s names)
   where
-    by : (b : Bool) → map (λ (e : SubName × Registration). e.0) (changed_value same_sub s shut names) ≡ map (λ (e : SubName × Registration). e.0) names → map (λ (e : SubName × Registration). e.0) (if b then (entry.0, shut entry.1) ∷ names else entry ∷ changed_value same_sub s shut names) ≡ entry.0 ∷ map (λ (e : SubName × Registration). e.0) names
+    by : (b : Bool) → map (λ (e : SubName × Registration). e.0) (changed_value same_sub s closed_registration names) ≡ map (λ (e : SubName × Registration). e.0) names → map (λ (e : SubName × Registration). e.0) (if b then (entry.0, closed_registration entry.1) ∷ names else entry ∷ changed_value same_sub s closed_registration names) ≡ entry.0 ∷ map (λ (e : SubName × Registration). e.0) names
     by true rest = refl
     by false rest = ap (λ names. entry.0 ∷ names) rest
 
@@ -105,21 +105,21 @@ forgotten-nowhere parts g sub none =
 
 -- ---- unsubscribing
 
-abbrev pub with_shut : Parts → SubName → List PlainState → List (GrainId × PlainActivation) → Parts
-with_shut parts s states grains =
-    record parts { subs = record { registry = record parts.subs.registry { names = changed_value same_sub s shut parts.subs.registry.names }; states = states }; grains = grains }
+abbrev pub with_closed : Parts → SubName → List PlainState → List (GrainId × PlainActivation) → Parts
+with_closed parts s states grains =
+    record parts { subs = record { registry = record parts.subs.registry { names = changed_value same_sub s closed_registration parts.subs.registry.names }; states = states }; grains = grains }
 
-shut-is : (parts : Parts) (s : SubName) (states : List PlainState) (grains : List (GrainId × PlainActivation)) → plain_of (record parts { subs = record parts.subs { states = states }; grains = grains }) ≡ plain_of (with_shut parts s states grains)
-shut-is parts s states grains =
-    ap (λ subs. record (plain_of (record parts { subs = record parts.subs { states = states }; grains = grains })) { subs = subs }) (sym (shut-records s parts.subs.registry.names states))
-    ∙ ap (λ gs. record (plain_of (record parts { subs = record parts.subs { states = states }; grains = grains })) { subs = subs_of (changed_value same_sub s shut parts.subs.registry.names) states; grains = gs }) (sym (same-names parts.subs.registry.names (changed_value same_sub s shut parts.subs.registry.names) grains (shut-names s parts.subs.registry.names)))
+closed-is : (parts : Parts) (s : SubName) (states : List PlainState) (grains : List (GrainId × PlainActivation)) → plain_of (record parts { subs = record parts.subs { states = states }; grains = grains }) ≡ plain_of (with_closed parts s states grains)
+closed-is parts s states grains =
+    ap (λ subs. record (plain_of (record parts { subs = record parts.subs { states = states }; grains = grains })) { subs = subs }) (sym (closed-records s parts.subs.registry.names states))
+    ∙ ap (λ gs. record (plain_of (record parts { subs = record parts.subs { states = states }; grains = grains })) { subs = subs_of (changed_value same_sub s closed_registration parts.subs.registry.names) states; grains = gs }) (sym (same-names parts.subs.registry.names (changed_value same_sub s closed_registration parts.subs.registry.names) grains (closed-names s parts.subs.registry.names)))
 
 pub unsubscribe-parts : (parts : Parts) (number sub : ℕ) (d : SubName × Registration) (e : PlainState) (grains : List (GrainId × PlainActivation))
     → length parts.subs.registry.names ≡ length parts.subs.states → place_of same_sub (name.Explicit number) parts.subs.registry.names ≡ Some sub
     → changed_value same_grain (record_at parts sub d e).grain (plain.without (name.Explicit number)) (grains_of parts.subs.registry.names parts.grains) ≡ grains_of parts.subs.registry.names grains
     → plain.unsubscribe (plain_of parts) (name.Explicit number)
     ≡ (if not (get_or parts.subs.states sub e).is_open then (plain_of parts, reply.Closed)
-    else (plain_of (with_shut parts (name.Explicit number) (set parts.subs.states sub (closed (get_or parts.subs.states sub e))) grains), reply.Unsubscribed (length (get_or parts.subs.states sub e).handled)))
+    else (plain_of (with_closed parts (name.Explicit number) (set parts.subs.states sub (closed (get_or parts.subs.states sub e))) grains), reply.Unsubscribed (length (get_or parts.subs.states sub e).handled)))
 unfolding plain.unsubscribe plain.unsubscribe_from
 unsubscribe-parts parts number sub d e grains lengths found forgets =
     rw (record-found parts (name.Explicit number) sub d e lengths found) (by (get_or parts.subs.states sub e).is_open)
@@ -130,28 +130,18 @@ unsubscribe-parts parts number sub d e grains lengths found forgets =
     old : PlainState
     old = get_or parts.subs.states sub e
 
-    shuts : plain.unsubscribed (plain_of parts) s (record_at parts sub d e) ≡ plain_of (with_shut parts s (set parts.subs.states sub (closed old)) grains)
-    shuts =
+    closes : plain.unsubscribed (plain_of parts) s (record_at parts sub d e) ≡ plain_of (with_closed parts s (set parts.subs.states sub (closed old)) grains)
+    closes =
         ap (λ gs. record (with_sub (plain_of parts) s (record (record_at parts sub d e) { is_open = false })) { grains = gs }) forgets
         ∙ ap (λ (p : PlainPartition). record p { grains = grains_of parts.subs.registry.names grains }) (record-set parts s sub d e (closed old) (λ r. record r { is_open = false }) lengths found refl)
-        ∙ shut-is parts s (set parts.subs.states sub (closed old)) grains
+        ∙ closed-is parts s (set parts.subs.states sub (closed old)) grains
 
     left : PlainPartition × Reply
     left = (plain.unsubscribed (plain_of parts) s (record_at parts sub d e), reply.Unsubscribed (length old.handled))
 
     right : PlainPartition × Reply
-    right = (plain_of (with_shut parts s (set parts.subs.states sub (closed old)) grains), reply.Unsubscribed (length old.handled))
+    right = (plain_of (with_closed parts s (set parts.subs.states sub (closed old)) grains), reply.Unsubscribed (length old.handled))
 
     by : (is_open : Bool) → (if not is_open then (plain_of parts, reply.Closed) else left) ≡ (if not is_open then (plain_of parts, reply.Closed) else right)
     by false = refl
-    by true = ap {B = PlainPartition × Reply} (λ p. (p, reply.Unsubscribed (length old.handled))) shuts
-
-pub unsubscribe-implicit : (parts : Parts) (kind : List ℕ) (stream : StreamId) (sub : ℕ) (d : SubName × Registration) (e : PlainState) → length parts.subs.registry.names ≡ length parts.subs.states → place_of same_sub (name.Implicit kind stream) parts.subs.registry.names ≡ Some sub
-    → plain.unsubscribe (plain_of parts) (name.Implicit kind stream) ≡ (plain_of parts, reply.Implicit)
-unfolding plain.unsubscribe plain.unsubscribe_from
-unsubscribe-implicit parts kind stream sub d e lengths found = rw (record-found parts (name.Implicit kind stream) sub d e lengths found) refl
-
-pub unsubscribe-none : (parts : Parts) (s : SubName) → length parts.subs.registry.names ≡ length parts.subs.states → place_of same_sub s parts.subs.registry.names ≡ None → plain.unsubscribe (plain_of parts) s ≡ (plain_of parts, reply.NoSuch)
-unfolding plain.unsubscribe plain.unsubscribe_from
-unsubscribe-none parts (name.Explicit number) lengths none = rw (no-record parts (name.Explicit number) lengths none) refl
-unsubscribe-none parts (name.Implicit kind stream) lengths none = rw (no-record parts (name.Implicit kind stream) lengths none) refl
+    by true = ap {B = PlainPartition × Reply} (λ p. (p, reply.Unsubscribed (length old.handled))) closes

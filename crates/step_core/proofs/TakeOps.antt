@@ -2,6 +2,7 @@
 use Rattle.std.proofs.Common.{◌≡◌, ◌∙◌, ap, sym, subst, refl, ℕ, zero, suc, ◌+◌, ◌-◌, ◌*◌, ◌≤◌, min, Bool, true, false, List, [], ◌∷◌, ◌++◌, length, take, drop, nat_lt, arith}
 use Rattle.std.specs.Prelude.{if◌then◌else◌, Result, OnErr}
 use Rattle.std.proofs.lemmas.List.{drop-drop, drop-take, length-append, length-drop, length-take}
+use Rattle.std.proofs.Math.Seq.{take-nil}
 use Rattle.stream_ident.specs.declared.event.Event.{Event}
 use Rattle.stream_ident.specs.declared.ident.SubName.{SubName}
 use Rattle.stream_model.specs.declared.plain.PlainPartition.{PlainPartition}
@@ -18,13 +19,13 @@ use Rattle.pubsub_registry.specs.Implying as implying
 use Rattle.queue_cache.specs.Cache.{high}
 use Rattle.subscription_table.specs.Table.{PlainTable, implied_by, new_states}
 use Rattle.subscription_table.specs.Table as table
+use Rattle.stream_model.proofs.Answering.{on-error}
 use Rattle.step_core.specs.Assembly.{HasEvents, IsAssembled}
 use Rattle.step_core.specs.declared.parts.Parts.{Parts}
 use Rattle.step_core.specs.PlainOf.{plain_of}
 use Rattle.step_core.specs.Taking.{ahead, filled, taken}
-use Rattle.step_core.proofs.HandOps.{Answer, on-error, with_subs}
+use Rattle.step_core.proofs.HandOps.{Answer, with_subs}
 use Rattle.step_core.proofs.PullOps.{made-below, made-grains, made-known, made-length, made-view}
-use Rattle.std.proofs.Math.Seq.{take-nil}
 
 -- ---- what the rules made of the events
 

@@ -43,7 +43,7 @@ pub(crate) fn ack(parts: &mut Parts, generation: u64, sub: SubName, token: Token
     told_of_ack(parts.subs.ack(number, &parts.queue, &token))
 }
 
-/// What an agent that retries is told.
+/// The reply to an agent that retries.
 fn told_of_retry(retried: Retried) -> Told
     ensures { reply_of result ≡ of_retry retried }
 {
@@ -53,7 +53,7 @@ fn told_of_retry(retried: Retried) -> Told
     }
 }
 
-/// What an agent that acknowledges is told.
+/// The reply to an agent that acknowledges.
 fn told_of_ack(acked: Acked) -> Told
     ensures { reply_of result ≡ of_ack acked }
 {

@@ -80,7 +80,8 @@ fn is_outstanding(parts: &Parts, number: usize, grain: Option<usize>) -> bool
 /// before.
 ///
 /// # Errors
-/// Memory, and then nothing has changed. It comes only where the event would be handed over.
+/// The call failed to allocate, and nothing has changed. That can happen only where the event would be handed
+/// over.
 fn hand_over(
     parts: &mut Parts,
     alloc: Global,
@@ -103,7 +104,8 @@ fn hand_over(
 /// Hands the next event of a subscription to its grain, which was active before and has this number.
 ///
 /// # Errors
-/// Memory, and then nothing has changed. It comes only where the event would be handed over.
+/// The call failed to allocate, and nothing has changed. That can happen only where the event would be handed
+/// over.
 fn hand_to(
     parts: &mut Parts,
     alloc: Global,
@@ -131,7 +133,8 @@ fn hand_to(
 /// Hands the next event of a subscription to its grain, which was never active.
 ///
 /// # Errors
-/// Memory, and then nothing has changed. It comes only where the event would be handed over.
+/// The call failed to allocate, and nothing has changed. That can happen only where the event would be handed
+/// over.
 fn hand_first(parts: &mut Parts, alloc: Global, delivery: Delivery) -> Result<Told, AllocError>
     requires agrees { Agrees parts.old }
     requires next { IsNext parts.old delivery }

@@ -20,13 +20,13 @@ const PULL_MAX: u32 = 32;
 /// Why a drain makes no more operations.
 #[derive(Debug, Drop)]
 enum Stop {
-    /// Memory is wanting.
+    /// A call failed to allocate.
     Memory(AllocError),
     /// A pull would have made more records than the limit.
     TooMany,
     /// A turn or an activation would have been one rise more than the limit.
     Spent,
-    /// An operation told something else than those that are looked for, or the rounds didn't suffice.
+    /// An operation had a reply other than those that are looked for, or the rounds didn't suffice.
     Astray,
 }
 
@@ -53,8 +53,8 @@ impl Partition {
     /// turn is one more than that before. Nothing is done where a turn runs.
     ///
     /// # Errors
-    /// Memory. The first of the operations are done, and no other; a turn that was begun may run then, and
-    /// the next drain is stuck until it is committed or its grain deactivated.
+    /// The call failed to allocate. The first of the operations are done, and no other; a turn that was begun
+    /// may run then, and the next drain is stuck until it is committed or its grain deactivated.
     pub fn drain(&mut self, alloc: Global) -> Result<DrainEnd, AllocError>
         ensures drains { DrainsTo self.old self.new result }
     {
@@ -102,7 +102,7 @@ fn pull_next(partition: &mut Partition, alloc: Global) -> Result<bool, Stop>
     is_pulled(&outcome)
 }
 
-/// Whether an operation told that events went into the cache, or that the queue had none.
+/// Whether the reply of an operation says that events went into the cache, or that the queue had none.
 fn is_pulled(outcome: &Outcome) -> Result<bool, Stop>
     ensures { (log : List Event) → result ≡ pull_told (reply_with log outcome.now) }
 {
@@ -195,7 +195,7 @@ fn deliver_next(partition: &mut Partition, alloc: Global, sub: &SubName) -> Resu
     is_delivered(&outcome)
 }
 
-/// Whether an operation told that an event went into the mailbox, or that there was none.
+/// Whether the reply of an operation says that an event went into the mailbox, or that there was none.
 fn is_delivered(outcome: &Outcome) -> Result<bool, Stop>
     ensures { (log : List Event) → result ≡ deliver_told (reply_with log outcome.now) }
 {
@@ -270,7 +270,7 @@ fn end_turn(
     Ok(())
 }
 
-/// Whether an operation told that the events of a turn are handled.
+/// Whether the reply of an operation says that the events of a turn are handled.
 fn is_committed(outcome: &Outcome) -> bool
     ensures { (log : List Event) → result ≡ is_committed (reply_with log outcome.now) }
 {
@@ -297,7 +297,7 @@ fn acknowledge(partition: &mut Partition, alloc: Global, sub: &SubName) -> Resul
     Ok(())
 }
 
-/// Whether an operation told that the resume stands past an event.
+/// Whether the reply of an operation says that the resume stands past an event.
 fn is_acknowledged(outcome: &Outcome) -> bool
     ensures { (log : List Event) → result ≡ is_acknowledged (reply_with log outcome.now) }
 {
@@ -317,7 +317,7 @@ fn deliver_once_more(partition: &mut Partition, alloc: Global, sub: &SubName) ->
     Ok(())
 }
 
-/// Whether an operation told that the cache has no further event.
+/// Whether the reply of an operation says that the cache has no further event.
 fn is_nothing(outcome: &Outcome) -> bool
     ensures { (log : List Event) → result ≡ is_nothing (reply_with log outcome.now) }
 {

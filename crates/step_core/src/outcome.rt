@@ -8,7 +8,7 @@ use partition_queue::PartitionQueue;
 use stream_ident::{GrainId, Row, SubName, Token};
 use stream_model::{Events, Pending, Reply};
 
-/// What an operation comes to: what it tells, or a turn.
+/// What an operation comes to: a reply that isn't a turn, or a turn.
 #[derive(Drop)]
 pub(crate) enum Outcome {
     /// A reply that isn't a turn.
@@ -106,14 +106,14 @@ pub(crate) enum Told {
     Implicit,
     /// The rule holds from now on.
     RuleAdded {
-        /// From the batch with this number on.
+        /// The number of the first batch that it holds for.
         from: u64,
     },
     /// There is such a rule.
     RuleThere,
     /// Events were taken into the cache.
     Pulled {
-        /// How many.
+        /// How many events were taken.
         count: usize,
         /// The token of the first event that the cache keeps.
         low: Token,
@@ -208,7 +208,7 @@ pub(crate) enum Told {
 }
 
 impl Told {
-    /// The reply that tells it.
+    /// The reply that says so.
     pub(crate) fn reply(self) -> Reply
         ensures { result ≡ reply_of self }
     {

@@ -55,7 +55,7 @@ impl Partition {
     /// A partition without events and subscriptions, whose cache has this many blocks of 64 events.
     ///
     /// # Errors
-    /// Memory.
+    /// The call failed to allocate.
     pub fn new(alloc: Global, blocks: usize, limits: Limits) -> Result<Partition, AllocError>
         requires some_blocks { 1 ≤ blocks }
         requires blocks { blocks ≤ 64 }
@@ -79,8 +79,8 @@ impl Partition {
     /// definition says so.
     ///
     /// # Errors
-    /// Memory, and then nothing has changed. It comes only where the operation would be done and would keep
-    /// more than before: each refusal is given without memory.
+    /// The call failed to allocate, and nothing has changed. That can happen only where the operation would
+    /// be done and would keep more than before: each refusal is given without memory.
     pub fn step(&mut self, alloc: Global, op: Op) -> Result<Reply, AllocError>
         ensures performs { Performs self.old self.new result (step self.old op) }
         ensures memory { OnErr result (takes_memory (step self.old op).1 ≡ true) }
@@ -92,7 +92,7 @@ impl Partition {
     /// Does the operations in order, and appends their replies.
     ///
     /// # Errors
-    /// Memory. The operations whose replies were appended are done, and no other.
+    /// The call failed to allocate. The operations whose replies were appended are done, and no other.
     pub fn run(
         &mut self,
         alloc: Global,
@@ -114,7 +114,7 @@ impl Partition {
     /// Does one operation, as `step` does it, without the events of a turn.
     ///
     /// # Errors
-    /// As `step`.
+    /// They are those of `step`.
     pub(crate) fn advance(&mut self, alloc: Global, op: Op) -> Result<Outcome, AllocError>
         ensures performs { Performs self.old self.new (answered self.new.log result) (step self.old op) }
         ensures of_log { IfOk result (IsOfLog self.new.log) }
@@ -180,7 +180,7 @@ impl Partition {
     /// The names of the open subscriptions, from the least to the greatest.
     ///
     /// # Errors
-    /// Memory.
+    /// The call failed to allocate.
     pub(crate) fn open_names(&self, alloc: Global) -> Result<Vec<SubName>, AllocError>
         ensures { IfOk result (λ names. names.items ≡ open_names self.now) }
     {
@@ -235,7 +235,7 @@ impl Partition {
     /// The subscriptions that have a record, in the order of their names.
     ///
     /// # Errors
-    /// Memory.
+    /// The call failed to allocate.
     pub fn subs(&self, alloc: Global) -> Result<Vec<SubSummary>, AllocError>
         ensures { IfOk result (λ subs. subs.items ≡ summaries_in_order self.now) }
     {
@@ -248,7 +248,7 @@ impl Partition {
     /// has no record.
     ///
     /// # Errors
-    /// Memory.
+    /// The call failed to allocate.
     pub fn handled(&self, alloc: Global, sub: &SubName) -> Result<Vec<Event>, AllocError>
         ensures { IfOk result (λ events. events.items ≡ handled_of self.now sub.now) }
     {

@@ -18,7 +18,8 @@ use stream_ident::{Batch, Name, StreamId};
 /// A producer publishes a batch: its events go to the end of the log.
 ///
 /// # Errors
-/// Memory, and then nothing has changed. It comes only at a batch that would be accepted.
+/// The call failed to allocate, and nothing has changed. That can happen only at a batch that would be
+/// accepted.
 pub(crate) fn publish(
     parts: &mut Parts,
     alloc: Global,
@@ -34,7 +35,7 @@ pub(crate) fn publish(
     Ok(told_of_batch(appended))
 }
 
-/// What the producer of a batch is told.
+/// The reply to the producer of a batch.
 fn told_of_batch(appended: Appended) -> Told
     ensures { reply_of result ≡ of_append appended }
 {
@@ -48,7 +49,7 @@ fn told_of_batch(appended: Appended) -> Told
 /// Grains of a kind shall consume the streams of a namespace, from the next batch on.
 ///
 /// # Errors
-/// Memory, and then nothing has changed. It comes only where the rule would be added.
+/// The call failed to allocate, and nothing has changed. That can happen only where the rule would be added.
 pub(crate) fn add_rule(
     parts: &mut Parts,
     alloc: Global,
@@ -65,7 +66,7 @@ pub(crate) fn add_rule(
     Ok(told_of_rule(from, added))
 }
 
-/// What is told of a rule that was to hold from a batch on.
+/// The reply to a rule that is to hold from a batch on.
 fn told_of_rule(from: u64, added: RuleAdded) -> Told
     ensures { reply_of result ≡ of_rule from added }
 {

@@ -54,7 +54,8 @@ fn slowest(parts: &Parts) -> SubName
 /// Takes events as planned, and makes the subscriptions that the rules make of them.
 ///
 /// # Errors
-/// Memory, and then nothing has changed. It comes only where the events would be taken.
+/// The call failed to allocate, and nothing has changed. That can happen only where the events would be
+/// taken.
 fn take(parts: &mut Parts, alloc: Global, drops: usize, count: usize) -> Result<Told, AllocError>
     requires agrees { Agrees parts.old }
     requires takeable { IsTakeable parts.old.agent (length parts.old.queue.events) (slowest (plain_of parts.old)) drops count }

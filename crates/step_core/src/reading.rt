@@ -1,4 +1,4 @@
-//! What a partition tells of itself.
+//! What can be read of a partition.
 ghost use Rattle.std.specs.Prelude.{◌≡◌, ◌<◌, length, get_or, map, All, IfOk};
 ghost use Rattle.std.specs.Option.{option_map};
 ghost use Rattle.stream_ident.specs.SubName.{sub_lt};

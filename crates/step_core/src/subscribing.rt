@@ -24,7 +24,8 @@ use stream_model::Start;
 /// A grain subscribes to a stream.
 ///
 /// # Errors
-/// Memory, and then nothing has changed. It comes only where the subscription would be added.
+/// The call failed to allocate, and nothing has changed. That can happen only where the subscription would be
+/// added.
 pub(crate) fn subscribe(
     parts: &mut Parts,
     alloc: Global,
@@ -96,7 +97,8 @@ fn forget(grains: &mut GrainTable, grain: &GrainId, number: usize)
 /// A grain subscribes to a stream from a token on, whose first event is sought from a position on.
 ///
 /// # Errors
-/// Memory, and then nothing has changed. It comes only where the subscription would be added.
+/// The call failed to allocate, and nothing has changed. That can happen only where the subscription would be
+/// added.
 fn subscribe_at(
     parts: &mut Parts,
     alloc: Global,
@@ -115,7 +117,7 @@ fn subscribe_at(
     Ok(told_of_sub(added))
 }
 
-/// What a grain that subscribes is told.
+/// The reply to a grain that subscribes.
 fn told_of_sub(added: Added) -> Told
     ensures { reply_of result ≡ of_added added }
 {

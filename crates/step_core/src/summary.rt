@@ -1,4 +1,4 @@
-//! What a partition tells of its subscriptions.
+//! What a partition says of its subscriptions.
 use stream_ident::{GrainId, StreamId, SubName, Token};
 
 /// A subscription that has a record.

@@ -40,7 +40,7 @@ pub(crate) fn begin(parts: &mut Parts, grain: GrainId, max: u32) -> Outcome
     outcome_of_begun(parts, activation, begun)
 }
 
-/// What comes of it where a grain has begun, whose activation has this number: a turn gets the next number.
+/// The outcome where a grain has begun, whose activation has this number: a turn gets the next number.
 fn outcome_of_begun(parts: &mut Parts, activation: u64, begun: Begun) -> Outcome
     requires begun { IsOfParts parts.old begun }
     requires rises { parts.old.rises + 1 < 2 ^ 64 }
@@ -99,7 +99,8 @@ fn next_turn(parts: &Parts) -> Option<u64>
 /// A worker ends the turn that runs for a grain: its events are handled, unless its subscription is closed.
 ///
 /// # Errors
-/// Memory, and then nothing has changed. It comes only where the events would be handled.
+/// The call failed to allocate, and nothing has changed. That can happen only where the events would be
+/// handled.
 pub(crate) fn commit(
     parts: &mut Parts,
     alloc: Global,
@@ -127,7 +128,7 @@ pub(crate) fn commit(
 /// The events of a turn are handled, unless its subscription is closed.
 ///
 /// # Errors
-/// Memory, and then nothing has changed. It comes only where the subscription is open.
+/// The call failed to allocate, and nothing has changed. That can happen only where the subscription is open.
 fn handle(
     subs: &mut SubscriptionTable,
     alloc: Global,

@@ -17,7 +17,7 @@ pub enum ProgramFault {
 }
 
 impl ProgramFault {
-    /// Tells the fault on standard error, or help on standard output, and gives the exit status.
+    /// Prints the fault on standard error, or help on standard output, and gives the exit status.
     pub fn report<R: Print + Eprint>(&self, rt: &R) -> ExitCode {
         match self {
             ProgramFault::CommandLine(error) => {
@@ -35,7 +35,7 @@ impl ProgramFault {
     }
 }
 
-/// Tells why a simulation ended early, and gives the exit status.
+/// Prints why a simulation ended early, and gives the exit status.
 fn tell<R: Eprint>(rt: &R, error: SimError) -> ExitCode {
     // Where standard error fails too, the status has to do.
     let _ = eprintln!(rt; "{}", ProgramFault::Simulation(error));
@@ -72,7 +72,7 @@ impl From<AllocError> for ProgramFault {
 }
 
 impl From<io::Error> for ProgramFault {
-    // Only making a buffer and asking for the words end here, which fail for want of memory.
+    // Only making a buffer and asking for the words end here: they fail where they cannot allocate.
     fn from(_: io::Error) -> ProgramFault {
         ProgramFault::Simulation(SimError::Memory)
     }
@@ -85,7 +85,7 @@ mod tests {
     use std::test::Fail;
     use stream_script::{Fault, FaultKind, SimError};
 
-    /// Whether the error is told so, and ends with this status.
+    /// Whether the error has this text, and ends with this status.
     fn is_told(alloc: Global, error: SimError, text: &str, code: u8) -> Result<bool, AllocError> {
         let told = format!(in alloc; "{}", ProgramFault::Simulation(error))?;
         Ok(told.as_str() == text && status(error) == code)

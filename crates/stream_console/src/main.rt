@@ -14,8 +14,8 @@ use std::io::{self, Read};
 use std::process::ExitCode;
 use stream_script::{Counted, SimConfig, SimError, sim};
 
-/// Exit statuses: 0 done, 1 a faulty script, 2 a faulty command line, 3 a read or write fault or want of
-/// memory.
+/// Exit statuses: 0 done, 1 a faulty script, 2 a faulty command line, 3 a read or write fault or a failure to
+/// allocate.
 fn main(rt: HostRuntime) -> ExitCode {
     match run(&rt) {
         Ok(()) => ExitCode::SUCCESS,
@@ -37,7 +37,7 @@ fn run(rt: &HostRuntime) -> Result<(), ProgramFault> {
 /// Opens the file of a script.
 ///
 /// # Errors
-/// A file that can't be opened can't be read; or memory.
+/// `ReadFault` where the file can't be opened, and `Memory` where the call failed to allocate.
 fn open(rt: &HostRuntime, path: &str) -> Result<File, SimError> {
     fs::open(rt, path).map_err(|error| match error.kind() {
         io::ErrorKind::OutOfMemory => SimError::Memory,

@@ -43,10 +43,10 @@ pub struct Request<'a> {
     pub config: SimConfig,
 }
 
-/// What the words ask for. No words at all ask for a simulation with one queue and four blocks.
+/// What the words ask for. Where there are none, they ask for a simulation with one queue and four blocks.
 ///
 /// # Errors
-/// A word that isn't understood, help that is asked for, or memory.
+/// A word isn't understood, help is asked for, or the call failed to allocate.
 pub fn options<'a>(alloc: Global, words: &'a [String]) -> Result<Request<'a>, clap::Error>
     ensures { IfOk result (λ request. IsSimConfig request.config) }
 {

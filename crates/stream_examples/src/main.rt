@@ -22,7 +22,7 @@ fn main(rt: HostRuntime) -> anyhow::Result<ExitCode> {
     })
 }
 
-/// So many queues, each with a cache of so many blocks.
+/// A simulation of so many queues, each with a cache of so many blocks.
 fn config(queues: usize, blocks: usize) -> SimConfig
     requires some_queues { 1 ≤ queues }
     requires queues { queues ≤ 64 }

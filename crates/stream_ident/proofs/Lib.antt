@@ -1,9 +1,12 @@
 pub mod EventLemmas
+pub mod FirstLemmas
 pub mod NameLemmas
 pub mod NameOrders
+pub mod NewNames
 pub mod NumberLemmas
 pub mod Order
 pub mod OrderLemmas
+pub mod RisingFronts
 pub mod SameValues
 pub mod SplitLemmas
 pub mod TokenLemmas

@@ -5,8 +5,8 @@ use Rattle.std.proofs.Common.{ap, arith}
 use Rattle.std.proofs.lemmas.Bool.{not-false, le-ltb, ltb-false, ne_eqb, eqb-false}
 use Rattle.std.proofs.lemmas.List.{take_all, take_at, length-append, length-replicate}
 use Rattle.std.proofs.lemmas.List.Sums.{list_all-from_AllPass, fails_before_first}
-use Rattle.stream_ident.specs.Text.{or_else, wrong_place, IsPadded}
-use Rattle.stream_ident.specs.Alphabet.{is_name_byte, IsName, wrong_in_name, is_payload_byte, IsPayload, wrong_in_payload}
+use Rattle.stream_ident.specs.Text.{wrong_place, IsPadded}
+use Rattle.stream_ident.specs.Alphabet.{is_name_byte, IsName, wrong_in_name, IsPayload, wrong_in_payload, is_printable}
 use Rattle.stream_ident.proofs.WordLemmas.{or_else-none, or_else-parts}
 
 cond_none : {A : Type 0} (b : Bool) (x : A) (other : Option A) → cond b (Some x) other ≡ None → (b ≡ false) × (other ≡ None)
@@ -45,7 +45,7 @@ IsName-from_right bytes none =
 
 pub IsPayload-from_right : (bytes : List ℕ) → wrong_in_payload bytes ≡ None → IsPayload bytes
 IsPayload-from_right bytes none =
-    let parts = right_everywhere is_payload_byte 256 bytes none in
+    let parts = right_everywhere is_printable 256 bytes none in
     record { short = parts.0; good = parts.1 }
 
 -- a row that is a text with zeros behind it holds the text

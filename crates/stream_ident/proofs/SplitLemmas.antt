@@ -8,8 +8,10 @@ use Rattle.std.proofs.lemmas.Bool.{and_parts, not-true, eqb-true, eq-eqb, lt-ltb
 use Rattle.std.proofs.lemmas.Bool.Decides.{nat_tests}
 use Rattle.std.proofs.lemmas.Option.{same_Some}
 use Rattle.stream_ident.specs.Text.{split_once}
+use Rattle.stream_ident.proofs.WordLemmas.{one-add}
 
-abbrev Parts : Type 0
+-- a text on both sides of a separator
+abbrev pub Parts : Type 0
 Parts = List ℕ × List ℕ
 
 abbrev cut : List ℕ → ℕ → Parts
@@ -21,9 +23,6 @@ behind byte parts = (byte ∷ parts.0, parts.1)
 nat_lt_suc : (m n : ℕ) → nat_lt (suc m) (suc n) ≡ nat_lt m n
 nat_lt_suc m n = grind (arith, nat_tests)
 
-one_more : (n : ℕ) → 1 + n ≡ suc n
-one_more n = omega arith
-
 cut_later : (t : Bool) (byte : ℕ) (bytes : List ℕ) (n : ℕ) → option_map (behind byte) (option_map (cut bytes) (cond t (Some n) None)) ≡ option_map (cut (byte ∷ bytes)) (cond t (Some (suc n)) None)
 cut_later true byte bytes n = refl
 cut_later false byte bytes n = refl
@@ -34,7 +33,7 @@ cut_next byte bytes n rest e =
 
 cut_step : (b : Bool) (byte : ℕ) (bytes : List ℕ) (n : ℕ) (rest : Option Parts) → rest ≡ option_map (cut bytes) (cond (nat_lt n (length bytes)) (Some n) None) → cond b (Some ([], bytes)) (option_map (behind byte) rest) ≡ option_map (cut (byte ∷ bytes)) (cond (nat_lt (cond (not b) (1 + n) 0) (suc (length bytes))) (Some (cond (not b) (1 + n) 0)) None)
 cut_step true byte bytes n rest e = ap (λ t. option_map (cut (byte ∷ bytes)) (cond t (Some 0) None)) (sym (lt-ltb 0 (suc (length bytes)) (omega arith)))
-cut_step false byte bytes n rest e = rw (one_more n) (cut_next byte bytes n rest e)
+cut_step false byte bytes n rest e = rw (one-add n) (cut_next byte bytes n rest e)
 
 pub split_once-position : (separator : ℕ) (bytes : List ℕ) → split_once separator bytes ≡ option_map (cut bytes) (position (λ byte. byte == separator) bytes)
 split_once-position separator [] = refl

@@ -21,15 +21,15 @@ abbrev pub wrong_in_name : List ℕ → Option ℕ
 wrong_in_name bytes = if length bytes == 0 then Some 0 else wrong_place is_name_byte 64 bytes
 
 -- 0x20 to 0x7E
-abbrev pub is_payload_byte : ℕ → Bool
-is_payload_byte byte = nat_le 32 byte && nat_le byte 126
+abbrev pub is_printable : ℕ → Bool
+is_printable byte = nat_le 32 byte && nat_le byte 126
 
 -- a payload: at most 256 printable bytes
 pub record IsPayload (bytes : List ℕ) : Type 0 where
   pub short : length bytes ≤ 256
-  pub good : list_all is_payload_byte bytes ≡ true
+  pub good : list_all is_printable bytes ≡ true
 
 -- the least wrong place of what isn't a payload: that of the first byte that isn't printable, and 256
 -- where it is longer
 abbrev pub wrong_in_payload : List ℕ → Option ℕ
-wrong_in_payload bytes = wrong_place is_payload_byte 256 bytes
+wrong_in_payload bytes = wrong_place is_printable 256 bytes

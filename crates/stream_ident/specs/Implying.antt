@@ -29,6 +29,10 @@ implied_by make event rule =
 abbrev pub implied_by_all : {V : Type 0} → Making V → List Rule → List Event → List (SubName × V)
 implied_by_all make rules events = flat_map (λ event. flat_map (implied_by make event) rules) events
 
+-- the name and its value, unless the name is there
+abbrev pub added : {V : Type 0} → List (SubName × V) → SubName × V → List (SubName × V)
+added entries entry = with_new same_sub entries entry
+
 -- the subscriptions by name, with those that the rules make of these events
 abbrev pub with_implied : {V : Type 0} → Making V → List Rule → List (SubName × V) → List Event → List (SubName × V)
-with_implied make rules entries events = fold (with_new same_sub) entries (implied_by_all make rules events)
+with_implied make rules entries events = fold added entries (implied_by_all make rules events)

@@ -1,8 +1,13 @@
 -- Words on lists that the definitions are written in.
-use Rattle.std.specs.Prelude.{◌≡◌, ℕ, zero, suc, Bool, ◌&&◌, List, [], ◌∷◌, ◌++◌, Option, Some, None, Result, Ok, Err, map, filter, is_some, min, nat_le, if◌then◌else◌}
+use Rattle.std.specs.Prelude.{◌≡◌, ℕ, zero, suc, Bool, ◌&&◌, List, [], ◌∷◌, ◌++◌, Option, Some, None, Result, Ok, Err, map, filter, is_some, min, nat_le, if◌then◌else◌, ◌==◌, true, false}
 use Rattle.std.specs.declared.alloc.AllocError.{AllocError}
 use Rattle.std.specs.Map.{lookup}
 pub use Rattle.stream_ident.specs.Text.{or_else}
+
+-- there is a number, and it is this one
+abbrev pub has_number : ℕ → Option ℕ → Bool
+has_number n None = false
+has_number n (Some m) = m == n
 
 -- the least place of an element that passes, in a list whose first element has place n
 abbrev pub first_at : {A : Type 0} → (A → Bool) → ℕ → List A → Option ℕ
@@ -30,6 +35,11 @@ lesser lt a (Some b) = if lt b a then b else a
 abbrev pub least : {A : Type 0} → (A → A → Bool) → List A → Option A
 least lt [] = None
 least lt (x ∷ xs) = Some (lesser lt x (least lt xs))
+
+-- greater than the given one, always where none is given
+abbrev pub is_above : {A : Type 0} → (A → A → Bool) → Option A → A → Bool
+is_above lt None x = true
+is_above lt (Some a) x = lt a x
 
 -- the elements that are greater than the given one, all where none is given
 abbrev pub above : {A : Type 0} → (A → A → Bool) → Option A → List A → List A
@@ -82,6 +92,12 @@ with_new same entries entry = if is_some (value_at same entry.0 entries) then en
 abbrev pub Performs : {S R : Type 0} → S → S → Result R AllocError → S × R → Type 0
 Performs old new (Ok told) stepped = (new, told) ≡ stepped
 Performs old new (Err e) stepped = new ≡ old
+
+-- From s the entries, the oldest first, lead to t, each with the reply of its step. The operation and the
+-- reply of an entry are given by functions.
+abbrev pub LeadsBy : {S E O R : Type 0} → (E → O) → (E → R) → (S → O → S × R) → S → List E → S → Type 0
+LeadsBy op_of reply_of step s [] t = t ≡ s
+LeadsBy op_of reply_of step s (e ∷ entries) t = ((step s (op_of e)).1 ≡ reply_of e) × LeadsBy op_of reply_of step (step s (op_of e)).0 entries t
 
 -- The positions of the longest front of the deliveries, at most n, that are all of one subscription and rise
 -- from this position on. The subscription and the position of a delivery are given by functions.

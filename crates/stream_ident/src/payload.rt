@@ -6,7 +6,7 @@ ghost use Rattle.std.specs.Cmp.Lexicographic.{pointwise, slice_cmp, nat_list_eq_
 ghost use Rattle.std.specs.Cmp.{partial_equiv_from_equiv};
 ghost use Rattle.std.specs.Cmp.Rules.{hashing};
 ghost use Rattle.std.proofs.Common.{rules};
-ghost use Rattle.stream_ident.specs.Alphabet.{is_payload_byte, IsPayload, wrong_in_payload};
+ghost use Rattle.stream_ident.specs.Alphabet.{IsPayload, wrong_in_payload, is_printable};
 
 use crate::padded::padded;
 use std::cmp::Ordering;
@@ -79,18 +79,18 @@ impl Payload {
 }
 
 /// Whether a byte may stand in a payload.
-fn is_payload_byte(byte: u8) -> bool
-    ensures { result ≡ is_payload_byte byte }
+fn is_printable(byte: u8) -> bool
+    ensures { result ≡ is_printable byte }
 {
     matches!(byte, b' '..=b'~')
 }
 
 /// The place of the first byte that may not stand in a payload.
 fn unprintable(bytes: &[u8]) -> Option<usize>
-    ensures exact { result ≡ position (λ byte. not (is_payload_byte byte)) bytes.now }
+    ensures exact { result ≡ position (λ byte. not (is_printable byte)) bytes.now }
     ensures within { IfSome result (λ at. at < length bytes.now) }
 {
-    bytes.iter().position(|byte| !is_payload_byte(*byte))
+    bytes.iter().position(|byte| !is_printable(*byte))
 }
 
 /// The least place at which bytes are no payload.

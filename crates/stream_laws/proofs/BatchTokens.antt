@@ -9,18 +9,10 @@ use Rattle.stream_ident.specs.declared.token.Token.{Token}
 use Rattle.stream_ident.specs.Token.{token_lt}
 use Rattle.stream_ident.specs.Event.{batch_token, events_of}
 use Rattle.stream_model.specs.Positions.{no_event}
-use Rattle.stream_ident.proofs.EventLemmas.{length-events_of}
 use Rattle.stream_ident.proofs.TokenLemmas.{token_lt-trans}
+use Rattle.stream_ident.proofs.EventLemmas.{length-events_of, events_of-token}
 
--- ---- the tokens of a batch
-
-pub events_of-token : (stream : StreamId) (seq idx : ℕ) (payloads : List (List ℕ)) (i : ℕ) → i < length payloads → (get_or (events_of stream seq idx payloads) i no_event).token ≡ record { seq = seq; idx = idx + i }
-events_of-token stream seq idx [] i within = absurd (omega arith)
-events_of-token stream seq idx (payload ∷ payloads) zero within =
-    let same : idx ≡ idx + 0 = omega arith in λ i. record { seq = seq; idx = same i }
-events_of-token stream seq idx (payload ∷ payloads) (suc i) within =
-    let same : suc idx + i ≡ idx + suc i = omega arith in
-    events_of-token stream seq (suc idx) payloads i (omega arith) ∙ (λ i. record { seq = seq; idx = same i })
+-- ---- the order of tokens
 
 token_lt-idx : (seq i j : ℕ) → i < j → token_lt (record { seq = seq; idx = i }) (record { seq = seq; idx = j }) ≡ true
 token_lt-idx seq i j less = grind (arith, nat_tests)

@@ -8,8 +8,9 @@ use Rattle.stream_ident.specs.Name.{same_grain}
 use Rattle.stream_ident.specs.SubName.{same_sub}
 use Rattle.stream_model.specs.declared.plain.Grain.{Grain}
 use Rattle.stream_model.specs.declared.plain.Subscription.{Subscription}
+use Rattle.stream_ident.proofs.WordLemmas.{or_else-parts}
+use Rattle.stream_ident.specs.Implying.{added}
 use Rattle.stream_laws.specs.DrainLaws.{sum_open}
-use Rattle.stream_model.specs.Pulling.{added}
 use Rattle.stream_ident.specs.Words.{or_else, value_at, with_value}
 use Rattle.stream_laws.proofs.Unique.{AreUnique, same-swap}
 use Rattle.stream_model.proofs.Values.{append-at}
@@ -78,10 +79,6 @@ sum_open-append : (f : SubName → ℕ) (subs more : List (SubName × Subscripti
 sum_open-append f [] more = omega arith
 sum_open-append f (entry ∷ subs) more = omega (arith, sum_open-append f subs more)
 
-or_else-none : {A : Type 0} (a b : Option A) → or_else a b ≡ None → a ≡ None
-or_else-none None b none = refl
-or_else-none (Some x) b none = absurd (cc)
-
 -- new names count nothing
 pub sum_open-added : (f : SubName → ℕ) (subs entries : List (SubName × Subscription)) → ((s : SubName) → value_at same_sub s subs ≡ None → f s ≡ 0) → sum_open f (fold added subs entries) ≡ sum_open f subs
 sum_open-added f subs [] none = refl
@@ -90,7 +87,7 @@ sum_open-added f subs (entry ∷ entries) none =
       | Some r ↦ λ there. sum_open-added f subs entries none
       | None ↦ λ new.
           let nothing : term f entry ≡ 0 = cond_both entry.1.is_open (f entry.0) 0 (λ n. n ≡ 0) (λ _. none entry.0 new) (λ _. refl) in
-          let rest = sum_open-added f (subs ++ entry ∷ []) entries (λ s gone. none s (or_else-none (value_at same_sub s subs) (value_at same_sub s (entry ∷ [])) (sym (append-at same_sub s subs (entry ∷ [])) ∙ gone))) in
+          let rest = sum_open-added f (subs ++ entry ∷ []) entries (λ s gone. none s (or_else-parts (value_at same_sub s subs) (value_at same_sub s (entry ∷ [])) (sym (append-at same_sub s subs (entry ∷ [])) ∙ gone)).0) in
           omega (arith, rest, sum_open-append f subs (entry ∷ []), nothing)
     ]) refl
 

@@ -10,6 +10,7 @@ use Rattle.stream_model.specs.declared.plain.PlainPartition.{PlainPartition}
 use Rattle.stream_model.specs.Looks.{is_running, is_waiting}
 use Rattle.stream_model.specs.Positions.{grain_at, new_grain}
 use Rattle.stream_ident.specs.Words.{keys_where, value_at, with_value}
+use Rattle.stream_ident.proofs.WordLemmas.{nil_from_nat_lt, none_from_is_some}
 use Rattle.stream_laws.proofs.KeyLists.{each-entry, entry-found, keys_where-none}
 use Rattle.stream_laws.proofs.Unique.{AreUnique}
 use Rattle.stream_model.proofs.Values.{with_value-at, with_value-other}
@@ -44,11 +45,6 @@ each-grain P q grains g st is here others k =
 
 -- ---- from the list
 
--- an empty mailbox
-pub none-waits : (deliveries : List Delivery) → nat_lt 0 (length deliveries) ≡ false → deliveries ≡ []
-none-waits [] none = refl
-none-waits (d ∷ deliveries) none = absurd (omega (arith, ltb-false 0 (suc (length deliveries)) none))
-
 -- what holds of a grain that was never active and of each value in the list holds of each grain
 pub each-grain_at : (P : Grain → Type 0) (p : PlainPartition) → P new_grain → ((g : GrainId) (st : Grain) → value_at same_grain g p.grains ≡ Some st → P st) → (g : GrainId) → P (grain_at p g)
 each-grain_at P p new each g =
@@ -61,19 +57,14 @@ each-grain_at P p new each g =
 pub emptied-of : (p : PlainPartition) → keys_where is_waiting p.grains ≡ [] → IsEmptied p
 emptied-of p none =
     each-grain_at (λ (st : Grain). st.mailbox ≡ []) p refl
-    (λ g st found. none-waits st.mailbox (entry-found same_grain grain_equality (λ (g : GrainId) (st : Grain). is_waiting st ≡ false) p.grains g st (keys_where-none is_waiting p.grains none) found))
-
--- what isn't there
-pub none-there : {A : Type 0} (o : Option A) → is_some o ≡ false → o ≡ None
-none-there None none = refl
-none-there (Some x) none = absurd (cc)
+    (λ g st found. nil_from_nat_lt st.mailbox (entry-found same_grain grain_equality (λ (g : GrainId) (st : Grain). is_waiting st ≡ false) p.grains g st (keys_where-none is_waiting p.grains none) found))
 
 -- no turn runs where no grain of the list has one
 pub idle-of : (p : PlainPartition) → keys_where is_running p.grains ≡ [] → IsIdle p
 idle-of p none =
     let rest = keys_where-none is_running p.grains none in
     each-grain_at (λ (st : Grain). st.running ≡ None) p refl
-    (λ g st found. none-there st.running (entry-found same_grain grain_equality (λ (g : GrainId) (st : Grain). is_running st ≡ false) p.grains g st rest found))
+    (λ g st found. none_from_is_some st.running (entry-found same_grain grain_equality (λ (g : GrainId) (st : Grain). is_running st ≡ false) p.grains g st rest found))
 
 -- what holds of each grain holds of each of the list, where no name stands twice
 pub each-found : (P : Grain → Type 0) (p : PlainPartition) → AreUnique same_grain p.grains → ((g : GrainId) → P (grain_at p g)) → AllByRecursion (λ (entry : GrainId × Grain). P entry.1) p.grains

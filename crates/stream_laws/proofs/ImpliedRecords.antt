@@ -14,9 +14,10 @@ use Rattle.stream_ident.specs.declared.rule.Rule.{Rule}
 use Rattle.stream_model.specs.declared.plain.Subscription.{Subscription}
 use Rattle.stream_ident.specs.Event.{batch_token}
 use Rattle.stream_model.specs.Positions.{new_subscription, no_event}
-use Rattle.stream_model.specs.Pulling.{added, all_implied, implied}
 use Rattle.stream_ident.specs.Words.{or_else, value_at}
 use Rattle.stream_model.proofs.EachOf.{All-append}
+use Rattle.stream_ident.specs.Implying.{added}
+use Rattle.stream_model.specs.Pulling.{all_implied, implied}
 use Rattle.stream_laws.proofs.Invariant.{RulesDiffer, bound_by_rules}
 use Rattle.stream_laws.proofs.RuleLemmas.{IsFirstRule, RulesDiffer-first, or_else-assoc}
 use Rattle.stream_ident.proofs.WordLemmas.{or_else-none}

@@ -18,12 +18,12 @@ use Rattle.stream_model.specs.Positions.{events_at, grain_at, is_spent, running_
 use Rattle.stream_model.specs.Turns.{begin, begin_for, begin_front, begin_in, begin_turn, begun, front_of}
 use Rattle.stream_ident.specs.Blocks.{turn_size}
 use Rattle.stream_ident.specs.Words.{past}
+use Rattle.stream_ident.proofs.WordLemmas.{none_from_is_some}
 use Rattle.stream_laws.proofs.BeginFront.{Fits-dropped, IsFront, is_front}
 use Rattle.stream_model.proofs.EachOf.{All-drop}
 use Rattle.stream_laws.proofs.Deliveries.{front-length, front-next, front-other, front-rest, front-some}
 use Rattle.stream_laws.proofs.EventLemmas.{length-events_at, owed-next}
 use Rattle.stream_laws.proofs.FitsOne.{Fits-grain}
-use Rattle.stream_laws.proofs.IdleGrains.{none-there}
 use Rattle.stream_laws.proofs.Invariant.{Fits, IsBoxed, IsRunning, Kept, NumbersFit, SubFits, marks_of}
 use Rattle.stream_laws.proofs.Marks.{IsInTurn, IsServed}
 use Rattle.stream_laws.proofs.OneChanged.{FitsHere, IsCarried, IsTurnAlike}
@@ -188,4 +188,4 @@ kept-begin t p g max_events fits =
     cond_both (is_some (grain_at p g).running) _ _ (Kept t (op.Begin g max_events)) (λ _. (fits, tt))
     (λ idle. cond_both (not (grain_at p g).active) _ _ (Kept t (op.Begin g max_events)) (λ _. (fits, tt))
     (λ active. kept-begin_front t p g max_events (turn_size max_events) (grain_at p g).mailbox size.0 size.1
-    (not-false (grain_at p g).active active) (none-there (grain_at p g).running idle) refl fits))
+    (not-false (grain_at p g).active active) (none_from_is_some (grain_at p g).running idle) refl fits))

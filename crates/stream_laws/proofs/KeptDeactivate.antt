@@ -10,7 +10,7 @@ use Rattle.stream_model.specs.declared.plain.Grain.{Grain}
 use Rattle.stream_model.specs.declared.plain.PlainPartition.{PlainPartition}
 use Rattle.stream_model.specs.declared.plain.Subscription.{Subscription}
 use Rattle.stream_model.specs.Positions.{grain_at, new_grain, running_in, sub_at, waiting_in}
-use Rattle.stream_model.specs.Turns.{deactivate, deactivate_in, deactivated}
+use Rattle.stream_model.specs.Turns.{deactivate, deactivate_in, deactivated, is_open_of}
 use Rattle.stream_laws.proofs.EachChanged.{IsEachRewound, NamesFit-each, NumbersFit-each, UnmadeFit-each, each-carried, each-was, rewound_if, served-lost, served-rewound_where}
 use Rattle.stream_laws.proofs.Invariant.{Fits, GrainsFit, Kept, SubFits, SubsFit, marks_of, running_of, waiting_of}
 use Rattle.stream_laws.proofs.Marks.{IsServed}
@@ -23,10 +23,6 @@ use Rattle.stream_ident.proofs.SameValues.{grain_equality, same_grain-equal, sam
 abbrev asleep : Grain → Grain
 asleep st = record st { active = false; mailbox = []; running = None }
 
--- the records that go back
-abbrev goes_back : GrainId → Subscription → Bool
-goes_back g r = same_grain g r.grain && r.is_open
-
 module _ (t : Summary) (p : PlainPartition) (g : GrainId) (st : Grain) (fits : Fits t p) where
   grain-asleep : IsGrainChanged p (deactivated p g st) g (asleep st)
   grain-asleep =
@@ -35,11 +31,11 @@ module _ (t : Summary) (p : PlainPartition) (g : GrainId) (st : Grain) (fits : F
         others = λ h other. ap (λ o. unwrap_or o new_grain) (with_value-other same_grain grain_equality h g (asleep st) p.grains other);
       }
 
-  rewound-asleep : IsEachRewound (goes_back g) p (deactivated p g st)
+  rewound-asleep : IsEachRewound (is_open_of g) p (deactivated p g st)
   rewound-asleep = record { subs = refl; log = refl; batches = refl; explicit = refl; rules = refl; turns = refl }
 
   -- a record of that grain
-  sub-lost : (s : SubName) (r : Subscription) → sub_at p s ≡ Some r → same_grain g r.grain ≡ true → SubFits t p.log p.low s (rewound_if (goes_back g) r) [] []
+  sub-lost : (s : SubName) (r : Subscription) → sub_at p s ≡ Some r → same_grain g r.grain ≡ true → SubFits t p.log p.low s (rewound_if (is_open_of g) r) [] []
   sub-lost s r found same =
       let fit = fits.subs s r found in
       record {
@@ -54,7 +50,7 @@ module _ (t : Summary) (p : PlainPartition) (g : GrainId) (st : Grain) (fits : F
       }
 
   -- a record of another
-  sub-stays : (s : SubName) (r : Subscription) → sub_at p s ≡ Some r → SubFits t p.log p.low s (rewound_if (goes_back g) r) (running_of p s r) (waiting_of p s r)
+  sub-stays : (s : SubName) (r : Subscription) → sub_at p s ≡ Some r → SubFits t p.log p.low s (rewound_if (is_open_of g) r) (running_of p s r) (waiting_of p s r)
   sub-stays s r found =
       let fit = fits.subs s r found in
       record {
@@ -63,30 +59,30 @@ module _ (t : Summary) (p : PlainPartition) (g : GrainId) (st : Grain) (fits : F
         closed = fit.closed;
         note = fit.note;
         in_turn = fit.in_turn;
-        served = λ is_open. served-rewound_where (goes_back g r) (marks_of r.stream r.start p.log) r.handled _ r.resume r.cursor p.low (fit.served is_open);
+        served = λ is_open. served-rewound_where (is_open_of g r) (marks_of r.stream r.start p.log) r.handled _ r.resume r.cursor p.low (fit.served is_open);
       }
 
-  sub-asleep : (s : SubName) (r : Subscription) → sub_at p s ≡ Some r → SubFits t p.log p.low s (rewound_if (goes_back g) r) (running_of (deactivated p g st) s r) (waiting_of (deactivated p g st) s r)
+  sub-asleep : (s : SubName) (r : Subscription) → sub_at p s ≡ Some r → SubFits t p.log p.low s (rewound_if (is_open_of g) r) (running_of (deactivated p g st) s r) (waiting_of (deactivated p g st) s r)
   sub-asleep s r found =
-      (elim (same_grain r.grain g) as (λ b. same_grain r.grain g ≡ b → SubFits t p.log p.low s (rewound_if (goes_back g) r) (running_of (deactivated p g st) s r) (waiting_of (deactivated p g st) s r)) [
+      (elim (same_grain r.grain g) as (λ b. same_grain r.grain g ≡ b → SubFits t p.log p.low s (rewound_if (is_open_of g) r) (running_of (deactivated p g st) s r) (waiting_of (deactivated p g st) s r)) [
         | true ↦ λ here.
             let same = same_grain-equal r.grain g here in
             let turned : same_grain g r.grain ≡ true = subst (λ h. same_grain h r.grain ≡ true) same (same_grain-refl r.grain) in
             let is_asleep : grain_at (deactivated p g st) r.grain ≡ asleep st = ap (λ h. grain_at (deactivated p g st) h) same ∙ grain-asleep.here in
-            subst (λ (now : Grain). SubFits t p.log p.low s (rewound_if (goes_back g) r) (running_in s now.running) (waiting_in s now.mailbox)) (sym is_asleep) (sub-lost s r found turned)
+            subst (λ (now : Grain). SubFits t p.log p.low s (rewound_if (is_open_of g) r) (running_in s now.running) (waiting_in s now.mailbox)) (sym is_asleep) (sub-lost s r found turned)
         | false ↦ λ other.
-            subst (λ (now : Grain). SubFits t p.log p.low s (rewound_if (goes_back g) r) (running_in s now.running) (waiting_in s now.mailbox)) (sym (grain-asleep.others r.grain other)) (sub-stays s r found)
+            subst (λ (now : Grain). SubFits t p.log p.low s (rewound_if (is_open_of g) r) (running_in s now.running) (waiting_in s now.mailbox)) (sym (grain-asleep.others r.grain other)) (sub-stays s r found)
       ]) refl
 
   subs-asleep : SubsFit t (deactivated p g st)
   subs-asleep s now found =
-      let was = each-was (goes_back g) p (deactivated p g st) rewound-asleep s now found in
+      let was = each-was (is_open_of g) p (deactivated p g st) rewound-asleep s now found in
       subst (λ r. SubFits t p.log p.low s r (running_of (deactivated p g st) s r) (waiting_of (deactivated p g st) s r)) was.2 (sub-asleep s was.0 was.1)
 
   grains-asleep : GrainsFit t (deactivated p g st)
   grains-asleep =
       GrainsFit-one t t p (deactivated p g st) g (asleep st) grain-asleep
-      (each-carried (goes_back g) p (deactivated p g st) rewound-asleep) refl (omega arith)
+      (each-carried (is_open_of g) p (deactivated p g st) rewound-asleep) refl (omega arith)
       (record {
         boxed = tt;
         running = λ run is_run. absurd (cc);
@@ -109,10 +105,10 @@ module _ (t : Summary) (p : PlainPartition) (g : GrainId) (st : Grain) (fits : F
           ended = fits.log.ended;
         };
         subs = subs-asleep;
-        unmade = UnmadeFit-each (goes_back g) p (deactivated p g st) rewound-asleep t t.low (omega arith) fits.unmade;
-        names = NamesFit-each (goes_back g) p (deactivated p g st) rewound-asleep t t.low fits.names;
+        unmade = UnmadeFit-each (is_open_of g) p (deactivated p g st) rewound-asleep t t.low (omega arith) fits.unmade;
+        names = NamesFit-each (is_open_of g) p (deactivated p g st) rewound-asleep t t.low fits.names;
         grains = grains-asleep;
-        numbers = NumbersFit-each (goes_back g) p (deactivated p g st) rewound-asleep t t.low fits.numbers;
+        numbers = NumbersFit-each (is_open_of g) p (deactivated p g st) rewound-asleep t t.low fits.numbers;
       }
 
 kept-deactivate_in : (t : Summary) (p : PlainPartition) (g : GrainId) (st : Grain) → Fits t p → Kept t (Deactivate g) (deactivate_in p g st)

@@ -8,6 +8,7 @@ use Rattle.stream_model.specs.declared.plain.PlainPartition.{PlainPartition}
 use Rattle.stream_model.specs.declared.plain.Subscription.{Subscription}
 use Rattle.stream_model.specs.Positions.{grain_at, is_outstanding, is_spent, is_unacknowledged, next_position, sub_at, waiting_in}
 use Rattle.stream_model.specs.Pulling.{caught_up, deliver, deliver_position, deliver_to, is_stale, woken}
+use Rattle.stream_ident.proofs.WordLemmas.{nil_from_nat_lt}
 use Rattle.stream_laws.proofs.Deliveries.{waiting-push, waiting-push_other}
 use Rattle.stream_model.proofs.EachOf.{All-append}
 use Rattle.stream_laws.proofs.FitsOne.{Fits-both, Fits-sub, IsToldOf-refl, with_both}
@@ -18,17 +19,13 @@ use Rattle.stream_laws.proofs.OneChanged.{FitsHere, apart-others, IsCarried, IsR
 use Rattle.stream_laws.proofs.ServedLemmas.{served-idle, served-seen, served-sent}
 use Rattle.stream_laws.proofs.Summary.{Summary}
 
--- a list of no length
-none-long : (xs : List ℕ) → nat_lt 0 (length xs) ≡ false → xs ≡ []
-none-long xs none = nil_from_length xs (omega (arith, ltb-false 0 (length xs) none))
-
 -- with nothing outstanding nothing is on its way
 none-on_way : (p : PlainPartition) (s : SubName) (r : Subscription) → is_outstanding p s r ≡ false → running_of p s r ++ waiting_of p s r ≡ []
 none-on_way p s r idle =
     let waiting = or_parts (nat_lt 0 (length (waiting_of p s r))) (nat_lt 0 (length (running_of p s r)) || is_unacknowledged r) idle in
     let running = or_parts (nat_lt 0 (length (running_of p s r))) (is_unacknowledged r) waiting.1 in
-    let no_waiting = none-long (waiting_of p s r) waiting.0 in
-    let no_running = none-long (running_of p s r) running.0 in
+    let no_waiting = nil_from_nat_lt (waiting_of p s r) waiting.0 in
+    let no_running = nil_from_nat_lt (running_of p s r) running.0 in
     ap (λ front. front ++ waiting_of p s r) no_running ∙ no_waiting
 
 SubFits-caught_up : (t : Summary) (p : PlainPartition) (s : SubName) (r : Subscription)

@@ -13,6 +13,7 @@ use Rattle.stream_model.specs.Positions.{no_event, token_at}
 use Rattle.stream_model.specs.Pulling.{handled_at}
 use Rattle.stream_ident.specs.Words.{past, past_from}
 use Rattle.stream_model.proofs.EachOf.{All-weaken}
+use Rattle.stream_laws.proofs.LowerBound.{token_at-within}
 use Rattle.stream_laws.proofs.Invariant.{LogFits, marks_of}
 use Rattle.stream_laws.proofs.LogLemmas.{length-marks_of, token_lt-same}
 use Rattle.stream_laws.proofs.MarkLemmas.{marked-within, marked_below-all, marked_below-within}
@@ -59,16 +60,12 @@ same_token-equal a b same =
 same_token-refl : (a : Token) → same_token a a ≡ true
 same_token-refl a = and_from (a.seq == a.seq) (a.idx == a.idx) (eq-eqb a.seq a.seq refl) (eq-eqb a.idx a.idx refl)
 
--- the token of an event of the log
-token_at-log : (p : PlainPartition) (q : ℕ) → q < length p.log → token_at p q ≡ (get_or p.log q no_event).token
-token_at-log p q within = get_or-map (λ (event : Event). event.token) p.log q no_event (batch_token p.batches) within
-
 -- two positions of the log with one token
 token-position : (t : Summary) (p : PlainPartition) (a b : ℕ) → LogFits t p → a ≤ b → b < length p.log → same_token (token_at p a) (token_at p b) ≡ true → a ≡ b
 token-position t p a b fits le within same =
     let Same : Type 0 = (get_or p.log a no_event).token ≡ (get_or p.log b no_event).token in
     let below : a < length p.log = omega arith in
-    let tokens : Same = sym (token_at-log p a below) ∙ same_token-equal (token_at p a) (token_at p b) same ∙ token_at-log p b within in
+    let tokens : Same = sym (token_at-within p a below) ∙ same_token-equal (token_at p a) (token_at p b) same ∙ token_at-within p b within in
     (elim (nat_lt a b) as (λ x. nat_lt a b ≡ x → a ≡ b) [
       | true ↦ λ less.
           let rises = fits.rising a b (ltb-true a b less) within in

@@ -15,14 +15,13 @@ use Rattle.stream_model.specs.declared.reply.Pending.TheVariants as pending
 use Rattle.stream_model.specs.declared.reply.Reply.TheVariants.{IsQuiet}
 use Rattle.stream_ident.specs.Event.{is_owed}
 use Rattle.stream_model.specs.NewestFirst.{owed_of}
+use Rattle.stream_ident.proofs.WordLemmas.{or_else-parts, nil_from_nat_lt, none_from_is_some}
 use Rattle.stream_laws.specs.Laws.{QuietIsDone, QuietOwesNoOther}
 use Rattle.stream_model.specs.Looks.{behind, deliverable, is_running, is_waiting, pending_in, quiet, quiet_reply, running, waiting}
 use Rattle.stream_model.specs.Positions.{grain_at, new_grain, next_position, running_in, sub_at, waiting_in}
 use Rattle.stream_ident.specs.Words.{keys_where, past, value_at}
 use Rattle.stream_laws.proofs.EventLemmas.{filter-drop-none}
-use Rattle.stream_laws.proofs.IdleGrains.{none-there, none-waits}
 use Rattle.stream_laws.proofs.KeyLists.{least-none}
-use Rattle.stream_ident.proofs.WordLemmas.{or_else-parts}
 use Rattle.stream_laws.proofs.Invariant.{Fits, marks_of, running_of, waiting_of}
 use Rattle.stream_laws.proofs.LawsOfEvents.{handled-record, owed-bound}
 use Rattle.stream_laws.proofs.Legal.{StepsKeep, fits-stands}
@@ -95,8 +94,8 @@ quiet-done p is_quiet =
     record {
       seen = behind-none p parts.0;
       sent = λ s r found. none-passes same_sub (λ r. r.is_open && is_some (next_position p r)) s r p.subs no_sub found;
-      none_waiting = λ g. none-waits (grain_at p g).mailbox (none-at-grain p g is_waiting refl no_wait);
-      none_running = λ g. none-there (grain_at p g).running (none-at-grain p g is_running refl no_run);
+      none_waiting = λ g. nil_from_nat_lt (grain_at p g).mailbox (none-at-grain p g is_waiting refl no_wait);
+      none_running = λ g. none_from_is_some (grain_at p g).running (none-at-grain p g is_running refl no_run);
     }
 
 next-none : (o : Option ℕ) (is_open : Bool) → (is_open && is_some o) ≡ false → is_open ≡ true → o ≡ None

@@ -30,11 +30,11 @@ use Rattle.stream_model.specs.Publishing.{subscribe, subscribe_at}
 use Rattle.stream_model.specs.Step.{step}
 use Rattle.stream_laws.specs.Laws.{CacheInBounds, NamesDiffer, NumbersAreNew, RecordsAreOpen, UnknownHasNoRecord, gives, is_given}
 use Rattle.stream_laws.proofs.Invariant.{Fits}
-use Rattle.stream_laws.proofs.IdleGrains.{none-there}
 use Rattle.stream_laws.proofs.Legal.{StepsKeep, fits-stands, reaches-stands}
 use Rattle.stream_laws.proofs.Summary.{Summary, summary}
 use Rattle.stream_laws.proofs.Unique.{AreUnique}
 use Rattle.stream_laws.proofs.UniqueSteps.{steady-legal}
+use Rattle.stream_ident.proofs.WordLemmas.{none_from_is_some}
 
 pub cache_in_bounds-from : StepsKeep → CacheInBounds
 cache_in_bounds-from keep blocks limits history p stands =
@@ -112,7 +112,7 @@ unknown_has_no_record-from keep blocks limits history p stands number =
     let t = summary (reverse history) in (
       record-given history p number fits,
       λ unknown.
-          let none : sub_at p (Explicit number) ≡ None = none-there _ (record-given history p number fits ∙ unknown) in
+          let none : sub_at p (Explicit number) ≡ None = none_from_is_some _ (record-given history p number fits ∙ unknown) in
           (ap (λ o. owed_of t.events o) (fits.names.unbound number none), (fits.unmade (Explicit number) none).handled),
     )
 

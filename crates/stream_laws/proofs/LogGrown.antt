@@ -11,6 +11,7 @@ use Rattle.stream_ident.specs.Event.{is_owed}
 use Rattle.stream_model.specs.Positions.{events_at, no_event}
 use Rattle.stream_ident.specs.Words.{past, past_from}
 use Rattle.stream_model.proofs.EachOf.{All-append}
+use Rattle.stream_ident.proofs.WordLemmas.{past_from-within}
 use Rattle.stream_laws.proofs.Invariant.{marks_of}
 use Rattle.stream_laws.proofs.MarkLemmas.{IsClear-marks, IsCovering-marks, IsNext-marks, marked-within, marked_below-marks}
 use Rattle.stream_laws.proofs.Marks.{IsInTurn, IsNext, IsServed, marked_below, reach}
@@ -28,16 +29,12 @@ within-below marks (suc n) =
     (λ marked. All-append (λ q. q < length marks) (marked_below marks n) (n ∷ []) (within-below marks n) (marked-within marks n marked, tt))
     (λ _. within-below marks n)
 
-past-within : (n a : ℕ) (positions : List ℕ) → a ≤ n → AllByRecursion (λ q. q < n) positions → past_from a positions ≤ n
-past-within n a [] within all = within
-past-within n a (q ∷ positions) within all = let here = all.0 in past-within n (suc q) positions (omega arith) all.1
-
 -- so are the handled ones, and what they reach
 pub within-handled : (marks : List Bool) (handled running : List ℕ) → IsInTurn marks handled running → AllByRecursion (λ q. q < length marks) handled
 within-handled marks handled running in_turn = subst (AllByRecursion (λ q. q < length marks)) (sym in_turn.first) (within-below marks (past handled))
 
 pub past-handled : (marks : List Bool) (handled running : List ℕ) → IsInTurn marks handled running → past handled ≤ length marks
-past-handled marks handled running in_turn = past-within (length marks) 0 handled (omega arith) (within-handled marks handled running in_turn)
+past-handled marks handled running in_turn = past_from-within 0 (length marks) handled (omega arith) (within-handled marks handled running in_turn)
 
 -- ---- more marks at the end
 

@@ -1,4 +1,4 @@
--- Events on the log: their marks, their tokens, and the least position of one that passes.
+-- Events on the log: their marks, their tokens, and stretches of it.
 use Rattle.std.proofs.Common.{◌≡◌, ◌∙◌, ap, sym, refl, ℕ, zero, suc, ◌+◌, ◌-◌, ◌<◌, ◌≤◌, not, Bool, true, false, List, [], ◌∷◌, length, get_or, drop, Some, None, if◌then◌else◌, ⊎_elim, arith}
 use Rattle.std.proofs.lemmas.Bool.{cases_lt, and_right}
 use Rattle.std.proofs.lemmas.Bool.Decides.{nat_tests}
@@ -11,6 +11,7 @@ use Rattle.stream_ident.specs.Name.{same_stream}
 use Rattle.stream_ident.specs.Event.{is_owed}
 use Rattle.stream_model.specs.Positions.{between, no_event}
 use Rattle.stream_ident.specs.Words.{first_at}
+use Rattle.stream_ident.proofs.FirstLemmas.{first_at-None, first_at-Some}
 use Rattle.stream_laws.proofs.EventLemmas.{mark-at}
 use Rattle.stream_laws.proofs.Invariant.{marks_of}
 use Rattle.stream_laws.proofs.Marks.{IsClear}
@@ -44,45 +45,6 @@ clear-before stream start log a b before q from to =
     (λ (beyond : length log ≤ q). get_or_past (marks_of stream start log) q false (omega (arith, length-marks_of stream start log)))
     (cases_lt q (length log))
 
--- ---- the least position of an element that passes
-
--- the element at a place passes and none before it does
-abbrev pub IsFirst : {A : Type 0} → (A → Bool) → List A → A → ℕ → Type 0
-IsFirst passes xs d j = (j < length xs) × (passes (get_or xs j d) ≡ true) × ((k : ℕ) → k < j → passes (get_or xs k d) ≡ false)
-
-first_here : {A : Type 0} (passes : A → Bool) (x : A) (xs : List A) (d : A) (n i : ℕ) → passes x ≡ true → n ≡ i → (j : ℕ) × (i ≡ n + j) × IsFirst passes (x ∷ xs) d j
-first_here passes x xs d n i here is = (0, omega arith, (omega arith, here, λ k below. absurd (omega arith)))
-
-first_later : {A : Type 0} (passes : A → Bool) (x : A) (xs : List A) (d : A) (n i : ℕ) → passes x ≡ false → (j : ℕ) × (i ≡ suc n + j) × IsFirst passes xs d j → (j : ℕ) × (i ≡ n + j) × IsFirst passes (x ∷ xs) d j
-first_later passes x xs d n i not_here found =
-    let within = found.2.0 in
-    (suc found.0, omega (arith, found.1), (omega (arith, within), found.2.1, before))
-  where
-    before : (k : ℕ) → k < suc found.0 → passes (get_or (x ∷ xs) k d) ≡ false
-    before zero below = not_here
-    before (suc k) below = found.2.2 k (omega arith)
-
--- in a list whose first element has position n: the found one is the first that passes
-pub first_at-found : {A : Type 0} (passes : A → Bool) (n : ℕ) (xs : List A) (d : A) (i : ℕ) → first_at passes n xs ≡ Some i → (j : ℕ) × (i ≡ n + j) × IsFirst passes xs d j
-first_at-found passes n [] d i e = cc
-first_at-found {A} passes n (x ∷ xs) d i e =
-    (elim (passes x) as (λ b. passes x ≡ b → (if b then Some n else first_at passes (suc n) xs) ≡ Some i → (j : ℕ) × (i ≡ n + j) × IsFirst passes (x ∷ xs) d j) [
-      | true ↦ λ here e. first_here passes x xs d n i here (cc)
-      | false ↦ λ later e. first_later passes x xs d n i later (first_at-found passes (suc n) xs d i e)
-    ]) refl e
-
--- where none is found, none passes
-pub first_at-none : {A : Type 0} (passes : A → Bool) (n : ℕ) (xs : List A) (d : A) → first_at passes n xs ≡ None → (k : ℕ) → k < length xs → passes (get_or xs k d) ≡ false
-first_at-none passes n [] d e k below = absurd (omega arith)
-first_at-none {A} passes n (x ∷ xs) d e k below =
-    (elim (passes x) as (λ b. passes x ≡ b → (if b then Some n else first_at passes (suc n) xs) ≡ None → (k : ℕ) → k < suc (length xs) → passes (get_or (x ∷ xs) k d) ≡ false) [
-      | true ↦ λ here e. cc
-      | false ↦ λ later e. elim [
-        | zero ↦ λ below. later
-        | suc k ↦ λ below. first_at-none passes (suc n) xs d e k (omega arith)
-      ]
-    ]) refl e k below
-
 -- ---- stretches of the log
 
 pub length-between : (log : List Event) (from to : ℕ) → to ≤ length log → length (between log from to) ≡ to - from
@@ -94,12 +56,12 @@ between-at log from to k below = get_or-take (to - from) (drop from log) k no_ev
 -- the least position at or past from that is found below to: none from there on is marked before it
 pub next_found : (stream : StreamId) (start : Token) (log : List Event) (from to position : ℕ) → to ≤ length log → first_at (λ event. is_owed stream start event) from (between log from to) ≡ Some position → (from ≤ position) × (position < to) × (get_or (marks_of stream start log) position false ≡ true) × IsClear (marks_of stream start log) from position
 next_found stream start log from to position within e =
-    let found = first_at-found (λ event. is_owed stream start event) from (between log from to) no_event position e in
-    let is : position ≡ from + found.0 = found.1 in
-    let some : found.0 < length (between log from to) = found.2.0 in
+    let found = first_at-Some (λ event. is_owed stream start event) from (between log from to) no_event position e in
+    let is : position ≡ from + found.place = found.at in
+    let some : found.place < length (between log from to) = found.within in
     let size = length-between log from to within in
-    let marked : get_or (marks_of stream start log) (from + found.0) false ≡ true =
-    mark-at (λ event. is_owed stream start event) log (from + found.0) (omega arith) ∙ ap (λ event. is_owed stream start event) (sym (between-at log from to found.0 (omega arith))) ∙ found.2.1
+    let marked : get_or (marks_of stream start log) (from + found.place) false ≡ true =
+    mark-at (λ event. is_owed stream start event) log (from + found.place) (omega arith) ∙ ap (λ event. is_owed stream start event) (sym (between-at log from to found.place (omega arith))) ∙ found.is
     in (
       omega arith,
       omega arith,
@@ -107,14 +69,14 @@ next_found stream start log from to position within e =
       λ q at_least below.
           let same : from + (q - from) ≡ q = omega arith in
           ap (λ q. get_or (marks_of stream start log) q false) (sym same)
-          ∙ mark-at (λ event. is_owed stream start event) log (from + (q - from)) (omega arith) ∙ ap (λ event. is_owed stream start event) (sym (between-at log from to (q - from) (omega arith))) ∙ found.2.2 (q - from) (omega arith),
+          ∙ mark-at (λ event. is_owed stream start event) log (from + (q - from)) (omega arith) ∙ ap (λ event. is_owed stream start event) (sym (between-at log from to (q - from) (omega arith))) ∙ found.before (q - from) (omega arith),
     )
 
 -- where none is found, none is marked
 pub next_none : (stream : StreamId) (start : Token) (log : List Event) (from to : ℕ) → to ≤ length log → first_at (λ event. is_owed stream start event) from (between log from to) ≡ None → IsClear (marks_of stream start log) from to
 next_none stream start log from to within e q at_least below =
     let size = length-between log from to within in
-    let none = first_at-none (λ event. is_owed stream start event) from (between log from to) no_event e (q - from) (omega arith) in
+    let none = first_at-None (λ event. is_owed stream start event) from (between log from to) no_event e (q - from) (omega arith) in
     let same : from + (q - from) ≡ q = omega arith in
     ap (λ q. get_or (marks_of stream start log) q false) (sym same)
     ∙ mark-at (λ event. is_owed stream start event) log (from + (q - from)) (omega arith) ∙ ap (λ event. is_owed stream start event) (sym (between-at log from to (q - from) (omega arith))) ∙ none

@@ -10,8 +10,9 @@ use Rattle.stream_model.specs.declared.plain.PlainPartition.{PlainPartition}
 use Rattle.stream_ident.specs.Event.{batch_token}
 use Rattle.stream_model.specs.Positions.{between, low_token, lower_bound, no_event, token_at}
 use Rattle.stream_ident.specs.Words.{first_at}
+use Rattle.stream_ident.proofs.FirstLemmas.{first_at-None, first_at-Some}
 use Rattle.stream_laws.proofs.Invariant.{LogFits, marks_of}
-use Rattle.stream_laws.proofs.LogLemmas.{between-at, clear-before, first_at-found, first_at-none, length-between, token_lt-before}
+use Rattle.stream_laws.proofs.LogLemmas.{between-at, clear-before, length-between, token_lt-before}
 use Rattle.stream_laws.proofs.Marks.{IsClear}
 use Rattle.stream_laws.proofs.Summary.{Summary}
 
@@ -46,16 +47,16 @@ module _ (t : Summary) (p : PlainPartition) (fits : LogFits t p) where
         below q from to =
             let size = length-between p.log p.low p.high fits.high_end in
             let same : p.low + (q - p.low) ≡ q = omega arith in
-            let lesser = first_at-none (λ (event : Event). not (token_lt event.token token)) p.low (between p.log p.low p.high) no_event none (q - p.low) (omega arith) in
+            let lesser = first_at-None (λ (event : Event). not (token_lt event.token token)) p.low (between p.log p.low p.high) no_event none (q - p.low) (omega arith) in
             ap (λ q. token_lt (get_or p.log q no_event).token token) (sym same)
             ∙ ap (λ (event : Event). token_lt event.token token) (sym (between-at p.log p.low p.high (q - p.low) (omega arith)))
             ∙ not-false _ lesser
     bound (Some i) is =
-        let found = first_at-found (λ (event : Event). not (token_lt event.token token)) p.low (between p.log p.low p.high) no_event i is in
-        let at : i ≡ p.low + found.0 = found.1 in
-        let within : found.0 < length (between p.log p.low p.high) = found.2.0 in
+        let found = first_at-Some (λ (event : Event). not (token_lt event.token token)) p.low (between p.log p.low p.high) no_event i is in
+        let at : i ≡ p.low + found.place = found.at in
+        let within : found.place < length (between p.log p.low p.high) = found.within in
         let size = length-between p.log p.low p.high fits.high_end in
-        (omega arith, omega arith, below (omega arith) found.0 at found.2.2)
+        (omega arith, omega arith, below (omega arith) found.place at found.before)
       where
         below : i ≤ p.high → (j : ℕ) → i ≡ p.low + j → ((k : ℕ) → k < j → not (token_lt (get_or (between p.log p.low p.high) k no_event).token token) ≡ false) → (q : ℕ) → p.low ≤ q → q < i → token_lt (get_or p.log q no_event).token token ≡ true
         below high j at lesser q from to =

@@ -31,7 +31,7 @@ use Rattle.stream_model.specs.Step.{step}
 use Rattle.stream_model.specs.Turns.{begin, begin_for, begin_front, begin_in, begin_turn, commit, commit_for, commit_running, deactivate, deactivate_in}
 use Rattle.stream_model.proofs.Values.{changed_option, changed_value-at, changed_value-other, with_value-at, with_value-other}
 use Rattle.stream_laws.specs.Laws.{begins, ends}
-use Rattle.stream_laws.proofs.IdleGrains.{none-there}
+use Rattle.stream_ident.proofs.WordLemmas.{none_from_is_some}
 
 -- the number of the turn that runs
 abbrev pub turn_of : Option RunningTurn → Option ℕ
@@ -199,7 +199,7 @@ module _ (g : GrainId) (turn : ℕ) where
   idle-apart : (p : PlainPartition) (h : GrainId) → Runs p → is_some (grain_at p h).running ≡ false → same_grain g h ≡ false
   idle-apart p h runs idle =
       false_from_ne_true (same_grain g h) (λ same.
-      let none = none-there (grain_at p h).running idle in
+      let none = none_from_is_some (grain_at p h).running idle in
       let here : turn_of (grain_at p h).running ≡ Some turn = runs-same p h runs same in
       let gone : turn_of (grain_at p h).running ≡ None = ap turn_of none in cc)
 
@@ -302,7 +302,7 @@ module _ (g : GrainId) (turn : ℕ) where
       let st = grain_at p h in
       cond_both (is_some st.running) _ _ (Begun p (op.Begin h max_events)) (λ _ told. absurd (cc))
       (λ idle. cond_both (not st.active) _ _ (Begun p (op.Begin h max_events)) (λ _ told. absurd (cc))
-      (λ _. begun-begin_front p h max_events (turn_size max_events) st st.mailbox (none-there st.running idle)))
+      (λ _. begun-begin_front p h max_events (turn_size max_events) st st.mailbox (none_from_is_some st.running idle)))
 
   pub begun-step : (p : PlainPartition) (o : Op) → Begun p o (step p o)
   unfolding step

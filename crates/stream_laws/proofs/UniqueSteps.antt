@@ -27,11 +27,12 @@ use Rattle.stream_ident.specs.Event.{batch_token}
 use Rattle.stream_model.specs.NewestFirst.{Entry}
 use Rattle.stream_model.specs.Positions.{between, empty, grain_at, is_spent, low_token, lower_bound, new_subscription, next_position, sub_at, with_sub}
 use Rattle.stream_model.specs.Publishing.{add_rule, publish, subscribe, subscribe_at, unsubscribe, unsubscribe_from, without}
-use Rattle.stream_model.specs.Pulling.{ack, ack_of, ack_position, acknowledged, added, all_implied, caught_up, deliver, deliver_position, deliver_to, drops, handled_at, is_stale, move, move_to, pull, pull_count, pull_events, pull_want, purge, purge_to, purges, room, retry, retry_of, rewound, rewound_where, subs_with, woken}
 use Rattle.stream_model.specs.Step.{Leads, Stands, step}
 use Rattle.stream_model.specs.Turns.{begin, begin_for, begin_front, begin_in, begin_turn, commit, commit_for, commit_running, deactivate, deactivate_in, ended}
 use Rattle.stream_ident.specs.Blocks.{turn_size}
 use Rattle.stream_ident.specs.Words.{past, value_at, with_value}
+use Rattle.stream_ident.specs.Implying.{added}
+use Rattle.stream_model.specs.Pulling.{ack, ack_of, ack_position, acknowledged, all_implied, caught_up, deliver, deliver_position, deliver_to, handled_at, is_stale, move, move_to, pull, pull_count, pull_events, pull_want, purge, purge_to, retry, retry_of, rewound, rewound_where, subs_with, woken}
 use Rattle.stream_laws.proofs.Unique.{AreUnique, unique-changed_value, unique-each_value, unique-push, unique-with_value}
 use Rattle.stream_ident.proofs.SameValues.{grain_equality, sub_equality}
 

@@ -95,7 +95,7 @@ pub fn numbers_are_new()
     ensures { NumbersAreNew }
 {}
 
-/// A start token is refused exactly where it is below the low token that was told last.
+/// A start token is refused exactly where it is below the last low token that a reply gave.
 pub fn misses_below_low()
     ensures { MissesBelowLow }
 {}

@@ -2,8 +2,9 @@
 use Rattle.std.proofs.Common.{◌≡◌, ℕ, zero, suc, ◌+◌, Bool, true, false, List, [], ◌∷◌, Option, Some, None, if◌then◌else◌, refl, sym, ap, ◌∙◌, arith}
 use Rattle.std.proofs.lemmas.Bool.{cond_both}
 use Rattle.std.specs.List.{AllByRecursion}
+use Rattle.stream_ident.proofs.WordLemmas.{changed_value-none}
 use Rattle.stream_model.specs.Places.{change_at, place_of}
-use Rattle.stream_ident.specs.Words.{changed_value, first_at, value_at}
+use Rattle.stream_ident.specs.Words.{changed_value, first_at}
 use Rattle.stream_model.proofs.Lookups.{first_at-le, place_of-none}
 
 -- in a list whose first element has place n: a change at the key's place changes its value
@@ -20,15 +21,6 @@ changed_at_place same key change n (suc j) (entry ∷ entries) e =
       | false ↦ λ e.
           let e' : first_at (λ entry. same key entry.0) (suc n) entries ≡ Some (suc n + j) = e ∙ ap {B = Option ℕ} Some (omega arith) in
           ap (λ rest. entry ∷ rest) (changed_at_place same key change (suc n) j entries e')
-    ]) e
-
--- a key with no value changes nothing
-changed_value-none : {K V : Type 0} (same : K → K → Bool) (key : K) (change : V → V) (entries : List (K × V)) → value_at same key entries ≡ None → changed_value same key change entries ≡ entries
-changed_value-none same key change [] e = refl
-changed_value-none same key change (entry ∷ entries) e =
-    (elim (same key entry.0) as (λ b. (if b then Some entry.1 else value_at same key entries) ≡ None → (if b then (entry.0, change entry.1) ∷ entries else entry ∷ changed_value same key change entries) ≡ entry ∷ entries) [
-      | true ↦ λ e. absurd (cc)
-      | false ↦ λ e. ap (λ rest. entry ∷ rest) (changed_value-none same key change entries e)
     ]) e
 
 -- a change at the key's place changes its value

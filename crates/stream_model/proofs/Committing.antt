@@ -1,6 +1,6 @@
 -- What a worker's commit leaves and answers, case by case.
-use Rattle.std.proofs.Common.{◌≡◌, ℕ, pred, true, false, ◌&&◌, ◌==◌, not, List, Option, Some, None, Result, Ok, Err, refl, sym, ap, ◌∙◌}
-use Rattle.std.specs.Prelude.{if◌then◌else◌, OnErr}
+use Rattle.std.proofs.Common.{◌≡◌, ℕ, pred, true, false, ◌&&◌, ◌==◌, not, List, Option, Some, None, refl, sym, ap, ◌∙◌}
+use Rattle.std.specs.Prelude.{if◌then◌else◌}
 use Rattle.stream_ident.specs.declared.ident.GrainId.{GrainId}
 use Rattle.stream_ident.specs.declared.ident.SubName.{SubName}
 use Rattle.stream_ident.specs.declared.token.Token.{Token}
@@ -75,8 +75,3 @@ commit_for-done p g st run note r subs grains token is_r is_open is_subs is_grai
 pub commit_for-takes : (p : PlainPartition) (g : GrainId) (st : Grain) (run : RunningTurn) (note : ℕ) (r : Subscription) → sub_at p run.sub ≡ Some r → r.is_open ≡ true → takes_memory (commit_for p g st run note (sub_at p run.sub)).1 ≡ true
 commit_for-takes p g st run note r is_r is_open =
     ap (λ (stepped : PlainPartition × Reply). takes_memory stepped.1) (commit_for-open p g st run note r is_r is_open)
-
--- a fact that holds anyway
-pub OnErr-since : {T E : Type 0} (r : Result T E) (P : Type 0) → P → OnErr r P
-OnErr-since (Ok x) P h = tt
-OnErr-since (Err e) P h = h

@@ -8,17 +8,13 @@ use Rattle.stream_ident.specs.Name.{same_grain}
 use Rattle.stream_model.specs.declared.plain.Grain.{Grain}
 use Rattle.stream_model.specs.declared.plain.PlainPartition.{PlainPartition}
 use Rattle.stream_model.specs.declared.plain.Subscription.{Subscription}
-use Rattle.stream_model.specs.declared.reply.Reply.{Reply}
 use Rattle.stream_model.specs.Bounds.{AreIn, IsGiven, IsWithinLimits}
 use Rattle.stream_model.specs.Positions.{grain_at, with_grain}
 use Rattle.stream_model.specs.Pulling.{rewound_where}
 use Rattle.stream_model.specs.Turns.{deactivate, deactivate_in, deactivated}
 use Rattle.stream_ident.specs.Words.{each_value}
 use Rattle.stream_model.proofs.EachValue.{All-each_value}
-use Rattle.stream_model.proofs.RecordBounds.{GrainFits, changed, grain-fits, grain-set, grains-fit}
-
-abbrev Kept : PlainPartition × Reply → Type 0
-Kept out = IsWithinLimits out.0
+use Rattle.stream_model.proofs.RecordBounds.{GrainFits, changed, grain-fits, grain-set, grains-fit, KeepsLimits}
 
 bounds-deactivated : (p : PlainPartition) (g : GrainId) (st : Grain) → IsWithinLimits p → GrainFits p.log p.rises st → IsWithinLimits (deactivated p g st)
 bounds-deactivated p g st within fits =
@@ -36,4 +32,4 @@ pub bounds-deactivate : (p : PlainPartition) (g : GrainId) → IsWithinLimits p 
 unfolding deactivate deactivate_in
 bounds-deactivate p g within =
     let st = grain_at p g in
-    cond_both (not st.active) _ _ Kept (λ _. within) (λ _. bounds-deactivated p g st within (grain-fits p g within))
+    cond_both (not st.active) _ _ KeepsLimits (λ _. within) (λ _. bounds-deactivated p g st within (grain-fits p g within))

@@ -6,16 +6,12 @@ use Rattle.stream_model.specs.declared.plain.Delivery.{Delivery}
 use Rattle.stream_model.specs.declared.plain.Grain.{Grain}
 use Rattle.stream_model.specs.declared.plain.PlainPartition.{PlainPartition}
 use Rattle.stream_model.specs.declared.plain.Subscription.{Subscription}
-use Rattle.stream_model.specs.declared.reply.Reply.{Reply}
 use Rattle.stream_model.specs.Bounds.{IsWithinLimits}
 use Rattle.stream_ident.specs.Event.{is_owed}
 use Rattle.stream_model.specs.Positions.{grain_at, is_spent, next_position, sub_at, with_grain, with_sub}
 use Rattle.stream_model.specs.Pulling.{caught_up, deliver, deliver_position, deliver_to, delivered, is_stale}
 use Rattle.stream_model.proofs.EachOf.{All-append}
-use Rattle.stream_model.proofs.RecordBounds.{GrainFits, found-in-log, grain-fits, grain-set, handled-in, sub-set}
-
-abbrev Kept : PlainPartition × Reply → Type 0
-Kept out = IsWithinLimits out.0
+use Rattle.stream_model.proofs.RecordBounds.{GrainFits, found-in-log, grain-fits, grain-set, handled-in, sub-set, KeepsLimits}
 
 -- an activation costs a rise
 rise-fits : (active : Bool) (activation rises limit : ℕ) → activation ≤ rises → rises ≤ limit → (not active && nat_le limit rises) ≡ false
@@ -51,18 +47,18 @@ bounds-deliver_position : (p : PlainPartition) (s : SubName) (r : Subscription) 
 unfolding deliver_position
 bounds-deliver_position p s r st None within there fits is_next = sub-set p s r (caught_up p s r) within there (handled-in p s r within there)
 bounds-deliver_position p s r st (Some position) within there fits is_next =
-    cond_both (nat_le 16 (length st.mailbox)) _ _ Kept (λ _. within)
-    (λ _. cond_both (not st.active && is_spent p) _ _ Kept (λ _. within)
+    cond_both (nat_le 16 (length st.mailbox)) _ _ KeepsLimits (λ _. within)
+    (λ _. cond_both (not st.active && is_spent p) _ _ KeepsLimits (λ _. within)
     (λ left. bounds-delivered p s r st position within there fits (found-in-log (λ event. is_owed r.stream r.start event) p.log r.cursor p.high position is_next) left))
 
 bounds-deliver_to : (p : PlainPartition) (s : SubName) (found : Option Subscription) → IsWithinLimits p → sub_at p s ≡ found → IsWithinLimits (deliver_to p s found).0
 unfolding deliver_to
 bounds-deliver_to p s None within is_found = within
 bounds-deliver_to p s (Some r) within is_found =
-    cond_both (not r.is_open) _ _ Kept (λ _. within)
+    cond_both (not r.is_open) _ _ KeepsLimits (λ _. within)
     (λ _. bounds-deliver_position p s r (grain_at p r.grain) (next_position p r) within is_found (grain-fits p r.grain within) refl)
 
 pub bounds-deliver : (p : PlainPartition) (generation : ℕ) (s : SubName) → IsWithinLimits p → IsWithinLimits (deliver p generation s).0
 unfolding deliver
 bounds-deliver p generation s within =
-    cond_both (is_stale p generation) _ _ Kept (λ _. within) (λ _. bounds-deliver_to p s (sub_at p s) within refl)
+    cond_both (is_stale p generation) _ _ KeepsLimits (λ _. within) (λ _. bounds-deliver_to p s (sub_at p s) within refl)

@@ -2,8 +2,8 @@
 use Rattle.std.proofs.Common.{◌≡◌, ◌∙◌, ap, sym, refl, ℕ, ◌+◌, ◌-◌, ◌<◌, ◌≤◌, ◌&&◌, Bool, true, false, List, [], ◌∷◌, Option, Some, None, length, map, filter, drop, get_or, arith}
 use Rattle.std.specs.Prelude.{if◌then◌else◌}
 use Rattle.std.proofs.lemmas.List.{drop_all, drop_more}
-use Rattle.stream_model.specs.Least.{is_above, least_key}
-use Rattle.stream_ident.specs.Words.{above, keys_where, least, lesser}
+use Rattle.stream_ident.specs.Words.{above, keys_where, least, lesser, is_above}
+use Rattle.stream_model.specs.Least.{least_key}
 
 -- a key that is above the given one, and one that isn't
 above-there : {K : Type 0} (lt : K → K → Bool) (after : Option K) (key : K) (keys : List K) → is_above lt after key ≡ true → above lt after (key ∷ keys) ≡ key ∷ above lt after keys

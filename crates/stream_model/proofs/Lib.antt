@@ -8,7 +8,6 @@ pub mod DeactivatingBounds
 pub mod DeliveringBounds
 pub mod EachOf
 pub mod EachValue
-pub mod Fronts
 pub mod LeastKey
 pub mod Looking
 pub mod Lookups
@@ -20,6 +19,7 @@ pub mod PullingSteps
 pub mod PurgingBounds
 pub mod Reaching
 pub mod RecordBounds
+pub mod Refusals
 pub mod RulesBounds
 pub mod StepBounds
 pub mod SubNames

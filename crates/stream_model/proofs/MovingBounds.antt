@@ -7,16 +7,13 @@ use Rattle.stream_ident.specs.declared.ident.SubName.{SubName}
 use Rattle.stream_model.specs.declared.plain.Grain.{Grain}
 use Rattle.stream_model.specs.declared.plain.PlainPartition.{PlainPartition}
 use Rattle.stream_model.specs.declared.plain.Subscription.{Subscription}
-use Rattle.stream_model.specs.declared.reply.Reply.{Reply}
 use Rattle.stream_model.specs.Bounds.{AreIn, IsGiven, IsWithinLimits}
 use Rattle.stream_model.specs.Positions.{is_spent, open_resumes}
 use Rattle.stream_model.specs.Pulling.{move, move_to, rewound_where}
 use Rattle.stream_ident.specs.Words.{each_value, least_with}
 use Rattle.stream_model.proofs.EachOf.{All-weaken}
 use Rattle.stream_model.proofs.EachValue.{All-each_value}
-
-abbrev Kept : PlainPartition × Reply → Type 0
-Kept out = IsWithinLimits out.0
+use Rattle.stream_model.proofs.RecordBounds.{KeepsLimits}
 
 bounds-move_to : (p : PlainPartition) (silo position : ℕ) → IsWithinLimits p → is_spent p ≡ false → IsWithinLimits (move_to p silo position).0
 unfolding move_to
@@ -47,4 +44,4 @@ bounds-move_to p silo position within left =
 pub bounds-move : (p : PlainPartition) (silo : ℕ) → IsWithinLimits p → IsWithinLimits (move p silo).0
 unfolding move
 bounds-move p silo within =
-    cond_both (is_spent p) _ _ Kept (λ _. within) (bounds-move_to p silo (least_with p.high (open_resumes p)) within)
+    cond_both (is_spent p) _ _ KeepsLimits (λ _. within) (bounds-move_to p silo (least_with p.high (open_resumes p)) within)

@@ -14,7 +14,6 @@ use Rattle.stream_model.specs.declared.op.Start.{Start}
 use Rattle.stream_model.specs.declared.op.Start.TheVariants.{Latest, At}
 use Rattle.stream_model.specs.declared.plain.Subscription.{Subscription}
 use Rattle.stream_model.specs.declared.plain.PlainPartition.{PlainPartition}
-use Rattle.stream_model.specs.declared.reply.Reply.{Reply}
 use Rattle.stream_model.specs.Bounds.{AreIn, IsWithinLimits, running_positions}
 use Rattle.stream_ident.specs.Event.{batch_token, events_of}
 use Rattle.stream_model.specs.Positions.{low_token, lower_bound, new_subscription, with_sub}
@@ -26,6 +25,7 @@ use Rattle.stream_model.proofs.EachOf.{All-append, All-weaken}
 use Rattle.stream_ident.proofs.EventLemmas.{length-events_of}
 use Rattle.stream_model.proofs.PublishingSteps.{is_bad}
 use Rattle.stream_model.proofs.SubNames.{AreGiven, AreGiven-more, AreGiven-push, with_value-new}
+use Rattle.stream_model.proofs.RecordBounds.{KeepsLimits}
 
 -- a batch of one payload at least
 some-payload : (n : ℕ) → ((n == 0) || nat_lt 64 n) ≡ false → 0 < n
@@ -62,8 +62,7 @@ bounds-published p stream payloads within good fits =
 pub bounds-publish : (p : PlainPartition) (stream : StreamId) (payloads : List (List ℕ)) → IsWithinLimits p → IsWithinLimits (publish p stream payloads).0
 unfolding publish
 bounds-publish p stream payloads within =
-    let Kept : PlainPartition × Reply → Type 0 = λ out. IsWithinLimits out.0 in
-    cond_both (is_bad payloads) _ _ Kept (λ _. within) (λ good. cond_both (nat_lt p.limits.events (length p.log + length payloads)) _ _ Kept (λ _. within) (bounds-published p stream payloads within good))
+    cond_both (is_bad payloads) _ _ KeepsLimits (λ _. within) (λ good. cond_both (nat_lt p.limits.events (length p.log + length payloads)) _ _ KeepsLimits (λ _. within) (bounds-published p stream payloads within good))
 
 bounds-subscribed : (p : PlainPartition) (sub : Subscription) → IsWithinLimits p → sub.handled ≡ [] → nat_le p.limits.subs (length p.subs) ≡ false → IsWithinLimits (record (with_sub p (name.Explicit (suc p.explicit)) sub) { explicit = suc p.explicit })
 bounds-subscribed p sub within none fits =
@@ -99,12 +98,10 @@ bounds-subscribed p sub within none fits =
 bounds-subscribe_at : (p : PlainPartition) (stream : StreamId) (grain : GrainId) (start : Token) (position : ℕ) → IsWithinLimits p → IsWithinLimits (subscribe_at p stream grain start position).0
 unfolding subscribe_at
 bounds-subscribe_at p stream grain start position within =
-    let Kept : PlainPartition × Reply → Type 0 = λ out. IsWithinLimits out.0 in
-    cond_both (nat_le p.limits.subs (length p.subs)) _ _ Kept (λ _. within) (bounds-subscribed p (new_subscription stream grain start position) within refl)
+    cond_both (nat_le p.limits.subs (length p.subs)) _ _ KeepsLimits (λ _. within) (bounds-subscribed p (new_subscription stream grain start position) within refl)
 
 pub bounds-subscribe : (p : PlainPartition) (stream : StreamId) (grain : GrainId) (start : Start) → IsWithinLimits p → IsWithinLimits (subscribe p stream grain start).0
 unfolding subscribe
 bounds-subscribe p stream grain Latest within = bounds-subscribe_at p stream grain (batch_token p.batches) p.high within
 bounds-subscribe p stream grain (At token) within =
-    let Kept : PlainPartition × Reply → Type 0 = λ out. IsWithinLimits out.0 in
-    cond_both (token_lt token (low_token p)) _ _ Kept (λ _. within) (λ _. bounds-subscribe_at p stream grain token (lower_bound p token) within)
+    cond_both (token_lt token (low_token p)) _ _ KeepsLimits (λ _. within) (λ _. bounds-subscribe_at p stream grain token (lower_bound p token) within)

@@ -50,10 +50,6 @@ want-events p want count blocks is_blocks is_count some =
     let test : (min want (room p + 64 * drops p want) == 0) ≡ false = ne_eqb _ 0 (λ none. some (is_count ∙ none)) in
     rw test (λ i. pull_events p (p.low + 64 * is_blocks i) (p.high + is_count i) (subs_up_to p (p.high + is_count i)))
 
-pub pull-stale : (p : PlainPartition) (generation max_events : ℕ) → is_stale p generation ≡ true → pull p generation max_events ≡ (p, reply.StaleAgent p.generation)
-unfolding pull
-pull-stale p generation max_events stale = rw stale refl
-
 pub pull-dry : (p : PlainPartition) (generation max_events : ℕ) → is_stale p generation ≡ false → p.high ≡ length p.log → pull p generation max_events ≡ (p, reply.Dry)
 unfolding pull
 pull-dry p generation max_events current dry =

@@ -2,9 +2,9 @@
 use Rattle.std.proofs.Common.{ℕ, ◌+◌, ◌*◌}
 use Rattle.std.proofs.lemmas.Bool.{cond_both}
 use Rattle.stream_model.specs.declared.plain.PlainPartition.{PlainPartition}
-use Rattle.stream_model.specs.declared.reply.Reply.{Reply}
 use Rattle.stream_model.specs.Bounds.{IsWithinLimits}
 use Rattle.stream_model.specs.Pulling.{is_stale, purge, purge_to, purges}
+use Rattle.stream_model.proofs.RecordBounds.{KeepsLimits}
 
 bounds-purge_to : (p : PlainPartition) (low : ℕ) → IsWithinLimits p → IsWithinLimits (purge_to p low).0
 unfolding purge_to
@@ -29,5 +29,4 @@ bounds-purge_to p low within = record {
 pub bounds-purge : (p : PlainPartition) (generation keep : ℕ) → IsWithinLimits p → IsWithinLimits (purge p generation keep).0
 unfolding purge
 bounds-purge p generation keep within =
-    let Kept : PlainPartition × Reply → Type 0 = λ out. IsWithinLimits out.0 in
-    cond_both (is_stale p generation) _ _ Kept (λ _. within) (λ _. bounds-purge_to p (p.low + 64 * purges p keep) within)
+    cond_both (is_stale p generation) _ _ KeepsLimits (λ _. within) (λ _. bounds-purge_to p (p.low + 64 * purges p keep) within)

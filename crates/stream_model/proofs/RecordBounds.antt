@@ -1,5 +1,5 @@
 -- Changes of records keep the limits.
-use Rattle.std.proofs.Common.{◌≡◌, ℕ, suc, ◌+◌, ◌-◌, ◌<◌, ◌≤◌, Bool, true, false, List, [], ◌∷◌, length, drop, Option, Some, None, unwrap_or, if◌then◌else◌, is_some, refl, arith, ap, length-drop}
+use Rattle.std.proofs.Common.{◌≡◌, ℕ, ◌-◌, ◌<◌, ◌≤◌, Bool, true, List, [], ◌∷◌, length, drop, Option, Some, None, unwrap_or, is_some, refl, arith, ap, length-drop}
 use Rattle.std.proofs.lemmas.Bool.{cond_both}
 use Rattle.std.proofs.lemmas.List.{length-take}
 use Rattle.std.specs.List.{AllByRecursion}
@@ -8,16 +8,22 @@ use Rattle.stream_ident.specs.declared.ident.GrainId.{GrainId}
 use Rattle.stream_ident.specs.declared.ident.SubName.{SubName}
 use Rattle.stream_ident.specs.Name.{same_grain}
 use Rattle.stream_ident.specs.SubName.{same_sub}
+use Rattle.stream_ident.proofs.FirstLemmas.{first_at-Some}
 use Rattle.stream_model.specs.declared.plain.Delivery.{Delivery}
 use Rattle.stream_model.specs.declared.plain.Grain.{Grain}
 use Rattle.stream_model.specs.declared.plain.PlainPartition.{PlainPartition}
 use Rattle.stream_model.specs.declared.plain.Subscription.{Subscription}
+use Rattle.stream_model.specs.declared.reply.Reply.{Reply}
 use Rattle.stream_model.specs.Bounds.{AreIn, IsWithinLimits, running_positions}
-use Rattle.stream_model.specs.Positions.{between, grain_at, new_grain, sub_at}
+use Rattle.stream_model.specs.Positions.{between, grain_at, new_grain, sub_at, no_event}
 use Rattle.stream_ident.specs.Words.{first_at, value_at, with_value}
 use Rattle.stream_model.proofs.Beginning.{All-value_at}
 use Rattle.stream_model.proofs.EachOf.{All-weaken}
 use Rattle.stream_model.proofs.SubNames.{AreGiven, AreGiven-with_value, length-with_value}
+
+-- what an operation leaves is within the limits
+abbrev pub KeepsLimits : PlainPartition × Reply → Type 0
+KeepsLimits out = IsWithinLimits out.0
 
 -- what the grains of a partition keep, with this many rises
 abbrev pub GrainFits : List Event → ℕ → Grain → Type 0
@@ -103,16 +109,8 @@ sub-set p s found r within there handled =
 pub handled-in : (p : PlainPartition) (s : SubName) (r : Subscription) → IsWithinLimits p → sub_at p s ≡ Some r → AreIn p.log r.handled
 handled-in p s r within there = All-value_at (λ (r : Subscription). AreIn p.log r.handled) same_sub s r p.subs within.handled there
 
--- where an element that passes is found
-first_at-bounds : {A : Type 0} (passes : A → Bool) (n i : ℕ) (xs : List A) → first_at passes n xs ≡ Some i → (n ≤ i) × (i < n + length xs)
-first_at-bounds passes n i [] found = absurd (cc)
-first_at-bounds passes n i (x ∷ xs) found =
-    (elim (passes x) as (λ b. (if b then Some n else first_at passes (suc n) xs) ≡ Some i → (n ≤ i) × (i < n + suc (length xs))) [
-      | true ↦ λ here. let same : n ≡ i = cc in (omega arith, omega arith)
-      | false ↦ λ later. let rest = first_at-bounds passes (suc n) i xs later in (omega (arith, rest.0), omega (arith, rest.1))
-    ]) found
-
+-- where an element that passes is found, it is in the log
 pub found-in-log : (passes : Event → Bool) (log : List Event) (from to i : ℕ) → first_at passes from (between log from to) ≡ Some i → i < length log
 found-in-log passes log from to i found =
-    let bounds = first_at-bounds passes from i (between log from to) found in
-    omega (arith, bounds.0, bounds.1, length-take (to - from) (drop from log), length-drop from log)
+    let first = first_at-Some passes from (between log from to) no_event i found in
+    omega (arith, first.at, first.within, length-take (to - from) (drop from log), length-drop from log)

@@ -6,12 +6,9 @@ use Rattle.std.specs.List.{list_any}
 use Rattle.stream_ident.specs.Name.{same_name}
 use Rattle.stream_model.specs.declared.plain.PlainPartition.{PlainPartition}
 use Rattle.stream_ident.specs.declared.rule.Rule.{Rule}
-use Rattle.stream_model.specs.declared.reply.Reply.{Reply}
 use Rattle.stream_model.specs.Bounds.{IsWithinLimits}
 use Rattle.stream_model.specs.Publishing.{add_rule}
-
-abbrev Kept : PlainPartition × Reply → Type 0
-Kept out = IsWithinLimits out.0
+use Rattle.stream_model.proofs.RecordBounds.{KeepsLimits}
 
 bounds-rule_added : (p : PlainPartition) (rule : Rule) → IsWithinLimits p → nat_le p.limits.rules (length p.rules) ≡ false → IsWithinLimits (record p { rules = p.rules ++ rule ∷ [] })
 bounds-rule_added p rule within fits =
@@ -37,6 +34,6 @@ bounds-rule_added p rule within fits =
 pub bounds-add_rule : (p : PlainPartition) (kind namespace : List ℕ) → IsWithinLimits p → IsWithinLimits (add_rule p kind namespace).0
 unfolding add_rule
 bounds-add_rule p kind namespace within =
-    cond_both (list_any (λ (rule : Rule). same_name kind rule.kind && same_name namespace rule.namespace) p.rules) _ _ Kept (λ _. within)
-    (λ _. cond_both (nat_le p.limits.rules (length p.rules)) _ _ Kept (λ _. within)
+    cond_both (list_any (λ (rule : Rule). same_name kind rule.kind && same_name namespace rule.namespace) p.rules) _ _ KeepsLimits (λ _. within)
+    (λ _. cond_both (nat_le p.limits.rules (length p.rules)) _ _ KeepsLimits (λ _. within)
     (bounds-rule_added p (record { kind = kind; namespace = namespace; from = p.batches }) within))

@@ -9,7 +9,6 @@ use Rattle.stream_model.specs.declared.plain.Grain.{Grain}
 use Rattle.stream_model.specs.declared.plain.PlainPartition.{PlainPartition}
 use Rattle.stream_model.specs.declared.plain.RunningTurn.{RunningTurn}
 use Rattle.stream_model.specs.declared.plain.Subscription.{Subscription}
-use Rattle.stream_model.specs.declared.reply.Reply.{Reply}
 use Rattle.stream_model.specs.Bounds.{AreIn, IsWithinLimits, running_positions}
 use Rattle.stream_model.specs.Positions.{grain_at, is_spent, sub_at}
 use Rattle.stream_model.specs.Turns.{begin, begin_for, begin_front, begin_in, begin_turn, commit, commit_for, commit_running, ended, front_of}
@@ -17,10 +16,7 @@ use Rattle.stream_ident.specs.Blocks.{turn_size}
 use Rattle.stream_ident.specs.Words.{past}
 use Rattle.stream_model.proofs.Beginning.{All-front_of}
 use Rattle.stream_model.proofs.EachOf.{All-append, All-drop}
-use Rattle.stream_model.proofs.RecordBounds.{GrainFits, grain-fits, grain-set, handled-in, sub-set}
-
-abbrev Kept : PlainPartition × Reply → Type 0
-Kept out = IsWithinLimits out.0
+use Rattle.stream_model.proofs.RecordBounds.{GrainFits, grain-fits, grain-set, handled-in, sub-set, KeepsLimits}
 
 bounds-begin_turn : (p : PlainPartition) (g : GrainId) (st : Grain) (s : SubName) (note : ℕ) (positions : List ℕ) → IsWithinLimits p → GrainFits p.log p.rises st → AreIn p.log positions → is_spent p ≡ false → IsWithinLimits (begin_turn p g st s note positions).0
 unfolding begin_turn
@@ -34,9 +30,9 @@ bounds-begin_for : (p : PlainPartition) (g : GrainId) (n : ℕ) (st : Grain) (d 
 unfolding begin_for
 bounds-begin_for p g n st d deliveries None within fits rest = within
 bounds-begin_for p g n st d deliveries (Some r) within fits rest =
-    cond_both (nat_lt d.position (past r.handled)) _ _ Kept
+    cond_both (nat_lt d.position (past r.handled)) _ _ KeepsLimits
     (λ _. grain-set p g (record st { mailbox = deliveries }) p.rises p.turns within (omega arith) within.rises within.turns (fits.0, rest, fits.2))
-    (λ _. cond_both (is_spent p) _ _ Kept (λ _. within)
+    (λ _. cond_both (is_spent p) _ _ KeepsLimits (λ _. within)
     (λ left. bounds-begin_turn p g st d.sub r.note (front_of n d.sub d.position st.mailbox) within fits (All-front_of (length p.log) n d.sub d.position st.mailbox fits.1) left))
 
 bounds-begin_front : (p : PlainPartition) (g : GrainId) (n : ℕ) (st : Grain) (mailbox : List Delivery) → IsWithinLimits p → GrainFits p.log p.rises st → AllByRecursion (λ (d : Delivery). d.position < length p.log) mailbox → IsWithinLimits (begin_front p g n st mailbox).0
@@ -49,8 +45,8 @@ unfolding begin begin_in
 bounds-begin p g max_events within =
     let st = grain_at p g in
     let fits = grain-fits p g within in
-    cond_both (is_some st.running) _ _ Kept (λ _. within)
-    (λ _. cond_both (not st.active) _ _ Kept (λ _. within) (λ _. bounds-begin_front p g (turn_size max_events) st st.mailbox within fits fits.1))
+    cond_both (is_some st.running) _ _ KeepsLimits (λ _. within)
+    (λ _. cond_both (not st.active) _ _ KeepsLimits (λ _. within) (λ _. bounds-begin_front p g (turn_size max_events) st st.mailbox within fits fits.1))
 
 bounds-ended : (p : PlainPartition) (g : GrainId) (st : Grain) → IsWithinLimits p → GrainFits p.log p.rises st → IsWithinLimits (ended p g st)
 bounds-ended p g st within fits = grain-set p g (record st { running = None }) p.rises p.turns within (omega arith) within.rises within.turns (fits.0, fits.1, tt)
@@ -60,7 +56,7 @@ unfolding commit_for
 bounds-commit_for p g st run note None within fits are_in is_found = within
 bounds-commit_for p g st run note (Some r) within fits are_in is_found =
     let after = bounds-ended p g st within fits in
-    cond_both (not r.is_open) _ _ Kept (λ _. after)
+    cond_both (not r.is_open) _ _ KeepsLimits (λ _. after)
     (λ _. sub-set (ended p g st) run.sub r (record r { handled = r.handled ++ run.positions; note = note }) after is_found
     (All-append (λ position. position < length p.log) r.handled run.positions (handled-in p run.sub r within is_found) are_in))
 
@@ -69,7 +65,7 @@ unfolding commit_running
 bounds-commit_running p g st activation turn note None within fits is_running = within
 bounds-commit_running p g st activation turn note (Some run) within fits is_running =
     let Runs : Option RunningTurn → Type 0 = λ o. AreIn p.log (running_positions o) in
-    cond_both ((activation == st.activation) && (turn == run.turn)) _ _ Kept
+    cond_both ((activation == st.activation) && (turn == run.turn)) _ _ KeepsLimits
     (λ _. bounds-commit_for p g st run note (sub_at p run.sub) within fits (subst Runs is_running fits.2) refl)
     (λ _. within)
 

@@ -8,17 +8,13 @@ use Rattle.stream_ident.specs.SubName.{same_sub}
 use Rattle.stream_model.specs.declared.plain.Delivery.{Delivery}
 use Rattle.stream_model.specs.declared.plain.PlainPartition.{PlainPartition}
 use Rattle.stream_model.specs.declared.plain.Subscription.{Subscription}
-use Rattle.stream_model.specs.declared.reply.Reply.{Reply}
 use Rattle.stream_model.specs.Bounds.{IsWithinLimits}
 use Rattle.stream_model.specs.Positions.{sub_at, with_sub}
 use Rattle.stream_model.specs.Publishing.{unsubscribe, unsubscribe_from, unsubscribed, without}
 use Rattle.stream_ident.specs.Words.{changed_value}
 use Rattle.stream_model.proofs.ChangedValues.{All-changed}
 use Rattle.stream_model.proofs.EachOf.{All-filter}
-use Rattle.stream_model.proofs.RecordBounds.{GrainFits, changed, grains-fit, handled-in, sub-set}
-
-abbrev Kept : PlainPartition × Reply → Type 0
-Kept out = IsWithinLimits out.0
+use Rattle.stream_model.proofs.RecordBounds.{GrainFits, changed, grains-fit, handled-in, sub-set, KeepsLimits}
 
 bounds-unsubscribed : (p : PlainPartition) (s : SubName) (r : Subscription) → IsWithinLimits p → sub_at p s ≡ Some r → IsWithinLimits (unsubscribed p s r)
 bounds-unsubscribed p s r within there =
@@ -36,7 +32,7 @@ bounds-unsubscribe_from p (Explicit n) None within is_found = within
 bounds-unsubscribe_from p (Implicit kind stream) None within is_found = within
 bounds-unsubscribe_from p (Implicit kind stream) (Some r) within is_found = within
 bounds-unsubscribe_from p (Explicit n) (Some r) within is_found =
-    cond_both (not r.is_open) _ _ Kept (λ _. within) (λ _. bounds-unsubscribed p (Explicit n) r within is_found)
+    cond_both (not r.is_open) _ _ KeepsLimits (λ _. within) (λ _. bounds-unsubscribed p (Explicit n) r within is_found)
 
 pub bounds-unsubscribe : (p : PlainPartition) (s : SubName) → IsWithinLimits p → IsWithinLimits (unsubscribe p s).0
 unfolding unsubscribe

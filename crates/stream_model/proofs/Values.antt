@@ -1,13 +1,5 @@
 -- Look-ups in lists of keys with their values after a change.
-use Rattle.std.proofs.Common.{◌≡◌, ℕ, Bool, true, false, List, [], ◌∷◌, ◌++◌, Option, Some, None, if◌then◌else◌, refl, ap, subst}
-use Rattle.std.proofs.lemmas.Bool.{and_from, and_parts, eqb-true, eq-eqb, false≢true}
-use Rattle.std.specs.Cmp.Lexicographic.{bytes_decides}
-use Rattle.stream_ident.specs.declared.ident.GrainId.{GrainId}
-use Rattle.stream_ident.specs.declared.ident.StreamId.{StreamId}
-use Rattle.stream_ident.specs.declared.ident.SubName.{SubName}
-use Rattle.stream_ident.specs.declared.ident.SubName.TheVariants.{Explicit, Implicit}
-use Rattle.stream_ident.specs.Name.{same_name, same_stream, same_grain}
-use Rattle.stream_ident.specs.SubName.{same_sub}
+use Rattle.std.proofs.Common.{◌≡◌, Bool, true, false, List, [], ◌∷◌, ◌++◌, Option, Some, None, if◌then◌else◌, refl, subst}
 use Rattle.stream_ident.specs.Words.{value_at, with_value, changed_value, each_value, or_else}
 use Rattle.stream_ident.proofs.SameValues.{IsEquality}
 

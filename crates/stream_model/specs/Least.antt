@@ -1,11 +1,6 @@
 -- The least key of a list of keys with their values.
-use Rattle.std.specs.Prelude.{Bool, true, List, Option, Some, None}
+use Rattle.std.specs.Prelude.{Bool, List, Option}
 use Rattle.stream_ident.specs.Words.{least, above, keys_where}
-
--- greater than the given one, always where none is given
-abbrev pub is_above : {A : Type 0} → (A → A → Bool) → Option A → A → Bool
-is_above lt None x = true
-is_above lt (Some a) x = lt a x
 
 -- the least key greater than the given one whose value passes, or of all where none is given
 abbrev pub least_key : {K V : Type 0} → (K → K → Bool) → Option K → (V → Bool) → List (K × V) → Option K

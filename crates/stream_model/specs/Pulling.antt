@@ -1,24 +1,21 @@
 -- What a pulling agent asks (Orleans, Streaming, implementation details: pulling agents, queue cache).
-use Rattle.std.specs.Prelude.{ℕ, suc, ◌+◌, ◌-◌, ◌*◌, ◌/◌, min, max, Bool, true, ◌&&◌, not, List, [], ◌∷◌, ◌++◌, length, filter, fold, Option, Some, None, unwrap_or, is_some, ◌==◌, nat_lt, nat_le, if◌then◌else◌}
-use Rattle.std.specs.List.{flat_map}
+use Rattle.std.specs.Prelude.{ℕ, suc, ◌+◌, ◌-◌, ◌*◌, min, max, Bool, true, ◌&&◌, not, List, [], ◌∷◌, ◌++◌, length, filter, Option, Some, None, unwrap_or, ◌==◌, nat_lt, nat_le, if◌then◌else◌}
 use Rattle.stream_ident.specs.declared.event.Event.{Event}
 use Rattle.stream_ident.specs.declared.ident.SubName.{SubName}
 use Rattle.stream_ident.specs.declared.ident.SubName.TheVariants as name
 use Rattle.stream_ident.specs.declared.token.Token.{Token}
 use Rattle.stream_ident.specs.Blocks as blocks
 use Rattle.stream_ident.specs.Blocks.{pull_size}
-use Rattle.stream_ident.specs.Implying.{implied_by}
-use Rattle.stream_ident.specs.SubName.{same_sub}
-use Rattle.stream_ident.specs.Token.{token_lt, same_token}
+use Rattle.stream_ident.specs.Implying.{implied_by, implied_by_all, with_implied, Making}
+use Rattle.stream_ident.specs.Token.{same_token}
+use Rattle.stream_ident.specs.Words.{least_with, each_value}
 use Rattle.stream_model.specs.declared.plain.Grain.{Grain}
 use Rattle.stream_model.specs.declared.plain.PlainPartition.{PlainPartition}
 use Rattle.stream_ident.specs.declared.rule.Rule.{Rule}
 use Rattle.stream_model.specs.declared.plain.Subscription.{Subscription}
 use Rattle.stream_model.specs.declared.reply.Reply.{Reply}
 use Rattle.stream_model.specs.declared.reply.Reply.TheVariants as reply
-use Rattle.stream_ident.specs.Event.{batch_token}
 use Rattle.stream_model.specs.Positions.{token_at, between, next_position, sub_at, grain_at, with_sub, with_grain, new_subscription, is_outstanding, open_resumes, slowest, slowest_name, is_spent}
-use Rattle.stream_ident.specs.Words.{least_with, value_at, each_value, with_new}
 
 abbrev pub is_stale : PlainPartition → ℕ → Bool
 is_stale p generation = not (generation == p.generation)
@@ -35,21 +32,21 @@ room p = 64 * p.blocks - (p.high - p.low)
 abbrev pub drops : PlainPartition → ℕ → ℕ
 drops p want = blocks.blocks_to_drop (room p) (free_blocks p) want
 
+-- the record of a new subscription whose cursor is at this position
+abbrev pub starting : ℕ → Making Subscription
+starting position stream grain start = new_subscription stream grain start position
+
 -- what a rule makes of an event: nothing, or a subscription that starts at the rule's batch
 abbrev pub implied : ℕ → Event → Rule → List (SubName × Subscription)
-implied position event rule = implied_by (λ stream grain start. new_subscription stream grain start position) event rule
+implied position event rule = implied_by (starting position) event rule
 
 -- what the rules make of the events, in order, repeats included
 abbrev pub all_implied : List Rule → ℕ → List Event → List (SubName × Subscription)
-all_implied rules position events = flat_map (λ event. flat_map (implied position event) rules) events
-
--- the name and its record, unless the name is there
-abbrev pub added : List (SubName × Subscription) → SubName × Subscription → List (SubName × Subscription)
-added subs entry = with_new same_sub subs entry
+all_implied rules position events = implied_by_all (starting position) rules events
 
 -- the subscriptions, with those that the rules make of these events
 abbrev pub subs_with : List Rule → ℕ → List (SubName × Subscription) → List Event → List (SubName × Subscription)
-subs_with rules position subs events = fold added subs (all_implied rules position events)
+subs_with rules position subs events = with_implied (starting position) rules subs events
 
 unfoldable pub pull_events : PlainPartition → ℕ → ℕ → List (SubName × Subscription) → PlainPartition × Reply
 pull_events p low high subs =

@@ -1,7 +1,7 @@
 -- One operation on a plain partition: what it leaves, and its reply. A history is legal where each reply
 -- is that of its step.
-use Rattle.std.specs.Prelude.{◌≡◌, ℕ, ◌≤◌, Bool, true, false, List, [], ◌∷◌, Result, Ok, Err}
-use Rattle.std.specs.declared.alloc.AllocError.{AllocError}
+use Rattle.std.specs.Prelude.{ℕ, ◌≤◌, Bool, true, false, List, [], ◌∷◌}
+use Rattle.stream_ident.specs.Words.{LeadsBy}
 use Rattle.stream_model.specs.declared.limits.Limits.{Limits}
 use Rattle.stream_model.specs.declared.op.Op.{Op}
 use Rattle.stream_model.specs.declared.op.Op.TheVariants.{Publish, Subscribe, Unsubscribe, AddRule, Pull, Deliver, Retry, Ack, Purge, Begin, Commit, Deactivate, Move, Ready, Due, Quiet}
@@ -44,8 +44,7 @@ replies_of p (op ∷ ops) = (step p op).1 ∷ replies_of (step p op).0 ops
 
 -- from p the entries, the oldest first, lead to q, each with the reply of its step
 abbrev pub Leads : PlainPartition → List Entry → PlainPartition → Type 0
-Leads p [] q = q ≡ p
-Leads p (e ∷ entries) q = ((step p e.op).1 ≡ e.reply) × Leads (step p e.op).0 entries q
+Leads p entries q = LeadsBy (λ (e : Entry). e.op) (λ (e : Entry). e.reply) step p entries q
 
 -- the history, the oldest entry first, is legal, and p is what it leaves
 abbrev pub Stands : ℕ → Limits → List Entry → PlainPartition → Type 0

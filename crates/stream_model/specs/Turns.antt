@@ -1,6 +1,6 @@
 -- What a worker asks (Orleans, Grains: a grain is activated on its first message, handles one turn at a
 -- time and may be deactivated).
-use Rattle.std.specs.Prelude.{ℕ, zero, suc, pred, ◌+◌, min, max, false, ◌&&◌, not, List, [], ◌∷◌, ◌++◌, length, drop, Option, Some, None, is_some, ◌==◌, nat_lt, nat_le, if◌then◌else◌}
+use Rattle.std.specs.Prelude.{ℕ, suc, pred, ◌+◌, false, ◌&&◌, not, List, [], ◌∷◌, ◌++◌, length, drop, Option, Some, None, is_some, ◌==◌, nat_lt, if◌then◌else◌, Bool}
 use Rattle.stream_ident.specs.declared.ident.GrainId.{GrainId}
 use Rattle.stream_ident.specs.declared.ident.SubName.{SubName}
 use Rattle.stream_ident.specs.Name.{same_grain}
@@ -84,10 +84,14 @@ abbrev pub running_count : Option RunningTurn → ℕ
 running_count None = 0
 running_count (Some run) = length run.positions
 
+-- an open subscription of the grain, whose cursor goes back when the grain leaves memory
+abbrev pub is_open_of : GrainId → Subscription → Bool
+is_open_of g r = same_grain g r.grain && r.is_open
+
 abbrev pub deactivated : PlainPartition → GrainId → Grain → PlainPartition
 deactivated p g st =
     record (with_grain p g (record st { active = false; mailbox = []; running = None })) {
-      subs = each_value (λ r. rewound_where (same_grain g r.grain && r.is_open) r) p.subs;
+      subs = each_value (λ r. rewound_where (is_open_of g r) r) p.subs;
     }
 
 unfoldable pub deactivate_in : PlainPartition → GrainId → Grain → PlainPartition × Reply

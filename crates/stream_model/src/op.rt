@@ -31,7 +31,7 @@ pub enum Op {
         stream: StreamId,
         /// The grain.
         grain: GrainId,
-        /// From where on.
+        /// Where the subscription starts.
         start: Start,
     },
     /// An explicit subscription ends.
@@ -126,8 +126,8 @@ pub enum Op {
 }
 
 impl Op {
-    /// An equal operation. Only the payloads of a publish take memory, and where it is wanting this one
-    /// stays as it is.
+    /// An equal operation. Only the payloads of a publish take memory, and where they fail to allocate this
+    /// operation stays as it is.
     pub fn copy(&self, alloc: Global) -> Result<Op, AllocError>
         ensures same { IfOk result (λ copied. copied ≡ self.now) }
         ensures memory { OnErr result (has_payloads self.now ≡ true) }

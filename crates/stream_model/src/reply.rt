@@ -61,14 +61,14 @@ pub enum Reply {
     Implicit,
     /// The rule holds from now on.
     RuleAdded {
-        /// From the batch with this number on.
+        /// The number of the first batch that it holds for.
         from: u64,
     },
     /// There is such a rule.
     RuleThere,
     /// Events were taken into the cache.
     Pulled {
-        /// How many.
+        /// How many events were taken.
         count: usize,
         /// The token of the first event that the cache keeps.
         low: Token,

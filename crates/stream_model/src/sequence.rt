@@ -52,7 +52,7 @@ impl<T> Sequence<T> {
 }
 
 impl<T: Drop> Sequence<T> {
-    /// Adds an element at the end. Where memory is wanting, the list stays as it was.
+    /// Adds an element at the end. Where it fails to allocate, the list stays as it was.
     pub fn push(&mut self, item: T) -> Result<(), AllocError>
         ensures { self.new ≡ (if is_ok result then self.old ++ item ∷ [] else self.old) }
     {

@@ -49,8 +49,8 @@ impl From<AllocError> for SimError {
 /// The script is read as a whole first, up to 4,194,304 bytes.
 ///
 /// # Errors
-/// The first of: a read failed, the script is too long, a line is faulty, a write failed, or memory ran
-/// out.
+/// The first of these: a read failed, the script is too long, a line is faulty, a write failed, or the call
+/// failed to allocate.
 pub fn sim<R: Source, W: Sink>(
     alloc: Global,
     config: SimConfig,

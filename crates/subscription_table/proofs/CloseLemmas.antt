@@ -11,7 +11,6 @@ use Rattle.stream_ident.specs.declared.ident.SubName.TheVariants as name
 use Rattle.queue_mapper.specs.Place.{tag_of}
 use Rattle.consumer_grain.specs.Subscriptions.{PlainState, closed, is_unacknowledged}
 use Rattle.pubsub_registry.specs.Index.{AreUnique}
-use Rattle.pubsub_registry.specs.Registry.{PlainRegistry, close_found, registration_of, shut}
 use Rattle.pubsub_registry.specs.Registry as registry
 use Rattle.pubsub_registry.specs.declared.registration.Registration.{Registration}
 use Rattle.pubsub_registry.specs.declared.told.Closing.{Closing}
@@ -19,6 +18,7 @@ use Rattle.pubsub_registry.specs.declared.told.Closing.TheVariants.{Done, NoSuch
 use Rattle.stream_ident.proofs.SameValues.{same_sub-refl}
 use Rattle.resume_tree.specs.declared.leaf.Leaf.{Leaf}
 use Rattle.resume_tree.specs.Leaves.{changed}
+use Rattle.pubsub_registry.specs.Registry.{PlainRegistry, close_found, registration_of, closed_registration}
 use Rattle.subscription_table.specs.LeavesOf.{leaf_of, leaves_of, open_resume}
 use Rattle.subscription_table.specs.Standing.{AreRecords, IsTable, tags_of}
 use Rattle.subscription_table.specs.Table.{PlainTable, close, closed_by, no_entry, no_state, state_at}
@@ -29,15 +29,15 @@ abbrev Told : Type 0
 Told = PlainRegistry × Closing
 
 -- the registry that told that it is closed
-pub close-done : (r new : PlainRegistry) (s : SubName) (told : Closing) → told ≡ Done → ◌≡◌ {A = Told} (new, told) (registry.close r s) → new.names ≡ changed_value same_sub s shut r.names
+pub close-done : (r new : PlainRegistry) (s : SubName) (told : Closing) → told ≡ Done → ◌≡◌ {A = Told} (new, told) (registry.close r s) → new.names ≡ changed_value same_sub s closed_registration r.names
 close-done r new s told done is = by s (registration_of r s) (ap {B = Told} (λ (t : Closing). (new, t)) (sym done) ∙ is)
   where
-    if-open : (number : ℕ) (b : Bool) → ◌≡◌ {A = Told} (new, Done) (if b then (record r { names = changed_value same_sub (name.Explicit number) shut r.names }, Done) else (r, Closed))
-        → new.names ≡ changed_value same_sub (name.Explicit number) shut r.names
+    if-open : (number : ℕ) (b : Bool) → ◌≡◌ {A = Told} (new, Done) (if b then (record r { names = changed_value same_sub (name.Explicit number) closed_registration r.names }, Done) else (r, Closed))
+        → new.names ≡ changed_value same_sub (name.Explicit number) closed_registration r.names
     if-open number true is = ap (λ (t : Told). t.0.names) is
     if-open number false is = let apart : Done ≡ Closed = ap (λ (t : Told). t.1) is in absurd (cc)
 
-    by : (s : SubName) (found : Option Registration) → ◌≡◌ {A = Told} (new, Done) (close_found r s found) → new.names ≡ changed_value same_sub s shut r.names
+    by : (s : SubName) (found : Option Registration) → ◌≡◌ {A = Told} (new, Done) (close_found r s found) → new.names ≡ changed_value same_sub s closed_registration r.names
     by s None is = let apart : Done ≡ NoSuch = ap (λ (t : Told). t.1) is in absurd (cc)
     by (name.Implicit kind stream) (Some registration) is = let apart : Done ≡ Implicit = ap (λ (t : Told). t.1) is in absurd (cc)
     by (name.Explicit number) (Some registration) is = if-open number registration.is_open is
@@ -53,20 +53,20 @@ close-other r new s told other is = by s (registration_of r s) is
     by : (s : SubName) (found : Option Registration) → ◌≡◌ {A = Told} (new, told) (close_found r s found) → new ≡ r
     by s None is = ap (λ (t : Told). t.0) is
     by (name.Implicit kind stream) (Some registration) is = ap (λ (t : Told). t.0) is
-    by (name.Explicit number) (Some registration) is = if-open (changed_value same_sub (name.Explicit number) shut r.names) registration.is_open is
+    by (name.Explicit number) (Some registration) is = if-open (changed_value same_sub (name.Explicit number) closed_registration r.names) registration.is_open is
 
 unique-rest : (entry : Entry) (entries : Names) → AreUnique (entry ∷ entries) → AreUnique entries
 unique-rest entry entries unique i j a b at-i at-j same =
     let more = unique (suc i) (suc j) a b at-i at-j same in omega arith
 
 -- where no name stands twice, the registration of a name is that with its number
-shut-at : (names : Names) (number : ℕ) → number < length names → AreUnique names
-    → changed_value same_sub (get_or names number no_entry).0 shut names ≡ set names number ((get_or names number no_entry).0, shut (get_or names number no_entry).1)
-shut-at [] number within unique = absurd (omega arith)
-shut-at (entry ∷ entries) zero within unique = ap (λ b. if b then (entry.0, shut entry.1) ∷ entries else entry ∷ changed_value same_sub entry.0 shut entries) (same_sub-refl entry.0)
-shut-at (entry ∷ entries) (suc number) within unique =
-    ap (λ b. if b then (entry.0, shut entry.1) ∷ entries else entry ∷ changed_value same_sub (get_or entries number no_entry).0 shut entries) apart
-    ∙ ap (λ (rest : Names). entry ∷ rest) (shut-at entries number (omega arith) (unique-rest entry entries unique))
+closed-at : (names : Names) (number : ℕ) → number < length names → AreUnique names
+    → changed_value same_sub (get_or names number no_entry).0 closed_registration names ≡ set names number ((get_or names number no_entry).0, closed_registration (get_or names number no_entry).1)
+closed-at [] number within unique = absurd (omega arith)
+closed-at (entry ∷ entries) zero within unique = ap (λ b. if b then (entry.0, closed_registration entry.1) ∷ entries else entry ∷ changed_value same_sub entry.0 closed_registration entries) (same_sub-refl entry.0)
+closed-at (entry ∷ entries) (suc number) within unique =
+    ap (λ b. if b then (entry.0, closed_registration entry.1) ∷ entries else entry ∷ changed_value same_sub (get_or entries number no_entry).0 closed_registration entries) apart
+    ∙ ap (λ (rest : Names). entry ∷ rest) (closed-at entries number (omega arith) (unique-rest entry entries unique))
   where
     apart : same_sub (get_or entries number no_entry).0 entry.0 ≡ false
     apart = false_from_ne_true (same_sub (get_or entries number no_entry).0 entry.0) (λ same.
@@ -104,41 +104,41 @@ at-both P names states number entry state long here each i within =
         (subst (P (get_or names i no_entry)) (sym (get_or-set_other states number i state no_state other)) (each i old))
 
 module _ (t : PlainTable) (tags : List ℕ) (leaves : List Leaf) (is : IsTable t tags leaves) (number : ℕ) (within : number < length t.registry.names) (unique : AreUnique t.registry.names)
-    (r : PlainRegistry) (shuts : r.names ≡ changed_value same_sub (get_or t.registry.names number no_entry).0 shut t.registry.names) where
+    (r : PlainRegistry) (names-closed : r.names ≡ changed_value same_sub (get_or t.registry.names number no_entry).0 closed_registration t.registry.names) where
   abbrev entry : Entry
   entry = get_or t.registry.names number no_entry
 
-  abbrev shut_entry : Entry
-  shut_entry = (entry.0, shut entry.1)
+  abbrev closed_entry : Entry
+  closed_entry = (entry.0, closed_registration entry.1)
 
-  names : r.names ≡ set t.registry.names number shut_entry
-  names = shuts ∙ shut-at t.registry.names number within unique
+  names : r.names ≡ set t.registry.names number closed_entry
+  names = names-closed ∙ closed-at t.registry.names number within unique
 
-  records-shut : AreRecords (record { registry = r; states = set t.states number (closed (state_at t number)) })
-  records-shut =
+  records-closed : AreRecords (record { registry = r; states = set t.states number (closed (state_at t number)) })
+  records-closed =
       let state = closed (state_at t number) in
       let there : number < length t.states = omega (arith, is.records.long) in
       record {
-        long = length-set t.states number state ∙ is.records.long ∙ sym (ap length names ∙ length-set t.registry.names number shut_entry);
+        long = length-set t.states number state ∙ is.records.long ∙ sym (ap length names ∙ length-set t.registry.names number closed_entry);
         starts = λ i i_within. subst (λ (all : Names). (get_or (set t.states number state) i no_state).start ≡ (get_or all i no_entry).1.start) (sym names)
-            (at-both (λ e s. s.start ≡ e.1.start) t.registry.names t.states number shut_entry state is.records.long (is.records.starts number there) is.records.starts i i_within);
+            (at-both (λ e s. s.start ≡ e.1.start) t.registry.names t.states number closed_entry state is.records.long (is.records.starts number there) is.records.starts i i_within);
         openness = λ i i_within. subst (λ (all : Names). (get_or (set t.states number state) i no_state).is_open ≡ (get_or all i no_entry).1.is_open) (sym names)
-            (at-both (λ e s. s.is_open ≡ e.1.is_open) t.registry.names t.states number shut_entry state is.records.long refl is.records.openness i i_within);
-        cursors = at-both (λ e s. s.cursor + 2 < 2 ^ 64) t.registry.names t.states number shut_entry state is.records.long (is.records.cursors number there) is.records.cursors;
-        resumes = at-both (λ e s. s.resume + 2 < 2 ^ 64) t.registry.names t.states number shut_entry state is.records.long (is.records.resumes number there) is.records.resumes;
+            (at-both (λ e s. s.is_open ≡ e.1.is_open) t.registry.names t.states number closed_entry state is.records.long refl is.records.openness i i_within);
+        cursors = at-both (λ e s. s.cursor + 2 < 2 ^ 64) t.registry.names t.states number closed_entry state is.records.long (is.records.cursors number there) is.records.cursors;
+        resumes = at-both (λ e s. s.resume + 2 < 2 ^ 64) t.registry.names t.states number closed_entry state is.records.long (is.records.resumes number there) is.records.resumes;
       }
 
-  pub table-shut : (now seen : PlainState) → now ≡ closed (state_at t number) → seen ≡ get_or (set t.states number now) number seen → (new : List Leaf)
+  pub table-closed : (now seen : PlainState) → now ≡ closed (state_at t number) → seen ≡ get_or (set t.states number now) number seen → (new : List Leaf)
       → ((d : Leaf) → new ≡ set leaves number (changed (open_resume seen.is_open seen.resume) (is_unacknowledged seen) (get_or leaves number d))) → IsTable (record { registry = r; states = set t.states number now }) tags new
-  table-shut now seen closes look new set_to =
+  table-closed now seen closes look new set_to =
       let there : number < length t.states = omega (arith, is.records.long) in
       let same : seen ≡ now = look ∙ get_or-set_same t.states number now seen there in
       record {
-        records = subst (λ (s : PlainState). AreRecords (record { registry = r; states = set t.states number s })) (sym closes) records-shut;
-        tagged = is.tagged ∙ sym (ap tags_of names ∙ map-set_same (λ (e : Entry). tag_of e.1.stream) t.registry.names number shut_entry no_entry refl);
+        records = subst (λ (s : PlainState). AreRecords (record { registry = r; states = set t.states number s })) (sym closes) records-closed;
+        tagged = is.tagged ∙ sym (ap tags_of names ∙ map-set_same (λ (e : Entry). tag_of e.1.stream) t.registry.names number closed_entry no_entry refl);
         leaved = subst (λ (s : PlainState). (d : Leaf) → new ≡ set leaves number (changed (open_resume s.is_open s.resume) (is_unacknowledged s) (get_or leaves number d))) same set_to (leaf_of no_entry no_state)
             ∙ leaf-changed t.registry.names t.states leaves number now is.leaved is.records.long within
-            ∙ sym (ap (λ (all : Names). leaves_of all (set t.states number now)) names ∙ leaves_of-rekept t.registry.names (set t.states number now) number shut_entry refl);
+            ∙ sym (ap (λ (all : Names). leaves_of all (set t.states number now)) names ∙ leaves_of-rekept t.registry.names (set t.states number now) number closed_entry refl);
       }
 
 -- what a close told, by what the registry told
@@ -150,8 +150,8 @@ module _ (t old : PlainTable) (same : t ≡ old) (number : ℕ) (r : PlainRegist
   by-registry : closed_by t number (r, told) ≡ close old number
   by-registry = ap (closed_by t number) (is ∙ ap (registry.close t.registry) named) ∙ ap (λ (t : PlainTable). close t number) same
 
-  pub shuts : told ≡ Done → r.names ≡ changed_value same_sub (get_or t.registry.names number no_entry).0 shut t.registry.names
-  shuts done = close-done t.registry r entry.0 told done is ∙ ap (λ (s : SubName). changed_value same_sub s shut t.registry.names) named
+  pub names-closed : told ≡ Done → r.names ≡ changed_value same_sub (get_or t.registry.names number no_entry).0 closed_registration t.registry.names
+  names-closed done = close-done t.registry r entry.0 told done is ∙ ap (λ (s : SubName). changed_value same_sub s closed_registration t.registry.names) named
 
   pub close-is : told ≡ Done → (now : PlainState) → now ≡ closed (state_at t number) → ◌≡◌ {A = PlainTable × Closing} (record { registry = r; states = set t.states number now }, told) (close old number)
   close-is done now closes =

@@ -18,7 +18,6 @@ use Rattle.stream_ident.specs.declared.rule.Rule.{Rule}
 use Rattle.stream_ident.specs.declared.token.Token.{Token}
 use Rattle.queue_mapper.specs.Place.{tag_of}
 use Rattle.consumer_grain.specs.Subscriptions.{PlainState, new_state}
-use Rattle.pubsub_registry.specs.Implying.{added, all_implied, implied, imply, names_with}
 use Rattle.pubsub_registry.specs.Registry.{PlainRegistry, add, is_full, registered, truncated, with_name}
 use Rattle.pubsub_registry.specs.declared.told.Added.{Added}
 use Rattle.pubsub_registry.specs.declared.told.Added.TheVariants as add_told
@@ -26,6 +25,8 @@ use Rattle.pubsub_registry.specs.declared.told.Implied.{Implied}
 use Rattle.pubsub_registry.specs.declared.told.Implied.TheVariants as implied_told
 use Rattle.resume_tree.specs.Leaves.{open_leaf}
 use Rattle.resume_tree.specs.declared.leaf.Leaf.{Leaf}
+use Rattle.stream_ident.specs.Implying.{added}
+use Rattle.pubsub_registry.specs.Implying.{all_implied, implied, imply, names_with}
 use Rattle.subscription_table.specs.LeavesOf.{leaves_of}
 use Rattle.subscription_table.specs.Rows.{new_leaves, AreNamed}
 use Rattle.subscription_table.specs.Standing.{AreRecords, IsTable, tags_of}

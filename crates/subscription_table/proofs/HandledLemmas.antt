@@ -2,16 +2,16 @@
 use Rattle.std.proofs.Common.{◌≡◌, ◌∙◌, ap, sym, refl, inl, inr, ℕ, zero, suc, ◌+◌, ◌<◌, ◌≤◌, ◌≢◌, Bool, true, false, List, [], ◌∷◌, length, filter, get_or, Some, None, arith}
 use Rattle.std.specs.Bool.{then_some}
 use Rattle.std.specs.Prelude.{All, nat_le}
-use Rattle.std.proofs.lemmas.Bool.{and_parts, cases_lt, cases_order}
+use Rattle.std.proofs.lemmas.Bool.{and_parts, cases_lt, cases_order, false_from_ne_true, leb-true}
 use Rattle.std.proofs.lemmas.Bool.Decides.{nat_tests}
 use Rattle.std.proofs.lemmas.List.{get_or-map}
 use Rattle.std.proofs.lemmas.List.Elements.{All-get_or}
 use Rattle.stream_ident.specs.declared.token.Token.{Token}
 use Rattle.stream_ident.specs.Event.{batch_token, no_event}
 use Rattle.stream_ident.specs.Token.{same_token, token_lt}
-use Rattle.stream_ident.specs.Words.{past_from}
 use Rattle.consumer_grain.specs.Subscriptions.{rises_from}
 use Rattle.partition_queue.specs.Queue.{PlainQueue, TokensRise, event_at, token_at}
+use Rattle.consumer_grain.proofs.NumberLemmas.{rises_from-at_least}
 use Rattle.subscription_table.specs.Progress.{handled_at}
 use Rattle.subscription_table.specs.Handled.{first_of, IsBound}
 use Rattle.stream_ident.proofs.TokenLemmas.{token_lt-trans}
@@ -23,26 +23,15 @@ same_less : (a b c : Token) → token_lt a b ≡ true → same_token b c ≡ tru
 same_less a b c less same = grind (arith, nat_tests)
 
 -- positions that rise
-le_from : (n x : ℕ) → nat_le n x ≡ true → n ≤ x
-le_from n x le = grind (arith, nat_tests)
-
 rises_parts : (n x : ℕ) (xs : List ℕ) → rises_from n (x ∷ xs) ≡ true → (n ≤ x) × (rises_from (suc x) xs ≡ true)
 rises_parts n x xs rise =
     let parts = and_parts (nat_le n x) (rises_from (suc x) xs) rise in
-    (le_from n x parts.0, parts.1)
-
-from_on : (n : ℕ) (xs : List ℕ) (i : ℕ) → rises_from n xs ≡ true → i < length xs → n ≤ get_or xs i 0
-from_on n [] i rise within = absurd (omega arith)
-from_on n (x ∷ xs) zero rise within = (rises_parts n x xs rise).0
-from_on n (x ∷ xs) (suc i) rise within =
-    let parts = rises_parts n x xs rise in
-    let rest : suc x ≤ get_or xs i 0 = from_on (suc x) xs i parts.1 (omega arith) in
-    omega (arith, parts.0, rest)
+    (leb-true n x parts.0, parts.1)
 
 rising_at : (n : ℕ) (xs : List ℕ) (i j : ℕ) → rises_from n xs ≡ true → i < j → j < length xs → get_or xs i 0 < get_or xs j 0
 rising_at n [] i j rise less within = absurd (omega arith)
 rising_at n (x ∷ xs) i zero rise less within = absurd (omega arith)
-rising_at n (x ∷ xs) zero (suc j) rise less within = from_on (suc x) xs j (rises_parts n x xs rise).1 (omega arith)
+rising_at n (x ∷ xs) zero (suc j) rise less within = rises_from-at_least (suc x) xs j (rises_parts n x xs rise).1 (omega arith)
 rising_at n (x ∷ xs) (suc i) (suc j) rise less within = rising_at (suc x) xs i j (rises_parts n x xs rise).1 (omega arith) (omega arith)
 
 -- the token at a position of the queue is that of its event
@@ -64,10 +53,6 @@ tokens_at : (handled : List ℕ) (q : PlainQueue) (i j : ℕ) → rises_from 0 h
 tokens_at handled q i j rise there tokens less within =
     order_there q (get_or handled i 0) (get_or handled j 0) tokens (rising_at 0 handled i j rise less within) (there_at handled q j there within)
 
-false_from : (b : Bool) → (b ≡ true → ⊥) → b ≡ false
-false_from true isnt = absurd (isnt refl)
-false_from false isnt = refl
-
 -- a place whose token is less than the one sought: so are those before it
 pub less_below : (handled : List ℕ) (q : PlainQueue) (token : Token) (middle i : ℕ) → rises_from 0 handled ≡ true → All (λ position. position < length q.events) handled → TokensRise q → middle < length handled → token_lt (token_at q (get_or handled middle 0)) token ≡ true → i < middle + 1 → token_lt (token_at q (get_or handled i 0)) token ≡ true
 less_below handled q token middle i rise there tokens within less below =
@@ -86,7 +71,7 @@ others_above handled q token middle i rise there tokens isnt above within =
       | inl same ↦ rw same isnt
       | inr differ ↦ elim differ [
         | inl under ↦ absurd (omega arith)
-        | inr over ↦ false_from _ (λ (less : token_lt (token_at q (get_or handled i 0)) token ≡ true). let yet = token_lt-trans (token_at q (get_or handled middle 0)) (token_at q (get_or handled i 0)) token (tokens_at handled q middle i rise there tokens over within) less in cc)
+        | inr over ↦ false_from_ne_true _ (λ (less : token_lt (token_at q (get_or handled i 0)) token ≡ true). let yet = token_lt-trans (token_at q (get_or handled middle 0)) (token_at q (get_or handled i 0)) token (tokens_at handled q middle i rise there tokens over within) less in cc)
       ]
     ]
 
@@ -95,7 +80,7 @@ alone : (handled : List ℕ) (q : PlainQueue) (token : Token) (place i : ℕ) �
 alone handled q token place i rise there tokens bound differ within =
     elim (cases_lt i place) [
       | inl below ↦ same_no_less (token_at q (get_or handled i 0)) token (bound.less i below)
-      | inr above ↦ false_from _ (
+      | inr above ↦ false_from_ne_true _ (
           λ (same : same_token (token_at q (get_or handled i 0)) token ≡ true).
           let behind : place < i = omega arith in
           let less = same_less (token_at q (get_or handled place 0)) (token_at q (get_or handled i 0)) token (tokens_at handled q place i rise there tokens behind within) same in
@@ -129,11 +114,6 @@ not_there handled q token place rise there tokens bound isnt =
 is_there : (handled : List ℕ) (q : PlainQueue) (token : Token) (place : ℕ) → rises_from 0 handled ≡ true → All (λ position. position < length q.events) handled → TokensRise q → IsBound handled q token place → place < length handled → same_token (token_at q (get_or handled place 0)) token ≡ true → Some (get_or handled place 0) ≡ first_of (handled_at handled q token)
 is_there handled q token place rise there tokens bound within is =
     sym (one_passes (λ position. same_token (token_at q position) token) handled place (λ i below. same_no_less (token_at q (get_or handled i 0)) token (bound.less i below)) within is)
-
--- where each position is below a number, so is the end of them
-pub past_within : (n end : ℕ) (xs : List ℕ) → n ≤ end → All (λ position. position < end) xs → past_from n xs ≤ end
-past_within n end [] below all = below
-past_within n end (x ∷ xs) below all = past_within (suc x) end xs (all 0 0 (omega arith)) (λ k d within. all (suc k) d (omega arith))
 
 -- what the search answers where it ends at a position, by the test of its token
 pub found_at : (handled : List ℕ) (q : PlainQueue) (token : Token) (place position : ℕ) (same : Bool) → rises_from 0 handled ≡ true → All (λ position. position < length q.events) handled → TokensRise q → IsBound handled q token place → place < length handled → position ≡ get_or handled place 0 → same ≡ same_token (token_at q position) token → then_some same position ≡ first_of (handled_at handled q token)

@@ -18,7 +18,7 @@ use std::alloc::{AllocError, Global};
 /// nothing, and is sought from a position on.
 ///
 /// # Errors
-/// Memory, and then nothing has changed.
+/// The call failed to allocate, and nothing has changed.
 pub(crate) fn add_rows(
     alloc: Global,
     registry: &Registry,
@@ -51,7 +51,7 @@ pub(crate) fn add_rows(
 /// Pushes the leaves of those names of a registry that have none yet, each with this resume.
 ///
 /// # Errors
-/// Memory, and then nothing has changed.
+/// The call failed to allocate, and nothing has changed.
 fn push_leaves(
     alloc: Global,
     registry: &Registry,

@@ -1,5 +1,6 @@
 -- What stands at the end, once no pass and no ticket is out.
 use Rattle.std.proofs.Common.{◌≡◌, ℕ, ◌+◌, ◌%◌, ◌≤◌, List, [], ◌++◌, length, Option, sym, ap, ◌∙◌, subst, arith, append-nil}
+use Rattle.std.proofs.lemmas.Bool.{false_from_ne_true}
 use mathlib.Core.Option as maybe
 use mathlib.Core.Option.{some-injective}
 use lib.ListN.{get_elem?}
@@ -12,7 +13,7 @@ use Rattle.turnstile.specs.History.{times, total, IsLegal, Own}
 use Rattle.turnstile.specs.Turns.{Knows, AtHome, Stands}
 use Rattle.turnstile.proofs.Histories.{own_foreign, own_tail, own_drawn}
 use Rattle.turnstile.proofs.Rolls.{name_times, name_count, ticket_count}
-use Rattle.turnstile.proofs.Stands.{not_true, names_single, few_tickets}
+use Rattle.turnstile.proofs.Stands.{names_single, few_tickets}
 use Rattle.turnstile.proofs.Totals.{times_none, total_at, total_only}
 
 module _ {X H S O R : Type 0} (entries : H → List (Entry O R)) (state : X → S) (reply : S → O → R) (after : S → O → S) (start : Start S) where
@@ -54,7 +55,7 @@ module _ {X H S O R : Type 0} (entries : H → List (Entry O R)) (state : X → 
       let c = (st.each id v at).seen in
       let none : c.rest ≡ [] = own_foreign v.names c.rest (own_tail v.names v.seen c.rest (subst (Own v.names) c.is own)) c.foreign in
       record {
-        home = st.home (λ j u here. not_true u.come (λ turn.
+        home = st.home (λ j u here. false_from_ne_true u.come (λ turn.
             let a : length u.tickets ≤ total ticket_count views = total_at ticket_count views j u here in
             let b : length u.tickets ≡ 1 = ap length ((st.each j u here).come turn).0 in
             omega (arith, a, b, sums, equal)));

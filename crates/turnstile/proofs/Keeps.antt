@@ -1,5 +1,6 @@
 -- Each step on the words of a turnstile keeps its rule, and tells what it says.
 use Rattle.std.proofs.Common.{◌≡◌, ℕ, ◌+◌, ◌%◌, ◌<◌, ◌≤◌, eqb, eq-eqb, ne_eqb, Bool, true, false, List, [], ◌∷◌, ◌++◌, length, get_or, set, Option, Some, None, refl, sym, ap, ◌∙◌, subst, arith}
+use Rattle.std.proofs.lemmas.Option.{same_Some}
 use Rattle.std.proofs.Math.Nat.{mod-add-mod}
 use mathlib.Core.Logic.{dite}
 use mathlib.Core.Option as maybe
@@ -19,10 +20,6 @@ use Rattle.turnstile.specs.Turns.{opening_view, spent_view, unnumbered, joined, 
 use Rattle.turnstile.proofs.Ending.{ended}
 use Rattle.turnstile.proofs.Members as members
 use Rattle.turnstile.proofs.Stands as stands
-
-abbrev pub held_or : {X H : Type 0} → Held X H → Option (Held X H) → Held X H
-held_or x (Some y) = y
-held_or x None = x
 
 module _ {X H S O R : Type 0} (entries : H → List (Entry O R)) (state : X → S) (reply : S → O → R) (after : S → O → S) (start : Start S) where
   abbrev Homes : Type 0
@@ -229,7 +226,7 @@ module _ {X H S O R : Type 0} (entries : H → List (Entry O R)) (state : X → 
       let e = ended entries state reply after start h.passes h.drawn h.serving h.log final.0.homes final.0.views id v final.1.1 (d_is ∙ (same ∙ sym s_is)) (omega (arith, p_is, few)) h.stands in
       let home : AtHome entries state reply after start final.0.homes h.log = e.home in
       let is : Some home.held ≡ Some held = some-injective (Some home.held) (Some held) (sym (final.4 0 (Some home.held) (ap (λ (hs : Homes). get_elem? hs 0) home.is)) ∙ here) in
-      let same_held : home.held ≡ held = ap (held_or held) is in
+      let same_held : home.held ≡ held = same_Some home.held held is in
       let history : entries held.history ≡ h.log = ap (λ (z : Held X H). entries z.history) (sym same_held) ∙ home.history in
       let made : v.made ≤ h.passes = (h.stands.each id v final.1.1).made in
       record {

@@ -1,5 +1,6 @@
 -- The phases of a call, over the bare seat: what each asks of the one before, and what they come to.
 use Rattle.std.proofs.Common.{◌≡◌, ◌≢◌, ℕ, ◌+◌, ◌%◌, ◌<◌, ◌≤◌, false, List, [], ◌∷◌, ◌++◌, length, drop, Option, Some, None, refl, sym, ap, ◌∙◌, subst, arith, length-append}
+use Rattle.std.proofs.lemmas.Option.{same_Some}
 use Rattle.std.specs.Option.{IsSome}
 use Rattle.atomic_table.specs.Table.{State, Allows, rest}
 use Rattle.turnstile.specs.declared.history.Entry.{Entry}
@@ -12,7 +13,7 @@ use Rattle.turnstile.specs.History.{times, replay, IsLegal, entry}
 use Rattle.turnstile.specs.Plays.{Sat, history_of, first_of, looked, Turn, noted, left, Begun, MayLeave, MayNote, gone}
 use Rattle.turnstile.specs.Turns.{Turning}
 use Rattle.turnstile.proofs.Histories.{legal_snoc, replay_snoc}
-use Rattle.turnstile.proofs.Keeps.{held_or, any_step, looks, serves, notes}
+use Rattle.turnstile.proofs.Keeps.{any_step, looks, serves, notes}
 use Rattle.turnstile.proofs.Totals.{times_same}
 
 module _ {X H S O R : Type 0} (entries : H → List (Entry O R)) (state : X → S) (reply : S → O → R) (after : S → O → S) (start : Start S) where
@@ -61,7 +62,7 @@ module _ {X H S O R : Type 0} (entries : H → List (Entry O R)) (state : X → 
   pub begun : (v : View S O R) (t : ℕ) (m n : M) (r : Slot) (held : Held X H) → v.start ≡ Some start → Turn entries state reply after (record v { tickets = t ∷ [] }) m → m.1 ≡ (0, r) ∷ rest m.1 → n ≡ (m.0, (0, None) ∷ rest m.1) → r ≡ Some held
       → Begun entries state reply after start v held n
   begun v t m n r held begins turn here is out =
-      let same : turn.held ≡ held = ap (held_or turn.held) (ap first_slot (sym turn.slot ∙ here) ∙ out) in
+      let same : turn.held ≡ held = same_Some turn.held held (ap first_slot (sym turn.slot ∙ here) ∙ out) in
       let facts = turn.legal start begins in
       let mine : Begun entries state reply after start v turn.held n = record {
         ticket = t;

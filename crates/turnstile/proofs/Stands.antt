@@ -1,6 +1,7 @@
 -- What stands after each kind of step, over plain numbers, the history, the homes and the views.
 use Rattle.std.proofs.Common.{◌≡◌, ◌≢◌, ℕ, zero, suc, ◌+◌, ◌%◌, ◌^◌, ◌<◌, ◌≤◌, ⊎_elim, Bool, true, false, List, [], ◌∷◌, ◌++◌, length, set, Option, Some, None, refl, sym, ap, ◌∙◌, subst, arith, length-append}
-use Rattle.std.proofs.lemmas.Bool.{false≢true}
+use Rattle.std.proofs.lemmas.Option.{same_Some}
+use Rattle.std.proofs.lemmas.Bool.{false≢true, false_from_ne_true}
 use mathlib.Core.Logic.{dite}
 use mathlib.Core.Option as maybe
 use mathlib.Core.Option.{some-injective}
@@ -17,10 +18,6 @@ use Rattle.turnstile.proofs.Histories.{legal_snoc, drawn_snoc, claims_same, clai
 use Rattle.turnstile.proofs.Rolls.{name_times, ticket_times, name_count, ticket_count, roll_same, roll_draw, roll_serve}
 use Rattle.turnstile.proofs.Totals.{times_same, times_else, total_at, total_two, total_below, set_at}
 
-pub not_true : (b : Bool) → (b ≡ true → ⊥) → b ≡ false
-not_true true n = absurd (n refl)
-not_true false n = refl
-
 pub both_ways : (b : Bool) → b ≡ false → b ≡ true → ⊥
 both_ways b idle turn = false≢true (sym idle ∙ turn)
 
@@ -28,10 +25,6 @@ set_only : {A : Type 0} (l : List A) (a : A) → length l ≡ 1 → set l 0 a �
 set_only [] a e = absurd (omega (arith, e))
 set_only (x ∷ []) a e = refl
 set_only (x ∷ y ∷ l) a e = absurd (omega (arith, e))
-
-abbrev start_or : {S : Type 0} → Start S → Option (Start S) → Start S
-start_or x (Some y) = y
-start_or x None = x
 
 module _ {S O R : Type 0} where
   -- a fact of each view, after one changed
@@ -96,7 +89,7 @@ module _ {X H S O R : Type 0} (entries : H → List (Entry O R)) (state : X → 
 
   first_knows : (j : ℕ) (v : View S O R) → get_elem? (opening_view start ∷ []) j ≡ maybe.some v → Knower 1 0 [] v
   first_knows zero v e = subst (Knower 1 0 []) (some-injective (opening_view start) v e) record {
-    begins = λ x is. sym (ap (start_or start) is);
+    begins = λ x is. sym (same_Some start x is);
     made = omega arith;
     fits = omega arith;
     seen = claims_same (0 ∷ []) [] [] refl;
@@ -148,14 +141,14 @@ module _ {X H S O R : Type 0} (entries : H → List (Entry O R)) (state : X → 
   -- where this ticket is served, nobody has its turn
   nobody : (p d s : ℕ) (log : Log) (homes : Homes) (views : Views) (id : ℕ) (v : View S O R) → get_elem? views id ≡ maybe.some v → v.tickets ≡ s ∷ [] → v.come ≡ false → Rule p d s log homes views
       → (j : ℕ) (u : View S O R) → get_elem? views j ≡ maybe.some u → u.come ≡ false
-  nobody p d s log homes views id v at ticket idle st j u there = not_true u.come (λ turn. dite (ℕ_discrete id j)
+  nobody p d s log homes views id v at ticket idle st j u there = false_from_ne_true u.come (λ turn. dite (ℕ_discrete id j)
       (λ e. let same : u ≡ v = some-injective u v (sym there ∙ (ap (get_elem? views) (sym e) ∙ at)) in both_ways v.come idle (sym (ap (λ (z : View S O R). z.come) same) ∙ turn))
       (λ ne. only_one p d s views id j v u st.roll ne at there ticket ((st.each j u there).come turn).0))
 
   -- where the turn of one has come, that of no other has
   others_wait : (p d s : ℕ) (log : Log) (homes : Homes) (views : Views) (id : ℕ) (v : View S O R) → get_elem? views id ≡ maybe.some v → v.come ≡ true → Rule p d s log homes views
       → (j : ℕ) (u : View S O R) → j ≢ id → get_elem? views j ≡ maybe.some u → u.come ≡ false
-  others_wait p d s log homes views id v at turn st j u other there = not_true u.come (λ too. only_one p d s views j id u v st.roll other there at ((st.each j u there).come too).0 ((st.each id v at).come turn).0)
+  others_wait p d s log homes views id v at turn st j u other there = false_from_ne_true u.come (λ too. only_one p d s views j id u v st.roll other there at ((st.each j u there).come too).0 ((st.each id v at).come turn).0)
 
   -- a ticket that is out, and is this one modulo 2^64, is this one
   pub is_served : (p d s t : ℕ) (log : Log) (homes : Homes) (views : Views) (id : ℕ) (v : View S O R) → get_elem? views id ≡ maybe.some v → v.tickets ≡ t ∷ [] → s % 18446744073709551616 ≡ t % 18446744073709551616

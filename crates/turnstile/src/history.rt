@@ -35,7 +35,7 @@ pub trait StoredHistory<O, R>: Drop {
     /// Takes room for one more entry.
     ///
     /// # Errors
-    /// Memory. The entries are as before.
+    /// The call failed to allocate. The entries are as before.
     fn reserve(&mut self) -> Result<(), AllocError>
         ensures same { entries self.new ≡ entries self.old }
         ensures room { OnOk result (has_room self.new ≡ true) };

@@ -15,7 +15,7 @@ impl<T: Replays> Turnstile<T> {
     /// A new pass, which has seen what this one has, under a number of its own. The old pass is as before.
     ///
     /// # Errors
-    /// Where 2^32 passes were made, which is as many as there can be. It takes no memory.
+    /// 2^32 passes were made, which is as many as there can be. It takes no memory.
     pub fn split(&self, pass: &mut PassOf<T>) -> Result<PassOf<T>, AllocError>
         requires { IsOf T.state_of self.now pass.old }
         ensures kept { (pass.new.seat.table_id ≡ pass.old.seat.table_id) × (pass.new.number ≡ pass.old.number) × (pass.new.joined ≡ pass.old.joined) × (view pass.new ≡ view pass.old) }

@@ -30,14 +30,14 @@ pub trait Replays: Drop {
     /// Does an op, and gives its reply.
     ///
     /// # Errors
-    /// Memory. The state is as before.
+    /// The call failed to allocate. The state is as before.
     fn apply(&mut self, alloc: Global, op: &Self::Op) -> Result<Self::Reply, AllocError>
         ensures { MatchResult result (λ reply. (state_of self.new ≡ after (state_of self.old) op.now) × (reply ≡ replied (state_of self.old) op.now)) (λ _. state_of self.new ≡ state_of self.old) };
 
     /// The same op once more.
     ///
     /// # Errors
-    /// Memory.
+    /// The call failed to allocate.
     fn copy_op(alloc: Global, op: &Self::Op) -> Result<Self::Op, AllocError>
         ensures { IfOk result (λ copy. copy ≡ op.now) };
 

@@ -1,4 +1,4 @@
-//! The rule of a turnstile's table, and what each step on its words tells.
+//! The rule of a turnstile's table, and what each step on its words says.
 ghost use Rattle.turnstile.specs.Turns.{Turning, start_of, opening_view, unnumbered, joined, spent_view};
 ghost use Rattle.turnstile.specs.Plays.{drew, looked, noted, left, numbered, counted, told};
 

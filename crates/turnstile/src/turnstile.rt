@@ -27,7 +27,7 @@ const COUNT: usize = 3;
 pub enum Refusal {
     /// The history has as many entries as it may have.
     HistoryFull,
-    /// There was no memory.
+    /// The call failed to allocate.
     Memory,
 }
 
@@ -52,7 +52,7 @@ impl<T: Replays> Turnstile<T> {
     /// A turnstile over an object, whose history may have `limit` entries, and its first pass, with number 0.
     ///
     /// # Errors
-    /// Memory. The object is dropped.
+    /// The call failed to allocate. The object is dropped.
     pub fn new(
         alloc: Global,
         object: T,
@@ -183,8 +183,9 @@ impl<T: Replays> Turnstile<T> {
     /// history up to this call.
     ///
     /// # Errors
-    /// `HistoryFull` where the history has as many entries as it may have, and else `Memory`. No entry is
-    /// added, the object is as before, and the pass has seen the whole history as it was found.
+    /// `HistoryFull` where the history has as many entries as it may have, and `Memory` where the call failed
+    /// to allocate. No entry is added, the object is as before, and the pass has seen the whole history as it
+    /// was found.
     pub fn call<R: Wait>(
         &self,
         rt: &R,

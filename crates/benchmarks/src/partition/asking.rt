@@ -1,4 +1,4 @@
-//! Single operations, one after another. Each gives a sum of what it was told.
+//! Single operations, one after another. Each function gives a sum of the replies.
 use crate::partition::queues::Queue;
 use anyhow::{Result, bail};
 use std::alloc::Global;

@@ -41,7 +41,7 @@ pub const CASES: [Case; 6] = [
     Case::Purge,
 ];
 
-/// What an event or an operation took, and a sum of what was told.
+/// The time that an event or an operation took, and a sum of the replies.
 #[derive(Clone, Copy)]
 pub struct Measured {
     pub seconds: f64,
@@ -95,7 +95,7 @@ impl Case {
     }
 }
 
-/// The cost of one of so many, which took all the time since `start`.
+/// The cost of one event or operation of so many, which took all the time since `start`.
 fn per_unit<C: Clock>(clock: &C, start: Instant, count: usize, told: u64) -> Result<Measured> {
     let count = u32::try_from(count).unwrap_or(u32::MAX);
     let seconds = start.elapsed(clock)?.as_secs_f64() / f64::from(count);

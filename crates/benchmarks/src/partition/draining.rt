@@ -56,7 +56,7 @@ fn serve<Q: Queue>(queue: &mut Q, alloc: Global, consumer: &mut Consumer) -> Res
     Ok(())
 }
 
-/// The next event goes into the mailbox. Whether there was one.
+/// Puts the next event into the mailbox, and gives whether there was one.
 pub fn deliver<Q: Queue>(queue: &mut Q, alloc: Global, consumer: &Consumer) -> Result<bool> {
     let deliver = Op::Deliver {
         generation: 0,

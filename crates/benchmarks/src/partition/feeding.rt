@@ -104,7 +104,7 @@ fn publish<Q: Queue>(queue: &mut Q, alloc: Global, stream: StreamId) -> Result<(
     Ok(())
 }
 
-/// The agent pulls at most so many events. Whether it got any.
+/// The agent pulls at most so many events, and the result says whether it got any.
 pub fn pull<Q: Queue>(queue: &mut Q, alloc: Global, max: u32) -> Result<bool> {
     match queue.step(alloc, Op::Pull { generation: 0, max })? {
         Reply::Pulled { .. } => Ok(true),

@@ -17,7 +17,7 @@ pub struct Row {
     pub plain: Option<f64>,
 }
 
-/// Sees that both partitions are told the same in the smallest case.
+/// Checks that both partitions give the same replies in the smallest case.
 pub fn compare<C: Clock>(clock: &C, alloc: Global, case: Case) -> Result<()> {
     let size = case.sizes()[0];
     let cost = case.run::<step_core::Partition, C>(clock, alloc, size)?;

@@ -18,7 +18,8 @@ impl SubscriptionTable {
     /// subscription has the next number of the table, and the next explicit number for its name.
     ///
     /// # Errors
-    /// Memory, and then nothing has changed. It comes only where a subscription would be added.
+    /// The call failed to allocate, and nothing has changed. That can happen only where a subscription would
+    /// be added.
     pub fn subscribe(
         &mut self,
         alloc: Global,
@@ -58,7 +59,7 @@ impl SubscriptionTable {
     /// aren't there, or none.
     ///
     /// # Errors
-    /// Memory, and then nothing has changed. It comes only where all would be made.
+    /// The call failed to allocate, and nothing has changed. That can happen only where all would be made.
     pub fn imply(
         &mut self,
         alloc: Global,
@@ -92,7 +93,8 @@ impl SubscriptionTable {
     /// From a batch on, grains of a kind consume the streams of a namespace.
     ///
     /// # Errors
-    /// Memory, and then nothing has changed. It comes only where the rule would be added.
+    /// The call failed to allocate, and nothing has changed. That can happen only where the rule would be
+    /// added.
     pub fn add_rule(
         &mut self,
         alloc: Global,
@@ -125,7 +127,7 @@ impl SubscriptionTable {
     /// The positions of a turn are handled too, as `SubState::commit` says.
     ///
     /// # Errors
-    /// Memory, and then nothing has changed.
+    /// The call failed to allocate, and nothing has changed.
     pub fn commit(
         &mut self,
         alloc: Global,

@@ -2,8 +2,9 @@ use Rattle.std.proofs.Common.{sym, ap, ◌∙◌}
 use Rattle.stream_ident.specs.SubName.{same_sub}
 use Rattle.stream_model.specs.declared.plain.Subscription.{Subscription}
 use Rattle.stream_ident.specs.Words.{with_value}
-use Rattle.partition_reference.proofs.AcknowledgingLemmas.{ack-stale, ack-unknown, ack-closed, ack-nothing, ack-done, acknowledged-marks}
-use Rattle.stream_model.proofs.Lookups.{place_of-within, place_of-change}
+use Rattle.stream_model.proofs.Refusals.{ack-stale, ack-unknown}
+use Rattle.stream_model.proofs.Lookups.{place_of-within, place_of-change, place_of-none}
+use Rattle.partition_reference.proofs.AcknowledgingLemmas.{ack-closed, ack-nothing, ack-done, acknowledged-marks}
 use Rattle.stream_model.proofs.RecordBounds.{handled-in}
 use Rattle.partition_reference.proofs.acknowledging.ack.Goals as goal
 
@@ -13,7 +14,8 @@ returns-then-is_stale c =
 
 pub returns-in_default : goal.returns-in_default
 returns-in_default c =
-    ack-unknown c.args.p.now c.args.generation c.args.sub c.args.token (sym c.is_stale.ensures ∙ c.if-is_stale.false) (sym c.place_of_sub.ensures ∙ c.in_default.is)
+    ack-unknown c.args.p.now c.args.generation c.args.sub c.args.token (sym c.is_stale.ensures ∙ c.if-is_stale.false)
+    (place_of-none same_sub c.args.sub c.args.p.now.subs (sym c.place_of_sub.ensures ∙ c.in_default.is))
 
 pub returns-then-not-found : goal.returns-then-not-found
 returns-then-not-found c =

@@ -1,8 +1,9 @@
 use Rattle.std.proofs.Common.{sym, ◌∙◌}
 use Rattle.stream_ident.specs.SubName.{same_sub}
 use Rattle.stream_model.specs.declared.plain.Subscription.{Subscription}
-use Rattle.partition_reference.proofs.AcknowledgingLemmas.{retry-stale, retry-unknown, retry-closed, retry-done}
-use Rattle.stream_model.proofs.Lookups.{place_of-within, place_of-change}
+use Rattle.stream_model.proofs.Refusals.{retry-stale, retry-unknown}
+use Rattle.stream_model.proofs.Lookups.{place_of-within, place_of-change, place_of-none}
+use Rattle.partition_reference.proofs.AcknowledgingLemmas.{retry-closed, retry-done}
 use Rattle.partition_reference.proofs.acknowledging.retry.Goals as goal
 
 pub returns-then-is_stale : goal.returns-then-is_stale
@@ -10,7 +11,8 @@ returns-then-is_stale c = retry-stale c.args.p.now c.args.generation c.args.sub 
 
 pub returns-in_default : goal.returns-in_default
 returns-in_default c =
-    retry-unknown c.args.p.now c.args.generation c.args.sub (sym c.is_stale.ensures ∙ c.if-is_stale.false) (sym c.place_of_sub.ensures ∙ c.in_default.is)
+    retry-unknown c.args.p.now c.args.generation c.args.sub (sym c.is_stale.ensures ∙ c.if-is_stale.false)
+    (place_of-none same_sub c.args.sub c.args.p.now.subs (sym c.place_of_sub.ensures ∙ c.in_default.is))
 
 pub returns-then-not-found : goal.returns-then-not-found
 returns-then-not-found c =

@@ -1,13 +1,15 @@
-use Rattle.std.proofs.Common.{◌+◌, [], None, false, length, sym, ap, ◌∙◌}
+use Rattle.std.proofs.Common.{◌+◌, [], None, false, length, sym, ap, ◌∙◌, refl}
 use Rattle.stream_ident.specs.Name.{same_grain}
 use Rattle.stream_model.specs.declared.plain.Grain.{Grain}
-use Rattle.stream_model.proofs.Beginning.{grain_at-is}
-use Rattle.partition_reference.proofs.DeactivatingLemmas.{deactivate-done, deactivate-idle, deactivate-unknown}
+use Rattle.stream_model.specs.Positions.{new_grain}
+use Rattle.stream_model.proofs.Refusals.{deactivate-idle}
+use Rattle.stream_model.proofs.Beginning.{grain_at-is, grain_at-new}
+use Rattle.partition_reference.proofs.DeactivatingLemmas.{deactivate-done}
 use Rattle.stream_model.proofs.Lookups.{place_of-change, place_of-within}
 use Rattle.partition_reference.proofs.deactivating.deactivate.Goals as goal
 
 pub returns-in_default : goal.returns-in_default
-returns-in_default c = deactivate-unknown c.args.p.now c.args.grain (sym c.place_of_grain.ensures ∙ c.in_default.is)
+returns-in_default c = deactivate-idle c.args.p.now c.args.grain new_grain (grain_at-new c.args.p.now c.args.grain (sym c.place_of_grain.ensures ∙ c.in_default.is)) refl
 
 pub returns-then-not-found : goal.returns-then-not-found
 returns-then-not-found c =

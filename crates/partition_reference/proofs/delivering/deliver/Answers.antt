@@ -1,18 +1,23 @@
-use Rattle.std.proofs.Common.{◌≡◌, true, sym, subst, ◌∙◌}
+use Rattle.std.proofs.lemmas.Bool.{eq-eqb, ne_eqb}
+use Rattle.std.proofs.Common.{◌≡◌, true, sym, subst, ◌∙◌, ap, not}
 use Rattle.std.specs.Prelude.{OnErr}
 use Rattle.stream_model.specs.declared.plain.PlainPartition.{PlainPartition}
 use Rattle.stream_model.specs.declared.reply.Reply.{Reply}
 use Rattle.stream_model.specs.Step.{takes_memory}
 use Rattle.stream_ident.specs.Words.{Performs}
-use Rattle.partition_reference.proofs.Handing.{deliver-stale, deliver-unknown, deliver-closed, deliver-nothing, deliver-found}
+use Rattle.stream_ident.specs.SubName.{same_sub}
+use Rattle.stream_model.proofs.Lookups.{place_of-none}
+use Rattle.stream_model.proofs.Refusals.{deliver-stale, deliver-unknown}
+use Rattle.partition_reference.proofs.Handing.{deliver-closed, deliver-nothing, deliver-found}
 use Rattle.partition_reference.proofs.delivering.deliver.Goals as goal
 
 pub returns-then-generation-p-clause-performs : goal.returns-then-generation-p-clause-performs
-returns-then-generation-p-clause-performs c = deliver-stale c.args.p.now c.args.generation c.args.sub c.if-generation-p.true
+returns-then-generation-p-clause-performs c = deliver-stale c.args.p.now c.args.generation c.args.sub (ap not (ne_eqb c.args.generation c.args.p.now.generation c.if-generation-p.true))
 
 pub returns-in_default-clause-performs : goal.returns-in_default-clause-performs
 returns-in_default-clause-performs c =
-    deliver-unknown c.args.p.now c.args.generation c.args.sub c.if-generation-p.false (sym c.place_of_sub.ensures ∙ c.in_default.is)
+    deliver-unknown c.args.p.now c.args.generation c.args.sub (ap not (eq-eqb c.args.generation c.args.p.now.generation c.if-generation-p.false))
+    (place_of-none same_sub c.args.sub c.args.p.now.subs (sym c.place_of_sub.ensures ∙ c.in_default.is))
 
 pub returns-then-not-found-clause-performs : goal.returns-then-not-found-clause-performs
 returns-then-not-found-clause-performs c =

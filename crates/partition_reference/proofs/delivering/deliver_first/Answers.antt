@@ -5,7 +5,7 @@ use Rattle.stream_model.specs.declared.plain.Subscription.{Subscription}
 use Rattle.stream_model.specs.Positions.{new_grain}
 use Rattle.stream_model.specs.Pulling.{woken}
 use Rattle.stream_ident.specs.Words.{with_value}
-use Rattle.stream_model.proofs.Committing.{OnErr-since}
+use Rattle.stream_model.proofs.Answering.{on-error}
 use Rattle.partition_reference.proofs.Handing.{deliver_position-spent, deliver_position-done, deliver_position-takes}
 use Rattle.stream_model.proofs.Lookups.{place_of-within, place_of-change, place_of-added}
 use Rattle.partition_reference.proofs.delivering.deliver_first.Goals as goal
@@ -19,7 +19,7 @@ returns-then-is_spent-clause-performs c = λ r is_r is_grain.
 
 pub returns-in_err-add_grain-clause-memory : goal.returns-in_err-add_grain-clause-memory
 returns-in_err-add_grain-clause-memory c = λ r is_r is_grain.
-    OnErr-since c.from_residual.result _ (deliver_position-takes c.args.p.now c.args.sub.now r new_grain c.args.position (omega arith) (sym c.is_spent.ensures ∙ c.if-is_spent.false))
+    on-error c.from_residual.result (deliver_position-takes c.args.p.now c.args.sub.now r new_grain c.args.position (omega arith) (sym c.is_spent.ensures ∙ c.if-is_spent.false))
 
 pub returns-clause-performs : goal.returns-clause-performs
 returns-clause-performs c = λ r is_r is_grain.

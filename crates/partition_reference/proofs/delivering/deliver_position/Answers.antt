@@ -9,7 +9,7 @@ use Rattle.stream_model.specs.Pulling.{deliver_position, woken}
 use Rattle.stream_model.specs.Step.{takes_memory}
 use Rattle.stream_ident.specs.Words.{Performs, with_value}
 use Rattle.stream_model.proofs.Beginning.{grain_at-is, grain_at-new}
-use Rattle.stream_model.proofs.Committing.{OnErr-since}
+use Rattle.stream_model.proofs.Answering.{on-error}
 use Rattle.partition_reference.proofs.Handing.{activations-fit, at-found, deliver_position-full, deliver_position-spent, deliver_position-done, deliver_position-takes, rises-woken}
 use Rattle.stream_model.proofs.Lookups.{place_of-within, place_of-change}
 use Rattle.partition_reference.proofs.delivering.deliver_position.Goals as goal
@@ -74,7 +74,7 @@ returns-in_err-wake-clause-memory c = λ r is_r.
     let is_st = grain_at-is p found.grain st c.grain_in-grain.ensures in
     let room : length st.mailbox < 16 = omega (arith, ap length c.as_slice.ensures) in
     let takes = deliver_position-takes p s found st c.args.position room (sym c.lacks_rise.ensures ∙ c.if-lacks_rise.false) in
-    OnErr-since c.from_residual.result _
+    on-error c.from_residual.result
     (at-found (λ r. takes_memory (deliver_position p s r (grain_at p r.grain) (Some c.args.position)).1 ≡ true) p s found r c.sub_in.ensures is_r
     (subst (λ st. takes_memory (deliver_position p s found st (Some c.args.position)).1 ≡ true) (sym is_st) takes))
 

@@ -1,5 +1,6 @@
 use Rattle.std.proofs.Common.{◌≡◌, ◌+◌, min, suc, sym, ap, ◌∙◌, arith}
-use Rattle.partition_reference.proofs.MovingLemmas.{move-spent, move-done}
+use Rattle.stream_model.proofs.Refusals.{move-spent}
+use Rattle.partition_reference.proofs.MovingLemmas.{move-done}
 use Rattle.partition_reference.proofs.moving.move_queue.Goals as goal
 
 pub returns-then-is_spent : goal.returns-then-is_spent

@@ -1,6 +1,7 @@
 use Rattle.std.proofs.Common.{◌≡◌, ◌≤◌, ◌+◌, ℕ, fold, length, take}
 use Rattle.std.specs.List.{flat_map}
-use Rattle.stream_model.specs.Pulling.{added, implied, subs_with}
+use Rattle.stream_ident.specs.Implying.{added}
+use Rattle.stream_model.specs.Pulling.{implied, subs_with}
 use Rattle.partition_reference.proofs.pulling.count_for_event.Given as goal
 
 abbrev pub invariant-loop-index : goal.invariant-loop-index

@@ -1,5 +1,5 @@
 use Rattle.std.proofs.Common.{◌≡◌, drop}
-use Rattle.partition_reference.proofs.ImpliedNames.{has}
+use Rattle.stream_ident.proofs.NewNames.{has}
 use Rattle.partition_reference.proofs.pulling.is_there.Given as goal
 
 abbrev pub invariant-loop-other : goal.invariant-loop-other

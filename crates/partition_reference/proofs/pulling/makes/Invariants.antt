@@ -1,6 +1,6 @@
 use Rattle.std.proofs.Common.{◌≡◌, ℕ, drop}
 use Rattle.stream_model.specs.Pulling.{all_implied}
-use Rattle.partition_reference.proofs.ImpliedNames.{has}
+use Rattle.stream_ident.proofs.NewNames.{has}
 use Rattle.partition_reference.proofs.pulling.makes.Given as goal
 
 abbrev pub invariant-loop-event : goal.invariant-loop-event

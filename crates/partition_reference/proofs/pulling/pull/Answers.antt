@@ -1,12 +1,13 @@
 use Rattle.std.proofs.Common.{◌≡◌, ◌-◌, ◌∙◌, min, ap, sym, length}
 use Rattle.stream_ident.specs.Blocks.{pull_size}
 use Rattle.stream_model.proofs.Answering.{performs-along, memory-along}
-use Rattle.stream_model.proofs.PullingSteps.{pull-stale, pull-dry, pull-some}
+use Rattle.stream_model.proofs.Refusals.{pull-stale}
+use Rattle.stream_model.proofs.PullingSteps.{pull-dry, pull-some}
 use Rattle.partition_reference.proofs.pulling.pull.Goals as goal
 
 pub returns-then-is_stale-clause-performs : goal.returns-then-is_stale-clause-performs
 returns-then-is_stale-clause-performs c =
-    sym (pull-stale c.args.p.now c.args.generation c.args.max (sym c.is_stale.ensures ∙ c.if-is_stale.true))
+    pull-stale c.args.p.now c.args.generation c.args.max (sym c.is_stale.ensures ∙ c.if-is_stale.true)
 
 pub returns-then-p-queued-clause-performs : goal.returns-then-p-queued-clause-performs
 returns-then-p-queued-clause-performs c =

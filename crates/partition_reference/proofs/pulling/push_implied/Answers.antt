@@ -3,9 +3,10 @@ use Rattle.std.specs.List.{flat_map}
 use Rattle.stream_ident.specs.declared.event.Event.{Event}
 use Rattle.stream_ident.specs.declared.ident.SubName.{SubName}
 use Rattle.stream_model.specs.declared.plain.Subscription.{Subscription}
-use Rattle.stream_model.specs.Pulling.{added, implied}
-use Rattle.partition_reference.proofs.ImpliedNames.{added-more}
 use Rattle.stream_ident.proofs.WordLemmas.{front-of-front}
+use Rattle.stream_ident.specs.Implying.{added}
+use Rattle.stream_model.specs.Pulling.{implied}
+use Rattle.stream_ident.proofs.NewNames.{added-more}
 use Rattle.partition_reference.proofs.pulling.push_implied.Goals as goal
 
 pub returns-in_err-push_for_event-clause-front : goal.returns-in_err-push_for_event-clause-front

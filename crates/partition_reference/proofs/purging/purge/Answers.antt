@@ -1,5 +1,6 @@
 use Rattle.std.proofs.Common.{sym, ◌∙◌}
-use Rattle.partition_reference.proofs.PurgingLemmas.{purge-stale, purge-done}
+use Rattle.stream_model.proofs.Refusals.{purge-stale}
+use Rattle.partition_reference.proofs.PurgingLemmas.{purge-done}
 use Rattle.partition_reference.proofs.purging.purge.Goals as goal
 
 pub returns-then-is_stale : goal.returns-then-is_stale

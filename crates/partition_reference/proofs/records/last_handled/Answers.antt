@@ -1,8 +1,8 @@
-use Rattle.std.proofs.Common.{◌≡◌, ◌-◌, length, pred, Some, sym, ap, ◌∙◌, arith}
-use Rattle.std.proofs.lemmas.Option.{slice_get_within}
+use Rattle.std.proofs.Common.{◌≡◌, ◌-◌, length, pred, Some, sym, ap, ◌∙◌, arith, suc}
+use Rattle.std.proofs.lemmas.Option.{slice_get_within, same_Some, slice_get-get_or}
 use Rattle.std.specs.List.{slice_get}
 use Rattle.stream_ident.specs.Words.{past}
-use Rattle.stream_model.proofs.Fronts.{past-last}
+use Rattle.stream_ident.proofs.WordLemmas.{past-last}
 use Rattle.partition_reference.proofs.records.last_handled.Goals as goal
 
 pub returns-in-Some : goal.returns-in-Some
@@ -11,4 +11,5 @@ returns-in-Some c =
     let last = c.in-Some.last.now in
     let is_last : slice_get xs (length xs - 1) ≡ Some last = sym (c.in-Some.ensures.value) in
     let within = slice_get_within xs (length xs - 1) last is_last in
-    sym (ap pred (past-last xs last (omega arith) is_last)) ∙ ap (λ xs. pred (past xs)) c.as_slice.ensures
+    let past_last = past-last xs (omega arith) ∙ ap suc (same_Some _ _ (sym (slice_get-get_or xs (length xs - 1) 0 within) ∙ is_last)) in
+    sym (ap pred (past_last)) ∙ ap (λ xs. pred (past xs)) c.as_slice.ensures

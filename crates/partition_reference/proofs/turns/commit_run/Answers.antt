@@ -5,8 +5,9 @@ use Rattle.stream_model.specs.declared.plain.Grain.{Grain}
 use Rattle.stream_model.specs.Places.{change_at, handled_also}
 use Rattle.stream_model.specs.Positions.{grain_at, token_at}
 use Rattle.stream_model.proofs.Beginning.{grain_at-place}
-use Rattle.stream_model.proofs.Committing.{commit_for-unknown, commit_for-closed, commit_for-done, commit_for-takes, OnErr-since}
 use Rattle.stream_model.proofs.Lookups.{place_of-within, place_of-change}
+use Rattle.stream_model.proofs.Answering.{on-error}
+use Rattle.stream_model.proofs.Committing.{commit_for-unknown, commit_for-closed, commit_for-done, commit_for-takes}
 use Rattle.partition_reference.proofs.turns.commit_run.Goals as goal
 
 pub returns-in_default-clause-performs : goal.returns-in_default-clause-performs
@@ -33,7 +34,7 @@ returns-then-not-sub-clause-performs c =
 pub returns-in_err-handle-clause-memory : goal.returns-in_err-handle-clause-memory
 returns-in_err-handle-clause-memory c =
     let p = c.args.p.now in
-    OnErr-since c.from_residual.result _ (commit_for-takes p c.args.id.now (grain_at p c.args.id.now) c.args.run.now c.args.note c.sub_in-sub.result.now c.sub_in-sub.ensures c.if-not-sub.false)
+    on-error c.from_residual.result (commit_for-takes p c.args.id.now (grain_at p c.args.id.now) c.args.run.now c.args.note c.sub_in-sub.result.now c.sub_in-sub.ensures c.if-not-sub.false)
 
 pub returns-clause-performs : goal.returns-clause-performs
 returns-clause-performs c =

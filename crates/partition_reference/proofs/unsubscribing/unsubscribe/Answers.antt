@@ -1,12 +1,13 @@
 use Rattle.std.proofs.Common.{sym, ap, length, ◌∙◌, false}
 use Rattle.stream_ident.specs.SubName.{same_sub}
 use Rattle.stream_model.specs.declared.plain.Subscription.{Subscription}
-use Rattle.stream_model.proofs.Lookups.{place_of-change, place_of-within}
-use Rattle.partition_reference.proofs.UnsubscribingLemmas.{unsubscribe-closed, unsubscribe-done, unsubscribe-implicit, unsubscribe-unknown}
+use Rattle.stream_model.proofs.Refusals.{unsubscribe-implicit, unsubscribe-unknown}
+use Rattle.stream_model.proofs.Lookups.{place_of-change, place_of-within, place_of-none}
+use Rattle.partition_reference.proofs.UnsubscribingLemmas.{unsubscribe-closed, unsubscribe-done}
 use Rattle.partition_reference.proofs.unsubscribing.unsubscribe.Goals as goal
 
 pub returns-in_default : goal.returns-in_default
-returns-in_default c = unsubscribe-unknown c.args.p.now c.args.sub (sym c.place_of_sub.ensures ∙ c.in_default.is)
+returns-in_default c = unsubscribe-unknown c.args.p.now c.args.sub (place_of-none same_sub c.args.sub c.args.p.now.subs (sym c.place_of_sub.ensures ∙ c.in_default.is))
 
 pub returns-in-Implicit : goal.returns-in-Implicit
 returns-in-Implicit c =

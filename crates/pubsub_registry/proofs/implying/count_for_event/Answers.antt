@@ -1,8 +1,8 @@
 use Rattle.std.proofs.Common.{◌≡◌, ◌∙◌, ◌&&◌, not, true, refl, sym, ap, length, fold, arith}
-use Rattle.std.proofs.lemmas.Bool.{not-true, not-false}
 use Rattle.std.proofs.lemmas.List.{take_all}
 use Rattle.std.specs.List.{flat_map}
-use Rattle.pubsub_registry.specs.Implying.{added, made, names_with}
+use Rattle.stream_ident.specs.Implying.{added}
+use Rattle.pubsub_registry.specs.Implying.{made, names_with}
 use Rattle.pubsub_registry.proofs.ImpliedLists.{length-on}
 use Rattle.pubsub_registry.proofs.ImpliedSteps.{event-last, one_if, step-counts}
 use Rattle.pubsub_registry.proofs.implying.count_for_event.Goals as goal

@@ -1,6 +1,7 @@
-use Rattle.std.proofs.Common.{◌∙◌, ap, sym, fold}
+use Rattle.std.proofs.Common.{◌∙◌, sym, fold}
 use Rattle.std.specs.List.{flat_map}
-use Rattle.pubsub_registry.specs.Implying.{added, made}
+use Rattle.stream_ident.specs.Implying.{added}
+use Rattle.pubsub_registry.specs.Implying.{made}
 use Rattle.stream_ident.proofs.WordLemmas.{front-of-front}
 use Rattle.pubsub_registry.proofs.ImpliedSteps.{event-more}
 use Rattle.pubsub_registry.proofs.implying.push_all.Goals as goal

@@ -1,5 +1,7 @@
-use Rattle.std.proofs.Common.{◌≡◌, ◌∙◌, ap, sym, subst, ℕ, ◌<◌, ◌≤◌, Option, true, arith}
+use Rattle.std.proofs.Common.{◌≡◌, ◌∙◌, ap, sym, subst, ℕ, ◌<◌, ◌≤◌, Option, true, arith, not}
 use Rattle.std.specs.Prelude.{OnErr}
+use Rattle.stream_model.proofs.Refusals.{deliver-stale, deliver-unknown}
+use Rattle.step_core.proofs.RecordOps.{no-record}
 use Rattle.stream_model.specs.declared.reply.Reply.TheVariants as reply
 use Rattle.stream_model.specs.Step.{takes_memory}
 use Rattle.grain_table.specs.Grains.{number_of}
@@ -13,7 +15,6 @@ use Rattle.step_core.specs.PlainOf.{plain_of}
 use Rattle.step_core.specs.Records.{record_of}
 use Rattle.step_core.specs.Replied.{replied}
 use Rattle.step_core.proofs.CheckOps.{check-current, check-stale}
-use Rattle.step_core.proofs.DeliverOps.{deliver-none, deliver-stale}
 use Rattle.step_core.proofs.HandOps.{Answer, Searched, Stands, closed-performs, cursor-low, grain-there, high-few, next-agrees, next-there, nothing-assembled, nothing-performs, searched-is, todo-is, todo-performs, with_subs}
 use Rattle.step_core.proofs.delivering.deliver.Goals as goal
 
@@ -21,12 +22,13 @@ pub returns-in-Err-clause-performs : goal.returns-in-Err-clause-performs
 returns-in-Err-clause-performs c =
     let parts = c.args.parts.now in
     let stale = check-stale parts.agent c.args.generation c.in-Err.field-0 c.in-Err.ensures in
-    ap {B = Answer} (λ now. (plain_of parts, reply.StaleAgent now)) stale.now ∙ sym (deliver-stale parts c.args.generation c.args.sub stale.other)
+    ap {B = Answer} (λ now. (plain_of parts, reply.StaleAgent now)) stale.now ∙ deliver-stale (plain_of parts) c.args.generation c.args.sub (ap not stale.other)
 
 pub returns-in_default-find-clause-performs : goal.returns-in_default-find-clause-performs
 returns-in_default-find-clause-performs c =
     let parts = c.args.parts.now in
-    sym (deliver-none parts c.args.generation c.args.sub (sym c.requires.records.long) (check-current parts.agent c.args.generation c.in_default.field-0 c.in_default.ensures) (sym c.in_default-find.ensures.number))
+    deliver-unknown (plain_of parts) c.args.generation c.args.sub (ap not (check-current parts.agent c.args.generation c.in_default.field-0 c.in_default.ensures))
+    (no-record parts c.args.sub (sym c.requires.records.long) (sym c.in_default-find.ensures.number))
 
 -- the number of the grain, as it was found
 found : (parts : Parts) (number : ℕ) (registration : Registration) (grain : Option ℕ) → registration ≡ registration_at parts.subs number → grain ≡ number_of parts.grains registration.grain → number_of parts.grains (record_of parts number).grain ≡ grain

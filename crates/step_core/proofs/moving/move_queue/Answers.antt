@@ -1,13 +1,14 @@
 use Rattle.std.proofs.Common.{◌≡◌, ◌∙◌, ap, arith, min, sym}
 use Rattle.stream_model.specs.Positions.{slowest}
 use Rattle.queue_cache.specs.Cache.{high}
+use Rattle.stream_model.proofs.Refusals.{move-spent}
 use Rattle.step_core.specs.PlainOf.{plain_of}
 use Rattle.step_core.proofs.Shared.{high-end}
-use Rattle.step_core.proofs.MovedOps.{move-spent, moved-assembled, moved-performs}
+use Rattle.step_core.proofs.MovedOps.{moved-assembled, moved-performs}
 use Rattle.step_core.proofs.moving.move_queue.Goals as goal
 
 pub returns-then-is_spent-clause-performs : goal.returns-then-is_spent-clause-performs
-returns-then-is_spent-clause-performs c = move-spent c.args.parts.now c.args.silo (sym c.is_spent.ensures ∙ c.if-is_spent.true)
+returns-then-is_spent-clause-performs c = move-spent (plain_of c.args.parts.now) c.args.silo (sym c.is_spent.ensures ∙ c.if-is_spent.true)
 
 pub token_at-low-requires : goal.token_at-low-requires
 token_at-low-requires c =

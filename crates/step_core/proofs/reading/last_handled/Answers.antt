@@ -6,8 +6,9 @@ use Rattle.stream_ident.specs.Words.{past}
 use Rattle.stream_model.specs.Draining.{last_handled}
 use Rattle.stream_model.specs.Positions.{token_at}
 use Rattle.subscription_table.specs.Table.{no_entry, no_state}
+use Rattle.stream_ident.proofs.WordLemmas.{past_from-within}
 use Rattle.step_core.specs.PlainOf.{plain_of}
-use Rattle.step_core.proofs.ReadLemmas.{found-none, found-sub, handled-within, last-none, last-some, nil-of-empty, past-within}
+use Rattle.step_core.proofs.ReadLemmas.{found-none, found-sub, handled-within, last-none, last-some, nil-of-empty}
 use Rattle.step_core.proofs.RecordOps.{record_at}
 use Rattle.step_core.proofs.reading.last_handled.Goals as goal
 
@@ -28,7 +29,7 @@ pub token_at-requires : goal.token_at-requires
 token_at-requires c =
     let parts = c.args.parts.now in
     let all = handled-within parts c.args.sub.now c.in_ok-number.number c.requires.within c.requires.records (sym c.find.ensures.number ∙ c.in_ok-number.was) in
-    let most = past-within (length parts.queue.events) 0 (record_at parts c.in_ok-number.number no_entry no_state).handled (omega arith) all in
+    let most = past_from-within 0 (length parts.queue.events) (record_at parts c.in_ok-number.number no_entry no_state).handled (omega arith) all in
     let is : c.past.result ≡ past (record_at parts c.in_ok-number.number no_entry no_state).handled = c.past.ensures ∙ ap (λ s. past s.handled) c.state-state.ensures in
     omega (arith, most, is, c.saturating_sub.ensures)
 

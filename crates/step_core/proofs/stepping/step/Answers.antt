@@ -2,8 +2,8 @@ use Rattle.std.proofs.Common.{sym, ap, ◌∙◌}
 use Rattle.stream_model.specs.declared.plain.PlainPartition.{PlainPartition}
 use Rattle.stream_model.specs.declared.reply.Reply.{Reply}
 use Rattle.stream_model.specs.Step.{step, takes_memory}
+use Rattle.stream_model.proofs.Answering.{on-error}
 use Rattle.step_core.specs.PlainOf.{plain_of}
-use Rattle.stream_model.proofs.Committing.{OnErr-since}
 use Rattle.step_core.proofs.stepping.step.Goals as goal
 
 pub returns-in-Begin-clause-performs : goal.returns-in-Begin-clause-performs
@@ -56,7 +56,7 @@ returns-in_ok-publish-in-Publish-clause-performs c = c.in_ok-publish-in-Publish.
 pub returns-in_err-publish-in-Publish-clause-memory : goal.returns-in_err-publish-in-Publish-clause-memory
 unfolding step
 returns-in_err-publish-in-Publish-clause-memory c =
-    OnErr-since c.from_residual.result _ (ap {A = PlainPartition × Reply} (λ out. takes_memory out.1) (ap (step (plain_of c.args.parts.now)) c.in-Publish.is) ∙ c.in_err-publish-in-Publish.ensures.memory)
+    on-error c.from_residual.result (ap {A = PlainPartition × Reply} (λ out. takes_memory out.1) (ap (step (plain_of c.args.parts.now)) c.in-Publish.is) ∙ c.in_err-publish-in-Publish.ensures.memory)
 
 pub returns-in_ok-subscribe-in-Subscribe-clause-performs : goal.returns-in_ok-subscribe-in-Subscribe-clause-performs
 unfolding step
@@ -65,7 +65,7 @@ returns-in_ok-subscribe-in-Subscribe-clause-performs c = c.in_ok-subscribe-in-Su
 pub returns-in_err-subscribe-in-Subscribe-clause-memory : goal.returns-in_err-subscribe-in-Subscribe-clause-memory
 unfolding step
 returns-in_err-subscribe-in-Subscribe-clause-memory c =
-    OnErr-since c.from_residual-in_err-subscribe-in-Subscribe.result _ (ap {A = PlainPartition × Reply} (λ out. takes_memory out.1) (ap (step (plain_of c.args.parts.now)) c.in-Subscribe.is) ∙ c.in_err-subscribe-in-Subscribe.ensures.memory)
+    on-error c.from_residual-in_err-subscribe-in-Subscribe.result (ap {A = PlainPartition × Reply} (λ out. takes_memory out.1) (ap (step (plain_of c.args.parts.now)) c.in-Subscribe.is) ∙ c.in_err-subscribe-in-Subscribe.ensures.memory)
 
 pub returns-in_ok-pull-in-Pull-clause-performs : goal.returns-in_ok-pull-in-Pull-clause-performs
 unfolding step
@@ -74,7 +74,7 @@ returns-in_ok-pull-in-Pull-clause-performs c = c.in_ok-pull-in-Pull.ensures.perf
 pub returns-in_err-pull-in-Pull-clause-memory : goal.returns-in_err-pull-in-Pull-clause-memory
 unfolding step
 returns-in_err-pull-in-Pull-clause-memory c =
-    OnErr-since c.from_residual-in_err-pull-in-Pull.result _ (ap {A = PlainPartition × Reply} (λ out. takes_memory out.1) (ap (step (plain_of c.args.parts.now)) c.in-Pull.is) ∙ c.in_err-pull-in-Pull.ensures.memory)
+    on-error c.from_residual-in_err-pull-in-Pull.result (ap {A = PlainPartition × Reply} (λ out. takes_memory out.1) (ap (step (plain_of c.args.parts.now)) c.in-Pull.is) ∙ c.in_err-pull-in-Pull.ensures.memory)
 
 pub returns-in_ok-deliver-in-Deliver-clause-performs : goal.returns-in_ok-deliver-in-Deliver-clause-performs
 unfolding step
@@ -83,7 +83,7 @@ returns-in_ok-deliver-in-Deliver-clause-performs c = c.in_ok-deliver-in-Deliver.
 pub returns-in_err-deliver-in-Deliver-clause-memory : goal.returns-in_err-deliver-in-Deliver-clause-memory
 unfolding step
 returns-in_err-deliver-in-Deliver-clause-memory c =
-    OnErr-since c.from_residual-in_err-deliver-in-Deliver.result _ (ap {A = PlainPartition × Reply} (λ out. takes_memory out.1) (ap (step (plain_of c.args.parts.now)) c.in-Deliver.is) ∙ c.in_err-deliver-in-Deliver.ensures.memory)
+    on-error c.from_residual-in_err-deliver-in-Deliver.result (ap {A = PlainPartition × Reply} (λ out. takes_memory out.1) (ap (step (plain_of c.args.parts.now)) c.in-Deliver.is) ∙ c.in_err-deliver-in-Deliver.ensures.memory)
 
 pub returns-in_ok-commit-in-Commit-clause-performs : goal.returns-in_ok-commit-in-Commit-clause-performs
 unfolding step
@@ -92,7 +92,7 @@ returns-in_ok-commit-in-Commit-clause-performs c = c.in_ok-commit-in-Commit.ensu
 pub returns-in_err-commit-in-Commit-clause-memory : goal.returns-in_err-commit-in-Commit-clause-memory
 unfolding step
 returns-in_err-commit-in-Commit-clause-memory c =
-    OnErr-since c.from_residual-in_err-commit-in-Commit.result _ (ap {A = PlainPartition × Reply} (λ out. takes_memory out.1) (ap (step (plain_of c.args.parts.now)) c.in-Commit.is) ∙ c.in_err-commit-in-Commit.ensures.memory)
+    on-error c.from_residual-in_err-commit-in-Commit.result (ap {A = PlainPartition × Reply} (λ out. takes_memory out.1) (ap (step (plain_of c.args.parts.now)) c.in-Commit.is) ∙ c.in_err-commit-in-Commit.ensures.memory)
 
 pub returns-in_ok-add_rule-in-AddRule-clause-performs : goal.returns-in_ok-add_rule-in-AddRule-clause-performs
 unfolding step
@@ -101,4 +101,4 @@ returns-in_ok-add_rule-in-AddRule-clause-performs c = c.in_ok-add_rule-in-AddRul
 pub returns-in_err-add_rule-in-AddRule-clause-memory : goal.returns-in_err-add_rule-in-AddRule-clause-memory
 unfolding step
 returns-in_err-add_rule-in-AddRule-clause-memory c =
-    OnErr-since c.from_residual-in_err-add_rule-in-AddRule.result _ (ap {A = PlainPartition × Reply} (λ out. takes_memory out.1) (ap (step (plain_of c.args.parts.now)) c.in-AddRule.is) ∙ c.in_err-add_rule-in-AddRule.ensures.memory)
+    on-error c.from_residual-in_err-add_rule-in-AddRule.result (ap {A = PlainPartition × Reply} (λ out. takes_memory out.1) (ap (step (plain_of c.args.parts.now)) c.in-AddRule.is) ∙ c.in_err-add_rule-in-AddRule.ensures.memory)

@@ -1,4 +1,6 @@
 use Rattle.std.proofs.Common.{◌∙◌, List, ap, length, ℕ, subst, sym}
+use Rattle.stream_model.proofs.Refusals.{unsubscribe-unknown}
+use Rattle.step_core.proofs.RecordOps.{no-record}
 use Rattle.stream_ident.specs.declared.ident.GrainId.{GrainId}
 use Rattle.stream_model.specs.declared.plain.PlainPartition.{PlainPartition}
 use Rattle.stream_model.specs.declared.reply.Reply.{Reply}
@@ -9,13 +11,12 @@ use Rattle.pubsub_registry.specs.declared.registration.Registration.{Registratio
 use Rattle.pubsub_registry.specs.declared.told.Closing.TheVariants as close_told
 use Rattle.step_core.specs.Assembly.{IsAssembled}
 use Rattle.step_core.specs.PlainOf.{plain_of}
-use Rattle.step_core.proofs.ClosedOps.{closed-assembled, closed-performs, closed-shut, forgotten-assembled, forgotten_by, left_grains}
-use Rattle.step_core.proofs.SubscriberOps.{unsubscribe-none}
+use Rattle.step_core.proofs.ClosedOps.{closed-assembled, closed-performs, forgotten-assembled, forgotten_by, left_grains, closed-after}
 use Rattle.step_core.proofs.subscribing.unsubscribe.Goals as goal
 
 pub returns-in_default-clause-performs : goal.returns-in_default-clause-performs
 returns-in_default-clause-performs c =
-    sym (unsubscribe-none c.args.parts.now c.args.sub (sym c.requires.records.long) (sym c.in_default.ensures.number))
+    unsubscribe-unknown (plain_of c.args.parts.now) c.args.sub (no-record c.args.parts.now c.args.sub (sym c.requires.records.long) (sym c.in_default.ensures.number))
 
 pub returns-in-Done-clause-assembled : goal.returns-in-Done-clause-assembled
 returns-in-Done-clause-assembled c =
@@ -23,7 +24,7 @@ returns-in-Done-clause-assembled c =
     let closed = closed-assembled parts c.in-Some.number c.args.sub c.requires.records c.in-Some.ensures.number c.close.new.self close_told.Done c.requires.assembled c.in-Done.ensures in
     subst (λ (grains : List (GrainId × PlainActivation)). IsAssembled (record parts { subs = c.close.new.self; grains = grains })) (sym c.forget.ensures)
     (forgotten-assembled (record parts { subs = c.close.new.self }) c.registration.result.now.grain c.in-Some.number closed
-    (closed-shut parts c.in-Some.number c.args.sub c.requires.records c.in-Some.ensures.number c.close.new.self c.in-Done.ensures))
+    (closed-after parts c.in-Some.number c.args.sub c.requires.records c.in-Some.ensures.number c.close.new.self c.in-Done.ensures))
 
 pub returns-in-Done-clause-performs : goal.returns-in-Done-clause-performs
 returns-in-Done-clause-performs c =

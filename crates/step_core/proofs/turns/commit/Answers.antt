@@ -2,7 +2,7 @@ use Rattle.std.proofs.Common.{◌∙◌, ap, sym, subst, length}
 use Rattle.consumer_grain.specs.Activations.{PlainActivation, current_turn}
 use Rattle.grain_table.specs.Changes.{activation_at}
 use Rattle.subscription_table.specs.Table.{PlainTable}
-use Rattle.stream_model.proofs.Committing.{OnErr-since}
+use Rattle.stream_model.proofs.Answering.{on-error}
 use Rattle.step_core.specs.Assembly.{IsAssembled}
 use Rattle.step_core.specs.Replied.{reply_of}
 use Rattle.step_core.proofs.CommitOps.{commit-assembled, commit-stale, commit-takes, commit-told, is-running, running-below, running-rises, running-within}
@@ -54,7 +54,7 @@ returns-in_err-told-clause-memory c =
     let i = c.in-Some.number in
     let below = known-at parts i c.requires.assembled c.in-Some.ensures.within in
     let is_current = ap (λ (a : PlainActivation). current_turn a c.args.activation c.args.turn) (sym c.at.ensures.activation) ∙ sym c.in-Some-current_turn.ensures in
-    OnErr-since c.from_residual.result _
+    on-error c.from_residual.result
     (commit-takes parts c.args.grain i c.args.activation c.args.turn c.args.note c.in-Some-current_turn.run'.now (distinct-of-unique parts.subs.registry.names c.requires.unique) (sym c.requires.records.long) (sym c.find.ensures.number ∙ c.in-Some.is) below is_current c.in_err-told.ensures.memory)
 
 pub returns-clause-assembled : goal.returns-clause-assembled

@@ -1,18 +1,21 @@
-use Rattle.std.proofs.Common.{◌∙◌, ap, sym, subst, ℕ, List}
+use Rattle.std.proofs.Common.{◌∙◌, ap, sym, subst, ℕ, List, refl}
+use Rattle.stream_model.specs.Positions.{new_grain}
+use Rattle.stream_model.proofs.Refusals.{deactivate-idle}
+use Rattle.grain_table.specs.Changes.{activation_at, no_grain}
+use Rattle.step_core.specs.PlainOf.{plain_of}
+use Rattle.step_core.proofs.GrainOps.{grain-found, grain-new}
 use Rattle.consumer_grain.specs.Activations.{PlainActivation}
-use Rattle.grain_table.specs.Changes.{activation_at}
 use Rattle.subscription_table.specs.Table.{AreRewound}
-use Rattle.step_core.proofs.DeactivateOps.{deactivate-none}
-use Rattle.step_core.proofs.LeaveOps.{deactivate-assembled, deactivate-idle, deactivate-told}
+use Rattle.step_core.proofs.LeaveOps.{deactivate-assembled, deactivate-told}
 use Rattle.step_core.proofs.turns.deactivate.Goals as goal
 
 pub returns-in_default-clause-performs : goal.returns-in_default-clause-performs
-returns-in_default-clause-performs c = sym (deactivate-none c.args.parts.now c.args.grain (sym c.find.ensures.number ∙ c.in_default.is))
+returns-in_default-clause-performs c = deactivate-idle (plain_of c.args.parts.now) c.args.grain new_grain (grain-new c.args.parts.now c.args.grain (sym c.find.ensures.number ∙ c.in_default.is)) refl
 
 pub returns-then-not-is_active-clause-performs : goal.returns-then-not-is_active-clause-performs
 returns-then-not-is_active-clause-performs c =
     let idle = ap (λ (a : PlainActivation). a.active) (sym c.at.ensures.activation) ∙ sym c.is_active.ensures ∙ c.if-not-is_active.true in
-    sym (deactivate-idle c.args.parts.now c.args.grain c.in-Some.number (sym c.find.ensures.number ∙ c.in-Some.is) idle)
+    deactivate-idle (plain_of c.args.parts.now) c.args.grain _ (grain-found c.args.parts.now c.args.grain c.in-Some.number no_grain (sym c.find.ensures.number ∙ c.in-Some.is)) idle
 
 pub returns-clause-assembled : goal.returns-clause-assembled
 returns-clause-assembled c =

@@ -1,8 +1,11 @@
-use Rattle.std.proofs.Common.{length, arith}
-use Rattle.subscription_table.proofs.HandledLemmas.{past_within}
+use Rattle.std.proofs.Common.{◌<◌, length, arith}
+use Rattle.std.proofs.lemmas.List.Elements.{recursion_from_All}
+use Rattle.stream_ident.proofs.WordLemmas.{past_from-within}
 use Rattle.subscription_table.proofs.progress.ack.Goals as goal
 
 pub prove-unreachable-requires : goal.prove-unreachable-requires
 prove-unreachable-requires c =
-    let within = past_within 0 (length c.args.queue.now.events) c.args.state.now.handled (omega arith) c.requires in
+    let size = length c.args.queue.now.events in
+    let handled = c.args.state.now.handled in
+    let within = past_from-within 0 size handled (omega arith) (recursion_from_All (λ position. position < size) handled c.requires) in
     omega (arith, within, c.past.ensures, c.if-prove.true, c.len.ensures.count)

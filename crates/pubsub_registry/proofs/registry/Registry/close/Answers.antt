@@ -1,5 +1,5 @@
-use Rattle.pubsub_registry.proofs.SoundLemmas.{sound-shut}
+use Rattle.pubsub_registry.proofs.SoundLemmas.{sound-closed}
 use Rattle.pubsub_registry.proofs.registry.Registry.close.Goals as goal
 
 pub invariant_of-self : goal.invariant_of-self
-invariant_of-self c = sound-shut _ c.self.invariant c.shut.new.self c.args.sub.now c.shut.ensures
+invariant_of-self c = sound-closed _ c.self.invariant c.close.new.self c.args.sub.now c.close.ensures

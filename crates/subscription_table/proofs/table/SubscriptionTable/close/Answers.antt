@@ -1,7 +1,7 @@
 use Rattle.std.proofs.Common.{◌≡◌, ◌∙◌, ◌<◌, length, refl, ap, arith}
 use Rattle.consumer_grain.specs.Subscriptions.{closed}
 use Rattle.subscription_table.specs.Table.{PlainTable, state_at}
-use Rattle.subscription_table.proofs.CloseLemmas.{close-is, refused-is, shuts, table-shut}
+use Rattle.subscription_table.proofs.CloseLemmas.{close-is, refused-is, names-closed, table-closed}
 use Rattle.subscription_table.proofs.LeafLemmas.{Entry}
 use Rattle.subscription_table.proofs.LookLemmas.{leaf-within, state-read}
 use Rattle.subscription_table.proofs.table.SubscriptionTable.close.Goals as goal
@@ -18,8 +18,8 @@ invariant_of-self c =
     let entry : Entry = (c.at.result.0.now, c.at.result.1.now) in
     let closes : c.close.new.self ≡ closed (state_at t number) =
     c.close.ensures ∙ ap closed (state-read t t c.self.inside.tags.items c.self.inside.resumes c.self.invariant refl number within c.index_mut.result.now c.index_mut.ensures.value) in
-    table-shut t c.self.inside.tags.items c.self.inside.resumes c.self.invariant number within c.len.ensures.unique c.close-closing.new.self
-    (shuts t t refl number c.close-closing.new.self c.close-closing.result entry c.at.ensures c.close-closing.ensures c.in-Done.is)
+    table-closed t c.self.inside.tags.items c.self.inside.resumes c.self.invariant number within c.len.ensures.unique c.close-closing.new.self
+    (names-closed t t refl number c.close-closing.new.self c.close-closing.result entry c.at.ensures c.close-closing.ensures c.in-Done.is)
     c.close.new.self c.index.result.now closes c.index.ensures c.refresh.new.resumes c.refresh.ensures
 
 pub returns-in-Done : goal.returns-in-Done

@@ -1,8 +1,9 @@
--- The first that passes, by its place.
-use Rattle.std.proofs.Common.{◌≡◌, ◌∙◌, ap, refl, ℕ, zero, suc, ◌+◌, ◌<◌, Bool, true, false, List, [], ◌∷◌, length, get_or, Option, Some, None, arith}
+-- The first element that passes, by its place.
+use Rattle.std.proofs.Common.{◌≡◌, ◌∙◌, ◌+◌, ◌<◌, ◌∷◌, ap, subst, refl, ℕ, zero, suc, Bool, true, false, List, [], length, get_or, Option, Some, None, arith}
 use Rattle.std.specs.Prelude.{if◌then◌else◌}
-use Rattle.stream_ident.specs.Words.{first_at}
+use Rattle.stream_ident.specs.Words.{first_at, place_of}
 
+-- the place of the first element that passes
 pub first_at-there : {A : Type 0} (passes : A → Bool) (n : ℕ) (xs : List A) (d : A) (i : ℕ) → i < length xs → passes (get_or xs i d) ≡ true → ((j : ℕ) → j < i → passes (get_or xs j d) ≡ false) → first_at passes n xs ≡ Some (n + i)
 first_at-there passes n [] d i within is before = absurd (omega arith)
 first_at-there passes n (x ∷ xs) d zero within is before = let same : n ≡ n + 0 = omega arith in rw is (ap {B = Option ℕ} Some same)
@@ -11,13 +12,14 @@ first_at-there passes n (x ∷ xs) d (suc i) within is before =
     let same : suc n + i ≡ n + suc i = omega arith in
     rw here (first_at-there passes (suc n) xs d i (omega arith) is (λ j less. before (suc j) (omega arith)) ∙ ap {B = Option ℕ} Some same)
 
+-- where no element passes, there is none
 pub first_at-nowhere : {A : Type 0} (passes : A → Bool) (n : ℕ) (xs : List A) (d : A) → ((j : ℕ) → j < length xs → passes (get_or xs j d) ≡ false) → first_at passes n xs ≡ None
 first_at-nowhere passes n [] d none = refl
 first_at-nowhere passes n (x ∷ xs) d none =
     let here : passes x ≡ false = none 0 (omega arith) in
     rw here (first_at-nowhere passes (suc n) xs d (λ j less. none (suc j) (omega arith)))
 
--- where it was found
+-- an element is found at its place, passes, and none before it does
 pub record IsFirst {A : Type 0} (passes : A → Bool) (n : ℕ) (xs : List A) (d : A) (found : ℕ) : Type 0 where
   pub place : ℕ
   pub at : found ≡ n + place
@@ -25,6 +27,7 @@ pub record IsFirst {A : Type 0} (passes : A → Bool) (n : ℕ) (xs : List A) (d
   pub is : passes (get_or xs place d) ≡ true
   pub before : (j : ℕ) → j < place → passes (get_or xs j d) ≡ false
 
+-- the one that is found is the first that passes
 pub first_at-Some : {A : Type 0} (passes : A → Bool) (n : ℕ) (xs : List A) (d : A) (found : ℕ) → first_at passes n xs ≡ Some found → IsFirst passes n xs d found
 first_at-Some passes n [] d found e = absurd (cc)
 first_at-Some {A} passes n (x ∷ xs) d found e = by (passes x) refl e (λ later. first_at-Some passes (suc n) xs d found later)
@@ -41,6 +44,7 @@ first_at-Some {A} passes n (x ∷ xs) d found e = by (passes x) refl e (λ later
         let first = rest e in
         record { place = suc first.place; at = omega (arith, first.at); within = omega (arith, first.within); is = first.is; before = past is first }
 
+-- where none is found, no element passes
 pub first_at-None : {A : Type 0} (passes : A → Bool) (n : ℕ) (xs : List A) (d : A) → first_at passes n xs ≡ None → (j : ℕ) → j < length xs → passes (get_or xs j d) ≡ false
 first_at-None passes n [] d e j within = absurd (omega arith)
 first_at-None {A} passes n (x ∷ xs) d e j within = by (passes x) refl e (λ later. first_at-None passes (suc n) xs d later) j within
@@ -50,3 +54,10 @@ first_at-None {A} passes n (x ∷ xs) d e j within = by (passes x) refl e (λ la
     by true is e rest j within = absurd (cc)
     by false is e rest zero within = is
     by false is e rest (suc j) within = rest e j (omega arith)
+
+-- the entry at the place of a key has the key
+pub place_of-key : {K V : Type 0} (same : K → K → Bool) (key : K) (entries : List (K × V)) (d : K × V) (i : ℕ) → place_of same key entries ≡ Some i → same key (get_or entries i d).0 ≡ true
+place_of-key {K} {V} same key entries d i found =
+    let first = first_at-Some (λ (entry : K × V). same key entry.0) 0 entries d i found in
+    let place : first.place ≡ i = omega (arith, first.at) in
+    subst (λ (n : ℕ). same key (get_or entries n d).0 ≡ true) place first.is
