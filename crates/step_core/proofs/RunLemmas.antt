@@ -1,12 +1,10 @@
 -- Operations one after another, and one more.
-use Rattle.std.proofs.Common.{◌≡◌, List, [], ◌∷◌, ◌++◌, length, take, refl, sym, ap, ◌∙◌, append_assoc, arith, length-append, subst}
-use Rattle.std.proofs.lemmas.List.{take-append-le}
-use Rattle.std.proofs.Math.Seq.{take-length}
+use Rattle.std.proofs.Common.{◌≡◌, ◌<◌, List, [], ◌∷◌, ◌++◌, length, refl, sym, ap, ◌∙◌, append_assoc, append-nil, arith, inl}
 use Rattle.stream_model.specs.declared.op.Op.{Op}
 use Rattle.stream_model.specs.declared.plain.PlainPartition.{PlainPartition}
 use Rattle.stream_model.specs.declared.reply.Reply.{Reply}
 use Rattle.stream_model.specs.Step.{step, after_steps, replies_of}
-use Rattle.step_core.specs.Run.{Does, DoesFront}
+use Rattle.step_core.specs.Run.{Does, StopsBefore}
 
 after_steps-more : (p : PlainPartition) (ops : List Op) (op : Op) → after_steps p (ops ++ op ∷ []) ≡ (step (after_steps p ops) op).0
 after_steps-more p [] op = refl
@@ -28,13 +26,14 @@ Does-more done op old mid new before after told so_far is_step = record {
       ∙ ap (λ replies. before ++ replies) (sym (replies_of-more old done op));
 }
 
--- what is done is a front of all
-pub Does-front : (ops done rest : List Op) (old new : PlainPartition) (before after : List Reply)
-    → ops ≡ done ++ rest → Does done old new before after → DoesFront ops old new before after
-Does-front ops done rest old new before after whole so_far =
-    let front : take (length done) ops ≡ done =
-    ap (take (length done)) whole ∙ take-append-le (length done) done rest (omega arith) ∙ take-length done in (
-      length done,
-      omega (arith, ap length whole, length-append done rest),
-      subst (λ list. Does list old new before after) (sym front) so_far,
-    )
+-- nothing is done, for want of room for the replies
+pub stops-at-once : (ops : List Op) (p : PlainPartition) (replies : List Reply) → 0 < length ops → StopsBefore ops p p replies replies
+stops-at-once [] p replies some = absurd (omega (arith, some))
+stops-at-once (op ∷ ops) p replies some = record {
+  done = [];
+  next = op;
+  rest = ops;
+  ops_are = refl;
+  does = record { state = refl; replies = sym (append-nil replies) };
+  wants = inl refl;
+}

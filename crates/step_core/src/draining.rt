@@ -1,8 +1,11 @@
 //! A drain of a partition: operations, one after another, until nothing is left to do.
-ghost use Rattle.std.specs.Prelude.{◌≡◌, List};
+ghost use Rattle.std.specs.Prelude.{◌≡◌, List, None, OnErr};
 ghost use Rattle.stream_ident.specs.declared.event.Event.{Event};
 ghost use Rattle.stream_model.specs.declared.op.Op.TheVariants.{Commit, Deliver, Pull};
 ghost use Rattle.stream_model.specs.Draining.{acknowledge, after_begin, after_commit, ask, deliver_once_more, drain_all, drain_round, empty_mailboxes, last_handled, next_note, serve, serve_each, take_turn, DrainsTo, deliver_up_to};
+ghost use Rattle.stream_ident.specs.Name.{grain_lt};
+ghost use Rattle.stream_ident.specs.Words.{keys_where, least};
+ghost use Rattle.stream_model.specs.Looks.{is_running};
 ghost use Rattle.stream_model.specs.Positions.{sub_at};
 ghost use Rattle.step_core.specs.declared.draining.Stop.TheVariants.{Memory};
 ghost use Rattle.step_core.specs.DrainPhases.{Asks, Follows, deliver_told, is_acknowledged, is_committed, is_nothing, pull_told};
@@ -53,10 +56,12 @@ impl Partition {
     /// turn is one more than that before. Nothing is done where a turn runs.
     ///
     /// # Errors
-    /// The call failed to allocate. The first of the operations are done, and no other; a turn that was begun
-    /// may run then, and the next drain is stuck until it is committed or its grain deactivated.
+    /// The call failed to allocate, which it never does where a turn runs. The first of the operations are
+    /// done, and no other; a turn that was begun may run then, and the next drain is stuck until it is
+    /// committed or its grain deactivated.
     pub fn drain(&mut self, alloc: Global) -> Result<DrainEnd, AllocError>
         ensures drains { DrainsTo self.old self.new result }
+        ensures memory { OnErr result (least grain_lt (keys_where is_running self.old.grains) ≡ None) }
     {
         if let Some(grain) = self.least_running() {
             return Ok(DrainEnd::Stuck { grain });
@@ -98,7 +103,7 @@ fn pull_next(partition: &mut Partition, alloc: Global) -> Result<bool, Stop>
 {
     let generation = partition.generation();
     let max = PULL_MAX;
-    let outcome = partition.advance(alloc, Op::Pull { generation, max })?;
+    let outcome = partition.advance(alloc, &Op::Pull { generation, max })?;
     is_pulled(&outcome)
 }
 
@@ -191,7 +196,7 @@ fn deliver_next(partition: &mut Partition, alloc: Global, sub: &SubName) -> Resu
 {
     let generation = partition.generation();
     let sub = *sub;
-    let outcome = partition.advance(alloc, Op::Deliver { generation, sub })?;
+    let outcome = partition.advance(alloc, &Op::Deliver { generation, sub })?;
     is_delivered(&outcome)
 }
 
@@ -215,7 +220,7 @@ fn take_turn(partition: &mut Partition, alloc: Global, grain: &GrainId) -> Resul
         grain: *grain,
         max: 1,
     };
-    let outcome = partition.advance(alloc, begin)?;
+    let outcome = partition.advance(alloc, &begin)?;
     follow_begin(partition, alloc, grain, &outcome)
 }
 
@@ -263,7 +268,7 @@ fn end_turn(
         turn,
         note,
     };
-    let outcome = partition.advance(alloc, commit)?;
+    let outcome = partition.advance(alloc, &commit)?;
     if !is_committed(&outcome) {
         return Err(Stop::Astray);
     }
@@ -290,7 +295,7 @@ fn acknowledge(partition: &mut Partition, alloc: Global, sub: &SubName) -> Resul
         sub: *sub,
         token,
     };
-    let outcome = partition.advance(alloc, ack)?;
+    let outcome = partition.advance(alloc, &ack)?;
     if !is_acknowledged(&outcome) {
         return Err(Stop::Astray);
     }
@@ -310,7 +315,7 @@ fn deliver_once_more(partition: &mut Partition, alloc: Global, sub: &SubName) ->
 {
     let generation = partition.generation();
     let sub = *sub;
-    let outcome = partition.advance(alloc, Op::Deliver { generation, sub })?;
+    let outcome = partition.advance(alloc, &Op::Deliver { generation, sub })?;
     if !is_nothing(&outcome) {
         return Err(Stop::Astray);
     }

@@ -3,14 +3,14 @@ ghost use Rattle.std.specs.Prelude.{◌≡◌, ◌≤◌, true, length, IfOk, On
 ghost use Rattle.std.specs.Option.{option_map};
 ghost use Rattle.stream_ident.specs.Name.{grain_lt};
 ghost use Rattle.stream_ident.specs.Words.{keys_where, least, Performs};
-ghost use Rattle.stream_model.specs.Bounds.{AreLimits};
+ghost use Rattle.stream_model.specs.Bounds.{AreLimits, IsWithinLimits};
 ghost use Rattle.stream_model.specs.Draining.{all_waiting, last_handled, least_waiting, open_names};
 ghost use Rattle.stream_model.specs.Looks.{is_running, pending_in};
 ghost use Rattle.stream_model.specs.Positions.{empty, high_token, low_token, sub_at};
 ghost use Rattle.stream_model.specs.Step.{step, takes_memory, IsReached};
 ghost use Rattle.step_core.specs.Reads.{handled_of, summaries_in_order};
 ghost use Rattle.step_core.specs.Replied.{answered, IsOfLog};
-ghost use Rattle.step_core.specs.Run.{Does, DoesFront};
+ghost use Rattle.step_core.specs.Run.{Does, StopsBefore};
 ghost use Rattle.step_core.specs.Serving.{served_of};
 
 use crate::draining::Served;
@@ -85,6 +85,18 @@ impl Partition {
         ensures performs { Performs self.old self.new result (step self.old op) }
         ensures memory { OnErr result (takes_memory (step self.old op).1 ≡ true) }
     {
+        self.apply(alloc, &op)
+    }
+
+    /// Does one operation that is lent, as `step` does it. The payloads of a batch are copied once, into the
+    /// log.
+    ///
+    /// # Errors
+    /// They are those of `step`.
+    pub fn apply(&mut self, alloc: Global, op: &Op) -> Result<Reply, AllocError>
+        ensures performs { Performs self.old self.new result (step self.old op.now) }
+        ensures memory { OnErr result (takes_memory (step self.old op.now).1 ≡ true) }
+    {
         let outcome = self.advance(alloc, op)?;
         Ok(outcome.reply(&self.parts.queue))
     }
@@ -92,7 +104,9 @@ impl Partition {
     /// Does the operations in order, and appends their replies.
     ///
     /// # Errors
-    /// The call failed to allocate. The operations whose replies were appended are done, and no other.
+    /// The call failed to allocate. The operations whose replies were appended are done, and no other. It
+    /// comes in front of an operation that is not yet done: of the first one, where there is no room for all
+    /// replies, or of one for which `step` would fail to allocate.
     pub fn run(
         &mut self,
         alloc: Global,
@@ -100,13 +114,16 @@ impl Partition {
         replies: &mut Vec<Reply>,
     ) -> Result<(), AllocError>
         ensures done { OnOk result (Does ops.items self.old self.new replies.old.items replies.new.items) }
-        ensures front { DoesFront ops.items self.old self.new replies.old.items replies.new.items }
+        ensures front { OnErr result (StopsBefore ops.items self.old self.new replies.old.items replies.new.items) }
     {
+        if ops.is_empty() {
+            return Ok(());
+        }
         replies.reserve(ops.len())?;
         ops.reverse();
         while let Some(op) = ops.pop() {
             let reply = self.step(alloc, op)?;
-            replies.push(reply)?;
+            replies.push_reserved(reply);
         }
         Ok(())
     }
@@ -115,16 +132,26 @@ impl Partition {
     ///
     /// # Errors
     /// They are those of `step`.
-    pub(crate) fn advance(&mut self, alloc: Global, op: Op) -> Result<Outcome, AllocError>
-        ensures performs { Performs self.old self.new (answered self.new.log result) (step self.old op) }
+    pub(crate) fn advance(&mut self, alloc: Global, op: &Op) -> Result<Outcome, AllocError>
+        ensures performs { Performs self.old self.new (answered self.new.log result) (step self.old op.now) }
         ensures of_log { IfOk result (IsOfLog self.new.log) }
-        ensures memory { OnErr result (takes_memory (step self.old op).1 ≡ true) }
+        ensures memory { OnErr result (takes_memory (step self.old op.now).1 ≡ true) }
     {
         let outcome = step(&mut self.parts, alloc, op);
         // A table promises with its length that no number is given twice, and that its rows agree. That is
         // asked here, once for all operations: each starts from parts that `Agrees` speaks of.
         let _lengths = (self.parts.subs.len(), self.parts.grains.len());
         outcome
+    }
+
+    /// The limits that the partition was made with. Its events, subscriptions, rules and rises are never
+    /// more, and a legal history leads to it, so that each law of [`laws`](crate::laws) holds of it.
+    pub fn limits(&self) -> Limits
+        ensures limits { result ≡ self.now.limits }
+        ensures within { IsWithinLimits self.now }
+        ensures reached { IsReached self.now }
+    {
+        self.parts.limits
     }
 
     /// The generation of the current pulling agent.

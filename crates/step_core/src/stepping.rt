@@ -20,17 +20,18 @@ use std::alloc::{AllocError, Global};
 use stream_model::Op;
 
 /// Does one operation on the parts of a partition.
-pub(crate) fn step(parts: &mut Parts, alloc: Global, op: Op) -> Result<Outcome, AllocError>
+pub(crate) fn step(parts: &mut Parts, alloc: Global, op: &Op) -> Result<Outcome, AllocError>
     requires { Agrees parts.old }
     ensures assembled { IsAssembled parts.new }
-    ensures performs { Performs (plain_of parts.old) (plain_of parts.new) (answered parts.new.queue.events result) (step (plain_of parts.old) op) }
+    ensures performs { Performs (plain_of parts.old) (plain_of parts.new) (answered parts.new.queue.events result) (step (plain_of parts.old) op.now) }
     ensures of_log { IfOk result (IsOfLog parts.new.queue.events) }
-    ensures memory { OnErr result (takes_memory (step (plain_of parts.old) op).1 ≡ true) }
+    ensures memory { OnErr result (takes_memory (step (plain_of parts.old) op.now).1 ≡ true) }
 {
-    match op {
-        Op::Publish { stream, payloads } => {
-            Ok(Outcome::Told(publish(parts, alloc, stream, &payloads)?))
-        }
+    match *op {
+        Op::Publish {
+            stream,
+            ref payloads,
+        } => Ok(Outcome::Told(publish(parts, alloc, stream, payloads)?)),
         Op::Subscribe {
             stream,
             grain,

@@ -1,8 +1,11 @@
-use Rattle.std.proofs.Common.{◌≡◌, ℕ, take, ◌≤◌, List, [], ◌∷◌, ◌++◌, reverse, length, sym, ap, ◌∙◌, append_assoc, subst, arith, length-append}
+use Rattle.std.proofs.Common.{◌≡◌, List, [], ◌∷◌, ◌++◌, ◌<◌, reverse, length, refl, sym, ap, ◌∙◌, append_assoc, subst, arith, length-append, inl, inr, true}
+use Rattle.std.proofs.lemmas.Bool.{eqb-false}
 use Rattle.std.proofs.lemmas.List.{reverse-append}
 use Rattle.stream_model.specs.declared.op.Op.{Op}
-use Rattle.step_core.specs.Run.{Does}
-use Rattle.step_core.proofs.RunLemmas.{Does-more, Does-front}
+use Rattle.stream_model.specs.Step.{step, takes_memory}
+use Rattle.step_core.specs.Run.{Does, StopsBefore}
+use Rattle.stream_model.proofs.Committing.{OnErr-since}
+use Rattle.step_core.proofs.RunLemmas.{Does-more, stops-at-once}
 use Rattle.step_core.proofs.partition.Partition.run.Goals as goal
 
 pub loop-op-preserved : goal.loop-op-preserved
@@ -17,12 +20,28 @@ loop-op-preserved c =
     so_far.1 ∙ ap (λ left. done ++ left) reversed ∙ sym (append_assoc done (op ∷ []) (reverse rest)) in
     let does : Does (done ++ op ∷ []) c.args.self.now c.step.new.self c.args.replies.now.items (c.loop-op.replies.items ++ c.in_ok-reply.reply ∷ []) =
     Does-more done op c.args.self.now c.loop-op.self c.step.new.self c.args.replies.now.items c.loop-op.replies.items c.in_ok-reply.reply so_far.2 c.in_ok-reply.ensures.performs in (
-      (done ++ op ∷ [], whole, subst (λ replies. Does (done ++ op ∷ []) c.args.self.now c.step.new.self c.args.replies.now.items replies) (sym c.in_ok-push.ensures.items) does),
-      omega (arith, ap length c.in_ok-push.ensures.items, length-append c.loop-op.replies.items (c.in_ok-reply.reply ∷ []), c.in-Some.ensures.len, c.push.ensures.capacity, c.loop-op.invariant.1),
+      (done ++ op ∷ [], whole, subst (λ replies. Does (done ++ op ∷ []) c.args.self.now c.step.new.self c.args.replies.now.items replies) (sym c.push_reserved.ensures.items) does),
+      omega (arith, ap length c.push_reserved.ensures.items, length-append c.loop-op.replies.items (c.in_ok-reply.reply ∷ []), c.in-Some.ensures.len, c.push_reserved.ensures.capacity, c.loop-op.invariant.1),
     )
 
 pub returns-in_err-reply-clause-front : goal.returns-in_err-reply-clause-front
 returns-in_err-reply-clause-front c =
     let so_far = c.loop-op.invariant.0 in
-    subst (λ p. (count : ℕ) × (count ≤ length c.args.ops.items) × Does (take count c.args.ops.items) c.args.self.now p c.args.replies.now.items c.loop-op.replies.items) (sym c.in_err-reply.ensures.performs)
-    (Does-front c.args.ops.items so_far.0 (reverse c.loop-op.ops.items) c.args.self.now c.loop-op.self c.args.replies.now.items c.loop-op.replies.items so_far.1 so_far.2)
+    let op = c.in-Some.op in
+    let reversed : reverse c.loop-op.ops.items ≡ op ∷ reverse c.pop.new.self.items =
+    ap reverse c.in-Some.ensures.items ∙ reverse-append c.pop.new.self.items (op ∷ []) in
+    OnErr-since c.from_residual-in_err-reply.result (StopsBefore c.args.ops.items c.args.self.now c.step.new.self c.args.replies.now.items c.loop-op.replies.items) (record {
+      done = so_far.0;
+      next = op;
+      rest = reverse c.pop.new.self.items;
+      ops_are = so_far.1 ∙ ap (λ left. so_far.0 ++ left) reversed;
+      does = subst (λ p. Does so_far.0 c.args.self.now p c.args.replies.now.items c.loop-op.replies.items) (sym c.in_err-reply.ensures.performs) so_far.2;
+      wants = inr (subst (λ p. takes_memory (step p op).1 ≡ true) (sym c.in_err-reply.ensures.performs) c.in_err-reply.ensures.memory);
+    })
+
+pub returns-in_err-reserve-clause-front : goal.returns-in_err-reserve-clause-front
+returns-in_err-reserve-clause-front c =
+    let some : 0 < length c.args.ops.items = omega (arith, eqb-false _ _ (sym c.if-is_empty.ensures)) in
+    OnErr-since c.from_residual.result (StopsBefore c.args.ops.items c.args.self.now c.args.self.now c.args.replies.now.items c.reserve.new.self.items)
+    (subst (λ replies. StopsBefore c.args.ops.items c.args.self.now c.args.self.now c.args.replies.now.items replies) (sym c.reserve.ensures.items)
+    (stops-at-once c.args.ops.items c.args.self.now c.args.replies.now.items some))
