@@ -8,11 +8,11 @@ use Rattle.stream_ident.specs.declared.event.Event.{Event}
 use Rattle.stream_ident.specs.declared.ident.StreamId.{StreamId}
 use Rattle.stream_ident.specs.declared.token.Token.{Token}
 use Rattle.stream_ident.specs.Event.{is_owed, no_event}
-use Rattle.stream_ident.specs.Name.{same_stream}
 use Rattle.stream_ident.specs.Words.{first_at}
 use Rattle.queue_mapper.specs.Place.{tag_of}
 use Rattle.queue_cache.specs.Cache.{tags_of}
 use Rattle.tag_scan.specs.Tags.{IsAbsentBetween}
+use Rattle.stream_ident.specs.Name.{same_stream}
 use Rattle.stream_ident.proofs.FirstLemmas.{first_at-nowhere, first_at-there}
 use Rattle.cache_cursor.specs.Seek.{NoneBetween, IsFirst, NoneMarked}
 use Rattle.stream_ident.proofs.SameValues.{same_stream-equal}

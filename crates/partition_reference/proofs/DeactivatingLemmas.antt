@@ -8,10 +8,10 @@ use Rattle.stream_model.specs.declared.plain.PlainPartition.{PlainPartition}
 use Rattle.stream_model.specs.declared.plain.Subscription.{Subscription}
 use Rattle.stream_model.specs.declared.reply.Reply.{Reply}
 use Rattle.stream_model.specs.declared.reply.Reply.TheVariants as reply
-use Rattle.stream_model.specs.Positions.{grain_at}
 use Rattle.stream_model.specs.Pulling.{rewound_where}
 use Rattle.stream_model.specs.Turns.{deactivate, deactivate_in, deactivated, running_count}
 use Rattle.stream_ident.specs.Words.{each_value, with_value}
+use Rattle.stream_model.specs.Positions.{grain_at}
 
 -- the grain's record decides
 deactivate-at : (p : PlainPartition) (g : GrainId) (st : Grain) → grain_at p g ≡ st → deactivate p g ≡ (if not st.active then (p, reply.NotActive) else (deactivated p g st, reply.Deactivated (length st.mailbox + running_count st.running)))

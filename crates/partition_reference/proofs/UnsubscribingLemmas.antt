@@ -2,7 +2,6 @@
 use Rattle.std.proofs.Common.{◌≡◌, ℕ, true, false, not, List, Option, Some, if◌then◌else◌, length, sym, ap, ◌∙◌}
 use Rattle.stream_ident.specs.declared.ident.GrainId.{GrainId}
 use Rattle.stream_ident.specs.declared.ident.SubName.{SubName}
-use Rattle.stream_ident.specs.declared.ident.SubName.TheVariants.{Explicit}
 use Rattle.stream_ident.specs.Name.{same_grain}
 use Rattle.stream_ident.specs.SubName.{same_sub}
 use Rattle.stream_model.specs.declared.plain.Grain.{Grain}
@@ -13,6 +12,7 @@ use Rattle.stream_model.specs.declared.reply.Reply.TheVariants as reply
 use Rattle.stream_model.specs.Positions.{sub_at}
 use Rattle.stream_model.specs.Publishing.{unsubscribe, unsubscribe_from, unsubscribed, without}
 use Rattle.stream_ident.specs.Words.{changed_value, with_value}
+use Rattle.stream_ident.specs.declared.ident.SubName.TheVariants.{Explicit}
 
 -- the name's record decides
 unsubscribe-at : (p : PlainPartition) (s : SubName) (found : Option Subscription) → sub_at p s ≡ found → unsubscribe p s ≡ unsubscribe_from p s found

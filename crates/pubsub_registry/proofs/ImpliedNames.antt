@@ -12,11 +12,11 @@ use Rattle.stream_ident.specs.Name.{same_name, same_stream}
 use Rattle.stream_ident.specs.Token.{token_lt}
 use Rattle.stream_ident.specs.Implying.{added}
 use Rattle.stream_ident.proofs.NewNames.{has, has-append, has-cons, has-fold}
+use Rattle.stream_ident.proofs.SameValues.{same_stream-equal, same_stream-refl}
 use Rattle.pubsub_registry.specs.Implying.{all_implied, implied, made, makes_any, names_with}
 use Rattle.pubsub_registry.specs.Registry.{registered}
 use Rattle.pubsub_registry.specs.declared.registration.Registration.{Registration}
 use Rattle.pubsub_registry.proofs.Entries.{Names}
-use Rattle.stream_ident.proofs.SameValues.{same_stream-equal, same_stream-refl}
 use Rattle.pubsub_registry.proofs.RuleLemmas.{on}
 
 abbrev pub entry : Event → Rule → SubName × Registration

@@ -1,5 +1,5 @@
 -- What a line is: the command that it reads as, or the first step of the table of faults that holds of it.
-use Rattle.std.specs.Prelude.{◌≡◌, ℕ, ◌<◌, Bool, false, ◌&&◌, ◌||◌, List, [], ◌∷◌, Option, Some, None, Result, Ok, Err, ◌==◌, nat_le, ⊤, if◌then◌else◌}
+use Rattle.std.specs.Prelude.{◌≡◌, ℕ, ◌<◌, Bool, false, ◌||◌, List, [], ◌∷◌, Option, Some, None, Result, Ok, Err, ◌==◌, ⊤, if◌then◌else◌}
 use Rattle.std.specs.List.{list_all}
 use Rattle.stream_ident.specs.Name.{◌>>=◌}
 use Rattle.stream_ident.specs.Alphabet.{is_printable}

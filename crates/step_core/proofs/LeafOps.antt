@@ -1,5 +1,5 @@
 -- The slowest subscription and those that are due, by their leaves.
-use Rattle.std.proofs.Common.{◌≡◌, ◌∙◌, ap, refl, ℕ, min, Bool, true, false, ◌&&◌, ◌||◌, List, [], ◌∷◌, map, filter, Option, Some, None, nat_lt, arith}
+use Rattle.std.proofs.Common.{◌≡◌, ◌∙◌, ap, refl, ℕ, min, Bool, true, false, ◌&&◌, ◌||◌, List, [], ◌∷◌, map, filter, Option, Some, None, nat_lt, arith, is_some}
 use Rattle.std.specs.Prelude.{if◌then◌else◌, unwrap_or}
 use Rattle.stream_ident.specs.declared.ident.SubName.{SubName}
 use Rattle.stream_ident.specs.SubName.{sub_lt}
@@ -77,6 +77,6 @@ due-is parts after =
     same : (entry : SubName × Registration) (state : PlainState) → is_due (plain_of parts) (sub_of entry state).1 ≡ leaves.is_due (plain_of parts).high (leaf_of entry state)
     same entry state = by state.is_open
       where
-        by : (is_open : Bool) → (is_open && (is_unacknowledged state || nat_lt state.resume (plain_of parts).high)) ≡ (leaves.is_open (open_resume is_open state.resume) && (is_unacknowledged state || leaves.resumes_below (plain_of parts).high (open_resume is_open state.resume)))
+        by : (is_open : Bool) → (is_open && (is_unacknowledged state || nat_lt state.resume (plain_of parts).high)) ≡ (is_some (open_resume is_open state.resume) && (is_unacknowledged state || leaves.resumes_below (plain_of parts).high (open_resume is_open state.resume)))
         by true = refl
         by false = refl

@@ -34,6 +34,7 @@ number-of-name names j distinct within =
     ap (same_sub s) (sym (name-of-entry names i no_entry (omega (arith, before, within))))
     ∙ false_from_ne_true (same_sub s (name_at names i)) (λ same.
     let equal = distinct j i within (omega (arith, before, within)) same in absurd (omega (arith, before, equal))))
+    ∙ ap {B = Option ℕ} Some (omega arith)
   where
     s : SubName
     s = name_at names j

@@ -1,10 +1,9 @@
 -- What an agent plans to pull is what the plain pull does.
-use Rattle.std.proofs.Common.{◌≡◌, ◌∙◌, ap, sym, refl, ℕ, ◌+◌, ◌-◌, ◌*◌, ◌/◌, min, Bool, true, false, ◌&&◌, List, [], ◌∷◌, length, map, filter, Option, Some, None, ◌==◌, arith}
+use Rattle.std.proofs.Common.{◌≡◌, ◌∙◌, ap, sym, refl, ℕ, ◌+◌, ◌-◌, ◌*◌, ◌/◌, min, Bool, true, false, ◌&&◌, List, [], ◌∷◌, length, map, filter, Option, Some, None, ◌==◌, arith, not}
 use Rattle.std.specs.Prelude.{if◌then◌else◌, unwrap_or, Ok, Err}
 use Rattle.stream_ident.specs.declared.ident.SubName.{SubName}
 use Rattle.stream_ident.specs.declared.ident.SubName.TheVariants as name
 use Rattle.stream_ident.specs.SubName.{sub_lt}
-use Rattle.stream_ident.specs.Words.{keys_where, least}
 use Rattle.stream_model.specs.declared.plain.PlainPartition.{PlainPartition}
 use Rattle.stream_model.specs.declared.plain.Subscription.{Subscription}
 use Rattle.stream_model.specs.declared.reply.Reply.{Reply}
@@ -22,6 +21,7 @@ use Rattle.queue_cache.specs.Cache as cache
 use Rattle.resume_tree.specs.declared.leaf.Leaf.{Leaf}
 use Rattle.resume_tree.specs.Leaves as leaves
 use Rattle.subscription_table.specs.LeavesOf.{leaf_of, leaves_of, open_resume}
+use Rattle.stream_ident.specs.Words.{keys_where, least, has_number}
 use Rattle.stream_model.proofs.Refusals.{pull-stale}
 use Rattle.step_core.specs.declared.parts.Parts.{Parts}
 use Rattle.step_core.specs.PlainOf.{plain_of}
@@ -34,17 +34,17 @@ use Rattle.stream_ident.specs.Blocks.{pull_size}
 -- ---- the slowest subscription
 
 -- where nothing is open, none has a resume
-none-open : (resume : ℕ) (all : List Leaf) → leaves.least_resume all ≡ None → leaves.names_where (λ leaf. leaves.has_resume resume leaf.resume) all ≡ []
+none-open : (resume : ℕ) (all : List Leaf) → leaves.least_resume all ≡ None → leaves.names_where (λ leaf. has_number resume leaf.resume) all ≡ []
 none-open resume [] none = refl
 none-open resume (leaf ∷ all) none = by leaf.resume (leaves.least_resume all) none (none-open resume all)
   where
-    by : (own least : Option ℕ) → lesser_key own least ≡ None → (least ≡ None → leaves.names_where (λ leaf. leaves.has_resume resume leaf.resume) all ≡ [])
-        → map (λ (leaf : Leaf). leaf.name) (if leaves.has_resume resume own then leaf ∷ filter (λ (leaf : Leaf). leaves.has_resume resume leaf.resume) all else filter (λ (leaf : Leaf). leaves.has_resume resume leaf.resume) all) ≡ []
+    by : (own least : Option ℕ) → lesser_key own least ≡ None → (least ≡ None → leaves.names_where (λ leaf. has_number resume leaf.resume) all ≡ [])
+        → map (λ (leaf : Leaf). leaf.name) (if has_number resume own then leaf ∷ filter (λ (leaf : Leaf). has_number resume leaf.resume) all else filter (λ (leaf : Leaf). has_number resume leaf.resume) all) ≡ []
     by None least none rest = rest none
     by (Some key) None none rest = absurd (cc)
     by (Some key) (Some other) none rest = absurd (cc)
 
-at-resume : (resume : ℕ) (names : List (SubName × Registration)) (states : List PlainState) → keys_where (is_open_at resume) (subs_of names states) ≡ leaves.names_where (λ leaf. leaves.has_resume resume leaf.resume) (leaves_of names states)
+at-resume : (resume : ℕ) (names : List (SubName × Registration)) (states : List PlainState) → keys_where (is_open_at resume) (subs_of names states) ≡ leaves.names_where (λ leaf. has_number resume leaf.resume) (leaves_of names states)
 at-resume resume [] states = refl
 at-resume resume (entry ∷ names) [] = refl
 at-resume resume (entry ∷ names) (state ∷ states) = by state.is_open (at-resume resume names states)
@@ -53,10 +53,10 @@ at-resume resume (entry ∷ names) (state ∷ states) = by state.is_open (at-res
     later = filter (λ (e : SubName × Subscription). is_open_at resume e.1) (subs_of names states)
 
     behind : List Leaf
-    behind = filter (λ (leaf : Leaf). leaves.has_resume resume leaf.resume) (leaves_of names states)
+    behind = filter (λ (leaf : Leaf). has_number resume leaf.resume) (leaves_of names states)
 
     Rest : Type 0
-    Rest = keys_where (is_open_at resume) (subs_of names states) ≡ leaves.names_where (λ leaf. leaves.has_resume resume leaf.resume) (leaves_of names states)
+    Rest = keys_where (is_open_at resume) (subs_of names states) ≡ leaves.names_where (λ leaf. has_number resume leaf.resume) (leaves_of names states)
 
     pick : (passes : Bool) → Rest → map (λ (e : SubName × Subscription). e.0) (if passes then sub_of entry state ∷ later else later) ≡ map (λ (leaf : Leaf). leaf.name) (if passes then leaf_of entry state ∷ behind else behind)
     pick true rest = ap (λ ns. entry.0 ∷ ns) rest
@@ -64,7 +64,7 @@ at-resume resume (entry ∷ names) (state ∷ states) = by state.is_open (at-res
 
     by : (is_open : Bool) → Rest
         → map (λ (e : SubName × Subscription). e.0) (if is_open && (state.resume == resume) then sub_of entry state ∷ later else later)
-        ≡ map (λ (leaf : Leaf). leaf.name) (if leaves.has_resume resume (open_resume is_open state.resume) then leaf_of entry state ∷ behind else behind)
+        ≡ map (λ (leaf : Leaf). leaf.name) (if has_number resume (open_resume is_open state.resume) then leaf_of entry state ∷ behind else behind)
     by false rest = rest
     by true rest = pick (state.resume == resume) rest
 
@@ -77,7 +77,7 @@ slowest-name-is parts =
     all : List Leaf
     all = leaves_of parts.subs.registry.names parts.subs.states
 
-    by : (o : Option ℕ) → leaves.least_resume all ≡ o → least sub_lt (leaves.names_where (λ leaf. leaves.has_resume (unwrap_or o (plain_of parts).high) leaf.resume) all) ≡ leaves.slowest_at o all
+    by : (o : Option ℕ) → leaves.least_resume all ≡ o → least sub_lt (leaves.names_where (λ leaf. has_number (unwrap_or o (plain_of parts).high) leaf.resume) all) ≡ leaves.slowest_at o all
     by None none = ap (λ names. least sub_lt names) (none-open (plain_of parts).high all none)
     by (Some resume) is = refl
 

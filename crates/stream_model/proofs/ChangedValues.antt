@@ -3,8 +3,8 @@ use Rattle.std.proofs.Common.{◌≡◌, ℕ, zero, suc, ◌+◌, Bool, true, fa
 use Rattle.std.proofs.lemmas.Bool.{cond_both}
 use Rattle.std.specs.List.{AllByRecursion}
 use Rattle.stream_ident.proofs.WordLemmas.{changed_value-none}
-use Rattle.stream_model.specs.Places.{change_at, place_of}
 use Rattle.stream_ident.specs.Words.{changed_value, first_at}
+use Rattle.stream_model.specs.Places.{change_at, place_of}
 use Rattle.stream_model.proofs.Lookups.{first_at-le, place_of-none}
 
 -- in a list whose first element has place n: a change at the key's place changes its value
