@@ -1,7 +1,7 @@
 use Rattle.std.proofs.Common.{◌<◌, ◌∙◌, ap, length, [], set, arith}
 use Rattle.circular_buffer.specs.Buffer.{buffer}
 use Rattle.queue_cache.proofs.RingLemmas.{set-emptied}
-use Rattle.queue_cache.proofs.ring.clear_blocks.Goals as goal
+use Rattle.queue_cache.proofs.cache.clear_blocks.Goals as goal
 
 pub loop-index-preserved : goal.loop-index-preserved
 loop-index-preserved c =
