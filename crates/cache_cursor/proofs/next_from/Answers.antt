@@ -5,7 +5,7 @@ use Rattle.stream_ident.specs.Event.{is_owed}
 use Rattle.queue_mapper.specs.Place.{tag_of}
 use Rattle.queue_cache.specs.Cache.{tags_of}
 use Rattle.cache_cursor.proofs.SeekLemmas.{hit, miss, untagged_in, none_then, none_tagged}
-use Rattle.cache_cursor.proofs.block.next_from.Goals as goal
+use Rattle.cache_cursor.proofs.next_from.Goals as goal
 
 -- the part of the tags that is searched
 searched : (events seen : List Event) (tags row : List ℕ) → seen ≡ events → row ≡ tags → take (length events) tags ≡ tags_of events → take (length seen) row ≡ tags_of events

@@ -4,7 +4,7 @@ use Rattle.std.proofs.lemmas.Nat.{shr_le}
 use Rattle.std.proofs.lemmas.Nat.Bits.{bit_at-zero, bit_at_above, bit_at-trailing_zeros}
 use Rattle.std.proofs.lemmas.Bool.{cases_lt}
 use Rattle.cache_cursor.specs.Seek.{IsNextMark}
-use Rattle.cache_cursor.proofs.block.next_mark.Goals as goal
+use Rattle.cache_cursor.proofs.next_mark.Goals as goal
 
 -- a bit of a number that is shifted
 bit_at-shr : (marks from place : ℕ) → from ≤ place → bit_at marks place ≡ bit_at (marks / 2 ^ from) (place - from)
