@@ -1,5 +1,5 @@
 use Rattle.least_tree.proofs.TreeLemmas.{IsClimbed}
-use Rattle.least_tree.proofs.nodes.subtree_at_most.Given as goal
+use Rattle.least_tree.proofs.tree.subtree_at_most.Given as goal
 
 abbrev pub invariant-loop-at : goal.invariant-loop-at
 invariant-loop-at l = IsClimbed l.leaf l.bound l.at l.end l.nodes

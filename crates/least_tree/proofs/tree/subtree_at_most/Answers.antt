@@ -1,6 +1,6 @@
 use Rattle.least_tree.proofs.TreeLemmas.{climbed_step, climbed_here}
-use Rattle.least_tree.proofs.nodes.subtree_at_most.Goals as goal
-use Rattle.least_tree.proofs.nodes.subtree_at_most.Goals.{else-at-eq1-via-then-at-eq1+else-nodes-at, else-at-eq1-via-else-at-eq1}
+use Rattle.least_tree.proofs.tree.subtree_at_most.Goals as goal
+use Rattle.least_tree.proofs.tree.subtree_at_most.Goals.{else-at-eq1-via-then-at-eq1+else-nodes-at, else-at-eq1-via-else-at-eq1}
 
 pub returns-then-nodes-at : goal.returns-then-nodes-at
 returns-then-nodes-at c =

@@ -1,6 +1,6 @@
 use Rattle.std.proofs.Common.{◌≡◌, ℕ, ◌+◌, ◌<◌, ◌≤◌, length, drop}
 use Rattle.least_tree.specs.Tree.{IsTreeBut}
-use Rattle.least_tree.proofs.nodes.settle.Given as goal
+use Rattle.least_tree.proofs.tree.settle.Given as goal
 
 abbrev pub invariant-loop-last : goal.invariant-loop-last
 invariant-loop-last l =

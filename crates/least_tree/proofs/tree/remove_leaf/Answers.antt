@@ -1,7 +1,7 @@
 use Rattle.std.proofs.Common.{◌+◌, ◌-◌, ◌/◌, arith}
 use Rattle.least_tree.proofs.LeafLemmas.{same_past}
 use Rattle.least_tree.proofs.RemoveLemmas.{least_tree-remove, keys_of-remove}
-use Rattle.least_tree.proofs.nodes.remove_leaf.Goals as goal
+use Rattle.least_tree.proofs.tree.remove_leaf.Goals as goal
 
 pub returns-clause-tree : goal.returns-clause-tree
 returns-clause-tree c =

@@ -1,6 +1,6 @@
 use Rattle.std.proofs.Common.{arith}
 use Rattle.least_tree.proofs.TreeLemmas.{left_below, right_below, leaf_below}
-use Rattle.least_tree.proofs.nodes.first_below.Goals as goal
+use Rattle.least_tree.proofs.tree.first_below.Goals as goal
 
 pub loop-at-preserved-then-nodes-at : goal.loop-at-preserved-then-nodes-at
 loop-at-preserved-then-nodes-at c = (

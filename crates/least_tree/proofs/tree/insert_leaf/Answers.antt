@@ -1,6 +1,6 @@
 use Rattle.std.proofs.Common.{◌+◌, ◌/◌, arith}
 use Rattle.least_tree.proofs.LeafLemmas.{same_past, least_tree-insert, keys_of-insert}
-use Rattle.least_tree.proofs.nodes.insert_leaf.Goals as goal
+use Rattle.least_tree.proofs.tree.insert_leaf.Goals as goal
 
 pub returns-clause-tree : goal.returns-clause-tree
 returns-clause-tree c =

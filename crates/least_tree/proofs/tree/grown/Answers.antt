@@ -1,7 +1,7 @@
 use Rattle.std.proofs.Common.{◌≡◌, ◌+◌, ◌/◌, ◌∙◌, refl, length, drop, ap, arith}
 use Rattle.std.proofs.lemmas.List.{take_at}
 use Rattle.least_tree.proofs.LeafLemmas.{same_past, least_tree-grown}
-use Rattle.least_tree.proofs.nodes.grown.Goals as goal
+use Rattle.least_tree.proofs.tree.grown.Goals as goal
 
 pub returns-clause-tree : goal.returns-clause-tree
 returns-clause-tree c =

@@ -1,6 +1,6 @@
 use Rattle.std.proofs.Common.{◌+◌, ◌/◌, set, arith, length-set}
 use Rattle.least_tree.proofs.LeafLemmas.{same_past, least_tree-set, keys_of-set}
-use Rattle.least_tree.proofs.nodes.set_leaf.Goals as goal
+use Rattle.least_tree.proofs.tree.set_leaf.Goals as goal
 
 pub returns-clause-tree : goal.returns-clause-tree
 returns-clause-tree c =

@@ -1,7 +1,7 @@
 use Rattle.std.proofs.Common.{◌∙◌, arith}
 use Rattle.std.proofs.lemmas.List.{drop-set-lt}
 use Rattle.least_tree.proofs.SettleLemmas.{settled_step}
-use Rattle.least_tree.proofs.nodes.settle_row.Goals as goal
+use Rattle.least_tree.proofs.tree.settle_row.Goals as goal
 
 pub loop-at-preserved : goal.loop-at-preserved
 loop-at-preserved c = (

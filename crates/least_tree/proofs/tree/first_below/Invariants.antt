@@ -1,6 +1,6 @@
 use Rattle.std.proofs.Common.{ℕ, ◌-◌, ◌<◌, ◌≤◌, length}
 use Rattle.least_tree.specs.Tree.{IsSubtreeAtMost}
-use Rattle.least_tree.proofs.nodes.first_below.Given as goal
+use Rattle.least_tree.proofs.tree.first_below.Given as goal
 
 abbrev pub invariant-loop-at : goal.invariant-loop-at
 invariant-loop-at l =

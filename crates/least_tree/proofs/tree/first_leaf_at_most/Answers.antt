@@ -1,6 +1,6 @@
 use Rattle.std.proofs.Common.{◌+◌, arith}
 use Rattle.least_tree.proofs.Doubled.{doubled-ge}
-use Rattle.least_tree.proofs.nodes.first_leaf_at_most.Goals as goal
+use Rattle.least_tree.proofs.tree.first_leaf_at_most.Goals as goal
 
 pub first_below-requires-clause-within : goal.first_below-requires-clause-within
 first_below-requires-clause-within c =

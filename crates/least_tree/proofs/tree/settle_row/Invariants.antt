@@ -1,6 +1,6 @@
 use Rattle.std.proofs.Common.{◌≡◌, ℕ, ◌<◌, drop}
 use Rattle.least_tree.proofs.SettleLemmas.{IsSettled}
-use Rattle.least_tree.proofs.nodes.settle_row.Given as goal
+use Rattle.least_tree.proofs.tree.settle_row.Given as goal
 
 abbrev pub invariant-loop-at : goal.invariant-loop-at
 invariant-loop-at l =
