@@ -2,7 +2,7 @@ use Rattle.std.proofs.Common.{◌≡◌, ◌∙◌, List, [], ◌∷◌, ◌++�
 use Rattle.stream_ident.specs.Name.{same_name}
 use Rattle.stream_ident.specs.declared.rule.Rule.{Rule}
 use Rattle.pubsub_registry.proofs.RuleLemmas.{ruled-push}
-use Rattle.pubsub_registry.proofs.rules.Rules.push.Goals as goal
+use Rattle.pubsub_registry.proofs.indexed.Rules.push.Goals as goal
 
 pub invariant_of-self-in_err-put : goal.invariant_of-self-in_err-put
 invariant_of-self-in_err-put c = λ namespace.

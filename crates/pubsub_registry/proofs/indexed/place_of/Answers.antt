@@ -2,7 +2,7 @@ use Rattle.std.proofs.Common.{◌≡◌, ◌∙◌, ◌-◌, ◌<◌, false, len
 use Rattle.std.proofs.lemmas.List.Elements.{at_read}
 use Rattle.stream_ident.specs.SubName.{sub_lt}
 use Rattle.pubsub_registry.proofs.Ascending.{place-from}
-use Rattle.pubsub_registry.proofs.place.place_of.Goals as goal
+use Rattle.pubsub_registry.proofs.indexed.place_of.Goals as goal
 
 pub returns-else-is_before : goal.returns-else-is_before
 returns-else-is_before c =

@@ -6,7 +6,7 @@ use Rattle.stream_ident.specs.Words.{first_at}
 use Rattle.stream_ident.specs.declared.ident.SubName.{SubName}
 use Rattle.pubsub_registry.proofs.Entries.{Names, first-is}
 use Rattle.stream_ident.proofs.NameOrders.{sub_equal-is}
-use Rattle.pubsub_registry.proofs.subscriptions.Subscriptions.find.Goals as goal
+use Rattle.pubsub_registry.proofs.indexed.Subscriptions.find.Goals as goal
 
 pub returns-clause-place : goal.returns-clause-place
 returns-clause-place c =

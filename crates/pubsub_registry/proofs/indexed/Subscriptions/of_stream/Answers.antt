@@ -1,6 +1,6 @@
 use Rattle.std.proofs.Common.{sym, subst}
 use Rattle.pubsub_registry.specs.Index.{IsRowOf, streams_of}
-use Rattle.pubsub_registry.proofs.subscriptions.Subscriptions.of_stream.Goals as goal
+use Rattle.pubsub_registry.proofs.indexed.Subscriptions.of_stream.Goals as goal
 
 pub returns : goal.returns
 returns c =

@@ -5,7 +5,7 @@ use Rattle.stream_ident.specs.declared.ident.SubName.{SubName}
 use Rattle.pubsub_registry.specs.Index.{AreUnique}
 use Rattle.pubsub_registry.proofs.Entries.{unique-keys}
 use Rattle.stream_ident.proofs.NameOrders.{sub_equal-is}
-use Rattle.pubsub_registry.proofs.subscriptions.Subscriptions.len.Goals as goal
+use Rattle.pubsub_registry.proofs.indexed.Subscriptions.len.Goals as goal
 
 pub returns-clause-unique : goal.returns-clause-unique
 returns-clause-unique c =

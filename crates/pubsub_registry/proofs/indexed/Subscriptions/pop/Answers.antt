@@ -3,7 +3,7 @@ use Rattle.std.specs.Map.{lookup}
 use Rattle.stream_ident.specs.declared.ident.SubName.{SubName}
 use Rattle.pubsub_registry.proofs.IndexLemmas.{indexed-pop}
 use Rattle.stream_ident.proofs.NameOrders.{sub_equal-is}
-use Rattle.pubsub_registry.proofs.subscriptions.Subscriptions.pop.Goals as goal
+use Rattle.pubsub_registry.proofs.indexed.Subscriptions.pop.Goals as goal
 
 pub invariant_of-self : goal.invariant_of-self
 invariant_of-self c =

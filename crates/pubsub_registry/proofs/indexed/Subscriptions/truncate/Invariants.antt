@@ -1,5 +1,5 @@
 use Rattle.std.proofs.Common.{◌≡◌, length, take}
-use Rattle.pubsub_registry.proofs.subscriptions.Subscriptions.truncate.Given as goal
+use Rattle.pubsub_registry.proofs.indexed.Subscriptions.truncate.Given as goal
 
 abbrev pub invariant-loop-self : goal.invariant-loop-self
 invariant-loop-self l = take l.len l.self ≡ take l.len l.initial.self

@@ -4,8 +4,8 @@ use Rattle.stream_ident.specs.SubName.{same_sub}
 use Rattle.indexmap.specs.IndexMap.{get}
 use Rattle.stream_ident.proofs.SameValues.{same_stream-equal}
 use Rattle.pubsub_registry.proofs.RowLemmas.{row_of-filtered, row_of-none}
-use Rattle.pubsub_registry.proofs.subscriptions.forget.Goals as goal
-use Rattle.pubsub_registry.proofs.subscriptions.forget.Goals.{in-Some, in_default}
+use Rattle.pubsub_registry.proofs.indexed.forget.Goals as goal
+use Rattle.pubsub_registry.proofs.indexed.forget.Goals.{in-Some, in_default}
 
 pub returns : goal.returns
 returns c = λ other.

@@ -9,7 +9,7 @@ use Rattle.pubsub_registry.proofs.Entries.{Names, pushed, streams_of-none}
 use Rattle.pubsub_registry.proofs.IndexLemmas.{indexed-same, indexed-push}
 use Rattle.stream_ident.proofs.NameOrders.{sub_equal, sub_equal-is}
 use Rattle.indexmap.specs.IndexMap.{insert_entry}
-use Rattle.pubsub_registry.proofs.subscriptions.Subscriptions.push.Goals as goal
+use Rattle.pubsub_registry.proofs.indexed.Subscriptions.push.Goals as goal
 
 pub place_of-at-requires-clause-ascending : goal.place_of-at-requires-clause-ascending
 place_of-at-requires-clause-ascending c =

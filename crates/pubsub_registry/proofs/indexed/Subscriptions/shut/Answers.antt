@@ -5,12 +5,12 @@ use Rattle.stream_ident.specs.Words.{changed_value}
 use Rattle.stream_ident.specs.declared.ident.SubName.{SubName}
 use Rattle.pubsub_registry.specs.Registry.{shut}
 use Rattle.pubsub_registry.specs.Rows.{row_of}
-use Rattle.pubsub_registry.specs.declared.subscriptions.Subscriptions.TheInside.{Inside}
+use Rattle.pubsub_registry.specs.declared.indexed.Subscriptions.TheInside.{Inside}
 use Rattle.pubsub_registry.proofs.Entries.{Names, shut-written, shut-unwritten}
 use Rattle.pubsub_registry.proofs.IndexLemmas.{indexed-shut}
 use Rattle.stream_ident.proofs.NameOrders.{sub_equal, sub_equal-is}
-use Rattle.pubsub_registry.proofs.subscriptions.Subscriptions.shut.Goals as goal
-use Rattle.pubsub_registry.proofs.subscriptions.Subscriptions.shut.Goals.{in-Some, in_default}
+use Rattle.pubsub_registry.proofs.indexed.Subscriptions.shut.Goals as goal
+use Rattle.pubsub_registry.proofs.indexed.Subscriptions.shut.Goals.{in-Some, in_default}
 
 written : (c : goal.Joined-get_mut) → c.match-get_mut.self-inside.names.entries ≡ changed_value same_sub c.args.sub.now shut c.self.inside.names.entries
 written c =

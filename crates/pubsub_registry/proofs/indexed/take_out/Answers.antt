@@ -1,7 +1,7 @@
 use Rattle.std.proofs.Common.{◌≡◌, ◌∙◌, not, ap, rules}
 use Rattle.std.proofs.lemmas.Fn.{filter_same}
 use Rattle.stream_ident.proofs.NameOrders.{sub_equal, sub_equal_at}
-use Rattle.pubsub_registry.proofs.subscriptions.take_out.Goals as goal
+use Rattle.pubsub_registry.proofs.indexed.take_out.Goals as goal
 
 pub returns : goal.returns
 returns c =
