@@ -4,7 +4,7 @@ use Rattle.std.proofs.lemmas.List.Sorted.{searched}
 use Rattle.consumer_grain.specs.Activations.{with_number}
 use Rattle.consumer_grain.specs.Subscriptions.{rises_from}
 use Rattle.consumer_grain.proofs.NumberLemmas.{rises-index, with_number-gap, with_number-there}
-use Rattle.consumer_grain.proofs.numbers.add_number.Goals as goal
+use Rattle.consumer_grain.proofs.activation.add_number.Goals as goal
 
 pub returns-in_ok-insert : goal.returns-in_ok-insert
 returns-in_ok-insert c =

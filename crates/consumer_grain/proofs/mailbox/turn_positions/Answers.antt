@@ -2,8 +2,8 @@ use Rattle.std.proofs.Common.{◌<◌, ◌-◌, ◌+◌, ◌++◌, length, suc, 
 use Rattle.std.proofs.lemmas.List.{get_or_default, length_push}
 use Rattle.consumer_grain.specs.Activations.{front_of}
 use Rattle.consumer_grain.proofs.FrontLemmas.{no_delivery, front_of-start, front_of-more, front_of-full, front_of-end, front_of-stop}
-use Rattle.consumer_grain.proofs.front.turn_positions.Goals as goal
-use Rattle.consumer_grain.proofs.front.turn_positions.Goals.{then-len-most-via-then-len-most, then-len-most-via-else-len-most+then-not-goes_on}
+use Rattle.consumer_grain.proofs.mailbox.turn_positions.Goals as goal
+use Rattle.consumer_grain.proofs.mailbox.turn_positions.Goals.{then-len-most-via-then-len-most, then-len-most-via-else-len-most+then-not-goes_on}
 
 pub loop-delivery-init : goal.loop-delivery-init
 loop-delivery-init c = record {

@@ -1,6 +1,6 @@
 use Rattle.std.proofs.Common.{◌≡◌, ◌-◌, ◌≤◌, ◌++◌, suc, drop, length}
 use Rattle.consumer_grain.specs.Activations.{front_of}
-use Rattle.consumer_grain.proofs.front.turn_positions.Given as goal
+use Rattle.consumer_grain.proofs.mailbox.turn_positions.Given as goal
 
 abbrev pub invariant-loop-delivery : goal.invariant-loop-delivery
 invariant-loop-delivery l = record {
