@@ -19,7 +19,7 @@ use Rattle.pulling_agent.specs.declared.agent.Plan.{Plan}
 use Rattle.pulling_agent.specs.declared.agent.Plan.TheVariants as plan
 use Rattle.pulling_agent.specs.declared.agent.StaleAgent.{StaleAgent}
 use Rattle.queue_cache.specs.Cache as cache
-use Rattle.resume_tree.specs.declared.leaf.Leaf.{Leaf}
+use Rattle.resume_tree.specs.declared.resumes.Leaf.{Leaf}
 use Rattle.resume_tree.specs.Leaves as leaves
 use Rattle.subscription_table.specs.LeavesOf.{leaf_of, leaves_of, open_resume}
 use Rattle.step_core.specs.declared.parts.Parts.{Parts}

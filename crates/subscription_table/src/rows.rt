@@ -1,7 +1,7 @@
 //! The rows that stand beside the names of a registry: states, tags, and what the tree of resumes keeps.
 ghost use Rattle.std.specs.Prelude.{◌≡◌, ◌+◌, ◌^◌, ◌<◌, ◌++◌, All, drop, get_or, is_ok, length, map, set, if◌then◌else◌};
 ghost use Rattle.consumer_grain.specs.Subscriptions.{is_unacknowledged};
-ghost use Rattle.resume_tree.specs.declared.leaf.Leaf.{Leaf};
+ghost use Rattle.resume_tree.specs.declared.resumes.Leaf.{Leaf};
 ghost use Rattle.resume_tree.specs.Leaves.{changed};
 ghost use Rattle.subscription_table.specs.LeavesOf.{open_resume};
 ghost use Rattle.subscription_table.specs.Rows.{new_leaves, AreNamed, AreRewoundAt};

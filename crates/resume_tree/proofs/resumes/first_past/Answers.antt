@@ -6,7 +6,7 @@ use Rattle.ranking.specs.Ranked.{is_up_to}
 use Rattle.ranking.proofs.EntryLemmas.{first_past-from}
 use Rattle.resume_tree.specs.Ranks.{name_of}
 use Rattle.stream_ident.proofs.NameOrders.{sub_order}
-use Rattle.resume_tree.proofs.order.first_past.Goals as goal
+use Rattle.resume_tree.proofs.resumes.first_past.Goals as goal
 
 pub returns : goal.returns
 returns c =

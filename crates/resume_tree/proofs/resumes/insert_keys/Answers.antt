@@ -1,7 +1,7 @@
 use Rattle.std.proofs.Common.{ap, ◌∙◌, Some}
 use Rattle.least_tree.specs.Keys.{removed}
 use Rattle.ranking.proofs.RankLemmas.{remove-insert}
-use Rattle.resume_tree.proofs.keys.insert_keys.Goals as goal
+use Rattle.resume_tree.proofs.resumes.insert_keys.Goals as goal
 
 pub returns-in-Err-clause-resumes : goal.returns-in-Err-clause-resumes
 returns-in-Err-clause-resumes c =
