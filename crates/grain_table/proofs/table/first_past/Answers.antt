@@ -6,7 +6,7 @@ use Rattle.ranking.specs.Ranked.{is_up_to}
 use Rattle.ranking.proofs.EntryLemmas.{first_past-from}
 use Rattle.grain_table.specs.Table.{name_of}
 use Rattle.stream_ident.proofs.NameOrders.{grain_order}
-use Rattle.grain_table.proofs.order.first_past.Goals as goal
+use Rattle.grain_table.proofs.table.first_past.Goals as goal
 
 pub returns : goal.returns
 returns c =

@@ -2,7 +2,7 @@ use Rattle.std.proofs.Common.{◌<◌, length, arith}
 use Rattle.std.proofs.lemmas.Bool.{lt-ltb}
 use Rattle.grain_table.specs.Grains.{is_waiting}
 use Rattle.grain_table.proofs.TableLemmas.{least_where-read, least_where-none}
-use Rattle.grain_table.proofs.order.first_waiting.Goals as goal
+use Rattle.grain_table.proofs.table.first_waiting.Goals as goal
 
 pub returns-then-waiting-gt0 : goal.returns-then-waiting-gt0
 returns-then-waiting-gt0 c =

@@ -3,7 +3,7 @@ use Rattle.std.specs.Borrow.{Bor}
 use Rattle.std.specs.Option.{option_copied}
 use Rattle.grain_table.specs.Grains.{is_running}
 use Rattle.grain_table.proofs.TableLemmas.{least_where-read, least_where-none}
-use Rattle.grain_table.proofs.order.first_running.Goals as goal
+use Rattle.grain_table.proofs.table.first_running.Goals as goal
 
 is_some-copied : {A : Type 0} (o : Option (Bor A)) → is_some (option_copied o) ≡ is_some o
 is_some-copied None = refl
