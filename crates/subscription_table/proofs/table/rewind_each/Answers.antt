@@ -1,7 +1,7 @@
 use Rattle.std.proofs.Common.{◌∙◌, sym, ap, set}
 use Rattle.std.proofs.lemmas.List.Edits.{map_over_more}
 use Rattle.subscription_table.specs.Table.{rewound_open}
-use Rattle.subscription_table.proofs.rows.rewind_each.Goals as goal
+use Rattle.subscription_table.proofs.table.rewind_each.Goals as goal
 
 pub loop-state-preserved : goal.loop-state-preserved
 loop-state-preserved c =

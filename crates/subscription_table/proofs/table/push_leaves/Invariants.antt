@@ -1,6 +1,6 @@
 use Rattle.std.proofs.Common.{◌≡◌, ◌-◌, ◌++◌, drop, length, take}
 use Rattle.subscription_table.specs.Rows.{new_leaves, AreNamed}
-use Rattle.subscription_table.proofs.rows.push_leaves.Given as goal
+use Rattle.subscription_table.proofs.table.push_leaves.Given as goal
 
 abbrev pub invariant-loop-number : goal.invariant-loop-number
 invariant-loop-number l = record {

@@ -3,7 +3,7 @@ use Rattle.std.proofs.lemmas.List.{length_push}
 use Rattle.resume_tree.specs.Leaves.{open_leaf}
 use Rattle.subscription_table.proofs.LeafLemmas.{Entry}
 use Rattle.subscription_table.proofs.RowLemmas.{name-new, named-more, row-more}
-use Rattle.subscription_table.proofs.rows.push_leaves.Goals as goal
+use Rattle.subscription_table.proofs.table.push_leaves.Goals as goal
 
 pub push-requires-clause-new : goal.push-requires-clause-new
 push-requires-clause-new c =

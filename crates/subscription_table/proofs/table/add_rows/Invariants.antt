@@ -2,7 +2,7 @@ use Rattle.std.proofs.Common.{◌≡◌, ◌-◌, ◌≤◌, ◌++◌, drop, tak
 use Rattle.std.specs.Prelude.{vec_capacity}
 use Rattle.subscription_table.specs.Standing.{tags_of}
 use Rattle.subscription_table.specs.Table.{new_states}
-use Rattle.subscription_table.proofs.rows.add_rows.Given as goal
+use Rattle.subscription_table.proofs.table.add_rows.Given as goal
 
 abbrev pub invariant-loop-number : goal.invariant-loop-number
 invariant-loop-number l = record {

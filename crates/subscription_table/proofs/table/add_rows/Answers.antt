@@ -3,7 +3,7 @@ use Rattle.queue_mapper.specs.Place.{tag_of}
 use Rattle.consumer_grain.specs.Subscriptions.{PlainState, new_state}
 use Rattle.subscription_table.proofs.LeafLemmas.{Entry}
 use Rattle.subscription_table.proofs.RowLemmas.{row-more}
-use Rattle.subscription_table.proofs.rows.add_rows.Goals as goal
+use Rattle.subscription_table.proofs.table.add_rows.Goals as goal
 
 pub loop-number-preserved : goal.loop-number-preserved
 loop-number-preserved c =
