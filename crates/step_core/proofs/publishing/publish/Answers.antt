@@ -8,7 +8,7 @@ use Rattle.step_core.specs.Assembly.{IsAssembled}
 use Rattle.step_core.specs.PlainOf.{plain_of}
 use Rattle.step_core.proofs.Shared.{high-end}
 use Rattle.step_core.proofs.PublishOps.{append-assembled, append-memory, append-performs}
-use Rattle.step_core.proofs.producing.publish.Goals as goal
+use Rattle.step_core.proofs.publishing.publish.Goals as goal
 
 pub returns-in_err-appended-clause-memory : goal.returns-in_err-appended-clause-memory
 returns-in_err-appended-clause-memory c =

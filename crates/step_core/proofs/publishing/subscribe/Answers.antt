@@ -2,7 +2,7 @@ use Rattle.stream_model.proofs.Answering.{memory-along, performs-along}
 use Rattle.step_core.specs.PlainOf.{plain_of}
 use Rattle.step_core.specs.Replied.{replied}
 use Rattle.step_core.proofs.StartOps.{starts-at, starts-below, starts-latest}
-use Rattle.step_core.proofs.subscribing.subscribe.Goals as goal
+use Rattle.step_core.proofs.publishing.subscribe.Goals as goal
 
 pub returns-then-is_before-clause-performs : goal.returns-then-is_before-clause-performs
 returns-then-is_before-clause-performs c =

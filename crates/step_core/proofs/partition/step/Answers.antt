@@ -4,7 +4,7 @@ use Rattle.stream_model.specs.declared.reply.Reply.{Reply}
 use Rattle.stream_model.specs.Step.{step, takes_memory}
 use Rattle.step_core.specs.PlainOf.{plain_of}
 use Rattle.stream_model.proofs.Committing.{OnErr-since}
-use Rattle.step_core.proofs.stepping.step.Goals as goal
+use Rattle.step_core.proofs.partition.step.Goals as goal
 
 pub returns-in-Begin-clause-performs : goal.returns-in-Begin-clause-performs
 unfolding step

@@ -7,7 +7,7 @@ use Rattle.subscription_table.specs.Table.{PlainTable}
 use Rattle.step_core.specs.Assembly.{IsAssembled}
 use Rattle.step_core.specs.PlainOf.{plain_of}
 use Rattle.step_core.proofs.RuleOps.{rule-assembled, rule-memory, rule-performs}
-use Rattle.step_core.proofs.producing.add_rule.Goals as goal
+use Rattle.step_core.proofs.publishing.add_rule.Goals as goal
 
 pub returns-in_err-added-clause-memory : goal.returns-in_err-added-clause-memory
 returns-in_err-added-clause-memory c =

@@ -11,7 +11,7 @@ use Rattle.step_core.specs.Assembly.{IsAssembled}
 use Rattle.step_core.specs.PlainOf.{plain_of}
 use Rattle.step_core.proofs.ClosedOps.{closed-assembled, closed-performs, closed-shut, forgotten-assembled, forgotten_by, left_grains}
 use Rattle.step_core.proofs.SubscriberOps.{unsubscribe-none}
-use Rattle.step_core.proofs.subscribing.unsubscribe.Goals as goal
+use Rattle.step_core.proofs.publishing.unsubscribe.Goals as goal
 
 pub returns-in_default-clause-performs : goal.returns-in_default-clause-performs
 returns-in_default-clause-performs c =

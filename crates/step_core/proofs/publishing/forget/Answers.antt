@@ -2,7 +2,7 @@ use Rattle.std.proofs.Common.{◌∙◌, sym}
 use Rattle.stream_ident.specs.Name.{same_grain}
 use Rattle.stream_model.proofs.ChangedValues.{place_of-changed, place_of-unchanged}
 use Rattle.consumer_grain.specs.Activations.{forgotten}
-use Rattle.step_core.proofs.subscribing.forget.Goals as goal
+use Rattle.step_core.proofs.publishing.forget.Goals as goal
 
 pub returns-in-Some : goal.returns-in-Some
 returns-in-Some c =

@@ -8,7 +8,7 @@ use Rattle.step_core.specs.Assembly.{IsAssembled}
 use Rattle.step_core.specs.PlainOf.{plain_of}
 use Rattle.step_core.proofs.AddedOps.{added-assembled, added-memory, added-performs}
 use Rattle.step_core.proofs.Shared.{high-end}
-use Rattle.step_core.proofs.subscribing.subscribe_at.Goals as goal
+use Rattle.step_core.proofs.publishing.subscribe_at.Goals as goal
 
 pub subscribe-requires-clause-position : goal.subscribe-requires-clause-position
 subscribe-requires-clause-position c = omega (arith, high-end c.args.parts.now c.requires.agrees, c.requires.agrees.within.events, c.requires.agrees.within.limits.events)
