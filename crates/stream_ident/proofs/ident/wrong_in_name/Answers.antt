@@ -2,7 +2,7 @@ use Rattle.std.proofs.Common.{◌∙◌, sym, arith, ◌≢◌, length}
 use Rattle.std.proofs.lemmas.Bool.{eqb-false}
 use Rattle.std.proofs.lemmas.List.{length-take}
 use Rattle.stream_ident.proofs.NameLemmas.{wrong_in_name-short}
-use Rattle.stream_ident.proofs.name.wrong_in_name.Goals as goal
+use Rattle.stream_ident.proofs.ident.wrong_in_name.Goals as goal
 
 pub returns-then-bytes-le-MAX_LEN : goal.returns-then-bytes-le-MAX_LEN
 returns-then-bytes-le-MAX_LEN c =

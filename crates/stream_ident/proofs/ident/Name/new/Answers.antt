@@ -1,6 +1,6 @@
 use Rattle.std.proofs.Common.{sym}
 use Rattle.stream_ident.proofs.NameLemmas.{IsName-from_right, IsPadded-from_row}
-use Rattle.stream_ident.proofs.name.Name.new.Goals as goal
+use Rattle.stream_ident.proofs.ident.Name.new.Goals as goal
 
 pub invariant_of-result : goal.invariant_of-result
 invariant_of-result c =

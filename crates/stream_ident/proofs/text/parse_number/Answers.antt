@@ -8,7 +8,7 @@ use Rattle.std.proofs.lemmas.Str.Parse.{parse_digits}
 use Rattle.std.proofs.lemmas.Fmt.{IsAscii-from_digits}
 use Rattle.stream_ident.specs.Number.{is_numeral, number_of, value_after}
 use Rattle.stream_ident.proofs.NumberLemmas.{numerals, is_numeral_parts, number_from}
-use Rattle.stream_ident.proofs.number.parse_number.Goals as goal
+use Rattle.stream_ident.proofs.text.parse_number.Goals as goal
 
 at_none : {S E : Type 0} (r : Result S E) (P : S → Type 0) (Q : E → Type 0) → MatchResult r P Q → None ≡ result_ok r → (e : E) × Q e
 at_none (Ok s) P Q h none = cc
