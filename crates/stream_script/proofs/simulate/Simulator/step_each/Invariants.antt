@@ -1,7 +1,7 @@
 use Rattle.std.proofs.Common.{◌≡◌}
 use Rattle.script_parser.specs.Forms.{op_of}
 use Rattle.stream_script.proofs.SimulatorLemmas.{EachSoFar}
-use Rattle.stream_script.proofs.simulator.Simulator.step_each.Given as goal
+use Rattle.stream_script.proofs.simulate.Simulator.step_each.Given as goal
 
 -- the queues so far
 abbrev pub invariant-loop-queue : goal.invariant-loop-queue

@@ -1,6 +1,6 @@
 use Rattle.std.proofs.Common.{◌≡◌}
 use Rattle.stream_script.proofs.DrainLemmas.{DrainedSoFar}
-use Rattle.stream_script.proofs.simulator.Simulator.drain_each.Given as goal
+use Rattle.stream_script.proofs.simulate.Simulator.drain_each.Given as goal
 
 -- the queues so far
 abbrev pub invariant-loop-queue : goal.invariant-loop-queue

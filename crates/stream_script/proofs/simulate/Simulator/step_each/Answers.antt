@@ -1,8 +1,8 @@
 use Rattle.stream_model.specs.Positions.{empty}
 use Rattle.std.proofs.Common.{◌∙◌, ap, ◌<◌, length, arith}
-use Rattle.stream_script.specs.declared.simulator.SimConfig.{SimConfig}
+use Rattle.stream_script.specs.declared.simulate.SimConfig.{SimConfig}
 use Rattle.stream_script.proofs.SimulatorLemmas.{each_more}
-use Rattle.stream_script.proofs.simulator.Simulator.step_each.Goals as goal
+use Rattle.stream_script.proofs.simulate.Simulator.step_each.Goals as goal
 
 pub loop-queue-preserved : goal.loop-queue-preserved
 loop-queue-preserved c =
