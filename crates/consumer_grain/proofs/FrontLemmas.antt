@@ -4,7 +4,7 @@ use Rattle.std.proofs.lemmas.Bool.{and_from, and_parts, cond_both, eq-eqb, le-le
 use Rattle.std.proofs.lemmas.List.{drop_more, length_push, drop_all, take_rest}
 use Rattle.std.specs.List.{All}
 use Rattle.std.proofs.lemmas.List.Elements.{All-head, All-tail}
-use Rattle.consumer_grain.specs.declared.delivery.Delivery.{Delivery}
+use Rattle.consumer_grain.specs.declared.mailbox.Delivery.{Delivery}
 use Rattle.consumer_grain.specs.Activations.{front_of}
 use Rattle.consumer_grain.specs.Subscriptions.{rises_from}
 use Rattle.stream_ident.specs.Words.{past_from}

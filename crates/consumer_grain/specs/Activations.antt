@@ -2,8 +2,8 @@
 use Rattle.std.specs.Prelude.{◌≡◌, ℕ, zero, suc, ◌+◌, min, max, Bool, true, false, ◌&&◌, ◌||◌, not, List, [], ◌∷◌, ◌++◌, length, drop, filter, Option, Some, None, is_some, Result, Ok, Err, ◌==◌, nat_lt, nat_le, if◌then◌else◌}
 use Rattle.std.specs.List.{list_any}
 use Rattle.std.specs.declared.alloc.AllocError.{AllocError}
-use Rattle.consumer_grain.specs.declared.delivery.Delivery.{Delivery}
-use Rattle.consumer_grain.specs.declared.turn.RunningTurn.{RunningTurn}
+use Rattle.consumer_grain.specs.declared.mailbox.Delivery.{Delivery}
+use Rattle.consumer_grain.specs.declared.activation.RunningTurn.{RunningTurn}
 use Rattle.consumer_grain.specs.declared.told.Offered.{Offered}
 use Rattle.consumer_grain.specs.declared.told.Offered.TheVariants as offer
 use Rattle.consumer_grain.specs.declared.told.Begun.{Begun}

@@ -1,6 +1,6 @@
 -- What always holds of a mailbox.
 use Rattle.std.specs.Prelude.{◌+◌, ◌^◌, ◌<◌, ◌≤◌, List, length, All}
-use Rattle.consumer_grain.specs.declared.delivery.Delivery.{Delivery}
+use Rattle.consumer_grain.specs.declared.mailbox.Delivery.{Delivery}
 
 -- sixteen deliveries wait at most, and each position has one past it
 pub record IsMailbox (deliveries : List Delivery) : Type 0 where

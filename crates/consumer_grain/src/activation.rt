@@ -1,20 +1,28 @@
 //! A grain's mailbox and its turn.
-ghost use Rattle.std.specs.Prelude.{◌≡◌, ◌+◌, ◌^◌, ◌<◌, ◌≤◌, ◌∷◌, true, length, drop, Some, None, is_some, OnErr, IfOk, IfSome};
+ghost use Rattle.std.specs.Prelude.{◌≡◌, ◌+◌, ◌^◌, ◌<◌, ◌≤◌, ◌∷◌, ◌==◌, true, length, drop, Some, None, is_some, OnErr, IfOk, IfSome, not, filter, is_ok, if◌then◌else◌};
 ghost use Rattle.std.specs.List.{slice_get};
 ghost use Rattle.std.specs.Option.{option_copied};
 ghost use Rattle.stream_ident.specs.Words.{past, Performs};
-ghost use Rattle.consumer_grain.specs.Activations.{begin, begin_front, commit, current_turn, deactivated, forgotten, holds, lost, new_activation, offered, offer_takes_memory, running_count, runs};
+ghost use Rattle.consumer_grain.specs.Activations.{begin, begin_front, commit, current_turn, deactivated, forgotten, holds, lost, new_activation, offered, offer_takes_memory, running_count, runs, with_number, without_number};
 ghost use Rattle.consumer_grain.specs.Begins.{RisesFrom};
 ghost use Rattle.consumer_grain.specs.Subscriptions.{rises_from};
 
-use crate::delivery::Delivery;
-use crate::front::{turn_positions, turn_size};
-use crate::mailbox::{Mailbox, has_sub};
-use crate::numbers::{add_number, remove_number};
+use crate::mailbox::{Delivery, Mailbox, has_sub, turn_positions, turn_size};
 use crate::told::{Begun, Offered, TurnEnd};
-use crate::turn::RunningTurn;
 use std::alloc::{AllocError, Global};
 use std::marker::Model;
+use stream_ident::Row;
+
+/// A turn that runs: one grain handles some events of one subscription, and nothing else meanwhile.
+#[derive(Debug, Drop)]
+pub struct RunningTurn {
+    /// The number of the record of the subscription whose events it has.
+    pub sub: usize,
+    /// The number of the turn.
+    pub turn: u64,
+    /// The positions of its events, 1 to 16 that rise.
+    pub positions: Row<usize>,
+}
 
 /// A grain as its partition knows it: whether it is in memory, what waits for it, and its turn.
 ///
@@ -253,4 +261,27 @@ fn running_count(running: &Option<RunningTurn>) -> usize
         Some(run) => run.positions.len(),
         None => 0,
     }
+}
+
+/// Adds a number to rising ones, in its place, unless it is there: a binary search, and at most one
+/// insertion.
+///
+/// # Errors
+/// The call failed to allocate, and the numbers are as they were. That can happen only where the number isn't
+/// there.
+fn add_number(numbers: &mut Vec<usize>, number: usize) -> Result<(), AllocError>
+    requires { rises_from 0 numbers.old.items ≡ true }
+    ensures { numbers.new.items ≡ (if is_ok result then with_number number numbers.old.items else numbers.old.items) }
+{
+    if let Err(place) = numbers.binary_search(&number) {
+        numbers.insert(place, number)?;
+    }
+    Ok(())
+}
+
+/// Takes a number out of rising ones.
+fn remove_number(numbers: &mut Vec<usize>, number: usize)
+    ensures { numbers.new.items ≡ without_number number numbers.old.items }
+{
+    numbers.retain(|other| number != *other);
 }

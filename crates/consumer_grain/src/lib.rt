@@ -6,16 +6,11 @@
 #![tactic(auto)]
 
 mod activation;
-mod delivery;
-mod front;
 mod mailbox;
-mod numbers;
 mod sub_state;
 mod told;
-mod turn;
 
-pub use activation::Activation;
-pub use delivery::Delivery;
+pub use activation::{Activation, RunningTurn};
+pub use mailbox::Delivery;
 pub use sub_state::SubState;
 pub use told::{Begun, Offered, TurnEnd};
-pub use turn::RunningTurn;

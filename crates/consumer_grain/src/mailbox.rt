@@ -1,14 +1,25 @@
-//! Mailboxes.
-ghost use Rattle.std.specs.Prelude.{◌≡◌, ◌+◌, ◌^◌, ◌<◌, ◌≤◌, [], ◌∷◌, ◌++◌, ◌==◌, not, length, drop, filter, nat_le, vec_capacity, All, IfOk};
+//! Mailboxes: the deliveries that wait, and the front of them that a turn takes.
+ghost use Rattle.std.specs.Prelude.{◌≡◌, ◌+◌, ◌^◌, ◌<◌, ◌≤◌, [], ◌∷◌, ◌++◌, ◌==◌, ◌&&◌, not, length, drop, filter, nat_le, vec_capacity, All, IfOk, suc};
 ghost use Rattle.std.specs.List.{list_any};
-ghost use Rattle.consumer_grain.specs.declared.delivery.Delivery.{Delivery};
+ghost use Rattle.stream_ident.specs.Blocks.{turn_size};
+ghost use Rattle.consumer_grain.specs.declared.mailbox.Delivery.{Delivery};
+ghost use Rattle.consumer_grain.specs.Activations.{front_of};
 
-use crate::delivery::Delivery;
 use std::alloc::{AllocError, Global};
 use std::marker::Model;
+use stream_ident::Row;
 
 /// How many deliveries wait at most.
 const PLACES: usize = 16;
+
+/// An event on its way to a grain.
+#[derive(Clone, Copy, Debug, PartialEq, Eq)]
+pub struct Delivery {
+    /// The number of the record of the subscription that it is for.
+    pub sub: usize,
+    /// The position of the event in the log, counted from 0.
+    pub position: usize,
+}
 
 /// The deliveries that wait for a grain, at most sixteen, the oldest first.
 ///
@@ -21,7 +32,7 @@ pub struct Mailbox {
 
 impl Model for Mailbox {
     ghost use Rattle.std.specs.Prelude.{List, ◌+◌, ◌^◌, ◌<◌, ◌≤◌, length, vec_capacity, All};
-    ghost use Rattle.consumer_grain.specs.declared.delivery.Delivery.{Delivery};
+    ghost use Rattle.consumer_grain.specs.declared.mailbox.Delivery.{Delivery};
     ghost use Rattle.consumer_grain.specs.Mailboxes.{IsMailbox};
 
     ghost Value = { List Delivery };
@@ -113,4 +124,40 @@ pub fn has_sub(deliveries: &[Delivery], sub: usize) -> bool
     ensures { result ≡ list_any (λ (d : Delivery). sub == d.sub) deliveries.now }
 {
     deliveries.iter().any(|delivery| sub == delivery.sub)
+}
+
+/// The most events of a turn.
+pub fn turn_size(max_events: usize) -> usize
+    ensures size { result ≡ turn_size max_events }
+    ensures some { 1 ≤ result }
+    ensures bound { result ≤ 16 }
+{
+    max_events.clamp(1, 16)
+}
+
+/// Whether a delivery goes on with a turn of this subscription after this position.
+fn goes_on(sub: usize, last: usize, delivery: Delivery) -> bool
+    ensures { result ≡ ((sub == delivery.sub) && nat_le (suc last) delivery.position) }
+{
+    sub == delivery.sub && last < delivery.position
+}
+
+/// The positions of a turn: those of the longest front of the deliveries, at most `most`, that are all of
+/// the subscription of the first one and rise.
+pub fn turn_positions(deliveries: &[Delivery], front: Delivery, most: usize) -> Row<usize>
+    requires some { 1 ≤ most }
+    requires bound { most ≤ 16 }
+    requires first { deliveries.now ≡ front ∷ drop 1 deliveries.now }
+    ensures { result ≡ front_of most front.sub front.position deliveries.now }
+{
+    let mut positions = Row::of(front.position);
+    let mut last = front.position;
+    for delivery in &deliveries[1..] {
+        if positions.len() == most || !goes_on(front.sub, last, *delivery) {
+            return positions;
+        }
+        positions.push(delivery.position);
+        last = delivery.position;
+    }
+    positions
 }

@@ -1,6 +1,6 @@
 //! What an activation answers.
 
-use crate::delivery::Delivery;
+use crate::mailbox::Delivery;
 use stream_ident::Row;
 
 /// What becomes of a delivery that is offered to a grain.

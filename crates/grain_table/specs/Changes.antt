@@ -3,7 +3,7 @@ use Rattle.std.specs.Prelude.{◌≡◌, ℕ, [], get_or, Result, Ok, Err}
 use Rattle.std.specs.declared.alloc.AllocError.{AllocError}
 use Rattle.stream_ident.specs.declared.ident.GrainId.{GrainId}
 use Rattle.stream_ident.specs.Words.{change_at}
-use Rattle.consumer_grain.specs.declared.delivery.Delivery.{Delivery}
+use Rattle.consumer_grain.specs.declared.mailbox.Delivery.{Delivery}
 use Rattle.consumer_grain.specs.declared.told.Offered.{Offered}
 use Rattle.consumer_grain.specs.Activations.{PlainActivation, new_activation, offered}
 use Rattle.grain_table.specs.Grains.{PlainGrains}

@@ -3,7 +3,7 @@ use Rattle.std.specs.Prelude.{◌≡◌, ℕ, ◌<◌, Bool, true, ◌&&◌, not
 use Rattle.stream_ident.specs.declared.ident.GrainId.{GrainId}
 use Rattle.stream_ident.specs.Name.{same_grain, grain_lt}
 use Rattle.stream_ident.specs.Words.{keys_where, least, next_after, place_of}
-use Rattle.consumer_grain.specs.declared.delivery.Delivery.{Delivery}
+use Rattle.consumer_grain.specs.declared.mailbox.Delivery.{Delivery}
 use Rattle.consumer_grain.specs.Activations.{PlainActivation, new_activation, woken}
 
 -- the grains by their numbers, each with its activation

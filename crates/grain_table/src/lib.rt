@@ -2,7 +2,6 @@
 //! and the next that is ready found by name.
 #![tactic(auto)]
 
-mod order;
 mod table;
 
 pub use table::GrainTable;

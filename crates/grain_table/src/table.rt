@@ -1,14 +1,16 @@
-//! The table.
-ghost use Rattle.std.specs.Prelude.{◌≡◌, ◌+◌, ◌^◌, ◌<◌, ◌≤◌, ◌↔◌, [], None, true, length, is_ok, IfOk, IfSome, IsTrue, OnErr, if◌then◌else◌};
+//! The table, and the order of its grains by name.
+ghost use Rattle.std.specs.Prelude.{◌≡◌, ◌+◌, ◌^◌, ◌<◌, ◌≤◌, ◌↔◌, [], None, true, length, is_ok, IfOk, IfSome, IsTrue, OnErr, not, OnOk, if◌then◌else◌};
 ghost use Rattle.std.specs.Option.{option_copied};
 ghost use Rattle.stream_ident.specs.Words.{change_at, past};
+ghost use Rattle.stream_ident.specs.Name.{grain_lt};
 ghost use Rattle.consumer_grain.specs.Activations.{begin, commit, deactivated, forgotten, lost, new_activation, offered, offer_takes_memory, woken};
 ghost use Rattle.consumer_grain.specs.Begins.{RisesFrom};
 ghost use Rattle.consumer_grain.specs.Subscriptions.{rises_from};
+ghost use Rattle.ranking.specs.Ranked.{is_up_to, IsFirstPast, IsKeySet};
 ghost use Rattle.grain_table.specs.Changes.{activation_at, grain_at, OffersAt};
 ghost use Rattle.grain_table.specs.Grains.{least_running, least_waiting, number_of, ready_after, with_grain, AreDistinct};
+ghost use Rattle.grain_table.specs.Table.{name_of, ready_key, IsInOrder};
 
-use crate::order::{first_past, first_running, first_waiting, mark};
 use consumer_grain::{Activation, Begun, Delivery, Offered, TurnEnd};
 use least_tree::LeastTree;
 use ranking::Ranking;
@@ -252,4 +254,74 @@ fn activated(alloc: Global, delivery: Delivery) -> Result<Activation, AllocError
     let mut activation = Activation::new(alloc)?;
     activation.offer(alloc, delivery)?;
     Ok(activation)
+}
+
+/// Whether there is a grain with this number, and it is not greater than the given one.
+fn is_up_to(entries: &[(GrainId, Activation)], number: usize, grain: &GrainId) -> bool
+    ensures { result ≡ is_up_to name_of grain_lt entries.now grain.now number }
+{
+    match entries.get(number) {
+        Some((other, _)) => !grain.is_before(other),
+        None => false,
+    }
+}
+
+/// The first rank whose grain is greater than the given one, 0 where none is given. A binary search.
+fn first_past(entries: &[(GrainId, Activation)], order: &[usize], after: Option<&GrainId>) -> usize
+    requires { IsInOrder entries.now order.now }
+    ensures { IsFirstPast name_of grain_lt (option_copied after.entry) entries.now order.now result }
+{
+    let Some(grain) = after else {
+        return 0;
+    };
+    order.partition_point(|number| is_up_to(entries, *number, grain))
+}
+
+/// The key at the rank of a grain, 0 where something waits for it and no turn runs.
+fn ready_key(activation: &Activation) -> Option<usize>
+    ensures { result ≡ ready_key activation.now }
+{
+    if activation.waiting() > 0 && activation.running().is_none() {
+        Some(0)
+    } else {
+        None
+    }
+}
+
+/// Sets the key of the grain with this number.
+fn mark(entries: &[(GrainId, Activation)], ranking: &Ranking, ready: &mut LeastTree, number: usize)
+    requires number { number < length entries.now }
+    requires ranked { length ranking.now ≡ length entries.now }
+    requires keyed { length ready.old ≡ length entries.now }
+    ensures { IsKeySet ranking.now number (ready_key (activation_at entries.now number)) ready.old ready.new }
+{
+    ranking.set_key(ready, number, ready_key(&entries[number].1));
+}
+
+/// The first grain in the order for which something waits.
+fn first_waiting(entries: &[(GrainId, Activation)], order: &[usize]) -> Option<GrainId>
+    requires { IsInOrder entries.now order.now }
+    ensures { result ≡ least_waiting entries.now }
+{
+    for number in order {
+        let (grain, activation) = &entries[*number];
+        if activation.waiting() > 0 {
+            return Some(*grain);
+        }
+    }
+    None
+}
+
+/// The first grain in the order that a turn runs for.
+fn first_running(entries: &[(GrainId, Activation)], order: &[usize]) -> Option<GrainId>
+    requires { IsInOrder entries.now order.now }
+    ensures { result ≡ least_running entries.now }
+{
+    for number in order {
+        let (grain, activation) = &entries[*number];
+        if activation.running().is_some() {
+            return Some(*grain);
+        }
+    }
+    None
 }

@@ -2,7 +2,6 @@
 //! key is at most a bound.
 #![tactic(auto)]
 
-mod nodes;
 mod tree;
 
 pub use tree::LeastTree;

@@ -10,9 +10,8 @@ ghost use Rattle.stream_ident.specs.declared.event.Event.{Event};
 ghost use Rattle.stream_ident.specs.Implying.{added};
 ghost use Rattle.pubsub_registry.specs.Implying.{imply, made, makes_any, names_with, rule_count};
 
+use crate::indexed::{Rules, Subscriptions};
 use crate::registry::{Registry, implied_grain, opened};
-use crate::rules::Rules;
-use crate::subscriptions::Subscriptions;
 use crate::told::Implied;
 use std::alloc::{AllocError, Global};
 use stream_ident::{Event, Name, Rule, StreamId, SubName, Token};

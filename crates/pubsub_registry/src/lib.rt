@@ -7,12 +7,9 @@
 #![tactic(auto)]
 
 mod implying;
-mod place;
+mod indexed;
 mod registration;
 mod registry;
-mod rows;
-mod rules;
-mod subscriptions;
 mod told;
 
 pub use registration::Registration;

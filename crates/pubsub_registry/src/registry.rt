@@ -6,9 +6,8 @@ ghost use Rattle.stream_ident.specs.declared.ident.SubName.TheVariants.{Explicit
 ghost use Rattle.pubsub_registry.specs.Index.{AreUnique};
 ghost use Rattle.pubsub_registry.specs.Registry.{add, add_implied, add_rule, close, empty, is_full, registered, registration_of, rules_on, truncated, AreSubsOf};
 
+use crate::indexed::{Rules, Subscriptions};
 use crate::registration::Registration;
-use crate::rules::Rules;
-use crate::subscriptions::Subscriptions;
 use crate::told::{Added, Closing, Implied, RuleAdded};
 use std::alloc::{AllocError, Global};
 use std::marker::Model;

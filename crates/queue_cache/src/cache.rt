@@ -1,13 +1,84 @@
-//! Caches.
-ghost use Rattle.std.specs.Prelude.{◌≡◌, ◌+◌, ◌-◌, ◌*◌, ◌%◌, ◌^◌, ◌<◌, ◌≤◌, length, IfOk};
-ghost use Rattle.queue_cache.specs.Cache.{empty, high, room, event_at, with_events, without_front, block_count, block_events};
+//! Caches: rings of blocks, each with some events and beside them their tags.
+ghost use Rattle.std.specs.Prelude.{◌≡◌, ◌+◌, ◌-◌, ◌*◌, ◌%◌, ◌^◌, ◌<◌, ◌≤◌, [], ◌∷◌, ◌++◌, length, IfOk, drop, replicate, slice_set, slice_index_or, take};
+ghost use Rattle.circular_buffer.specs.Buffer.{buffer};
+ghost use Rattle.queue_mapper.specs.Place.{tag_of};
+ghost use Rattle.queue_cache.specs.Cache.{empty, high, room, event_at, with_events, without_front, block_count, block_events, tags_of};
 
-use crate::block::{BLOCK_SIZE, Block};
-use crate::ring::{clear_blocks, empty_ring, extend_block, rotate};
 use circular_buffer::HeapCircularBuffer;
+use queue_mapper::tag;
 use std::alloc::{AllocError, Global};
 use std::marker::Model;
 use stream_ident::Event;
+
+/// How many events a block holds.
+pub const BLOCK_SIZE: usize = 64;
+
+/// At most 64 events, and the tags of their streams in a row of bytes that can be searched fast.
+///
+/// A contract sees it as the list of its events.
+#[derive(Drop)]
+pub struct Block {
+    events: Vec<Event>,
+    tags: [u8; BLOCK_SIZE],
+}
+
+impl Model for Block {
+    ghost use Rattle.std.specs.Prelude.{List};
+    ghost use Rattle.std.specs.Vec.{vec_capacity};
+    ghost use Rattle.stream_ident.specs.declared.event.Event.{Event};
+    ghost use Rattle.queue_cache.specs.Block.{IsBlock};
+
+    ghost Value = { List Event };
+
+    ghost view = { λ b. b.events.items };
+
+    ghost invariant = { λ b. IsBlock b.events.items b.events.len (vec_capacity b.events) b.tags };
+}
+
+impl Block {
+    /// The events, in order.
+    pub fn events(&self) -> &[Event]
+        ensures events { result.now ≡ self.now }
+        ensures bound { length self.now ≤ 64 }
+    {
+        self.events.as_slice()
+    }
+
+    /// The tag of each event's stream, at the event's place. What stands past the last event means nothing.
+    pub fn tags(&self) -> &[u8; BLOCK_SIZE]
+        ensures tags { take (length self.now) result.now ≡ tags_of self.now }
+        ensures places { length result.now ≡ 64 }
+    {
+        &self.tags
+    }
+
+    /// An empty block, with room for its events.
+    fn new(alloc: Global) -> Result<Block, AllocError>
+        ensures { IfOk result (λ block. block ≡ []) }
+    {
+        Ok(Block {
+            events: Vec::with_capacity(alloc, BLOCK_SIZE)?,
+            tags: [0; BLOCK_SIZE],
+        })
+    }
+
+    /// Takes events in at the end. It takes no memory.
+    fn extend(&mut self, events: &[Event])
+        requires { length self.old + length events.now ≤ 64 }
+        ensures { self.new ≡ self.old ++ events.now }
+    {
+        let start = self.events.len();
+        write_tags(&mut self.tags, start, events);
+        self.events.extend_from_slice(events).unwrap();
+    }
+
+    /// Drops the events, and keeps their room.
+    fn clear(&mut self)
+        ensures { self.new ≡ [] }
+    {
+        self.events.clear();
+    }
+}
 
 /// A cache of events at positions that follow one another, in 1 to 64 blocks of 64.
 ///
@@ -154,5 +225,65 @@ impl QueueCache {
     {
         extend_block(&mut self.ring, self.len / BLOCK_SIZE, events);
         self.len += events.len();
+    }
+}
+
+/// A ring of so many empty blocks, each with its room.
+fn empty_ring(alloc: Global, blocks: usize) -> Result<HeapCircularBuffer<Block>, AllocError>
+    ensures { IfOk result (λ ring. ring ≡ buffer (replicate blocks []) blocks) }
+{
+    let mut ring = HeapCircularBuffer::with_capacity(alloc, blocks)?;
+    for _ in 0..blocks {
+        ring.push_back(Block::new(alloc)?);
+    }
+    Ok(ring)
+}
+
+/// Takes events in at the end of a block.
+fn extend_block(ring: &mut HeapCircularBuffer<Block>, index: usize, events: &[Event])
+    requires index { index < length ring.old.items }
+    requires room { length (slice_index_or ring.old.items index []) + length events.now ≤ 64 }
+    ensures { ring.new ≡ buffer (slice_set ring.old.items index (slice_index_or ring.old.items index [] ++ events.now)) ring.old.capacity }
+{
+    let block = ring.get_mut(index).unwrap();
+    block.extend(events);
+}
+
+/// Empties a block.
+fn clear_block(ring: &mut HeapCircularBuffer<Block>, index: usize)
+    requires { index < length ring.old.items }
+    ensures { ring.new ≡ buffer (slice_set ring.old.items index []) ring.old.capacity }
+{
+    let block = ring.get_mut(index).unwrap();
+    block.clear();
+}
+
+/// Empties each block.
+fn clear_blocks(ring: &mut HeapCircularBuffer<Block>)
+    ensures { ring.new ≡ buffer (replicate (length ring.old.items) []) ring.old.capacity }
+{
+    for index in 0..ring.len() {
+        clear_block(ring, index);
+    }
+}
+
+/// Puts the front block, emptied, behind all others.
+fn rotate(ring: &mut HeapCircularBuffer<Block>)
+    requires some { 0 < length ring.old.items }
+    requires room { length ring.old.items ≤ ring.old.capacity }
+    ensures { ring.new ≡ buffer (drop 1 ring.old.items ++ [] ∷ []) ring.old.capacity }
+{
+    let mut front = ring.pop_front().unwrap();
+    front.clear();
+    ring.push_back(front);
+}
+
+/// Writes the tags of events from a place on.
+fn write_tags(tags: &mut [u8], start: usize, events: &[Event])
+    requires { start + length events.now ≤ length tags.old }
+    ensures { take (start + length events.now) tags.new ≡ take start tags.old ++ tags_of events.now }
+{
+    for (index, event) in events.iter().enumerate() {
+        tags[start + index] = tag(&event.stream);
     }
 }

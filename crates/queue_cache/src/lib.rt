@@ -4,9 +4,6 @@
 //! All memory is taken when a cache is made. Events are then taken in, dropped and read without any.
 #![tactic(auto)]
 
-mod block;
 mod cache;
-mod ring;
 
-pub use block::{BLOCK_SIZE, Block};
-pub use cache::QueueCache;
+pub use cache::{BLOCK_SIZE, Block, QueueCache};

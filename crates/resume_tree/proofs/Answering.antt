@@ -12,7 +12,7 @@ use Rattle.least_tree.specs.Keys.{first_at_most, is_at_most, least_key, least_pl
 use Rattle.ranking.specs.Ranked.{IsFirstPast}
 use Rattle.ranking.proofs.LeastLemmas.{first_at_most-met, first_at_most-missed, least_by_rank, next_by_rank, IsFirstKey}
 use Rattle.stream_ident.specs.Words.{or_else, has_number}
-use Rattle.resume_tree.specs.declared.leaf.Leaf.{Leaf}
+use Rattle.resume_tree.specs.declared.resumes.Leaf.{Leaf}
 use Rattle.resume_tree.specs.Leaves.{due_after, is_due, least_resume, resumes_below, slowest, slowest_at, IsNameAt}
 use Rattle.resume_tree.specs.Ranks.{due_at, due_key, name_of, AreKept}
 use Rattle.resume_tree.proofs.LeastKeys.{least_key-is, least_key-same, IsAt}

@@ -8,7 +8,7 @@ use Rattle.stream_ident.specs.declared.ident.SubName.{SubName}
 use Rattle.stream_ident.specs.SubName.{same_sub, sub_lt}
 use Rattle.ranking.specs.Ranked.{IsFirstPast, IsKeySet}
 use Rattle.ranking.proofs.EntryLemmas.{distinct_names, keys-insert, keys-remove, keys-set, ranked-insert, ranked-remove, ranked-set}
-use Rattle.resume_tree.specs.declared.leaf.Leaf.{Leaf}
+use Rattle.resume_tree.specs.declared.resumes.Leaf.{Leaf}
 use Rattle.resume_tree.specs.Leaves.{open_leaf, AreDistinct, IsNew}
 use Rattle.resume_tree.specs.Ranks.{due_at, due_key, name_of, resume_key, AreBelow, AreKept}
 use Rattle.stream_ident.proofs.NameOrders.{sub_order}

@@ -4,7 +4,7 @@ use Rattle.stream_ident.specs.declared.ident.SubName.{SubName}
 use Rattle.stream_ident.specs.SubName.{same_sub, sub_lt}
 use Rattle.least_tree.specs.Keys.{least_key}
 use Rattle.stream_ident.specs.Words.{least, next_after, has_number}
-use Rattle.resume_tree.specs.declared.leaf.Leaf.{Leaf}
+use Rattle.resume_tree.specs.declared.resumes.Leaf.{Leaf}
 
 -- the least resume of the open subscriptions, none where none is open
 abbrev pub least_resume : List Leaf → Option ℕ

@@ -2,10 +2,6 @@
 //! next that is due, in logarithmic time.
 #![tactic(auto)]
 
-mod keys;
-mod leaf;
-mod order;
 mod resumes;
 
-pub use leaf::Leaf;
-pub use resumes::Resumes;
+pub use resumes::{Leaf, Resumes};

@@ -1,17 +1,30 @@
-//! The resumes of a partition.
-ghost use Rattle.std.specs.Prelude.{◌≡◌, ◌+◌, ◌-◌, ◌^◌, ◌<◌, ◌≤◌, ◌↔◌, [], ◌∷◌, ◌++◌, length, take, get_or, set, is_ok, IsTrue, IfSome, IfNone, None, if◌then◌else◌};
+//! The resumes of a partition: a leaf for each subscription, the order of the leaves by name, and their
+//! keys in two trees.
+ghost use Rattle.std.specs.Prelude.{◌≡◌, ◌+◌, ◌-◌, ◌^◌, ◌<◌, ◌≤◌, ◌↔◌, [], ◌∷◌, ◌++◌, length, take, get_or, set, is_ok, IsTrue, IfSome, IfNone, None, Some, if◌then◌else◌};
 ghost use Rattle.std.specs.Option.{option_copied};
-ghost use Rattle.resume_tree.specs.declared.leaf.Leaf.{Leaf};
+ghost use Rattle.stream_ident.specs.SubName.{sub_lt};
+ghost use Rattle.least_tree.specs.Keys.{inserted};
+ghost use Rattle.ranking.specs.Ranked.{is_up_to, AreRanked, IsFirstPast};
+ghost use Rattle.resume_tree.specs.declared.resumes.Leaf.{Leaf};
 ghost use Rattle.resume_tree.specs.Leaves.{changed, due_after, least_resume, open_leaf, slowest, AreDistinct, IsNameAt, IsNew};
+ghost use Rattle.resume_tree.specs.Ranks.{due_at, name_of};
 
-use crate::keys::{due_at, insert_keys};
-use crate::leaf::Leaf;
-use crate::order::first_past;
 use least_tree::LeastTree;
 use ranking::Ranking;
 use std::alloc::{AllocError, Global};
 use std::marker::Model;
 use stream_ident::SubName;
+
+/// What is kept of the record of a subscription, to find the slowest one and the next that is due.
+#[derive(Clone, Copy, Debug, PartialEq, Eq)]
+pub struct Leaf {
+    /// The name of the subscription.
+    pub name: SubName,
+    /// The position from which it would resume, counted from 0; none where it is closed.
+    pub resume: Option<usize>,
+    /// Whether it has handled what it has not acknowledged.
+    pub is_unacknowledged: bool,
+}
 
 /// The leaves of the subscriptions of a partition, by the number of their records, counted from 0.
 ///
@@ -26,7 +39,7 @@ pub struct Resumes {
 
 impl Model for Resumes {
     ghost use Rattle.std.specs.Prelude.{List};
-    ghost use Rattle.resume_tree.specs.declared.leaf.Leaf.{Leaf};
+    ghost use Rattle.resume_tree.specs.declared.resumes.Leaf.{Leaf};
 
     ghost Value = { List Leaf };
 
@@ -166,4 +179,63 @@ impl Resumes {
         let from = first_past(self.leaves.as_slice(), self.ranking.numbers(), after);
         self.ranking.next_number(&self.due, from, high)
     }
+}
+
+/// The key of a leaf among those that are due: it is at most `high` exactly where the leaf is due at `high`.
+fn due_at(resume: Option<usize>, is_unacknowledged: bool) -> Option<usize>
+    requires { IfSome resume (λ position. position + 2 < 2 ^ 64) }
+    ensures key { result ≡ due_at resume is_unacknowledged }
+    ensures below { IfSome result (λ key. key + 1 < 2 ^ 64) }
+{
+    let position = resume?;
+    if is_unacknowledged {
+        return Some(0);
+    }
+    Some(position + 1)
+}
+
+/// Puts the keys of an open leaf with nothing to acknowledge at a rank.
+///
+/// # Errors
+/// The call failed to allocate. Both trees are then as before.
+fn insert_keys(
+    alloc: Global,
+    resumes: &mut LeastTree,
+    due: &mut LeastTree,
+    rank: usize,
+    resume: usize,
+) -> Result<(), AllocError>
+    requires resumes { rank ≤ length resumes.old }
+    requires due { rank ≤ length due.old }
+    requires below { resume + 2 < 2 ^ 64 }
+    ensures resumes { resumes.new ≡ (if is_ok result then inserted rank (Some resume) resumes.old else resumes.old) }
+    ensures due { due.new ≡ (if is_ok result then inserted rank (Some (resume + 1)) due.old else due.old) }
+{
+    resumes.insert(alloc, rank, Some(resume))?;
+    if let Err(error) = due.insert(alloc, rank, Some(resume + 1)) {
+        resumes.remove(rank);
+        return Err(error);
+    }
+    Ok(())
+}
+
+/// Whether there is a leaf with this number, and its name is not greater than the given one.
+fn is_up_to(leaves: &[Leaf], number: usize, name: &SubName) -> bool
+    ensures { result ≡ is_up_to name_of sub_lt leaves.now name.now number }
+{
+    match leaves.get(number) {
+        Some(leaf) => !name.is_before(&leaf.name),
+        None => false,
+    }
+}
+
+/// The first rank whose name is greater than the given one, 0 where none is given. A binary search.
+fn first_past(leaves: &[Leaf], order: &[usize], after: Option<&SubName>) -> usize
+    requires { AreRanked name_of sub_lt leaves.now order.now }
+    ensures { IsFirstPast name_of sub_lt (option_copied after.entry) leaves.now order.now result }
+{
+    let Some(name) = after else {
+        return 0;
+    };
+    order.partition_point(|number| is_up_to(leaves, *number, name))
 }

@@ -6,7 +6,7 @@ use Rattle.stream_ident.specs.declared.event.Event.{Event}
 use Rattle.stream_ident.specs.declared.ident.SubName.{SubName}
 use Rattle.stream_ident.specs.Token.{token_text}
 use Rattle.stream_model.specs.declared.plain.PlainPartition.{PlainPartition}
-use Rattle.step_core.specs.declared.summary.SubSummary.{SubSummary}
+use Rattle.step_core.specs.declared.reading.SubSummary.{SubSummary}
 use Rattle.step_core.specs.Reads.{handled_of, summaries_in_order}
 use Rattle.script_parser.specs.Pieces.{Text, spelling}
 use Rattle.script_parser.specs.Spelling.{stream_text, grain_text, sub_text}

@@ -13,7 +13,7 @@ use Rattle.stream_model.specs.Positions.{events_at, token_at}
 use Rattle.stream_model.specs.Turns as plain
 use Rattle.stream_model.proofs.EachOf.{All-drop}
 use Rattle.stream_model.proofs.RecordBounds.{grain-fits}
-use Rattle.consumer_grain.specs.declared.delivery.Delivery.{Delivery}
+use Rattle.consumer_grain.specs.declared.mailbox.Delivery.{Delivery}
 use Rattle.consumer_grain.specs.declared.told.Begun.{Begun}
 use Rattle.consumer_grain.specs.declared.told.Begun.TheVariants as begun
 use Rattle.consumer_grain.specs.Activations.{PlainActivation, begin, begin_front, begin_turn, front_of}

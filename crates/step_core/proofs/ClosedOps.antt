@@ -22,7 +22,7 @@ use Rattle.stream_model.specs.Publishing as plain
 use Rattle.stream_model.proofs.ChangedValues.{All-changed, place_of-changed, place_of-unchanged}
 use Rattle.stream_model.proofs.Lookups.{place_of-value, place_of-within}
 use Rattle.stream_ident.proofs.SameValues.{same_sub-equal}
-use Rattle.consumer_grain.specs.declared.delivery.Delivery.{Delivery}
+use Rattle.consumer_grain.specs.declared.mailbox.Delivery.{Delivery}
 use Rattle.consumer_grain.specs.Activations.{PlainActivation, forgotten}
 use Rattle.consumer_grain.specs.Subscriptions.{PlainState, closed}
 use Rattle.pubsub_registry.specs.declared.registration.Registration.{Registration}

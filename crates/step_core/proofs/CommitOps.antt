@@ -25,8 +25,8 @@ use Rattle.stream_model.proofs.Lookups.{place_of-within}
 use Rattle.stream_laws.proofs.Marks.{IsNext}
 use Rattle.stream_model.proofs.RecordBounds.{grain-fits}
 use Rattle.stream_ident.proofs.SameValues.{same_sub-refl}
-use Rattle.consumer_grain.specs.declared.delivery.Delivery.{Delivery}
-use Rattle.consumer_grain.specs.declared.turn.RunningTurn.{RunningTurn}
+use Rattle.consumer_grain.specs.declared.mailbox.Delivery.{Delivery}
+use Rattle.consumer_grain.specs.declared.activation.RunningTurn.{RunningTurn}
 use Rattle.consumer_grain.specs.declared.told.TurnEnd.{TurnEnd}
 use Rattle.consumer_grain.specs.Activations.{PlainActivation, commit, current_turn, holds, is_turn, runs}
 use Rattle.consumer_grain.specs.Subscriptions.{committed, rises_from}

@@ -11,8 +11,8 @@ use Rattle.stream_ident.specs.Words.{change_at, first_at, place_of, value_at}
 use Rattle.stream_model.specs.declared.plain.Grain.{Grain}
 use Rattle.stream_model.specs.Positions.{grain_at, new_grain, running_in, waiting_in, with_grain}
 use Rattle.stream_model.proofs.Lookups.{place_of-added, place_of-change, place_of-none, place_of-value, place_of-within}
-use Rattle.consumer_grain.specs.declared.delivery.Delivery.{Delivery}
-use Rattle.consumer_grain.specs.declared.turn.RunningTurn.{RunningTurn}
+use Rattle.consumer_grain.specs.declared.mailbox.Delivery.{Delivery}
+use Rattle.consumer_grain.specs.declared.activation.RunningTurn.{RunningTurn}
 use Rattle.consumer_grain.specs.Activations.{PlainActivation, holds, new_activation, runs}
 use Rattle.pubsub_registry.specs.declared.registration.Registration.{Registration}
 use Rattle.step_core.specs.Numbers.{AreDistinct, IsBelow, TurnIsBelow}

@@ -7,7 +7,7 @@ use Rattle.stream_ident.specs.declared.ident.SubName.{SubName}
 use Rattle.stream_ident.specs.SubName.{same_sub}
 use Rattle.stream_model.specs.Turns as plain
 use Rattle.stream_ident.proofs.SameValues.{same_sub-refl}
-use Rattle.consumer_grain.specs.declared.delivery.Delivery.{Delivery}
+use Rattle.consumer_grain.specs.declared.mailbox.Delivery.{Delivery}
 use Rattle.consumer_grain.specs.Activations.{front_of}
 use Rattle.pubsub_registry.specs.declared.registration.Registration.{Registration}
 use Rattle.step_core.specs.View.{name_at, delivery_of}

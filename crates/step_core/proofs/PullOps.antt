@@ -17,8 +17,8 @@ use Rattle.stream_ident.specs.Words.{value_at}
 use Rattle.stream_model.specs.declared.plain.Subscription.{Subscription}
 use Rattle.stream_model.specs.Pulling as plain
 use Rattle.stream_model.proofs.EachOf.{All-weaken}
-use Rattle.consumer_grain.specs.declared.delivery.Delivery.{Delivery}
-use Rattle.consumer_grain.specs.declared.turn.RunningTurn.{RunningTurn}
+use Rattle.consumer_grain.specs.declared.mailbox.Delivery.{Delivery}
+use Rattle.consumer_grain.specs.declared.activation.RunningTurn.{RunningTurn}
 use Rattle.consumer_grain.specs.Activations.{PlainActivation}
 use Rattle.consumer_grain.specs.Subscriptions.{PlainState, new_state}
 use Rattle.pubsub_registry.specs.declared.registration.Registration.{Registration}

@@ -15,8 +15,8 @@ use Rattle.stream_model.specs.declared.reply.Reply.TheVariants as reply
 use Rattle.stream_model.specs.Positions.{new_subscription, with_sub}
 use Rattle.stream_model.specs.Publishing as plain
 use Rattle.stream_model.proofs.SubNames.{AreGiven, with_value-new}
-use Rattle.consumer_grain.specs.declared.delivery.Delivery.{Delivery}
-use Rattle.consumer_grain.specs.declared.turn.RunningTurn.{RunningTurn}
+use Rattle.consumer_grain.specs.declared.mailbox.Delivery.{Delivery}
+use Rattle.consumer_grain.specs.declared.activation.RunningTurn.{RunningTurn}
 use Rattle.consumer_grain.specs.Activations.{PlainActivation}
 use Rattle.consumer_grain.specs.Subscriptions.{new_state}
 use Rattle.pubsub_registry.specs.declared.registration.Registration.{Registration}

@@ -14,7 +14,7 @@ use Rattle.stream_ident.specs.SubName.{sub_lt}
 use Rattle.stream_ident.specs.contracts.ident.SubNameOrd.TheImpl as name_order
 use Rattle.stream_ident.specs.contracts.ident.SubNameOrd.TheImpl.Laws.{total-law}
 use Rattle.stream_model.specs.Draining.{in_order}
-use Rattle.step_core.specs.declared.summary.SubSummary.{SubSummary}
+use Rattle.step_core.specs.declared.reading.SubSummary.{SubSummary}
 use Rattle.step_core.specs.Reads.{is_named_before}
 use Rattle.step_core.proofs.SortedOnce.{sorted-stable}
 

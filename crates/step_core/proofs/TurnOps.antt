@@ -15,12 +15,12 @@ use Rattle.stream_model.specs.declared.plain.Subscription.{Subscription}
 use Rattle.stream_ident.specs.declared.token.Token.{Token}
 use Rattle.stream_model.specs.Positions.{events_at, token_at, with_sub}
 use Rattle.stream_model.specs.Turns as plain
-use Rattle.consumer_grain.specs.declared.delivery.Delivery.{Delivery}
+use Rattle.consumer_grain.specs.declared.mailbox.Delivery.{Delivery}
 use Rattle.consumer_grain.specs.declared.told.Begun.{Begun}
 use Rattle.consumer_grain.specs.declared.told.Begun.TheVariants as begun
 use Rattle.consumer_grain.specs.Activations.{PlainActivation, begin, begin_front, begin_turn, front_of, started}
 use Rattle.stream_ident.specs.Blocks.{turn_size}
-use Rattle.consumer_grain.specs.declared.turn.RunningTurn.{RunningTurn}
+use Rattle.consumer_grain.specs.declared.activation.RunningTurn.{RunningTurn}
 use Rattle.consumer_grain.specs.Subscriptions.{PlainState, committed}
 use Rattle.pubsub_registry.specs.declared.registration.Registration.{Registration}
 use Rattle.step_core.specs.Numbers.{AreDistinct, IsBelow, TurnIsBelow}

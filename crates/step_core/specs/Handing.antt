@@ -1,7 +1,7 @@
 -- An event is handed to the grain of a subscription.
 use Rattle.std.specs.Prelude.{◌≡◌, suc, ◌<◌, Bool, true, Some, length, if◌then◌else◌}
 use Rattle.stream_model.specs.Positions.{next_position}
-use Rattle.consumer_grain.specs.declared.delivery.Delivery.{Delivery}
+use Rattle.consumer_grain.specs.declared.mailbox.Delivery.{Delivery}
 use Rattle.consumer_grain.specs.Subscriptions.{advanced}
 use Rattle.queue_cache.specs.Cache.{high}
 use Rattle.subscription_table.specs.Table.{state_at, with_state}

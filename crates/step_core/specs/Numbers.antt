@@ -3,7 +3,7 @@ use Rattle.std.specs.Prelude.{◌≡◌, ℕ, ◌<◌, true, List, length, Optio
 use Rattle.std.specs.List.{AllByRecursion}
 use Rattle.stream_ident.specs.declared.ident.SubName.{SubName}
 use Rattle.stream_ident.specs.SubName.{same_sub}
-use Rattle.consumer_grain.specs.declared.turn.RunningTurn.{RunningTurn}
+use Rattle.consumer_grain.specs.declared.activation.RunningTurn.{RunningTurn}
 use Rattle.consumer_grain.specs.Activations.{PlainActivation}
 use Rattle.pubsub_registry.specs.declared.registration.Registration.{Registration}
 use Rattle.step_core.specs.View.{name_at}

@@ -7,7 +7,7 @@ use Rattle.stream_model.specs.declared.plain.PlainPartition.{PlainPartition}
 use Rattle.stream_model.specs.declared.plain.Subscription.{Subscription}
 use Rattle.stream_model.specs.Draining.{in_order}
 use Rattle.stream_model.specs.Positions.{events_at, sub_at}
-use Rattle.step_core.specs.declared.summary.SubSummary.{SubSummary}
+use Rattle.step_core.specs.declared.reading.SubSummary.{SubSummary}
 
 abbrev pub summary_of : SubName × Subscription → SubSummary
 summary_of entry =

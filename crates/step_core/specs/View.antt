@@ -8,8 +8,8 @@ use Rattle.stream_model.specs.declared.plain.Delivery as plain_delivery
 use Rattle.stream_model.specs.declared.plain.Grain.{Grain}
 use Rattle.stream_model.specs.declared.plain.RunningTurn as plain_turn
 use Rattle.stream_model.specs.declared.plain.Subscription.{Subscription}
-use Rattle.consumer_grain.specs.declared.delivery.Delivery.{Delivery}
-use Rattle.consumer_grain.specs.declared.turn.RunningTurn.{RunningTurn}
+use Rattle.consumer_grain.specs.declared.mailbox.Delivery.{Delivery}
+use Rattle.consumer_grain.specs.declared.activation.RunningTurn.{RunningTurn}
 use Rattle.consumer_grain.specs.Activations.{PlainActivation}
 use Rattle.consumer_grain.specs.Subscriptions.{PlainState}
 use Rattle.pubsub_registry.specs.declared.registration.Registration.{Registration}

@@ -13,16 +13,13 @@ mod moving;
 mod outcome;
 mod partition;
 mod parts;
-mod producing;
+mod publishing;
 mod pulling;
 mod reading;
-mod stepping;
-mod subscribing;
-mod summary;
 mod turns;
 
 pub use partition::Partition;
+pub use reading::SubSummary;
 pub use resume_tree::{Leaf, Resumes};
 pub use stream_laws as laws;
 pub use stream_model::{DrainEnd, Events, Limits, Op, Pending, Reply, Start};
-pub use summary::SubSummary;

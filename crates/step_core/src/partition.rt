@@ -1,4 +1,4 @@
-//! The partition.
+//! The partition, and which module does each operation.
 ghost use Rattle.std.specs.Prelude.{◌≡◌, ◌≤◌, true, length, IfOk, OnErr, OnOk};
 ghost use Rattle.std.specs.Option.{option_map};
 ghost use Rattle.stream_ident.specs.Name.{grain_lt};
@@ -12,14 +12,22 @@ ghost use Rattle.step_core.specs.Reads.{handled_of, summaries_in_order};
 ghost use Rattle.step_core.specs.Replied.{answered, IsOfLog};
 ghost use Rattle.step_core.specs.Run.{Does, StopsBefore};
 ghost use Rattle.step_core.specs.Serving.{served_of};
+ghost use Rattle.step_core.specs.Assembly.{Agrees, IsAssembled};
+ghost use Rattle.step_core.specs.PlainOf.{plain_of};
 
+use crate::acknowledging::{ack, retry};
+use crate::delivering::deliver;
 use crate::draining::Served;
-use crate::looking::{all_waiting, least_running, least_waiting, pending};
+use crate::looking::{all_waiting, due, least_running, least_waiting, pending, quiet, ready};
+use crate::moving::{move_queue, purge};
 use crate::outcome::Outcome;
 use crate::parts::Parts;
-use crate::reading::{handled, high_token, last_handled, low_token, open_names, served, summaries};
-use crate::stepping::step;
-use crate::summary::SubSummary;
+use crate::publishing::{add_rule, publish, subscribe, unsubscribe};
+use crate::pulling::pull;
+use crate::reading::{
+    SubSummary, handled, high_token, last_handled, low_token, open_names, served, summaries,
+};
+use crate::turns::{begin, commit, deactivate};
 use grain_table::GrainTable;
 use partition_queue::PartitionQueue;
 use pulling_agent::Agent;
@@ -294,5 +302,53 @@ impl fmt::Debug for Partition {
             .field("subs", &self.parts.subs.len())
             .field("grains", &self.parts.grains.len())
             .finish_non_exhaustive()
+    }
+}
+
+/// Does one operation on the parts of a partition.
+pub(crate) fn step(parts: &mut Parts, alloc: Global, op: &Op) -> Result<Outcome, AllocError>
+    requires { Agrees parts.old }
+    ensures assembled { IsAssembled parts.new }
+    ensures performs { Performs (plain_of parts.old) (plain_of parts.new) (answered parts.new.queue.events result) (step (plain_of parts.old) op.now) }
+    ensures of_log { IfOk result (IsOfLog parts.new.queue.events) }
+    ensures memory { OnErr result (takes_memory (step (plain_of parts.old) op.now).1 ≡ true) }
+{
+    match *op {
+        Op::Publish {
+            stream,
+            ref payloads,
+        } => Ok(Outcome::Told(publish(parts, alloc, stream, payloads)?)),
+        Op::Subscribe {
+            stream,
+            grain,
+            start,
+        } => Ok(Outcome::Told(subscribe(parts, alloc, stream, grain, start)?)),
+        Op::Unsubscribe { sub } => Ok(Outcome::Told(unsubscribe(parts, sub))),
+        Op::AddRule { kind, namespace } => {
+            Ok(Outcome::Told(add_rule(parts, alloc, kind, namespace)?))
+        }
+        Op::Pull { generation, max } => Ok(Outcome::Told(pull(parts, alloc, generation, max)?)),
+        Op::Deliver { generation, sub } => {
+            Ok(Outcome::Told(deliver(parts, alloc, generation, sub)?))
+        }
+        Op::Retry { generation, sub } => Ok(Outcome::Told(retry(parts, generation, sub))),
+        Op::Ack {
+            generation,
+            sub,
+            token,
+        } => Ok(Outcome::Told(ack(parts, generation, sub, token))),
+        Op::Purge { generation, keep } => Ok(Outcome::Told(purge(parts, generation, keep))),
+        Op::Begin { grain, max } => Ok(begin(parts, grain, max)),
+        Op::Commit {
+            grain,
+            activation,
+            turn,
+            note,
+        } => Ok(Outcome::Told(commit(parts, alloc, grain, activation, turn, note)?)),
+        Op::Deactivate { grain } => Ok(Outcome::Told(deactivate(parts, grain))),
+        Op::Move { silo } => Ok(Outcome::Told(move_queue(parts, silo))),
+        Op::Ready { after } => Ok(Outcome::Told(ready(parts, after))),
+        Op::Due { after } => Ok(Outcome::Told(due(parts, after))),
+        Op::Quiet => Ok(Outcome::Told(quiet(parts))),
     }
 }

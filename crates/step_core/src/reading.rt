@@ -14,11 +14,27 @@ ghost use Rattle.step_core.specs.View.{sub_of, subs_of};
 
 use crate::draining::Served;
 use crate::parts::Parts;
-use crate::summary::SubSummary;
 use partition_queue::PartitionQueue;
 use std::alloc::{AllocError, Global};
-use stream_ident::{Event, SubName, Token};
+use stream_ident::{Event, GrainId, StreamId, SubName, Token};
 use subscription_table::SubscriptionTable;
+
+/// A subscription that has a record.
+///
+/// Summaries are ordered by name first, and no two of a partition share a name.
+#[derive(Clone, Copy, Debug, PartialEq, Eq, PartialOrd, Ord)]
+pub struct SubSummary {
+    /// Its name.
+    pub name: SubName,
+    /// The stream.
+    pub stream: StreamId,
+    /// The grain that consumes it.
+    pub grain: GrainId,
+    /// It is owed the events of its stream from this token on.
+    pub start: Token,
+    /// Whether it hasn't been unsubscribed.
+    pub is_open: bool,
+}
 
 /// The token of the first event that the cache keeps, or would keep next.
 pub(crate) fn low_token(parts: &Parts) -> Token

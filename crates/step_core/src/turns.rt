@@ -5,7 +5,7 @@ ghost use Rattle.stream_ident.specs.Words.{past, Performs};
 ghost use Rattle.stream_model.specs.Positions.{is_spent};
 ghost use Rattle.stream_model.specs.Step.{takes_memory};
 ghost use Rattle.stream_model.specs.Turns.{begin, commit, deactivate};
-ghost use Rattle.consumer_grain.specs.declared.delivery.Delivery.{Delivery};
+ghost use Rattle.consumer_grain.specs.declared.mailbox.Delivery.{Delivery};
 ghost use Rattle.consumer_grain.specs.Subscriptions.{rises_from};
 ghost use Rattle.grain_table.specs.Changes.{activation_at};
 ghost use Rattle.subscription_table.specs.Table.{state_at};

@@ -3,7 +3,7 @@ use Rattle.std.specs.Prelude.{ℕ, Bool, ◌&&◌, ◌||◌, List, Option, Some,
 use Rattle.std.specs.Ordering.{nat_cmp, is_lt}
 use Rattle.std.specs.Cmp.Lexicographic.{pointwise, slice_cmp}
 use Rattle.stream_ident.specs.Alphabet.{wrong_in_name, wrong_in_payload}
-use Rattle.stream_ident.specs.declared.name.WrongByte.{WrongByte}
+use Rattle.stream_ident.specs.declared.ident.WrongByte.{WrongByte}
 use Rattle.stream_ident.specs.declared.payload.BadPayload.{BadPayload}
 use Rattle.stream_ident.specs.declared.ident.BadName.{BadName}
 use Rattle.stream_ident.specs.declared.ident.StreamId.{StreamId}

@@ -1,9 +1,175 @@
-//! Streams, grains and subscriptions.
-ghost use Rattle.std.specs.Prelude.{◌≡◌};
+//! Names, and the streams, grains and subscriptions that they name.
+ghost use Rattle.std.specs.Prelude.{◌≡◌, ◌<◌, ◌≤◌, not, length, Some, nat_eq, position, IfSome, refl};
+ghost use Rattle.std.specs.Ordering.{nat_cmp};
+ghost use Rattle.std.specs.Hash as fed;
+ghost use Rattle.std.specs.Cmp.Lexicographic.{pointwise, slice_cmp, nat_list_eq_equiv, nat_list_cmp_total, texts_ties, texts_po};
+ghost use Rattle.std.specs.Cmp.{partial_equiv_from_equiv};
+ghost use Rattle.std.specs.Cmp.Rules.{hashing};
+ghost use Rattle.std.proofs.Common.{rules};
 ghost use Rattle.stream_ident.specs.Name.{field_of};
+ghost use Rattle.stream_ident.specs.Alphabet.{is_name_byte, IsName, wrong_in_name};
 
-use crate::name::{Name, WrongByte};
+use crate::text::padded;
+use std::cmp::Ordering;
+use std::fmt;
+use std::hash::{Hash, Hasher};
+use std::marker::Model;
 use thiserror::Error;
+
+/// The most bytes of a name.
+const MAX_LEN: usize = 64;
+
+/// A namespace, a kind or a key: 1 to 64 bytes of `A-Z a-z 0-9 _ . -`.
+///
+/// A contract sees it as the list of its bytes. Names are equal, ordered and hashed by their bytes.
+#[derive(Clone, Copy)]
+pub struct Name {
+    len: u8,
+    bytes: [u8; MAX_LEN],
+}
+
+impl Model for Name {
+    ghost use Rattle.std.specs.Prelude.{ℕ, List, ◌-◌, ◌++◌, length, replicate, take};
+
+    ghost Value = { List ℕ };
+
+    ghost use Rattle.stream_ident.specs.Alphabet.{IsName};
+    ghost use Rattle.stream_ident.specs.Text.{IsPadded, length-padded, refilled};
+
+    ghost view = { λ n. take n.len n.bytes };
+
+    ghost invariant = { λ n. IsPadded 64 n.len n.bytes × IsName (take n.len n.bytes) };
+
+    ghost inverse = { λ bytes. record { len = length bytes; bytes = bytes ++ replicate (64 - length bytes) 0 } };
+
+    ghost inverse_ok = { λ a h i. record { len = length-padded 64 a.len a.bytes h.0 i; bytes = refilled 64 a.len a.bytes h.0 i } };
+}
+
+/// Bytes that are no name, and the least place at which they are wrong: that of the first byte outside
+/// the alphabet, 64 where they are more than 64, and 0 where there are none.
+#[derive(Clone, Copy, Debug, PartialEq, Eq, Error)]
+#[error("no name: wrong at byte {at}")]
+pub struct WrongByte {
+    /// The place, counted from 0.
+    pub at: usize,
+}
+
+impl Name {
+    ghost use Rattle.stream_ident.specs.Name.{name_of, name_lt};
+
+    /// The name of these bytes, or the least place at which they are wrong.
+    pub fn new(bytes: &[u8]) -> Result<Name, WrongByte>
+        ensures { result ≡ name_of bytes.now }
+    {
+        if let Some(at) = wrong_in_name(bytes) {
+            return Err(WrongByte { at });
+        }
+        Ok(Name {
+            len: bytes.len() as u8,
+            bytes: padded(bytes),
+        })
+    }
+
+    /// The bytes of the name.
+    pub fn as_bytes(&self) -> &[u8]
+        ensures bytes { result.now ≡ self.now }
+        ensures name { IsName self.now }
+    {
+        &self.bytes[..self.len as usize]
+    }
+
+    /// Whether this name comes before another, by their bytes: a name comes before those that it begins.
+    pub fn is_before(&self, other: &Name) -> bool
+        ensures { result ≡ name_lt self.now other.now }
+    {
+        self < other
+    }
+}
+
+/// Whether a byte may stand in a name.
+fn is_name_byte(byte: u8) -> bool
+    ensures { result ≡ is_name_byte byte }
+{
+    matches!(byte, b'A'..=b'Z' | b'a'..=b'z' | b'0'..=b'9' | b'_' | b'.' | b'-')
+}
+
+/// The place of the first byte that may not stand in a name.
+fn outside_alphabet(bytes: &[u8]) -> Option<usize>
+    ensures exact { result ≡ position (λ byte. not (is_name_byte byte)) bytes.now }
+    ensures within { IfSome result (λ at. at < length bytes.now) }
+{
+    bytes.iter().position(|byte| !is_name_byte(*byte))
+}
+
+/// The least place at which bytes are no name.
+fn wrong_in_name(bytes: &[u8]) -> Option<usize>
+    ensures { result ≡ wrong_in_name bytes.now }
+{
+    if bytes.is_empty() {
+        return Some(0);
+    }
+    if bytes.len() <= MAX_LEN {
+        return outside_alphabet(bytes);
+    }
+    outside_alphabet(&bytes[..MAX_LEN]).or(Some(MAX_LEN))
+}
+
+impl PartialEq for Name {
+    ghost eq = { pointwise nat_eq };
+
+    ghost laws = { partial_equiv_from_equiv nat_list_eq_equiv };
+
+    fn eq(&self, other: &Name) -> bool {
+        self.as_bytes() == other.as_bytes()
+    }
+}
+
+impl Eq for Name {
+    ghost laws = { nat_list_eq_equiv };
+}
+
+impl PartialOrd for Name {
+    ghost partial_cmp = { λ x y. Some (slice_cmp nat_cmp x y) };
+
+    ghost laws = { texts_po };
+
+    fn partial_cmp(&self, other: &Name) -> Option<Ordering> {
+        Some(self.cmp(other))
+    }
+}
+
+impl Ord for Name {
+    ghost cmp = { slice_cmp nat_cmp };
+
+    ghost total = { nat_list_cmp_total };
+
+    ghost matches_partial_cmp = { λ x y. refl };
+
+    ghost matches_eq = { texts_ties };
+
+    fn cmp(&self, other: &Name) -> Ordering {
+        self.as_bytes().cmp(other.as_bytes())
+    }
+}
+
+impl Hash for Name {
+    ghost hash_input = { fed.slice fed.u8 };
+
+    ghost respects_eq = { Prim.search (hashing, rules) };
+
+    fn hash<H: Hasher>(&self, state: &mut H) {
+        self.as_bytes().hash(state);
+    }
+}
+
+impl fmt::Debug for Name {
+    fn fmt<W: fmt::Write>(&self, f: &mut fmt::Formatter<W>) -> fmt::Result {
+        for byte in self.as_bytes() {
+            f.write_char(char::from(*byte))?;
+        }
+        Ok(())
+    }
+}
 
 /// A stream: a key in a namespace. It always exists, and is neither created nor destroyed (Orleans:
 /// *Streaming, quickstart*).

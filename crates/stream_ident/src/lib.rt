@@ -5,25 +5,18 @@
 //! its places in itself: none of them takes memory.
 #![tactic(auto)]
 
-mod batch;
 mod event;
 mod ident;
-mod name;
-mod number;
-mod padded;
 mod payload;
 mod row;
 mod rule;
 mod text;
 mod token;
 
-pub use batch::Batch;
 pub use event::Event;
-pub use ident::{BadName, GrainId, StreamId, SubName};
-pub use name::{Name, WrongByte};
-pub use number::parse_number;
-pub use payload::{BadPayload, Payload};
+pub use ident::{BadName, GrainId, Name, StreamId, SubName, WrongByte};
+pub use payload::{BadPayload, Batch, Payload};
 pub use row::Row;
 pub use rule::Rule;
-pub use text::split_once;
+pub use text::{parse_number, split_once};
 pub use token::{BadToken, Token};

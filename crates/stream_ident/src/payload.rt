@@ -1,5 +1,5 @@
-//! Payloads: what an event carries.
-ghost use Rattle.std.specs.Prelude.{◌≡◌, ◌<◌, ◌≤◌, not, length, Some, nat_eq, position, IfSome, refl};
+//! Payloads: what an event carries, and the batches of them that are published.
+ghost use Rattle.std.specs.Prelude.{◌≡◌, ◌<◌, ◌≤◌, not, length, Some, nat_eq, position, IfSome, refl, IfOk};
 ghost use Rattle.std.specs.Ordering.{nat_cmp};
 ghost use Rattle.std.specs.Hash as fed;
 ghost use Rattle.std.specs.Cmp.Lexicographic.{pointwise, slice_cmp, nat_list_eq_equiv, nat_list_cmp_total, texts_ties, texts_po};
@@ -8,7 +8,8 @@ ghost use Rattle.std.specs.Cmp.Rules.{hashing};
 ghost use Rattle.std.proofs.Common.{rules};
 ghost use Rattle.stream_ident.specs.Alphabet.{IsPayload, wrong_in_payload, is_printable};
 
-use crate::padded::padded;
+use crate::text::padded;
+use std::alloc::{AllocError, Global};
 use std::cmp::Ordering;
 use std::fmt;
 use std::hash::{Hash, Hasher};
@@ -157,5 +158,52 @@ impl fmt::Debug for Payload {
             f.write_char(char::from(*byte))?;
         }
         Ok(())
+    }
+}
+
+/// The payloads of one publish, in order.
+///
+/// A contract sees it as the list of its payloads. How many a partition accepts at once is the
+/// partition's rule: a batch may have any number of them.
+#[derive(Debug, Drop)]
+pub struct Batch {
+    payloads: Vec<Payload>,
+}
+
+impl Model for Batch {
+    ghost use Rattle.std.specs.Prelude.{ℕ, List};
+
+    ghost Value = { List (List ℕ) };
+
+    ghost view = { λ b. b.payloads.items };
+}
+
+impl Batch {
+    /// The batch of these payloads. It takes no memory.
+    pub fn of(payloads: Vec<Payload>) -> Batch
+        ensures { result ≡ payloads.items }
+    {
+        Batch { payloads }
+    }
+
+    /// The payloads, in order.
+    pub fn as_slice(&self) -> &[Payload]
+        ensures { result.now ≡ self.now }
+    {
+        self.payloads.as_slice()
+    }
+
+    /// The payloads, in order. It takes no memory.
+    pub fn into_vec(self) -> Vec<Payload>
+        ensures { result.items ≡ self }
+    {
+        self.payloads
+    }
+
+    /// An equal batch, unless no memory is left. This one stays as it is.
+    pub fn copy(&self, alloc: Global) -> Result<Batch, AllocError>
+        ensures { IfOk result (λ copy. copy ≡ self.now) }
+    {
+        Ok(Batch::of(Vec::from_slice(alloc, self.as_slice())?))
     }
 }

@@ -1,5 +1,5 @@
 //! Rules of implicit subscriptions.
-use crate::name::Name;
+use crate::ident::Name;
 
 /// Grains of a kind consume the streams of a namespace, from a batch on.
 #[derive(Clone, Copy, Debug, PartialEq, Eq)]

@@ -4,8 +4,7 @@ ghost use Rattle.stream_ident.specs.declared.token.Token.{Token};
 ghost use Rattle.stream_ident.specs.Number.{number_of};
 ghost use Rattle.stream_ident.specs.Token.{token_text, IsToken, narrowed, token_lt, token_of, token_or};
 
-use crate::number::parse_number;
-use crate::text::split_once;
+use crate::text::{parse_number, split_once};
 use thiserror::Error;
 
 /// The place of an event in its partition: the number of its batch, and its index in that batch.

@@ -6,7 +6,7 @@ use Rattle.std.proofs.KnownBytes.{Appends-nil, Appends-kept}
 use Rattle.std.proofs.lemmas.Bool.{le-ltb, lt-ltb}
 use Rattle.std.proofs.lemmas.List.{append-nil}
 use Rattle.script_parser.specs.declared.command.Fault.{Fault}
-use Rattle.stream_script.specs.declared.simulator.SimConfig.{SimConfig}
+use Rattle.stream_script.specs.declared.simulate.SimConfig.{SimConfig}
 use Rattle.stream_script.specs.declared.simulate.SimError.{SimError}
 use Rattle.stream_script.specs.declared.simulate.SimError.TheVariants as error
 use Rattle.stream_script.specs.Simulation.{Outcome, Simulates, Finishes, ReadsScript, simulation, run_script, too_long}

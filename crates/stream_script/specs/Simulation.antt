@@ -18,7 +18,7 @@ use Rattle.script_parser.specs.declared.command.FaultKind.TheVariants as kind
 use Rattle.script_parser.specs.declared.command.Mode.TheVariants as mode
 use Rattle.script_parser.specs.declared.command.Parsed.{Parsed}
 use Rattle.script_parser.specs.declared.command.Parsed.TheVariants as parsed
-use Rattle.stream_script.specs.declared.simulator.SimConfig.{SimConfig}
+use Rattle.stream_script.specs.declared.simulate.SimConfig.{SimConfig}
 use Rattle.stream_script.specs.declared.simulate.SimError.{SimError}
 use Rattle.stream_script.specs.declared.simulate.SimError.TheVariants as error
 use Rattle.stream_script.specs.Transfers.{AppendsFront}

@@ -3,11 +3,9 @@
 #![tactic(auto)]
 
 mod simulate;
-mod simulator;
 mod source_sink;
 
 pub use script_parser::{Command, EachOp, Fault, FaultKind, Mode, Parsed, parse_line};
 pub use script_printer::{drain_text, reply_text, report_text};
-pub use simulate::{SimError, sim};
-pub use simulator::SimConfig;
+pub use simulate::{SimConfig, SimError, sim};
 pub use source_sink::{Counted, Failed, Sink, Source};

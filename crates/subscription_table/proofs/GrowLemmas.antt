@@ -24,7 +24,7 @@ use Rattle.pubsub_registry.specs.declared.told.Added.TheVariants as add_told
 use Rattle.pubsub_registry.specs.declared.told.Implied.{Implied}
 use Rattle.pubsub_registry.specs.declared.told.Implied.TheVariants as implied_told
 use Rattle.resume_tree.specs.Leaves.{open_leaf}
-use Rattle.resume_tree.specs.declared.leaf.Leaf.{Leaf}
+use Rattle.resume_tree.specs.declared.resumes.Leaf.{Leaf}
 use Rattle.stream_ident.specs.Implying.{added}
 use Rattle.pubsub_registry.specs.Implying.{all_implied, implied, imply, names_with}
 use Rattle.subscription_table.specs.LeavesOf.{leaves_of}

@@ -7,7 +7,7 @@ use Rattle.std.proofs.lemmas.Option.{get_or_from_slice_get, slice_get-get_or, sl
 use Rattle.stream_ident.specs.SubName.{same_sub}
 use Rattle.pubsub_registry.specs.Index.{AreUnique}
 use Rattle.resume_tree.specs.Leaves.{open_leaf, IsNew}
-use Rattle.resume_tree.specs.declared.leaf.Leaf.{Leaf}
+use Rattle.resume_tree.specs.declared.resumes.Leaf.{Leaf}
 use Rattle.subscription_table.specs.Rows.{AreNamed}
 use Rattle.subscription_table.specs.Table.{no_entry}
 use Rattle.subscription_table.proofs.LeafLemmas.{Entry, Names}

@@ -4,7 +4,6 @@
 #![tactic(auto)]
 
 mod progress;
-mod rows;
 mod table;
 
 pub use progress::{Acked, Retried, Sought};

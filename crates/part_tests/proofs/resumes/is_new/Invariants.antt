@@ -1,6 +1,6 @@
 use Rattle.std.proofs.Common.{◌≡◌, ℕ, ◌<◌, get_or, false}
 use Rattle.stream_ident.specs.SubName.{same_sub}
-use Rattle.resume_tree.specs.declared.leaf.Leaf.{Leaf}
+use Rattle.resume_tree.specs.declared.resumes.Leaf.{Leaf}
 use Rattle.part_tests.proofs.resumes.is_new.Given as goal
 
 abbrev pub invariant-loop-number : goal.invariant-loop-number

@@ -1,6 +1,6 @@
 use Rattle.std.proofs.Common.{◌∙◌, ap, sym, subst, map, ◌++◌, [], ◌∷◌, ◌<◌, ◌≤◌, List, take}
 use Rattle.subscription_table.specs.Table.{no_entry, no_state}
-use Rattle.step_core.specs.declared.summary.SubSummary.{SubSummary}
+use Rattle.step_core.specs.declared.reading.SubSummary.{SubSummary}
 use Rattle.step_core.specs.View.{subs_of}
 use Rattle.step_core.specs.Reads.{summary_of}
 use Rattle.step_core.proofs.NumberedReads.{all-taken, summaries-more}

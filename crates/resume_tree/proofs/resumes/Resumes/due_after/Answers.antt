@@ -2,7 +2,7 @@ use Rattle.std.proofs.Common.{List, subst}
 use Rattle.std.specs.Option.{option_copied}
 use Rattle.stream_ident.specs.SubName.{sub_lt}
 use Rattle.ranking.proofs.EntryLemmas.{first_past-along}
-use Rattle.resume_tree.specs.declared.leaf.Leaf.{Leaf}
+use Rattle.resume_tree.specs.declared.resumes.Leaf.{Leaf}
 use Rattle.resume_tree.specs.Leaves.{due_after}
 use Rattle.resume_tree.specs.Ranks.{name_of}
 use Rattle.resume_tree.proofs.Answering.{due-given, IsGiven}

@@ -4,7 +4,7 @@ use Rattle.std.specs.Prelude.{slice_index}
 use Rattle.stream_ident.specs.SubName.{sub_lt}
 use Rattle.ranking.proofs.EntryLemmas.{first_past-along}
 use Rattle.ranking.proofs.RankLemmas.{popped}
-use Rattle.resume_tree.specs.declared.leaf.Leaf.{Leaf}
+use Rattle.resume_tree.specs.declared.resumes.Leaf.{Leaf}
 use Rattle.resume_tree.specs.Leaves.{open_leaf, IsNew}
 use Rattle.resume_tree.specs.Ranks.{name_of}
 use Rattle.resume_tree.proofs.LeafRows.{kept-push}

@@ -1,5 +1,5 @@
 use Rattle.std.proofs.Common.{List, subst}
-use Rattle.resume_tree.specs.declared.leaf.Leaf.{Leaf}
+use Rattle.resume_tree.specs.declared.resumes.Leaf.{Leaf}
 use Rattle.resume_tree.specs.Leaves.{slowest}
 use Rattle.resume_tree.proofs.Answering.{slowest-given, IsGiven}
 use Rattle.resume_tree.proofs.resumes.Resumes.top.Goals as goal

@@ -4,7 +4,7 @@ use Rattle.std.proofs.lemmas.List.{reverse-append}
 use Rattle.stream_model.specs.declared.op.Op.{Op}
 use Rattle.stream_model.specs.Step.{step, takes_memory}
 use Rattle.step_core.specs.Run.{Does, StopsBefore}
-use Rattle.stream_model.proofs.Committing.{OnErr-since}
+use Rattle.stream_model.proofs.Answering.{on-error}
 use Rattle.step_core.proofs.RunLemmas.{Does-more, stops-at-once}
 use Rattle.step_core.proofs.partition.Partition.run.Goals as goal
 
@@ -30,7 +30,7 @@ returns-in_err-reply-clause-front c =
     let op = c.in-Some.op in
     let reversed : reverse c.loop-op.ops.items ≡ op ∷ reverse c.pop.new.self.items =
     ap reverse c.in-Some.ensures.items ∙ reverse-append c.pop.new.self.items (op ∷ []) in
-    OnErr-since c.from_residual-in_err-reply.result (StopsBefore c.args.ops.items c.args.self.now c.step.new.self c.args.replies.now.items c.loop-op.replies.items) (record {
+    on-error c.from_residual-in_err-reply.result (record {
       done = so_far.0;
       next = op;
       rest = reverse c.pop.new.self.items;
@@ -42,6 +42,6 @@ returns-in_err-reply-clause-front c =
 pub returns-in_err-reserve-clause-front : goal.returns-in_err-reserve-clause-front
 returns-in_err-reserve-clause-front c =
     let some : 0 < length c.args.ops.items = omega (arith, eqb-false _ _ (sym c.if-is_empty.ensures)) in
-    OnErr-since c.from_residual.result (StopsBefore c.args.ops.items c.args.self.now c.args.self.now c.args.replies.now.items c.reserve.new.self.items)
+    on-error c.from_residual.result
     (subst (λ replies. StopsBefore c.args.ops.items c.args.self.now c.args.self.now c.args.replies.now.items replies) (sym c.reserve.ensures.items)
     (stops-at-once c.args.ops.items c.args.self.now c.args.replies.now.items some))

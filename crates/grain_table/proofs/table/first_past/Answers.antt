@@ -1,0 +1,17 @@
+use Rattle.std.proofs.Common.{ap, rules}
+use Rattle.std.proofs.lemmas.List.Sorted.{IsPartitionPoint-from_clause}
+use Rattle.std.specs.Option.{option_copied}
+use Rattle.stream_ident.specs.Name.{grain_lt, same_grain}
+use Rattle.ranking.specs.Ranked.{is_up_to}
+use Rattle.ranking.proofs.EntryLemmas.{first_past-from}
+use Rattle.grain_table.specs.Table.{name_of}
+use Rattle.stream_ident.proofs.NameOrders.{grain_order}
+use Rattle.grain_table.proofs.table.first_past.Goals as goal
+
+pub returns : goal.returns
+returns c =
+    let entries = c.args.entries.now in
+    let order = c.args.order.now in
+    let grain = c.in-Some.grain.now in
+    first_past-from name_of grain_lt same_grain grain_order entries order c.requires grain (option_copied c.args.after) c.partition_point.result (ap option_copied c.in-Some.is) c.partition_point.ensures.bound
+    (λ parted. IsPartitionPoint-from_clause (is_up_to name_of grain_lt entries grain) order _ c.partition_point.ensures.partitioned parted (λ a r q k. search rules))

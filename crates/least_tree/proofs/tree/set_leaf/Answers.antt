@@ -1,0 +1,16 @@
+use Rattle.std.proofs.Common.{◌+◌, ◌/◌, set, arith, length-set}
+use Rattle.least_tree.proofs.LeafLemmas.{same_past, least_tree-set, keys_of-set}
+use Rattle.least_tree.proofs.tree.set_leaf.Goals as goal
+
+pub returns-clause-tree : goal.returns-clause-tree
+returns-clause-tree c =
+    let leaf = c.args.first_leaf + c.args.place in
+    let written = set c.args.nodes.now leaf c.args.n in
+    least_tree-set c.args.nodes.now c.settle.new.nodes c.args.first_leaf c.args.len c.args.place c.args.n c.requires.tree
+    (omega (arith, c.settle.auto.nodes, length-set c.args.nodes.now leaf c.args.n)) c.requires.within c.settle.ensures.tree
+    (λ i from. same_past (leaf / 2) written c.settle.new.nodes c.settle.ensures.past i (omega (arith, c.requires.tree.room)))
+
+pub returns-clause-keys : goal.returns-clause-keys
+returns-clause-keys c =
+    keys_of-set c.args.nodes.now c.settle.new.nodes c.args.first_leaf c.args.len c.args.place c.args.n
+    (c.settle.ensures.past c.args.first_leaf (omega (arith, c.requires.tree.room))) c.requires.within

@@ -1,9 +1,0 @@
-use Rattle.std.proofs.Common.{◌≡◌, ◌≤◌, true, length, drop, All}
-use Rattle.stream_ident.specs.SubName.{sub_lt}
-use Rattle.pubsub_registry.proofs.place.place_of.Given as goal
-
-abbrev pub invariant-loop-at : goal.invariant-loop-at
-invariant-loop-at l = (l.at ≤ length l.row) × All (λ b. sub_lt l.sub b ≡ true) (drop l.at l.row)
-
-abbrev pub decreases-loop-at : goal.decreases-loop-at
-decreases-loop-at l = l.at

@@ -1,0 +1,11 @@
+use Rattle.std.proofs.Common.{◌≡◌}
+use Rattle.script_parser.specs.Forms.{op_of}
+use Rattle.stream_script.proofs.SimulatorLemmas.{EachSoFar}
+use Rattle.stream_script.proofs.simulate.Simulator.step_each.Given as goal
+
+-- the queues so far
+abbrev pub invariant-loop-queue : goal.invariant-loop-queue
+invariant-loop-queue l = record {
+  config : l.self.config ≡ l.fn.self.config;
+  so_far : EachSoFar l.queue l.fn.self.partitions.items l.self.partitions.items l.text.items (op_of l.each);
+}
