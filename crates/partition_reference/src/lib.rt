@@ -42,7 +42,7 @@ use unsubscribing::unsubscribe;
 /// A partition that keeps the plain data and does each operation as the definition says it.
 ///
 /// A contract sees it as its plain data, which a legal history leads to.
-#[derive(Debug, Drop)]
+#[derive(Drop)]
 pub struct Partition {
     plain: PlainPartition,
 }

@@ -4,7 +4,7 @@ use crate::sequence::Sequence;
 use stream_ident::{Event, GrainId, Row, Rule, StreamId, SubName, Token};
 
 /// A subscription. Positions are places in the log, counted from 0.
-#[derive(Debug, Drop)]
+#[derive(Drop)]
 pub struct Subscription {
     /// The stream.
     pub stream: StreamId,
@@ -34,7 +34,7 @@ pub struct Delivery {
 }
 
 /// A turn that runs.
-#[derive(Debug, Drop)]
+#[derive(Drop)]
 pub struct RunningTurn {
     /// The subscription whose events it has.
     pub sub: SubName,
@@ -45,7 +45,7 @@ pub struct RunningTurn {
 }
 
 /// A grain, as this partition knows it.
-#[derive(Debug, Drop)]
+#[derive(Drop)]
 pub struct Grain {
     /// How often it was activated.
     pub activation: u64,
@@ -59,7 +59,7 @@ pub struct Grain {
 
 /// The state of a partition. The cache has the positions from `low` up to `high`, in blocks of 64 that
 /// begin at `low`.
-#[derive(Debug, Drop)]
+#[derive(Drop)]
 pub struct PlainPartition {
     /// The events that were published, in order.
     pub log: Sequence<Event>,

@@ -5,7 +5,7 @@ use std::alloc::{AllocError, Global};
 use std::marker::Model;
 
 /// A list of plain data: a `Vec` of which a contract sees the elements alone, and not its room.
-#[derive(Debug, Drop)]
+#[derive(Drop)]
 pub struct Sequence<T> {
     /// The elements, in order.
     pub items: Vec<T>,
