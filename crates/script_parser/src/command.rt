@@ -11,9 +11,9 @@ use stream_model::Op;
 /// What a script is for.
 #[derive(Clone, Copy, Debug, PartialEq, Eq)]
 pub enum Mode {
-    /// To be done line by line, with each reply printed.
+    /// It is done line by line, and each reply is printed.
     Sim,
-    /// To be done by one producer, while silos run.
+    /// It is done by one producer, while silos run.
     Run,
 }
 
@@ -62,26 +62,26 @@ pub enum Command {
 /// What is wrong with a line.
 #[derive(Clone, Copy, Debug, PartialEq, Eq)]
 pub enum FaultKind {
-    /// A byte outside 0x20 to 0x7E.
+    /// A byte is outside 0x20 to 0x7E.
     BadByte,
-    /// A text that doesn't end, a wrong escape, a `"` inside a word, a text with something right after it,
-    /// or a text of more than 256 bytes.
+    /// A text doesn't end, has a wrong escape, has something right after it or is longer than 256 bytes, or a
+    /// `"` stands inside a word.
     BadText,
-    /// No command, or a wrong word where a word is fixed.
+    /// There is no command, or a wrong word stands where a word is fixed.
     BadCommand,
     /// The command may not stand in a script that is simulated.
     NotInSim,
     /// The command may not stand in a script that is run.
     NotInRun,
-    /// A wrong number of pieces, or a text where a word stands, or the reverse.
+    /// The number of pieces is wrong, or a text stands where a word belongs, or the reverse.
     WordCount,
-    /// No name, stream, grain or subscription.
+    /// A word isn't the name, stream, grain or subscription that belongs there.
     BadName,
-    /// No number, or one that is too large.
+    /// A word isn't a number, or the number is too large.
     BadNumber,
-    /// No token.
+    /// A word isn't a token.
     BadToken,
-    /// A queue number that isn't below the number of queues.
+    /// A queue number isn't below the number of queues.
     NoQueue,
     /// The script is longer than 4,194,304 bytes.
     TooLong,

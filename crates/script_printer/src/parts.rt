@@ -10,7 +10,7 @@ use itoa::Buffer;
 use std::alloc::AllocError;
 use stream_ident::{GrainId, Name, Payload, StreamId, SubName, Token};
 
-/// A number in decimal behind a text.
+/// Appends a text, and behind it a number in decimal.
 pub(crate) fn push_count(before: &[u8], count: u64, out: &mut Vec<u8>) -> Result<(), AllocError>
     ensures { Writes out.old.items out.new.items result (before.now ++ decimal count) }
 {
@@ -19,7 +19,7 @@ pub(crate) fn push_count(before: &[u8], count: u64, out: &mut Vec<u8>) -> Result
     out.extend_from_slice(digits.format(count).as_bytes())
 }
 
-/// A token behind a text.
+/// Appends a text, and behind it a token.
 pub(crate) fn push_placed(before: &[u8], token: Token, out: &mut Vec<u8>) -> Result<(), AllocError>
     ensures { Writes out.old.items out.new.items result (before.now ++ token_text token) }
 {
@@ -27,7 +27,7 @@ pub(crate) fn push_placed(before: &[u8], token: Token, out: &mut Vec<u8>) -> Res
     push_count(b".", u64::from(token.idx), out)
 }
 
-/// Two names behind a text, joined by `/`.
+/// Appends a text, and behind it two names joined by `/`.
 pub(crate) fn push_pair(
     before: &[u8],
     first: &Name,
@@ -42,7 +42,7 @@ pub(crate) fn push_pair(
     out.extend_from_slice(second.as_bytes())
 }
 
-/// A grain behind a text.
+/// Appends a text, and behind it a grain.
 pub(crate) fn push_grain(
     before: &[u8],
     grain: &GrainId,
@@ -53,7 +53,7 @@ pub(crate) fn push_grain(
     push_pair(before, &grain.kind, &grain.key, out)
 }
 
-/// The name of a subscription behind a text.
+/// Appends a text, and behind it the name of a subscription.
 pub(crate) fn push_named(before: &[u8], sub: &SubName, out: &mut Vec<u8>) -> Result<(), AllocError>
     ensures { Writes out.old.items out.new.items result (before.now ++ name_text sub.now) }
 {
@@ -63,7 +63,7 @@ pub(crate) fn push_named(before: &[u8], sub: &SubName, out: &mut Vec<u8>) -> Res
     }
 }
 
-/// The name of an implicit subscription behind a text.
+/// Appends a text, and behind it the name of an implicit subscription.
 fn push_implicit(
     before: &[u8],
     kind: &Name,
@@ -77,7 +77,7 @@ fn push_implicit(
     push_pair(b"@", &stream.namespace, &stream.key, out)
 }
 
-/// A payload as it stands in a line: in quotes, behind a space.
+/// Appends a payload as it stands in a line: in quotes, behind a space.
 pub(crate) fn push_quoted(payload: &Payload, out: &mut Vec<u8>) -> Result<(), AllocError>
     ensures { Writes out.old.items out.new.items result (32 ∷ spelling (Text payload.now)) }
 {
@@ -87,7 +87,7 @@ pub(crate) fn push_quoted(payload: &Payload, out: &mut Vec<u8>) -> Result<(), Al
     Ok(())
 }
 
-/// Bytes, with a backslash in front of each quote and each backslash.
+/// Appends bytes, with a backslash in front of each quote and each backslash.
 fn push_escaped(bytes: &[u8], out: &mut Vec<u8>) -> Result<(), AllocError>
     ensures { Writes out.old.items out.new.items result (escaped bytes.now) }
 {
@@ -97,7 +97,7 @@ fn push_escaped(bytes: &[u8], out: &mut Vec<u8>) -> Result<(), AllocError>
     Ok(())
 }
 
-/// A byte of a text in quotes.
+/// Appends a byte of a text in quotes.
 fn push_byte(byte: u8, out: &mut Vec<u8>) -> Result<(), AllocError>
     ensures { Writes out.old.items out.new.items result (escaped (byte ∷ [])) }
 {

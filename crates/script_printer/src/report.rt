@@ -43,7 +43,7 @@ fn push_report(alloc: Global, partitions: &[Partition], out: &mut Vec<u8>) -> Re
     Ok(())
 }
 
-/// The lines of a queue.
+/// Appends the lines of a queue.
 fn push_queue(
     alloc: Global,
     queue: usize,
@@ -87,7 +87,7 @@ fn push_sub(
     push_open(queue, sub, &events, out)
 }
 
-/// A subscription that was unsubscribed.
+/// Appends the line of a subscription that was unsubscribed.
 fn push_closed(queue: usize, name: &SubName, out: &mut Vec<u8>) -> Result<(), AllocError>
     ensures { Writes out.old.items out.new.items result (closed_text queue name.now) }
 {
@@ -95,7 +95,7 @@ fn push_closed(queue: usize, name: &SubName, out: &mut Vec<u8>) -> Result<(), Al
     out.extend_from_slice(b" closed\n")
 }
 
-/// A subscription with its queue.
+/// Appends the name of a subscription with its queue.
 fn push_sub_name(queue: usize, name: &SubName, out: &mut Vec<u8>) -> Result<(), AllocError>
     ensures { Writes out.old.items out.new.items result (sub_text queue name.now) }
 {
@@ -103,7 +103,7 @@ fn push_sub_name(queue: usize, name: &SubName, out: &mut Vec<u8>) -> Result<(), 
     push_named(b":", name, out)
 }
 
-/// An open subscription and what it has handled.
+/// Appends the line of an open subscription, and what it has handled.
 fn push_open(
     queue: usize,
     sub: &SubSummary,
@@ -118,7 +118,7 @@ fn push_open(
     push_handled_lines(events, out)
 }
 
-/// A subscription, its stream, its grain and its start.
+/// Appends a subscription, its stream, its grain and its start.
 fn push_binding(queue: usize, sub: &SubSummary, out: &mut Vec<u8>) -> Result<(), AllocError>
     ensures { Writes out.old.items out.new.items result (binding_text queue sub.now) }
 {
@@ -137,7 +137,7 @@ fn push_handled_lines(events: &[Event], out: &mut Vec<u8>) -> Result<(), AllocEr
     Ok(())
 }
 
-/// An event that was handled.
+/// Appends the line of an event that was handled.
 fn push_handled_line(event: &Event, out: &mut Vec<u8>) -> Result<(), AllocError>
     ensures { Writes out.old.items out.new.items result (handled_line event.now) }
 {

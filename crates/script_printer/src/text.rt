@@ -125,7 +125,7 @@ fn push_moved(generation: u64, low: Token, out: &mut Vec<u8>) -> Result<(), Allo
     push_placed(b" low ", low, out)
 }
 
-/// A subscription and the token of an event of it behind a text.
+/// Appends a text, and behind it a subscription and the token of one of its events.
 fn push_handled(
     before: &[u8],
     sub: &SubName,
@@ -154,7 +154,7 @@ fn push_turn(
     push_handed(events, note, out)
 }
 
-/// Which turn runs.
+/// Appends which turn runs.
 fn push_running(
     sub: &SubName,
     activation: u64,
@@ -169,7 +169,7 @@ fn push_running(
     push_count(b" activation ", activation, out)
 }
 
-/// What it is handed: its events and the note.
+/// Appends what the turn is handed: its events and the note.
 fn push_handed(events: &[Event], note: u64, out: &mut Vec<u8>) -> Result<(), AllocError>
     ensures { Writes out.old.items out.new.items result (flat_map event_text events.now ++ codes " note " ++ decimal note) }
 {
@@ -200,7 +200,7 @@ fn push_due(sub: &SubName, ack: Option<Token>, out: &mut Vec<u8>) -> Result<(), 
     push_ack(ack, out)
 }
 
-/// What a due subscription has to acknowledge.
+/// Appends what a due subscription has to acknowledge.
 fn push_ack(ack: Option<Token>, out: &mut Vec<u8>) -> Result<(), AllocError>
     ensures { Writes out.old.items out.new.items result (codes " ack " ++ ack_text ack) }
 {

@@ -1,5 +1,5 @@
 -- What agents ask of one record, done by the parts.
-use Rattle.std.proofs.Common.{◌≡◌, ap, refl, ℕ, Bool, true, false, not, List, [], ◌∷◌, length, get_or, set, Some, None, ◌==◌}
+use Rattle.std.proofs.Common.{◌≡◌, ap, refl, ℕ, Bool, true, false, not, List, [], ◌∷◌, length, get_or, set, Some, ◌==◌}
 use Rattle.std.specs.Prelude.{if◌then◌else◌}
 use Rattle.stream_ident.specs.declared.ident.SubName.{SubName}
 use Rattle.stream_ident.specs.declared.token.Token.{Token}
@@ -18,7 +18,7 @@ use Rattle.subscription_table.specs.declared.progress.Retried.TheVariants as ret
 use Rattle.step_core.specs.declared.parts.Parts.{Parts}
 use Rattle.step_core.specs.PlainOf.{plain_of}
 use Rattle.step_core.specs.Replies.{of_ack, of_retry}
-use Rattle.step_core.proofs.RecordOps.{no-record, record-found, record-kept, record-set, record_at}
+use Rattle.step_core.proofs.RecordOps.{record-found, record-kept, record-set, record_at}
 
 abbrev pub with_state : {R : Type 0} → Parts → ℕ → (R → Reply) → PlainState × R → PlainPartition × Reply
 with_state parts i told stepped = (plain_of (record parts { subs = record parts.subs { states = set parts.subs.states i stepped.0 } }), told stepped.1)

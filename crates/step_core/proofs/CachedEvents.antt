@@ -3,11 +3,6 @@ use Rattle.std.proofs.Common.{◌≡◌, ◌∙◌, ap, ℕ, ◌+◌, ◌-◌, �
 use Rattle.std.proofs.lemmas.List.{drop-append-le, drop-drop, drop-take, length-drop, take-append-le}
 use Rattle.stream_ident.specs.declared.event.Event.{Event}
 use Rattle.stream_model.specs.Positions.{between}
-use Rattle.queue_cache.specs.Cache.{high}
-use Rattle.step_core.specs.Assembly.{Agrees}
-use Rattle.step_core.specs.PlainOf.{plain_of}
-use Rattle.step_core.specs.declared.parts.Parts.{Parts}
-use Rattle.step_core.proofs.Shared.{history-of}
 
 -- a longer log has the same events at the positions before
 pub between-longer : (log more : List Event) (from to : ℕ) → from ≤ to → to ≤ length log → between (log ++ more) from to ≡ between log from to

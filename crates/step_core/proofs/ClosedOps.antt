@@ -1,8 +1,8 @@
 -- A subscription that is closed, and the grain that forgets it.
-use Rattle.std.proofs.Common.{◌≡◌, ◌∙◌, ap, sym, subst, refl, ℕ, ◌<◌, Bool, true, false, not, List, [], ◌∷◌, length, filter, get_or, set, Option, Some, None, ◌==◌, arith}
+use Rattle.std.proofs.Common.{◌≡◌, ◌∙◌, ap, sym, subst, refl, ℕ, ◌<◌, Bool, true, false, not, List, [], ◌∷◌, length, set, Option, Some, None, ◌==◌, arith}
 use Rattle.std.specs.Prelude.{if◌then◌else◌}
 use Rattle.std.specs.List.{AllByRecursion}
-use Rattle.std.proofs.lemmas.Bool.{cond_both, false≢true}
+use Rattle.std.proofs.lemmas.Bool.{false≢true}
 use Rattle.std.proofs.lemmas.List.{get_or-set_same}
 use Rattle.stream_model.proofs.Refusals.{unsubscribe-implicit}
 use Rattle.pubsub_registry.specs.Registry.{PlainRegistry, close_found, closed_registration}
@@ -21,7 +21,6 @@ use Rattle.stream_model.specs.declared.reply.Reply.TheVariants as reply
 use Rattle.stream_model.specs.Publishing as plain
 use Rattle.stream_model.proofs.ChangedValues.{All-changed, place_of-changed, place_of-unchanged}
 use Rattle.stream_model.proofs.Lookups.{place_of-value, place_of-within}
-use Rattle.stream_ident.proofs.SameValues.{same_sub-equal}
 use Rattle.consumer_grain.specs.declared.mailbox.Delivery.{Delivery}
 use Rattle.consumer_grain.specs.Activations.{PlainActivation, forgotten}
 use Rattle.consumer_grain.specs.Subscriptions.{PlainState, closed}

@@ -30,7 +30,7 @@ use Rattle.step_core.specs.PlainOf.{plain_of}
 use Rattle.step_core.specs.Assembly.{HasEvents}
 use Rattle.step_core.specs.View.{delivery_of, grain_of, name_at, turn_of}
 use Rattle.step_core.proofs.GrainOps.{activation_at, grain-added, grain-found, grain-new, grain-set}
-use Rattle.step_core.proofs.RecordOps.{no-record, record-found, record-set, record_at}
+use Rattle.step_core.proofs.RecordOps.{record-found, record-set, record_at}
 
 -- a list's middle from either end
 window : {A : Type 0} (k m : ℕ) (xs : List A) → drop k (take m xs) ≡ take (m - k) (drop k xs)

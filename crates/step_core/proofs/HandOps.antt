@@ -1,6 +1,6 @@
 -- What is known where an agent hands an event over, and what the calls of the parts make of it.
 use Rattle.std.proofs.Common.{◌≡◌, ◌∙◌, ap, sym, subst, refl, ℕ, zero, suc, ◌+◌, ◌^◌, ◌<◌, ◌≤◌, max, Bool, true, false, ◌&&◌, ◌||◌, not, List, [], ◌∷◌, length, get_or, set, Option, Some, None, ◌==◌, nat_le, nat_lt, eq-eqb, arith}
-use Rattle.std.specs.Prelude.{if◌then◌else◌, Result, Ok, Err, OnErr}
+use Rattle.std.specs.Prelude.{if◌then◌else◌, Result, Ok, OnErr}
 use Rattle.std.specs.List.{AllByRecursion}
 use Rattle.std.specs.Option.{option_map}
 use Rattle.std.specs.declared.alloc.AllocError.{AllocError}
@@ -11,7 +11,7 @@ use Rattle.stream_ident.specs.declared.ident.StreamId.{StreamId}
 use Rattle.stream_ident.specs.declared.ident.SubName.{SubName}
 use Rattle.stream_ident.specs.Name.{same_grain}
 use Rattle.stream_ident.specs.SubName.{same_sub}
-use Rattle.stream_ident.specs.Words.{change_at, first_at, past, place_of, Performs}
+use Rattle.stream_ident.specs.Words.{change_at, past, place_of, Performs}
 use Rattle.stream_model.specs.declared.plain.Grain.{Grain}
 use Rattle.stream_model.specs.declared.plain.PlainPartition.{PlainPartition}
 use Rattle.stream_model.specs.declared.plain.Subscription.{Subscription}
@@ -21,7 +21,7 @@ use Rattle.stream_model.specs.Positions.{is_outstanding, is_spent, is_unacknowle
 use Rattle.stream_model.specs.Pulling as plain
 use Rattle.stream_model.specs.Step.{takes_memory}
 use Rattle.stream_model.proofs.EachOf.{All-append}
-use Rattle.stream_ident.proofs.SameValues.{same_grain-refl, same_sub-equal}
+use Rattle.stream_ident.proofs.SameValues.{same_grain-refl}
 use Rattle.consumer_grain.specs.declared.mailbox.Delivery.{Delivery}
 use Rattle.consumer_grain.specs.declared.told.Offered.{Offered}
 use Rattle.consumer_grain.specs.declared.told.Offered.TheVariants as offer

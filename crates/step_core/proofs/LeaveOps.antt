@@ -1,5 +1,5 @@
 -- A grain leaves memory, done by the parts.
-use Rattle.std.proofs.Common.{◌≡◌, ◌∙◌, ap, sym, subst, refl, ℕ, ◌<◌, true, false, not, length, Some, arith}
+use Rattle.std.proofs.Common.{◌≡◌, ◌∙◌, ap, sym, subst, refl, ℕ, ◌<◌, true, not, length, Some, arith}
 use Rattle.std.specs.Prelude.{if◌then◌else◌}
 use Rattle.std.specs.List.{AllByRecursion}
 use Rattle.stream_ident.specs.declared.ident.GrainId.{GrainId}
@@ -19,7 +19,6 @@ use Rattle.step_core.specs.declared.parts.Parts.{Parts}
 use Rattle.step_core.specs.PlainOf.{plain_of}
 use Rattle.step_core.proofs.CommitOps.{both-known, with_both}
 use Rattle.step_core.proofs.DeactivateOps.{deactivate-parts}
-use Rattle.step_core.proofs.GrainOps.{grain-found}
 use Rattle.step_core.proofs.KnownOps.{known-grain}
 use Rattle.step_core.proofs.KnownTurns.{known-deactivated, rewound-is}
 use Rattle.step_core.proofs.NumberedOps.{All-change_at, change_at-by}

@@ -1,5 +1,5 @@
 -- What grains know is kept where one of them changes.
-use Rattle.std.proofs.Common.{◌≡◌, ap, refl, ℕ, zero, suc, ◌<◌, List, [], ◌∷◌, length, map, get_or, arith}
+use Rattle.std.proofs.Common.{◌≡◌, ap, refl, ℕ, zero, suc, ◌<◌, List, [], ◌∷◌, length, map, get_or}
 use Rattle.std.specs.List.{AllByRecursion}
 use Rattle.stream_ident.specs.Words.{change_at}
 use Rattle.grain_table.specs.Changes.{activation_at, no_grain}

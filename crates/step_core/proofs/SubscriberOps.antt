@@ -4,7 +4,6 @@ use Rattle.std.specs.Prelude.{if◌then◌else◌}
 use Rattle.std.specs.List.{AllByRecursion}
 use Rattle.std.specs.Option.{option_map}
 use Rattle.stream_ident.specs.declared.ident.GrainId.{GrainId}
-use Rattle.stream_ident.specs.declared.ident.StreamId.{StreamId}
 use Rattle.stream_ident.specs.declared.ident.SubName.{SubName}
 use Rattle.stream_ident.specs.declared.ident.SubName.TheVariants as name
 use Rattle.stream_ident.specs.Name.{same_grain}
@@ -31,7 +30,7 @@ use Rattle.step_core.specs.PlainOf.{plain_of}
 use Rattle.step_core.specs.View.{delivery_of, grain_of, grains_of, name_at, sub_of, subs_of}
 use Rattle.step_core.proofs.GrainOps.{activation_at, activation-changed, place_of_grain}
 use Rattle.step_core.proofs.NumberLemmas.{same-number}
-use Rattle.step_core.proofs.RecordOps.{no-record, record-found, record-set, record_at}
+use Rattle.step_core.proofs.RecordOps.{record-found, record-set, record_at}
 
 -- ---- a name that is closed says the same of its record
 
