@@ -31,12 +31,3 @@ pub enum Begun {
         positions: Row<usize>,
     },
 }
-
-/// What becomes of a turn that is to end.
-#[derive(Clone, Copy, Debug, PartialEq, Eq)]
-pub enum TurnEnd {
-    /// It ran, and runs no longer.
-    Ended,
-    /// Refused: no turn runs, or another one, or one of another activation. Nothing has changed.
-    Stale,
-}
