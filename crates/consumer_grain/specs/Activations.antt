@@ -8,8 +8,6 @@ use Rattle.consumer_grain.specs.declared.told.Offered.{Offered}
 use Rattle.consumer_grain.specs.declared.told.Offered.TheVariants as offer
 use Rattle.consumer_grain.specs.declared.told.Begun.{Begun}
 use Rattle.consumer_grain.specs.declared.told.Begun.TheVariants as begun
-use Rattle.consumer_grain.specs.declared.told.TurnEnd.{TurnEnd}
-use Rattle.consumer_grain.specs.declared.told.TurnEnd.TheVariants as turn_end
 use Rattle.stream_ident.specs.Blocks.{turn_size}
 use Rattle.stream_ident.specs.Words.{rising_front}
 
@@ -93,10 +91,9 @@ is_turn own activation turn (Some run) = (activation == own) && (turn == run.tur
 abbrev pub current_turn : PlainActivation → ℕ → ℕ → Option RunningTurn
 current_turn a activation turn = if is_turn a.number activation turn a.running then a.running else None
 
--- exactly that turn of that activation ends
-abbrev pub commit : PlainActivation → ℕ → ℕ → PlainActivation × TurnEnd
-commit a activation turn =
-    if is_turn a.number activation turn a.running then (record a { running = None }, turn_end.Ended) else (a, turn_end.Stale)
+-- no turn runs any more
+abbrev pub without_turn : PlainActivation → PlainActivation
+without_turn a = record a { running = None }
 
 -- the deliveries of a subscription leave the mailbox; a running turn stays
 abbrev pub forgotten : ℕ → PlainActivation → PlainActivation

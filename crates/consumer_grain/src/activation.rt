@@ -3,12 +3,12 @@ ghost use Rattle.std.specs.Prelude.{◌≡◌, ◌+◌, ◌^◌, ◌<◌, ◌≤
 ghost use Rattle.std.specs.List.{slice_get};
 ghost use Rattle.std.specs.Option.{option_copied};
 ghost use Rattle.stream_ident.specs.Words.{past, Performs};
-ghost use Rattle.consumer_grain.specs.Activations.{begin, begin_front, commit, current_turn, deactivated, forgotten, holds, lost, new_activation, offered, offer_takes_memory, running_count, runs, with_number, without_number};
+ghost use Rattle.consumer_grain.specs.Activations.{begin, begin_front, current_turn, deactivated, forgotten, holds, lost, new_activation, offered, offer_takes_memory, running_count, runs, with_number, without_number, without_turn};
 ghost use Rattle.consumer_grain.specs.Begins.{RisesFrom};
 ghost use Rattle.consumer_grain.specs.Subscriptions.{rises_from};
 
 use crate::mailbox::{Delivery, Mailbox, has_sub, turn_positions, turn_size};
-use crate::told::{Begun, Offered, TurnEnd};
+use crate::told::{Begun, Offered};
 use std::alloc::{AllocError, Global};
 use std::marker::Model;
 use stream_ident::Row;
@@ -208,15 +208,12 @@ impl Activation {
         }
     }
 
-    /// Ends the turn that runs, if it is this turn of this activation. It takes no memory.
-    pub fn commit(&mut self, activation: u64, turn: u64) -> TurnEnd
-        ensures { (self.new, result) ≡ commit self.old activation turn }
+    /// Ends the turn that runs, if one does. Whether it is the one that is meant, `current_turn` says. It
+    /// takes no memory.
+    pub fn end_turn(&mut self)
+        ensures { self.new ≡ without_turn self.old }
     {
-        if self.current_turn(activation, turn).is_none() {
-            return TurnEnd::Stale;
-        }
         self.running = None;
-        TurnEnd::Ended
     }
 
     /// The deliveries of a subscription leave the mailbox, and its number leaves the numbers. A turn that

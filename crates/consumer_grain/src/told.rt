@@ -31,13 +31,3 @@ pub enum Begun {
         positions: Row<usize>,
     },
 }
-
-/// What becomes of a turn that is to end.
-#[derive(Clone, Copy, Debug, PartialEq, Eq)]
-pub enum TurnEnd {
-    /// It ran, and runs no longer.
-    Ended,
-    /// It is refused, since no turn runs, or another one does, or one of another activation. Nothing has
-    /// changed.
-    Stale,
-}

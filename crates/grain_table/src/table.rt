@@ -3,7 +3,7 @@ ghost use Rattle.std.specs.Prelude.{◌≡◌, ◌+◌, ◌^◌, ◌<◌, ◌≤
 ghost use Rattle.std.specs.Option.{option_copied};
 ghost use Rattle.stream_ident.specs.Words.{change_at, past};
 ghost use Rattle.stream_ident.specs.Name.{grain_lt};
-ghost use Rattle.consumer_grain.specs.Activations.{begin, commit, deactivated, forgotten, lost, new_activation, offered, offer_takes_memory, woken};
+ghost use Rattle.consumer_grain.specs.Activations.{begin, deactivated, forgotten, lost, new_activation, offered, offer_takes_memory, without_turn, woken};
 ghost use Rattle.consumer_grain.specs.Begins.{RisesFrom};
 ghost use Rattle.consumer_grain.specs.Subscriptions.{rises_from};
 ghost use Rattle.ranking.specs.Ranked.{is_up_to, IsFirstPast, IsKeySet};
@@ -11,7 +11,7 @@ ghost use Rattle.grain_table.specs.Changes.{activation_at, grain_at, OffersAt};
 ghost use Rattle.grain_table.specs.Grains.{least_running, least_waiting, number_of, ready_after, with_grain, AreDistinct};
 ghost use Rattle.grain_table.specs.Table.{name_of, ready_key, IsInOrder};
 
-use consumer_grain::{Activation, Begun, Delivery, Offered, TurnEnd};
+use consumer_grain::{Activation, Begun, Delivery, Offered};
 use least_tree::LeastTree;
 use ranking::Ranking;
 use std::alloc::{AllocError, Global};
@@ -181,16 +181,14 @@ impl GrainTable {
         begun
     }
 
-    /// Ends a turn of the grain with a number, as `Activation::commit` says. It takes no memory, and costs
-    /// the logarithm of the length.
-    pub fn commit(&mut self, number: usize, activation: u64, turn: u64) -> TurnEnd
+    /// Ends the turn of the grain with a number, as `Activation::end_turn` says. It takes no memory, and
+    /// costs the logarithm of the length.
+    pub fn end_turn(&mut self, number: usize)
         requires { number < length self.old }
-        ensures grains { self.new ≡ change_at (λ a. (commit a activation turn).0) number self.old }
-        ensures ended { result ≡ (commit (activation_at self.old number) activation turn).1 }
+        ensures { self.new ≡ change_at without_turn number self.old }
     {
-        let ended = self.entries[number].1.commit(activation, turn);
+        self.entries[number].1.end_turn();
         mark(&self.entries, &self.ranking, &mut self.ready, number);
-        ended
     }
 
     /// The deliveries of a subscription leave the mailbox of the grain with a number, as

@@ -1,6 +1,6 @@
 ghost use Rattle.std.specs.Prelude.{◌≤◌};
 
-use consumer_grain::{Activation, Begun, Delivery, Offered, TurnEnd};
+use consumer_grain::{Activation, Begun, Delivery, Offered};
 use std::alloc::{AllocError, Global};
 use std::process::Abort;
 use std::test::Fail;
@@ -52,6 +52,15 @@ fn expect_turn<R: Abort>(rt: &R, begun: Begun, wanted: usize, rows: &[usize]) {
     };
     assert_eq!(rt; sub, wanted);
     assert_eq!(rt; positions.as_slice(), rows);
+}
+
+// Ends this turn of this activation, if it runs, and says whether it did.
+fn commit(activation: &mut Activation, number: u64, turn: u64) -> bool {
+    let runs = activation.current_turn(number, turn).is_some();
+    if runs {
+        activation.end_turn();
+    }
+    runs
 }
 
 // The turn that runs is this one.
@@ -153,7 +162,7 @@ fn a_front_is_of_one_subscription_and_rises(rt: HostRuntime) -> Result<(), Fail>
         (5, 1, [3, 9].as_slice()),
     ] {
         expect_turn(&rt, activation.begin(0, Some(turn), 16), sub, rows);
-        assert_eq!(rt; activation.commit(1, turn), TurnEnd::Ended);
+        assert!(rt; commit(&mut activation, 1, turn));
     }
     assert_eq!(rt; activation.waiting(), 0);
     Ok(())
@@ -168,9 +177,9 @@ fn a_refused_begin_changes_nothing(rt: HostRuntime) -> Result<(), Fail> {
     assert!(rt; matches!(activation.begin(0, Some(2), 16), Begun::Busy));
     assert_eq!(rt; activation.waiting(), 1);
     expect_running(&rt, &activation, 1, 1, &[4]);
-    assert_eq!(rt; activation.commit(1, 1), TurnEnd::Ended);
+    assert!(rt; commit(&mut activation, 1, 1));
     expect_turn(&rt, activation.begin(0, Some(2), 16), 1, &[5]);
-    assert_eq!(rt; activation.commit(1, 2), TurnEnd::Ended);
+    assert!(rt; commit(&mut activation, 1, 2));
     assert!(rt; matches!(activation.begin(0, Some(3), 16), Begun::Empty));
     assert!(rt; activation.is_active());
     Ok(())
@@ -179,14 +188,14 @@ fn a_refused_begin_changes_nothing(rt: HostRuntime) -> Result<(), Fail> {
 #[test]
 fn only_the_turn_that_runs_ends(rt: HostRuntime) -> Result<(), Fail> {
     let mut activation = awake(&rt, rt.alloc(), &[(1, 4)])?;
-    assert_eq!(rt; activation.commit(1, 5), TurnEnd::Stale);
+    assert!(rt; !commit(&mut activation, 1, 5));
     expect_turn(&rt, activation.begin(0, Some(5), 16), 1, &[4]);
     for (number, turn) in [(0, 5), (2, 5), (1, 4), (1, 6)] {
-        assert_eq!(rt; activation.commit(number, turn), TurnEnd::Stale);
+        assert!(rt; !commit(&mut activation, number, turn));
         expect_running(&rt, &activation, 1, 5, &[4]);
     }
-    assert_eq!(rt; activation.commit(1, 5), TurnEnd::Ended);
-    assert_eq!(rt; activation.commit(1, 5), TurnEnd::Stale);
+    assert!(rt; commit(&mut activation, 1, 5));
+    assert!(rt; !commit(&mut activation, 1, 5));
     Ok(())
 }
 
@@ -199,7 +208,7 @@ fn forget_leaves_the_turn_that_runs(rt: HostRuntime) -> Result<(), Fail> {
     assert_eq!(rt; activation.subs(), [2, 3].as_slice());
     expect_running(&rt, &activation, 1, 1, &[4]);
     assert!(rt; activation.holds(1) && activation.holds(2) && activation.holds(3));
-    assert_eq!(rt; activation.commit(1, 1), TurnEnd::Ended);
+    assert!(rt; commit(&mut activation, 1, 1));
     assert!(rt; !activation.holds(1) && !activation.holds(4));
     activation.forget(4);
     assert_eq!(rt; activation.subs(), [2, 3].as_slice());
@@ -228,8 +237,8 @@ fn a_deactivated_grain_wakes_as_another_activation(rt: HostRuntime) -> Result<()
     assert_eq!(rt; offered, Offered::Delivered);
     assert!(rt; activation.is_active() && activation.number() == 2);
     expect_turn(&rt, activation.begin(0, Some(2), 16), 1, &[4]);
-    assert_eq!(rt; activation.commit(1, 2), TurnEnd::Stale);
-    assert_eq!(rt; activation.commit(2, 2), TurnEnd::Ended);
+    assert!(rt; !commit(&mut activation, 1, 2));
+    assert!(rt; commit(&mut activation, 2, 2));
     Ok(())
 }
 
@@ -300,7 +309,7 @@ fn one_allocation_refused(rt: HostRuntime) -> Result<(), Fail> {
         expect_turn(&rt, one.begin(0, Some(1), 16), sub, &[3]);
         expect_turn(&rt, twin.begin(0, Some(1), 16), sub, &[3]);
         compare(&rt, &one, &twin);
-        assert_eq!(rt; one.commit(1, 1), twin.commit(1, 1));
+        assert!(rt; commit(&mut one, 1, 1) && commit(&mut twin, 1, 1));
     }
     Ok(())
 }

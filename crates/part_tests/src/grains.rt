@@ -1,6 +1,6 @@
 ghost use Rattle.std.specs.Prelude.{◌≤◌};
 
-use consumer_grain::{Begun, Delivery, Offered, TurnEnd};
+use consumer_grain::{Begun, Delivery, Offered};
 use grain_table::GrainTable;
 use std::alloc::{AllocError, Global};
 use std::process::Abort;
@@ -47,10 +47,14 @@ fn begin<R: Abort>(rt: &R, table: &mut GrainTable, number: usize, past: usize) -
     table.begin(number, past, Some(5), 1)
 }
 
-// Ends a turn of the first activation of the grain with a number.
-fn commit<R: Abort>(rt: &R, table: &mut GrainTable, number: usize, turn: u64) -> TurnEnd {
+// Ends this turn of the first activation of the grain with a number, if it runs, and says whether it did.
+fn commit<R: Abort>(rt: &R, table: &mut GrainTable, number: usize, turn: u64) -> bool {
     assert!(rt; number < table.len());
-    table.commit(number, 1, turn)
+    let runs = table.at(number).current_turn(1, turn).is_some();
+    if runs {
+        table.end_turn(number);
+    }
+    runs
 }
 
 // The deliveries of subscription 7 leave the grain with a number.
@@ -191,8 +195,8 @@ fn a_grain_with_a_running_turn_is_not_ready(rt: HostRuntime) -> Result<(), Fail>
     expect_next(&rt, &table, b'c', b'b')?;
     expect_waiting(&rt, &table, b'a')?;
     assert_eq!(rt; table.least_running(), Some(grain(b'a')?));
-    assert_eq!(rt; commit(&rt, &mut table, 1, 6), TurnEnd::Stale);
-    assert_eq!(rt; commit(&rt, &mut table, 1, 5), TurnEnd::Ended);
+    assert!(rt; !commit(&rt, &mut table, 1, 6));
+    assert!(rt; commit(&rt, &mut table, 1, 5));
     expect_ready(&rt, &table, b'a')?;
     expect_no_turn(&rt, &table);
     Ok(())

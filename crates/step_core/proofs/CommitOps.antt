@@ -27,8 +27,7 @@ use Rattle.stream_model.proofs.RecordBounds.{grain-fits}
 use Rattle.stream_ident.proofs.SameValues.{same_sub-refl}
 use Rattle.consumer_grain.specs.declared.mailbox.Delivery.{Delivery}
 use Rattle.consumer_grain.specs.declared.activation.RunningTurn.{RunningTurn}
-use Rattle.consumer_grain.specs.declared.told.TurnEnd.{TurnEnd}
-use Rattle.consumer_grain.specs.Activations.{PlainActivation, commit, current_turn, holds, is_turn, runs}
+use Rattle.consumer_grain.specs.Activations.{PlainActivation, current_turn, holds, is_turn, runs, without_turn}
 use Rattle.consumer_grain.specs.Subscriptions.{committed, rises_from}
 use Rattle.grain_table.specs.Changes.{activation_at, no_grain}
 use Rattle.grain_table.specs.Changes as grains
@@ -145,16 +144,12 @@ committed-running parts i activation turn note run is =
     by false = refl
     by true = ap {B = PlainPartition × Reply} (λ s. (plain_of (with_both parts after grains), reply.Committed s (token_at (plain_of parts) (pred (past run.positions))))) (name-same parts.subs run.sub)
 
--- the activation, without its turn
-ended : (a : PlainActivation) (activation turn : ℕ) → is_turn a.number activation turn a.running ≡ true → (commit a activation turn).0 ≡ record a { running = None }
-ended a activation turn is = rw is refl
-
 -- exactly this turn runs: it is handled, or its subscription is closed
 pub commit-told : (parts : Parts) (g : GrainId) (i activation turn note : ℕ) (run : RunningTurn) (subs : PlainTable) (grains : PlainGrains) (told : Reply)
     → AreDistinct parts.subs.registry.names → length parts.subs.registry.names ≡ length parts.subs.states → number_of parts.grains g ≡ Some i → IsBelow (length parts.subs.registry.names) (activation_at parts.grains i)
     → current_turn (activation_at parts.grains i) activation turn ≡ Some run
     → (subs, told) ≡ handle parts.subs parts.queue run note
-    → grains ≡ change_at (λ a. (commit a activation turn).0) i parts.grains
+    → grains ≡ change_at without_turn i parts.grains
     → (plain_of (with_both parts subs grains), told) ≡ plain.commit (plain_of parts) g activation turn note
 commit-told parts g i activation turn note run subs grains told distinct lengths found below is_current is_handled is_grains =
     let a = activation_at parts.grains i in
@@ -165,8 +160,7 @@ commit-told parts g i activation turn note run subs grains told distinct lengths
     ∙ ap (committed_by parts i no_grain no_state activation turn note) runs.0
     ∙ committed-running parts i activation turn note run is_turn'
     ∙ ap (out_of parts (change_at (λ _. record a { running = None }) i parts.grains)) (sym is_handled)
-    ∙ ap (λ (a : PlainActivation). out_of parts (change_at (λ _. a) i parts.grains) (subs, told)) (sym (ended a activation turn runs.1))
-    ∙ ap (λ grains. out_of parts grains (subs, told)) (sym (is_grains ∙ change_at-by (λ a. (commit a activation turn).0) i parts.grains no_grain))
+    ∙ ap (λ grains. out_of parts grains (subs, told)) (sym (is_grains ∙ change_at-by without_turn i parts.grains no_grain))
     )
 
 -- no such turn runs
@@ -191,7 +185,7 @@ pub commit-takes : (parts : Parts) (g : GrainId) (i activation turn note : ℕ) 
     → current_turn (activation_at parts.grains i) activation turn ≡ Some run → (state_at parts.subs run.sub).is_open ≡ true
     → takes_memory (plain.commit (plain_of parts) g activation turn note).1 ≡ true
 commit-takes parts g i activation turn note run distinct lengths found below is_current is_open =
-    let grains = change_at (λ a. (commit a activation turn).0) i parts.grains in
+    let grains = change_at without_turn i parts.grains in
     let handles = handle parts.subs parts.queue run note in
     let does = commit-told parts g i activation turn note run handles.0 grains handles.1 distinct lengths found below is_current refl refl in
     ap (λ (out : PlainPartition × Reply). takes_memory out.1) (sym does) ∙ by (state_at parts.subs run.sub).is_open _ _ is_open
@@ -214,10 +208,8 @@ both-known parts subs grains assembled same below known = record {
   known = subst (λ (r : PlainRegistry). AreKnown r.names subs.states grains) (sym same) known;
 }
 
-commit-below : (n activation turn : ℕ) (a : PlainActivation) → IsBelow n a → IsBelow n (commit a activation turn).0
-commit-below n activation turn a below =
-    cond_both (is_turn a.number activation turn a.running) _ _ (λ (stepped : PlainActivation × TurnEnd). IsBelow n stepped.0)
-    (λ _. record { waiting = below.waiting; running = tt; subs = below.subs }) (λ _. below)
+ended-below : (n : ℕ) (a : PlainActivation) → IsBelow n a → IsBelow n (without_turn a)
+ended-below n a below = record { waiting = below.waiting; running = tt; subs = below.subs }
 
 handle-registry : (subs now : PlainTable) (told : Reply) (parts : Parts) (run : RunningTurn) (note : ℕ) → (now, told) ≡ handle subs parts.queue run note → now.registry ≡ subs.registry
 handle-registry subs now told parts run note is =
@@ -227,11 +219,9 @@ handle-registry subs now told parts run note is =
 -- what runs is of a record of the grain
 commit-known : (parts : Parts) (g : GrainId) (i activation turn note : ℕ) (run : RunningTurn) → IsAssembled parts → IsReached (plain_of parts)
     → AreDistinct parts.subs.registry.names → length parts.subs.registry.names ≡ length parts.subs.states → number_of parts.grains g ≡ Some i → current_turn (activation_at parts.grains i) activation turn ≡ Some run
-    → AreKnown parts.subs.registry.names (handle parts.subs parts.queue run note).0.states (change_at (λ a. (commit a activation turn).0) i parts.grains)
+    → AreKnown parts.subs.registry.names (handle parts.subs parts.queue run note).0.states (change_at without_turn i parts.grains)
 commit-known parts g i activation turn note run assembled reached distinct lengths found is_current =
-    known-grain names (handle parts.subs parts.queue run note).0.states parts.grains i (λ a. (commit a activation turn).0) handled inside
-    (cond_both (is_turn a.number activation turn a.running) _ _ (λ (stepped : PlainActivation × TurnEnd). stepped.0.subs ≡ a.subs) (λ _. refl) (λ _. refl))
-    (λ n none. cond_both (is_turn a.number activation turn a.running) _ _ (λ (stepped : PlainActivation × TurnEnd). holds n stepped.0 ≡ false) (λ _. ended-holds n a none) (λ _. none))
+    known-grain names (handle parts.subs parts.queue run note).0.states parts.grains i without_turn handled inside refl (λ n none. ended-holds n a none)
   where
     names : List (SubName × Registration)
     names = parts.subs.registry.names
@@ -263,11 +253,11 @@ commit-known parts g i activation turn note run assembled reached distinct lengt
 
 pub commit-assembled : (parts : Parts) (g : GrainId) (i activation turn note : ℕ) (run : RunningTurn) (subs : PlainTable) (grains : PlainGrains) (told : Reply) → IsAssembled parts → IsReached (plain_of parts)
     → AreDistinct parts.subs.registry.names → length parts.subs.registry.names ≡ length parts.subs.states → number_of parts.grains g ≡ Some i → current_turn (activation_at parts.grains i) activation turn ≡ Some run
-    → (subs, told) ≡ handle parts.subs parts.queue run note → grains ≡ change_at (λ a. (commit a activation turn).0) i parts.grains → IsAssembled (with_both parts subs grains)
+    → (subs, told) ≡ handle parts.subs parts.queue run note → grains ≡ change_at without_turn i parts.grains → IsAssembled (with_both parts subs grains)
 commit-assembled parts g i activation turn note run subs grains told assembled reached distinct lengths found is_current is_handled is_grains =
     both-known parts subs grains assembled (handle-registry parts.subs subs told parts run note is_handled)
     (subst (λ (grains : PlainGrains). AllByRecursion (λ entry. IsBelow (length parts.subs.registry.names) entry.1) grains) (sym is_grains)
-    (All-change_at (IsBelow (length parts.subs.registry.names)) (λ a. (commit a activation turn).0) i parts.grains (commit-below (length parts.subs.registry.names) activation turn) assembled.numbered))
+    (All-change_at (IsBelow (length parts.subs.registry.names)) without_turn i parts.grains (ended-below (length parts.subs.registry.names)) assembled.numbered))
     (subst (AreKnown parts.subs.registry.names subs.states) (sym is_grains)
-    (subst (λ (out : PlainTable × Reply). AreKnown parts.subs.registry.names out.0.states (change_at (λ a. (commit a activation turn).0) i parts.grains)) (sym is_handled)
+    (subst (λ (out : PlainTable × Reply). AreKnown parts.subs.registry.names out.0.states (change_at without_turn i parts.grains)) (sym is_handled)
     (commit-known parts g i activation turn note run assembled reached distinct lengths found is_current)))

@@ -121,7 +121,7 @@ pub(crate) fn commit(
         return Ok(Told::Stale);
     };
     let told = handle(&mut parts.subs, alloc, &parts.queue, run, note)?;
-    parts.grains.commit(number, activation, turn);
+    parts.grains.end_turn(number);
     Ok(told)
 }
 

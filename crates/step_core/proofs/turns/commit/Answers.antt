@@ -61,8 +61,8 @@ pub returns-clause-assembled : goal.returns-clause-assembled
 returns-clause-assembled c =
     let parts = c.args.parts.now in
     let is_current = ap (λ (a : PlainActivation). current_turn a c.args.activation c.args.turn) (sym c.at.ensures.activation) ∙ sym c.in-Some-current_turn.ensures in
-    commit-assembled parts c.args.grain c.in-Some.number c.args.activation c.args.turn c.args.note c.in-Some-current_turn.run'.now c.handle.new.subs c.commit.new.self (reply_of c.in_ok-told.told) c.requires.assembled c.requires.reached
-    (distinct-of-unique parts.subs.registry.names c.requires.unique) (sym c.requires.records.long) (sym c.find.ensures.number ∙ c.in-Some.is) is_current c.in_ok-told.ensures.performs c.commit.ensures.grains
+    commit-assembled parts c.args.grain c.in-Some.number c.args.activation c.args.turn c.args.note c.in-Some-current_turn.run'.now c.handle.new.subs c.end_turn.new.self (reply_of c.in_ok-told.told) c.requires.assembled c.requires.reached
+    (distinct-of-unique parts.subs.registry.names c.requires.unique) (sym c.requires.records.long) (sym c.find.ensures.number ∙ c.in-Some.is) is_current c.in_ok-told.ensures.performs c.end_turn.ensures
 
 pub returns-clause-performs : goal.returns-clause-performs
 returns-clause-performs c =
@@ -70,4 +70,4 @@ returns-clause-performs c =
     let i = c.in-Some.number in
     let below = known-at parts i c.requires.assembled c.in-Some.ensures.within in
     let is_current = ap (λ (a : PlainActivation). current_turn a c.args.activation c.args.turn) (sym c.at.ensures.activation) ∙ sym c.in-Some-current_turn.ensures in
-    commit-told parts c.args.grain i c.args.activation c.args.turn c.args.note c.in-Some-current_turn.run'.now c.handle.new.subs c.commit.new.self (reply_of c.in_ok-told.told) (distinct-of-unique parts.subs.registry.names c.requires.unique) (sym c.requires.records.long) (sym c.find.ensures.number ∙ c.in-Some.is) below is_current c.in_ok-told.ensures.performs c.commit.ensures.grains
+    commit-told parts c.args.grain i c.args.activation c.args.turn c.args.note c.in-Some-current_turn.run'.now c.handle.new.subs c.end_turn.new.self (reply_of c.in_ok-told.told) (distinct-of-unique parts.subs.registry.names c.requires.unique) (sym c.requires.records.long) (sym c.find.ensures.number ∙ c.in-Some.is) below is_current c.in_ok-told.ensures.performs c.end_turn.ensures
