@@ -32,7 +32,7 @@ use Rattle.stream_model.specs.Turns.{begin, begin_for, begin_front, begin_in, be
 use Rattle.stream_ident.specs.Blocks.{turn_size}
 use Rattle.stream_ident.specs.Words.{past, value_at, with_value}
 use Rattle.stream_ident.specs.Implying.{added}
-use Rattle.stream_model.specs.Pulling.{ack, ack_of, ack_position, acknowledged, all_implied, caught_up, deliver, deliver_position, deliver_to, handled_at, is_stale, move, move_to, pull, pull_count, pull_events, pull_want, purge, purge_to, retry, retry_of, rewound, rewound_where, subs_with, woken}
+use Rattle.stream_model.specs.Pulling.{ack, ack_of, ack_position, acknowledged, all_implied, drops, purges, room, caught_up, deliver, deliver_position, deliver_to, handled_at, is_stale, move, move_to, pull, pull_count, pull_events, pull_want, purge, purge_to, retry, retry_of, rewound, rewound_where, subs_with, woken}
 use Rattle.stream_laws.proofs.Unique.{AreUnique, unique-changed_value, unique-each_value, unique-push, unique-with_value}
 use Rattle.stream_ident.proofs.SameValues.{grain_equality, sub_equality}
 
