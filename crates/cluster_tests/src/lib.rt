@@ -7,4 +7,8 @@ mod balancer;
 #[cfg(test)]
 mod directory;
 #[cfg(test)]
+mod histories;
+#[cfg(test)]
+mod total;
+#[cfg(test)]
 mod turns;

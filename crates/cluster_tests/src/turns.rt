@@ -1,89 +1,24 @@
-ghost use Rattle.std.specs.Prelude.{◌≡◌, ◌+◌, ◌%◌, ◌^◌, ◌<◌, ◌≤◌, [], ◌∷◌, IfOk, MatchResult, All, vec_len};
+//! A turnstile, one or two of its passes, and what it gives at the end.
+ghost use Rattle.std.specs.Prelude.{◌≡◌, ◌<◌, [], ◌∷◌, IfOk, All, vec_len};
 ghost use Rattle.turnstile.specs.Calls.{IsOf};
 
+use crate::total::{Addition, Total, add, everything, expect, insist};
 use std::alloc::{AllocError, Global};
 use std::ops::Range;
 use std::process::Abort;
 use std::sync::Wait;
 use std::test::Fail;
 use std::thread::join;
-use turnstile::{
-    Closed, Entry, PassOf, PlainHistory, Refusal, Replays, StoredHistory, Traced, Turnstile,
-};
+use turnstile::{Closed, Entry, PassOf, PlainHistory, Refusal, Traced, Turnstile};
 
-// A running total.
-#[derive(Drop)]
-struct Total {
-    sum: u64,
-}
-
-// Adds a number, and asks for room for so many more while it does.
-#[derive(Clone, Copy, Drop)]
-struct Addition {
-    amount: u64,
-    room: usize,
-}
-
-impl Replays for Total {
-    type Op = Addition;
-
-    type Reply = u64;
-
-    type History = PlainHistory<Addition, u64>;
-
-    type State = u64;
-
-    ghost state_of = { λ t. t.sum };
-
-    ghost replied = { λ s op. (s + op.amount) % 2 ^ 64 };
-
-    ghost after = { λ s op. (s + op.amount) % 2 ^ 64 };
-
-    fn apply(&mut self, alloc: Global, op: &Addition) -> Result<u64, AllocError> {
-        let _room: Vec<u64> = Vec::with_capacity(alloc, op.room)?;
-        self.sum = self.sum.wrapping_add(op.amount);
-        Ok(self.sum)
-    }
-
-    fn copy_reply(reply: &u64) -> u64 {
-        *reply
-    }
-}
-
-fn add(amount: u64) -> Addition {
-    Addition { amount, room: 0 }
-}
-
-// There is never so much memory.
-fn everything() -> Addition {
-    Addition {
-        amount: 1,
-        room: usize::MAX,
-    }
-}
-
-// Makes a call, and compares its answer: the reply, or why it was refused.
-fn expect<R: Wait + Abort>(
-    rt: &R,
-    alloc: Global,
-    turnstile: &Turnstile<Total>,
-    pass: &mut PassOf<Total>,
-    op: Addition,
-    wanted: Result<u64, Refusal>,
-)
-    requires { IsOf turnstile.now pass.old }
-    ensures { IsOf turnstile.now pass.new }
-{
-    let answer = turnstile.call(rt, alloc, pass, op);
-    assert!(rt; answer == wanted);
-}
+type Plain = Total<PlainHistory<Addition, u64>>;
 
 // The trace of a turnstile to which all passes are given.
 fn finished<R: Abort>(
     rt: &R,
-    turnstile: Turnstile<Total>,
-    passes: Vec<PassOf<Total>>,
-) -> Traced<Total>
+    turnstile: Turnstile<Plain>,
+    passes: Vec<PassOf<Plain>>,
+) -> Traced<Plain>
     requires some { 0 < vec_len passes }
     requires passes { All (IsOf turnstile) passes.items }
 {
@@ -104,7 +39,7 @@ fn compare<R: Abort>(rt: &R, history: &[Entry<Addition, u64>], wanted: &[(u64, u
 #[test]
 fn two_passes_and_a_full_history(rt: HostRuntime) -> Result<(), Fail> {
     let alloc = rt.alloc();
-    let (turnstile, mut first) = Turnstile::new(alloc, Total { sum: 0 }, 2)?;
+    let (turnstile, mut first) = Turnstile::new(alloc, Plain::new(), 2)?;
     expect(&rt, alloc, &turnstile, &mut first, add(5), Ok(5));
     let mut second = turnstile.split(&mut first)?;
     assert!(rt; second.number() == 1 && second.len() == 1);
@@ -135,7 +70,7 @@ fn two_passes_and_a_full_history(rt: HostRuntime) -> Result<(), Fail> {
 #[test]
 fn one_entry_and_no_room(rt: HostRuntime) -> Result<(), Fail> {
     let alloc = rt.alloc();
-    let (turnstile, mut pass) = Turnstile::new(alloc, Total { sum: 0 }, 1)?;
+    let (turnstile, mut pass) = Turnstile::new(alloc, Plain::new(), 1)?;
     expect(
         &rt,
         alloc,
@@ -165,7 +100,7 @@ fn one_entry_and_no_room(rt: HostRuntime) -> Result<(), Fail> {
 #[test]
 fn joined_passes(rt: HostRuntime) -> Result<(), Fail> {
     let alloc = rt.alloc();
-    let (turnstile, mut first) = Turnstile::new(alloc, Total { sum: 0 }, 3)?;
+    let (turnstile, mut first) = Turnstile::new(alloc, Plain::new(), 3)?;
     let mut second = turnstile.split(&mut first)?;
     expect(&rt, alloc, &turnstile, &mut first, add(5), Ok(5));
     expect(&rt, alloc, &turnstile, &mut second, add(2), Ok(7));
@@ -185,44 +120,23 @@ fn joined_passes(rt: HostRuntime) -> Result<(), Fail> {
 }
 
 // A turnstile, asked for once more where memory was refused.
-fn opened(alloc: Global) -> Result<(Turnstile<Total>, PassOf<Total>), AllocError>
+fn opened(alloc: Global) -> Result<(Turnstile<Plain>, PassOf<Plain>), AllocError>
     ensures { IfOk result (λ r. IsOf r.0 r.1) }
 {
-    match Turnstile::new(alloc, Total { sum: 0 }, 6) {
+    match Turnstile::new(alloc, Plain::new(), 6) {
         Ok(opened) => Ok(opened),
-        Err(AllocError) => Turnstile::new(alloc, Total { sum: 0 }, 6),
+        Err(AllocError) => Turnstile::new(alloc, Plain::new(), 6),
     }
-}
-
-// Adds a number with room for it. Where memory was refused nothing is changed, and it is added then.
-fn insist<R: Wait + Abort>(
-    rt: &R,
-    alloc: Global,
-    turnstile: &Turnstile<Total>,
-    pass: &mut PassOf<Total>,
-    amount: u64,
-) -> Result<u64, Refusal>
-    requires { IsOf turnstile.now pass.old }
-    ensures { IsOf turnstile.now pass.new }
-{
-    let op = Addition { amount, room: 1 };
-    let seen = pass.len();
-    let answer = turnstile.call(rt, alloc, pass, op);
-    if answer != Err(Refusal::Memory) {
-        return answer;
-    }
-    assert_eq!(rt; pass.len(), seen);
-    turnstile.call(rt, alloc, pass, op)
 }
 
 // Adds a number in each of two turnstiles, which answer the same.
 fn add_alike<R: Wait + Abort>(
     rt: &R,
     alloc: Global,
-    one: &Turnstile<Total>,
-    pass: &mut PassOf<Total>,
-    other: &Turnstile<Total>,
-    twin: &mut PassOf<Total>,
+    one: &Turnstile<Plain>,
+    pass: &mut PassOf<Plain>,
+    other: &Turnstile<Plain>,
+    twin: &mut PassOf<Plain>,
     amount: u64,
 )
     requires one { IsOf one.now pass.old }
@@ -239,10 +153,10 @@ fn add_alike<R: Wait + Abort>(
 fn add_all_alike<R: Wait + Abort>(
     rt: &R,
     alloc: Global,
-    one: &Turnstile<Total>,
-    pass: &mut PassOf<Total>,
-    other: &Turnstile<Total>,
-    twin: &mut PassOf<Total>,
+    one: &Turnstile<Plain>,
+    pass: &mut PassOf<Plain>,
+    other: &Turnstile<Plain>,
+    twin: &mut PassOf<Plain>,
     amounts: Range<u64>,
 )
     requires one { IsOf one.now pass.old }
@@ -258,9 +172,9 @@ fn add_all_alike<R: Wait + Abort>(
 // Two passes in one vector.
 fn pair(
     alloc: Global,
-    first: PassOf<Total>,
-    second: PassOf<Total>,
-) -> Result<Vec<PassOf<Total>>, AllocError>
+    first: PassOf<Plain>,
+    second: PassOf<Plain>,
+) -> Result<Vec<PassOf<Plain>>, AllocError>
     ensures { IfOk result (λ v. v.items ≡ first ∷ second ∷ []) }
 {
     let mut passes = Vec::new(alloc);
@@ -311,9 +225,9 @@ fn one_allocation_refused(rt: HostRuntime) -> Result<(), Fail> {
 fn add_many<R: Wait>(
     rt: &R,
     alloc: Global,
-    turnstile: &Turnstile<Total>,
-    mut pass: PassOf<Total>,
-) -> PassOf<Total>
+    turnstile: &Turnstile<Plain>,
+    mut pass: PassOf<Plain>,
+) -> PassOf<Plain>
     requires { IsOf turnstile.now pass }
     ensures { IsOf turnstile.now result }
 {
@@ -345,7 +259,7 @@ fn in_order<R: Abort>(rt: &R, history: &[Entry<Addition, u64>]) {
 #[test]
 fn two_threads(rt: HostRuntime) -> Result<(), Fail> {
     let alloc = rt.alloc();
-    let (turnstile, mut first) = Turnstile::new(alloc, Total { sum: 0 }, 2000)?;
+    let (turnstile, mut first) = Turnstile::new(alloc, Plain::new(), 2000)?;
     let second = turnstile.split(&mut first)?;
     let shared = &turnstile;
     let (first, second) = join(

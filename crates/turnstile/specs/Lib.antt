@@ -1,6 +1,8 @@
+pub mod Asked
 pub mod Calls
 pub mod Closing
 pub mod History
 pub mod Passes
 pub mod Plays
+pub mod Recorded
 pub mod Turns

@@ -9,20 +9,24 @@
 //! thread which waits gets on, and any order in time between passes that never met.
 #![tactic(auto)]
 
+mod asked;
 mod closing;
 mod history;
 mod lock;
 mod pass;
 mod passes;
+mod recorded;
 mod replays;
 mod rule;
 mod turnstile;
 mod view;
 
+pub use asked::{Asked, AskedHistory};
 pub use closing::{Closed, NotAll, Traced};
 pub use history::{Entry, PlainHistory, StoredHistory};
 pub use pass::{Pass, PassOf};
 pub use passes::NoNumberLeft;
+pub use recorded::{ProofHistory, Recorded};
 pub use replays::Replays;
 pub use turnstile::{Refusal, Turnstile};
 pub use view::{Claim, Held, Opening, Start, View};

@@ -1,0 +1,11 @@
+use Rattle.std.proofs.Common.{◌∙◌}
+use Rattle.turnstile.specs.Recorded.{recorded, answered}
+use Rattle.turnstile.proofs.Answering.{answered-snoc}
+use Rattle.turnstile.proofs.asked.AskedHistoryStoredHistory.push.Goals as goal
+
+pub returns : goal.returns
+returns g c =
+    let history = c.args.self.now in
+    let entry = c.args.entry in
+    (λ i. answered (c.push_reserved.ensures.items i) (c.add.ensures i))
+    ∙ answered-snoc history.asked.items (recorded history.replies) record { number = entry.number; op = entry.op } entry.reply history.counted

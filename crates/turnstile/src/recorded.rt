@@ -1,0 +1,71 @@
+//! A history that only proofs see.
+ghost use Rattle.std.specs.Prelude.{◌≡◌, ◌++◌, ◌∷◌, [], ◌-◌, ◌^◌, true, length, nat_lt};
+ghost use Rattle.turnstile.specs.Recorded.{recorded};
+
+use crate::history::{Entry, StoredHistory};
+use std::alloc::{AllocError, Global};
+use std::snapshot::Snapshot;
+
+/// A list of values that were shown to it, for proofs alone. It takes one byte, however long it is.
+#[derive(Drop)]
+pub enum Recorded<T> {
+    /// Nothing was shown.
+    Nothing,
+    /// What was shown before, and the last value.
+    Then(Snapshot<Recorded<T>>, Snapshot<T>),
+}
+
+impl<T> Recorded<T> {
+    /// Adds a value at the end. It takes no memory.
+    pub fn add(&mut self, value: &T)
+        ensures { recorded self.new ≡ recorded self.old ++ value.now ∷ [] }
+    {
+        let before = Snapshot::of(&*self);
+        *self = Recorded::Then(before, Snapshot::of(value));
+    }
+}
+
+/// A history that only proofs see: at run time it is the number of its entries, and a call stores nothing.
+///
+/// A contract sees it as the list of its entries. A limit of a turnstile that keeps it may be any number.
+/// At the end there are the object, how many calls were made, and what the contract of `close` says of
+/// them. The calls themselves can be neither read nor printed.
+#[derive(Drop)]
+pub struct ProofHistory<O, R> {
+    calls: Recorded<Entry<O, R>>,
+    len: usize,
+    ghost counted: { len ≡ length (recorded calls) },
+}
+
+impl<O: Drop, R: Drop> StoredHistory<O, R> for ProofHistory<O, R> {
+    ghost entries = { λ h. recorded h.calls };
+
+    ghost has_room = { λ h. nat_lt h.len (2 ^ 64 - 1) };
+
+    fn empty(_alloc: Global) -> ProofHistory<O, R> {
+        ProofHistory {
+            calls: Recorded::Nothing,
+            len: 0,
+        }
+    }
+
+    fn len(&self) -> usize {
+        self.len
+    }
+
+    fn reserve(&mut self) -> Result<(), AllocError> {
+        if self.len < usize::MAX {
+            Ok(())
+        } else {
+            Err(AllocError)
+        }
+    }
+
+    fn push(&mut self, entry: Entry<O, R>)
+        requires { nat_lt self.old.len (2 ^ 64 - 1) ≡ true }
+        ensures { recorded self.new.calls ≡ recorded self.old.calls ++ entry ∷ [] }
+    {
+        self.calls.add(&entry);
+        self.len += 1;
+    }
+}
