@@ -4,6 +4,8 @@
 #[cfg(test)]
 mod drains;
 #[cfg(test)]
+mod fixture;
+#[cfg(test)]
 mod limits;
 #[cfg(test)]
 mod operations;
