@@ -1,4 +1,4 @@
-//! Runs the partition of `step_core` and the plain program of `stream_model` beside each other, over long
+//! Runs the partition of `step_core` and the plain program of `partition_reference` beside each other, over long
 //! pseudo-random lists of operations, and compares every reply.
 #![tactic(auto)]
 

@@ -107,7 +107,7 @@ fn tell_want(rt: &impl Eprint, name: &str, count: u64) -> io::Result<()> {
     if count == 0 {
         return Ok(());
     }
-    eprintln!(rt; "memory was wanting for {name}: {count}")
+    eprintln!(rt; "{name} failed to allocate, so often: {count}")
 }
 
 /// Prints the names of what came, with the counts, to the end of the line.
