@@ -1,6 +1,7 @@
 //! What a line of a script says.
-ghost use Rattle.std.specs.Prelude.{◌≡◌};
+ghost use Rattle.std.specs.Prelude.{◌≡◌, Some};
 ghost use Rattle.script_parser.specs.declared.command.LineError.TheVariants as error;
+ghost use Rattle.script_parser.specs.FaultTexts.{fault_text, kind_text};
 ghost use Rattle.script_parser.specs.Forms.{op_of};
 
 use std::alloc::{AllocError, AllocFailed};
@@ -132,6 +133,8 @@ impl EachOp {
 }
 
 impl fmt::Display for FaultKind {
+    ghost output = { λ kind. Some (kind_text kind) };
+
     fn fmt<W: fmt::Write>(&self, f: &mut fmt::Formatter<W>) -> fmt::Result {
         f.write_str(match self {
             FaultKind::BadByte => "bad byte",
@@ -150,6 +153,8 @@ impl fmt::Display for FaultKind {
 }
 
 impl fmt::Display for Fault {
+    ghost output = { λ fault. Some (fault_text fault) };
+
     fn fmt<W: fmt::Write>(&self, f: &mut fmt::Formatter<W>) -> fmt::Result {
         let line = self.line;
         let kind = self.kind;
