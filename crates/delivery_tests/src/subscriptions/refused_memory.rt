@@ -1,7 +1,8 @@
-use super::fixture::{Counted, Log, implicit};
+use super::fixture::{Answer, Call, Counted, Log, implicit};
 use consumer_grain::SubState;
-use std::alloc::Global;
+use std::alloc::{AllocError, Global};
 use std::process::Abort;
+use std::test::Fail;
 use stream_ident::SubName;
 use subscription_table::SubscriptionTable;
 
@@ -41,40 +42,11 @@ fn compare(rt: &impl Abort, one: &SubscriptionTable, twin: &SubscriptionTable) {
         compare_name(rt, one, twin, &SubName::Explicit(number));
     }
     for key in *b"abcdefghijklmnop" {
-        compare_name(rt, one, twin, &implicit(rt, b"p", key));
+        compare_name(rt, one, twin, &implicit(rt, b'p', key));
     }
 }
 
-/// A call that may want memory.
-#[derive(Clone, Copy)]
-enum Call {
-    Subscribe { key: u8, position: usize },
-    Imply { from: usize, to: usize },
-    AddRule { kind: u8 },
-    Commit { number: usize, position: usize },
-}
-
-/// Whether there was memory for a call.
-fn has_memory(
-    rt: &impl Abort,
-    alloc: Global,
-    counted: &mut Counted,
-    log: &Log,
-    call: Call,
-) -> bool {
-    match call {
-        Call::Subscribe { key, position } => {
-            counted.try_subscribe(rt, alloc, key, position).is_ok()
-        }
-        Call::Imply { from, to } => counted.try_imply(rt, alloc, log, from, to, from).is_ok(),
-        Call::AddRule { kind } => counted.try_add_rule(rt, alloc, &[kind], 0).is_ok(),
-        Call::Commit { number, position } => {
-            counted.try_commit(rt, alloc, number, position, 3).is_ok()
-        }
-    }
-}
-
-/// Calls a table, again where memory was wanting: the table is then like another one.
+/// Makes a call, again where memory was wanting: the table is then like another one.
 fn insist(
     rt: &impl Abort,
     alloc: Global,
@@ -82,52 +54,63 @@ fn insist(
     log: &Log,
     call: Call,
     like: Option<&Counted>,
-) {
-    if has_memory(rt, alloc, counted, log, call) {
-        return;
+) -> Result<Answer, AllocError> {
+    if let Ok(answer) = counted.change(rt, alloc, log, call) {
+        return Ok(answer);
     }
     if let Some(like) = like {
         compare(rt, &counted.table, &like.table);
     }
-    assert!(rt; has_memory(rt, alloc, counted, log, call));
+    counted.change(rt, alloc, log, call)
 }
 
 /// The calls of a round. In the last of eight rounds the table gets full, so that the rules make none more.
 fn calls(round: usize) -> [Call; 5] {
-    let (number, position) = (round, round);
-    let kind = b"pqr"[round % 3];
     [
-        Call::Subscribe {
-            key: b"abcdefgh"[round % 8],
-            position,
-        },
-        Call::AddRule { kind },
-        Call::Imply {
-            from: round,
-            to: round.saturating_mul(2),
-        },
-        Call::Commit { number, position },
-        Call::Commit {
-            number,
-            position: round.saturating_add(1),
-        },
+        Call::Subscribe(b"abcdefgh"[round % 8], round),
+        Call::AddRule(b"pqr"[round % 3], 0),
+        Call::Imply(round, round.saturating_mul(2), round),
+        Call::Commit(round, round, 3),
+        Call::Commit(round, round.saturating_add(1), 3),
     ]
+}
+
+/// A log of sixteen events, each of a stream of its own.
+fn sixteen(rt: &impl Abort, alloc: Global) -> Log {
+    let mut batches = [(b'a', 1); 16];
+    for (batch, key) in batches.iter_mut().zip(*b"abcdefghijklmnop") {
+        batch.0 = key;
+    }
+    Log::of(rt, alloc, &batches)
+}
+
+/// Makes the calls of eight rounds, first of a table and then of its twin.
+fn change_both(
+    rt: &impl Abort,
+    alloc: Global,
+    log: &Log,
+    one: &mut Counted,
+    twin: &mut Counted,
+) -> Result<(), AllocError> {
+    for round in 0..8 {
+        for call in calls(round) {
+            let answer = insist(rt, alloc, one, log, call, Some(twin))?;
+            assert!(rt; insist(rt, alloc, twin, log, call, None)? == answer);
+            compare(rt, &one.table, &twin.table);
+        }
+    }
+    assert!(rt; one.table.is_full());
+    Ok(())
 }
 
 /// With any one allocation refused, two tables stay alike. The second is one call behind when the first is
 /// called, and so shows that a refused call left all as it was. Run it with each allocation failing in turn.
 #[test]
-fn one_allocation_refused(rt: HostRuntime) {
+fn one_allocation_refused(rt: HostRuntime) -> Result<(), Fail> {
     let alloc = rt.alloc();
-    let log = Log::of(&rt, alloc, b"abcdefghijklmnop");
+    let log = sixteen(&rt, alloc);
     let mut one = Counted::new(alloc, 40, 3);
     let mut twin = Counted::new(alloc, 40, 3);
-    for round in 0..8 {
-        for call in calls(round) {
-            insist(&rt, alloc, &mut one, &log, call, Some(&twin));
-            insist(&rt, alloc, &mut twin, &log, call, None);
-            compare(&rt, &one.table, &twin.table);
-        }
-    }
-    assert!(rt; one.table.is_full());
+    change_both(&rt, alloc, &log, &mut one, &mut twin)?;
+    Ok(())
 }
