@@ -485,7 +485,7 @@ fn handle_both<R: Abort>(rt: &R, one: &mut Activation, twin: &mut Activation, su
         expect_turn(rt, one.begin(0, Some(1), 16), *sub, &[3]);
         expect_turn(rt, twin.begin(0, Some(1), 16), *sub, &[3]);
         compare(rt, one, twin);
-        assert!(rt; commit(&mut one, 1, 1) == commit(&mut twin, 1, 1));
+        assert!(rt; commit(one, 1, 1) == commit(twin, 1, 1));
     }
 }
 
