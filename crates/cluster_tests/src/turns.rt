@@ -2,6 +2,7 @@ ghost use Rattle.std.specs.Prelude.{◌≡◌, ◌+◌, ◌%◌, ◌^◌, ◌<�
 ghost use Rattle.turnstile.specs.Calls.{IsOf};
 
 use std::alloc::{AllocError, Global};
+use std::ops::Range;
 use std::process::Abort;
 use std::sync::Wait;
 use std::test::Fail;
@@ -44,10 +45,6 @@ impl Replays for Total {
         Ok(self.sum)
     }
 
-    fn copy_op(_alloc: Global, op: &Addition) -> Result<Addition, AllocError> {
-        Ok(*op)
-    }
-
     fn copy_reply(reply: &u64) -> u64 {
         *reply
     }
@@ -74,8 +71,8 @@ fn expect<R: Wait + Abort>(
     op: Addition,
     wanted: Result<u64, Refusal>,
 )
-    requires { IsOf (λ t. t.sum) turnstile.now pass.old }
-    ensures { IsOf (λ t. t.sum) turnstile.now pass.new }
+    requires { IsOf turnstile.now pass.old }
+    ensures { IsOf turnstile.now pass.new }
 {
     let answer = turnstile.call(rt, alloc, pass, op);
     assert!(rt; answer == wanted);
@@ -88,7 +85,7 @@ fn finished<R: Abort>(
     passes: Vec<PassOf<Total>>,
 ) -> Traced<Total>
     requires some { 0 < vec_len passes }
-    requires passes { All (IsOf (λ t. t.sum) turnstile) passes.items }
+    requires passes { All (IsOf turnstile) passes.items }
 {
     let Closed::Traced(done) = turnstile.close(passes) else {
         panic!(rt; "all passes were given");
@@ -189,7 +186,7 @@ fn joined_passes(rt: HostRuntime) -> Result<(), Fail> {
 
 // A turnstile, asked for once more where memory was refused.
 fn opened(alloc: Global) -> Result<(Turnstile<Total>, PassOf<Total>), AllocError>
-    ensures { IfOk result (λ r. IsOf (λ t. t.sum) r.0 r.1) }
+    ensures { IfOk result (λ r. IsOf r.0 r.1) }
 {
     match Turnstile::new(alloc, Total { sum: 0 }, 6) {
         Ok(opened) => Ok(opened),
@@ -205,8 +202,8 @@ fn insist<R: Wait + Abort>(
     pass: &mut PassOf<Total>,
     amount: u64,
 ) -> Result<u64, Refusal>
-    requires { IsOf (λ t. t.sum) turnstile.now pass.old }
-    ensures { IsOf (λ t. t.sum) turnstile.now pass.new }
+    requires { IsOf turnstile.now pass.old }
+    ensures { IsOf turnstile.now pass.new }
 {
     let op = Addition { amount, room: 1 };
     let seen = pass.len();
@@ -228,14 +225,34 @@ fn add_alike<R: Wait + Abort>(
     twin: &mut PassOf<Total>,
     amount: u64,
 )
-    requires one { IsOf (λ t. t.sum) one.now pass.old }
-    requires other { IsOf (λ t. t.sum) other.now twin.old }
-    ensures one { IsOf (λ t. t.sum) one.now pass.new }
-    ensures other { IsOf (λ t. t.sum) other.now twin.new }
+    requires one { IsOf one.now pass.old }
+    requires other { IsOf other.now twin.old }
+    ensures one { IsOf one.now pass.new }
+    ensures other { IsOf other.now twin.new }
 {
     let answer = insist(rt, alloc, one, pass, amount);
     assert!(rt; answer == insist(rt, alloc, other, twin, amount));
     assert_eq!(rt; pass.len(), twin.len());
+}
+
+// Adds the numbers of a range, one after another, in each of two turnstiles.
+fn add_all_alike<R: Wait + Abort>(
+    rt: &R,
+    alloc: Global,
+    one: &Turnstile<Total>,
+    pass: &mut PassOf<Total>,
+    other: &Turnstile<Total>,
+    twin: &mut PassOf<Total>,
+    amounts: Range<u64>,
+)
+    requires one { IsOf one.now pass.old }
+    requires other { IsOf other.now twin.old }
+    ensures one { IsOf one.now pass.new }
+    ensures other { IsOf other.now twin.new }
+{
+    for amount in amounts {
+        add_alike(rt, alloc, one, pass, other, twin, amount);
+    }
 }
 
 // Two passes in one vector.
@@ -262,22 +279,18 @@ fn one_allocation_refused(rt: HostRuntime) -> Result<(), Fail> {
     let alloc = rt.alloc();
     let (one, mut first) = opened(alloc)?;
     let (other, mut twin) = opened(alloc)?;
-    for amount in 1..5 {
-        add_alike(&rt, alloc, &one, &mut first, &other, &mut twin, amount);
-    }
+    add_all_alike(&rt, alloc, &one, &mut first, &other, &mut twin, 1..5);
     let mut second = one.split(&mut first)?;
     let mut second_twin = other.split(&mut twin)?;
-    for amount in 5..8 {
-        add_alike(
-            &rt,
-            alloc,
-            &one,
-            &mut second,
-            &other,
-            &mut second_twin,
-            amount,
-        );
-    }
+    add_all_alike(
+        &rt,
+        alloc,
+        &one,
+        &mut second,
+        &other,
+        &mut second_twin,
+        5..8,
+    );
     let done = finished(&rt, one, pair(alloc, first, second)?);
     let twin = finished(&rt, other, pair(alloc, twin, second_twin)?);
     assert!(rt; done.object.sum == 21 && twin.object.sum == 21);
@@ -301,8 +314,8 @@ fn add_many<R: Wait>(
     turnstile: &Turnstile<Total>,
     mut pass: PassOf<Total>,
 ) -> PassOf<Total>
-    requires { IsOf (λ t. t.sum) turnstile.now pass }
-    ensures { IsOf (λ t. t.sum) turnstile.now result }
+    requires { IsOf turnstile.now pass }
+    ensures { IsOf turnstile.now result }
 {
     for amount in 0..1000 {
         let _ = turnstile.call(rt, alloc, &mut pass, add(amount));

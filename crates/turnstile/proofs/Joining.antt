@@ -1,26 +1,40 @@
--- A pass that takes in another, and a seat that draws a number.
-use Rattle.std.proofs.Common.{◌≡◌, ℕ, ◌+◌, ◌≤◌, List, [], ◌++◌, sym, ap, ◌∙◌, subst, arith}
+-- A pass that takes in another.
+use Rattle.std.proofs.Common.{◌≡◌, ℕ, ◌+◌, ◌≤◌, List, [], ◌∷◌, ◌++◌, drop, sym, ap, ◌∙◌, subst, arith}
+use Rattle.atomic_table.specs.Seated.{TableId}
 use Rattle.turnstile.specs.declared.history.Entry.{Entry}
 use Rattle.turnstile.specs.declared.view.View.{View}
-use Rattle.turnstile.specs.History.{times, Claims, longer}
+use Rattle.turnstile.specs.History.{times, ShareNone, Claims, longer}
+use Rattle.turnstile.specs.Calls.{Agree}
+use Rattle.turnstile.specs.Passes.{PassView, pass_view}
 use Rattle.turnstile.specs.Plays.{Sat, Told}
 use Rattle.turnstile.specs.Turns.{joined}
 use Rattle.turnstile.proofs.Histories.{claims_cut, longer_bounds}
-use Rattle.turnstile.proofs.Totals.{times-append}
+use Rattle.turnstile.proofs.Totals.{times-append, times_contained}
 
 module _ {S O R : Type 0} where
-  told_both : (v w : View S O R) → Told (joined v w) → Claims v.names v.seen (longer v.seen w.seen) × Claims w.names w.seen (longer v.seen w.seen) × ((k : ℕ) → times k v.names + times k w.names ≤ 1)
+  told_both : (v w : View S O R) → Told (joined v w) → Claims v.numbers v.seen (longer v.seen w.seen) × Claims w.numbers w.seen (longer v.seen w.seen) × ShareNone v.numbers w.numbers
   told_both v w told =
       let bounds = longer_bounds v.seen w.seen in (
-        claims_cut v.names v.seen told.log (longer v.seen w.seen) told.seen.rest told.past.1 told.seen.is bounds.0,
-        claims_cut w.names w.seen told.log (longer v.seen w.seen) told.seen.rest told.past.2.1 told.seen.is bounds.1,
-        (λ k. let a : times k (v.names ++ w.names) ≤ 1 = told.once k in let b : times k (v.names ++ w.names) ≡ times k v.names + times k w.names = times-append k v.names w.names in omega (arith, a, b)),
+        claims_cut v.numbers v.seen told.log (longer v.seen w.seen) told.seen.rest told.past.1 told.seen.is bounds.0,
+        claims_cut w.numbers w.seen told.log (longer v.seen w.seen) told.seen.rest told.past.2.1 told.seen.is bounds.1,
+        (λ k one other.
+            let a : times k (v.numbers ++ w.numbers) ≤ 1 = told.once k in
+            let b : times k (v.numbers ++ w.numbers) ≡ times k v.numbers + times k w.numbers = times-append k v.numbers w.numbers in
+            let c = times_contained v.numbers k one in
+            let d = times_contained w.numbers k other in
+            omega (arith, a, b, c, d)),
       )
+
+  abbrev Agreed : View S O R → View S O R → List (Entry O R) → List ℕ → List ℕ → Type 0
+  Agreed v w seen xs ys = Claims xs v.seen seen × Claims ys w.seen seen × ShareNone xs ys
 
 module _ {X H S O R : Type 0} where
   -- m is the seat after the join, and n once it was told what stands
-  pub agree : (v w : View S O R) (m n : Sat X H S O R) → m.0 ≡ joined v w → n ≡ (record m.0 { past = [] }, m.1) → Told m.0
-      → Claims v.names v.seen n.0.seen × Claims w.names w.seen n.0.seen × ((k : ℕ) → times k v.names + times k w.names ≤ 1)
-  agree v w m n is tell told =
+  pub agree : (p q : PassView O R S) (z y x : TableId) (v w : View S O R) (k j : ℕ) (m n : Sat X H S O R) → pass_view z v k ≡ p → pass_view y w j ≡ q → v.numbers ≡ k ∷ drop 1 v.numbers → w.numbers ≡ j ∷ drop 1 w.numbers
+      → m.0 ≡ joined v w → n ≡ (record m.0 { past = [] }, m.1) → Told m.0 → Agree p q (pass_view x n.0 k)
+  agree p q z y x v w k j m n one other named other_named is tell told =
       let seen : n.0.seen ≡ longer v.seen w.seen = ap (λ (z : Sat X H S O R). z.0.seen) tell ∙ ap (λ (z : View S O R). z.seen) is in
-      subst (λ (l : List (Entry O R)). Claims v.names v.seen l × Claims w.names w.seen l × ((k : ℕ) → times k v.names + times k w.names ≤ 1)) (sym seen) (told_both v w (subst Told is told))
+      let both : Agreed v w n.0.seen v.numbers w.numbers = subst (λ (l : List (Entry O R)). Agreed v w l v.numbers w.numbers) (sym seen) (told_both v w (subst Told is told)) in
+      let views : Agree (pass_view z v k) (pass_view y w j) (pass_view x n.0 k) =
+      subst (λ (xs : List ℕ). Agreed v w n.0.seen xs (j ∷ drop 1 w.numbers)) named (subst (Agreed v w n.0.seen v.numbers) other_named both) in
+      subst (λ (r : PassView O R S). Agree r q (pass_view x n.0 k)) one (subst (λ (r : PassView O R S). Agree (pass_view z v k) r (pass_view x n.0 k)) other views)

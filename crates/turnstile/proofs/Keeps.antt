@@ -71,7 +71,7 @@ module _ {X H S O R : Type 0} (entries : H → List (Entry O R)) (state : X → 
   makes xs held is none same = subst (λ ys. Holds (opening (1 ∷ 0 ∷ 0 ∷ 0 ∷ []) ys (opening_view start))) (sym is)
       (holds_at 1 0 0 [] (maybe.some (Some held) ∷ []) (opening_view start ∷ []) (1 ∷ 0 ∷ 0 ∷ 0 ∷ []) refl (stands.made entries state reply after start held none same))
 
-  pub draws : (slots id : ℕ) (m : M) → m.0.tickets ≡ [] → m.0.come ≡ false → 0 < length m.0.names → Allows Holds slots id m 1 (λ n. (n + 1) % 18446744073709551616) (drew any_step m)
+  pub draws : (slots id : ℕ) (m : M) → m.0.tickets ≡ [] → m.0.come ≡ false → 0 < length m.0.numbers → Allows Holds slots id m 1 (λ n. (n + 1) % 18446744073709551616) (drew any_step m)
   draws slots id m none idle some = moves slots id m 1 (λ n. (n + 1) % 18446744073709551616) (drew any_step m) (λ p d s log homes views rule len at. (
     record m.0 { tickets = d ∷ [] },
     keeps,
@@ -105,7 +105,7 @@ module _ {X H S O R : Type 0} (entries : H → List (Entry O R)) (state : X → 
             held = h.held;
             slot = ap (λ (c : List (ℕ × Slot)). (0, Some h.held) ∷ c) empty;
             view = refl;
-            claims = subst (Claims m.0.names m.0.seen) (sym h.history) k.seen;
+            claims = subst (Claims m.0.numbers m.0.seen) (sym h.history) k.seen;
             legal = λ x is. legal_here x h.held log (k.begins x is) h.history rule.legal h.object rule.bounded;
           }),
           (λ other. absurd (other same)),
@@ -131,7 +131,7 @@ module _ {X H S O R : Type 0} (entries : H → List (Entry O R)) (state : X → 
     refl,
   ))
 
-  pub notes : (slots id : ℕ) (m : M) (held : Held X H) (e : Entry O R) (n : ℕ) → m.0.come ≡ true → m.0.past ≡ [] → m.1 ≡ (0, Some held) ∷ [] → entries held.history ≡ m.0.seen ++ e ∷ [] → 0 < times e.number m.0.names
+  pub notes : (slots id : ℕ) (m : M) (held : Held X H) (e : Entry O R) (n : ℕ) → m.0.come ≡ true → m.0.past ≡ [] → m.1 ≡ (0, Some held) ∷ [] → entries held.history ≡ m.0.seen ++ e ∷ [] → 0 < times e.number m.0.numbers
       → e.reply ≡ reply (replay reply after start.state m.0.seen) e.op → length m.0.seen < start.limit → n ≡ length (entries held.history)
       → Allows Holds slots id m 3 (λ _. n) (λ _. noted entries any_step m n)
   notes slots id m held e n turn past slot history own right room is = moves slots id m 3 (λ _. n) (λ _. noted entries any_step m n) (λ p d s log homes views rule len at.
@@ -164,15 +164,15 @@ module _ {X H S O R : Type 0} (entries : H → List (Entry O R)) (state : X → 
     (refl, members.tells entries state reply after start p d s log homes views id m.0 at rule),
   ))
 
-  pub numbers : (slots id : ℕ) (m : M) (old : ℕ) → m.0.names ≡ [] → m.0.tickets ≡ [] → m.0.past ≡ [] → m.0.come ≡ false → m.0.made ≡ old → old < 4294967296
+  pub draws_number : (slots id : ℕ) (m : M) (old : ℕ) → m.0.numbers ≡ [] → m.0.tickets ≡ [] → m.0.past ≡ [] → m.0.come ≡ false → m.0.made ≡ old → old < 4294967296
       → Allows Holds slots id m 0 (λ n. either (eqb n old) (old + 1) n) (numbered (step 0 0 old 0 maybe.none) m)
-  numbers slots id m old none free past idle made few = moves slots id m 0 (λ n. either (eqb n old) (old + 1) n) (numbered (step 0 0 old 0 maybe.none) m) (λ p d s log homes views rule len at.
+  draws_number slots id m old none free past idle made few = moves slots id m 0 (λ n. either (eqb n old) (old + 1) n) (numbered (step 0 0 old 0 maybe.none) m) (λ p d s log homes views rule len at.
       dite (ℕ_discrete p old)
       (λ same. (
-        record m.0 { names = p ∷ []; made = p + 1 },
+        record m.0 { numbers = p ∷ []; made = p + 1 },
         keeps,
         tt,
-        holds_at (p + 1) d s log homes (set views id (record m.0 { names = p ∷ []; made = p + 1 })) _
+        holds_at (p + 1) d s log homes (set views id (record m.0 { numbers = p ∷ []; made = p + 1 })) _
             (ap (λ (n : ℕ). n ∷ (d % 18446744073709551616) ∷ (s % 18446744073709551616) ∷ length log ∷ []) (ap (λ (b : Bool). either b (old + 1) p) (eq-eqb p old same) ∙ ap (λ (n : ℕ). n + 1) (sym same)))
             (members.number entries state reply after start p d s log homes views id m.0 at none free past idle (omega (arith, same, few)) rule),
         ((λ _. (refl, members.unseen entries state reply after start p d s log homes views id m.0 at rule)), (λ other. absurd (other same))),
@@ -186,6 +186,12 @@ module _ {X H S O R : Type 0} (entries : H → List (Entry O R)) (state : X → 
             (members.count entries state reply after start p d s log homes views id m.0 at idle rule),
         ((λ same. absurd (other same)), (λ _. (refl, (let le : m.0.made ≤ p = (rule.each id m.0 at).made in omega (arith, le, made, other))))),
       )))
+
+  -- a seat that was split off has no number yet
+  pub draws_first : (slots id : ℕ) (m : M) (v : View S O R) (old : ℕ) → m ≡ (record (unnumbered v) { made = old }, []) → old < 4294967296
+      → Allows Holds slots id m 0 (λ n. either (eqb n old) (old + 1) n) (numbered (step 0 0 old 0 maybe.none) m)
+  draws_first slots id m v old is few =
+      draws_number slots id m old (ap (λ (n : M). n.0.numbers) is) (ap (λ (n : M). n.0.tickets) is) (ap (λ (n : M). n.0.past) is) (ap (λ (n : M). n.0.come) is) (ap (λ (n : M). n.0.made) is) few
 
   pub splits : (id : ℕ) (v : View S O R) → v.come ≡ false → Splits Holds id v v (unnumbered v)
   splits id v idle s h at = record {
@@ -208,25 +214,27 @@ module _ {X H S O R : Type 0} (entries : H → List (Entry O R)) (state : X → 
     stands = members.join entries state reply after start h.passes h.drawn h.serving h.log s.homes s.views id other v w at apart there idle free not_come h.stands;
   }
 
-  -- what the last look at a table shows, where all numbers are this seat's and no ticket is out
+  -- one that has drawn none comes back
+  pub joins_back : (id other : ℕ) (v : View S O R) (m : M) (u : View S O R) (old : ℕ) → v.come ≡ false → m ≡ (record (unnumbered u) { made = old }, []) → Joins Holds id v other m.0 (joined v m.0) spent_view
+  joins_back id other v m u old idle is = joins id other v m.0 idle (ap (λ (n : M). n.0.tickets) is) (ap (λ (n : M). n.0.come) is)
+
+  -- what the last look at a table shows, where all numbers are this seat's
   pub record Shows (v : View S O R) (held : Held X H) : Type 0 where
     pub whole : entries held.history ≡ v.seen
     pub legal : IsLegal reply after start.state (entries held.history)
     pub object : state held.object ≡ replay reply after start.state (entries held.history)
     pub bounded : length (entries held.history) ≤ start.limit
-    pub own : Own v.names (entries held.history)
-    pub differ : (k : ℕ) → times k v.names ≤ 1
-    pub most : v.made ≤ length v.names
+    pub own : Own v.numbers (entries held.history)
+    pub differ : (k : ℕ) → times k v.numbers ≤ 1
+    pub most : v.made ≤ length v.numbers
 
-  pub shows : (id : ℕ) (v : View S O R) (ws : List ℕ) (xs : List Slot) (all d s : ℕ) (held : Held X H) → Final (Seen Holds id v) ws xs
-      → get_elem? ws 0 ≡ maybe.some all → get_elem? ws 1 ≡ maybe.some d → get_elem? ws 2 ≡ maybe.some s → get_elem? xs 0 ≡ maybe.some (Some held) → d ≡ s → all ≤ length v.names → Shows v held
-  shows id v ws xs all d s held final first second third here same few =
+  pub shows : (id : ℕ) (v : View S O R) (ws : List ℕ) (xs : List Slot) (all : ℕ) (held : Held X H) → Final (Seen Holds id v) ws xs
+      → get_elem? ws 0 ≡ maybe.some all → get_elem? xs 0 ≡ maybe.some (Some held) → v.tickets ≡ [] → all ≤ length v.numbers → Shows v held
+  shows id v ws xs all held final first here idle few =
       let h = final.1.0 in
       let words : ws ≡ words_of h.passes h.drawn h.serving h.log = sym final.2 ∙ h.words in
       let p_is : h.passes ≡ all = some-injective h.passes all (sym (ap (λ (l : List ℕ). get_elem? l 0) words) ∙ first) in
-      let d_is : h.drawn % 18446744073709551616 ≡ d = some-injective (h.drawn % 18446744073709551616) d (sym (ap (λ (l : List ℕ). get_elem? l 1) words) ∙ second) in
-      let s_is : h.serving % 18446744073709551616 ≡ s = some-injective (h.serving % 18446744073709551616) s (sym (ap (λ (l : List ℕ). get_elem? l 2) words) ∙ third) in
-      let e = ended entries state reply after start h.passes h.drawn h.serving h.log final.0.homes final.0.views id v final.1.1 (d_is ∙ (same ∙ sym s_is)) (omega (arith, p_is, few)) h.stands in
+      let e = ended entries state reply after start h.passes h.drawn h.serving h.log final.0.homes final.0.views id v final.1.1 idle (omega (arith, p_is, few)) h.stands in
       let home : AtHome entries state reply after start final.0.homes h.log = e.home in
       let is : Some home.held ≡ Some held = some-injective (Some home.held) (Some held) (sym (final.4 0 (Some home.held) (ap (λ (hs : Homes). get_elem? hs 0) home.is)) ∙ here) in
       let same_held : home.held ≡ held = ap (held_or held) is in
@@ -237,7 +245,7 @@ module _ {X H S O R : Type 0} (entries : H → List (Entry O R)) (state : X → 
         legal = subst (IsLegal reply after start.state) (sym history) e.legal;
         object = ap (λ (z : Held X H). state z.object) (sym same_held) ∙ (home.object ∙ ap (replay reply after start.state) (sym history));
         bounded = subst (λ (l : Log). length l ≤ start.limit) (sym history) e.bounded;
-        own = subst (Own v.names) (sym history) e.own;
+        own = subst (Own v.numbers) (sym history) e.own;
         differ = e.differ;
         most = omega (arith, made, p_is, few);
       }

@@ -14,8 +14,8 @@ use Rattle.turnstile.specs.History.{times, total, Foreign, Drawn}
 use Rattle.turnstile.specs.Plays.{Told}
 use Rattle.turnstile.specs.Turns.{AllClaim, spent_view, unnumbered, joined, Knows, Stands}
 use Rattle.turnstile.proofs.Histories.{foreign_none, foreign_fresh, drawn_front, drawn_tail, drawn_more, claims_longer}
-use Rattle.turnstile.proofs.Rolls.{name_times, name_count, roll_number, roll_split, roll_join}
-use Rattle.turnstile.proofs.Stands.{both_ways, each_set, home_back, names_single, quiet}
+use Rattle.turnstile.proofs.Rolls.{number_times, number_count, roll_number, roll_split, roll_join}
+use Rattle.turnstile.proofs.Stands.{both_ways, each_set, home_back, numbers_single, quiet}
 use Rattle.turnstile.proofs.Totals.{times-append, total_at}
 
 module _ {X H S O R : Type 0} (entries : H → List (Entry O R)) (state : X → S) (reply : S → O → R) (after : S → O → S) (start : Start S) where
@@ -74,10 +74,10 @@ module _ {X H S O R : Type 0} (entries : H → List (Entry O R)) (state : X → 
         log = log;
         past = k.past;
         seen = k.seen;
-        once = λ n. let a : times n v.names ≤ total (name_times n) views = total_at (name_times n) views id v at in let b : total (name_times n) views ≤ 1 = names_single p d s views st.roll n in omega (arith, a, b);
+        once = λ n. let a : times n v.numbers ≤ total (number_times n) views = total_at (number_times n) views id v at in let b : total (number_times n) views ≤ 1 = numbers_single p d s views st.roll n in omega (arith, a, b);
         few =
-            let a : length v.names ≤ total name_count views = total_at name_count views id v at in
-            let b : total name_count views ≡ p = st.roll.numbers in
+            let a : length v.numbers ≤ total number_count views = total_at number_count views id v at in
+            let b : total number_count views ≡ p = st.roll.counted in
             let c : p ≤ 2 ^ 32 = st.few in
             omega (arith, a, b, c);
       }
@@ -105,10 +105,10 @@ module _ {X H S O R : Type 0} (entries : H → List (Entry O R)) (state : X → 
       }
 
   abbrev numbered_as : View S O R → ℕ → View S O R
-  numbered_as v p = record v { names = p ∷ []; made = p + 1 }
+  numbered_as v p = record v { numbers = p ∷ []; made = p + 1 }
 
   -- a seat without a number draws one
-  pub number : (p d s : ℕ) (log : Log) (homes : Homes) (views : Views) (id : ℕ) (v : View S O R) → get_elem? views id ≡ maybe.some v → v.names ≡ [] → v.tickets ≡ [] → v.past ≡ [] → v.come ≡ false → p < 2 ^ 32
+  pub number : (p d s : ℕ) (log : Log) (homes : Homes) (views : Views) (id : ℕ) (v : View S O R) → get_elem? views id ≡ maybe.some v → v.numbers ≡ [] → v.tickets ≡ [] → v.past ≡ [] → v.come ≡ false → p < 2 ^ 32
       → Rule p d s log homes views → Rule (p + 1) d s log homes (set views id (numbered_as v p))
   number p d s log homes views id v at none free past idle few st =
       let k = st.each id v at in
@@ -151,12 +151,12 @@ module _ {X H S O R : Type 0} (entries : H → List (Entry O R)) (state : X → 
       let knows : Knower p s log (joined v w) = record {
         begins = k.begins;
         made = let a : v.made ≤ p = k.made in let b : w.made ≤ p = o.made in omega (arith, a, b);
-        fits = let a : length v.tickets ≤ length v.names = k.fits in let b : length (v.names ++ w.names) ≡ length v.names + length w.names = length-append v.names w.names in omega (arith, a, b);
-        seen = claims_longer v.names w.names v.seen w.seen log k.seen o.seen;
+        fits = let a : length v.tickets ≤ length v.numbers = k.fits in let b : length (v.numbers ++ w.numbers) ≡ length v.numbers + length w.numbers = length-append v.numbers w.numbers in omega (arith, a, b);
+        seen = claims_longer v.numbers w.numbers v.seen w.seen log k.seen o.seen;
         past = (
-          (λ n. let a : times n (v.names ++ w.names) ≡ times n v.names + times n w.names = times-append n v.names w.names in omega (arith, a)),
+          (λ n. let a : times n (v.numbers ++ w.numbers) ≡ times n v.numbers + times n w.numbers = times-append n v.numbers w.numbers in omega (arith, a)),
           k.seen,
-          ((λ n. let a : times n (v.names ++ w.names) ≡ times n v.names + times n w.names = times-append n v.names w.names in omega (arith, a)), o.seen, tt),
+          ((λ n. let a : times n (v.numbers ++ w.numbers) ≡ times n v.numbers + times n w.numbers = times-append n v.numbers w.numbers in omega (arith, a)), o.seen, tt),
         );
         come = λ turn. absurd (both_ways v.come idle turn);
       } in

@@ -1,19 +1,46 @@
 -- The phases of a call, over the bare seat: what each asks of the one before, and what they come to.
 use Rattle.std.proofs.Common.{◌≡◌, ◌≢◌, ℕ, ◌+◌, ◌%◌, ◌<◌, ◌≤◌, false, List, [], ◌∷◌, ◌++◌, length, drop, Option, Some, None, refl, sym, ap, ◌∙◌, subst, arith, length-append}
+use Rattle.std.proofs.lemmas.Option.{none-some}
 use Rattle.std.specs.Option.{IsSome}
+use Rattle.atomic_table.specs.Seated.{TableId}
 use Rattle.atomic_table.specs.Table.{State, Allows, rest}
 use Rattle.turnstile.specs.declared.history.Entry.{Entry}
 use Rattle.turnstile.specs.declared.view.Held.{Held}
 use Rattle.turnstile.specs.declared.view.Start.{Start}
 use Rattle.turnstile.specs.declared.view.View.{View}
 use Rattle.turnstile.specs.declared.turnstile.Refusal.{Refusal}
-use Rattle.turnstile.specs.Calls.{Applied, Kept, Called, Found, IsFull}
-use Rattle.turnstile.specs.History.{times, replay, IsLegal, entry}
-use Rattle.turnstile.specs.Plays.{Sat, history_of, first_of, looked, Turn, noted, left, Begun, MayLeave, MayNote, gone}
+use Rattle.turnstile.specs.Calls.{IsOf, Called, Found, IsFull}
+use Rattle.turnstile.specs.Closing.{IsTrace}
+use Rattle.turnstile.specs.History.{times, replay, IsLegal, Foreign, Own, entry}
+use Rattle.turnstile.specs.Plays.{Sat, history_of, first_of, looked, Turn, noted, left, Begun, MayLeave, MayNote, Applied, Kept, gone}
+use Rattle.turnstile.specs.Passes.{Origin, PassView, opened, origin, pass_view}
 use Rattle.turnstile.specs.Turns.{Turning}
 use Rattle.turnstile.proofs.Histories.{legal_snoc, replay_snoc}
-use Rattle.turnstile.proofs.Keeps.{held_or, any_step, looks, serves, notes}
+use Rattle.turnstile.proofs.Keeps.{held_or, any_step, looks, serves, notes, Shows}
 use Rattle.turnstile.proofs.Totals.{times_same}
+
+module _ {S : Type 0} where
+  abbrev table_or : TableId → Option (Origin S) → TableId
+  table_or z (Some t) = t.table
+  table_or z None = z
+
+  abbrev start_in : Option (Origin S) → Option (Start S)
+  start_in (Some t) = Some t.start
+  start_in None = None
+
+  -- the seat of a pass of a turnstile is of its table, and knows how it began
+  pub is_of : (z w : TableId) (x : Option (Start S)) (y : Start S) → origin z x ≡ Some (opened w y) → (z ≡ w) × (x ≡ Some y)
+  is_of z w (Some x) y e = (ap (table_or w) e, ap start_in e)
+  is_of z w None y e = absurd (none-some (opened w y) e)
+
+module _ {S O R : Type 0} where
+  -- the same, of what contracts see
+  pub seated : (q : PassView O R S) (t : Origin S) (z w : TableId) (v : View S O R) (k : ℕ) (x : Start S) → pass_view z v k ≡ q → opened w x ≡ t → IsOf t q → (z ≡ w) × (v.start ≡ Some x)
+  seated q t z w v k x pass turnstile of = is_of z w v.start x (ap (λ (p : PassView O R S). p.turnstile) pass ∙ (of ∙ ap (λ (s : Origin S). Some s) (sym turnstile)))
+
+  -- what holds of the fields holds of what contracts see
+  pub shown : (P : Start S → PassView O R S → Type 0) (q : PassView O R S) (t : Origin S) (z w : TableId) (v : View S O R) (k : ℕ) (x : Start S) → pass_view z v k ≡ q → opened w x ≡ t → P x (pass_view z v k) → P t.start q
+  shown P q t z w v k x pass turnstile h = subst (λ (s : Start S). P s q) (ap (λ (o : Origin S). o.start) turnstile) (subst (P x) pass h)
 
 module _ {X H S O R : Type 0} (entries : H → List (Entry O R)) (state : X → S) (reply : S → O → R) (after : S → O → S) (start : Start S) where
   abbrev M : Type 0
@@ -95,7 +122,7 @@ module _ {X H S O R : Type 0} (entries : H → List (Entry O R)) (state : X → 
       let seen : m'.0.seen ≡ m.0.seen = ap (λ (n : M). n.0.seen) is in
       notes entries state reply after start slots id m' held may.entry count (ap (λ (n : M). n.0.come) is ∙ may.come) (ap (λ (n : M). n.0.past) is ∙ may.past) (ap (λ (n : M). n.1) is ∙ ap (λ (c : List (ℕ × Slot)). (0, Some held) ∷ rest c) may.slot)
       (may.history ∙ ap (λ (l : List (Entry O R)). l ++ may.entry ∷ []) (sym seen))
-      (subst (λ (l : List ℕ). 0 < times may.entry.number l) (sym (ap (λ (n : M). n.0.names) is)) may.own)
+      (subst (λ (l : List ℕ). 0 < times may.entry.number l) (sym (ap (λ (n : M). n.0.numbers) is)) may.own)
       (may.right ∙ ap (λ (l : List (Entry O R)). reply (replay reply after start.state l) may.entry.op) (sym seen))
       (subst (λ (l : List (Entry O R)). length l < start.limit) (sym seen) may.room)
       long
@@ -115,7 +142,7 @@ module _ {X H S O R : Type 0} (entries : H → List (Entry O R)) (state : X → 
       ∙ (ap (λ (z : M). (record z.0 { seen = history_of entries z.1; tickets = []; come = false }, rest z.1)) is ∙ (λ i. (record m.0 { seen = entries held.history; tickets = []; come = false }, rest (may.slot i)))))
 
   -- what a call did lets it note the entry
-  pub applied : (v : View S O R) (m : M) (held held' : Held X H) (k : ℕ) (op : O) (r : R) → v.start ≡ Some start → v.past ≡ [] → v.names ≡ k ∷ drop 1 v.names → Begun entries state reply after start v held m
+  pub applied : (v : View S O R) (m : M) (held held' : Held X H) (k : ℕ) (op : O) (r : R) → v.start ≡ Some start → v.past ≡ [] → v.numbers ≡ k ∷ drop 1 v.numbers → Begun entries state reply after start v held m
       → Applied entries state reply after held k op r held' → length (entries held.history) < start.limit → MayNote entries state reply after start held' m
   applied v m held held' k op r begins past named b did room =
       let seen : m.0.seen ≡ entries held.history = ap (λ (z : M). z.0.seen) b.seat in
@@ -126,7 +153,7 @@ module _ {X H S O R : Type 0} (entries : H → List (Entry O R)) (state : X → 
         slot = ap (λ (z : M). z.1) b.seat;
         entry = entry k op r;
         history = did.0 ∙ ap (λ (l : List (Entry O R)). l ++ entry k op r ∷ []) (sym seen);
-        own = let h : times k m.0.names ≡ 1 + times k (drop 1 v.names) = ap (times k) (ap (λ (z : M). z.0.names) b.seat ∙ named) ∙ times_same k k (drop 1 v.names) refl in omega (arith, h);
+        own = let h : times k m.0.numbers ≡ 1 + times k (drop 1 v.numbers) = ap (times k) (ap (λ (z : M). z.0.numbers) b.seat ∙ named) ∙ times_same k k (drop 1 v.numbers) refl in omega (arith, h);
         right = did.1 ∙ ap (λ (s : S). reply s op) (b.object ∙ ap (replay reply after start.state) (sym seen));
         object = did.2 ∙ ap (λ (s : S). after s op) (b.object ∙ ap (replay reply after start.state) (sym seen));
         room = subst (λ (l : List (Entry O R)). length l < start.limit) (sym seen) room;
@@ -143,26 +170,38 @@ module _ {X H S O R : Type 0} (entries : H → List (Entry O R)) (state : X → 
         object = same.1 ∙ (b.object ∙ ap (replay reply after start.state) (sym seen));
       }
 
-  pub called : (v : View S O R) (m n : M) (held held' : Held X H) (k : ℕ) (op : O) (r : R) → Begun entries state reply after start v held m → Applied entries state reply after held k op r held' → length (entries held.history) < start.limit → n ≡ gone entries held' m
-      → Called reply after start v k op r n.0.seen
-  called v m n held held' k op r b did room went =
+  pub called : (v : View S O R) (z : TableId) (m n : M) (held held' : Held X H) (k : ℕ) (op : O) (r : R) → v.numbers ≡ k ∷ drop 1 v.numbers → Begun entries state reply after start v held m → Applied entries state reply after held k op r held' → length (entries held.history) < start.limit → n ≡ gone entries held' m
+      → Called reply after start (pass_view z v k) op r n.0.seen
+  called v z m n held held' k op r named b did room went =
       let seen : n.0.seen ≡ entries held.history ++ entry k op r ∷ [] = ap (λ (z : M). z.0.seen) went ∙ did.0 in
       let legal : IsLegal reply after start.state (entries held.history ++ entry k op r ∷ []) = legal_snoc reply after start.state (entries held.history) (entry k op r) b.legal (did.1 ∙ ap (λ (s : S). reply s op) b.object) in
       let long : length (entries held.history ++ entry k op r ∷ []) ≡ length (entries held.history) + 1 = length-append (entries held.history) (entry k op r ∷ []) in (
         b.claims.rest,
         seen ∙ ap (λ (l : List (Entry O R)). l ++ entry k op r ∷ []) b.claims.is,
-        b.claims.foreign,
+        subst (λ (l : List ℕ). Foreign l b.claims.rest) named b.claims.foreign,
         subst (IsLegal reply after start.state) (sym seen) legal,
         subst (λ (l : List (Entry O R)). length l ≤ start.limit) (sym seen) (omega (arith, long, room)),
       )
 
-  pub found : (v : View S O R) (m n : M) (held held' : Held X H) (e : Refusal) → Begun entries state reply after start v held m → Kept entries state held held' → IsFull e (length (entries held.history)) start.limit → n ≡ gone entries held' m
-      → Found reply after start v e n.0.seen
-  found v m n held held' e b same full went =
+  pub found : (v : View S O R) (z : TableId) (m n : M) (held held' : Held X H) (k : ℕ) (e : Refusal) → v.numbers ≡ k ∷ drop 1 v.numbers → Begun entries state reply after start v held m → Kept entries state held held' → IsFull e (length (entries held.history)) start.limit → n ≡ gone entries held' m
+      → Found reply after start (pass_view z v k) e n.0.seen
+  found v z m n held held' k e named b same full went =
       let seen : n.0.seen ≡ entries held.history = ap (λ (z : M). z.0.seen) went ∙ same.0 in (
         b.claims.rest,
         seen ∙ b.claims.is,
-        b.claims.foreign,
+        subst (λ (l : List ℕ). Foreign l b.claims.rest) named b.claims.foreign,
         subst (IsLegal reply after start.state) (sym seen) b.legal,
         subst (λ (l : List (Entry O R)). IsFull e (length l) start.limit) (sym seen) full,
       )
+
+  -- what the last look at a table shows of a pass
+  pub trace_of : (v : View S O R) (z : TableId) (k : ℕ) (held : Held X H) → v.numbers ≡ k ∷ drop 1 v.numbers → Shows entries state reply after start v held → IsTrace reply after state start (pass_view z v k) (entries held.history) held.object
+  trace_of v z k held named show = record {
+    whole = show.whole;
+    legal = show.legal;
+    object_is = show.object;
+    bounded = show.bounded;
+    own = subst (λ (l : List ℕ). Own l (entries held.history)) named show.own;
+    differ = subst (λ (l : List ℕ). (n : ℕ) → times n l ≤ 1) named show.differ;
+    most = subst (λ (l : List ℕ). v.made ≤ length l) named show.most;
+  }

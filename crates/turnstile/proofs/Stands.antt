@@ -14,8 +14,8 @@ use Rattle.turnstile.specs.declared.view.View.{View}
 use Rattle.turnstile.specs.History.{times, total, replay}
 use Rattle.turnstile.specs.Turns.{AllClaim, opening_view, Knows, Roll, AtHome, Stands}
 use Rattle.turnstile.proofs.Histories.{legal_snoc, drawn_snoc, claims_same, claims_extend, all_claim_extend}
-use Rattle.turnstile.proofs.Rolls.{name_times, ticket_times, name_count, ticket_count, roll_same, roll_draw, roll_serve}
-use Rattle.turnstile.proofs.Totals.{times_same, times_else, total_at, total_two, total_below, set_at}
+use Rattle.turnstile.proofs.Rolls.{number_times, ticket_times, number_count, ticket_count, roll_same, roll_draw, roll_serve}
+use Rattle.turnstile.proofs.Totals.{absent-times, times_same, times_else, total_at, total_two, total_below, set_at}
 
 pub not_true : (b : Bool) → (b ≡ true → ⊥) → b ≡ false
 not_true true n = absurd (n refl)
@@ -46,8 +46,8 @@ module _ {S O R : Type 0} where
       (λ e. let same : u ≡ v = some-injective u v (sym there ∙ (ap (get_elem? views) e ∙ at)) in ap (λ (z : View S O R). z.come) same ∙ idle)
       (λ ne. none j u (set_else views id j w ne ∙ there))
 
-  pub names_single : (p d s : ℕ) (views : List (View S O R)) → Roll p d s views → (k : ℕ) → total (name_times k) views ≤ 1
-  names_single p d s views r k = dite (dec_le p k) (λ l. let h : total (name_times k) views ≡ 0 = r.fresh k l in omega (arith, h)) (λ n. let h : total (name_times k) views ≡ 1 = r.once k (omega (arith, n)) in omega (arith, h))
+  pub numbers_single : (p d s : ℕ) (views : List (View S O R)) → Roll p d s views → (k : ℕ) → total (number_times k) views ≤ 1
+  numbers_single p d s views r k = dite (dec_le p k) (λ l. let h : total (number_times k) views ≡ 0 = r.fresh k l in omega (arith, h)) (λ n. let h : total (number_times k) views ≡ 1 = r.once k (omega (arith, n)) in omega (arith, h))
 
   -- two seats can't have the same ticket
   only_one : (p d s : ℕ) (views : List (View S O R)) (i j : ℕ) (v u : View S O R) → Roll p d s views → i ≢ j → get_elem? views i ≡ maybe.some v → get_elem? views j ≡ maybe.some u → v.tickets ≡ s ∷ [] → u.tickets ≡ s ∷ [] → ⊥
@@ -76,20 +76,20 @@ module _ {X H S O R : Type 0} (entries : H → List (Entry O R)) (state : X → 
 
   pub few_tickets : (p d s : ℕ) (log : Log) (homes : Homes) (views : Views) → Rule p d s log homes views → total ticket_count views ≤ 2 ^ 32
   few_tickets p d s log homes views st =
-      let h : total ticket_count views ≤ total name_count views = total_below ticket_count name_count views (λ j v at. (st.each j v at).fits) in
-      let a : total name_count views ≡ p = st.roll.numbers in
+      let h : total ticket_count views ≤ total number_count views = total_below ticket_count number_count views (λ j v at. (st.each j v at).fits) in
+      let a : total number_count views ≡ p = st.roll.counted in
       let b : p ≤ 2 ^ 32 = st.few in
       omega (arith, h, a, b)
 
   -- a view changes that has not its turn, and keeps its numbers and tickets
-  pub quiet : (p d s : ℕ) (log : Log) (homes : Homes) (views : Views) (id : ℕ) (v w : View S O R) → get_elem? views id ≡ maybe.some v → w.names ≡ v.names → w.tickets ≡ v.tickets → v.come ≡ false
+  pub quiet : (p d s : ℕ) (log : Log) (homes : Homes) (views : Views) (id : ℕ) (v w : View S O R) → get_elem? views id ≡ maybe.some v → w.numbers ≡ v.numbers → w.tickets ≡ v.tickets → v.come ≡ false
       → Knower p s log w → Rule p d s log homes views → Rule p d s log homes (set views id w)
-  quiet p d s log homes views id v w at names tickets idle knows st = record {
+  quiet p d s log homes views id v w at numbers tickets idle knows st = record {
     few = st.few;
     legal = st.legal;
     known = st.known;
     bounded = st.bounded;
-    roll = roll_same p d s views id v w at names tickets st.roll;
+    roll = roll_same p d s views id v w at numbers tickets st.roll;
     each = each_set (Knower p s log) views id w knows (λ j u _ there. st.each j u there);
     home = λ none. st.home (home_back views id v w at idle none);
   }
@@ -114,7 +114,7 @@ module _ {X H S O R : Type 0} (entries : H → List (Entry O R)) (state : X → 
     roll = record {
       once = λ k l. let z : 0 ≡ k = omega (arith, l) in let h : times k (0 ∷ []) ≡ 1 + times k [] = times_same k 0 [] z in omega (arith, h);
       fresh = λ k l. let h : times k (0 ∷ []) ≡ times k [] = times_else k 0 [] (λ e. omega (arith, e, l)) in omega (arith, h);
-      numbers = refl;
+      counted = refl;
       single = λ t. omega arith;
       served = λ t l. refl;
       undrawn = λ t l. refl;
@@ -124,7 +124,7 @@ module _ {X H S O R : Type 0} (entries : H → List (Entry O R)) (state : X → 
     home = λ _. record { held = held; is = refl; history = none; object = same };
   }
 
-  pub drawn : (p d s : ℕ) (log : Log) (homes : Homes) (views : Views) (id : ℕ) (v : View S O R) → get_elem? views id ≡ maybe.some v → v.tickets ≡ [] → v.come ≡ false → 0 < length v.names
+  pub drawn : (p d s : ℕ) (log : Log) (homes : Homes) (views : Views) (id : ℕ) (v : View S O R) → get_elem? views id ≡ maybe.some v → v.tickets ≡ [] → v.come ≡ false → 0 < length v.numbers
       → Rule p d s log homes views → Rule p (d + 1) s log homes (set views id (record v { tickets = d ∷ [] }))
   drawn p d s log homes views id v at none idle some st =
       let k = st.each id v at in
@@ -187,7 +187,7 @@ module _ {X H S O R : Type 0} (entries : H → List (Entry O R)) (state : X → 
           begins = k.begins;
           made = k.made;
           fits = k.fits;
-          seen = claims_same v.names (entries held.history) log history;
+          seen = claims_same v.numbers (entries held.history) log history;
           past = k.past;
           come = λ _. (ticket, history);
         } (λ j u _ there. st.each j u there);
@@ -243,18 +243,18 @@ module _ {X H S O R : Type 0} (entries : H → List (Entry O R)) (state : X → 
 
   -- an entry is added by the seat whose turn it is
   pub note : (p d s : ℕ) (log : Log) (homes : Homes) (views : Views) (id : ℕ) (v : View S O R) (e : Entry O R) (es : Log) → get_elem? views id ≡ maybe.some v → v.come ≡ true → v.past ≡ []
-      → es ≡ v.seen ++ e ∷ [] → 0 < times e.number v.names → e.reply ≡ reply (replay reply after start.state v.seen) e.op → length v.seen < start.limit
+      → es ≡ v.seen ++ e ∷ [] → 0 < times e.number v.numbers → e.reply ≡ reply (replay reply after start.state v.seen) e.op → length v.seen < start.limit
       → Rule p d s log homes views → Rule p d s (log ++ e ∷ []) homes (set views id (noted_as v es))
   note p d s log homes views id v e es at turn past history own right room st =
       let k = st.each id v at in
       let mine = k.come turn in
       let whole : es ≡ log ++ e ∷ [] = history ∙ ap (λ (l : Log). l ++ e ∷ []) mine.1 in
-      let single : total (name_times e.number) views ≤ 1 = names_single p d s views st.roll e.number in
+      let single : total (number_times e.number) views ≤ 1 = numbers_single p d s views st.roll e.number in
       record {
         few = st.few;
         legal = legal_snoc reply after start.state log e st.legal (right ∙ ap (λ (l : Log). reply (replay reply after start.state l) e.op) mine.1);
         known = drawn_snoc p log e st.known (dite (dec_le p e.number)
-            (λ l. let z : total (name_times e.number) views ≡ 0 = st.roll.fresh e.number l in let h : times e.number v.names ≤ total (name_times e.number) views = total_at (name_times e.number) views id v at in absurd (omega (arith, z, h, own)))
+            (λ l. let z : total (number_times e.number) views ≡ 0 = st.roll.fresh e.number l in let h : times e.number v.numbers ≤ total (number_times e.number) views = total_at (number_times e.number) views id v at in absurd (omega (arith, z, h, own)))
             (λ n. omega (arith, n)));
         bounded = let a : length (log ++ e ∷ []) ≡ length log + 1 = length-append log (e ∷ []) in let b : length v.seen ≡ length log = ap length mine.1 in omega (arith, a, b, room);
         roll = roll_same p d s views id v (noted_as v es) at refl refl st.roll;
@@ -262,19 +262,19 @@ module _ {X H S O R : Type 0} (entries : H → List (Entry O R)) (state : X → 
           begins = k.begins;
           made = k.made;
           fits = k.fits;
-          seen = claims_same v.names es (log ++ e ∷ []) whole;
-          past = subst (λ cs. AllClaim v.names cs (log ++ e ∷ [])) (sym past) tt;
+          seen = claims_same v.numbers es (log ++ e ∷ []) whole;
+          past = subst (λ cs. AllClaim v.numbers cs (log ++ e ∷ [])) (sym past) tt;
           come = λ _. (mine.0, whole);
         } (λ j u other there.
             let o = st.each j u there in
-            let h : times e.number v.names + times e.number u.names ≤ total (name_times e.number) views = total_two (name_times e.number) views id j v u (λ same. other (sym same)) at there in
-            let alien : times e.number u.names ≡ 0 = omega (arith, h, single, own) in
+            let h : times e.number v.numbers + times e.number u.numbers ≤ total (number_times e.number) views = total_two (number_times e.number) views id j v u (λ same. other (sym same)) at there in
+            let alien : times e.number u.numbers ≡ 0 = omega (arith, h, single, own) in
             record {
               begins = o.begins;
               made = o.made;
               fits = o.fits;
-              seen = claims_extend u.names u.seen log (e ∷ []) o.seen (alien, tt);
-              past = all_claim_extend u.names u.past log (e ∷ []) (alien, tt) o.past;
+              seen = claims_extend u.numbers u.seen log (e ∷ []) o.seen (absent-times u.numbers e.number alien, tt);
+              past = all_claim_extend u.numbers u.past log (e ∷ []) (absent-times u.numbers e.number alien, tt) o.past;
               come = λ too. absurd (both_ways u.come (others_wait p d s log homes views id v at turn st j u other there) too);
             });
         home = λ none. absurd (both_ways v.come (none id (noted_as v es) (set_at views id v (noted_as v es) at)) turn);

@@ -1,5 +1,7 @@
 -- How often a number stands in a list, and the weights of the members added up.
-use Rattle.std.proofs.Common.{◌≡◌, ◌≢◌, ℕ, zero, suc, ◌+◌, ◌≤◌, eq-eqb, ne_eqb, Bool, if◌then◌else◌, List, [], ◌∷◌, ◌++◌, length, set, refl, sym, ap, arith}
+use Rattle.std.proofs.Common.{◌≡◌, ◌≢◌, ℕ, zero, suc, ◌+◌, ◌<◌, ◌≤◌, eq-eqb, ne_eqb, Bool, if◌then◌else◌, List, [], ◌∷◌, ◌++◌, length, get_or, set, refl, sym, ap, subst, arith}
+use Rattle.std.proofs.lemmas.List.Elements.{Contains-get_or}
+use Rattle.std.specs.Prelude.{Contains, AllPairs}
 use mathlib.Core.Logic.{dite}
 use mathlib.Core.Option.{some, some-injective, some-ne-none}
 use native.Mathlib.Decide.{ℕ_discrete}
@@ -25,6 +27,42 @@ times-append k (x ∷ xs) ys = let h : times k (xs ++ ys) ≡ times k xs + times
 pub times_none : (k : ℕ) (xs : List ℕ) → length xs ≡ 0 → times k xs ≡ 0
 times_none k [] e = refl
 times_none k (x ∷ xs) e = absurd (omega (arith, e))
+
+-- a number at some place stands there once or more
+times_at : (xs : List ℕ) (k i : ℕ) → i < length xs → get_or xs i k ≡ k → 0 < times k xs
+times_at [] k i inside is = absurd (omega (arith, inside))
+times_at (x ∷ xs) k zero inside is = let h : times k (x ∷ xs) ≡ 1 + times k xs = times_same k x xs is in omega (arith, h)
+times_at (x ∷ xs) k (suc i) inside is = let h : 0 < times k xs = times_at xs k i (omega (arith, inside)) is in omega (arith, h)
+
+pub Contains-times : (xs : List ℕ) (k : ℕ) → 0 < times k xs → Contains xs k
+Contains-times [] k there = absurd (omega (arith, there))
+Contains-times (x ∷ xs) k there = dite (ℕ_discrete x k) (λ e. (0, omega arith, e))
+    (λ e.
+    let h : times k (x ∷ xs) ≡ times k xs = times_else k x xs e in
+    let c = Contains-times xs k (omega (arith, h, there)) in
+    let inside : c.0 < length xs = c.1 in
+    (suc c.0, omega (arith, inside), c.2))
+
+pub times_contained : (xs : List ℕ) (k : ℕ) → Contains xs k → 0 < times k xs
+times_contained xs k c = times_at xs k c.0 c.1 c.2
+
+pub absent-times : (xs : List ℕ) (k : ℕ) → times k xs ≡ 0 → ¬ Contains xs k
+absent-times xs k none c = let h : 0 < times k xs = times_contained xs k c in omega (arith, none, h)
+
+pub times_absent : (xs : List ℕ) (k : ℕ) → ¬ Contains xs k → times k xs ≡ 0
+times_absent xs k not = dite (ℕ_discrete (times k xs) 0) (λ e. e) (λ ne. absurd (not (Contains-times xs k (omega (arith, ne)))))
+
+-- where no number stands twice, no two are equal
+pub AllPairs-times : (xs : List ℕ) → ((k : ℕ) → times k xs ≤ 1) → AllPairs (λ x y. x ≢ y) xs
+AllPairs-times [] once i j d before inside = absurd (omega (arith, inside))
+AllPairs-times (x ∷ xs) once i zero d before inside = absurd (omega (arith, before))
+AllPairs-times (x ∷ xs) once zero (suc j) d before inside = λ e.
+    let a : 0 < times x xs = times_contained xs x (subst (Contains xs) (sym e) (Contains-get_or xs j d (omega (arith, inside)))) in
+    let b : times x (x ∷ xs) ≡ 1 + times x xs = times_same x x xs refl in
+    let c : times x (x ∷ xs) ≤ 1 = once x in
+    omega (arith, a, b, c)
+AllPairs-times (x ∷ xs) once (suc i) (suc j) d before inside =
+    AllPairs-times xs (λ k. let c : times k (x ∷ xs) ≤ 1 = once k in omega (arith, c)) i j d (omega (arith, before)) (omega (arith, inside))
 
 module _ {V : Type 0} where
   pub total_set : (f : V → ℕ) (views : List V) (j : ℕ) (v w : V) → get_elem? views j ≡ some v → total f (set views j w) + f v ≡ total f views + f w
@@ -65,6 +103,19 @@ module _ {V : Type 0} where
   total_below f g (x ∷ xs) each =
       let first : f x ≤ g x = each zero x refl in
       let h : total f xs ≤ total g xs = total_below f g xs (λ j v at. each (suc j) v at) in
+      omega (arith, first, h)
+
+  -- what a lesser weight leaves of a greater one is no less over all members than at one
+  pub total_left : (f g : V → ℕ) (views : List V) (j : ℕ) (v : V) → get_elem? views j ≡ some v → ((i : ℕ) (w : V) → get_elem? views i ≡ some w → f w ≤ g w) → total f views + g v ≤ total g views + f v
+  total_left f g [] j v at each = absurd (some-ne-none v (sym at))
+  total_left f g (x ∷ xs) zero v at each =
+      let e : f x ≡ f v = ap f (some-injective x v at) in
+      let d : g x ≡ g v = ap g (some-injective x v at) in
+      let h : total f xs ≤ total g xs = total_below f g xs (λ i w there. each (suc i) w there) in
+      omega (arith, e, d, h)
+  total_left f g (x ∷ xs) (suc j) v at each =
+      let first : f x ≤ g x = each zero x refl in
+      let h : total f xs + g v ≤ total g xs + f v = total_left f g xs j v at (λ i w there. each (suc i) w there) in
       omega (arith, first, h)
 
   -- where no member has weight, one that weighs nothing where it does has none either

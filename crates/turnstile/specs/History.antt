@@ -1,11 +1,15 @@
 -- A history of calls, replayed by the plain definition of an object.
-use Rattle.std.specs.Prelude.{◌≡◌, ℕ, ◌+◌, ◌<◌, ◌==◌, if◌then◌else◌, List, [], ◌∷◌, ◌++◌, length, nat_lt}
+use Rattle.std.specs.Prelude.{◌≡◌, ℕ, ◌+◌, ◌<◌, ◌==◌, if◌then◌else◌, List, [], ◌∷◌, ◌++◌, length, nat_lt, Contains}
 use Rattle.turnstile.specs.declared.history.Entry.{Entry}
 
 -- how often x stands in the list
 abbrev pub times : ℕ → List ℕ → ℕ
 times x [] = 0
 times x (y ∷ ys) = (if y == x then 1 else 0) + times x ys
+
+-- no number stands in both lists
+abbrev pub ShareNone : List ℕ → List ℕ → Type 0
+ShareNone xs ys = (k : ℕ) → Contains xs k → ¬ Contains ys k
 
 -- the weights of the members, added up
 abbrev pub total : {V : Type 0} → (V → ℕ) → List V → ℕ
@@ -26,13 +30,13 @@ module _ {S O R : Type 0} (reply : S → O → R) (after : S → O → S) where
 module _ {O R : Type 0} where
   -- no entry has one of these numbers
   abbrev pub Foreign : List ℕ → List (Entry O R) → Type 0
-  Foreign names [] = Unit {0}
-  Foreign names (e ∷ es) = (times e.number names ≡ 0) × Foreign names es
+  Foreign numbers [] = Unit {0}
+  Foreign numbers (e ∷ es) = (¬ Contains numbers e.number) × Foreign numbers es
 
   -- each entry has one of these numbers
   abbrev pub Own : List ℕ → List (Entry O R) → Type 0
-  Own names [] = Unit {0}
-  Own names (e ∷ es) = (0 < times e.number names) × Own names es
+  Own numbers [] = Unit {0}
+  Own numbers (e ∷ es) = Contains numbers e.number × Own numbers es
 
   -- each entry has a number below n
   abbrev pub Drawn : ℕ → List (Entry O R) → Type 0
@@ -40,10 +44,10 @@ module _ {O R : Type 0} where
   Drawn n (e ∷ es) = (e.number < n) × Drawn n es
 
   -- the list begins the history, and past its end no entry has one of these numbers
-  pub record Claims (names : List ℕ) (seen log : List (Entry O R)) : Type 0 where
+  pub record Claims (numbers : List ℕ) (seen log : List (Entry O R)) : Type 0 where
     pub rest : List (Entry O R)
     pub is : log ≡ seen ++ rest
-    pub foreign : Foreign names rest
+    pub foreign : Foreign numbers rest
 
   -- the longer of two lists
   abbrev pub longer : List (Entry O R) → List (Entry O R) → List (Entry O R)

@@ -5,7 +5,7 @@ use Rattle.turnstile.specs.declared.history.Entry.{Entry}
 use Rattle.turnstile.specs.declared.view.Held.{Held}
 use Rattle.turnstile.specs.declared.view.Start.{Start}
 use Rattle.turnstile.specs.declared.view.View.{View}
-use Rattle.turnstile.specs.History.{times, replay, IsLegal, Foreign, Claims}
+use Rattle.turnstile.specs.History.{times, replay, IsLegal, Foreign, Claims, entry}
 use Rattle.turnstile.specs.Turns.{AllClaim}
 
 abbrev pub Sat : Type 0 → Type 0 → Type 0 → Type 0 → Type 0 → Type 0
@@ -35,7 +35,7 @@ module _ {X H S O R : Type 0} where
 
   -- a number was drawn, or more passes were made than was known
   abbrev pub numbered : Step (Option (Held X H)) → Sat X H S O R → ℕ → Sat X H S O R → Type 0
-  numbered st m r n = (r ≡ st.first → (n ≡ (record m.0 { names = r ∷ []; made = r + 1 }, m.1)) × Foreign (r ∷ []) m.0.seen)
+  numbered st m r n = (r ≡ st.first → (n ≡ (record m.0 { numbers = r ∷ []; made = r + 1 }, m.1)) × Foreign (r ∷ []) m.0.seen)
       × (r ≢ st.first → (n ≡ (record m.0 { made = r }, m.1)) × (st.first < r))
 
   abbrev pub counted : Step (Option (Held X H)) → Sat X H S O R → ℕ → Sat X H S O R → Type 0
@@ -52,7 +52,7 @@ module _ {X H S O R : Type 0} (entries : H → List (Entry O R)) (state : X → 
     pub held : Held X H
     pub slot : n.1 ≡ (0, Some held) ∷ []
     pub view : n.0 ≡ record v { seen = entries held.history; come = true }
-    pub claims : Claims v.names v.seen (entries held.history)
+    pub claims : Claims v.numbers v.seen (entries held.history)
     pub legal : (x : Start S) → v.start ≡ Some x → IsLegal reply after x.state (entries held.history) × (state held.object ≡ replay reply after x.state (entries held.history)) × (length (entries held.history) ≤ x.limit)
 
   -- where its ticket is served, the seat has its turn; otherwise nothing changed
@@ -63,10 +63,10 @@ module _ {S O R : Type 0} where
   -- what a look shows of a view
   pub record Told (v : View S O R) : Type 0 where
     pub log : List (Entry O R)
-    pub past : AllClaim v.names v.past log
-    pub seen : Claims v.names v.seen log
-    pub once : (k : ℕ) → times k v.names ≤ 1
-    pub few : length v.names ≤ 2 ^ 32
+    pub past : AllClaim v.numbers v.past log
+    pub seen : Claims v.numbers v.seen log
+    pub once : (k : ℕ) → times k v.numbers ≤ 1
+    pub few : length v.numbers ≤ 2 ^ 32
 
 module _ {X H S O R : Type 0} where
   -- what was claimed before holds, and is then forgotten
@@ -78,7 +78,7 @@ module _ {X H S O R : Type 0} (entries : H → List (Entry O R)) (state : X → 
   pub record Begun (v : View S O R) (held : Held X H) (m : Sat X H S O R) : Type 0 where
     pub ticket : ℕ
     pub seat : m ≡ (record v { seen = entries held.history; tickets = ticket ∷ []; come = true }, (0, None) ∷ [])
-    pub claims : Claims v.names v.seen (entries held.history)
+    pub claims : Claims v.numbers v.seen (entries held.history)
     pub legal : IsLegal reply after x.state (entries held.history)
     pub object : state held.object ≡ replay reply after x.state (entries held.history)
     pub bounded : length (entries held.history) ≤ x.limit
@@ -99,10 +99,20 @@ module _ {X H S O R : Type 0} (entries : H → List (Entry O R)) (state : X → 
     pub slot : m.1 ≡ (0, None) ∷ []
     pub entry : Entry O R
     pub history : entries held.history ≡ m.0.seen ++ entry ∷ []
-    pub own : 0 < times entry.number m.0.names
+    pub own : 0 < times entry.number m.0.numbers
     pub right : entry.reply ≡ reply (replay reply after x.state m.0.seen) entry.op
     pub object : state held.object ≡ after (replay reply after x.state m.0.seen) entry.op
     pub room : length m.0.seen < x.limit
+
+module _ {X H S O R : Type 0} (entries : H → List (Entry O R)) (state : X → S) (reply : S → O → R) (after : S → O → S) where
+  -- what applying an op does to a history and an object
+  abbrev pub Applied : Held X H → ℕ → O → R → Held X H → Type 0
+  Applied h k op r g = (entries g.history ≡ entries h.history ++ entry k op r ∷ []) × (r ≡ reply (state h.object) op) × (state g.object ≡ after (state h.object) op)
+
+module _ {X H S O R : Type 0} (entries : H → List (Entry O R)) (state : X → S) where
+  -- the history and the object are as before
+  abbrev pub Kept : Held X H → Held X H → Type 0
+  Kept h g = (entries g.history ≡ entries h.history) × (state g.object ≡ state h.object)
 
 module _ {X H S O R : Type 0} (entries : H → List (Entry O R)) where
   -- the seat once it has given up its turn

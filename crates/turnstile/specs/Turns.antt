@@ -17,40 +17,40 @@ start_of state key = record { state = state key.object.value; limit = key.limit 
 module _ {O R : Type 0} where
   -- what was claimed before still holds, and with no number that is not among these
   abbrev pub AllClaim : List ℕ → List (Claim O R) → List (Entry O R) → Type 0
-  AllClaim names [] log = Unit {0}
-  AllClaim names (c ∷ cs) log = ((k : ℕ) → times k c.names ≤ times k names) × Claims c.names c.seen log × AllClaim names cs log
+  AllClaim numbers [] log = Unit {0}
+  AllClaim numbers (c ∷ cs) log = ((k : ℕ) → times k c.numbers ≤ times k numbers) × Claims c.numbers c.seen log × AllClaim numbers cs log
 
 module _ {S O R : Type 0} where
   abbrev pub claim : View S O R → Claim O R
-  claim v = record { names = v.names; seen = v.seen }
+  claim v = record { numbers = v.numbers; seen = v.seen }
 
   abbrev pub opening_view : Start S → View S O R
-  opening_view x = record { start = Some x; names = 0 ∷ []; made = 1; seen = []; past = []; tickets = []; come = false }
+  opening_view x = record { start = Some x; numbers = 0 ∷ []; made = 1; seen = []; past = []; tickets = []; come = false }
 
   abbrev pub spent_view : View S O R
-  spent_view = record { start = None; names = []; made = 0; seen = []; past = []; tickets = []; come = false }
+  spent_view = record { start = None; numbers = []; made = 0; seen = []; past = []; tickets = []; come = false }
 
   -- a seat that is split off, with no number yet
   abbrev pub unnumbered : View S O R → View S O R
-  unnumbered v = record { start = v.start; names = []; made = v.made; seen = v.seen; past = []; tickets = []; come = false }
+  unnumbered v = record { start = v.start; numbers = []; made = v.made; seen = v.seen; past = []; tickets = []; come = false }
 
   abbrev pub joined : View S O R → View S O R → View S O R
-  joined v w = record { start = v.start; names = v.names ++ w.names; made = max v.made w.made; seen = longer v.seen w.seen; past = claim v ∷ claim w ∷ []; tickets = v.tickets; come = v.come }
+  joined v w = record { start = v.start; numbers = v.numbers ++ w.numbers; made = max v.made w.made; seen = longer v.seen w.seen; past = claim v ∷ claim w ∷ []; tickets = v.tickets; come = v.come }
 
   -- what a view knows
   pub record Knows (start : Start S) (passes serving : ℕ) (log : List (Entry O R)) (v : View S O R) : Type 0 where
     pub begins : (x : Start S) → v.start ≡ Some x → x ≡ start
     pub made : v.made ≤ passes
-    pub fits : length v.tickets ≤ length v.names
-    pub seen : Claims v.names v.seen log
-    pub past : AllClaim v.names v.past log
+    pub fits : length v.tickets ≤ length v.numbers
+    pub seen : Claims v.numbers v.seen log
+    pub past : AllClaim v.numbers v.past log
     pub come : v.come ≡ true → (v.tickets ≡ serving ∷ []) × (v.seen ≡ log)
 
   -- each number that was drawn is one view's. The tickets that are out differ, and lie from `serving` up to `drawn`
   pub record Roll (passes drawn serving : ℕ) (views : List (View S O R)) : Type 0 where
-    pub once : (k : ℕ) → k < passes → total (λ v. times k v.names) views ≡ 1
-    pub fresh : (k : ℕ) → passes ≤ k → total (λ v. times k v.names) views ≡ 0
-    pub numbers : total (λ v. length v.names) views ≡ passes
+    pub once : (k : ℕ) → k < passes → total (λ v. times k v.numbers) views ≡ 1
+    pub fresh : (k : ℕ) → passes ≤ k → total (λ v. times k v.numbers) views ≡ 0
+    pub counted : total (λ v. length v.numbers) views ≡ passes
     pub single : (t : ℕ) → total (λ v. times t v.tickets) views ≤ 1
     pub served : (t : ℕ) → t < serving → total (λ v. times t v.tickets) views ≡ 0
     pub undrawn : (t : ℕ) → drawn ≤ t → total (λ v. times t v.tickets) views ≡ 0

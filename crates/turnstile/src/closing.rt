@@ -1,9 +1,10 @@
 //! The end of a turnstile.
-ghost use Rattle.std.specs.Prelude.{◌≡◌, ◌+◌, ◌-◌, ◌^◌, ◌<◌, ◌≤◌, min, IfSome, All, vec_len};
+ghost use Rattle.std.specs.Prelude.{◌≡◌, ◌-◌, ◌^◌, ◌<◌, ◌≤◌, length, min, IfSome, All, vec_len};
 
+use crate::lock::{Lock, PASSES};
 use crate::pass::{Pass, PassOf};
 use crate::replays::Replays;
-use crate::turnstile::{PASSES, SERVING, TICKET, Turnstile};
+use crate::turnstile::Turnstile;
 use crate::view::Held;
 
 /// The history of a turnstile, and the object at its end.
@@ -33,26 +34,26 @@ pub enum Closed<T: Replays> {
     Traced(Traced<T>),
     /// A pass that was made was neither given nor joined to one that was.
     NotAll(NotAll<T>),
-    /// A pass or a ticket is still out.
+    /// A pass was made while the turnstile was closed.
     InUse,
 }
 
 impl<T: Replays> Turnstile<T> {
-    ghost use Rattle.turnstile.specs.Calls.{began, claims_of, given, Each, IsOf, IsTrace, FirstCounted, Gathered};
-    ghost use Rattle.turnstile.specs.Closing.{IsClosed};
+    ghost use Rattle.turnstile.specs.Calls.{numbers_of, IsOf};
+    ghost use Rattle.turnstile.specs.Closing.{all_numbers, FirstCounted, Gathered, IsTrace, IsClosed};
 
     /// Ends a turnstile to which all passes came back, and gives its history and its object.
     ///
     /// Where a pass is missing, it gives the turnstile and the passes back, and the first pass then knows
-    /// how many passes were made. It answers `InUse` where the words show another count of passes than it
-    /// found, or a ticket that was not served; no run is known to meet that. It takes no memory.
+    /// how many passes were made. It answers `InUse` where the table, once it is closed, shows another count
+    /// of passes than was found before; no run is known to meet that. It takes no memory.
     pub fn close(self, mut passes: Vec<PassOf<T>>) -> Closed<T>
         requires some { 0 < vec_len passes }
-        requires passes { All (IsOf T.state_of self) passes.items }
+        requires passes { All (IsOf self) passes.items }
         ensures { IsClosed T.History.entries T.replied T.after T.state_of self passes.items result }
     {
         let made = self.count_first(&mut passes);
-        let given = Turnstile::numbers_of(&passes);
+        let given = Turnstile::count_numbers(&passes);
         if given < made {
             return Closed::NotAll(NotAll {
                 turnstile: self,
@@ -70,8 +71,8 @@ impl<T: Replays> Turnstile<T> {
     // Asks, for the first pass, how many passes were made.
     fn count_first(&self, passes: &mut Vec<PassOf<T>>) -> u64
         requires some { 0 < vec_len passes.old }
-        requires passes { All (IsOf T.state_of self.now) passes.old.items }
-        ensures passes { All (IsOf T.state_of self.now) passes.new.items }
+        requires passes { All (IsOf self.now) passes.old.items }
+        ensures passes { All (IsOf self.now) passes.new.items }
         ensures counted { FirstCounted passes.old.items passes.new.items result }
     {
         let first = &mut passes[0];
@@ -82,10 +83,9 @@ impl<T: Replays> Turnstile<T> {
     // Joins all passes into one.
     fn gather(&self, mut passes: Vec<PassOf<T>>) -> PassOf<T>
         requires some { 0 < vec_len passes }
-        requires passes { All (IsOf T.state_of self.now) passes.items }
-        ensures pass { IsOf T.state_of self.now result }
-        ensures gathered { Gathered (claims_of passes.items) result }
-        ensures most { Each (λ q. q.made ≤ result.made) passes.items }
+        requires passes { All (IsOf self.now) passes.items }
+        ensures pass { IsOf self.now result }
+        ensures gathered { Gathered passes.items result }
     {
         let Some(mut kept) = passes.pop() else {
             unreachable!()
@@ -96,13 +96,14 @@ impl<T: Replays> Turnstile<T> {
         kept
     }
 
-    // The history and the object, unless a pass or a ticket is out.
+    // The history and the object, unless more passes were made than were counted.
     fn end(self, pass: PassOf<T>, made: u64) -> Option<Traced<T>>
-        requires pass { IsOf T.state_of self pass }
-        requires all { made ≤ pass.joined + 1 }
-        ensures { IfSome result (λ t. IsTrace T.replied T.after T.state_of (began T.state_of self) pass (T.History.entries t.history) t.object) }
+        requires pass { IsOf self pass }
+        requires all { made ≤ length (numbers_of pass) }
+        ensures { IfSome result (λ t. IsTrace T.replied T.after T.state_of self.start pass (T.History.entries t.history) t.object) }
     {
-        let Turnstile { table, limit: _ } = self;
+        let Turnstile { lock } = self;
+        let Lock { table, limit: _ } = lock;
         let Pass {
             seat,
             number: _,
@@ -112,11 +113,9 @@ impl<T: Replays> Turnstile<T> {
         } = pass;
         let mut closed = table.close_with(seat);
         let all = closed.word(PASSES);
-        let drawn = closed.word(TICKET);
-        let served = closed.word(SERVING);
         let slot = closed.take(0);
         closed.free();
-        if all != made || drawn != served {
+        if all != made {
             return None;
         }
         let Held { history, object } = slot?;
@@ -124,8 +123,8 @@ impl<T: Replays> Turnstile<T> {
     }
 
     // How many numbers the passes have, or the most that fit.
-    fn numbers_of(passes: &Vec<PassOf<T>>) -> u64
-        ensures { result ≡ min (given passes.now.items) (2 ^ 64 - 1) }
+    fn count_numbers(passes: &Vec<PassOf<T>>) -> u64
+        ensures { result ≡ min (length (all_numbers passes.now.items)) (2 ^ 64 - 1) }
     {
         let mut count: u64 = 0;
         for pass in passes {

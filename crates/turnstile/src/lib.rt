@@ -11,6 +11,7 @@
 
 mod closing;
 mod history;
+mod lock;
 mod pass;
 mod passes;
 mod replays;
@@ -21,6 +22,7 @@ mod view;
 pub use closing::{Closed, NotAll, Traced};
 pub use history::{Entry, PlainHistory, StoredHistory};
 pub use pass::{Pass, PassOf};
+pub use passes::NoNumberLeft;
 pub use replays::Replays;
 pub use turnstile::{Refusal, Turnstile};
 pub use view::{Claim, Held, Opening, Start, View};

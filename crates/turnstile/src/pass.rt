@@ -1,13 +1,16 @@
 //! What a caller of a turnstile carries.
-ghost use Rattle.std.specs.Prelude.{◌≡◌, ◌+◌, ◌∷◌, [], length, drop, false};
+ghost use Rattle.std.specs.Prelude.{◌≡◌, length};
 
 use crate::replays::Replays;
 use crate::view::{Held, View};
 use atomic_table::Seat;
+use std::marker::Model;
 
 /// A pass of a turnstile, with what it has seen of the history.
 ///
-/// It has no bound, so that a struct over a generic object can hold one: name its type as [`PassOf`].
+/// A contract sees which turnstile it is of, its number and those joined to it, how many passes it knows
+/// were made, and what it has seen. It has no bound, so that a struct over a generic object can hold one:
+/// name its type as [`PassOf`].
 #[derive(Drop)]
 pub struct Pass<X, H, O, R, S> {
     pub(crate) seat: Seat<Option<Held<X, H>>, View<S, O, R>>,
@@ -15,10 +18,16 @@ pub struct Pass<X, H, O, R, S> {
     pub(crate) made: u64,
     pub(crate) joined: u64,
     pub(crate) len: u64,
-    pub ghost empty: { length seat.me.1 ≡ 0 },
-    pub ghost idle: { (seat.me.0.tickets ≡ []) × (seat.me.0.come ≡ false) × (length seat.me.0.past ≡ 0) },
-    pub ghost named: { seat.me.0.names ≡ number ∷ drop 1 seat.me.0.names },
-    pub ghost counted: { (seat.me.0.made ≡ made) × (joined + 1 ≡ length seat.me.0.names) × (len ≡ length seat.me.0.seen) },
+}
+
+impl<X, H, O, R, S> Model for Pass<X, H, O, R, S> {
+    ghost use Rattle.turnstile.specs.Passes.{PassView, pass_view, Rests};
+
+    ghost Value = { PassView O R S };
+
+    ghost view = { λ p. pass_view p.seat.table_id p.seat.me.0 p.number };
+
+    ghost invariant = { λ p. Rests p.seat.me p.number p.made p.joined p.len };
 }
 
 /// The pass of a turnstile with such an object.
@@ -33,7 +42,7 @@ pub type PassOf<T> = Pass<
 impl<X, H, O, R, S> Pass<X, H, O, R, S> {
     /// How many entries of the history the pass has seen.
     pub fn len(&self) -> u64
-        ensures { result ≡ length self.now.seat.me.0.seen }
+        ensures { result ≡ length self.now.seen }
     {
         self.len
     }

@@ -1,30 +1,37 @@
 //! Passes that are split off, joined and counted.
-ghost use Rattle.std.specs.Prelude.{◌≡◌, IfOk};
+ghost use Rattle.std.specs.Prelude.{◌≡◌, ◌^◌, ◌≤◌, IfOk, OnOk, OnErr};
 
+use crate::lock::PASSES;
 use crate::pass::{Pass, PassOf};
 use crate::replays::Replays;
 use crate::rule::{Count, Meet, Number, Tell, Twin};
-use crate::turnstile::{PASSES, Turnstile};
-use std::alloc::AllocError;
+use crate::turnstile::Turnstile;
 
 const MOST_PASSES: u64 = 1 << 32;
 
+/// As many passes were made as there can be, which is 2^32.
+#[derive(Debug, Clone, Copy, PartialEq, Eq)]
+pub struct NoNumberLeft;
+
 impl<T: Replays> Turnstile<T> {
-    ghost use Rattle.turnstile.specs.Calls.{view, IsOf, HasOnlyMade, IsSplitOff, IsJoined, Agree};
+    ghost use Rattle.turnstile.specs.Calls.{IsOf, HasOnlyMade, IsSplitOff, joined_pass, Agree};
 
     /// A new pass, which has seen what this one has, under a number of its own. The old pass is as before.
+    /// It takes no memory.
     ///
     /// # Errors
-    /// Where 2^32 passes were made, which is as many as there can be. It takes no memory.
-    pub fn split(&self, pass: &mut PassOf<T>) -> Result<PassOf<T>, AllocError>
-        requires { IsOf T.state_of self.now pass.old }
-        ensures kept { (pass.new.seat.table_id ≡ pass.old.seat.table_id) × (pass.new.number ≡ pass.old.number) × (pass.new.joined ≡ pass.old.joined) × (view pass.new ≡ view pass.old) }
-        ensures new { IfOk result (λ q. IsOf T.state_of self.now q × IsSplitOff pass.old q) }
+    /// `NoNumberLeft` where 2^32 passes were made. The old pass then knows so, and is else as before.
+    pub fn split(&self, pass: &mut PassOf<T>) -> Result<PassOf<T>, NoNumberLeft>
+        requires { IsOf self.now pass.old }
+        ensures same { OnOk result (pass.new ≡ pass.old) }
+        ensures new { IfOk result (λ q. IsSplitOff pass.old q) }
+        ensures none_left { OnErr result (HasOnlyMade pass.old pass.new × (2 ^ 32 ≤ pass.new.made)) }
     {
         let mut made = pass.made;
-        let mut seat = self.table.shared.split_seat::<Twin>(&mut pass.seat);
+        let mut seat = self.lock.table.shared.split_seat::<Twin>(&mut pass.seat);
         while made < MOST_PASSES {
             let found = self
+                .lock
                 .table
                 .shared
                 .compare_exchange::<Number>(&mut seat, PASSES, made, made + 1);
@@ -39,14 +46,20 @@ impl<T: Replays> Turnstile<T> {
             }
             made = found;
         }
-        Err(AllocError)
+        self.lock
+            .table
+            .shared
+            .join_seat::<Meet>(&mut pass.seat, seat);
+        self.lock.table.shared.load::<Tell>(&mut pass.seat, PASSES);
+        pass.made = made;
+        Err(NoNumberLeft)
     }
 
     /// Takes in another pass: its numbers, and what it has seen where that is more. It takes no memory.
     pub fn join(&self, pass: &mut PassOf<T>, other: PassOf<T>)
-        requires pass { IsOf T.state_of self.now pass.old }
-        requires other { IsOf T.state_of self.now other }
-        ensures joined { IsJoined pass.old other pass.new }
+        requires pass { IsOf self.now pass.old }
+        requires other { IsOf self.now other }
+        ensures joined { pass.new ≡ joined_pass pass.old other }
         ensures agree { Agree pass.old other pass.new }
     {
         let Pass {
@@ -56,8 +69,11 @@ impl<T: Replays> Turnstile<T> {
             joined,
             len,
         } = other;
-        self.table.shared.join_seat::<Meet>(&mut pass.seat, seat);
-        self.table.shared.load::<Tell>(&mut pass.seat, PASSES);
+        self.lock
+            .table
+            .shared
+            .join_seat::<Meet>(&mut pass.seat, seat);
+        self.lock.table.shared.load::<Tell>(&mut pass.seat, PASSES);
         pass.made = pass.made.max(made);
         pass.joined = pass.joined + 1 + joined;
         pass.len = pass.len.max(len);
@@ -65,9 +81,9 @@ impl<T: Replays> Turnstile<T> {
 
     // Asks how many passes were made.
     pub(crate) fn count(&self, pass: &mut PassOf<T>)
-        requires { IsOf T.state_of self.now pass.old }
+        requires { IsOf self.now pass.old }
         ensures { HasOnlyMade pass.old pass.new }
     {
-        pass.made = self.table.shared.load::<Count>(&mut pass.seat, PASSES);
+        pass.made = self.lock.table.shared.load::<Count>(&mut pass.seat, PASSES);
     }
 }

@@ -1,5 +1,5 @@
 //! Objects that a turnstile can hold.
-ghost use Rattle.std.specs.Prelude.{◌≡◌, IfOk, MatchResult};
+ghost use Rattle.std.specs.Prelude.{◌≡◌, MatchResult};
 
 use crate::history::StoredHistory;
 use std::alloc::{AllocError, Global};
@@ -33,13 +33,6 @@ pub trait Replays: Drop {
     /// Memory. The state is as before.
     fn apply(&mut self, alloc: Global, op: &Self::Op) -> Result<Self::Reply, AllocError>
         ensures { MatchResult result (λ reply. (state_of self.new ≡ after (state_of self.old) op.now) × (reply ≡ replied (state_of self.old) op.now)) (λ _. state_of self.new ≡ state_of self.old) };
-
-    /// The same op once more.
-    ///
-    /// # Errors
-    /// Memory.
-    fn copy_op(alloc: Global, op: &Self::Op) -> Result<Self::Op, AllocError>
-        ensures { IfOk result (λ copy. copy ≡ op.now) };
 
     /// The same reply once more. It takes no memory.
     fn copy_reply(reply: &Self::Reply) -> Self::Reply

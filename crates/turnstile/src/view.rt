@@ -27,7 +27,7 @@ pub struct Opening<X> {
 
 /// The numbers of a pass, and what it had seen. No value of it is made.
 pub struct Claim<O, R> {
-    pub names: LinkedList<u64>,
+    pub numbers: LinkedList<u64>,
     pub seen: LinkedList<Entry<O, R>>,
 }
 
@@ -36,7 +36,7 @@ pub struct Claim<O, R> {
 /// its turn has come. No value of it is made.
 pub struct View<S, O, R> {
     pub start: Option<Start<S>>,
-    pub names: LinkedList<u64>,
+    pub numbers: LinkedList<u64>,
     pub made: u64,
     pub seen: LinkedList<Entry<O, R>>,
     pub past: LinkedList<Claim<O, R>>,

@@ -2,4 +2,4 @@ use Rattle.turnstile.specs.Calls.{IsOf}
 use Rattle.cluster_tests.proofs.turns.add_many.Given as goal
 
 abbrev pub invariant-loop-amount : goal.invariant-loop-amount
-invariant-loop-amount g l = IsOf (λ t. t.sum) l.turnstile l.pass
+invariant-loop-amount g l = IsOf l.turnstile l.pass

@@ -1,8 +1,10 @@
 use Rattle.std.proofs.Common.{arith}
 use Rattle.turnstile.proofs.Keeps.{counts}
+use Rattle.turnstile.proofs.Phases.{seated}
 use Rattle.turnstile.proofs.turnstile.Turnstile.count.Goals as goal
 
-pub load-pass-requires : goal.load-pass-requires
-load-pass-requires g c =
-    let shape = c.args.self.now.shape in
-    (c.requires.0, omega (arith, shape), counts _ _ _ _ _ _ _ _ c.args.pass.now.idle.1)
+pub load-pass-inside-requires : goal.load-pass-inside-requires
+load-pass-inside-requires g c =
+    let shape = c.self.inside.lock.shape in
+    let here = seated _ _ _ _ c.pass.inside.seat.me.0 c.pass.inside.number _ c.pass.view_is c.self.view_is c.requires in
+    (here.0, omega (arith, shape), counts _ _ _ _ _ _ _ _ c.pass.invariant.come)

@@ -1,22 +1,18 @@
-use Rattle.std.proofs.Common.{rules, arith, ◌≤◌, length}
-use Rattle.turnstile.specs.Calls.{began}
+use Rattle.std.proofs.Common.{◌≡◌, ◌≤◌, ◌∙◌, rules, arith, length, ap}
+use Rattle.turnstile.specs.Calls.{numbers_of}
+use Rattle.turnstile.specs.Closing.{IsTrace}
+use Rattle.turnstile.specs.Turns.{start_of}
 use Rattle.turnstile.proofs.Keeps.{shows}
+use Rattle.turnstile.proofs.Phases.{shown, trace_of}
 use Rattle.turnstile.proofs.turnstile.Turnstile.end.Goals as goal
 
 pub returns : goal.returns
 returns g c =
-    let pass = c.args.pass in
-    let all = c.requires.all in
-    let counted = pass.counted.1 in
-    let few : c.word-all.result ≤ length pass.seat.me.0.names = omega (arith, all, counted, c.if-all-made.false) in
-    let show = shows g.T.History.StoredHistory.entries g.T.Replays.state_of g.T.Replays.replied g.T.Replays.after (began g.T.Replays.state_of c.args.self) pass.seat.id pass.seat.me.0 _ _ c.word-all.result c.word-drawn.result c.word-served.result c.in_ok-history.field-0
-    c.close_with-closed.ensures.values.2 c.word-all.ensures c.word-drawn.ensures c.word-served.ensures (search rules) c.if-drawn-served.false few in
-    record {
-      whole = show.whole;
-      legal = show.legal;
-      object_is = show.object;
-      bounded = show.bounded;
-      own = show.own;
-      differ = show.differ;
-      most = show.most;
-    }
+    let pass = c.pass.inside in
+    let held = c.in_ok-history.field-0 in
+    let named : length pass.seat.me.0.numbers ≡ length (numbers_of c.args.pass) = ap length c.pass.invariant.numbers ∙ ap (λ q. length (numbers_of q)) c.pass.view_is in
+    let few : c.word-all.result ≤ length pass.seat.me.0.numbers = omega (arith, c.requires.all, named, c.if-all-made.false) in
+    shown (λ x q. IsTrace g.T.Replays.replied g.T.Replays.after g.T.Replays.state_of x q (g.T.History.StoredHistory.entries held.history) held.object) _ _ pass.seat.table_id _ pass.seat.me.0 pass.number _ c.pass.view_is c.self.view_is
+    (trace_of _ _ _ _ _ pass.seat.me.0 pass.seat.table_id pass.number held c.pass.invariant.numbers
+    (shows g.T.History.StoredHistory.entries g.T.Replays.state_of g.T.Replays.replied g.T.Replays.after (start_of g.T.Replays.state_of c.self.inside.lock.table.shared.key) pass.seat.id pass.seat.me.0 _ _ c.word-all.result held
+    c.close_with-closed.ensures.values.2 c.word-all.ensures (search rules) c.pass.invariant.tickets few))

@@ -1,19 +1,25 @@
-use Rattle.std.proofs.Common.{rules, arith}
-use Rattle.std.proofs.lemmas.List.{nil_from_length}
-use Rattle.turnstile.proofs.Keeps.{joins, tells}
+use Rattle.std.proofs.Common.{rules, arith, ◌∙◌}
 use Rattle.turnstile.proofs.Joining.{agree}
+use Rattle.turnstile.proofs.Keeps.{joins, tells}
+use Rattle.turnstile.proofs.Phases.{seated}
 use Rattle.turnstile.proofs.turnstile.Turnstile.join.Goals as goal
 
 pub join_seat-requires : goal.join_seat-requires
 join_seat-requires g c =
-    let shape = c.args.self.now.shape in
-    let other = c.args.other in
-    (c.requires.pass.0, c.requires.other.0, nil_from_length other.seat.me.1 other.empty, omega (arith, shape), joins _ _ _ _ _ _ _ _ _ c.args.pass.now.idle.1 other.idle.0 other.idle.1)
+    let shape = c.self.inside.lock.shape in
+    let one = seated _ _ _ _ c.pass.inside.seat.me.0 c.pass.inside.number _ c.pass.view_is c.self.view_is c.requires.pass in
+    let other = seated _ _ _ _ c.other.inside.seat.me.0 c.other.inside.number _ c.other.view_is c.self.view_is c.requires.other in
+    (one.0, other.0, c.other.invariant.empty, omega (arith, shape), joins _ _ _ _ _ _ _ _ _ c.pass.invariant.come c.other.invariant.tickets c.other.invariant.come)
 
-pub load-pass-requires : goal.load-pass-requires
-load-pass-requires g c =
-    let shape = c.args.self.now.shape in
-    (search rules, omega (arith, shape), tells _ _ _ _ _ _ _ _ (search rules))
+pub load-pass-inside-requires : goal.load-pass-inside-requires
+load-pass-inside-requires g c =
+    let shape = c.self.inside.lock.shape in
+    let here = seated _ _ _ _ c.pass.inside.seat.me.0 c.pass.inside.number _ c.pass.view_is c.self.view_is c.requires.pass in
+    (c.join_seat.ensures.0 ∙ here.0, omega (arith, shape), tells _ _ _ _ _ _ _ _ (search rules))
 
 pub returns-clause-agree : goal.returns-clause-agree
-returns-clause-agree g c = agree c.args.pass.now.seat.me.0 c.args.other.seat.me.0 c.join_seat.new.seat.me c.load-pass.new.seat.me (search rules) c.load-pass.ensures.2.0 c.load-pass.ensures.2.1
+returns-clause-agree g c =
+    let pass = c.pass.inside in
+    let other = c.other.inside in
+    agree c.args.pass.now c.args.other pass.seat.table_id other.seat.table_id c.load-pass-inside.new.seat.table_id pass.seat.me.0 other.seat.me.0 pass.number other.number c.join_seat.new.seat.me c.load-pass-inside.new.seat.me
+    c.pass.view_is c.other.view_is c.pass.invariant.numbers c.other.invariant.numbers (search rules) c.load-pass-inside.ensures.2.0 c.load-pass-inside.ensures.2.1

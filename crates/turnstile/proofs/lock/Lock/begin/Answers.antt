@@ -1,16 +1,16 @@
 use Rattle.std.proofs.Common.{rules}
-use Rattle.turnstile.specs.Calls.{began}
+use Rattle.turnstile.specs.Turns.{start_of}
 use Rattle.turnstile.proofs.Phases.{slot_here, slot_full, begun}
-use Rattle.turnstile.proofs.turnstile.Turnstile.begin.Goals as goal
+use Rattle.turnstile.proofs.lock.Lock.begin.Goals as goal
 
 pub exchange-requires : goal.exchange-requires
 exchange-requires g c =
     let turn = c.enter.ensures.turn in
-    (search rules, (_, slot_here g.T.History.StoredHistory.entries g.T.Replays.state_of g.T.Replays.replied g.T.Replays.after (began g.T.Replays.state_of c.args.self.now) _ c.enter.new.seat.me turn.1))
+    (search rules, (_, slot_here g.T.History.StoredHistory.entries g.T.Replays.state_of g.T.Replays.replied g.T.Replays.after (start_of g.T.Replays.state_of c.args.self.now.table.shared.key) _ c.enter.new.seat.me turn.1))
 
 pub unwrap-requires : goal.unwrap-requires
 unwrap-requires g c =
-    slot_full g.T.History.StoredHistory.entries g.T.Replays.state_of g.T.Replays.replied g.T.Replays.after (began g.T.Replays.state_of c.args.self.now) _ c.enter.new.seat.me _ c.enter.ensures.turn.1 c.exchange.ensures.2
+    slot_full g.T.History.StoredHistory.entries g.T.Replays.state_of g.T.Replays.replied g.T.Replays.after (start_of g.T.Replays.state_of c.args.self.now.table.shared.key) _ c.enter.new.seat.me _ c.enter.ensures.turn.1 c.exchange.ensures.2
 
 pub returns-clause-begun : goal.returns-clause-begun
 returns-clause-begun g c =

@@ -1,6 +1,6 @@
 use Rattle.std.proofs.Common.{rules, arith, ◌∙◌}
 use Rattle.turnstile.proofs.Phases.{may_note, may_leave_noted, has_noted}
-use Rattle.turnstile.proofs.turnstile.Turnstile.note.Goals as goal
+use Rattle.turnstile.proofs.lock.Lock.note.Goals as goal
 
 pub store-requires : goal.store-requires
 store-requires g c =

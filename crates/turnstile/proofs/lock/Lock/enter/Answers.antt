@@ -1,8 +1,8 @@
 use Rattle.std.proofs.Common.{rules, arith}
-use Rattle.turnstile.specs.Calls.{began}
+use Rattle.turnstile.specs.Turns.{start_of}
 use Rattle.turnstile.proofs.Keeps.{draws}
 use Rattle.turnstile.proofs.Phases.{may_look, its_turn, not_yet}
-use Rattle.turnstile.proofs.turnstile.Turnstile.enter.Goals as goal
+use Rattle.turnstile.proofs.lock.Lock.enter.Goals as goal
 
 pub fetch_add-ticket-requires : goal.fetch_add-ticket-requires
 fetch_add-ticket-requires g c =
@@ -22,12 +22,12 @@ loop-preserved g c =
     let drawn = c.fetch_add-ticket.ensures.2 in (
       search rules,
       search rules,
-      not_yet g.T.History.StoredHistory.entries g.T.Replays.state_of g.T.Replays.replied g.T.Replays.after (began g.T.Replays.state_of c.args.self.now) c.args.seat.now.me c.fetch_add-ticket.new.seat.me c.loop.seat.me _ drawn.0 _ _ c.loop.invariant.2 drawn.2 drawn.1 c.load.ensures.2 (search rules),
+      not_yet g.T.History.StoredHistory.entries g.T.Replays.state_of g.T.Replays.replied g.T.Replays.after (start_of g.T.Replays.state_of c.args.self.now.table.shared.key) c.args.seat.now.me c.fetch_add-ticket.new.seat.me c.loop.seat.me _ drawn.0 _ _ c.loop.invariant.2 drawn.2 drawn.1 c.load.ensures.2 (search rules),
     )
 
 pub returns-then-load-ticket-clause-turn : goal.returns-then-load-ticket-clause-turn
 returns-then-load-ticket-clause-turn g c =
     let drawn = c.fetch_add-ticket.ensures.2 in (
       drawn.0,
-      its_turn g.T.History.StoredHistory.entries g.T.Replays.state_of g.T.Replays.replied g.T.Replays.after (began g.T.Replays.state_of c.args.self.now) c.args.seat.now.me c.fetch_add-ticket.new.seat.me c.loop.seat.me _ drawn.0 _ _ c.loop.invariant.2 drawn.2 drawn.1 c.load.ensures.2 (search rules),
+      its_turn g.T.History.StoredHistory.entries g.T.Replays.state_of g.T.Replays.replied g.T.Replays.after (start_of g.T.Replays.state_of c.args.self.now.table.shared.key) c.args.seat.now.me c.fetch_add-ticket.new.seat.me c.loop.seat.me _ drawn.0 _ _ c.loop.invariant.2 drawn.2 drawn.1 c.load.ensures.2 (search rules),
     )

@@ -1,5 +1,5 @@
 use Rattle.std.proofs.Common.{◌≡◌}
-use Rattle.turnstile.proofs.turnstile.Turnstile.enter.Given as goal
+use Rattle.turnstile.proofs.lock.Lock.enter.Given as goal
 
 -- while it waits, the seat is as it was once the ticket was drawn
 abbrev pub invariant-loop : goal.invariant-loop

@@ -1,6 +1,6 @@
 use Rattle.std.proofs.Common.{arith, ◌∙◌}
 use Rattle.turnstile.proofs.Phases.{may_leave, has_left}
-use Rattle.turnstile.proofs.turnstile.Turnstile.leave.Goals as goal
+use Rattle.turnstile.proofs.lock.Lock.leave.Goals as goal
 
 pub fetch_add-requires : goal.fetch_add-requires
 fetch_add-requires g c =
