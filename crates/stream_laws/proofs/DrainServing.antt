@@ -10,7 +10,7 @@ use Rattle.stream_model.specs.declared.plain.Grain.{Grain}
 use Rattle.stream_model.specs.declared.plain.PlainPartition.{PlainPartition}
 use Rattle.stream_model.specs.declared.plain.Subscription.{Subscription}
 use Rattle.stream_model.specs.declared.reply.Reply.TheVariants as reply
-use Rattle.stream_model.specs.Draining.{Progress, after_deliver, ask, deliver_all, take_turn, deliver_up_to}
+use Rattle.stream_model.specs.Draining.{after_deliver, deliver_all, take_turn, deliver_up_to}
 use Rattle.stream_model.specs.Positions.{grain_at, is_spent, next_position, sub_at, token_at, with_sub}
 use Rattle.stream_model.specs.Pulling.{caught_up, delivered, woken}
 use Rattle.stream_laws.proofs.DrainBase.{IsSound}

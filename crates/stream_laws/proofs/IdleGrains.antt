@@ -7,7 +7,6 @@ use Rattle.stream_ident.specs.Name.{same_grain}
 use Rattle.stream_model.specs.declared.plain.Delivery.{Delivery}
 use Rattle.stream_model.specs.declared.plain.Grain.{Grain}
 use Rattle.stream_model.specs.declared.plain.PlainPartition.{PlainPartition}
-use Rattle.stream_model.specs.declared.plain.RunningTurn.{RunningTurn}
 use Rattle.stream_model.specs.Looks.{is_running, is_waiting}
 use Rattle.stream_model.specs.Positions.{grain_at, new_grain}
 use Rattle.stream_ident.specs.Words.{keys_where, value_at, with_value}
@@ -64,17 +63,17 @@ emptied-of p none =
     each-grain_at (λ (st : Grain). st.mailbox ≡ []) p refl
     (λ g st found. none-waits st.mailbox (entry-found same_grain grain_equality (λ (g : GrainId) (st : Grain). is_waiting st ≡ false) p.grains g st (keys_where-none is_waiting p.grains none) found))
 
--- no turn
-pub none-runs : (running : Option RunningTurn) → is_some running ≡ false → running ≡ None
-none-runs None none = refl
-none-runs (Some run) none = absurd (cc)
+-- what isn't there
+pub none-there : {A : Type 0} (o : Option A) → is_some o ≡ false → o ≡ None
+none-there None none = refl
+none-there (Some x) none = absurd (cc)
 
 -- no turn runs where no grain of the list has one
 pub idle-of : (p : PlainPartition) → keys_where is_running p.grains ≡ [] → IsIdle p
 idle-of p none =
     let rest = keys_where-none is_running p.grains none in
     each-grain_at (λ (st : Grain). st.running ≡ None) p refl
-    (λ g st found. none-runs st.running (entry-found same_grain grain_equality (λ (g : GrainId) (st : Grain). is_running st ≡ false) p.grains g st rest found))
+    (λ g st found. none-there st.running (entry-found same_grain grain_equality (λ (g : GrainId) (st : Grain). is_running st ≡ false) p.grains g st rest found))
 
 -- what holds of each grain holds of each of the list, where no name stands twice
 pub each-found : (P : Grain → Type 0) (p : PlainPartition) → AreUnique same_grain p.grains → ((g : GrainId) → P (grain_at p g)) → AllByRecursion (λ (entry : GrainId × Grain). P entry.1) p.grains

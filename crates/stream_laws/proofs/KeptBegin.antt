@@ -1,5 +1,5 @@
 -- Begin keeps the invariant, and its turn goes on where what was handled ends.
-use Rattle.std.proofs.Common.{◌≡◌, ◌∙◌, ap, sym, subst, refl, ℕ, suc, ◌≤◌, nat_lt, ◌==◌, true, false, not, List, [], ◌∷◌, length, take, drop, filter, Option, Some, None, is_some, arith}
+use Rattle.std.proofs.Common.{◌≡◌, ◌∙◌, ap, sym, subst, refl, ℕ, suc, ◌≤◌, nat_lt, ◌==◌, true, not, List, [], ◌∷◌, length, take, drop, filter, Option, Some, None, is_some, arith}
 use Rattle.std.proofs.lemmas.Bool.{cond_both, cond-true, cond-false, eq-eqb, eqb-true, ltb-true, ltb-false, ne_eqb, not-false, true≢false}
 use Rattle.stream_ident.specs.declared.event.Event.{Event}
 use Rattle.stream_ident.specs.declared.ident.GrainId.{GrainId}
@@ -23,6 +23,7 @@ use Rattle.stream_model.proofs.EachOf.{All-drop}
 use Rattle.stream_laws.proofs.Deliveries.{front-length, front-next, front-other, front-rest, front-some}
 use Rattle.stream_laws.proofs.EventLemmas.{length-events_at, owed-next}
 use Rattle.stream_laws.proofs.FitsOne.{Fits-grain}
+use Rattle.stream_laws.proofs.IdleGrains.{none-there}
 use Rattle.stream_laws.proofs.Invariant.{Fits, IsBoxed, IsRunning, Kept, NumbersFit, SubFits, marks_of}
 use Rattle.stream_laws.proofs.Marks.{IsInTurn, IsServed}
 use Rattle.stream_laws.proofs.OneChanged.{FitsHere, IsCarried, IsTurnAlike}
@@ -179,10 +180,6 @@ unfolding begin_front
 kept-begin_front t p g max_events n [] some bound active idle is_mailbox fits = (fits, tt)
 kept-begin_front t p g max_events n (d ∷ deliveries) some bound active idle is_mailbox fits =
     kept-begin_for t p g max_events n d deliveries (sub_at p d.sub) some bound active idle is_mailbox refl fits
-
-none-there : {A : Type 0} (o : Option A) → is_some o ≡ false → o ≡ None
-none-there None e = refl
-none-there (Some x) e = absurd (true≢false e)
 
 pub kept-begin : (t : Summary) (p : PlainPartition) (g : GrainId) (max_events : ℕ) → Fits t p → Kept t (op.Begin g max_events) (begin p g max_events)
 unfolding begin begin_in

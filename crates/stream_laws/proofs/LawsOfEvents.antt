@@ -51,7 +51,7 @@ handled-record t p s r log fit =
     ∙ (owed-split (λ event. is_owed r.stream r.start event) p.log r.handled fit.in_turn.first
     ∙ sym (owed-bound t p s _ log fit.binding))
 
-handled_prefix : (t : Summary) (p : PlainPartition) (s : SubName) → Fits t p → IsPrefixOf (t.handled s) (owed t s)
+pub handled_prefix : (t : Summary) (p : PlainPartition) (s : SubName) → Fits t p → IsPrefixOf (t.handled s) (owed t s)
 handled_prefix t p s fits =
     (elim (sub_at p s) as (λ o. sub_at p s ≡ o → IsPrefixOf (t.handled s) (owed t s)) [
       | None ↦ λ none. (owed t s, ap (λ events. events ++ owed t s) (fits.unmade s none).handled)

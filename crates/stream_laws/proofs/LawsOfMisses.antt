@@ -1,16 +1,17 @@
--- The law on refused start tokens, from what holds of a legal history.
-use Rattle.std.proofs.Common.{◌≡◌, ◌≢◌, true, false, ◌∷◌, length, sym, ap, subst, ◌∙◌, nat_le}
+-- The laws on refused starts, from what holds of a legal history.
+use Rattle.std.proofs.Common.{◌≡◌, ◌≢◌, ℕ, true, false, ◌∷◌, length, sym, ap, subst, ◌∙◌, nat_le}
 use Rattle.std.proofs.lemmas.Bool.{cond-false, cond-true, cond_both}
 use Rattle.stream_ident.specs.declared.ident.GrainId.{GrainId}
 use Rattle.stream_ident.specs.declared.ident.StreamId.{StreamId}
 use Rattle.stream_ident.specs.declared.token.Token.{Token}
 use Rattle.stream_ident.specs.Token.{token_lt}
 use Rattle.stream_model.specs.declared.op.Op.TheVariants.{Subscribe}
-use Rattle.stream_model.specs.declared.op.Start.TheVariants.{At}
+use Rattle.stream_model.specs.declared.op.Start.TheVariants.{At, Latest}
 use Rattle.stream_model.specs.declared.plain.PlainPartition.{PlainPartition}
 use Rattle.stream_model.specs.declared.reply.Reply.{Reply}
 use Rattle.stream_model.specs.declared.reply.Reply.TheVariants.{Miss}
-use Rattle.stream_laws.specs.Laws.{MissesBelowLow}
+use Rattle.stream_laws.specs.Laws.{LatestIsNeverMissed, MissesBelowLow}
+use Rattle.stream_ident.specs.Event.{batch_token}
 use Rattle.stream_model.specs.Positions.{high_token, low_token, lower_bound}
 use Rattle.stream_model.specs.Publishing.{subscribe, subscribe_at}
 use Rattle.stream_model.specs.Step.{step}
@@ -22,15 +23,19 @@ missed p stream grain token below =
     ap (λ (out : PlainPartition × Reply). out.1) (cond-true (token_lt token (low_token p)) (p, Miss token (low_token p) (high_token p)) (subscribe_at p stream grain token (lower_bound p token)) below)
 
 -- no reply of these is a miss
-subscribed-no_miss : (p : PlainPartition) (stream : StreamId) (grain : GrainId) (token requested low high : Token) → (subscribe_at p stream grain token (lower_bound p token)).1 ≢ Miss requested low high
+subscribed-no_miss : (p : PlainPartition) (stream : StreamId) (grain : GrainId) (token : Token) (position : ℕ) (requested low high : Token) → (subscribe_at p stream grain token position).1 ≢ Miss requested low high
 unfolding subscribe_at
-subscribed-no_miss p stream grain token requested low high =
+subscribed-no_miss p stream grain token position requested low high =
     cond_both (nat_le p.limits.subs (length p.subs)) _ _ (λ (out : PlainPartition × Reply). out.1 ≢ Miss requested low high) (λ full told. cc) (λ room told. cc)
+
+latest-no_miss : (p : PlainPartition) (stream : StreamId) (grain : GrainId) (requested low high : Token) → (step p (Subscribe stream grain Latest)).1 ≢ Miss requested low high
+unfolding step subscribe
+latest-no_miss p stream grain requested low high = subscribed-no_miss p stream grain (batch_token p.batches) p.high requested low high
 
 not-missed : (p : PlainPartition) (stream : StreamId) (grain : GrainId) (token requested low high : Token) → token_lt token (low_token p) ≡ false → (step p (Subscribe stream grain (At token))).1 ≢ Miss requested low high
 unfolding step subscribe
 not-missed p stream grain token requested low high there told =
-    subscribed-no_miss p stream grain token requested low high
+    subscribed-no_miss p stream grain token (lower_bound p token) requested low high
     (sym (ap (λ (out : PlainPartition × Reply). out.1) (cond-false (token_lt token (low_token p)) (p, Miss token (low_token p) (high_token p)) (subscribe_at p stream grain token (lower_bound p token)) there)) ∙ told)
 
 pub misses_below_low-from : StepsKeep → MissesBelowLow
@@ -48,3 +53,8 @@ misses_below_low-from keep blocks limits before e later q stands stream grain to
           let there_state : token_lt token (low_token reaches.state) ≡ false = subst (λ bound. token_lt token bound ≡ false) low there in
           not-missed reaches.state stream grain token requested from to there_state (told ∙ is_miss),
     )
+
+pub latest_is_never_missed-from : StepsKeep → LatestIsNeverMissed
+latest_is_never_missed-from keep blocks limits before e later q stands stream grain asked requested low high is_miss =
+    let reaches = reaches-stands keep blocks limits before (e ∷ later) q stands in
+    latest-no_miss reaches.state stream grain requested low high (ap (λ op. (step reaches.state op).1) (sym asked) ∙ (reaches.leads.0 ∙ is_miss))

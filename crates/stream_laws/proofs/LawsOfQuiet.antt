@@ -20,7 +20,7 @@ use Rattle.stream_model.specs.Looks.{behind, deliverable, is_running, is_waiting
 use Rattle.stream_model.specs.Positions.{grain_at, new_grain, next_position, running_in, sub_at, waiting_in}
 use Rattle.stream_ident.specs.Words.{keys_where, past, value_at}
 use Rattle.stream_laws.proofs.EventLemmas.{filter-drop-none}
-use Rattle.stream_laws.proofs.IdleGrains.{none-runs, none-waits}
+use Rattle.stream_laws.proofs.IdleGrains.{none-there, none-waits}
 use Rattle.stream_laws.proofs.KeyLists.{least-none}
 use Rattle.stream_ident.proofs.WordLemmas.{or_else-parts}
 use Rattle.stream_laws.proofs.Invariant.{Fits, marks_of, running_of, waiting_of}
@@ -96,7 +96,7 @@ quiet-done p is_quiet =
       seen = behind-none p parts.0;
       sent = λ s r found. none-passes same_sub (λ r. r.is_open && is_some (next_position p r)) s r p.subs no_sub found;
       none_waiting = λ g. none-waits (grain_at p g).mailbox (none-at-grain p g is_waiting refl no_wait);
-      none_running = λ g. none-runs (grain_at p g).running (none-at-grain p g is_running refl no_run);
+      none_running = λ g. none-there (grain_at p g).running (none-at-grain p g is_running refl no_run);
     }
 
 next-none : (o : Option ℕ) (is_open : Bool) → (is_open && is_some o) ≡ false → is_open ≡ true → o ≡ None

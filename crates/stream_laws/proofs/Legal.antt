@@ -59,11 +59,13 @@ pub record Reaches (past rest : List Entry) (q : PlainPartition) : Type 0 where
   pub leads : Leads state rest q
 
 -- the partition between the first entries and the rest
-pub reaches-leads : StepsKeep → (before : List Entry) (p : PlainPartition) (entries rest : List Entry) (q : PlainPartition) → Fits (summary before) p → Leads p (entries ++ rest) q → Reaches (reverse_aux entries before) rest q
-reaches-leads keep before p [] rest q fits leads = record { state = p; fits = fits; leads = leads }
-reaches-leads keep before p (e ∷ entries) rest q fits leads =
-    reaches-leads keep (e ∷ before) (step p e.op).0 entries rest q (fits-step keep before p e fits leads.0) leads.1
+pub leads-split : (p : PlainPartition) (before rest : List Entry) (q : PlainPartition) → Leads p (before ++ rest) q → (m : PlainPartition) × Leads p before m × Leads m rest q
+leads-split p [] rest q leads = (p, refl, leads)
+leads-split p (e ∷ before) rest q leads =
+    let parts = leads-split (step p e.op).0 before rest q leads.1 in
+    (parts.0, (leads.0, parts.1), parts.2)
 
 pub reaches-stands : StepsKeep → (blocks : ℕ) (limits : Limits) (before rest : List Entry) (q : PlainPartition) → Stands blocks limits (before ++ rest) q → Reaches (reverse before) rest q
 reaches-stands keep blocks limits before rest q stands =
-    reaches-leads keep [] (empty blocks limits) before rest q (fits-empty blocks limits) stands
+    let parts = leads-split (empty blocks limits) before rest q stands in
+    record { state = parts.0; fits = fits-stands keep blocks limits before parts.0 parts.1; leads = parts.2 }

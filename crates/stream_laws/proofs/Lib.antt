@@ -39,8 +39,13 @@ pub mod KeptUnsubscribe
 pub mod KeyLists
 pub mod LastHandled
 pub mod LawsOfEvents
+pub mod LawsOfFronts
+pub mod LawsOfHistories
 pub mod LawsOfMisses
 pub mod LawsOfQuiet
+pub mod LawsOfRecords
+pub mod LawsOfTokens
+pub mod LawsOfRunning
 pub mod LawsOfTurns
 pub mod Legal
 pub mod LogGrown
@@ -53,6 +58,7 @@ pub mod OneChanged
 pub mod OpenResumes
 pub mod PassedPositions
 pub mod RuleLemmas
+pub mod RunningSteps
 pub mod RunningTurns
 pub mod ServedLemmas
 pub mod Summary

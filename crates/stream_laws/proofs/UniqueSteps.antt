@@ -1,5 +1,6 @@
--- Every step leaves the keys of subscriptions and grains unique, and the number of blocks as it is.
-use Rattle.std.proofs.Common.{◌≡◌, ℕ, suc, ◌+◌, ◌*◌, ◌==◌, ◌&&◌, ◌||◌, not, nat_lt, nat_le, false, List, [], ◌∷◌, ◌++◌, length, fold, Option, Some, None, is_some, if◌then◌else◌, refl, sym, subst}
+-- Every step leaves the keys of subscriptions and grains unique, the number of blocks as it is, and no more
+-- in the cache than they hold.
+use Rattle.std.proofs.Common.{◌≡◌, ℕ, suc, ◌+◌, ◌-◌, ◌*◌, ◌≤◌, min, ◌==◌, ◌&&◌, ◌||◌, not, nat_lt, nat_le, false, List, [], ◌∷◌, ◌++◌, length, fold, Option, Some, None, is_some, if◌then◌else◌, refl, sym, subst, arith}
 use Rattle.std.proofs.lemmas.Bool.{cond_both}
 use Rattle.std.specs.List.{list_any}
 use Rattle.stream_ident.specs.declared.ident.GrainId.{GrainId}
@@ -26,7 +27,7 @@ use Rattle.stream_ident.specs.Event.{batch_token}
 use Rattle.stream_model.specs.NewestFirst.{Entry}
 use Rattle.stream_model.specs.Positions.{between, empty, grain_at, is_spent, low_token, lower_bound, new_subscription, next_position, sub_at, with_sub}
 use Rattle.stream_model.specs.Publishing.{add_rule, publish, subscribe, subscribe_at, unsubscribe, unsubscribe_from, without}
-use Rattle.stream_model.specs.Pulling.{ack, ack_of, ack_position, acknowledged, added, all_implied, caught_up, deliver, deliver_position, deliver_to, handled_at, is_stale, move, move_to, pull, pull_count, pull_events, pull_want, purge, purge_to, retry, retry_of, rewound, rewound_where, subs_with, woken}
+use Rattle.stream_model.specs.Pulling.{ack, ack_of, ack_position, acknowledged, added, all_implied, caught_up, deliver, deliver_position, deliver_to, drops, handled_at, is_stale, move, move_to, pull, pull_count, pull_events, pull_want, purge, purge_to, purges, room, retry, retry_of, rewound, rewound_where, subs_with, woken}
 use Rattle.stream_model.specs.Step.{Leads, Stands, step}
 use Rattle.stream_model.specs.Turns.{begin, begin_for, begin_front, begin_in, begin_turn, commit, commit_for, commit_running, deactivate, deactivate_in, ended}
 use Rattle.stream_ident.specs.Blocks.{turn_size}
@@ -38,6 +39,7 @@ pub record IsSteady (cache : ℕ) (p : PlainPartition) : Type 0 where
   pub subs : AreUnique same_sub p.subs
   pub grains : AreUnique same_grain p.grains
   pub blocks : p.blocks ≡ cache
+  pub size : p.high ≤ p.low + 64 * p.blocks
 
 abbrev Stays : ℕ → PlainPartition × Reply → Type 0
 Stays n out = IsSteady n out.0
@@ -47,17 +49,17 @@ unfolding publish
 steady-publish n p stream payloads steady =
     cond_both ((length payloads == 0) || nat_lt 64 (length payloads)) _ _ (Stays n) (λ _. steady)
     (λ _. cond_both (nat_lt p.limits.events (length p.log + length payloads)) _ _ (Stays n) (λ _. steady)
-    (λ _. record { subs = steady.subs; grains = steady.grains; blocks = steady.blocks }))
+    (λ _. record { subs = steady.subs; grains = steady.grains; blocks = steady.blocks; size = steady.size }))
 
 -- one subscription set
 steady-with_sub : (n : ℕ) (p : PlainPartition) (s : SubName) (r : Subscription) → IsSteady n p → IsSteady n (with_sub p s r)
-steady-with_sub n p s r steady = record { subs = unique-with_value same_sub sub_equality s r p.subs steady.subs; grains = steady.grains; blocks = steady.blocks }
+steady-with_sub n p s r steady = record { subs = unique-with_value same_sub sub_equality s r p.subs steady.subs; grains = steady.grains; blocks = steady.blocks; size = steady.size }
 
 steady-subscribe_at : (n : ℕ) (p : PlainPartition) (stream : StreamId) (grain : GrainId) (start : Token) (position : ℕ) → IsSteady n p → IsSteady n (subscribe_at p stream grain start position).0
 unfolding subscribe_at
 steady-subscribe_at n p stream grain start position steady =
     cond_both (nat_le p.limits.subs (length p.subs)) _ _ (Stays n) (λ _. steady)
-    (λ _. record { subs = unique-with_value same_sub sub_equality (name.Explicit (suc p.explicit)) (new_subscription stream grain start position) p.subs steady.subs; grains = steady.grains; blocks = steady.blocks })
+    (λ _. record { subs = unique-with_value same_sub sub_equality (name.Explicit (suc p.explicit)) (new_subscription stream grain start position) p.subs steady.subs; grains = steady.grains; blocks = steady.blocks; size = steady.size })
 
 steady-subscribe : (n : ℕ) (p : PlainPartition) (stream : StreamId) (grain : GrainId) (start : Start) → IsSteady n p → IsSteady n (subscribe p stream grain start).0
 unfolding subscribe
@@ -76,6 +78,7 @@ steady-unsubscribe_from n p (name.Explicit number) (Some r) steady =
       subs = unique-with_value same_sub sub_equality (name.Explicit number) (record r { is_open = false }) p.subs steady.subs;
       grains = unique-changed_value same_grain r.grain (without (name.Explicit number)) p.grains steady.grains;
       blocks = steady.blocks;
+      size = steady.size;
     })
 
 steady-unsubscribe : (n : ℕ) (p : PlainPartition) (s : SubName) → IsSteady n p → IsSteady n (unsubscribe p s).0
@@ -87,7 +90,7 @@ unfolding add_rule
 steady-add_rule n p kind namespace steady =
     cond_both (list_any (λ (rule : Rule). same_name kind rule.kind && same_name namespace rule.namespace) p.rules) _ _ (Stays n) (λ _. steady)
     (λ _. cond_both (nat_le p.limits.rules (length p.rules)) _ _ (Stays n) (λ _. steady)
-    (λ _. record { subs = steady.subs; grains = steady.grains; blocks = steady.blocks }))
+    (λ _. record { subs = steady.subs; grains = steady.grains; blocks = steady.blocks; size = steady.size }))
 
 unique-added : (subs : List (SubName × Subscription)) (entry : SubName × Subscription) → AreUnique same_sub subs → AreUnique same_sub (added subs entry)
 unique-added subs entry unique =
@@ -100,22 +103,30 @@ pub unique-fold : (subs entries : List (SubName × Subscription)) → AreUnique 
 unique-fold subs [] unique = unique
 unique-fold subs (entry ∷ entries) unique = unique-fold (added subs entry) entries (unique-added subs entry unique)
 
-steady-pull_events : (n : ℕ) (p : PlainPartition) (low high : ℕ) (subs : List (SubName × Subscription)) → IsSteady n p → AreUnique same_sub subs → IsSteady n (pull_events p low high subs).0
-unfolding pull_events
-steady-pull_events n p low high subs steady unique =
-    cond_both (nat_lt p.limits.subs (length subs)) _ _ (Stays n) (λ _. steady)
-    (λ _. record { subs = unique; grains = steady.grains; blocks = steady.blocks })
+-- what a pull adds fits in what it drops and the room that there was
+pulled-size : (low high most blocks count : ℕ) → high ≤ low + 64 * most → count ≤ 64 * most - (high - low) + 64 * blocks → high + count ≤ low + 64 * blocks + 64 * most
+pulled-size low high most blocks count within room = omega arith
 
-steady-pull_count : (n : ℕ) (p : PlainPartition) (blocks count : ℕ) → IsSteady n p → IsSteady n (pull_count p blocks count).0
+min-most : (a b : ℕ) → min a b ≤ b
+min-most a b = omega arith
+
+steady-pull_events : (n : ℕ) (p : PlainPartition) (low high : ℕ) (subs : List (SubName × Subscription)) → IsSteady n p → AreUnique same_sub subs → high ≤ low + 64 * p.blocks → IsSteady n (pull_events p low high subs).0
+unfolding pull_events
+steady-pull_events n p low high subs steady unique size =
+    cond_both (nat_lt p.limits.subs (length subs)) _ _ (Stays n) (λ _. steady)
+    (λ _. record { subs = unique; grains = steady.grains; blocks = steady.blocks; size = size })
+
+steady-pull_count : (n : ℕ) (p : PlainPartition) (blocks count : ℕ) → IsSteady n p → count ≤ room p + 64 * blocks → IsSteady n (pull_count p blocks count).0
 unfolding pull_count
-steady-pull_count n p blocks count steady =
+steady-pull_count n p blocks count steady within =
     cond_both (count == 0) _ _ (Stays n) (λ _. steady)
     (λ _. steady-pull_events n p (p.low + 64 * blocks) (p.high + count) (subs_with p.rules p.high p.subs (between p.log p.high (p.high + count))) steady
-    (unique-fold p.subs (all_implied p.rules p.high (between p.log p.high (p.high + count))) steady.subs))
+    (unique-fold p.subs (all_implied p.rules p.high (between p.log p.high (p.high + count))) steady.subs)
+    (pulled-size p.low p.high p.blocks blocks count steady.size within))
 
 steady-pull_want : (n : ℕ) (p : PlainPartition) (want : ℕ) → IsSteady n p → IsSteady n (pull_want p want).0
 unfolding pull_want
-steady-pull_want n p want steady = steady-pull_count n p _ _ steady
+steady-pull_want n p want steady = steady-pull_count n p _ _ steady (min-most want (room p + 64 * drops p want))
 
 steady-pull : (n : ℕ) (p : PlainPartition) (generation max_events : ℕ) → IsSteady n p → IsSteady n (pull p generation max_events).0
 unfolding pull
@@ -133,6 +144,7 @@ steady-deliver_position n p s r st (Some position) steady =
       subs = unique-with_value same_sub sub_equality s (record r { cursor = suc position }) p.subs steady.subs;
       grains = unique-with_value same_grain grain_equality r.grain (woken st s position) p.grains steady.grains;
       blocks = steady.blocks;
+      size = steady.size;
     }))
 
 steady-deliver_to : (n : ℕ) (p : PlainPartition) (s : SubName) (found : Option Subscription) → IsSteady n p → IsSteady n (deliver_to p s found).0
@@ -169,21 +181,25 @@ steady-ack : (n : ℕ) (p : PlainPartition) (generation : ℕ) (s : SubName) (to
 unfolding ack
 steady-ack n p generation s token steady = cond_both (is_stale p generation) _ _ (Stays n) (λ _. steady) (λ _. steady-ack_of n p s token (sub_at p s) steady)
 
+-- and what a purge leaves is no more than there was
+purged-size : (low high most dropped : ℕ) → high ≤ low + most → high ≤ low + dropped + most
+purged-size low high most dropped within = omega arith
+
 steady-purge : (n : ℕ) (p : PlainPartition) (generation keep : ℕ) → IsSteady n p → IsSteady n (purge p generation keep).0
 unfolding purge purge_to
 steady-purge n p generation keep steady =
-    cond_both (is_stale p generation) _ _ (Stays n) (λ _. steady) (λ _. record { subs = steady.subs; grains = steady.grains; blocks = steady.blocks })
+    cond_both (is_stale p generation) _ _ (Stays n) (λ _. steady) (λ _. record { subs = steady.subs; grains = steady.grains; blocks = steady.blocks; size = purged-size p.low p.high (64 * p.blocks) (64 * purges p keep) steady.size })
 
 steady-move : (n : ℕ) (p : PlainPartition) (silo : ℕ) → IsSteady n p → IsSteady n (move p silo).0
 unfolding move move_to
 steady-move n p silo steady =
     cond_both (is_spent p) _ _ (Stays n) (λ _. steady)
-    (λ _. record { subs = unique-each_value same_sub (λ (r : Subscription). rewound_where r.is_open r) p.subs steady.subs; grains = steady.grains; blocks = steady.blocks })
+    (λ _. record { subs = unique-each_value same_sub (λ (r : Subscription). rewound_where r.is_open r) p.subs steady.subs; grains = steady.grains; blocks = steady.blocks; size = omega arith })
 
 -- one grain set
 steady-with_grain : (n : ℕ) (p : PlainPartition) (g : GrainId) (st : Grain) (rises turns : ℕ) → IsSteady n p → IsSteady n (record p { grains = with_value same_grain g st p.grains; rises = rises; turns = turns })
 steady-with_grain n p g st rises turns steady =
-    record { subs = steady.subs; grains = unique-with_value same_grain grain_equality g st p.grains steady.grains; blocks = steady.blocks }
+    record { subs = steady.subs; grains = unique-with_value same_grain grain_equality g st p.grains steady.grains; blocks = steady.blocks; size = steady.size }
 
 steady-begin_for : (n : ℕ) (p : PlainPartition) (g : GrainId) (size : ℕ) (st : Grain) (d : Delivery) (deliveries : List Delivery) (found : Option Subscription) → IsSteady n p → IsSteady n (begin_for p g size st d deliveries found).0
 unfolding begin_for begin_turn
@@ -231,6 +247,7 @@ steady-deactivate n p g steady =
       subs = unique-each_value same_sub (λ (r : Subscription). rewound_where (same_grain g r.grain && r.is_open) r) p.subs steady.subs;
       grains = unique-with_value same_grain grain_equality g (record st { active = false; mailbox = []; running = None }) p.grains steady.grains;
       blocks = steady.blocks;
+      size = steady.size;
     })
 
 pub steady-step : (n : ℕ) (p : PlainPartition) (o : Op) → IsSteady n p → IsSteady n (step p o).0
@@ -258,4 +275,4 @@ steady-leads n p (e ∷ entries) q steady leads = steady-leads n (step p e.op).0
 
 -- after every legal history
 pub steady-legal : (blocks : ℕ) (limits : Limits) (history : List Entry) (p : PlainPartition) → Stands blocks limits history p → IsSteady blocks p
-steady-legal blocks limits history p stands = steady-leads blocks (empty blocks limits) history p (record { subs = tt; grains = tt; blocks = refl }) stands
+steady-legal blocks limits history p stands = steady-leads blocks (empty blocks limits) history p (record { subs = tt; grains = tt; blocks = refl; size = omega arith }) stands

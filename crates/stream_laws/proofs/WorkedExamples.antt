@@ -1,5 +1,5 @@
 -- Worked examples: what a new partition replies to a few operations, by computation.
-use Rattle.std.proofs.Common.{◌≡◌, ℕ, List, [], ◌∷◌, ◌++◌, map, Some, refl}
+use Rattle.std.proofs.Common.{◌≡◌, ℕ, ◌-◌, Bool, true, false, List, [], ◌∷◌, ◌++◌, length, map, Option, Some, None, option_map, refl}
 use Rattle.std.specs.List.{range_with_len}
 use Rattle.std.specs.Prelude.{codes, reverse}
 use Rattle.stream_ident.specs.declared.event.Event.{Event}
@@ -11,23 +11,25 @@ use Rattle.stream_ident.specs.declared.token.Token.{Token}
 use Rattle.stream_model.specs.declared.drain_end.DrainEnd.TheVariants.{Drained}
 use Rattle.stream_model.specs.declared.limits.Limits.{Limits}
 use Rattle.stream_model.specs.declared.op.Op.{Op}
-use Rattle.stream_model.specs.declared.op.Op.TheVariants.{Publish, Subscribe, Unsubscribe, AddRule, Pull, Deliver, Begin, Commit, Deactivate, Move}
+use Rattle.stream_model.specs.declared.op.Op.TheVariants.{Publish, Subscribe, Unsubscribe, AddRule, Pull, Deliver, Retry, Begin, Commit, Deactivate, Move}
 use Rattle.stream_model.specs.declared.op.Start.TheVariants.{Latest, At}
 use Rattle.stream_model.specs.declared.plain.PlainPartition.{PlainPartition}
+use Rattle.stream_model.specs.declared.plain.Subscription.{Subscription}
 use Rattle.stream_model.specs.declared.reply.Reply.{Reply}
 use Rattle.stream_model.specs.declared.reply.Reply.TheVariants as reply
 use Rattle.stream_model.specs.Draining.{drain, drain_all, after_pull, serve_each, serve, deliver_all, after_deliver, acknowledge, deliver_once_more, take_turn, take_turns}
-use Rattle.stream_model.specs.NewestFirst.{Entry, handled_events, owed_events}
-use Rattle.stream_model.specs.Positions.{empty}
+use Rattle.stream_model.specs.NewestFirst.{Entry, handled_events, is_closed, last_note, owed_events, published_events}
+use Rattle.stream_model.specs.Positions.{empty, sub_at}
 use Rattle.stream_model.specs.Publishing.{publish, subscribe, subscribe_at, unsubscribe, unsubscribe_from, add_rule}
-use Rattle.stream_model.specs.Pulling.{pull, pull_want, pull_count, pull_events, deliver, deliver_to, deliver_position, ack, ack_of, ack_position, move, move_to}
+use Rattle.stream_model.specs.Pulling.{pull, pull_want, pull_count, pull_events, deliver, deliver_to, deliver_position, retry, retry_of, ack, ack_of, ack_position, move, move_to}
 use Rattle.stream_model.specs.Step.{step, after_steps, replies_of}
 use Rattle.stream_model.specs.Turns.{begin, begin_in, begin_front, begin_for, begin_turn, commit, commit_running, commit_for, deactivate, deactivate_in}
+use Rattle.stream_laws.specs.Laws.{entries_of, is_given}
 use Prim.Native.String.{String}
 
 -- `unfolding steps` lets `refl` compute the steps of a partition
 steps : Unit {0}
-unfolding step publish subscribe subscribe_at unsubscribe unsubscribe_from add_rule pull pull_want pull_count pull_events deliver deliver_to deliver_position ack ack_of ack_position begin begin_in begin_front begin_for begin_turn commit commit_running commit_for deactivate deactivate_in move move_to
+unfolding step publish subscribe subscribe_at unsubscribe unsubscribe_from add_rule pull pull_want pull_count pull_events deliver deliver_to deliver_position retry retry_of ack ack_of ack_position begin begin_in begin_front begin_for begin_turn commit commit_running commit_for deactivate deactivate_in move move_to
 steps = tt
 
 -- and `unfolding steps drains` its drains
@@ -99,7 +101,7 @@ unfolding steps
 lost_deliveries_come_again = refl
 
 -- A cache of one block is full of events that are not yet acknowledged, and a drain moves it on. Then a
--- start below the low token is a miss, and one at the low token is none.
+-- start below the low token is a miss, and one at the low token or from the latest on is none.
 abbrev full_cache : List Entry
 full_cache =
     Subscribe (stream "o" "k") (grain "g" "x") Latest ⇒ reply.Subscribed 1
@@ -112,6 +114,7 @@ abbrev starts_in_the_past : List Entry
 starts_in_the_past =
     Subscribe (stream "o" "k") (grain "g" "y") (At (token 0 0)) ⇒ reply.Miss (token 0 0) (token 64 0) (token 65 0)
     ∷ Subscribe (stream "o" "k") (grain "g" "y") (At (token 64 0)) ⇒ reply.Subscribed 2
+    ∷ Subscribe (stream "o" "k") (grain "g" "y") Latest ⇒ reply.Subscribed 3
     ∷ []
 
 pub start_below_low_is_a_miss :
@@ -167,3 +170,102 @@ pub one_event_from_publish_to_commit :
     × (owed_events (reverse one_event) (Explicit 1) ≡ event (stream "o" "k") (token 0 0) "a" ∷ [])
 unfolding steps
 one_event_from_publish_to_commit = (refl, refl, refl)
+
+-- A run is told by its operations and their replies.
+pub one_event_told : entries_of (operations one_event) (replies_of (empty 4 greatest) (operations one_event)) ≡ one_event
+unfolding steps
+one_event_told = refl
+
+-- The record of an unsubscribed name is closed and keeps the note of its last commit; that of another name
+-- is open, and a number that no subscribe was answered with has none.
+abbrev closed_beside_open : List Entry
+closed_beside_open =
+    Subscribe (stream "o" "k") (grain "g" "x") Latest ⇒ reply.Subscribed 1
+    ∷ Publish (stream "o" "k") (batch "a") ⇒ reply.Published 0
+    ∷ Pull 0 32 ⇒ reply.Pulled 1 (token 0 0) (token 1 0)
+    ∷ Deliver 0 (Explicit 1) ⇒ reply.Delivered (token 0 0)
+    ∷ Begin (grain "g" "x") 1 ⇒ reply.Turn (Explicit 1) 1 1 (event (stream "o" "k") (token 0 0) "a" ∷ []) 0
+    ∷ Commit (grain "g" "x") 1 1 7 ⇒ reply.Committed (Explicit 1) (token 0 0)
+    ∷ Subscribe (stream "o" "k") (grain "g" "x") Latest ⇒ reply.Subscribed 2
+    ∷ Unsubscribe (Explicit 1) ⇒ reply.Unsubscribed 1
+    ∷ []
+
+-- whether the record of a name is open, and its note
+abbrev state_of : PlainPartition → SubName → Option (Bool × ℕ)
+state_of p s = option_map (λ (r : Subscription). (r.is_open, r.note)) (sub_at p s)
+
+-- the same by the history alone
+abbrev told_of : List Entry → SubName → Bool × ℕ
+told_of history s = (is_closed (reverse history) s, last_note (reverse history) s)
+
+pub closed_record_keeps_its_note :
+    (replies_of (empty 4 greatest) (operations closed_beside_open) ≡ replies closed_beside_open)
+    × (map (state_of (after (empty 4 greatest) closed_beside_open)) (Explicit 1 ∷ Explicit 2 ∷ Explicit 3 ∷ []) ≡ Some (false, 7) ∷ Some (true, 0) ∷ None ∷ [])
+    × (map (told_of closed_beside_open) (Explicit 1 ∷ Explicit 2 ∷ Explicit 3 ∷ []) ≡ (true, 7) ∷ (false, 0) ∷ (false, 0) ∷ [])
+    × (map (is_given closed_beside_open) (1 ∷ 2 ∷ 3 ∷ []) ≡ true ∷ true ∷ false ∷ [])
+unfolding steps
+closed_record_keeps_its_note = (refl, refl, refl, refl)
+
+-- A turn has no more events than were asked for, and of those that wait it takes all up to the first of
+-- another subscription or the first that repeats one.
+abbrev turns_of_a_mailbox : List Entry
+turns_of_a_mailbox =
+    Subscribe (stream "o" "k") (grain "g" "x") Latest ⇒ reply.Subscribed 1
+    ∷ Subscribe (stream "o" "k") (grain "g" "x") Latest ⇒ reply.Subscribed 2
+    ∷ Publish (stream "o" "k") (codes "a" ∷ codes "b" ∷ codes "c" ∷ []) ⇒ reply.Published 0
+    ∷ Publish (stream "o" "k") (batch "d") ⇒ reply.Published 1
+    ∷ Pull 0 32 ⇒ reply.Pulled 4 (token 0 0) (token 2 0)
+    ∷ Deliver 0 (Explicit 1) ⇒ reply.Delivered (token 0 0)
+    ∷ Deliver 0 (Explicit 1) ⇒ reply.Delivered (token 0 1)
+    ∷ Deliver 0 (Explicit 1) ⇒ reply.Delivered (token 0 2)
+    ∷ Deliver 0 (Explicit 2) ⇒ reply.Delivered (token 0 0)
+    ∷ Retry 0 (Explicit 2) ⇒ reply.Rewound
+    ∷ Deliver 0 (Explicit 2) ⇒ reply.Delivered (token 0 0)
+    ∷ Deliver 0 (Explicit 1) ⇒ reply.Delivered (token 1 0)
+    ∷ Begin (grain "g" "x") 1 ⇒ reply.Turn (Explicit 1) 1 1 (event (stream "o" "k") (token 0 0) "a" ∷ []) 0
+    ∷ Commit (grain "g" "x") 1 1 1 ⇒ reply.Committed (Explicit 1) (token 0 0)
+    ∷ Begin (grain "g" "x") 16 ⇒ reply.Turn (Explicit 1) 1 2 (event (stream "o" "k") (token 0 1) "b" ∷ event (stream "o" "k") (token 0 2) "c" ∷ []) 1
+    ∷ Commit (grain "g" "x") 1 2 2 ⇒ reply.Committed (Explicit 1) (token 0 2)
+    ∷ Begin (grain "g" "x") 16 ⇒ reply.Turn (Explicit 2) 1 3 (event (stream "o" "k") (token 0 0) "a" ∷ []) 0
+    ∷ []
+
+pub turn_ends_at_another_or_a_repeat : replies_of (empty 4 greatest) (operations turns_of_a_mailbox) ≡ replies turns_of_a_mailbox
+unfolding steps
+turn_ends_at_another_or_a_repeat = refl
+
+-- While a turn of a grain runs no other begins; after a deactivation, and after a commit that is answered
+-- Closed, the next one does.
+abbrev turn_after_turn : List Entry
+turn_after_turn =
+    Subscribe (stream "o" "k") (grain "g" "x") Latest ⇒ reply.Subscribed 1
+    ∷ Subscribe (stream "o" "k") (grain "g" "x") Latest ⇒ reply.Subscribed 2
+    ∷ Publish (stream "o" "k") (batch "a") ⇒ reply.Published 0
+    ∷ Pull 0 32 ⇒ reply.Pulled 1 (token 0 0) (token 1 0)
+    ∷ Deliver 0 (Explicit 1) ⇒ reply.Delivered (token 0 0)
+    ∷ Begin (grain "g" "x") 1 ⇒ reply.Turn (Explicit 1) 1 1 (event (stream "o" "k") (token 0 0) "a" ∷ []) 0
+    ∷ Begin (grain "g" "x") 1 ⇒ reply.Busy
+    ∷ Deactivate (grain "g" "x") ⇒ reply.Deactivated 1
+    ∷ Deliver 0 (Explicit 1) ⇒ reply.Delivered (token 0 0)
+    ∷ Begin (grain "g" "x") 1 ⇒ reply.Turn (Explicit 1) 2 2 (event (stream "o" "k") (token 0 0) "a" ∷ []) 0
+    ∷ Unsubscribe (Explicit 1) ⇒ reply.Unsubscribed 0
+    ∷ Deliver 0 (Explicit 2) ⇒ reply.Delivered (token 0 0)
+    ∷ Begin (grain "g" "x") 1 ⇒ reply.Busy
+    ∷ Commit (grain "g" "x") 2 2 1 ⇒ reply.Closed
+    ∷ Begin (grain "g" "x") 1 ⇒ reply.Turn (Explicit 2) 2 3 (event (stream "o" "k") (token 0 0) "a" ∷ []) 0
+    ∷ []
+
+pub turn_begins_after_the_last : replies_of (empty 4 greatest) (operations turn_after_turn) ≡ replies turn_after_turn
+unfolding steps
+turn_begins_after_the_last = refl
+
+-- Of the operations on a mailbox, the tokens that were published rise within a batch and from one to the next, and the
+-- cache reaches from the first of them to the last. Before the first operation it is empty, and a cache of
+-- one block may have all its 64 events.
+pub cache_reaches_what_was_published :
+    (map (λ (published : Event). published.token) (published_events (reverse turns_of_a_mailbox)) ≡ token 0 0 ∷ token 0 1 ∷ token 0 2 ∷ token 1 0 ∷ [])
+    × ((after (empty 4 greatest) turns_of_a_mailbox).low ≡ 0)
+    × ((after (empty 4 greatest) turns_of_a_mailbox).high ≡ length (published_events (reverse turns_of_a_mailbox)))
+    × ((empty 4 greatest).low ≡ (empty 4 greatest).high)
+    × ((after (empty 1 greatest) full_cache).high - (after (empty 1 greatest) full_cache).low ≡ 64)
+unfolding steps
+cache_reaches_what_was_published = (refl, refl, refl, refl, refl)

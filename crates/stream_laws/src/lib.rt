@@ -6,12 +6,23 @@
 #![tactic(auto)]
 
 ghost use Rattle.stream_laws.specs.DrainLaws.{DrainEnds, DrainStands, DrainedIsQuiet, DrainedTurns};
-ghost use Rattle.stream_laws.specs.Laws.{CommitsBegun, CommittedOnce, DropsAreLeast, HandledInOrder, LogIsPublished, MissesBelowLow, NoneAfterClose, OwedIsKept, PurgesAreLeast, QuietIsDone, QuietOwesNoOther, RecordsAgree, TurnsInOrder};
+ghost use Rattle.stream_laws.specs.Laws.{CacheInBounds, CommitsBegun, CommittedOnce, DropsAreLeast, FrontsAreLegal, HandledInOrder, HistoriesGrow, LatestIsNeverMissed, LogIsPublished, MissesBelowLow, NamesDiffer, NoneAfterClose, NoneTwice, NumbersAreNew, OneHistory, OneTurnAtATime, OwedIsKept, PurgesAreLeast, QuietIsDone, QuietOwesNoOther, RecordsAgree, RecordsAreOpen, TokensRise, TurnsAreLongest, TurnsInOrder, UnknownHasNoRecord};
+
+/// What every legal history promises, in one: each subscription handles what it is owed in order, no event
+/// twice and none after its unsubscribe, and a start token is refused exactly where it is below the low token.
+pub fn one_history()
+    ensures { OneHistory }
+{}
 
 /// What a subscription has handled is a prefix of what it is owed: in the order of the queue, without a
 /// gap, nothing twice.
 pub fn handled_in_order()
     ensures { HandledInOrder }
+{}
+
+/// Along what a subscription is owed, and along what it has handled, tokens rise: no event is there twice.
+pub fn none_twice()
+    ensures { NoneTwice }
 {}
 
 /// What a subscription has handled stays as it is once it is unsubscribed.
@@ -34,9 +45,26 @@ pub fn turns_in_order()
     ensures { TurnsInOrder }
 {}
 
+/// One turn of a grain runs at a time: between the begins of two the first of them is ended, by its commit or
+/// by a deactivation of the grain.
+pub fn one_turn_at_a_time()
+    ensures { OneTurnAtATime }
+{}
+
+/// A turn is the longest front of the mailbox that may be one: at most 16 events and no more than were asked
+/// for, all of one subscription, at positions that rise.
+pub fn turns_are_longest()
+    ensures { TurnsAreLongest }
+{}
+
 /// The log is what was published.
 pub fn log_is_published()
     ensures { LogIsPublished }
+{}
+
+/// Tokens rise along what was published, so that no two events of a partition have one token.
+pub fn tokens_rise()
+    ensures { TokensRise }
 {}
 
 /// The handled positions of a record are those of the handled events, and its stream and start are what
@@ -45,9 +73,42 @@ pub fn records_agree()
     ensures { RecordsAgree }
 {}
 
+/// A record is open exactly where its subscription isn't unsubscribed, and its note is that of the last
+/// commit.
+pub fn records_are_open()
+    ensures { RecordsAreOpen }
+{}
+
+/// No two records have one name, and no two grains.
+pub fn names_differ()
+    ensures { NamesDiffer }
+{}
+
+/// An explicit name has a record exactly where a subscribe was answered with its number; without one it is
+/// owed nothing and has handled nothing.
+pub fn unknown_has_no_record()
+    ensures { UnknownHasNoRecord }
+{}
+
+/// No number of a subscription is given twice.
+pub fn numbers_are_new()
+    ensures { NumbersAreNew }
+{}
+
 /// A start token is refused exactly where it is below the low token that was told last.
 pub fn misses_below_low()
     ensures { MissesBelowLow }
+{}
+
+/// A subscribe from the latest on is never a miss.
+pub fn latest_is_never_missed()
+    ensures { LatestIsNeverMissed }
+{}
+
+/// The cache begins no later than it ends, ends no later than what was published, and has no more events than
+/// its blocks hold.
+pub fn cache_in_bounds()
+    ensures { CacheInBounds }
 {}
 
 /// What an open subscription is owed and hasn't handled isn't below the low token.
@@ -74,6 +135,17 @@ pub fn drops_are_least()
 /// needs.
 pub fn purges_are_least()
     ensures { PurgesAreLeast }
+{}
+
+/// What comes after a legal history goes on with it: later entries, or operations that were run with their
+/// replies.
+pub fn histories_grow()
+    ensures { HistoriesGrow }
+{}
+
+/// A front of a legal history is legal, and the rest of it leads on from what the front leaves.
+pub fn fronts_are_legal()
+    ensures { FrontsAreLegal }
 {}
 
 /// A drain ends, and no reply on its way is another than those that it looks for.
