@@ -1,0 +1,14 @@
+use Rattle.shared_partition.specs.Partitions.{after, replied}
+use Rattle.shared_partition.proofs.Legal.{seen-legal}
+use Rattle.shared_partition.proofs.Partitions.{legal-leaves, legal-tells}
+use Rattle.shared_partition.proofs.partition.SharedPartition.call.Goals as goal
+
+pub returns-clause-headline : goal.returns-clause-headline
+returns-clause-headline g c =
+    legal-tells c.args.turnstile.now.start _ c.one_history.ensures c.requires.empty
+    (seen-legal replied after c.args.turnstile.now.start c.args.pass.now c.args.op c.call.result c.call.new.pass.seen c.call.ensures.call)
+
+pub returns-clause-stands : goal.returns-clause-stands
+returns-clause-stands g c =
+    legal-leaves c.args.turnstile.now.start _
+    (seen-legal replied after c.args.turnstile.now.start c.args.pass.now c.args.op c.call.result c.call.new.pass.seen c.call.ensures.call)

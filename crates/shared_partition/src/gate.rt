@@ -1,0 +1,36 @@
+//! What a program adds to the calls of a partition.
+ghost use Rattle.std.specs.Prelude.{◌≡◌, ◌+◌, ◌-◌, ◌^◌, min};
+
+use stream_ident::{Event, SubName, Token};
+
+/// What a program does beside the operations of its partitions.
+///
+/// No contract says when `inside` and `done` are called, or how often.
+pub trait Gate: Send + Sync + Drop {
+    /// Is called in the turn of each call, before its operation is applied to the partition of this queue. All
+    /// other calls of that partition wait until it returns.
+    fn inside(&self, queue: usize);
+
+    /// Handles an event, and gives the note that follows. It runs while no turn is held.
+    fn handle(&self, sub: &SubName, event: &Event, note: u64) -> u64;
+
+    /// Is called once after each commit, with the token of the last event of its turn.
+    fn done(&self, sub: &SubName, token: Token);
+}
+
+/// A gate that counts the events of each subscription in its notes, and does nothing else.
+#[derive(Clone, Copy, Debug, PartialEq, Eq)]
+pub struct Counting;
+
+impl Gate for Counting {
+    fn inside(&self, _queue: usize) {}
+
+    /// The next number, and at the greatest one the number itself.
+    fn handle(&self, _sub: &SubName, _event: &Event, note: u64) -> u64
+        ensures { result ≡ min (note + 1) (2 ^ 64 - 1) }
+    {
+        note.saturating_add(1)
+    }
+
+    fn done(&self, _sub: &SubName, _token: Token) {}
+}
