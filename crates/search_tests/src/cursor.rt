@@ -72,7 +72,7 @@ fn push_mixed(
     streams: &[StreamId],
     count: usize,
 ) -> Result<(), Fail> {
-    assert!(rt; streams.len() == 4);
+    assert!(rt; streams.len() >= 4);
     for _ in 0..count {
         let stream = streams[random.below(4)];
         let mixed = event(stream, random.below(6) as u64, random.below(3) as u32)?;
@@ -117,23 +117,58 @@ fn check_lower(rt: &impl Abort, cache: &QueueCache, token: &Token) {
     assert!(rt; lower(cache, token) == wanted);
 }
 
-/// Caches of every kind: empty, with a part of a block, with whole ones, and after some turns of the ring.
+/// From each position, against walks, for each of these streams and for tokens early and late.
+fn check_all(rt: &impl Abort, cache: &QueueCache, streams: &[StreamId]) {
+    for (seq, idx) in [(0, 0), (2, 1), (5, 2), (6, 0)] {
+        let token = Token { seq, idx };
+        check_lower(rt, cache, &token);
+        for stream in streams {
+            check_next(rt, cache, stream, &token);
+        }
+    }
+}
+
+/// Caches of every kind: empty, with a part of a block, with whole ones, and after some turns of the ring. The
+/// last stream has no event.
 #[test]
 fn caches_as_plain_walks_have_them(rt: HostRuntime) -> Result<(), Fail> {
     let (first, second) = streams_of_one_tag()?;
-    let streams = [first, second, stream(300)?, stream(301)?];
+    let streams = [first, second, stream(300)?, stream(301)?, stream(302)?];
     let mut random = Random::new(1);
     for count in [0, 1, 63, 64, 65, 150, 192, 193, 400] {
         let mut cache = new_cache(rt.alloc())?;
         push_mixed(&rt, &mut cache, &mut random, &streams, count)?;
-        for (seq, idx) in [(0, 0), (2, 1), (5, 2), (6, 0)] {
-            let token = Token { seq, idx };
-            check_lower(&rt, &cache, &token);
-            for stream in &streams {
-                check_next(&rt, &cache, stream, &token);
-            }
-            check_next(&rt, &cache, &stream(302)?, &token);
-        }
+        check_all(&rt, &cache, &streams);
+    }
+    Ok(())
+}
+
+/// The next event of a stream from a position on, not before batch 191 and a place in it, is this one.
+fn expect_next(
+    rt: &impl Abort,
+    cache: &QueueCache,
+    stream: &StreamId,
+    rows: &[(usize, u32, Option<usize>)],
+) {
+    let tag = tag(stream);
+    assert!(rt; cache.low() == 10);
+    for (from, idx, wanted) in rows {
+        assert!(rt; cache.low() <= *from);
+        let start = Token {
+            seq: 191,
+            idx: *idx,
+        };
+        assert!(rt;
+            next(cache, *from, stream, tag, &start) == *wanted,
+            "from {from}"
+        );
+    }
+}
+
+/// The events of one stream fill three blocks but for one place.
+fn fill(rt: &impl Abort, cache: &mut QueueCache, stream: StreamId) -> Result<(), Fail> {
+    for seq in 0..191 {
+        push(rt, cache, event(stream, seq, 0)?);
     }
     Ok(())
 }
@@ -142,24 +177,14 @@ fn caches_as_plain_walks_have_them(rt: HostRuntime) -> Result<(), Fail> {
 #[test]
 fn one_among_streams_of_its_tag(rt: HostRuntime) -> Result<(), Fail> {
     let (first, second) = streams_of_one_tag()?;
-    let tag = tag(&first);
     let mut cache = new_cache(rt.alloc())?;
-    for seq in 0..191 {
-        push(&rt, &mut cache, event(second, seq, 0)?);
-    }
-    let start = Token { seq: 191, idx: 4 };
-    assert!(rt; cache.low() == 10);
-    assert_eq!(rt; next(&cache, 10, &first, tag, &start), None);
+    fill(&rt, &mut cache, second)?;
+    expect_next(&rt, &cache, &first, &[(10, 4, None)]);
     push(&rt, &mut cache, event(first, 191, 4)?);
-    assert!(rt; cache.low() == 10);
-    assert_eq!(rt; next(&cache, 10, &first, tag, &start), Some(201));
-    assert_eq!(rt; next(&cache, 202, &first, tag, &start), None);
-    assert_eq!(rt;
-        next(&cache, 10, &first, tag, &Token { seq: 191, idx: 5 }),
-        None
-    );
-    assert_eq!(rt; lower(&cache, &Token { seq: 100, idx: 0 }), 110);
-    assert_eq!(rt; lower(&cache, &start), 201);
-    assert_eq!(rt; lower(&cache, &Token { seq: 192, idx: 0 }), 202);
+    let rows = [(10, 4, Some(201)), (202, 4, None), (10, 5, None)];
+    expect_next(&rt, &cache, &first, &rows);
+    for (seq, idx, wanted) in [(100, 0, 110), (191, 4, 201), (192, 0, 202)] {
+        assert!(rt; lower(&cache, &Token { seq, idx }) == wanted);
+    }
     Ok(())
 }

@@ -1,4 +1,4 @@
-ghost use Rattle.std.specs.Prelude.{◌≡◌, ◌+◌, ◌^◌, ◌<◌, true, IfSome};
+ghost use Rattle.std.specs.Prelude.{◌≡◌, true};
 ghost use Rattle.resume_tree.specs.Leaves.{IsNew};
 
 use crate::random::Random;
@@ -124,20 +124,20 @@ fn next_due(leaves: &[Leaf], after: Option<&SubName>, high: usize) -> Option<Sub
 fn assert_due(rt: &impl Abort, resumes: &Resumes, leaves: &[Leaf], after: Option<&SubName>) {
     for high in [0, 1, 4, 9, usize::MAX] {
         let next = next_due(leaves, after, high);
-        assert_eq!(rt; due_after(resumes, after, high), next, "{high}");
+        assert!(rt; due_after(resumes, after, high) == next, "{high}");
     }
 }
 
 /// Each answer is that of plain loops over the leaves.
 fn assert_agree(rt: &impl Abort, resumes: &Resumes, leaves: &[Leaf], after: SubName) {
     let len = leaves.len();
-    assert_eq!(rt; resumes.len(), len);
-    assert_eq!(rt; resumes.is_empty(), len == 0);
+    assert!(rt; resumes.len() == len);
+    assert!(rt; resumes.is_empty() == (len == 0));
     for number in 0..len {
-        assert_eq!(rt; *resumes.leaf(number), leaves[number], "at {number}");
+        assert!(rt; *resumes.leaf(number) == leaves[number], "at {number}");
     }
-    assert_eq!(rt; resumes.least_resume(), least_resume(leaves));
-    assert_eq!(rt; top(resumes), slowest(leaves));
+    assert!(rt; resumes.least_resume() == least_resume(leaves));
+    assert!(rt; top(resumes) == slowest(leaves));
     assert_due(rt, resumes, leaves, None);
     assert_due(rt, resumes, leaves, Some(&after));
 }
@@ -176,11 +176,15 @@ fn set(
     number: usize,
     resume: Option<usize>,
     is_unacknowledged: bool,
-)
-    requires { IfSome resume (λ position. position + 2 < 2 ^ 64) }
-{
+) {
     assert!(rt; number < resumes.len());
-    resumes.set(number, resume, is_unacknowledged);
+    match resume {
+        None => resumes.set(number, None, is_unacknowledged),
+        Some(resume) => {
+            assert!(rt; resume < usize::MAX - 1);
+            resumes.set(number, Some(resume), is_unacknowledged);
+        }
+    }
 }
 
 /// Open leaves with these names, in this order, and one resume.
@@ -199,124 +203,160 @@ fn made(
     Ok(resumes)
 }
 
-#[test]
-fn agrees_with_plain_loops(rt: HostRuntime) -> Result<(), Fail> {
-    let alloc = rt.alloc();
+/// Changes any leaf of both.
+fn change(rt: &impl Abort, resumes: &mut Resumes, leaves: &mut [Leaf], random: &mut Random) {
+    let len = leaves.len();
+    assert!(rt; len > 0);
+    let number = random.below(len);
+    let resume = random.below(12);
+    let resume = if resume < 9 { Some(resume) } else { None };
+    let is_unacknowledged = random.below(4) == 0;
+    set(rt, resumes, number, resume, is_unacknowledged);
+    leaves[number].resume = resume;
+    leaves[number].is_unacknowledged = is_unacknowledged;
+}
+
+/// Adds, changes and takes back leaves of both, as they come.
+fn vary(
+    rt: &impl Abort,
+    alloc: Global,
+    resumes: &mut Resumes,
+    leaves: &mut Vec<Leaf>,
+    random: &mut Random,
+) -> Result<(), Fail> {
     let (one, other) = (Name::new(b"a")?, Name::new(b"b")?);
-    let mut resumes = Resumes::new(alloc);
-    let mut leaves = Vec::new(alloc);
-    let mut random = Random::new(7);
     for _step in 0..150 {
-        let name = any_name(&mut random, one, other);
-        if is_new(&resumes, &name) {
-            push(&rt, alloc, &mut resumes, &mut leaves, name, random.below(9))?;
+        let name = any_name(random, one, other);
+        if is_new(resumes, &name) {
+            push(rt, alloc, resumes, leaves, name, random.below(9))?;
         }
-        let len = leaves.len();
-        assert!(rt; len > 0);
-        let number = random.below(len);
-        let resume = random.below(12);
-        let resume = if resume < 9 { Some(resume) } else { None };
-        let is_unacknowledged = random.below(4) == 0;
-        set(&rt, &mut resumes, number, resume, is_unacknowledged);
-        leaves[number].resume = resume;
-        leaves[number].is_unacknowledged = is_unacknowledged;
-        assert_agree(
-            &rt,
-            &resumes,
-            leaves.as_slice(),
-            any_name(&mut random, one, other),
-        );
+        change(rt, resumes, leaves.as_mut_slice(), random);
+        let after = any_name(random, one, other);
+        assert_agree(rt, resumes, leaves.as_slice(), after);
         if random.below(8) == 0 {
+            let len = leaves.len();
             let kept = random.below(len + 1);
             resumes.truncate(kept);
             leaves.truncate(kept);
-            assert_agree(
-                &rt,
-                &resumes,
-                leaves.as_slice(),
-                any_name(&mut random, one, other),
-            );
+            let after = any_name(random, one, other);
+            assert_agree(rt, resumes, leaves.as_slice(), after);
         }
     }
     Ok(())
 }
 
 #[test]
-fn ties_go_to_the_least_name(rt: HostRuntime) -> Result<(), Fail> {
+fn agrees_with_plain_loops(rt: HostRuntime) -> Result<(), Fail> {
     let alloc = rt.alloc();
+    let mut resumes = Resumes::new(alloc);
+    let mut leaves = Vec::new(alloc);
+    vary(&rt, alloc, &mut resumes, &mut leaves, &mut Random::new(7))
+}
+
+#[test]
+fn ties_go_to_the_least_name(rt: HostRuntime) -> Result<(), Fail> {
     let three = SubName::Explicit(3);
     let ten = SubName::Explicit(10);
     let a = implicit(Name::new(b"a")?);
     let b = implicit(Name::new(b"b")?);
-    let rising = made(&rt, alloc, [three, ten, a, b].as_slice(), 4)?;
-    assert_eq!(rt; rising.top(), Some(0));
-    let falling = made(&rt, alloc, [b, a, ten, three].as_slice(), 4)?;
-    assert_eq!(rt; falling.top(), Some(3));
-    let mixed = made(&rt, alloc, [b, ten, a].as_slice(), 4)?;
-    assert_eq!(rt; mixed.top(), Some(1));
-    let implied = made(&rt, alloc, [b, a].as_slice(), 4)?;
-    assert_eq!(rt; implied.top(), Some(1));
-    assert_eq!(rt; implied.least_resume(), Some(4));
+    for (names, top) in [
+        ([three, ten, a, b].as_slice(), 0),
+        ([b, a, ten, three].as_slice(), 3),
+        ([b, ten, a].as_slice(), 1),
+        ([b, a].as_slice(), 1),
+    ] {
+        let resumes = made(&rt, rt.alloc(), names, 4)?;
+        assert!(rt; resumes.top() == Some(top) && resumes.least_resume() == Some(4));
+    }
     Ok(())
 }
 
+/// Three explicit names.
+const THREE: [SubName; 3] = [
+    SubName::Explicit(1),
+    SubName::Explicit(2),
+    SubName::Explicit(3),
+];
+
+/// A number, its new resume and whether it is unacknowledged. Then the slowest, the least resume, and which is
+/// due below 10 and below 6.
+type Change = (
+    usize,
+    Option<usize>,
+    bool,
+    Option<usize>,
+    Option<usize>,
+    [Option<usize>; 2],
+);
+
+const CHANGES: [Change; 5] = [
+    (0, None, true, Some(1), Some(5), [Some(1), Some(1)]),
+    (1, Some(6), false, Some(2), Some(5), [Some(1), Some(2)]),
+    (2, Some(7), false, Some(1), Some(6), [Some(1), None]),
+    (1, None, false, Some(2), Some(7), [Some(2), None]),
+    (2, None, true, None, None, [None, None]),
+];
+
 #[test]
 fn closed_ones_are_passed_over(rt: HostRuntime) -> Result<(), Fail> {
-    let alloc = rt.alloc();
-    let names = [
-        SubName::Explicit(1),
-        SubName::Explicit(2),
-        SubName::Explicit(3),
-    ];
-    let mut resumes = made(&rt, alloc, names.as_slice(), 5)?;
-    set(&rt, &mut resumes, 0, None, true);
-    set(&rt, &mut resumes, 1, Some(6), false);
-    set(&rt, &mut resumes, 2, Some(7), false);
-    assert_eq!(rt; resumes.top(), Some(1));
-    assert_eq!(rt; resumes.least_resume(), Some(6));
-    assert_eq!(rt; resumes.due_after(None, 10), Some(1));
-    assert_eq!(rt; resumes.due_after(None, 6), None);
-    set(&rt, &mut resumes, 1, None, false);
-    assert_eq!(rt; resumes.top(), Some(2));
-    set(&rt, &mut resumes, 2, None, true);
-    assert_eq!(rt; resumes.top(), None);
-    assert_eq!(rt; resumes.least_resume(), None);
-    assert_eq!(rt; resumes.due_after(None, 10), None);
+    let mut resumes = made(&rt, rt.alloc(), THREE.as_slice(), 5)?;
+    for (number, resume, is_unacknowledged, top, least, due) in CHANGES {
+        set(&rt, &mut resumes, number, resume, is_unacknowledged);
+        assert!(rt; resumes.top() == top && resumes.least_resume() == least);
+        assert!(rt; [resumes.due_after(None, 10), resumes.due_after(None, 6)] == due);
+    }
     Ok(())
+}
+
+/// After each name and below each position this one is due.
+fn expect_due(
+    rt: &impl Abort,
+    resumes: &Resumes,
+    rows: &[(Option<SubName>, usize, Option<usize>)],
+) {
+    for (after, high, due) in rows {
+        assert!(rt;
+            resumes.due_after(after.as_ref(), *high) == *due,
+            "below {high}"
+        );
+    }
 }
 
 #[test]
 fn due_ones_go_round(rt: HostRuntime) -> Result<(), Fail> {
-    let alloc = rt.alloc();
     let two = SubName::Explicit(2);
     let four = SubName::Explicit(4);
     let a = implicit(Name::new(b"a")?);
-    let resumes = made(&rt, alloc, [a, four, two].as_slice(), 5)?;
-    assert_eq!(rt; resumes.due_after(None, 6), Some(2));
-    assert_eq!(rt; resumes.due_after(Some(&two), 6), Some(1));
-    assert_eq!(rt; resumes.due_after(Some(&SubName::Explicit(3)), 6), Some(1));
-    assert_eq!(rt; resumes.due_after(Some(&four), 6), Some(0));
-    assert_eq!(rt; resumes.due_after(Some(&a), 6), Some(2));
-    assert_eq!(rt; resumes.due_after(Some(&a), 5), None);
+    let resumes = made(&rt, rt.alloc(), [a, four, two].as_slice(), 5)?;
+    let rows = [
+        (None, 6, Some(2)),
+        (Some(two), 6, Some(1)),
+        (Some(SubName::Explicit(3)), 6, Some(1)),
+        (Some(four), 6, Some(0)),
+        (Some(a), 6, Some(2)),
+        (Some(a), 5, None),
+    ];
+    expect_due(&rt, &resumes, &rows);
     Ok(())
 }
 
+const UNACKNOWLEDGED: [(Option<SubName>, usize, Option<usize>); 3] = [
+    (None, 0, Some(1)),
+    (Some(SubName::Explicit(2)), 0, Some(1)),
+    (Some(SubName::Explicit(2)), 6, Some(2)),
+];
+
 #[test]
 fn unacknowledged_ones_are_due_at_once(rt: HostRuntime) -> Result<(), Fail> {
-    let alloc = rt.alloc();
-    let names = [
-        SubName::Explicit(1),
-        SubName::Explicit(2),
-        SubName::Explicit(3),
-    ];
-    let mut resumes = made(&rt, alloc, names.as_slice(), 5)?;
-    assert_eq!(rt; resumes.due_after(None, 0), None);
+    let mut resumes = made(&rt, rt.alloc(), THREE.as_slice(), 5)?;
+    expect_due(&rt, &resumes, &[(None, 0, None)]);
     set(&rt, &mut resumes, 1, Some(usize::MAX - 2), true);
-    assert_eq!(rt; resumes.due_after(None, 0), Some(1));
-    assert_eq!(rt; resumes.due_after(Some(&SubName::Explicit(2)), 0), Some(1));
-    assert_eq!(rt; resumes.due_after(Some(&SubName::Explicit(2)), 6), Some(2));
+    expect_due(&rt, &resumes, &UNACKNOWLEDGED);
     resumes.truncate(1);
-    assert_eq!(rt; resumes.due_after(None, 0), None);
-    assert_eq!(rt; resumes.due_after(None, usize::MAX), Some(0));
+    expect_due(
+        &rt,
+        &resumes,
+        &[(None, 0, None), (None, usize::MAX, Some(0))],
+    );
     Ok(())
 }

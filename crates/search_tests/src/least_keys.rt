@@ -1,0 +1,239 @@
+ghost use Rattle.std.specs.Prelude.{◌+◌, ◌^◌, ◌<◌, ◌≤◌, length, IfSome};
+
+use crate::random::Random;
+use least_tree::LeastTree;
+use std::alloc::{AllocError, Global};
+use std::process::Abort;
+use std::test::Fail;
+
+/// None, or one of a few keys, so that many are equal.
+fn any_key(random: &mut Random) -> Option<usize>
+    ensures { IfSome result (λ k. k + 1 < 2 ^ 64) }
+{
+    let key = random.below(9);
+    if key < 7 { Some(key) } else { None }
+}
+
+fn first_at_most(keys: &[Option<usize>], from: usize, bound: usize) -> Option<usize> {
+    for (place, key) in keys.iter().enumerate() {
+        if let Some(key) = key {
+            if place >= from && *key <= bound {
+                return Some(place);
+            }
+        }
+    }
+    None
+}
+
+fn least_key(keys: &[Option<usize>]) -> Option<usize> {
+    let mut least = None;
+    for key in keys {
+        match (least, *key) {
+            (None, key) => least = key,
+            (Some(old), Some(new)) if new < old => least = Some(new),
+            _ => {}
+        }
+    }
+    least
+}
+
+fn least_place(keys: &[Option<usize>]) -> Option<usize> {
+    match least_key(keys) {
+        None => None,
+        Some(least) => first_at_most(keys, 0, least),
+    }
+}
+
+/// Each answer of a tree is that of plain loops over its keys.
+fn assert_agree(rt: &impl Abort, tree: &LeastTree, keys: &[Option<usize>], random: &mut Random) {
+    let len = keys.len();
+    assert_eq!(rt; tree.len(), len);
+    assert_eq!(rt; tree.is_empty(), len == 0);
+    for place in 0..len {
+        assert!(rt; tree.get(place) == keys[place], "at {place}");
+    }
+    assert!(rt; tree.least_key() == least_key(keys));
+    assert!(rt; tree.least() == least_place(keys));
+    for bound in [0, 1, 3, 6, usize::MAX] {
+        for from in [0, len / 2, len, random.below(len + 1), usize::MAX] {
+            let place = first_at_most(keys, from, bound);
+            assert!(rt;
+                tree.first_at_most(from, bound) == place,
+                "from {from}, {bound}"
+            );
+        }
+    }
+}
+
+/// Inserts a key. Where memory is wanting the tree is as before, and it is tried once more.
+fn insert(
+    rt: &impl Abort,
+    alloc: Global,
+    tree: &mut LeastTree,
+    place: usize,
+    key: Option<usize>,
+) -> Result<(), AllocError>
+    requires { IfSome key (λ k. k + 1 < 2 ^ 64) }
+{
+    let (len, least, first) = (tree.len(), tree.least(), tree.first_at_most(0, 4));
+    assert!(rt; place <= len);
+    if tree.insert(alloc, place, key).is_ok() {
+        return Ok(());
+    }
+    assert_eq!(rt; tree.len(), len);
+    assert!(rt; tree.least() == least);
+    assert!(rt; tree.first_at_most(0, 4) == first);
+    tree.insert(alloc, place, key)
+}
+
+/// Inserts any key at a place, into a tree and into a list.
+fn insert_any(
+    rt: &impl Abort,
+    alloc: Global,
+    tree: &mut LeastTree,
+    keys: &mut Vec<Option<usize>>,
+    random: &mut Random,
+    place: usize,
+) -> Result<(), AllocError> {
+    let key = any_key(random);
+    insert(rt, alloc, tree, place, key)?;
+    if keys.reserve(1).is_err() {
+        keys.reserve(1)?;
+    }
+    assert!(rt; place <= keys.len());
+    keys.insert(place, key)?;
+    Ok(())
+}
+
+/// Sets the key of any place, in a tree and in a list.
+fn set_any(
+    rt: &impl Abort,
+    tree: &mut LeastTree,
+    keys: &mut Vec<Option<usize>>,
+    random: &mut Random,
+) {
+    assert!(rt; 0 < keys.len());
+    let place = random.below(keys.len());
+    let key = any_key(random);
+    assert!(rt; place < tree.len());
+    tree.set(place, key);
+    keys[place] = key;
+}
+
+/// Inserts and sets keys, as they come.
+fn grow(
+    rt: &impl Abort,
+    alloc: Global,
+    tree: &mut LeastTree,
+    keys: &mut Vec<Option<usize>>,
+    random: &mut Random,
+) -> Result<(), Fail> {
+    for size in 0..70 {
+        assert_agree(rt, tree, keys.as_slice(), random);
+        let place = match random.below(4) {
+            0 => 0,
+            1 => random.below(size + 1),
+            _ => size,
+        };
+        insert_any(rt, alloc, tree, keys, random, place)?;
+        set_any(rt, tree, keys, random);
+    }
+    assert_agree(rt, tree, keys.as_slice(), random);
+    Ok(())
+}
+
+#[test]
+fn agrees_with_plain_loops(rt: HostRuntime) -> Result<(), Fail> {
+    let alloc = rt.alloc();
+    let mut tree = LeastTree::new(alloc);
+    let mut keys = Vec::new(alloc);
+    grow(&rt, alloc, &mut tree, &mut keys, &mut Random::new(7))
+}
+
+/// From each place on, the first key at most as great as a bound is here.
+fn expect_first(
+    rt: &impl Abort,
+    tree: &LeastTree,
+    least: Option<(usize, usize)>,
+    rows: &[(usize, usize, Option<usize>)],
+) {
+    let (place, key) = match least {
+        None => (None, None),
+        Some((place, key)) => (Some(place), Some(key)),
+    };
+    assert!(rt; tree.least() == place && tree.least_key() == key);
+    for (from, bound, wanted) in rows {
+        assert!(rt;
+            tree.first_at_most(*from, *bound) == *wanted,
+            "from {from}, {bound}"
+        );
+    }
+}
+
+#[test]
+fn equal_keys_give_the_first_place(rt: HostRuntime) -> Result<(), Fail> {
+    let alloc = rt.alloc();
+    let mut tree = LeastTree::new(alloc);
+    for key in [Some(4), Some(2), None, Some(2), Some(2)] {
+        insert(&rt, alloc, &mut tree, 0, key)?;
+    }
+    let rows = [(2, 2, Some(3)), (4, 3, None), (4, 4, Some(4))];
+    expect_first(&rt, &tree, Some((0, 2)), &rows);
+    Ok(())
+}
+
+#[test]
+fn no_key_is_found_among_none(rt: HostRuntime) -> Result<(), Fail> {
+    let alloc = rt.alloc();
+    let mut tree = LeastTree::new(alloc);
+    for _place in 0..5 {
+        expect_first(&rt, &tree, None, &[(0, usize::MAX, None)]);
+        insert(&rt, alloc, &mut tree, 0, None)?;
+    }
+    insert(&rt, alloc, &mut tree, 5, Some(usize::MAX - 1))?;
+    let rows = [(0, usize::MAX - 2, None), (0, usize::MAX, Some(5))];
+    expect_first(&rt, &tree, Some((5, usize::MAX - 1)), &rows);
+    Ok(())
+}
+
+/// Removes the key of any place, from a tree and from a list.
+fn remove_any(
+    rt: &impl Abort,
+    tree: &mut LeastTree,
+    keys: &mut Vec<Option<usize>>,
+    random: &mut Random,
+) {
+    assert!(rt; 0 < keys.len());
+    let place = random.below(keys.len());
+    assert!(rt; place < tree.len());
+    tree.remove(place);
+    keys.remove(place);
+    assert_agree(rt, tree, keys.as_slice(), random);
+}
+
+/// Inserts forty keys, and removes them.
+fn grow_and_shrink(
+    rt: &impl Abort,
+    alloc: Global,
+    tree: &mut LeastTree,
+    keys: &mut Vec<Option<usize>>,
+    random: &mut Random,
+) -> Result<(), Fail> {
+    for size in 0..40 {
+        let place = random.below(size + 1);
+        insert_any(rt, alloc, tree, keys, random, place)?;
+    }
+    for _left in 0..40 {
+        remove_any(rt, tree, keys, random);
+    }
+    assert!(rt; tree.is_empty());
+    Ok(())
+}
+
+#[test]
+fn removed_places_close_up(rt: HostRuntime) -> Result<(), Fail> {
+    let alloc = rt.alloc();
+    let mut tree = LeastTree::new(alloc);
+    let mut keys = Vec::new(alloc);
+    grow_and_shrink(&rt, alloc, &mut tree, &mut keys, &mut Random::new(11))
+}
