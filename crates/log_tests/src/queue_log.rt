@@ -31,7 +31,7 @@ fn compare(rt: &impl Abort, queue: &PartitionQueue, twin: &PartitionQueue) {
     assert_eq!(rt; queue.between(0, queue.len()), twin.between(0, twin.len()));
 }
 
-/// What became of a batch in a queue and in its twin. Where memory is wanting the queue is as it was, and
+/// What became of a batch in a queue and in its twin. Where it fails to allocate the queue is as it was, and
 /// the same call again gives the reply of the twin.
 fn told(
     rt: &impl Abort,

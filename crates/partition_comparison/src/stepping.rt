@@ -29,7 +29,7 @@ pub fn step_partition(
     compare_looks(place, partition, reference)?;
     let reply = partition.step(alloc, op.copy(alloc)?)?;
     if !takes_memory(op) || !keeps_more(&reply) {
-        return Err(place.difference(&"memory was wanting", &reply));
+        return Err(place.difference(&"it failed to allocate", &reply));
     }
     Ok(reply)
 }

@@ -65,7 +65,7 @@ fn assert_agree(rt: &impl Abort, tree: &LeastTree, keys: &[Option<usize>], rando
     }
 }
 
-/// Inserts a key. Where memory is wanting the tree is as before, and it is tried once more.
+/// Inserts a key. Where that fails to allocate the tree is as before, and it is tried once more.
 fn insert(
     rt: &impl Abort,
     alloc: Global,

@@ -142,7 +142,7 @@ fn assert_agree(rt: &impl Abort, resumes: &Resumes, leaves: &[Leaf], after: SubN
     assert_due(rt, resumes, leaves, Some(&after));
 }
 
-/// Adds to both. Where memory is wanting all is as before, and it is tried once more.
+/// Adds to both. Where that fails to allocate all is as before, and it is tried once more.
 fn push(
     rt: &impl Abort,
     alloc: Global,

@@ -46,7 +46,7 @@ fn compare(rt: &impl Abort, one: &SubscriptionTable, twin: &SubscriptionTable) {
     }
 }
 
-/// Makes a call, again where memory was wanting: the table is then like another one.
+/// Makes a call, and makes it again where it failed to allocate: the table is then like another one.
 fn insist(
     rt: &impl Abort,
     alloc: Global,
@@ -103,14 +103,19 @@ fn change_both(
     Ok(())
 }
 
+/// Two new tables stay alike over a log.
+fn keep_alike(rt: &impl Abort, alloc: Global, log: &Log) -> Result<(), AllocError> {
+    let mut one = Counted::new(alloc, 40, 3);
+    let mut twin = Counted::new(alloc, 40, 3);
+    change_both(rt, alloc, log, &mut one, &mut twin)
+}
+
 /// With any one allocation refused, two tables stay alike. The second is one call behind when the first is
 /// called, and so shows that a refused call left all as it was. Run it with each allocation failing in turn.
 #[test]
 fn one_allocation_refused(rt: HostRuntime) -> Result<(), Fail> {
     let alloc = rt.alloc();
     let log = sixteen(&rt, alloc);
-    let mut one = Counted::new(alloc, 40, 3);
-    let mut twin = Counted::new(alloc, 40, 3);
-    change_both(&rt, alloc, &log, &mut one, &mut twin)?;
+    keep_alike(&rt, alloc, &log)?;
     Ok(())
 }
