@@ -300,7 +300,7 @@ fn compare<R: Abort>(rt: &R, one: &GrainTable, twin: &GrainTable) -> Result<(), 
     Ok(())
 }
 
-// Adds the grain with a key, and adds it again where that failed to allocate: the table is then like another one.
+// Adds the grain with a key, and again where that failed to allocate: the table is then like another one.
 fn insist<R: Abort>(
     rt: &R,
     alloc: Global,
