@@ -31,9 +31,6 @@ module _ {S O R : Type 0} (reply : S → O → R) (after : S → O → S) where
     pub state : t ≡ replay reply after s (take k (answered qs rs))
     pub legal : IsLegal reply after t (drop k (answered qs rs))
 
-  pub again_first : (s : S) (qs : List (Asked O)) (rs : List R) → IsLegal reply after s (answered qs rs) → Again s qs rs 0 [] s
-  again_first s qs rs legal = record { replies = refl; state = refl; legal = legal }
-
   -- one more is done
   pub again_next : (s : S) (qs : List (Asked O)) (rs : List R) (k : ℕ) (a : Asked O) (got : List R) (t : S) → length qs ≡ length rs → k < length qs → a ≡ get_or qs k a → Again s qs rs k got t → Again s qs rs (suc k) (got ++ reply t a.op ∷ []) (after t a.op)
   again_next s [] rs k a got t same inside is so_far = absurd (omega (arith, inside))

@@ -1,10 +1,10 @@
 -- All passes joined into one, and what its trace says of each.
-use Rattle.std.proofs.Common.{◌≡◌, ℕ, zero, suc, ◌+◌, ◌<◌, ◌≤◌, All, get_or, set, take, ⊎_elim, inl, inr, List, [], ◌∷◌, ◌++◌, length, max, refl, sym, ap, ◌∙◌, subst, arith, length-append, append_assoc, append-nil}
+use Rattle.std.proofs.Common.{◌≡◌, ℕ, ◌+◌, ◌≤◌, All, get_or, ⊎_elim, inl, inr, List, [], ◌∷◌, ◌++◌, length, max, refl, sym, ap, ◌∙◌, subst, arith, length-append, append_assoc, append-nil}
 use Rattle.std.proofs.Math.ListN.{get_or-append}
 use Rattle.std.proofs.Math.Seq.{get_or-append_seam}
 use Rattle.turnstile.specs.declared.history.Entry.{Entry}
 use Rattle.turnstile.specs.declared.view.Start.{Start}
-use Rattle.turnstile.specs.Calls.{numbers_of, joined_pass, Agree, HasOnlyMade}
+use Rattle.turnstile.specs.Calls.{numbers_of, joined_pass, Agree}
 use Rattle.turnstile.specs.Closing.{Each, HasSome, all_numbers, FirstCounted, Gathered, IsTrace, FromAll}
 use Rattle.turnstile.specs.History.{times, Claims, longer}
 use Rattle.turnstile.specs.Passes.{PassView}
@@ -79,12 +79,6 @@ module _ {O R S : Type 0} where
         most = (omega (arith, made), each_less ps p.made r.made (omega (arith, made)) all.most);
       }
 
-  -- counting the first changes no numbers
-  pub numbers_kept : (ps qs : List (PassView O R S)) (made : ℕ) → FirstCounted ps qs made → all_numbers qs ≡ all_numbers ps
-  numbers_kept [] qs made f = absurd f
-  numbers_kept (p ∷ ps) [] made f = absurd f
-  numbers_kept (p ∷ ps) (q ∷ qs) made f = λ i. numbers_of (f.0.0 i) ++ all_numbers (f.2 i)
-
   -- what is left of the passes, and one that has all that the others had
   pub record Taken (all rest : List (PassView O R S)) (kept : PassView O R S) : Type 0 where
     pub taken : List (PassView O R S)
@@ -104,23 +98,6 @@ module _ {O R S : Type 0} where
   pub taken_all : (all rest : List (PassView O R S)) (kept : PassView O R S) → rest ≡ [] → Taken all rest kept → Gathered all kept
   taken_all all rest kept none so_far =
       subst (λ (l : List (PassView O R S)). Gathered l kept) (sym (so_far.whole ∙ ap (λ (l : List (PassView O R S)). l ++ so_far.taken) none)) so_far.gathered
-
-  -- one more pass is counted
-  pub length_next : (ps : List (PassView O R S)) (k : ℕ) (p : PassView O R S) → k < length ps → p ≡ get_or ps k p → length (all_numbers (take (suc k) ps)) ≡ length (all_numbers (take k ps)) + (1 + length p.joined)
-  length_next [] k p inside is = absurd (omega (arith, inside))
-  length_next (x ∷ ps) zero p inside is =
-      let a : length p.joined ≡ length x.joined = ap (λ (z : PassView O R S). length z.joined) is in
-      let b : length (numbers_of x ++ []) ≡ suc (length x.joined) = ap length (append-nil (numbers_of x)) in
-      omega (arith, a, b)
-  length_next (x ∷ ps) (suc k) p inside is =
-      let h : length (all_numbers (take (suc k) ps)) ≡ length (all_numbers (take k ps)) + (1 + length p.joined) = length_next ps k p (omega (arith, inside)) is in
-      let a : length (numbers_of x ++ all_numbers (take (suc k) ps)) ≡ length (numbers_of x) + length (all_numbers (take (suc k) ps)) = length-append (numbers_of x) (all_numbers (take (suc k) ps)) in
-      let b : length (numbers_of x ++ all_numbers (take k ps)) ≡ length (numbers_of x) + length (all_numbers (take k ps)) = length-append (numbers_of x) (all_numbers (take k ps)) in
-      omega (arith, h, a, b)
-
-  pub first_counted : (ps : List (PassView O R S)) (p q : PassView O R S) → 0 < length ps → p ≡ get_or ps 0 p → HasOnlyMade p q → FirstCounted ps (set ps 0 q) q.made
-  first_counted [] p q some is only = absurd (omega (arith, some))
-  first_counted (x ∷ ps) p q some is only = (subst (λ (z : PassView O R S). HasOnlyMade z q) is only, refl, refl)
 
 module _ {X S O R : Type 0} (reply : S → O → R) (after : S → O → S) (state : X → S) (x : Start S) where
   -- what the trace of one pass says of all that were joined into it
