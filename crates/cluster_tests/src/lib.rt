@@ -1,5 +1,5 @@
 //! Tests of the crates that a cluster is made of beside its partitions, through their public calls: the
-//! turnstile, the directory of activations and the balancer of queues.
+//! turnstile, what is shared through it, the directory of activations and the balancer of queues.
 #![tactic(auto)]
 
 #[cfg(test)]
@@ -8,6 +8,10 @@ mod balancer;
 mod directory;
 #[cfg(test)]
 mod histories;
+#[cfg(test)]
+mod shared;
+#[cfg(test)]
+mod shared_directory;
 #[cfg(test)]
 mod total;
 #[cfg(test)]
