@@ -5,16 +5,17 @@ use stream_ident::{Event, SubName, Token};
 
 /// What a program does beside the operations of its partitions.
 ///
-/// No contract says when `inside` and `done` are called, or how often.
+/// [`SharedPartition::call`](crate::SharedPartition::call) calls `inside` and nothing else; `handle` and `done`
+/// are for whoever runs turns. No contract says when one of them is called, or how often.
 pub trait Gate: Send + Sync + Drop {
     /// Is called in the turn of each call, before its operation is applied to the partition of this queue. All
     /// other calls of that partition wait until it returns.
     fn inside(&self, queue: usize);
 
-    /// Handles an event, and gives the note that follows. It runs while no turn is held.
+    /// Handles an event, and gives the note that follows. It is to run while no turn is held.
     fn handle(&self, sub: &SubName, event: &Event, note: u64) -> u64;
 
-    /// Is called once after each commit, with the token of the last event of its turn.
+    /// Is to be called once after each commit, with the token of the last event of its turn.
     fn done(&self, sub: &SubName, token: Token);
 }
 

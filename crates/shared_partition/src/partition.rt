@@ -62,7 +62,7 @@ impl<G: Gate, H: StoredHistory<Op, Reply>> SharedPartition<G, H> {
     /// A partition without events and subscriptions, whose cache has this many blocks of 64 events.
     ///
     /// # Errors
-    /// Memory.
+    /// The call failed to allocate.
     pub fn new(
         alloc: Global,
         gate: Arc<G, Global>,

@@ -44,7 +44,7 @@ impl<O: Drop, R: Drop> AskedHistory<O, R> {
     /// the replies, in order. They are those that the passes were given.
     ///
     /// # Errors
-    /// Memory. The object has then done a part of the calls.
+    /// The call failed to allocate. The object has then done a part of the calls.
     pub fn replay<T: Replays<Op = O, Reply = R>>(
         &self,
         alloc: Global,
