@@ -1,5 +1,5 @@
 use Rattle.std.proofs.Common.{[], ◌∷◌, ◌≤◌, refl, arith}
-use Rattle.activation_directory.specs.Laws.{entered, permits_given, refused}
+use Rattle.activation_directory.specs.Laws.{entered, refused}
 use Rattle.activation_directory.specs.Placed.{place_in}
 use Rattle.activation_directory.specs.Plain.{empty}
 use Rattle.activation_directory.specs.Step.{step}
