@@ -1,4 +1,5 @@
 mod Cases
+mod Counting
 mod Histories
 mod Holding
 mod Numbers

@@ -1,8 +1,8 @@
 -- Rising numbers, one of which is added or taken out.
-use Rattle.std.proofs.Common.{◌≡◌, ℕ, zero, suc, ◌<◌, ◌≤◌, Bool, true, ◌&&◌, List, [], ◌∷◌, length, filter, get_or, if◌then◌else◌, refl, sym, ap, nat_le, nat_lt, ◌==◌, arith}
+use Rattle.std.proofs.Common.{◌≡◌, ℕ, zero, suc, ◌<◌, ◌≤◌, Bool, true, false, ◌&&◌, List, [], ◌∷◌, length, filter, get_or, if◌then◌else◌, refl, sym, ap, nat_le, nat_lt, ◌==◌, arith}
 use Rattle.std.specs.List.{insert}
 use Rattle.std.proofs.lemmas.Bool.{and_from, and_parts, cond_both, eq-eqb, le-leb, le-ltb, leb-true, lt-ltb, ltb-false, ltb-true, ne_eqb, eqb-false}
-use Rattle.consumer_grain.specs.Activations.{with_number}
+use Rattle.consumer_grain.specs.Activations.{is_in, with_number}
 use Rattle.consumer_grain.specs.Subscriptions.{rises_from}
 use Rattle.consumer_grain.proofs.RisingLemmas.{rises_from-lower}
 
@@ -54,6 +54,18 @@ with_number-gap n (x ∷ xs) (suc i) within before after =
     let not_less = le-ltb n x (omega arith) in
     let other = ne_eqb n x (λ same. omega arith) in
     rw (not_less, other) (ap (λ ys. x ∷ ys) (with_number-gap n xs i (omega arith) (λ k lt. before (suc k) (omega arith)) (λ k le lt. after (suc k) (omega arith) (omega arith))))
+
+-- and wasn't among them
+pub is_in-gap : (n : ℕ) (xs : List ℕ) (i : ℕ) → ((k : ℕ) → k < i → get_or xs k 0 < n) → ((k : ℕ) → i ≤ k → k < length xs → n < get_or xs k 0) → is_in xs n ≡ false
+is_in-gap n [] i before after = refl
+is_in-gap n (x ∷ xs) zero before after =
+    let first : n < x = after 0 (omega arith) (omega arith) in
+    let other = ne_eqb x n (λ same. omega arith) in
+    rw other (is_in-gap n xs zero (λ k lt. absurd (omega arith)) (λ k le lt. after (suc k) (omega arith) (omega arith)))
+is_in-gap n (x ∷ xs) (suc i) before after =
+    let first : x < n = before 0 (omega arith) in
+    let other = ne_eqb x n (λ same. omega arith) in
+    rw other (is_in-gap n xs i (λ k lt. before (suc k) (omega arith)) (λ k le lt. after (suc k) (omega arith) (omega arith)))
 
 -- they still rise with one more
 pub rises-with_number : (k n : ℕ) (xs : List ℕ) → k ≤ n → rises_from k xs ≡ true → rises_from k (with_number n xs) ≡ true

@@ -47,10 +47,12 @@ woken a delivery =
 abbrev pub offered : PlainActivation → Delivery → PlainActivation × Offered
 offered a delivery = if nat_le 16 (length a.mailbox) then (a, offer.MailboxFull) else (woken a delivery, offer.Delivered)
 
--- Only a delivery that is taken may want memory.
-abbrev pub offer_takes_memory : Offered → Bool
-offer_takes_memory offer.Delivered = true
-offer_takes_memory offer.MailboxFull = false
+abbrev pub is_in : List ℕ → ℕ → Bool
+is_in numbers number = list_any (λ n. n == number) numbers
+
+-- Only a delivery that is taken may take memory, and only the first one of its subscription.
+abbrev pub offer_takes_memory : PlainActivation → Delivery → Bool
+offer_takes_memory a delivery = not (nat_le 16 (length a.mailbox)) && not (is_in a.subs delivery.sub)
 
 -- the positions of the longest front of the deliveries, at most n, that are all of one subscription and
 -- rise from this position on

@@ -1,9 +1,9 @@
 //! A grain's mailbox and its turn.
-ghost use Rattle.std.specs.Prelude.{◌≡◌, ◌+◌, ◌^◌, ◌<◌, ◌≤◌, ◌∷◌, ◌==◌, true, length, drop, Some, None, is_some, OnErr, IfOk, IfSome, not, filter, is_ok, if◌then◌else◌};
+ghost use Rattle.std.specs.Prelude.{◌≡◌, ◌+◌, ◌^◌, ◌<◌, ◌≤◌, ◌∷◌, ◌==◌, true, false, length, drop, Some, None, is_some, OnErr, IfOk, IfSome, not, filter, is_ok, if◌then◌else◌};
 ghost use Rattle.std.specs.List.{slice_get};
 ghost use Rattle.std.specs.Option.{option_copied};
 ghost use Rattle.stream_ident.specs.Words.{past, Performs};
-ghost use Rattle.consumer_grain.specs.Activations.{begin, begin_front, current_turn, deactivated, forgotten, holds, lost, new_activation, offered, offer_takes_memory, running_count, runs, with_number, without_number, without_turn};
+ghost use Rattle.consumer_grain.specs.Activations.{begin, begin_front, current_turn, deactivated, forgotten, holds, is_in, lost, new_activation, offered, offer_takes_memory, running_count, runs, with_number, without_number, without_turn};
 ghost use Rattle.consumer_grain.specs.Begins.{RisesFrom};
 ghost use Rattle.consumer_grain.specs.Subscriptions.{rises_from};
 
@@ -139,12 +139,12 @@ impl Activation {
     ///
     /// # Errors
     /// The call failed to allocate, and nothing has changed. That can happen only at a delivery that would be
-    /// taken.
+    /// taken, and only where its subscription isn't among the numbers.
     pub fn offer(&mut self, _alloc: Global, delivery: Delivery) -> Result<Offered, AllocError>
         requires number { self.old.number + 1 < 2 ^ 64 }
         requires position { delivery.position + 1 < 2 ^ 64 }
         ensures performs { Performs self.old self.new result (offered self.old delivery) }
-        ensures memory { OnErr result (offer_takes_memory (offered self.old delivery).1 ≡ true) }
+        ensures memory { OnErr result (offer_takes_memory self.old delivery ≡ true) }
     {
         if self.mailbox.is_full() {
             return Ok(Offered::MailboxFull);
@@ -268,7 +268,8 @@ fn running_count(running: &Option<RunningTurn>) -> usize
 /// there.
 fn add_number(numbers: &mut Vec<usize>, number: usize) -> Result<(), AllocError>
     requires { rises_from 0 numbers.old.items ≡ true }
-    ensures { numbers.new.items ≡ (if is_ok result then with_number number numbers.old.items else numbers.old.items) }
+    ensures numbers { numbers.new.items ≡ (if is_ok result then with_number number numbers.old.items else numbers.old.items) }
+    ensures memory { OnErr result (is_in numbers.old.items number ≡ false) }
 {
     if let Err(place) = numbers.binary_search(&number) {
         numbers.insert(place, number)?;

@@ -3,7 +3,7 @@ ghost use Rattle.std.specs.Prelude.{◌≡◌, ◌+◌, ◌^◌, ◌<◌, ◌≤
 ghost use Rattle.std.specs.Option.{option_copied};
 ghost use Rattle.stream_ident.specs.Words.{change_at, past};
 ghost use Rattle.stream_ident.specs.Name.{grain_lt};
-ghost use Rattle.consumer_grain.specs.Activations.{begin, deactivated, forgotten, lost, new_activation, offered, offer_takes_memory, without_turn, woken};
+ghost use Rattle.consumer_grain.specs.Activations.{begin, deactivated, forgotten, lost, new_activation, offer_takes_memory, without_turn, woken};
 ghost use Rattle.consumer_grain.specs.Begins.{RisesFrom};
 ghost use Rattle.consumer_grain.specs.Subscriptions.{rises_from};
 ghost use Rattle.ranking.specs.Ranked.{is_up_to, IsFirstPast, IsKeySet};
@@ -144,7 +144,7 @@ impl GrainTable {
     ///
     /// # Errors
     /// The call failed to allocate, and nothing has changed. That can happen only at a delivery that would be
-    /// taken.
+    /// taken, and only where nothing was ever offered for its subscription, or that was forgotten.
     pub fn offer(
         &mut self,
         alloc: Global,
@@ -155,7 +155,7 @@ impl GrainTable {
         requires activation { (activation_at self.old number).number + 1 < 2 ^ 64 }
         requires position { delivery.position + 1 < 2 ^ 64 }
         ensures performs { OffersAt number self.old self.new result delivery }
-        ensures memory { OnErr result (offer_takes_memory (offered (activation_at self.old number) delivery).1 ≡ true) }
+        ensures memory { OnErr result (offer_takes_memory (activation_at self.old number) delivery ≡ true) }
     {
         let offered = self.entries[number].1.offer(alloc, delivery)?;
         mark(&self.entries, &self.ranking, &mut self.ready, number);

@@ -1,7 +1,8 @@
 -- The names with those that the rules make of events: their front, and how many they are.
-use Rattle.std.proofs.Common.{◌≡◌, ℕ, ◌+◌, ◌*◌, ◌≤◌, not, Bool, true, false, List, [], ◌∷◌, ◌++◌, length, take, fold, if◌then◌else◌, refl, ap, arith, length-append}
+use Rattle.std.proofs.Common.{◌≡◌, ℕ, zero, suc, ◌+◌, ◌*◌, ◌<◌, ◌≤◌, not, Bool, true, false, List, [], ◌∷◌, ◌++◌, length, take, get_or, fold, if◌then◌else◌, refl, ap, arith, length-append}
 use Rattle.std.proofs.lemmas.List.Concat.{length-flat_map}
 use Rattle.std.proofs.lemmas.List.Filters.{length-filter_both}
+use Rattle.std.proofs.lemmas.List.Sums.{fold-append}
 use Rattle.std.specs.List.{flat_map}
 use Rattle.stream_ident.specs.declared.event.Event.{Event}
 use Rattle.stream_ident.specs.declared.ident.SubName.{SubName}
@@ -10,7 +11,7 @@ use Rattle.stream_ident.specs.Event.{batch_token}
 use Rattle.stream_ident.specs.Name.{same_name}
 use Rattle.stream_ident.specs.Token.{token_lt}
 use Rattle.stream_ident.specs.Implying.{added}
-use Rattle.stream_ident.proofs.NewNames.{fold-front, has, length-fold}
+use Rattle.stream_ident.proofs.NewNames.{added-more, fold-front, has, length-fold}
 use Rattle.pubsub_registry.specs.Implying.{all_implied, implied, made, names_with, rule_count}
 use Rattle.pubsub_registry.specs.declared.registration.Registration.{Registration}
 use Rattle.pubsub_registry.proofs.Entries.{Names}
@@ -27,6 +28,32 @@ names-front rules names events = fold-front names (all_implied rules events)
 
 pub length-names_with : (rules : List Rule) (names : Names) (events : List Event) → length names ≤ length (names_with rules names events)
 length-names_with rules names events = length-fold names (all_implied rules events)
+
+-- what the first items make is no more than what all make
+length-front : {X : Type 0} (make : X → Names) (names : Names) (xs : List X) (n : ℕ) → length (fold added names (flat_map make (take n xs))) ≤ length (fold added names (flat_map make xs))
+length-front make names xs zero = length-fold names (flat_map make xs)
+length-front make names [] (suc n) = omega arith
+length-front make names (x ∷ xs) (suc n) =
+    omega (
+      arith,
+      length-front make (fold added names (make x)) xs n,
+      ap length (fold-append added names (make x) (flat_map make (take n xs))),
+      ap length (fold-append added names (make x) (flat_map make xs)),
+    )
+
+-- where an item makes a name that is new, all make one
+pub more-at : {X : Type 0} (make : X → Names) (names so_far : Names) (xs : List X) (i : ℕ) (x : X) → i < length xs → x ≡ get_or xs i x → so_far ≡ fold added names (flat_map make (take i xs))
+    → length so_far < length (fold added so_far (make x)) → length names < length (fold added names (flat_map make xs))
+more-at make names so_far xs i x within is are more =
+    omega (
+      arith,
+      length-fold names (flat_map make (take i xs)),
+      ap length are,
+      more,
+      ap length (added-more make names xs i x within is),
+      ap (λ (all : Names). length (fold added all (make x))) are,
+      length-front make names xs (i + 1),
+    )
 
 length-added : (names : Names) (entry : SubName × Registration) → length (added names entry) ≤ length names + 1
 length-added names entry = by (has entry.0 names)

@@ -29,12 +29,12 @@ impl Registry {
     /// the earlier events.
     ///
     /// # Errors
-    /// The call failed to allocate, and nothing has changed. That can happen only where the subscriptions
-    /// would all be made.
+    /// The call failed to allocate, and nothing has changed. That can happen only where there would be more
+    /// subscriptions than before.
     pub fn imply(&mut self, alloc: Global, events: &[Event]) -> Result<Implied, AllocError>
         requires few { length events.now ≤ 256 }
         ensures performs { Performs self.old self.new result (imply self.old events.now) }
-        ensures memory { OnErr result ((imply self.old events.now).1 ≡ Implied.Implied) }
+        ensures memory { OnErr result (length self.old.names < length (imply self.old events.now).0.names) }
     {
         if !has_room(&self.subscriptions, &self.rules, self.most_names, events) {
             return Ok(Implied::TooMany);
@@ -141,7 +141,7 @@ fn makes(rules: &[Rule], event: &Event, kind: &Name) -> bool
 /// Adds what the rules make of these events.
 ///
 /// # Errors
-/// The call failed to allocate, and nothing has changed.
+/// The call failed to allocate, and nothing has changed. That can happen only where a name is new.
 fn add_all(
     subscriptions: &mut Subscriptions,
     alloc: Global,
@@ -150,6 +150,7 @@ fn add_all(
 ) -> Result<(), AllocError>
     ensures ok { OnOk result (subscriptions.new ≡ names_with rules.now subscriptions.old events.now) }
     ensures err { OnErr result (subscriptions.new ≡ subscriptions.old) }
+    ensures memory { OnErr result (length subscriptions.old < length (names_with rules.now subscriptions.old events.now)) }
 {
     let len = subscriptions.len();
     let pushed = push_all(subscriptions, alloc, rules, events);
@@ -168,6 +169,7 @@ fn push_all(
 ) -> Result<(), AllocError>
     ensures all { OnOk result (subscriptions.new ≡ names_with rules.now subscriptions.old events.now) }
     ensures front { take (length subscriptions.old) subscriptions.new ≡ subscriptions.old }
+    ensures memory { OnErr result (length subscriptions.old < length (names_with rules.now subscriptions.old events.now)) }
 {
     for event in events {
         let rules = rules.on_namespace(&event.stream.namespace);
@@ -185,6 +187,7 @@ fn push_for_event(
 ) -> Result<(), AllocError>
     ensures all { OnOk result (subscriptions.new ≡ fold added subscriptions.old (flat_map (made event.now) rules.now)) }
     ensures front { take (length subscriptions.old) subscriptions.new ≡ subscriptions.old }
+    ensures memory { OnErr result (length subscriptions.old < length (fold added subscriptions.old (flat_map (made event.now) rules.now))) }
 {
     for rule in rules {
         push_by_rule(subscriptions, alloc, rule, event)?;
@@ -195,7 +198,7 @@ fn push_for_event(
 /// Adds what a rule on its namespace makes of an event, unless the name is there.
 ///
 /// # Errors
-/// The call failed to allocate, and nothing has changed.
+/// The call failed to allocate, and nothing has changed. That can happen only where the name is new.
 fn push_by_rule(
     subscriptions: &mut Subscriptions,
     alloc: Global,
@@ -204,6 +207,7 @@ fn push_by_rule(
 ) -> Result<(), AllocError>
     ensures ok { OnOk result (subscriptions.new ≡ fold added subscriptions.old (made event.now rule.now)) }
     ensures err { OnErr result (subscriptions.new ≡ subscriptions.old) }
+    ensures memory { OnErr result (length subscriptions.old < length (fold added subscriptions.old (made event.now rule.now))) }
 {
     let sub = implied_name(rule, event);
     if !holds_for(rule, event) || subscriptions.find(&sub).is_some() {

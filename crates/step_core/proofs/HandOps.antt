@@ -4,7 +4,7 @@ use Rattle.std.specs.Prelude.{if◌then◌else◌, Result, Ok, OnErr}
 use Rattle.std.specs.List.{AllByRecursion}
 use Rattle.std.specs.Option.{option_map}
 use Rattle.std.specs.declared.alloc.AllocError.{AllocError}
-use Rattle.std.proofs.lemmas.Bool.{eqb-true, le-ltb, true≢false}
+use Rattle.std.proofs.lemmas.Bool.{and_from, and_parts, eqb-true, le-ltb, not-true}
 use Rattle.std.proofs.lemmas.List.{set-get_or, length-map}
 use Rattle.stream_ident.specs.declared.ident.GrainId.{GrainId}
 use Rattle.stream_ident.specs.declared.ident.StreamId.{StreamId}
@@ -17,8 +17,9 @@ use Rattle.stream_model.specs.declared.plain.PlainPartition.{PlainPartition}
 use Rattle.stream_model.specs.declared.plain.Subscription.{Subscription}
 use Rattle.stream_model.specs.declared.reply.Reply.{Reply}
 use Rattle.stream_model.specs.declared.reply.Reply.TheVariants as reply
-use Rattle.stream_model.specs.Positions.{is_outstanding, is_spent, is_unacknowledged, next_position, running_in, token_at, waiting_in}
+use Rattle.stream_model.specs.Positions.{is_outstanding, is_spent, is_unacknowledged, next_position, running_in, sub_at, token_at, waiting_in}
 use Rattle.stream_model.specs.Pulling as plain
+use Rattle.stream_model.specs.Memory.{is_untouched}
 use Rattle.stream_model.specs.Step.{takes_memory}
 use Rattle.stream_model.proofs.EachOf.{All-append}
 use Rattle.stream_ident.proofs.SameValues.{same_grain-refl}
@@ -26,7 +27,7 @@ use Rattle.consumer_grain.specs.declared.mailbox.Delivery.{Delivery}
 use Rattle.consumer_grain.specs.declared.told.Offered.{Offered}
 use Rattle.consumer_grain.specs.declared.told.Offered.TheVariants as offer
 use Rattle.consumer_grain.specs.declared.activation.RunningTurn.{RunningTurn}
-use Rattle.consumer_grain.specs.Activations.{PlainActivation, holds, new_activation, offered, offer_takes_memory, with_number, woken}
+use Rattle.consumer_grain.specs.Activations.{PlainActivation, holds, is_in, new_activation, offered, offer_takes_memory, with_number, woken}
 use Rattle.consumer_grain.specs.Subscriptions.{PlainState, advanced, caught_up}
 use Rattle.grain_table.specs.Changes.{OffersAt, no_grain}
 use Rattle.grain_table.specs.Grains.{PlainGrains, number_of, with_grain}
@@ -43,7 +44,7 @@ use Rattle.stream_ident.proofs.FirstLemmas.{place_of-key}
 use Rattle.stream_model.proofs.Answering.{on-error}
 use Rattle.step_core.specs.Assembly.{Agrees, IsAssembled}
 use Rattle.step_core.specs.Handing.{IsNext, sent}
-use Rattle.step_core.specs.Known.{AreKnown, IsUnheld}
+use Rattle.step_core.specs.Known.{AreKnown, IsUnheld, IsUnknown}
 use Rattle.step_core.specs.declared.parts.Parts.{Parts}
 use Rattle.step_core.specs.Numbers.{AreDistinct, IsBelow}
 use Rattle.step_core.specs.PlainOf.{plain_of}
@@ -52,8 +53,9 @@ use Rattle.step_core.specs.View.{delivery_of, grain_of, grains_of, name_at, turn
 use Rattle.step_core.proofs.DeliverOps.{Seeks, deliver-closed, deliver-first, deliver-next, deliver-nothing, next-is, handed, handed_first}
 use Rattle.step_core.proofs.GrainOps.{AreSome, activation_at, grain-found, grain-new, outstanding-is}
 use Rattle.step_core.proofs.KnownMore.{known-first}
-use Rattle.step_core.proofs.KnownOps.{known-offered, known-state}
+use Rattle.step_core.proofs.KnownOps.{known-offered, known-state, unknown-nowhere, unknown-to_own}
 use Rattle.step_core.proofs.NamesOps.{number-of-name, record-of-number, name-of-place}
+use Rattle.step_core.proofs.RecordOps.{record-found}
 use Rattle.step_core.proofs.Shared.{distinct-of-unique, history-of, name-same, high-end}
 use Rattle.stream_ident.proofs.WordLemmas.{All-at}
 
@@ -220,19 +222,11 @@ offer-is j old new d told offers = by (nat_le 16 (length a.mailbox)) refl told o
         subst (OfferIs j old new d) (sym (told_is ∙ ap (λ b. (chosen b).1) room))
         (is ∙ change-same (λ a. (offered a d).0) (λ a. woken a d) j old no_grain (ap (λ b. (chosen b).0) room), room)
 
--- memory is wanting only at a delivery that would be taken
-pub offer-room : (j : ℕ) (old : PlainGrains) (d : Delivery) → offer_takes_memory (offered (activation j old) d).1 ≡ true → nat_le 16 (length (activation j old).mailbox) ≡ false
-offer-room j old d takes = by (nat_le 16 (length a.mailbox)) refl takes
-  where
-    a : PlainActivation
-    a = activation j old
-
-    chosen : Bool → PlainActivation × Offered
-    chosen full = if full then (a, offer.MailboxFull) else (woken a d, offer.Delivered)
-
-    by : (full : Bool) → nat_le 16 (length a.mailbox) ≡ full → offer_takes_memory (chosen (nat_le 16 (length a.mailbox))).1 ≡ true → nat_le 16 (length a.mailbox) ≡ false
-    by true full takes = absurd (true≢false (sym takes ∙ ap (λ b. offer_takes_memory (chosen b).1) full))
-    by false room takes = room
+-- an offer takes memory only at a delivery that is taken, the first of its subscription
+pub offer-first : (j : ℕ) (old : PlainGrains) (d : Delivery) → offer_takes_memory (activation j old) d ≡ true → (nat_le 16 (length (activation j old).mailbox) ≡ false) × (is_in (activation j old).subs d.sub ≡ false)
+offer-first j old d takes =
+    let parts = and_parts (not (nat_le 16 (length (activation j old).mailbox))) (not (is_in (activation j old).subs d.sub)) takes in
+    (not-true _ parts.0, not-true _ parts.1)
 
 -- ---- the event is handed over
 
@@ -446,6 +440,21 @@ pub first-memory : {T E : Type 0} (parts : Parts) (d : Delivery) (r : Result T E
     → OnErr r (takes_memory (ToDo parts d).1 ≡ true)
 first-memory parts d r stands next none left = on-error r (ap (λ (told : Answer). takes_memory told.1) (first-done parts d stands next none left))
 
+-- a record that no grain knows of is untouched
+untouched-unknown : (parts : Parts) (d : Delivery) → Stands parts d.sub → IsNext parts d → IsUnknown parts.subs.registry.names parts.grains d.sub → is_untouched (Some (record_of parts d.sub)) ≡ true
+untouched-unknown parts d stands next unknown =
+    let is = stands.agrees.assembled.known.untouched d.sub stands.within next.is_open unknown in
+    and_from _ _ (eq-eqb _ _ is.at_resume) (ap (λ (positions : List ℕ). length positions == 0) is.unhandled)
+
+pub handed-untouched : {T E : Type 0} (parts : Parts) (d : Delivery) (j : ℕ) (r : Result T E) → Stands parts d.sub → IsNext parts d → place_of same_grain (record_of parts d.sub).grain parts.grains ≡ Some j → is_in (activation j parts.grains).subs d.sub ≡ false
+    → OnErr r (is_untouched (Some (record_of parts d.sub)) ≡ true)
+handed-untouched parts d j r stands next found none =
+    on-error r (untouched-unknown parts d stands next (unknown-to_own parts.subs.registry.names parts.grains d.sub j stands.agrees.distinct found none))
+
+pub first-untouched : {T E : Type 0} (parts : Parts) (d : Delivery) (r : Result T E) → Stands parts d.sub → IsNext parts d → place_of same_grain (record_of parts d.sub).grain parts.grains ≡ None → OnErr r (is_untouched (Some (record_of parts d.sub)) ≡ true)
+first-untouched parts d r stands next none =
+    on-error r (untouched-unknown parts d stands next (unknown-nowhere parts.subs.registry.names parts.grains d.sub none))
+
 -- ---- what the search of an open subscription found is its next position
 
 pub sought-next : (parts : Parts) (number : ℕ) (o : Option ℕ) → Stands parts number → (state_at parts.subs number).is_open ≡ true
@@ -485,6 +494,13 @@ pub grain-there : (parts : Parts) (t : PlainTable) (number position : ℕ) (outs
     → number_of parts.grains (record_of (with_subs parts t) number).grain ≡ grain
 grain-there parts t number position outstanding grain found is =
     subst (λ (t : PlainTable). number_of parts.grains (record_of (with_subs parts t) number).grain ≡ grain) (sym found.0) is
+
+-- its record is the one that the name has
+pub record-there : (parts : Parts) (t : PlainTable) (number position : ℕ) (s : SubName) (outstanding : Bool) → Stands parts number → place_of same_sub s parts.subs.registry.names ≡ Some number → Searched parts t number outstanding (sought.Next position)
+    → Some (record_of (with_subs parts t) number) ≡ sub_at (plain_of parts) s
+record-there parts t number position s outstanding stands found sought =
+    ap {B = Option Subscription} (λ (t : PlainTable). Some (record_of (with_subs parts t) number)) sought.0
+    ∙ sym (record-found parts s number no_entry no_state (sym stands.agrees.records.long) found)
 
 -- what is to be done is as before
 pub todo-is : (parts : Parts) (t : PlainTable) (number generation position : ℕ) (s : SubName) (outstanding : Bool) → (generation == parts.agent.generation) ≡ true → place_of same_sub s parts.subs.registry.names ≡ Some number

@@ -1,5 +1,5 @@
 -- What each change leaves of what the grains know.
-use Rattle.std.proofs.Common.{◌≡◌, ◌≢◌, ◌∙◌, ap, sym, subst, refl, ℕ, zero, suc, ◌<◌, Bool, true, false, ◌||◌, nat_lt, List, [], ◌∷◌, ◌++◌, length, map, get_or, set, arith}
+use Rattle.std.proofs.Common.{◌≡◌, ◌≢◌, ◌∙◌, ap, sym, subst, refl, ℕ, zero, suc, ◌<◌, Bool, true, false, ◌||◌, nat_lt, List, [], ◌∷◌, ◌++◌, length, map, get_or, set, Some, None, arith}
 use Rattle.std.proofs.lemmas.List.{get_or-map, get_or-set_other, get_or-set_same}
 use Rattle.std.proofs.lemmas.Bool.{eq-eqb, false≢true, ne_eqb}
 use Rattle.std.specs.List.{list_any}
@@ -7,7 +7,7 @@ use Rattle.std.specs.Prelude.{if◌then◌else◌, ◌==◌}
 use Rattle.stream_ident.specs.declared.ident.GrainId.{GrainId}
 use Rattle.stream_ident.specs.declared.ident.SubName.{SubName}
 use Rattle.stream_ident.specs.Name.{same_grain}
-use Rattle.stream_ident.specs.Words.{change_at}
+use Rattle.stream_ident.specs.Words.{change_at, place_of}
 use Rattle.consumer_grain.specs.Activations.{PlainActivation, holds, runs, with_number, woken}
 use Rattle.consumer_grain.specs.declared.mailbox.Delivery.{Delivery}
 use Rattle.consumer_grain.specs.Subscriptions.{PlainState}
@@ -15,7 +15,29 @@ use Rattle.grain_table.specs.Changes.{activation_at, grain_at, no_grain}
 use Rattle.pubsub_registry.specs.declared.registration.Registration.{Registration}
 use Rattle.subscription_table.specs.Table.{is_in, no_entry, no_state, rewound_open}
 use Rattle.step_core.specs.Known.{AreKnown, IsOf, IsUnheld, IsUnknown, IsUntouched}
+use Rattle.stream_ident.proofs.FirstLemmas.{first_at-None, place_of-key}
+use Rattle.stream_ident.proofs.SameValues.{same_grain-equal, same_grain-refl}
 use Rattle.stream_ident.proofs.WordLemmas.{length-change_at}
+use Rattle.stream_model.proofs.Lookups.{place_of-within}
+use Rattle.grain_table.specs.Grains as table
+
+-- ---- a record that no grain knows of
+
+-- its own grain doesn't
+pub unknown-to_own : (names : List (SubName × Registration)) (grains : List (GrainId × PlainActivation)) (n j : ℕ) → table.AreDistinct grains → place_of same_grain (get_or names n no_entry).1.grain grains ≡ Some j → is_in (activation_at grains j).subs n ≡ false
+    → IsUnknown names grains n
+unknown-to_own names grains n j distinct found none k within of_k =
+    let same : grain_at grains k ≡ grain_at grains j = sym (same_grain-equal g (grain_at grains k) of_k) ∙ same_grain-equal g (grain_at grains j) (place_of-key same_grain g grains no_grain j found) in
+    let at_j : k ≡ j = distinct k j no_grain within (place_of-within same_grain g j grains found) (subst (λ (h : GrainId). same_grain (grain_at grains k) h ≡ true) same (same_grain-refl (grain_at grains k))) in
+    subst (λ m. is_in (activation_at grains m).subs n ≡ false) (sym at_j) none
+  where
+    g : GrainId
+    g = (get_or names n no_entry).1.grain
+
+-- its own grain was never active
+pub unknown-nowhere : (names : List (SubName × Registration)) (grains : List (GrainId × PlainActivation)) (n : ℕ) → place_of same_grain (get_or names n no_entry).1.grain grains ≡ None → IsUnknown names grains n
+unknown-nowhere names grains n none k within of_k =
+    absurd (false≢true (sym (first_at-None (λ (entry : GrainId × PlainActivation). same_grain (get_or names n no_entry).1.grain entry.0) 0 grains no_grain none k within) ∙ of_k))
 
 -- ---- one entry changed
 

@@ -27,7 +27,7 @@ use Rattle.step_core.specs.Known.{AreKnown, IsOf, IsUnknown, IsUntouched}
 use Rattle.step_core.specs.Numbers.{IsBelow, TurnIsBelow}
 use Rattle.step_core.specs.View.{sub_of}
 use Rattle.step_core.proofs.DeactivateOps as deactivating
-use Rattle.step_core.proofs.KnownOps.{Either, Left, Right, known-states, none-or, or-none}
+use Rattle.step_core.proofs.KnownOps.{Either, Left, Right, known-states, none-or, or-none, unknown-to_own}
 
 -- ---- records more
 
@@ -251,12 +251,8 @@ rewound-is parts g j new lengths known distinct found rewound i d e within =
     stays false is_open at = refl
 
     unknown : same_grain g entry.1.grain ≡ true → is_in numbers i ≡ false → IsUnknown names parts.grains i
-    unknown its none k in_k of_k =
-        let grain_k : entry.1.grain ≡ grain_at parts.grains k = same_grain-equal entry.1.grain (grain_at parts.grains k) of_k in
-        let grain_i : g ≡ entry.1.grain = same_grain-equal g entry.1.grain its in
-        let same : grain_at parts.grains k ≡ grain_at parts.grains j = sym grain_k ∙ sym grain_i ∙ own in
-        let at_j : k ≡ j = distinct k j no_grain in_k inside (subst (λ (h : GrainId). same_grain (grain_at parts.grains k) h ≡ true) same (same_grain-refl (grain_at parts.grains k))) in
-        subst (λ m. is_in (activation_at parts.grains m).subs i ≡ false) (sym at_j) none
+    unknown its none =
+        unknown-to_own names parts.grains i j distinct (subst (λ (h : GrainId). place_of same_grain h parts.grains ≡ Some j) (same_grain-equal g entry.1.grain its) found) none
 
     is : (b : Bool) → is_in numbers i ≡ b → Same entry (state_at new i) old
     is true in_them =

@@ -1,5 +1,5 @@
 -- An agent takes events, done by the parts.
-use Rattle.std.proofs.Common.{◌≡◌, ◌∙◌, ap, sym, subst, refl, ℕ, zero, suc, ◌+◌, ◌-◌, ◌*◌, ◌≤◌, min, Bool, true, false, List, [], ◌∷◌, ◌++◌, length, take, drop, nat_lt, arith}
+use Rattle.std.proofs.Common.{◌≡◌, ◌∙◌, ap, sym, subst, refl, ℕ, zero, suc, ◌+◌, ◌-◌, ◌*◌, ◌<◌, ◌≤◌, min, Bool, true, false, List, [], ◌∷◌, ◌++◌, length, take, drop, nat_lt, arith}
 use Rattle.std.specs.Prelude.{if◌then◌else◌, Result, OnErr}
 use Rattle.std.proofs.lemmas.List.{drop-drop, drop-take, length-append, length-drop, length-take}
 use Rattle.std.proofs.Math.Seq.{take-nil}
@@ -26,6 +26,7 @@ use Rattle.step_core.specs.PlainOf.{plain_of}
 use Rattle.step_core.specs.Taking.{ahead, filled, taken}
 use Rattle.step_core.proofs.HandOps.{Answer, with_subs}
 use Rattle.step_core.proofs.PullOps.{made-below, made-grains, made-known, made-length, made-view}
+use Rattle.step_core.proofs.ViewLemmas.{records-length}
 
 -- ---- what the rules made of the events
 
@@ -58,14 +59,19 @@ makes-is old new events seen position at told is_seen is_at is =
     by true many = (refl, many)
     by false few = (refl, few)
 
--- memory is wanting only where there aren't too many
-pub makes-few : (old : PlainTable) (events seen : List Event) (at : ℕ) → seen ≡ events → (table.imply old seen at).1 ≡ implied_told.Implied → are_too_many old events ≡ false
+-- there aren't too many, and some are new, where there are more names than before
+pub makes-more : (old : PlainTable) (events seen : List Event) (at : ℕ) → seen ≡ events → length old.registry.names < length (table.imply old seen at).0.registry.names
+    → (are_too_many old events ≡ false) × (length old.registry.names < length (names_made old events))
 unfolding made-by
-makes-few old events seen at is_seen is = by (are_too_many old events) refl (ap (λ es. (table.imply old es at).1) (sym is_seen) ∙ is)
+makes-more old events seen at is_seen more =
+    by (are_too_many old events) refl (subst (λ es. length old.registry.names < length (table.imply old es at).0.registry.names) is_seen more)
   where
-    by : (many : Bool) → are_too_many old events ≡ many → (made-by old events at (are_too_many old events)).1 ≡ implied_told.Implied → are_too_many old events ≡ false
-    by true many is = absurd (let told : implied_told.TooMany ≡ implied_told.Implied = sym (ap (λ b. (made-by old events at b).1) many) ∙ is in cc)
-    by false few is = few
+    by : (many : Bool) → are_too_many old events ≡ many → length old.registry.names < length (made-by old events at (are_too_many old events)).0.registry.names
+        → (are_too_many old events ≡ false) × (length old.registry.names < length (names_made old events))
+    by true many more =
+        let none : length old.registry.names < length old.registry.names = subst (λ b. length old.registry.names < length (made-by old events at b).0.registry.names) many more in
+        absurd (omega (arith, none))
+    by false few more = (few, subst (λ b. length old.registry.names < length (made-by old events at b).0.registry.names) few more)
 
 -- ---- the cache goes on along the log
 
@@ -217,3 +223,13 @@ pub take-memory : {T E : Type 0} (parts : Parts) (drops count : ℕ) (r : Result
     → OnErr r (takes_memory (taken (plain_of parts) drops count).1 ≡ true)
 unfolding reply_after
 take-memory parts drops count r assembled lengths few = on-error r (ap (λ (told : Answer). takes_memory told.1) (taken-few parts drops count assembled lengths few))
+
+pub take-makes : {T E : Type 0} (parts : Parts) (drops count : ℕ) (r : Result T E) → IsAssembled parts → length parts.subs.registry.names ≡ length parts.subs.states → are_too_many parts.subs (ahead parts count) ≡ false
+    → length parts.subs.registry.names < length (names_made parts.subs (ahead parts count)) → OnErr r (length (plain_of parts).subs < length (taken (plain_of parts) drops count).0.subs)
+unfolding plain_after subs_after
+take-makes parts drops count r assembled lengths few more =
+    let before = records-length parts.subs.registry.names parts.subs.states lengths in
+    let after : length (subs_after parts count) ≡ length (names_made parts.subs (ahead parts count)) =
+    made-length parts.subs.registry.rules (high parts.agent.cache) parts.subs.registry.names parts.subs.states (ahead parts count) lengths in
+    let grown : length (plain_of parts).subs < length (subs_after parts count) = omega (arith, before, after, more) in
+    on-error r (subst (λ (told : Answer). length (plain_of parts).subs < length told.0.subs) (sym (taken-few parts drops count assembled lengths few)) grown)

@@ -3,19 +3,20 @@ use Rattle.std.specs.Prelude.{◌≡◌, ◌⊎◌, true, List, [], ◌∷◌, �
 use Rattle.stream_model.specs.declared.op.Op.{Op}
 use Rattle.stream_model.specs.declared.plain.PlainPartition.{PlainPartition}
 use Rattle.stream_model.specs.declared.reply.Reply.{Reply}
-use Rattle.stream_model.specs.Step.{after_steps, replies_of, step, takes_memory}
+use Rattle.stream_model.specs.Memory.{may_allocate}
+use Rattle.stream_model.specs.Step.{after_steps, replies_of}
 
 -- the operations were done in order, and their replies appended
 pub record Does (ops : List Op) (old new : PlainPartition) (before after : List Reply) : Type 0 where
   pub state : new ≡ after_steps old ops
   pub replies : after ≡ before ++ replies_of old ops
 
--- The first of the operations were done, and no other. Memory was wanting for the next one, which would keep
--- more than before, or, before the first, for the room of all replies.
+-- The first of the operations were done, and no other. The call failed to allocate for the next one, which may
+-- take memory, or, before the first, for the room of all replies.
 pub record StopsBefore (ops : List Op) (old new : PlainPartition) (before after : List Reply) : Type 0 where
   pub done : List Op
   pub next : Op
   pub rest : List Op
   pub ops_are : ops ≡ done ++ next ∷ rest
   pub does : Does done old new before after
-  pub wants : (done ≡ []) ⊎ (takes_memory (step new next).1 ≡ true)
+  pub wants : (done ≡ []) ⊎ (may_allocate new next ≡ true)

@@ -1,6 +1,7 @@
 //! What the agent hands to a subscription.
 ghost use Rattle.std.specs.Prelude.{◌≡◌, ◌+◌, ◌^◌, ◌<◌, ◌≤◌, None, OnErr, Some, length, not, true};
-ghost use Rattle.stream_model.specs.Positions.{is_outstanding, token_at};
+ghost use Rattle.stream_model.specs.Memory.{is_untouched};
+ghost use Rattle.stream_model.specs.Positions.{is_outstanding, sub_at, token_at};
 ghost use Rattle.stream_model.specs.Pulling.{deliver};
 ghost use Rattle.stream_model.specs.Step.{takes_memory};
 ghost use Rattle.stream_ident.specs.Words.{Performs};
@@ -24,6 +25,10 @@ use stream_ident::SubName;
 use subscription_table::Sought;
 
 /// The agent hands a subscription its next event.
+///
+/// # Errors
+/// The call failed to allocate, and nothing has changed. That can happen only where the event would be handed
+/// over, and only where the subscription has handled nothing and its cursor stands at its resume.
 pub(crate) fn deliver(
     parts: &mut Parts,
     alloc: Global,
@@ -34,6 +39,7 @@ pub(crate) fn deliver(
     ensures assembled { IsAssembled parts.new }
     ensures performs { Performs (plain_of parts.old) (plain_of parts.new) (replied result) (deliver (plain_of parts.old) generation sub) }
     ensures memory { OnErr result (takes_memory (deliver (plain_of parts.old) generation sub).1 ≡ true) }
+    ensures first { OnErr result (is_untouched (sub_at (plain_of parts.old) sub) ≡ true) }
 {
     if let Err(StaleAgent { now }) = parts.agent.check(generation) {
         return Ok(Told::StaleAgent { now });
@@ -81,7 +87,7 @@ fn is_outstanding(parts: &Parts, number: usize, grain: Option<usize>) -> bool
 ///
 /// # Errors
 /// The call failed to allocate, and nothing has changed. That can happen only where the event would be handed
-/// over.
+/// over, and only where the subscription has handled nothing and its cursor stands at its resume.
 fn hand_over(
     parts: &mut Parts,
     alloc: Global,
@@ -94,6 +100,7 @@ fn hand_over(
     ensures assembled { IsAssembled parts.new }
     ensures performs { Performs (plain_of parts.old) (plain_of parts.new) (replied result) (deliver (plain_of parts.old) parts.old.agent.generation (name_at parts.old.subs delivery.sub)) }
     ensures memory { OnErr result (takes_memory (deliver (plain_of parts.old) parts.old.agent.generation (name_at parts.old.subs delivery.sub)).1 ≡ true) }
+    ensures first { OnErr result (is_untouched (Some (record_of parts.old delivery.sub)) ≡ true) }
 {
     match grain {
         Some(grain) => hand_to(parts, alloc, grain, delivery),
@@ -105,7 +112,7 @@ fn hand_over(
 ///
 /// # Errors
 /// The call failed to allocate, and nothing has changed. That can happen only where the event would be handed
-/// over.
+/// over, and only where the subscription has handled nothing and its cursor stands at its resume.
 fn hand_to(
     parts: &mut Parts,
     alloc: Global,
@@ -118,6 +125,7 @@ fn hand_to(
     ensures assembled { IsAssembled parts.new }
     ensures performs { Performs (plain_of parts.old) (plain_of parts.new) (replied result) (deliver (plain_of parts.old) parts.old.agent.generation (name_at parts.old.subs delivery.sub)) }
     ensures memory { OnErr result (takes_memory (deliver (plain_of parts.old) parts.old.agent.generation (name_at parts.old.subs delivery.sub)).1 ≡ true) }
+    ensures first { OnErr result (is_untouched (Some (record_of parts.old delivery.sub)) ≡ true) }
 {
     let wakes = !parts.grains.at(grain).is_active();
     // Nothing waits for a grain that isn't active, so that its mailbox isn't full.
@@ -134,7 +142,7 @@ fn hand_to(
 ///
 /// # Errors
 /// The call failed to allocate, and nothing has changed. That can happen only where the event would be handed
-/// over.
+/// over, and only where the subscription has handled nothing and its cursor stands at its resume.
 fn hand_first(parts: &mut Parts, alloc: Global, delivery: Delivery) -> Result<Told, AllocError>
     requires agrees { Agrees parts.old }
     requires next { IsNext parts.old delivery }
@@ -142,6 +150,7 @@ fn hand_first(parts: &mut Parts, alloc: Global, delivery: Delivery) -> Result<To
     ensures assembled { IsAssembled parts.new }
     ensures performs { Performs (plain_of parts.old) (plain_of parts.new) (replied result) (deliver (plain_of parts.old) parts.old.agent.generation (name_at parts.old.subs delivery.sub)) }
     ensures memory { OnErr result (takes_memory (deliver (plain_of parts.old) parts.old.agent.generation (name_at parts.old.subs delivery.sub)).1 ≡ true) }
+    ensures first { OnErr result (is_untouched (Some (record_of parts.old delivery.sub)) ≡ true) }
 {
     if is_spent(parts) {
         return Ok(Told::Spent);

@@ -7,7 +7,8 @@ ghost use Rattle.stream_model.specs.Bounds.{AreLimits, IsWithinLimits};
 ghost use Rattle.stream_model.specs.Draining.{all_waiting, last_handled, least_waiting, open_names};
 ghost use Rattle.stream_model.specs.Looks.{is_running, pending_in};
 ghost use Rattle.stream_model.specs.Positions.{empty, high_token, low_token, sub_at};
-ghost use Rattle.stream_model.specs.Step.{step, takes_memory, IsReached};
+ghost use Rattle.stream_model.specs.Memory.{may_allocate};
+ghost use Rattle.stream_model.specs.Step.{step, IsReached};
 ghost use Rattle.step_core.specs.Reads.{handled_of, summaries_in_order};
 ghost use Rattle.step_core.specs.Replied.{answered, IsOfLog};
 ghost use Rattle.step_core.specs.Run.{Does, StopsBefore};
@@ -88,10 +89,11 @@ impl Partition {
     ///
     /// # Errors
     /// The call failed to allocate, and nothing has changed. That can happen only where the operation would
-    /// be done and would keep more than before: each refusal is given without memory.
+    /// be done, and only at a Publish, a Subscribe, an AddRule, a Commit, a Pull that makes subscriptions, and
+    /// a Deliver to a subscription that has handled nothing and whose cursor stands at its resume.
     pub fn step(&mut self, alloc: Global, op: Op) -> Result<Reply, AllocError>
         ensures performs { Performs self.old self.new result (step self.old op) }
-        ensures memory { OnErr result (takes_memory (step self.old op).1 ≡ true) }
+        ensures memory { OnErr result (may_allocate self.old op ≡ true) }
     {
         self.apply(alloc, &op)
     }
@@ -103,7 +105,7 @@ impl Partition {
     /// They are those of `step`.
     pub fn apply(&mut self, alloc: Global, op: &Op) -> Result<Reply, AllocError>
         ensures performs { Performs self.old self.new result (step self.old op.now) }
-        ensures memory { OnErr result (takes_memory (step self.old op.now).1 ≡ true) }
+        ensures memory { OnErr result (may_allocate self.old op.now ≡ true) }
     {
         let outcome = self.advance(alloc, op)?;
         Ok(outcome.reply(&self.parts.queue))
@@ -143,7 +145,7 @@ impl Partition {
     pub(crate) fn advance(&mut self, alloc: Global, op: &Op) -> Result<Outcome, AllocError>
         ensures performs { Performs self.old self.new (answered self.new.log result) (step self.old op.now) }
         ensures of_log { IfOk result (IsOfLog self.new.log) }
-        ensures memory { OnErr result (takes_memory (step self.old op.now).1 ≡ true) }
+        ensures memory { OnErr result (may_allocate self.old op.now ≡ true) }
     {
         let outcome = step(&mut self.parts, alloc, op);
         // A table promises with its length that no number is given twice, and that its rows agree. That is
@@ -311,7 +313,7 @@ pub(crate) fn step(parts: &mut Parts, alloc: Global, op: &Op) -> Result<Outcome,
     ensures assembled { IsAssembled parts.new }
     ensures performs { Performs (plain_of parts.old) (plain_of parts.new) (answered parts.new.queue.events result) (step (plain_of parts.old) op.now) }
     ensures of_log { IfOk result (IsOfLog parts.new.queue.events) }
-    ensures memory { OnErr result (takes_memory (step (plain_of parts.old) op.now).1 ≡ true) }
+    ensures memory { OnErr result (may_allocate (plain_of parts.old) op.now ≡ true) }
 {
     match *op {
         Op::Publish {

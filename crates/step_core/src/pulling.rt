@@ -1,5 +1,5 @@
 //! What the agent takes from the queue.
-ghost use Rattle.std.specs.Prelude.{◌≡◌, ◌+◌, ◌*◌, ◌≤◌, OnErr, length, true, unwrap_or};
+ghost use Rattle.std.specs.Prelude.{◌≡◌, ◌+◌, ◌*◌, ◌<◌, ◌≤◌, OnErr, length, true, unwrap_or};
 ghost use Rattle.stream_model.specs.Positions.{slowest, slowest_name, token_at};
 ghost use Rattle.stream_model.specs.Pulling.{pull};
 ghost use Rattle.stream_model.specs.Step.{takes_memory};
@@ -21,6 +21,10 @@ use std::alloc::{AllocError, Global};
 use stream_ident::SubName;
 
 /// The agent takes events from the queue into its cache, and the rules make subscriptions of them.
+///
+/// # Errors
+/// The call failed to allocate, and nothing has changed. That can happen only where the events would be taken
+/// and the rules would make a subscription.
 pub(crate) fn pull(
     parts: &mut Parts,
     alloc: Global,
@@ -31,6 +35,7 @@ pub(crate) fn pull(
     ensures assembled { IsAssembled parts.new }
     ensures performs { Performs (plain_of parts.old) (plain_of parts.new) (replied result) (pull (plain_of parts.old) generation max) }
     ensures memory { OnErr result (takes_memory (pull (plain_of parts.old) generation max).1 ≡ true) }
+    ensures makes { OnErr result (length (plain_of parts.old).subs < length (pull (plain_of parts.old) generation max).0.subs) }
 {
     if let Err(StaleAgent { now }) = parts.agent.check(generation) {
         return Ok(Told::StaleAgent { now });
@@ -55,13 +60,14 @@ fn slowest(parts: &Parts) -> SubName
 ///
 /// # Errors
 /// The call failed to allocate, and nothing has changed. That can happen only where the events would be
-/// taken.
+/// taken and the rules would make a subscription.
 fn take(parts: &mut Parts, alloc: Global, drops: usize, count: usize) -> Result<Told, AllocError>
     requires agrees { Agrees parts.old }
     requires takeable { IsTakeable parts.old.agent (length parts.old.queue.events) (slowest (plain_of parts.old)) drops count }
     ensures assembled { IsAssembled parts.new }
     ensures performs { Performs (plain_of parts.old) (plain_of parts.new) (replied result) (taken (plain_of parts.old) drops count) }
     ensures memory { OnErr result (takes_memory (taken (plain_of parts.old) drops count).1 ≡ true) }
+    ensures makes { OnErr result (length (plain_of parts.old).subs < length (taken (plain_of parts.old) drops count).0.subs) }
 {
     let high = parts.agent.cache().high();
     let events = parts.queue.between(high, high + count);

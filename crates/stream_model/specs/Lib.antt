@@ -3,6 +3,7 @@ pub mod Draining
 pub mod History
 pub mod Least
 pub mod Looks
+pub mod Memory
 pub mod NewestFirst
 pub mod Places
 pub mod Positions

@@ -1,6 +1,5 @@
 -- The subscriptions of a partition by number, and what each call does to them.
-use Rattle.std.specs.Prelude.{◌≡◌, ℕ, ◌<◌, Bool, List, [], ◌∷◌, ◌++◌, length, get_or, map, set, drop, Option, ◌==◌, if◌then◌else◌}
-use Rattle.std.specs.List.{list_any}
+use Rattle.std.specs.Prelude.{◌≡◌, ℕ, ◌<◌, List, [], ◌∷◌, ◌++◌, length, get_or, map, set, drop, Option, if◌then◌else◌}
 use Rattle.stream_ident.specs.declared.event.Event.{Event}
 use Rattle.stream_ident.specs.declared.ident.GrainId.{GrainId}
 use Rattle.stream_ident.specs.declared.ident.StreamId.{StreamId}
@@ -10,6 +9,7 @@ use Rattle.stream_ident.specs.declared.token.Token.{Token}
 use Rattle.stream_ident.specs.Event.{batch_token}
 use Rattle.stream_ident.specs.SubName.{same_sub}
 use Rattle.stream_ident.specs.Words.{place_of}
+pub use Rattle.consumer_grain.specs.Activations.{is_in}
 use Rattle.consumer_grain.specs.Subscriptions.{PlainState, closed, new_state}
 use Rattle.pubsub_registry.specs.Implying as implying
 use Rattle.pubsub_registry.specs.Registry as registry
@@ -101,9 +101,6 @@ rewound_open s = record s { cursor = if s.is_open then s.resume else s.cursor }
 
 abbrev pub rewound_all : PlainTable → PlainTable
 rewound_all t = record t { states = map rewound_open t.states }
-
-abbrev pub is_in : List ℕ → ℕ → Bool
-is_in numbers number = list_any (λ n. n == number) numbers
 
 -- the cursors of those with these numbers are back at their resumes, where they are open
 pub record AreRewound (numbers : List ℕ) (old new : PlainTable) : Type 0 where

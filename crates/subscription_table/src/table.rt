@@ -1,6 +1,6 @@
 //! The table, with the rows that stand beside the names of its registry: states, tags, and what the tree of
 //! resumes keeps.
-ghost use Rattle.std.specs.Prelude.{◌≡◌, ◌<◌, ◌≤◌, ◌↔◌, ◌+◌, ◌^◌, ◌++◌, None, Some, length, IfNone, IfSome, IsTrue, All, drop, get_or, is_ok, map, set, if◌then◌else◌};
+ghost use Rattle.std.specs.Prelude.{◌≡◌, ◌<◌, ◌≤◌, ◌↔◌, ◌+◌, ◌^◌, ◌++◌, None, Some, length, IfNone, IfSome, IsTrue, OnErr, All, drop, get_or, is_ok, map, set, if◌then◌else◌};
 ghost use Rattle.std.specs.Option.{option_copied};
 ghost use Rattle.pubsub_registry.specs.Index.{AreUnique};
 ghost use Rattle.pubsub_registry.specs.Registry.{is_full};
@@ -152,7 +152,7 @@ impl SubscriptionTable {
 /// nothing, and is sought from a position on.
 ///
 /// # Errors
-/// The call failed to allocate, and nothing has changed.
+/// The call failed to allocate, and nothing has changed. That can happen only where a name has none yet.
 fn add_rows(
     alloc: Global,
     registry: &Registry,
@@ -168,6 +168,7 @@ fn add_rows(
     ensures states { states.new.items ≡ (if is_ok result then states.old.items ++ new_states position (drop (length states.old.items) registry.now.names) else states.old.items) }
     ensures tags { tags.new.items ≡ (if is_ok result then tags.old.items ++ tags_of (drop (length states.old.items) registry.now.names) else tags.old.items) }
     ensures leaves { resumes.new ≡ (if is_ok result then resumes.old ++ new_leaves position (drop (length states.old.items) registry.now.names) else resumes.old) }
+    ensures memory { OnErr result (length states.old.items < length registry.now.names) }
 {
     let len = states.len();
     let more = registry.len() - len;
@@ -185,7 +186,7 @@ fn add_rows(
 /// Pushes the leaves of those names of a registry that have none yet, each with this resume.
 ///
 /// # Errors
-/// The call failed to allocate, and nothing has changed.
+/// The call failed to allocate, and nothing has changed. That can happen only where a name has none yet.
 fn push_leaves(
     alloc: Global,
     registry: &Registry,
@@ -194,7 +195,8 @@ fn push_leaves(
 ) -> Result<(), AllocError>
     requires named { AreNamed resumes.old registry.now.names }
     requires below { position + 2 < 2 ^ 64 }
-    ensures { resumes.new ≡ (if is_ok result then resumes.old ++ new_leaves position (drop (length resumes.old) registry.now.names) else resumes.old) }
+    ensures leaves { resumes.new ≡ (if is_ok result then resumes.old ++ new_leaves position (drop (length resumes.old) registry.now.names) else resumes.old) }
+    ensures memory { OnErr result (length resumes.old < length registry.now.names) }
 {
     let len = resumes.len();
     for number in len..registry.len() {

@@ -65,7 +65,8 @@ impl SubscriptionTable {
     /// aren't there, or none.
     ///
     /// # Errors
-    /// The call failed to allocate, and nothing has changed. That can happen only where all would be made.
+    /// The call failed to allocate, and nothing has changed. That can happen only where there would be more
+    /// subscriptions than before.
     pub fn imply(
         &mut self,
         alloc: Global,
@@ -75,7 +76,7 @@ impl SubscriptionTable {
         requires few { length events.now ≤ 256 }
         requires position { position + 2 < 2 ^ 64 }
         ensures performs { Performs self.old self.new result (imply self.old events.now position) }
-        ensures memory { OnErr result ((imply self.old events.now position).1 ≡ Implied.Implied) }
+        ensures memory { OnErr result (length self.old.registry.names < length (imply self.old events.now position).0.registry.names) }
     {
         let len = self.registry.len();
         if let Implied::TooMany = self.registry.imply(alloc, events)? {

@@ -2,7 +2,7 @@ use Rattle.std.proofs.Common.{◌∙◌, ap, sym, arith}
 use Rattle.grain_table.specs.Grains.{with_grain}
 use Rattle.pubsub_registry.specs.declared.registration.Registration.{Registration}
 use Rattle.step_core.specs.Replied.{reply_of}
-use Rattle.step_core.proofs.HandOps.{Stands, first-assembled, first-memory, first-performs, first-spent, position-few, position-there}
+use Rattle.step_core.proofs.HandOps.{Stands, first-assembled, first-memory, first-performs, first-spent, first-untouched, position-few, position-there}
 use Rattle.step_core.proofs.delivering.hand_first.Goals as goal
 
 pub returns-then-is_spent-clause-performs : goal.returns-then-is_spent-clause-performs
@@ -19,6 +19,12 @@ returns-in_err-add-clause-memory c =
     let parts = c.args.parts.now in
     let stands : Stands parts c.args.delivery.sub = record { agrees = c.requires.agrees; within = c.requires.next.numbered } in
     first-memory parts c.args.delivery c.from_residual.result stands c.requires.next c.requires.first (sym c.is_spent.ensures ∙ c.if-is_spent.false)
+
+pub returns-in_err-add-clause-first : goal.returns-in_err-add-clause-first
+returns-in_err-add-clause-first c =
+    let parts = c.args.parts.now in
+    let stands : Stands parts c.args.delivery.sub = record { agrees = c.requires.agrees; within = c.requires.next.numbered } in
+    first-untouched parts c.args.delivery c.from_residual.result stands c.requires.next c.requires.first
 
 pub sent-requires-clause-position : goal.sent-requires-clause-position
 sent-requires-clause-position c = position-there c.args.parts.now c.args.delivery c.requires.agrees c.requires.next

@@ -13,7 +13,7 @@ use Rattle.step_core.specs.declared.parts.Parts.{Parts}
 use Rattle.step_core.specs.PlainOf.{plain_of}
 use Rattle.step_core.specs.Records.{record_of}
 use Rattle.step_core.specs.Replied.{reply_of}
-use Rattle.step_core.proofs.HandOps.{HasRise, OfferIs, Stands, activation, activation-few, handed-assembled, handed-full, handed-memory, handed-performs, handed-spent, offer-is, offer-room, position-few, position-there}
+use Rattle.step_core.proofs.HandOps.{HasRise, OfferIs, Stands, activation, activation-few, handed-assembled, handed-full, handed-memory, handed-performs, handed-spent, handed-untouched, offer-first, offer-is, position-few, position-there}
 use Rattle.step_core.proofs.delivering.hand_to.Goals as goal
 use Rattle.step_core.proofs.delivering.hand_to.Goals.{else-wakes-via-then-wakes+else-is_spent, else-wakes-via-else-wakes}
 
@@ -51,7 +51,13 @@ returns-in_err-offer-clause-memory c =
       | else-wakes-via-then-wakes+else-is_spent w ↦ λ idle. sym w.is_spent.ensures ∙ w.if-is_spent.false
       | else-wakes-via-else-wakes w ↦ λ idle. absurd (true≢false (sym w.if-wakes.false ∙ (sym active ∙ idle)))
     ] in
-    handed-memory parts c.args.delivery c.args.grain c.from_residual.result stands c.requires.next c.requires.grain (offer-room c.args.grain parts.grains c.args.delivery c.in_err-offer.ensures.memory) rise
+    handed-memory parts c.args.delivery c.args.grain c.from_residual.result stands c.requires.next c.requires.grain (offer-first c.args.grain parts.grains c.args.delivery c.in_err-offer.ensures.memory).0 rise
+
+pub returns-in_err-offer-clause-first : goal.returns-in_err-offer-clause-first
+returns-in_err-offer-clause-first c =
+    let parts = c.args.parts.now in
+    let stands : Stands parts c.args.delivery.sub = record { agrees = c.requires.agrees; within = c.requires.next.numbered } in
+    handed-untouched parts c.args.delivery c.args.grain c.from_residual.result stands c.requires.next c.requires.grain (offer-first c.args.grain parts.grains c.args.delivery c.in_err-offer.ensures.memory).1
 
 pub sent-requires-clause-position : goal.sent-requires-clause-position
 sent-requires-clause-position c = position-there c.args.parts.now c.args.delivery c.requires.agrees c.requires.next

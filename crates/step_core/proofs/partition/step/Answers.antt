@@ -1,7 +1,9 @@
-use Rattle.std.proofs.Common.{sym, ap, ◌∙◌}
+use Rattle.std.proofs.Common.{sym, ap, ◌∙◌, refl}
+use Rattle.std.proofs.lemmas.Bool.{and_from, lt-ltb}
 use Rattle.stream_model.specs.declared.plain.PlainPartition.{PlainPartition}
 use Rattle.stream_model.specs.declared.reply.Reply.{Reply}
-use Rattle.stream_model.specs.Step.{step, takes_memory}
+use Rattle.stream_model.specs.Memory.{may_allocate}
+use Rattle.stream_model.specs.Step.{step}
 use Rattle.stream_model.proofs.Answering.{on-error}
 use Rattle.step_core.specs.PlainOf.{plain_of}
 use Rattle.step_core.proofs.partition.step.Goals as goal
@@ -56,7 +58,7 @@ returns-in_ok-publish-in-Publish-clause-performs c = c.in_ok-publish-in-Publish.
 pub returns-in_err-publish-in-Publish-clause-memory : goal.returns-in_err-publish-in-Publish-clause-memory
 unfolding step
 returns-in_err-publish-in-Publish-clause-memory c =
-    on-error c.from_residual.result (ap {A = PlainPartition × Reply} (λ out. takes_memory out.1) (ap (step (plain_of c.args.parts.now)) c.in-Publish.is) ∙ c.in_err-publish-in-Publish.ensures.memory)
+    on-error c.from_residual.result (ap (may_allocate (plain_of c.args.parts.now)) c.in-Publish.is ∙ and_from _ _ c.in_err-publish-in-Publish.ensures.memory refl)
 
 pub returns-in_ok-subscribe-in-Subscribe-clause-performs : goal.returns-in_ok-subscribe-in-Subscribe-clause-performs
 unfolding step
@@ -65,7 +67,7 @@ returns-in_ok-subscribe-in-Subscribe-clause-performs c = c.in_ok-subscribe-in-Su
 pub returns-in_err-subscribe-in-Subscribe-clause-memory : goal.returns-in_err-subscribe-in-Subscribe-clause-memory
 unfolding step
 returns-in_err-subscribe-in-Subscribe-clause-memory c =
-    on-error c.from_residual-in_err-subscribe-in-Subscribe.result (ap {A = PlainPartition × Reply} (λ out. takes_memory out.1) (ap (step (plain_of c.args.parts.now)) c.in-Subscribe.is) ∙ c.in_err-subscribe-in-Subscribe.ensures.memory)
+    on-error c.from_residual-in_err-subscribe-in-Subscribe.result (ap (may_allocate (plain_of c.args.parts.now)) c.in-Subscribe.is ∙ and_from _ _ c.in_err-subscribe-in-Subscribe.ensures.memory refl)
 
 pub returns-in_ok-pull-in-Pull-clause-performs : goal.returns-in_ok-pull-in-Pull-clause-performs
 unfolding step
@@ -74,7 +76,7 @@ returns-in_ok-pull-in-Pull-clause-performs c = c.in_ok-pull-in-Pull.ensures.perf
 pub returns-in_err-pull-in-Pull-clause-memory : goal.returns-in_err-pull-in-Pull-clause-memory
 unfolding step
 returns-in_err-pull-in-Pull-clause-memory c =
-    on-error c.from_residual-in_err-pull-in-Pull.result (ap {A = PlainPartition × Reply} (λ out. takes_memory out.1) (ap (step (plain_of c.args.parts.now)) c.in-Pull.is) ∙ c.in_err-pull-in-Pull.ensures.memory)
+    on-error c.from_residual-in_err-pull-in-Pull.result (ap (may_allocate (plain_of c.args.parts.now)) c.in-Pull.is ∙ and_from _ _ c.in_err-pull-in-Pull.ensures.memory (lt-ltb _ _ c.in_err-pull-in-Pull.ensures.makes))
 
 pub returns-in_ok-deliver-in-Deliver-clause-performs : goal.returns-in_ok-deliver-in-Deliver-clause-performs
 unfolding step
@@ -83,7 +85,7 @@ returns-in_ok-deliver-in-Deliver-clause-performs c = c.in_ok-deliver-in-Deliver.
 pub returns-in_err-deliver-in-Deliver-clause-memory : goal.returns-in_err-deliver-in-Deliver-clause-memory
 unfolding step
 returns-in_err-deliver-in-Deliver-clause-memory c =
-    on-error c.from_residual-in_err-deliver-in-Deliver.result (ap {A = PlainPartition × Reply} (λ out. takes_memory out.1) (ap (step (plain_of c.args.parts.now)) c.in-Deliver.is) ∙ c.in_err-deliver-in-Deliver.ensures.memory)
+    on-error c.from_residual-in_err-deliver-in-Deliver.result (ap (may_allocate (plain_of c.args.parts.now)) c.in-Deliver.is ∙ and_from _ _ c.in_err-deliver-in-Deliver.ensures.memory c.in_err-deliver-in-Deliver.ensures.first)
 
 pub returns-in_ok-commit-in-Commit-clause-performs : goal.returns-in_ok-commit-in-Commit-clause-performs
 unfolding step
@@ -92,7 +94,7 @@ returns-in_ok-commit-in-Commit-clause-performs c = c.in_ok-commit-in-Commit.ensu
 pub returns-in_err-commit-in-Commit-clause-memory : goal.returns-in_err-commit-in-Commit-clause-memory
 unfolding step
 returns-in_err-commit-in-Commit-clause-memory c =
-    on-error c.from_residual-in_err-commit-in-Commit.result (ap {A = PlainPartition × Reply} (λ out. takes_memory out.1) (ap (step (plain_of c.args.parts.now)) c.in-Commit.is) ∙ c.in_err-commit-in-Commit.ensures.memory)
+    on-error c.from_residual-in_err-commit-in-Commit.result (ap (may_allocate (plain_of c.args.parts.now)) c.in-Commit.is ∙ and_from _ _ c.in_err-commit-in-Commit.ensures.memory refl)
 
 pub returns-in_ok-add_rule-in-AddRule-clause-performs : goal.returns-in_ok-add_rule-in-AddRule-clause-performs
 unfolding step
@@ -101,4 +103,4 @@ returns-in_ok-add_rule-in-AddRule-clause-performs c = c.in_ok-add_rule-in-AddRul
 pub returns-in_err-add_rule-in-AddRule-clause-memory : goal.returns-in_err-add_rule-in-AddRule-clause-memory
 unfolding step
 returns-in_err-add_rule-in-AddRule-clause-memory c =
-    on-error c.from_residual-in_err-add_rule-in-AddRule.result (ap {A = PlainPartition × Reply} (λ out. takes_memory out.1) (ap (step (plain_of c.args.parts.now)) c.in-AddRule.is) ∙ c.in_err-add_rule-in-AddRule.ensures.memory)
+    on-error c.from_residual-in_err-add_rule-in-AddRule.result (ap (may_allocate (plain_of c.args.parts.now)) c.in-AddRule.is ∙ and_from _ _ c.in_err-add_rule-in-AddRule.ensures.memory refl)

@@ -1,4 +1,4 @@
-use Rattle.std.proofs.Common.{◌≡◌, ◌∙◌, ap, subst, true, arith}
+use Rattle.std.proofs.Common.{◌≡◌, ◌∙◌, ◌<◌, ap, subst, true, length, arith}
 use Rattle.std.specs.Prelude.{OnErr}
 use Rattle.stream_ident.specs.declared.ident.SubName.{SubName}
 use Rattle.stream_model.specs.declared.reply.Reply.TheVariants as reply
@@ -38,3 +38,9 @@ returns-in-Take-clause-memory c =
     subst (λ (done : Answer). OnErr c.take.result (takes_memory done.1 ≡ true))
     (planned-is c.args.parts.now c.args.generation c.args.max c.in_default.field-0 c.in_default.ensures c.len-len.result c.least_resume-least.result (plan.Take c.in-Take.drops c.in-Take.count) c.len-len.ensures.count c.least_resume-least.ensures c.in-Take.ensures.plan)
     c.take.ensures.memory
+
+pub returns-in-Take-clause-makes : goal.returns-in-Take-clause-makes
+returns-in-Take-clause-makes c =
+    subst (λ (done : Answer). OnErr c.take.result (length (plain_of c.args.parts.now).subs < length done.0.subs))
+    (planned-is c.args.parts.now c.args.generation c.args.max c.in_default.field-0 c.in_default.ensures c.len-len.result c.least_resume-least.result (plan.Take c.in-Take.drops c.in-Take.count) c.len-len.ensures.count c.least_resume-least.ensures c.in-Take.ensures.plan)
+    c.take.ensures.makes

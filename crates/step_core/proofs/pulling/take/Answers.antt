@@ -4,7 +4,7 @@ use Rattle.partition_queue.specs.Queue.{between}
 use Rattle.queue_cache.specs.Cache.{high}
 use Rattle.step_core.specs.Taking.{ahead}
 use Rattle.step_core.specs.Replied.{reply_of}
-use Rattle.step_core.proofs.TakeOps.{MakesIs, makes-few, makes-is, many-assembled, many-performs, take-assembled, take-memory, take-performs}
+use Rattle.step_core.proofs.TakeOps.{MakesIs, makes-is, makes-more, many-assembled, many-performs, take-assembled, take-makes, take-memory, take-performs}
 use Rattle.step_core.proofs.pulling.take.Goals as goal
 
 pub returns-in_err-imply-clause-memory : goal.returns-in_err-imply-clause-memory
@@ -13,7 +13,15 @@ returns-in_err-imply-clause-memory c =
     let top : c.high-high.result ≡ high parts.agent.cache = c.high-high.ensures ∙ ap high c.cache.ensures in
     let seen : c.between-events.result.now ≡ ahead parts c.args.count = c.between-events.ensures.events ∙ ap (λ from. between parts.queue from (from + c.args.count)) top in
     take-memory parts c.args.drops c.args.count c.from_residual.result c.requires.agrees.assembled (sym c.requires.agrees.records.long)
-    (makes-few parts.subs (ahead parts c.args.count) c.between-events.result.now c.high-high.result seen c.in_err-imply.ensures.memory)
+    (makes-more parts.subs (ahead parts c.args.count) c.between-events.result.now c.high-high.result seen c.in_err-imply.ensures.memory).0
+
+pub returns-in_err-imply-clause-makes : goal.returns-in_err-imply-clause-makes
+returns-in_err-imply-clause-makes c =
+    let parts = c.args.parts.now in
+    let top : c.high-high.result ≡ high parts.agent.cache = c.high-high.ensures ∙ ap high c.cache.ensures in
+    let seen : c.between-events.result.now ≡ ahead parts c.args.count = c.between-events.ensures.events ∙ ap (λ from. between parts.queue from (from + c.args.count)) top in
+    let more = makes-more parts.subs (ahead parts c.args.count) c.between-events.result.now c.high-high.result seen c.in_err-imply.ensures.memory in
+    take-makes parts c.args.drops c.args.count c.from_residual.result c.requires.agrees.assembled (sym c.requires.agrees.records.long) more.0 more.1
 
 pub returns-in-TooMany-clause-assembled : goal.returns-in-TooMany-clause-assembled
 returns-in-TooMany-clause-assembled c =

@@ -6,7 +6,7 @@ use Rattle.consumer_grain.proofs.activation.Activation.offer.Goals.{then-not-sel
 
 pub invariant_of-self-2 : goal.invariant_of-self-2
 invariant_of-self-2 c =
-    let standing : IsStanding c.self.inside.running c.add_number.new.numbers.items = rw c.in_ok-add_number.ensures (record {
+    let standing : IsStanding c.self.inside.running c.add_number.new.numbers.items = rw c.in_ok-add_number.ensures.numbers (record {
       room = c.self.invariant.room;
       rising = rises-with_number 0 c.args.delivery.sub c.self.inside.subs.items (omega arith) c.self.invariant.rising;
     }) in

@@ -2,7 +2,7 @@ use Rattle.std.proofs.Common.{◌≡◌, List, [], ◌∷◌, ◌++◌, ◌<◌,
 use Rattle.std.proofs.lemmas.Bool.{eqb-false}
 use Rattle.std.proofs.lemmas.List.{reverse-append}
 use Rattle.stream_model.specs.declared.op.Op.{Op}
-use Rattle.stream_model.specs.Step.{step, takes_memory}
+use Rattle.stream_model.specs.Memory.{may_allocate}
 use Rattle.step_core.specs.Run.{Does, StopsBefore}
 use Rattle.stream_model.proofs.Answering.{on-error}
 use Rattle.step_core.proofs.RunLemmas.{Does-more, stops-at-once}
@@ -36,7 +36,7 @@ returns-in_err-reply-clause-front c =
       rest = reverse c.pop.new.self.items;
       ops_are = so_far.1 ∙ ap (λ left. so_far.0 ++ left) reversed;
       does = subst (λ p. Does so_far.0 c.args.self.now p c.args.replies.now.items c.loop-op.replies.items) (sym c.in_err-reply.ensures.performs) so_far.2;
-      wants = inr (subst (λ p. takes_memory (step p op).1 ≡ true) (sym c.in_err-reply.ensures.performs) c.in_err-reply.ensures.memory);
+      wants = inr (subst (λ p. may_allocate p op ≡ true) (sym c.in_err-reply.ensures.performs) c.in_err-reply.ensures.memory);
     })
 
 pub returns-in_err-reserve-clause-front : goal.returns-in_err-reserve-clause-front

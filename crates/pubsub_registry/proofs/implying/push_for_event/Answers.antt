@@ -1,0 +1,12 @@
+use Rattle.std.proofs.Common.{◌≡◌, ◌<◌, length, fold, rules}
+use Rattle.std.specs.List.{flat_map}
+use Rattle.stream_ident.specs.Implying.{added}
+use Rattle.pubsub_registry.specs.Implying.{made}
+use Rattle.pubsub_registry.proofs.ImpliedLists.{more-at}
+use Rattle.pubsub_registry.proofs.implying.push_for_event.Goals as goal
+
+pub returns-in_err-push_by_rule-clause-memory : goal.returns-in_err-push_by_rule-clause-memory
+returns-in_err-push_by_rule-clause-memory c =
+    let more : length c.args.subscriptions.now < length (fold added c.args.subscriptions.now (flat_map (made c.args.event.now) c.args.rules.now)) =
+    more-at (made c.args.event.now) c.args.subscriptions.now c.loop-rule.subscriptions c.args.rules.now c.loop-rule.rule-index c.rule-item.result c.loop-rule-test.true c.rule-item.is c.loop-rule.invariant.all c.in_err-push_by_rule.ensures.memory in
+    search (rules, more)
