@@ -106,7 +106,7 @@ fn counts(alloc: Global, text: &[u8]) -> Result<Vec<Count>, AllocError> {
             .iter()
             .position(|count| count.kind.as_slice() == kind)
         {
-            Some(place) => counts[place].lines += 1,
+            Some(place) => counts[place].lines = counts[place].lines.saturating_add(1),
             None => counts.push(Count {
                 kind: kind.to_vec(alloc)?,
                 lines: 1,

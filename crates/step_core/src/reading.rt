@@ -19,8 +19,10 @@ use std::alloc::{AllocError, Global};
 use stream_ident::{Event, GrainId, StreamId, SubName, Token};
 use subscription_table::SubscriptionTable;
 
-/// A subscription that has a record. No two of a partition share a name.
-#[derive(Clone, Copy, Debug, PartialEq, Eq)]
+/// A subscription that has a record.
+///
+/// Summaries are ordered by name first, and no two of a partition share a name.
+#[derive(Clone, Copy, Debug, PartialEq, Eq, PartialOrd, Ord)]
 pub struct SubSummary {
     /// Its name.
     pub name: SubName,
