@@ -1,4 +1,4 @@
-//! Simulates scripts that go to the limits of a partition, and counts their replies.
+//! Simulates scripts that go to the limits of a partition, and counts the lines of their replies.
 ghost use Rattle.std.specs.Prelude.{◌≤◌};
 ghost use Rattle.stream_script.specs.Simulation.{IsSimConfig};
 
@@ -7,14 +7,23 @@ use std::alloc::{AllocError, Global};
 use stream_model::Limits;
 use stream_script::{Counted, SimConfig, sim};
 
-/// Simulates each script, and prints how many lines of each kind it was answered with.
+/// Simulates each script, and prints how many lines it is answered with.
 pub fn print_all<R: Print>(rt: &R, alloc: Global) -> Result<()> {
-    println!(rt; "10,000 grains")?;
-    print_counts(rt, alloc, config(1, 4), &many_grains(alloc)?)?;
-    println!(rt; "a cache of 64 blocks")?;
-    print_counts(rt, alloc, config(1, 64), &large_cache(alloc)?)?;
-    println!(rt; "64 queues")?;
-    print_counts(rt, alloc, config(64, 1), &many_queues(alloc)?)
+    print_lines(
+        rt,
+        alloc,
+        "10,000 grains",
+        config(1, 4),
+        &many_grains(alloc)?,
+    )?;
+    print_lines(
+        rt,
+        alloc,
+        "a cache of 64 blocks",
+        config(1, 64),
+        &large_cache(alloc)?,
+    )?;
+    print_lines(rt, alloc, "64 queues", config(64, 1), &many_queues(alloc)?)
 }
 
 /// A simulation of so many queues, each with a cache of so many blocks.
@@ -72,59 +81,25 @@ fn many_queues(alloc: Global) -> Result<Vec<u8>, AllocError> {
     Ok(script)
 }
 
-/// A kind of line, and how many there were.
-#[derive(Drop)]
-struct Count {
-    kind: Vec<u8>,
-    lines: usize,
-}
-
-/// Simulates a script, and prints the kinds of its lines in the order in which they came first.
-fn print_counts<R: Print>(rt: &R, alloc: Global, config: SimConfig, script: &[u8]) -> Result<()>
+/// Simulates a script, and prints how many lines it is answered with.
+fn print_lines<R: Print>(
+    rt: &R,
+    alloc: Global,
+    name: &str,
+    config: SimConfig,
+    script: &[u8],
+) -> Result<()>
     requires { IsSimConfig config }
 {
     let mut source = Counted::new(script);
     let mut sink = Counted::new(Vec::new(alloc));
     let outcome = sim(alloc, config, &mut source, &mut sink);
     ensure!(outcome.is_ok(), "the simulation failed");
-    for count in &counts(alloc, sink.into_inner().as_slice())? {
-        let kind = String::from_utf8_lossy(alloc, &count.kind)?;
-        println!(rt; "  {kind} {}", count.lines)?;
-    }
+    let lines = count_lines(sink.into_inner().as_slice());
+    println!(rt; "{name}: {lines} lines")?;
     Ok(())
 }
 
-/// Counts the lines of each kind.
-fn counts(alloc: Global, text: &[u8]) -> Result<Vec<Count>, AllocError> {
-    let mut counts: Vec<Count> = Vec::new(alloc);
-    for line in text
-        .split(|byte| *byte == b'\n')
-        .filter(|line| !line.is_empty())
-    {
-        let kind = kind_of(line);
-        match counts
-            .iter()
-            .position(|count| count.kind.as_slice() == kind)
-        {
-            Some(place) => counts[place].lines = counts[place].lines.saturating_add(1),
-            None => counts.push(Count {
-                kind: kind.to_vec(alloc)?,
-                lines: 1,
-            })?,
-        }
-    }
-    Ok(counts)
-}
-
-/// The word behind the number of a queue; of a report's line what stands for a subscription or an event.
-fn kind_of(line: &[u8]) -> &[u8] {
-    let mut words = line.split(|byte| *byte == b' ');
-    let first = words.next().unwrap_or(b"");
-    if first.contains(&b':') {
-        b"subscription"
-    } else if line.starts_with(b"  ") {
-        b"event"
-    } else {
-        words.next().unwrap_or(first)
-    }
+fn count_lines(text: &[u8]) -> usize {
+    text.iter().filter(|byte| **byte == b'\n').count()
 }
