@@ -196,12 +196,12 @@ fn values_and_errors_as_texts(rt: HostRuntime) -> Result<(), Fail> {
     let event = Event {
         stream,
         token: Token { seq: 1, idx: 0 },
-        payload: Payload::new(b"hi")?,
+        payload: Payload::new(b"more than eight bytes")?,
     };
     let text = format!(in rt.alloc(); "{event:?}")?;
     assert_eq!(rt;
         text.as_str(),
-        "Event { stream: StreamId { namespace: orders, key: 7 }, token: Token { seq: 1, idx: 0 }, payload: hi }"
+        "Event { stream: StreamId { namespace: orders, key: 7 }, token: Token { seq: 1, idx: 0 }, payload: more than eight bytes }"
     );
     let wrong = BadName { field: 1, at: 3 };
     let text = format!(in rt.alloc();
