@@ -1,0 +1,70 @@
+-- What holds of every legal history: its producers' entries alone say what a report of it is, once the
+-- partition is quiet. A history stands as it is told, its oldest entry first.
+use Rattle.std.specs.Prelude.{◌≡◌, ◌≢◌, ℕ, Bool, true, false, List, [], filter, Some}
+use Rattle.stream_ident.specs.declared.ident.StreamId.{StreamId}
+use Rattle.stream_ident.specs.declared.ident.SubName.{SubName}
+use Rattle.stream_ident.specs.declared.ident.SubName.TheVariants as name
+use Rattle.stream_model.specs.declared.plain.PlainPartition.{PlainPartition}
+use Rattle.stream_model.specs.declared.plain.Subscription.{Subscription}
+use Rattle.stream_model.specs.declared.reply.Reply.TheVariants.{IsQuiet}
+use Rattle.stream_model.specs.History.{Entry, binding_of, is_closed, owed_events, published_events}
+use Rattle.stream_model.specs.Looks.{quiet}
+use Rattle.stream_model.specs.Positions.{sub_at}
+use Rattle.stream_laws.specs.Laws.{Always}
+use Rattle.step_core.specs.declared.reading.SubSummary.{SubSummary}
+use Rattle.step_core.specs.Reads.{handled_of, summaries_in_order, summaries_of}
+use Rattle.script_printer.specs.Report.{queue_report}
+use Rattle.script_laws.specs.ScriptReport.{explicit_subs, told_report, told_subs}
+use Rattle.script_laws.specs.Told.{Line, producers_entries, rules_of, told}
+
+-- What is published, bound, owed and closed, the rules and the subscriptions that a report names are the same
+-- by the producers' entries alone. This holds of every list of entries, legal or not.
+pub record ProducersTell : Type 0 where
+  pub published : (history : List Entry) → published_events (producers_entries history) ≡ published_events history
+  pub bound : (history : List Entry) (s : SubName) → binding_of (producers_entries history) s ≡ binding_of history s
+  pub owed : (history : List Entry) (s : SubName) → owed_events (producers_entries history) s ≡ owed_events history s
+  pub closed : (history : List Entry) (s : SubName) → is_closed (producers_entries history) s ≡ is_closed history s
+  pub rules : (history : List Entry) → rules_of (producers_entries history) ≡ rules_of history
+  pub subs : (history : List Entry) → told_subs (producers_entries history) ≡ told_subs history
+
+-- The rules of a partition are those that were added, in order.
+abbrev pub RulesAreTold : Type 0
+RulesAreTold = Always (λ history p. p.rules ≡ rules_of history)
+
+abbrev pub is_explicit : SubName → Bool
+is_explicit (name.Explicit number) = true
+is_explicit (name.Implicit kind stream) = false
+
+-- The explicit subscriptions that have a record are those that were made, in the order in which they were.
+abbrev pub ExplicitAreTold : Type 0
+ExplicitAreTold = Always (λ history p. filter (λ (sub : SubSummary). is_explicit sub.name) (summaries_of p) ≡ explicit_subs history)
+
+-- An implicit name that has a record is owed an event. Its record is of the grain of its kind that has the
+-- key of its stream, and is open.
+pub record IsOwedSome (history : List Entry) (kind : List ℕ) (stream : StreamId) (r : Subscription) : Type 0 where
+  pub owed : owed_events history (name.Implicit kind stream) ≢ []
+  pub grain : r.grain ≡ record { kind = kind; key = stream.key }
+  pub is_open : r.is_open ≡ true
+
+abbrev pub ImplicitAreOwed : Type 0
+ImplicitAreOwed =
+    Always (λ history p. (kind : List ℕ) (stream : StreamId) (r : Subscription) → sub_at p (name.Implicit kind stream) ≡ Some r
+    → IsOwedSome history kind stream r)
+
+-- In a quiet partition what an open subscription has handled is all that it is owed.
+abbrev pub OpenHaveAll : Type 0
+OpenHaveAll =
+    Always (λ history p. quiet p ≡ IsQuiet → (s : SubName) → is_closed history s ≡ false → handled_of p s ≡ owed_events history s)
+
+-- In a quiet partition the subscriptions that have a record are those that the history tells, in the order of
+-- their names.
+abbrev pub QuietTells : Type 0
+QuietTells = Always (λ history p. quiet p ≡ IsQuiet → summaries_in_order p ≡ told_subs history)
+
+-- In a quiet partition the report of a queue is the script's, where the producers' entries there are what the
+-- script tells, as far as it says what they are.
+abbrev pub QuietTellsScript : Type 0
+QuietTellsScript =
+    Always (λ history p. quiet p ≡ IsQuiet → (queue : ℕ) (missed : List ℕ) (script : List Line)
+    → producers_entries history ≡ told missed queue script
+    → queue_report queue p ≡ told_report queue (told missed queue script))

@@ -1,0 +1,50 @@
+//! What a script tells the producers of a partition, and what the report of a run of it is.
+//!
+//! A script that is run while silos come and go leaves open when an event is pulled, delivered and handled.
+//! What its producers are told, and what is reported once the partitions are quiet, it leaves open only as far
+//! as `specs/` says: which start tokens are refused. Each function here has no parameter and no effect: its
+//! contract is a law, which its proof shows of the definitions alone.
+#![tactic(auto)]
+
+ghost use Rattle.script_laws.specs.ScriptLaws.{ExplicitAreTold, ImplicitAreOwed, OpenHaveAll, ProducersTell, QuietTells, QuietTellsScript, RulesAreTold};
+
+mod script_line;
+
+pub use script_line::ScriptLine;
+
+/// What is published, bound, owed and closed, the rules and the explicit subscriptions are functions of the
+/// producers' entries alone.
+pub fn producers_tell()
+    ensures { ProducersTell }
+{}
+
+/// The rules of a partition are those that were added, in order.
+pub fn rules_are_told()
+    ensures { RulesAreTold }
+{}
+
+/// The records of the explicit subscriptions are those that were made, in the order of their numbers, each of
+/// its stream and grain, with its start, and open where it isn't unsubscribed.
+pub fn explicit_are_told()
+    ensures { ExplicitAreTold }
+{}
+
+/// An implicit subscription that has a record is owed an event, and is of the grain that its name says.
+pub fn implicit_are_owed()
+    ensures { ImplicitAreOwed }
+{}
+
+/// In a quiet partition each open subscription has handled all that it is owed.
+pub fn open_have_all()
+    ensures { OpenHaveAll }
+{}
+
+/// In a quiet partition the records in the order of their names are what the history tells of them.
+pub fn quiet_tells()
+    ensures { QuietTells }
+{}
+
+/// The report of a quiet partition is the script's, where what its producers asked and were told is.
+pub fn quiet_tells_script()
+    ensures { QuietTellsScript }
+{}
