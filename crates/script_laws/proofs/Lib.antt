@@ -1,0 +1,4 @@
+pub mod Made
+pub mod Producers
+pub mod Registrations
+pub mod ToldSteps
