@@ -1,4 +1,6 @@
 pub mod Made
 pub mod Producers
+pub mod QuietReports
 pub mod Registrations
+pub mod ToldRecords
 pub mod ToldSteps

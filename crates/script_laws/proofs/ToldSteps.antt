@@ -61,7 +61,7 @@ abbrev pub all_given : List Entry → List (ℕ × GrainId)
 all_given history = filter_map (λ (e : Entry). given_by e.op e.reply) history
 
 -- an implicit registration is of its name's grain, and owed one of the events
-abbrev IsImpliedBy : List Event → SubName → StreamId → GrainId → Token → Type 0
+abbrev pub IsImpliedBy : List Event → SubName → StreamId → GrainId → Token → Type 0
 IsImpliedBy events (name.Explicit number) stream grain start = Unit {0}
 IsImpliedBy events (name.Implicit kind own) stream grain start =
     (grain ≡ record { kind = kind; key = own.key }) × (list_any (λ event. is_owed stream start event) events ≡ true)
