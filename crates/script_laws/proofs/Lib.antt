@@ -4,3 +4,4 @@ pub mod QuietReports
 pub mod Registrations
 pub mod ToldRecords
 pub mod ToldSteps
+pub mod WorkedRows
