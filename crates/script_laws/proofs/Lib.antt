@@ -3,5 +3,6 @@ pub mod Producers
 pub mod QuietReports
 pub mod Registrations
 pub mod ToldRecords
+pub mod ToldReplies
 pub mod ToldSteps
 pub mod WorkedRows

@@ -1,9 +1,9 @@
 -- The producers' entries alone say what is published, bound, owed and closed, and which subscriptions there are.
-use Rattle.std.proofs.Common.{◌≡◌, ◌∙◌, ap, sym, refl, ℕ, Bool, true, false, not, List, [], ◌∷◌, ◌++◌, map, filter, reverse, Option, Some, None, option_map}
+use Rattle.std.proofs.Common.{◌≡◌, ◌∙◌, ap, sym, refl, ℕ, suc, Bool, true, false, ◌||◌, not, if◌then◌else◌, length, List, [], ◌∷◌, ◌++◌, map, filter, reverse, Option, Some, None, option_map}
 use Rattle.std.proofs.lemmas.Bool.{cond_both}
 use Rattle.std.proofs.lemmas.List.{map-append, reverse-append}
 use Rattle.std.proofs.lemmas.List.Elements.{filter-append}
-use Rattle.std.specs.List.{cons_option, filter_map}
+use Rattle.std.specs.List.{cons_option, filter_map, list_any}
 use Rattle.stream_ident.specs.declared.event.Event.{Event}
 use Rattle.stream_ident.specs.declared.ident.SubName.{SubName}
 use Rattle.stream_ident.specs.declared.ident.SubName.TheVariants as name
@@ -16,10 +16,11 @@ use Rattle.stream_model.specs.History.{Entry, Binding, binding_of, is_closed, ow
 use Rattle.stream_model.specs.NewestFirst as newest
 use Rattle.stream_model.specs.NewestFirst.{batches_after, binding_after, closed_after, owed_of, published_after}
 use Rattle.stream_model.specs.Pulling.{subs_with}
+use Rattle.stream_laws.specs.Laws.{gives, is_given}
 use Rattle.step_core.specs.Reads.{is_named_before, summary_of}
 use Rattle.script_laws.specs.ScriptLaws.{ProducersTell}
 use Rattle.script_laws.specs.ScriptReport.{explicit_of, explicit_subs, implicit_subs, told_subs}
-use Rattle.script_laws.specs.Told.{is_producer, producers_entries, rule_of, rules_of, told_of}
+use Rattle.script_laws.specs.Told.{batch_count, is_producer, is_subscribed, producers_entries, rule_of, rules_of, subscribed_count, told_of}
 
 -- ---- in either order
 
@@ -185,6 +186,62 @@ implicit-same history = λ i. map summary_of (subs_with (rules-same history i) 0
 
 subs-same : (history : List Entry) → told_subs (producers_entries history) ≡ told_subs history
 subs-same history = λ i. in_order is_named_before (explicit-same history i ++ implicit-same history i)
+
+-- ---- how many there are, and whether there is one
+
+pub batches-same : (history : List Entry) → batch_count (producers_entries history) ≡ batch_count history
+batches-same history = ap newest.batch_count (kept-reverse history) ∙ batches-kept (reverse history)
+
+-- a test of entries that sees no more than a script says, and passes no entry of others
+record IsToldTest (test : Op → Reply → Bool) : Type 0 where
+  alike : (op : Op) (told : Reply) → test op (told_of told) ≡ test op told
+  none : (op : Op) (told : Reply) → is_producer op ≡ false → test op told ≡ false
+
+one-longer : (b : Bool) (x y : Entry) (xs ys : List Entry) → length xs ≡ length ys → length (if b then x ∷ xs else xs) ≡ length (if b then y ∷ ys else ys)
+one-longer true x y xs ys same = ap suc same
+one-longer false x y xs ys same = same
+
+count-kept : (test : Op → Reply → Bool) → IsToldTest test → (history : List Entry)
+    → length (filter (λ (e : Entry). test e.op e.reply) (producers_entries history)) ≡ length (filter (λ (e : Entry). test e.op e.reply) history)
+count-kept test is [] = refl
+count-kept test is (e ∷ history) =
+    kept-cases (λ (entries : List Entry). length (filter (λ (e : Entry). test e.op e.reply) entries) ≡ length (filter (λ (e : Entry). test e.op e.reply) (e ∷ history))) e history
+    (ap (λ b. length (if b then told_entry e ∷ passing (producers_entries history) else passing (producers_entries history))) (is.alike e.op e.reply)
+    ∙ one-longer (test e.op e.reply) (told_entry e) e (passing (producers_entries history)) (passing history) (count-kept test is history))
+    (λ other. count-kept test is history ∙ sym (ap (λ b. length (if b then e ∷ passing history else passing history)) (is.none e.op e.reply other)))
+  where
+    passing : List Entry → List Entry
+    passing entries = filter (λ (e : Entry). test e.op e.reply) entries
+
+any-kept : (test : Op → Reply → Bool) → IsToldTest test → (history : List Entry)
+    → list_any (λ (e : Entry). test e.op e.reply) (producers_entries history) ≡ list_any (λ (e : Entry). test e.op e.reply) history
+any-kept test is [] = refl
+any-kept test is (e ∷ history) =
+    kept-cases (λ (entries : List Entry). list_any (λ (e : Entry). test e.op e.reply) entries ≡ list_any (λ (e : Entry). test e.op e.reply) (e ∷ history)) e history
+    (λ i. is.alike e.op e.reply i || any-kept test is history i)
+    (λ other. any-kept test is history ∙ sym (ap (λ b. b || list_any (λ (e : Entry). test e.op e.reply) history) (is.none e.op e.reply other)))
+
+subscribed-told : (op : Op) (told : Reply) → is_subscribed op (told_of told) ≡ is_subscribed op told
+subscribed-told (Subscribe stream grain start) (reply.Subscribed number) = refl
+subscribed-told op told = refl
+
+subscribed-other : (op : Op) (told : Reply) → is_producer op ≡ false → is_subscribed op told ≡ false
+subscribed-other (Subscribe stream grain start) told other = absurd (cc)
+subscribed-other op told other = refl
+
+pub count-same : (history : List Entry) → subscribed_count (producers_entries history) ≡ subscribed_count history
+count-same history = count-kept is_subscribed (record { alike = subscribed-told; none = subscribed-other }) history
+
+gives-told : (number : ℕ) (op : Op) (told : Reply) → gives number op (told_of told) ≡ gives number op told
+gives-told number (Subscribe stream grain start) (reply.Subscribed given) = refl
+gives-told number op told = refl
+
+gives-other : (number : ℕ) (op : Op) (told : Reply) → is_producer op ≡ false → gives number op told ≡ false
+gives-other number (Subscribe stream grain start) told other = absurd (cc)
+gives-other number op told other = refl
+
+pub given-same : (history : List Entry) (number : ℕ) → is_given (producers_entries history) number ≡ is_given history number
+given-same history number = any-kept (gives number) (record { alike = gives-told number; none = gives-other number }) history
 
 pub producers-tell : ProducersTell
 producers-tell =

@@ -1,6 +1,6 @@
 -- The report of a quiet partition is what its history tells.
-use Rattle.std.proofs.Common.{◌≡◌, ◌∙◌, ap, sym, subst, refl, ℕ, Bool, true, false, ◌&&◌, not, List, [], ◌∷◌, ◌++◌, map, filter, reverse, Option, Some, None, is_some, option_map, if◌then◌else◌}
-use Rattle.std.proofs.lemmas.Bool.{cond_both, false≢true, not-true}
+use Rattle.std.proofs.Common.{◌≡◌, ◌∙◌, ap, sym, subst, refl, ℕ, suc, ◌<◌, nat_lt, Bool, true, false, ◌&&◌, ◌||◌, not, length, arith, List, [], ◌∷◌, ◌++◌, map, filter, reverse, Option, Some, None, is_some, option_map, if◌then◌else◌}
+use Rattle.std.proofs.lemmas.Bool.{false≢true, lt-ltb, not-true, or_parts}
 use Rattle.std.proofs.lemmas.List.{append-nil}
 use Rattle.std.proofs.lemmas.List.Elements.{filter-append, filter_agree}
 use Rattle.std.specs.List.{AllByRecursion, flat_map, list_any}
@@ -46,7 +46,7 @@ use Rattle.script_laws.proofs.Made.{IsMadeOf, all-made-of, made-where-owed}
 use Rattle.script_laws.proofs.Producers.{producers-tell}
 use Rattle.script_laws.proofs.ToldRecords.{any-kept, explicit-told, implicit-owed, implied-record, open-all}
 use Rattle.script_laws.proofs.ToldSteps.{told-legal}
-use Rattle.script_laws.specs.ScriptLaws.{QuietTells, QuietTellsScript, is_explicit}
+use Rattle.script_laws.specs.ScriptLaws.{ImplicitSubsAreOwed, QuietTells, QuietTellsScript, is_explicit, is_owed_some}
 use Rattle.script_laws.specs.ScriptReport.{explicit_subs, implicit_subs, told_report, told_subs, told_text}
 use Rattle.script_laws.specs.Told.{producers_entries, rules_of}
 
@@ -121,6 +121,25 @@ named-once s (entry ∷ entries) unique =
       | false ↦ λ there. named-once s entries unique.1
     ]) refl
 
+-- a name is among the summaries of entries where it has a value
+any-named : (s : SubName) (entries : List (SubName × Subscription)) → list_any (is_named s) (map summary_of entries) ≡ is_some (value_at same_sub s entries)
+any-named s [] = refl
+any-named s (entry ∷ entries) =
+    (elim (same_sub s entry.0) as (λ b. (b || list_any (is_named s) (map summary_of entries)) ≡ is_some (if b then Some entry.1 else value_at same_sub s entries)) [
+      | true ↦ refl
+      | false ↦ any-named s entries
+    ])
+
+some-long : (events : List Event) → (events ≡ [] → ⊥) → nat_lt 0 (length events) ≡ true
+some-long [] some = absurd (some refl)
+some-long (event ∷ events) some = lt-ltb 0 (suc (length events)) (omega arith)
+
+none-kept : (passes : Event → Bool) (events : List Event) → list_any passes events ≡ false → filter passes events ≡ []
+none-kept passes [] none = refl
+none-kept passes (event ∷ events) none =
+    let parts = or_parts (passes event) (list_any passes events) none in
+    ap (λ b. if b then event ∷ filter passes events else filter passes events) parts.0 ∙ none-kept passes events parts.1
+
 -- ---- what holds of each element
 
 All-mapped : {X Y : Type 0} (Q : Y → Type 0) (f : X → Y) (xs : List X) → AllByRecursion (λ (x : X). Q (f x)) xs → AllByRecursion Q (map f xs)
@@ -131,7 +150,7 @@ flat_map-same : {X Y : Type 0} (f g : X → List Y) (xs : List X) → AllByRecur
 flat_map-same f g [] all = refl
 flat_map-same f g (x ∷ xs) all = λ i. all.0 i ++ flat_map-same f g xs all.1 i
 
--- ---- implicit names in a quiet partition
+-- ---- implicit names
 
 abbrev implicit_kind : SubName → List ℕ
 implicit_kind (name.Explicit number) = []
@@ -144,7 +163,7 @@ implicit_key (name.Implicit kind stream) = stream.key
 some-same : (a b : Binding) → Some a ≡ Some b → a ≡ b
 some-same a b same = cc
 
-module _ (blocks : ℕ) (limits : Limits) (history : List Entry) (p : PlainPartition) (stands : Stands blocks limits history p) (is_quiet : quiet p ≡ IsQuiet) where
+module _ (blocks : ℕ) (limits : Limits) (history : List Entry) (p : PlainPartition) (stands : Stands blocks limits history p) where
   abbrev rules : List Rule
   rules = rules_of history
 
@@ -167,9 +186,9 @@ module _ (blocks : ℕ) (limits : Limits) (history : List Entry) (p : PlainParti
   each-made s r found = found-of-all (IsMadeOf rules 0 events) s r made (all-made-of rules 0 events differ) found
 
   -- the rules make a name of what was published exactly where it has a record, and then the same summary
-  made-none : (kind : List ℕ) (stream : StreamId) (o : Option Subscription) → sub_at p (name.Implicit kind stream) ≡ None → value_at same_sub (name.Implicit kind stream) made ≡ o → o ≡ None
-  made-none kind stream None none found = refl
-  made-none kind stream (Some r) none found =
+  made-none : quiet p ≡ IsQuiet → (kind : List ℕ) (stream : StreamId) (o : Option Subscription) → sub_at p (name.Implicit kind stream) ≡ None → value_at same_sub (name.Implicit kind stream) made ≡ o → o ≡ None
+  made-none is_quiet kind stream None none found = refl
+  made-none is_quiet kind stream (Some r) none found =
       let one = each-made (name.Implicit kind stream) r found in
       let bound : binding_of history (name.Implicit kind stream) ≡ Some (record { stream = one.stream; start = batch_token one.from }) =
       bound-at kind stream ∙ (ap (λ s. bound_by_rules s rules) one.name ∙ one.bound)
@@ -198,17 +217,17 @@ module _ (blocks : ℕ) (limits : Limits) (history : List Entry) (p : PlainParti
       let owed = (implied-record blocks limits history p stands s r found).1 in
       absurd (false≢true (ap is_some (sym is) ∙ made-where-owed s rules 0 (record { stream = r.stream; start = r.start }) events (sym (bound-at kind stream) ∙ bound) owed))
 
-  named-made : (kind : List ℕ) (stream : StreamId) (o : Option Subscription) → sub_at p (name.Implicit kind stream) ≡ o
+  named-made : quiet p ≡ IsQuiet → (kind : List ℕ) (stream : StreamId) (o : Option Subscription) → sub_at p (name.Implicit kind stream) ≡ o
       → named_one (name.Implicit kind stream) (value_at same_sub (name.Implicit kind stream) made) ≡ named_one (name.Implicit kind stream) o
-  named-made kind stream None none = ap (named_one (name.Implicit kind stream)) (made-none kind stream (value_at same_sub (name.Implicit kind stream) made) none refl)
-  named-made kind stream (Some r) found = made-some kind stream r (value_at same_sub (name.Implicit kind stream) made) found refl
+  named-made is_quiet kind stream None none = ap (named_one (name.Implicit kind stream)) (made-none is_quiet kind stream (value_at same_sub (name.Implicit kind stream) made) none refl)
+  named-made is_quiet kind stream (Some r) found = made-some kind stream r (value_at same_sub (name.Implicit kind stream) made) found refl
 
-  implicit-named : (kind : List ℕ) (stream : StreamId)
+  implicit-named : quiet p ≡ IsQuiet → (kind : List ℕ) (stream : StreamId)
       → filter (is_named (name.Implicit kind stream)) (implicit_subs history) ≡ filter (is_named (name.Implicit kind stream)) (summaries_of p)
-  implicit-named kind stream =
+  implicit-named is_quiet kind stream =
       named-once (name.Implicit kind stream) (subs_with rules 0 [] events) (unique-fold [] made tt)
       ∙ (ap (named_one (name.Implicit kind stream)) (fold-added-at (name.Implicit kind stream) [] made)
-      ∙ (named-made kind stream (sub_at p (name.Implicit kind stream)) refl
+      ∙ (named-made is_quiet kind stream (sub_at p (name.Implicit kind stream)) refl
       ∙ sym (named-once (name.Implicit kind stream) p.subs (steady-legal blocks limits history p stands).subs)))
 
   -- no explicit name is made
@@ -221,37 +240,65 @@ module _ (blocks : ℕ) (limits : Limits) (history : List Entry) (p : PlainParti
       none-named (name.Explicit number) (subs_with rules 0 [] events)
       (fold-added-at (name.Explicit number) [] made ∙ explicit-unmade number (value_at same_sub (name.Explicit number) made) refl)
 
+  -- a name is among them exactly where it is owed an event
+  owed-some : (kind : List ℕ) (stream : StreamId) (o : Option Subscription) → value_at same_sub (name.Implicit kind stream) made ≡ o → is_some o ≡ is_owed_some history (name.Implicit kind stream)
+  owed-some kind stream (Some r) found =
+      let one = each-made (name.Implicit kind stream) r found in
+      let bound : binding_of history (name.Implicit kind stream) ≡ Some (record { stream = one.stream; start = batch_token one.from }) =
+      bound-at kind stream ∙ (ap (λ s. bound_by_rules s rules) one.name ∙ one.bound)
+      in
+      sym (some-long (owed_events history (name.Implicit kind stream))
+      (λ none. any-kept (λ event. is_owed one.stream (batch_token one.from) event) events one.owed (sym (ap (owed_of events) bound) ∙ none)))
+  owed-some kind stream None found = by (binding_of history (name.Implicit kind stream)) refl
+    where
+      none-owed : (b : Binding) → binding_of history (name.Implicit kind stream) ≡ Some b → (owed : Bool) → list_any (λ event. is_owed b.stream b.start event) events ≡ owed → filter (λ event. is_owed b.stream b.start event) events ≡ []
+      none-owed b bound true owed = absurd (false≢true (ap is_some (sym found) ∙ made-where-owed (name.Implicit kind stream) rules 0 b events (sym (bound-at kind stream) ∙ bound) owed))
+      none-owed b bound false owed = none-kept (λ event. is_owed b.stream b.start event) events owed
+
+      by : (o : Option Binding) → binding_of history (name.Implicit kind stream) ≡ o → false ≡ is_owed_some history (name.Implicit kind stream)
+      by None unbound = sym (ap (λ o. nat_lt 0 (length (owed_of events o))) unbound)
+      by (Some b) bound =
+          sym (ap (λ o. nat_lt 0 (length (owed_of events o))) bound ∙ ap (λ (owed : List Event). nat_lt 0 (length owed)) (none-owed b bound (list_any (λ event. is_owed b.stream b.start event) events) refl))
+
+  pub told-where-owed : (s : SubName) → list_any (is_named s) (implicit_subs history) ≡ is_owed_some history s
+  told-where-owed s =
+      any-named s (subs_with rules 0 [] events) ∙ (ap is_some (fold-added-at s [] made) ∙ by s)
+    where
+      by : (s : SubName) → is_some (value_at same_sub s made) ≡ is_owed_some history s
+      by (name.Explicit number) = ap is_some (explicit-unmade number (value_at same_sub (name.Explicit number) made) refl)
+      by (name.Implicit kind stream) = owed-some kind stream (value_at same_sub (name.Implicit kind stream) made) refl
+
   -- ---- all names
 
-  told-named : (s : SubName) → filter (is_named s) (summaries_of p) ≡ filter (is_named s) (explicit_subs history) ++ filter (is_named s) (implicit_subs history)
-  told-named (name.Explicit number) =
+  told-named : quiet p ≡ IsQuiet → (s : SubName) → filter (is_named s) (summaries_of p) ≡ filter (is_named s) (explicit_subs history) ++ filter (is_named s) (implicit_subs history)
+  told-named is_quiet (name.Explicit number) =
       sym (filter-within (is_named (name.Explicit number)) is_explicit_one (λ sub left. explicit-within number sub.name left) (summaries_of p))
       ∙ (ap (filter (is_named (name.Explicit number))) (explicit-told blocks limits history p stands)
       ∙ (sym (append-nil (filter (is_named (name.Explicit number)) (explicit_subs history)))
       ∙ ap (λ rest. filter (is_named (name.Explicit number)) (explicit_subs history) ++ rest) (sym (explicit-named number))))
-  told-named (name.Implicit kind stream) =
-      sym (implicit-named kind stream)
+  told-named is_quiet (name.Implicit kind stream) =
+      sym (implicit-named is_quiet kind stream)
       ∙ ap (λ first. first ++ filter (is_named (name.Implicit kind stream)) (implicit_subs history))
       (sym (ap (filter (is_named (name.Implicit kind stream))) (sym (explicit-told blocks limits history p stands))
       ∙ filter-none (is_named (name.Implicit kind stream)) is_explicit_one (λ sub kept. explicit-none kind stream sub.name kept) (summaries_of p)))
 
-  told-stable : (z : SubSummary) → filter (ties is_named_before z) (summaries_of p) ≡ filter (ties is_named_before z) (explicit_subs history ++ implicit_subs history)
-  told-stable z =
+  told-stable : quiet p ≡ IsQuiet → (z : SubSummary) → filter (ties is_named_before z) (summaries_of p) ≡ filter (ties is_named_before z) (explicit_subs history ++ implicit_subs history)
+  told-stable is_quiet z =
       filter_agree (ties is_named_before z) (is_named z.name) (ties-named z) (summaries_of p)
-      ∙ (told-named z.name
+      ∙ (told-named is_quiet z.name
       ∙ (sym (filter-append (is_named z.name) (explicit_subs history) (implicit_subs history))
       ∙ sym (filter_agree (ties is_named_before z) (is_named z.name) (ties-named z) (explicit_subs history ++ implicit_subs history))))
 
-  pub told-in-order : summaries_in_order p ≡ told_subs history
-  told-in-order = in_order-stable is_named_before named_order (explicit_subs history ++ implicit_subs history) (summaries_of p) told-stable
+  pub told-in-order : quiet p ≡ IsQuiet → summaries_in_order p ≡ told_subs history
+  told-in-order is_quiet = in_order-stable is_named_before named_order (explicit_subs history ++ implicit_subs history) (summaries_of p) (told-stable is_quiet)
 
   -- ---- the text
 
   abbrev TellsText : ℕ → SubSummary → Type 0
   TellsText queue sub = summary_text queue p sub ≡ told_text queue history sub
 
-  record-text : (queue : ℕ) (s : SubName) (r : Subscription) → sub_at p s ≡ Some r → TellsText queue (summary_of (s, r))
-  record-text queue s r found =
+  record-text : quiet p ≡ IsQuiet → (queue : ℕ) (s : SubName) (r : Subscription) → sub_at p s ≡ Some r → TellsText queue (summary_of (s, r))
+  record-text is_quiet queue s r found =
       (elim r.is_open as (λ b. r.is_open ≡ b
       → (if b then open_text queue (summary_of (s, r)) (handled_of p s) else closed_text queue s) ≡ (if b then open_text queue (summary_of (s, r)) (owed_events history s) else closed_text queue s)) [
         | true ↦ λ is_open.
@@ -260,16 +307,19 @@ module _ (blocks : ℕ) (limits : Limits) (history : List Entry) (p : PlainParti
         | false ↦ λ closed. refl
       ]) refl
 
-  all-texts : (queue : ℕ) → AllByRecursion (TellsText queue) (summaries_in_order p)
-  all-texts queue =
+  all-texts : quiet p ≡ IsQuiet → (queue : ℕ) → AllByRecursion (TellsText queue) (summaries_in_order p)
+  all-texts is_quiet queue =
       All-in_order (TellsText queue) is_named_before (summaries_of p)
       (All-mapped (TellsText queue) summary_of p.subs
-      (each-entry same_sub sub_equality (λ s r. TellsText queue (summary_of (s, r))) p.subs (steady-legal blocks limits history p stands).subs (record-text queue)))
+      (each-entry same_sub sub_equality (λ s r. TellsText queue (summary_of (s, r))) p.subs (steady-legal blocks limits history p stands).subs (record-text is_quiet queue)))
 
-  pub report-told : (queue : ℕ) → queue_report queue p ≡ told_report queue history
-  report-told queue =
-      flat_map-same (summary_text queue p) (told_text queue history) (summaries_in_order p) (all-texts queue)
-      ∙ ap (flat_map (told_text queue history)) told-in-order
+  pub report-told : quiet p ≡ IsQuiet → (queue : ℕ) → queue_report queue p ≡ told_report queue history
+  report-told is_quiet queue =
+      flat_map-same (summary_text queue p) (told_text queue history) (summaries_in_order p) (all-texts is_quiet queue)
+      ∙ ap (flat_map (told_text queue history)) (told-in-order is_quiet)
+
+pub implicit-where-owed : ImplicitSubsAreOwed
+implicit-where-owed blocks limits history p stands s = told-where-owed blocks limits history p stands s
 
 pub quiet-told : QuietTells
 quiet-told blocks limits history p stands is_quiet = told-in-order blocks limits history p stands is_quiet

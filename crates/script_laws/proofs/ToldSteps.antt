@@ -1,8 +1,8 @@
 -- What a history tells of the registrations and the rules of the partition that it leaves.
-use Rattle.std.proofs.Common.{◌≡◌, ◌∙◌, ap, sym, subst, refl, ℕ, suc, ◌+◌, ◌-◌, ◌*◌, ◌<◌, ◌==◌, ◌&&◌, ◌||◌, not, min, nat_lt, nat_le, Bool, true, false, List, [], ◌∷◌, ◌++◌, length, map, take, drop, reverse, fold, Option, Some, None, is_some, if◌then◌else◌, arith}
+use Rattle.std.proofs.Common.{◌≡◌, ◌∙◌, ap, sym, subst, refl, ℕ, suc, ◌+◌, ◌-◌, ◌*◌, ◌<◌, ◌==◌, ◌&&◌, ◌||◌, not, min, nat_lt, nat_le, Bool, true, false, List, [], ◌∷◌, ◌++◌, length, map, filter, take, drop, reverse, fold, Option, Some, None, is_some, if◌then◌else◌, arith}
 use Rattle.std.proofs.lemmas.Bool.{cond_both, false≢true, or_right}
-use Rattle.std.proofs.lemmas.List.{append-nil, append_assoc, map-append, reverse-append, take-append-drop}
-use Rattle.std.proofs.lemmas.List.Elements.{filter_map-append}
+use Rattle.std.proofs.lemmas.List.{append-nil, append_assoc, length-append, map-append, reverse-append, take-append-drop}
+use Rattle.std.proofs.lemmas.List.Elements.{filter-append, filter_map-append}
 use Rattle.std.proofs.lemmas.List.Folds.{list_any-append}
 use Rattle.std.specs.List.{AllByRecursion, cons_option, filter_map, list_any}
 use Rattle.stream_ident.specs.declared.event.Event.{Event}
@@ -42,7 +42,7 @@ use Rattle.stream_laws.proofs.Legal.{fits-empty, fits-step}
 use Rattle.stream_laws.proofs.Summary.{Summary, summary}
 use Rattle.script_laws.proofs.Made.{IsMadeOf, all-made-of}
 use Rattle.script_laws.proofs.Registrations.{Keeps, Registration, keeps-ack, keeps-begin, keeps-commit, keeps-deactivate, keeps-deliver, keeps-move, keeps-publish, keeps-purge, keeps-retry, keeps-unsubscribe, registered, registrations}
-use Rattle.script_laws.specs.Told.{rule_of, rules_of}
+use Rattle.script_laws.specs.Told.{is_subscribed, rule_of, rules_of, subscribed_count}
 
 -- the number and the grain of an explicit registration
 abbrev given_name : SubName → GrainId → Option (ℕ × GrainId)
@@ -71,6 +71,7 @@ IsImplied events made = IsImpliedBy events made.name made.stream made.grain made
 
 pub record IsTold (history : List Entry) (p : PlainPartition) : Type 0 where
   pub rules : p.rules ≡ rules_of history
+  pub number : p.explicit ≡ subscribed_count history
   pub given : filter_map given_of (registrations p.subs) ≡ all_given history
   pub implied : AllByRecursion (IsImplied (published_events history)) (registrations p.subs)
   pub closed : (kind : List ℕ) (stream : StreamId) → is_closed history (name.Implicit kind stream) ≡ false
@@ -96,6 +97,23 @@ made-same : {Y : Type 0} (made : Op → Reply → Option Y) (history : List Entr
 made-same made history op told none =
     made-grown made history op told
     ∙ (ap (λ o. filter_map (λ (e : Entry). made e.op e.reply) history ++ cons_option o []) none ∙ append-nil (filter_map (λ (e : Entry). made e.op e.reply) history))
+
+-- a subscribe that was answered with a number is one more, and nothing else is
+abbrev counted : Op → Reply → List Entry
+counted op told = if is_subscribed op told then record { op = op; reply = told } ∷ [] else []
+
+count-grown : (history : List Entry) (op : Op) (told : Reply) → subscribed_count (grown history op told) ≡ subscribed_count history + length (counted op told)
+count-grown history op told =
+    ap length (filter-append (λ (e : Entry). is_subscribed e.op e.reply) history (record { op = op; reply = told } ∷ []))
+    ∙ length-append (filter (λ (e : Entry). is_subscribed e.op e.reply) history) (filter (λ (e : Entry). is_subscribed e.op e.reply) (record { op = op; reply = told } ∷ []))
+
+count-same : (history : List Entry) (op : Op) (told : Reply) → is_subscribed op told ≡ false → subscribed_count (grown history op told) ≡ subscribed_count history
+count-same history op told none =
+    let no_more : length (counted op told) ≡ 0 = rw none refl in
+    count-grown history op told ∙ (ap (λ n. subscribed_count history + n) no_more ∙ plus-zero (subscribed_count history))
+  where
+    plus-zero : (n : ℕ) → n + 0 ≡ n
+    plus-zero n = omega arith
 
 any-append : (passes : Event → Bool) (events more : List Event) → list_any passes events ≡ true → list_any passes (events ++ more) ≡ true
 any-append passes events more any = list_any-append passes events more ∙ ap (λ b. b || list_any passes more) any
@@ -124,12 +142,14 @@ closes-none history op told s open_s none = closed-grown history op told s ∙ (
 record IsPlain (op : Op) (told : Reply) : Type 0 where
   rule : rule_of op told ≡ None
   given : given_by op told ≡ None
+  number : is_subscribed op told ≡ false
   closed : (kind : List ℕ) (stream : StreamId) → closed_after (name.Implicit kind stream) false op told ≡ false
 
 told-kept : (history : List Entry) (p : PlainPartition) (op : Op) (out : PlainPartition × Reply) → IsTold history p → Keeps p out → IsPlain op out.1 → IsTold (grown history op out.1) out.0
 told-kept history p op out told keeps plain =
     record {
       rules = keeps.1 ∙ (told.rules ∙ sym (made-same rule_of history op out.1 plain.rule));
+      number = keeps.2 ∙ (told.number ∙ sym (count-same history op out.1 plain.number));
       given = ap (filter_map given_of) keeps.0 ∙ (told.given ∙ sym (made-same given_by history op out.1 plain.given));
       implied = subst (AllByRecursion (IsImplied (published_events (grown history op out.1)))) (sym keeps.0) (implied-grown history op out.1 (registrations p.subs) told.implied);
       closed = λ kind stream. closes-none history op out.1 (name.Implicit kind stream) (told.closed kind stream) (plain.closed kind stream);
@@ -153,9 +173,10 @@ told-subscribed : (history : List Entry) (p : PlainPartition) (stream : StreamId
 unfolding subscribe_at
 told-subscribed history p stream grain from start position none told =
     cond_both (nat_le p.limits.subs (length p.subs)) _ _ (ToldAfter history (op.Subscribe stream grain from))
-    (λ _. told-kept history p (op.Subscribe stream grain from) (p, reply.TooMany) told (refl, refl) (record { rule = refl; given = refl; closed = λ kind stream. refl }))
+    (λ _. told-kept history p (op.Subscribe stream grain from) (p, reply.TooMany) told (refl, refl, refl) (record { rule = refl; given = refl; number = refl; closed = λ kind stream. refl }))
     (λ _. record {
       rules = told.rules ∙ sym (made-same rule_of history (op.Subscribe stream grain from) (reply.Subscribed (suc p.explicit)) refl);
+      number = next (subscribed_count history) told.number ∙ sym (count-grown history (op.Subscribe stream grain from) (reply.Subscribed (suc p.explicit)));
       given =
           ap (filter_map given_of) pushed
           ∙ (filter_map-append given_of (registrations p.subs) (last ∷ [])
@@ -168,6 +189,9 @@ told-subscribed history p stream grain from start position none told =
       closed = λ kind own. closes-none history (op.Subscribe stream grain from) (reply.Subscribed (suc p.explicit)) (name.Implicit kind own) (told.closed kind own) refl;
     })
   where
+    next : (n : ℕ) → p.explicit ≡ n → suc p.explicit ≡ n + 1
+    next n is = omega (arith, is)
+
     last : Registration
     last = record { name = name.Explicit (suc p.explicit); stream = stream; grain = grain; start = start }
 
@@ -182,7 +206,7 @@ unfolding subscribe
 told-subscribe history p stream grain Latest none told = told-subscribed history p stream grain Latest (batch_token p.batches) p.high none told
 told-subscribe history p stream grain (At token) none told =
     cond_both (token_lt token (low_token p)) _ _ (ToldAfter history (op.Subscribe stream grain (At token)))
-    (λ _. told-kept history p (op.Subscribe stream grain (At token)) (p, _) told (refl, refl) (record { rule = refl; given = refl; closed = λ kind stream. refl }))
+    (λ _. told-kept history p (op.Subscribe stream grain (At token)) (p, _) told (refl, refl, refl) (record { rule = refl; given = refl; number = refl; closed = λ kind stream. refl }))
     (λ _. told-subscribed history p stream grain (At token) token (lower_bound p token) none told)
 
 -- ---- an unsubscribe, of which no implicit name is
@@ -203,7 +227,7 @@ closed-unsubscribe p s kind stream = closed-unsubscribe_from p s (sub_at p s) ki
 told-unsubscribe : (history : List Entry) (p : PlainPartition) (s : SubName) → IsTold history p → ToldAfter history (op.Unsubscribe s) (unsubscribe p s)
 told-unsubscribe history p s told =
     told-kept history p (op.Unsubscribe s) (unsubscribe p s) told (keeps-unsubscribe p s)
-    (record { rule = refl; given = refl; closed = λ kind stream. closed-unsubscribe p s kind stream })
+    (record { rule = refl; given = refl; number = refl; closed = λ kind stream. closed-unsubscribe p s kind stream })
 
 -- ---- a rule
 
@@ -211,13 +235,14 @@ told-add_rule : (history : List Entry) (p : PlainPartition) (kind namespace : Li
 unfolding add_rule
 told-add_rule history p kind namespace told =
     cond_both (list_any (λ (rule : Rule). same_name kind rule.kind && same_name namespace rule.namespace) p.rules) _ _ (ToldAfter history (op.AddRule kind namespace))
-    (λ _. told-kept history p (op.AddRule kind namespace) (p, reply.RuleThere) told (refl, refl) (record { rule = refl; given = refl; closed = λ kind stream. refl }))
+    (λ _. told-kept history p (op.AddRule kind namespace) (p, reply.RuleThere) told (refl, refl, refl) (record { rule = refl; given = refl; number = refl; closed = λ kind stream. refl }))
     (λ _. cond_both (nat_le p.limits.rules (length p.rules)) _ _ (ToldAfter history (op.AddRule kind namespace))
-    (λ _. told-kept history p (op.AddRule kind namespace) (p, reply.TooMany) told (refl, refl) (record { rule = refl; given = refl; closed = λ kind stream. refl }))
+    (λ _. told-kept history p (op.AddRule kind namespace) (p, reply.TooMany) told (refl, refl, refl) (record { rule = refl; given = refl; number = refl; closed = λ kind stream. refl }))
     (λ _. record {
       rules =
           ap (λ rules. rules ++ record { kind = kind; namespace = namespace; from = p.batches } ∷ []) told.rules
           ∙ sym (made-grown rule_of history (op.AddRule kind namespace) (reply.RuleAdded p.batches));
+      number = told.number ∙ sym (count-same history (op.AddRule kind namespace) (reply.RuleAdded p.batches) refl);
       given = told.given ∙ sym (made-same given_by history (op.AddRule kind namespace) (reply.RuleAdded p.batches) refl);
       implied = implied-grown history (op.AddRule kind namespace) (reply.RuleAdded p.batches) (registrations p.subs) told.implied;
       closed = λ own_kind stream. closes-none history (op.AddRule kind namespace) (reply.RuleAdded p.batches) (name.Implicit own_kind stream) (told.closed own_kind stream) refl;
@@ -279,9 +304,10 @@ told-pulled : (history : List Entry) (p : PlainPartition) (generation max_events
 unfolding pull_events
 told-pulled history p generation max_events low high fits told =
     cond_both (nat_lt p.limits.subs (length (subs_with p.rules p.high p.subs (between p.log p.high high)))) _ _ (ToldAfter history (op.Pull generation max_events))
-    (λ _. told-kept history p (op.Pull generation max_events) (p, reply.TooMany) told (refl, refl) (record { rule = refl; given = refl; closed = λ kind stream. refl }))
+    (λ _. told-kept history p (op.Pull generation max_events) (p, reply.TooMany) told (refl, refl, refl) (record { rule = refl; given = refl; number = refl; closed = λ kind stream. refl }))
     (λ _. record {
       rules = told.rules ∙ sym (made-same rule_of history (op.Pull generation max_events) _ refl);
+      number = told.number ∙ sym (count-same history (op.Pull generation max_events) _ refl);
       given = next.0 ∙ (told.given ∙ sym (made-same given_by history (op.Pull generation max_events) _ refl));
       implied = implied-grown history (op.Pull generation max_events) _ (registrations (subs_with p.rules p.high p.subs (between p.log p.high high))) next.1;
       closed = λ kind stream. closes-none history (op.Pull generation max_events) _ (name.Implicit kind stream) (told.closed kind stream) refl;
@@ -302,7 +328,7 @@ told-pull_want : (history : List Entry) (p : PlainPartition) (generation max_eve
 unfolding pull_want pull_count
 told-pull_want history p generation max_events want fits told =
     cond_both (min want (room p + 64 * drops p want) == 0) _ _ (ToldAfter history (op.Pull generation max_events))
-    (λ _. told-kept history p (op.Pull generation max_events) (p, _) told (refl, refl) (record { rule = refl; given = refl; closed = λ kind stream. refl }))
+    (λ _. told-kept history p (op.Pull generation max_events) (p, _) told (refl, refl, refl) (record { rule = refl; given = refl; number = refl; closed = λ kind stream. refl }))
     (λ _. told-pulled history p generation max_events (p.low + 64 * drops p want) (p.high + min want (room p + 64 * drops p want)) fits told)
 
 told-pull : (history : List Entry) (p : PlainPartition) (generation max_events : ℕ) → Fits (summary (reverse history)) p → IsTold history p
@@ -310,9 +336,9 @@ told-pull : (history : List Entry) (p : PlainPartition) (generation max_events :
 unfolding pull
 told-pull history p generation max_events fits told =
     cond_both (is_stale p generation) _ _ (ToldAfter history (op.Pull generation max_events))
-    (λ _. told-kept history p (op.Pull generation max_events) (p, _) told (refl, refl) (record { rule = refl; given = refl; closed = λ kind stream. refl }))
+    (λ _. told-kept history p (op.Pull generation max_events) (p, _) told (refl, refl, refl) (record { rule = refl; given = refl; number = refl; closed = λ kind stream. refl }))
     (λ _. cond_both (p.high == length p.log) _ _ (ToldAfter history (op.Pull generation max_events))
-    (λ _. told-kept history p (op.Pull generation max_events) (p, reply.Dry) told (refl, refl) (record { rule = refl; given = refl; closed = λ kind stream. refl }))
+    (λ _. told-kept history p (op.Pull generation max_events) (p, reply.Dry) told (refl, refl, refl) (record { rule = refl; given = refl; number = refl; closed = λ kind stream. refl }))
     (λ _. told-pull_want history p generation max_events (min (pull_size max_events) (length p.log - p.high)) fits told))
 
 -- ---- every step
@@ -320,34 +346,34 @@ told-pull history p generation max_events fits told =
 told-step : (history : List Entry) (p : PlainPartition) (o : Op) → Fits (summary (reverse history)) p → IsTold history p → ToldAfter history o (step p o)
 unfolding step
 told-step history p (op.Publish stream payloads) fits told =
-    told-kept history p (op.Publish stream payloads) _ told (keeps-publish p stream payloads) (record { rule = refl; given = refl; closed = λ kind stream. refl })
+    told-kept history p (op.Publish stream payloads) _ told (keeps-publish p stream payloads) (record { rule = refl; given = refl; number = refl; closed = λ kind stream. refl })
 told-step history p (op.Subscribe stream grain start) fits told =
     told-subscribe history p stream grain start (fits.names.unused (suc p.explicit) (omega arith)) told
 told-step history p (op.Unsubscribe sub) fits told = told-unsubscribe history p sub told
 told-step history p (op.AddRule kind namespace) fits told = told-add_rule history p kind namespace told
 told-step history p (op.Pull generation max_events) fits told = told-pull history p generation max_events fits told
 told-step history p (op.Deliver generation sub) fits told =
-    told-kept history p (op.Deliver generation sub) _ told (keeps-deliver p generation sub) (record { rule = refl; given = refl; closed = λ kind stream. refl })
+    told-kept history p (op.Deliver generation sub) _ told (keeps-deliver p generation sub) (record { rule = refl; given = refl; number = refl; closed = λ kind stream. refl })
 told-step history p (op.Retry generation sub) fits told =
-    told-kept history p (op.Retry generation sub) _ told (keeps-retry p generation sub) (record { rule = refl; given = refl; closed = λ kind stream. refl })
+    told-kept history p (op.Retry generation sub) _ told (keeps-retry p generation sub) (record { rule = refl; given = refl; number = refl; closed = λ kind stream. refl })
 told-step history p (op.Ack generation sub token) fits told =
-    told-kept history p (op.Ack generation sub token) _ told (keeps-ack p generation sub token) (record { rule = refl; given = refl; closed = λ kind stream. refl })
+    told-kept history p (op.Ack generation sub token) _ told (keeps-ack p generation sub token) (record { rule = refl; given = refl; number = refl; closed = λ kind stream. refl })
 told-step history p (op.Purge generation keep) fits told =
-    told-kept history p (op.Purge generation keep) _ told (keeps-purge p generation keep) (record { rule = refl; given = refl; closed = λ kind stream. refl })
+    told-kept history p (op.Purge generation keep) _ told (keeps-purge p generation keep) (record { rule = refl; given = refl; number = refl; closed = λ kind stream. refl })
 told-step history p (op.Begin grain max_events) fits told =
-    told-kept history p (op.Begin grain max_events) _ told (keeps-begin p grain max_events) (record { rule = refl; given = refl; closed = λ kind stream. refl })
+    told-kept history p (op.Begin grain max_events) _ told (keeps-begin p grain max_events) (record { rule = refl; given = refl; number = refl; closed = λ kind stream. refl })
 told-step history p (op.Commit grain activation turn note) fits told =
-    told-kept history p (op.Commit grain activation turn note) _ told (keeps-commit p grain activation turn note) (record { rule = refl; given = refl; closed = λ kind stream. refl })
+    told-kept history p (op.Commit grain activation turn note) _ told (keeps-commit p grain activation turn note) (record { rule = refl; given = refl; number = refl; closed = λ kind stream. refl })
 told-step history p (op.Deactivate grain) fits told =
-    told-kept history p (op.Deactivate grain) _ told (keeps-deactivate p grain) (record { rule = refl; given = refl; closed = λ kind stream. refl })
+    told-kept history p (op.Deactivate grain) _ told (keeps-deactivate p grain) (record { rule = refl; given = refl; number = refl; closed = λ kind stream. refl })
 told-step history p (op.Move silo) fits told =
-    told-kept history p (op.Move silo) _ told (keeps-move p silo) (record { rule = refl; given = refl; closed = λ kind stream. refl })
+    told-kept history p (op.Move silo) _ told (keeps-move p silo) (record { rule = refl; given = refl; number = refl; closed = λ kind stream. refl })
 told-step history p (op.Ready after) fits told =
-    told-kept history p (op.Ready after) (p, _) told (refl, refl) (record { rule = refl; given = refl; closed = λ kind stream. refl })
+    told-kept history p (op.Ready after) (p, _) told (refl, refl, refl) (record { rule = refl; given = refl; number = refl; closed = λ kind stream. refl })
 told-step history p (op.Due after) fits told =
-    told-kept history p (op.Due after) (p, _) told (refl, refl) (record { rule = refl; given = refl; closed = λ kind stream. refl })
+    told-kept history p (op.Due after) (p, _) told (refl, refl, refl) (record { rule = refl; given = refl; number = refl; closed = λ kind stream. refl })
 told-step history p op.Quiet fits told =
-    told-kept history p op.Quiet (p, _) told (refl, refl) (record { rule = refl; given = refl; closed = λ kind stream. refl })
+    told-kept history p op.Quiet (p, _) told (refl, refl, refl) (record { rule = refl; given = refl; number = refl; closed = λ kind stream. refl })
 
 -- ---- every legal history
 
@@ -364,4 +390,4 @@ told-leads history p (e ∷ entries) q fits told leads =
 pub told-legal : (blocks : ℕ) (limits : Limits) (history : List Entry) (p : PlainPartition) → Stands blocks limits history p → IsTold history p
 told-legal blocks limits history p stands =
     told-leads [] (empty blocks limits) history p (fits-empty blocks limits)
-    (record { rules = refl; given = refl; implied = tt; closed = λ kind stream. refl }) stands
+    (record { rules = refl; number = refl; given = refl; implied = tt; closed = λ kind stream. refl }) stands

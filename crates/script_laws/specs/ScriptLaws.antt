@@ -1,21 +1,25 @@
 -- What holds of every legal history: its producers' entries alone say what a report of it is, once the
 -- partition is quiet. A history stands as it is told, its oldest entry first.
-use Rattle.std.specs.Prelude.{◌≡◌, ◌≢◌, ℕ, Bool, true, false, List, [], filter, Some}
+use Rattle.std.specs.Prelude.{◌≡◌, ◌≢◌, ℕ, Bool, true, false, List, [], filter, length, nat_lt, Some}
+use Rattle.std.specs.List.{list_any}
 use Rattle.stream_ident.specs.declared.ident.StreamId.{StreamId}
 use Rattle.stream_ident.specs.declared.ident.SubName.{SubName}
 use Rattle.stream_ident.specs.declared.ident.SubName.TheVariants as name
+use Rattle.stream_ident.specs.SubName.{same_sub}
 use Rattle.stream_model.specs.declared.plain.PlainPartition.{PlainPartition}
 use Rattle.stream_model.specs.declared.plain.Subscription.{Subscription}
+use Rattle.stream_model.specs.declared.reply.Reply.{Reply}
+use Rattle.stream_model.specs.declared.reply.Reply.TheVariants as reply
 use Rattle.stream_model.specs.declared.reply.Reply.TheVariants.{IsQuiet}
 use Rattle.stream_model.specs.History.{Entry, binding_of, is_closed, owed_events, published_events}
 use Rattle.stream_model.specs.Looks.{quiet}
 use Rattle.stream_model.specs.Positions.{sub_at}
-use Rattle.stream_laws.specs.Laws.{Always}
+use Rattle.stream_laws.specs.Laws.{Always, AtEach}
 use Rattle.step_core.specs.declared.reading.SubSummary.{SubSummary}
 use Rattle.step_core.specs.Reads.{handled_of, summaries_in_order, summaries_of}
 use Rattle.script_printer.specs.Report.{queue_report}
-use Rattle.script_laws.specs.ScriptReport.{explicit_subs, told_report, told_subs}
-use Rattle.script_laws.specs.Told.{Line, producers_entries, rules_of, told}
+use Rattle.script_laws.specs.ScriptReport.{explicit_subs, implicit_subs, told_report, told_subs}
+use Rattle.script_laws.specs.Told.{Line, is_among, is_producer, producers_entries, rules_of, told, told_of, told_reply}
 
 -- What is published, bound, owed and closed, the rules and the subscriptions that a report names are the same
 -- by the producers' entries alone. This holds of every list of entries, legal or not.
@@ -50,6 +54,34 @@ abbrev pub ImplicitAreOwed : Type 0
 ImplicitAreOwed =
     Always (λ history p. (kind : List ℕ) (stream : StreamId) (r : Subscription) → sub_at p (name.Implicit kind stream) ≡ Some r
     → IsOwedSome history kind stream r)
+
+-- an implicit name that is owed an event
+abbrev pub is_owed_some : List Entry → SubName → Bool
+is_owed_some history (name.Explicit number) = false
+is_owed_some history (name.Implicit kind stream) = nat_lt 0 (length (owed_events history (name.Implicit kind stream)))
+
+-- A name is among the implicit subscriptions that a history tells exactly where it is an implicit one that is
+-- owed an event.
+abbrev pub ImplicitSubsAreOwed : Type 0
+ImplicitSubsAreOwed =
+    Always (λ history p. (s : SubName) → list_any (λ (sub : SubSummary). same_sub s sub.name) (implicit_subs history) ≡ is_owed_some history s)
+
+-- the replies by which a limit refuses what a producer asks
+abbrev pub is_limit : Reply → Bool
+is_limit reply.QueueFull = true
+is_limit reply.TooMany = true
+is_limit _ = false
+
+abbrev pub is_miss : Reply → Bool
+is_miss (reply.Miss requested low high) = true
+is_miss _ = false
+
+-- What a producer asks is answered as the script tells after the producers' entries before it, as far as it
+-- says how, unless a limit refuses it. The line is among those whose start token is refused where it was.
+abbrev pub RepliesAreTold : Type 0
+RepliesAreTold =
+    AtEach (λ before e. is_producer e.op ≡ true → is_limit e.reply ≡ false → (missed : List ℕ) (line : ℕ) → is_among line missed ≡ is_miss e.reply
+    → told_of e.reply ≡ told_reply missed (producers_entries before) line e.op)
 
 -- In a quiet partition what an open subscription has handled is all that it is owed.
 abbrev pub OpenHaveAll : Type 0

@@ -36,13 +36,13 @@ is_producer _ = false
 abbrev pub batch_count : List Entry → ℕ
 batch_count history = newest.batch_count (reverse history)
 
-abbrev pub is_subscribed : Reply → Bool
-is_subscribed (reply.Subscribed number) = true
-is_subscribed _ = false
+abbrev pub is_subscribed : Op → Reply → Bool
+is_subscribed (Subscribe stream grain start) (reply.Subscribed number) = true
+is_subscribed _ _ = false
 
 -- how many explicit subscriptions were made
 abbrev pub subscribed_count : List Entry → ℕ
-subscribed_count history = length (filter (λ (e : Entry). is_subscribed e.reply) history)
+subscribed_count history = length (filter (λ (e : Entry). is_subscribed e.op e.reply) history)
 
 -- the rule that an entry added, where it did
 abbrev pub rule_of : Op → Reply → Option Rule

@@ -6,7 +6,7 @@
 //! contract is a law, which its proof shows of the definitions alone.
 #![tactic(auto)]
 
-ghost use Rattle.script_laws.specs.ScriptLaws.{ExplicitAreTold, ImplicitAreOwed, OpenHaveAll, ProducersTell, QuietTells, QuietTellsScript, RulesAreTold};
+ghost use Rattle.script_laws.specs.ScriptLaws.{ExplicitAreTold, ImplicitAreOwed, ImplicitSubsAreOwed, OpenHaveAll, ProducersTell, QuietTells, QuietTellsScript, RepliesAreTold, RulesAreTold};
 
 mod script_line;
 
@@ -16,6 +16,12 @@ pub use script_line::ScriptLine;
 /// producers' entries alone.
 pub fn producers_tell()
     ensures { ProducersTell }
+{}
+
+/// What a producer is answered is what a script tells after the producers' entries before it, as far as it
+/// says what that is, unless a limit refuses the operation.
+pub fn replies_are_told()
+    ensures { RepliesAreTold }
 {}
 
 /// The rules of a partition are those that were added, in order.
@@ -32,6 +38,11 @@ pub fn explicit_are_told()
 /// An implicit subscription that has a record is owed an event, and is of the grain that its name says.
 pub fn implicit_are_owed()
     ensures { ImplicitAreOwed }
+{}
+
+/// The implicit subscriptions that a history tells are those that are owed an event.
+pub fn implicit_subs_are_owed()
+    ensures { ImplicitSubsAreOwed }
 {}
 
 /// In a quiet partition each open subscription has handled all that it is owed.
