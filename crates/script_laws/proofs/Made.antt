@@ -1,5 +1,5 @@
 -- The records that rules make of events: their grain, what binds them, and the event that they are owed.
-use Rattle.std.proofs.Common.{◌≡◌, ◌∙◌, ap, sym, refl, ℕ, Bool, true, false, ◌&&◌, ◌||◌, not, List, [], ◌∷◌, Option, Some, None, is_some}
+use Rattle.std.proofs.Common.{◌≡◌, ◌∙◌, ap, refl, ℕ, Bool, true, false, ◌&&◌, ◌||◌, not, List, [], ◌∷◌, Some, is_some}
 use Rattle.std.proofs.lemmas.Bool.{and_from, and_parts, cond_both, or_right, false≢true}
 use Rattle.std.specs.List.{AllByRecursion, flat_map, list_any}
 use Rattle.stream_ident.specs.declared.event.Event.{Event}
@@ -8,7 +8,7 @@ use Rattle.stream_ident.specs.declared.ident.SubName.{SubName}
 use Rattle.stream_ident.specs.declared.ident.SubName.TheVariants.{Implicit}
 use Rattle.stream_ident.specs.declared.rule.Rule.{Rule}
 use Rattle.stream_ident.specs.Event.{batch_token, is_owed}
-use Rattle.stream_ident.specs.Name.{same_name, same_stream}
+use Rattle.stream_ident.specs.Name.{same_name}
 use Rattle.stream_ident.specs.SubName.{same_sub}
 use Rattle.stream_ident.specs.Token.{token_lt}
 use Rattle.stream_ident.specs.Words.{or_else, value_at}
@@ -54,20 +54,19 @@ made-by-rule : (rules : List Rule) (position : ℕ) (event : Event) (rule : Rule
 made-by-rule rules position event rule first =
     cond_both (same_name event.stream.namespace rule.namespace && not (token_lt event.token (batch_token rule.from))) _ _ (AllByRecursion (IsMadeOf rules position (event ∷ [])))
     (λ makes.
-        let parts = and_parts (same_name event.stream.namespace rule.namespace) (not (token_lt event.token (batch_token rule.from))) makes in
-        let here : is_owed event.stream (batch_token rule.from) event ≡ true = and_from _ _ (same_stream-refl event.stream) parts.1 in
-        (
-          record {
-            kind = rule.kind;
-            stream = event.stream;
-            from = rule.from;
-            name = refl;
-            value = refl;
-            bound = first event.stream parts.0;
-            owed = ap (λ b. b || false) here;
-          },
-          tt,
-        ))
+    let parts = and_parts (same_name event.stream.namespace rule.namespace) (not (token_lt event.token (batch_token rule.from))) makes in
+    let here : is_owed event.stream (batch_token rule.from) event ≡ true = and_from _ _ (same_stream-refl event.stream) parts.1 in (
+      record {
+        kind = rule.kind;
+        stream = event.stream;
+        from = rule.from;
+        name = refl;
+        value = refl;
+        bound = first event.stream parts.0;
+        owed = ap (λ b. b || false) here;
+      },
+      tt,
+    ))
     (λ _. tt)
 
 made-by-rules : (rules : List Rule) (position : ℕ) (event : Event) (some : List Rule) → AllByRecursion (IsFirstRule rules) some → AllByRecursion (IsMadeOf rules position (event ∷ [])) (flat_map (implied position event) some)

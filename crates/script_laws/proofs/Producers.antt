@@ -1,5 +1,5 @@
 -- The producers' entries alone say what is published, bound, owed and closed, and which subscriptions there are.
-use Rattle.std.proofs.Common.{◌≡◌, ◌∙◌, ap, sym, refl, ℕ, suc, Bool, true, false, ◌||◌, not, if◌then◌else◌, length, List, [], ◌∷◌, ◌++◌, map, filter, reverse, Option, Some, None, option_map}
+use Rattle.std.proofs.Common.{◌≡◌, ◌∙◌, ap, sym, refl, ℕ, suc, Bool, true, false, ◌||◌, not, if◌then◌else◌, length, List, [], ◌∷◌, ◌++◌, map, filter, reverse, Option, None, option_map}
 use Rattle.std.proofs.lemmas.Bool.{cond_both}
 use Rattle.std.proofs.lemmas.List.{map-append, reverse-append}
 use Rattle.std.proofs.lemmas.List.Elements.{filter-append}

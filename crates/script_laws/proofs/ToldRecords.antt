@@ -1,10 +1,9 @@
 -- The records of a partition, by what the history tells of them.
-use Rattle.std.proofs.Common.{◌≡◌, ◌≢◌, ◌∙◌, ap, sym, subst, refl, ℕ, Bool, true, false, ◌||◌, not, List, [], ◌∷◌, map, filter, reverse, Option, Some, None, option_map, if◌then◌else◌}
-use Rattle.std.proofs.lemmas.Bool.{false≢true, not-true}
+use Rattle.std.proofs.Common.{◌≡◌, ◌≢◌, ◌∙◌, ap, sym, refl, ℕ, Bool, true, false, ◌||◌, not, List, [], ◌∷◌, map, filter, Option, Some, None, option_map, if◌then◌else◌}
+use Rattle.std.proofs.lemmas.Bool.{false≢true}
 use Rattle.std.specs.List.{AllByRecursion, cons_option, filter_map, list_any}
 use Rattle.stream_ident.specs.declared.event.Event.{Event}
 use Rattle.stream_ident.specs.declared.ident.GrainId.{GrainId}
-use Rattle.stream_ident.specs.declared.ident.StreamId.{StreamId}
 use Rattle.stream_ident.specs.declared.ident.SubName.{SubName}
 use Rattle.stream_ident.specs.declared.ident.SubName.TheVariants as name
 use Rattle.stream_ident.specs.Event.{is_owed}
@@ -17,7 +16,7 @@ use Rattle.stream_model.specs.declared.plain.PlainPartition.{PlainPartition}
 use Rattle.stream_model.specs.declared.plain.Subscription.{Subscription}
 use Rattle.stream_model.specs.declared.reply.Reply.{Reply}
 use Rattle.stream_model.specs.declared.reply.Reply.TheVariants as reply
-use Rattle.stream_model.specs.History.{Entry, binding_of, handled_events, is_closed, owed_events, published_events}
+use Rattle.stream_model.specs.History.{Entry, binding_of, handled_events, published_events}
 use Rattle.stream_model.specs.NewestFirst.{owed_of}
 use Rattle.stream_model.specs.Positions.{sub_at}
 use Rattle.stream_model.specs.Step.{Stands}
@@ -29,10 +28,10 @@ use Rattle.stream_laws.proofs.LawsOfRecords.{records_are_open-from}
 use Rattle.stream_laws.proofs.Legal.{fits-stands}
 use Rattle.stream_laws.proofs.UniqueSteps.{steady-legal}
 use Rattle.step_core.specs.declared.reading.SubSummary.{SubSummary}
-use Rattle.step_core.specs.Reads.{handled_by, handled_of, summary_of}
-use Rattle.script_laws.proofs.Registrations.{Registration, registered, registrations}
+use Rattle.step_core.specs.Reads.{handled_by, summary_of}
+use Rattle.script_laws.proofs.Registrations.{registered, registrations}
 use Rattle.script_laws.proofs.ToldSteps.{IsImplied, IsImpliedBy, all_given, given_by, given_of, told-legal}
-use Rattle.script_laws.specs.ScriptLaws.{ExplicitAreTold, ImplicitAreOwed, IsOwedSome, OpenHaveAll, is_explicit}
+use Rattle.script_laws.specs.ScriptLaws.{ExplicitAreTold, ImplicitAreOwed, OpenHaveAll, is_explicit}
 use Rattle.script_laws.specs.ScriptReport.{explicit_of, explicit_sub}
 
 -- ---- explicit ones

@@ -1,5 +1,5 @@
 -- What a producer is answered, by the producers' entries before it.
-use Rattle.std.proofs.Common.{◌≡◌, ◌∙◌, ap, sym, refl, ℕ, zero, suc, ◌+◌, ◌==◌, ◌&&◌, ◌||◌, not, nat_lt, nat_le, Bool, true, false, List, [], ◌∷◌, ◌++◌, length, Option, Some, None, is_some, if◌then◌else◌, arith}
+use Rattle.std.proofs.Common.{◌≡◌, ◌∙◌, ap, sym, refl, ℕ, zero, suc, ◌+◌, ◌==◌, ◌&&◌, ◌||◌, not, nat_lt, nat_le, true, false, List, ◌∷◌, length, Option, Some, None, is_some, if◌then◌else◌, arith}
 use Rattle.std.proofs.lemmas.Bool.{and_from, and_right, cond_both, false≢true, le-leb, lt-leb, ltb-false, ltb-true, ne_eqb, or_parts}
 use Rattle.std.specs.List.{list_any}
 use Rattle.stream_ident.specs.declared.ident.GrainId.{GrainId}
@@ -31,7 +31,7 @@ use Rattle.stream_laws.proofs.Legal.{fits-stands, leads-split}
 use Rattle.script_laws.proofs.Producers.{batches-same, count-same, given-same, producers-tell}
 use Rattle.script_laws.proofs.ToldSteps.{told-legal}
 use Rattle.script_laws.specs.ScriptLaws.{RepliesAreTold, is_limit, is_miss}
-use Rattle.script_laws.specs.Told.{batch_count, has_rule, is_among, is_batch, is_producer, producers_entries, rules_of, subscribe_reply, subscribed_count, told_of, told_reply}
+use Rattle.script_laws.specs.Told.{batch_count, has_rule, is_among, is_producer, producers_entries, rules_of, subscribe_reply, subscribed_count, told_of, told_reply}
 
 -- what the producers' entries tell of the partition
 record Knows (before : List Entry) (p : PlainPartition) : Type 0 where
@@ -84,8 +84,8 @@ module _ (before : List Entry) (p : PlainPartition) (knows : Knows before p) whe
       (λ good. cond_both (nat_lt p.limits.events (length p.log + length payloads)) _ _ (Answers before (op.Publish stream payloads))
       (λ full limit missed line same. absurd (cc))
       (λ room limit missed line same.
-          ap reply.Published (sym knows.batches)
-          ∙ sym (ap (λ b. if b then reply.Published (batch_count past) else reply.BadBatch) (batch-size (length payloads) good))))
+      ap reply.Published (sym knows.batches)
+      ∙ sym (ap (λ b. if b then reply.Published (batch_count past) else reply.BadBatch) (batch-size (length payloads) good))))
 
   answers-latest : (stream : StreamId) (grain : GrainId) (start : Token) (position : ℕ) → Answers before (op.Subscribe stream grain Latest) (subscribe_at p stream grain start position)
   unfolding subscribe_at
@@ -121,11 +121,11 @@ module _ (before : List Entry) (p : PlainPartition) (knows : Knows before p) whe
       let given = knows.given number ∙ ap is_some is in
       cond_both (not r.is_open) _ _ (Answers before (op.Unsubscribe (name.Explicit number)))
       (λ shut limit missed line same.
-          let closed = knows.closed number r is ∙ shut in
-          sym (λ i. if closed i then reply.Closed else if given i then reply.Unsubscribed 0 else reply.NoSuch))
+      let closed = knows.closed number r is ∙ shut in
+      sym (λ i. if closed i then reply.Closed else if given i then reply.Unsubscribed 0 else reply.NoSuch))
       (λ open_sub limit missed line same.
-          let closed = knows.closed number r is ∙ open_sub in
-          sym (λ i. if closed i then reply.Closed else if given i then reply.Unsubscribed 0 else reply.NoSuch))
+      let closed = knows.closed number r is ∙ open_sub in
+      sym (λ i. if closed i then reply.Closed else if given i then reply.Unsubscribed 0 else reply.NoSuch))
 
   answers-unsubscribe : (s : SubName) → Answers before (op.Unsubscribe s) (unsubscribe p s)
   unfolding unsubscribe
@@ -142,8 +142,8 @@ module _ (before : List Entry) (p : PlainPartition) (knows : Knows before p) whe
       (λ new. cond_both (nat_le p.limits.rules (length p.rules)) _ _ (Answers before (op.AddRule kind namespace))
       (λ full limit missed line same. absurd (cc))
       (λ room limit missed line same.
-          ap reply.RuleAdded (sym knows.batches)
-          ∙ sym (ap (λ b. if b then reply.RuleThere else reply.RuleAdded (batch_count past)) (rule-there kind namespace ∙ new))))
+      ap reply.RuleAdded (sym knows.batches)
+      ∙ sym (ap (λ b. if b then reply.RuleThere else reply.RuleAdded (batch_count past)) (rule-there kind namespace ∙ new))))
 
   answers-step : (o : Op) → is_producer o ≡ true → Answers before o (step p o)
   unfolding step

@@ -1,6 +1,6 @@
 -- What a history tells of the registrations and the rules of the partition that it leaves.
-use Rattle.std.proofs.Common.{◌≡◌, ◌∙◌, ap, sym, subst, refl, ℕ, suc, ◌+◌, ◌-◌, ◌*◌, ◌<◌, ◌==◌, ◌&&◌, ◌||◌, not, min, nat_lt, nat_le, Bool, true, false, List, [], ◌∷◌, ◌++◌, length, map, filter, take, drop, reverse, fold, Option, Some, None, is_some, if◌then◌else◌, arith}
-use Rattle.std.proofs.lemmas.Bool.{cond_both, false≢true, or_right}
+use Rattle.std.proofs.Common.{◌≡◌, ◌∙◌, ap, sym, subst, refl, ℕ, suc, ◌+◌, ◌-◌, ◌*◌, ◌==◌, ◌&&◌, ◌||◌, not, min, nat_lt, nat_le, Bool, true, false, List, [], ◌∷◌, ◌++◌, length, filter, take, drop, reverse, fold, Option, Some, None, is_some, if◌then◌else◌, arith}
+use Rattle.std.proofs.lemmas.Bool.{cond_both, or_right}
 use Rattle.std.proofs.lemmas.List.{append-nil, append_assoc, length-append, map-append, reverse-append, take-append-drop}
 use Rattle.std.proofs.lemmas.List.Elements.{filter-append, filter_map-append}
 use Rattle.std.proofs.lemmas.List.Folds.{list_any-append}
@@ -39,7 +39,7 @@ use Rattle.stream_model.proofs.EachOf.{All-append, All-weaken}
 use Rattle.stream_laws.proofs.Invariant.{Fits}
 use Rattle.stream_laws.proofs.KeptStep.{kept-step}
 use Rattle.stream_laws.proofs.Legal.{fits-empty, fits-step}
-use Rattle.stream_laws.proofs.Summary.{Summary, summary}
+use Rattle.stream_laws.proofs.Summary.{summary}
 use Rattle.script_laws.proofs.Made.{IsMadeOf, all-made-of}
 use Rattle.script_laws.proofs.Registrations.{Keeps, Registration, keeps-ack, keeps-begin, keeps-commit, keeps-deactivate, keeps-deliver, keeps-move, keeps-publish, keeps-purge, keeps-retry, keeps-unsubscribe, registered, registrations}
 use Rattle.script_laws.specs.Told.{is_subscribed, rule_of, rules_of, subscribed_count}
@@ -255,8 +255,8 @@ implied-made : (rules : List Rule) (position : ℕ) (events log : List Event) �
     → (entry : SubName × Subscription) → IsMadeOf rules position events entry → IsImplied log (registered entry) × (given_of (registered entry) ≡ None)
 implied-made rules position events log within entry made = (
   subst (λ (r : Subscription). IsImpliedBy log entry.0 r.stream r.grain r.start) (sym made.value)
-  (subst (λ s. IsImpliedBy log s made.stream (record { kind = made.kind; key = made.stream.key }) (batch_token made.from)) (sym made.name)
-  (refl, within (λ event. is_owed made.stream (batch_token made.from) event) made.owed)),
+      (subst (λ s. IsImpliedBy log s made.stream (record { kind = made.kind; key = made.stream.key }) (batch_token made.from)) (sym made.name)
+      (refl, within (λ event. is_owed made.stream (batch_token made.from) event) made.owed)),
   ap (λ s. given_name s entry.1.grain) made.name,
 )
 

@@ -12,26 +12,28 @@ use Rattle.stream_model.specs.declared.op.Op.{Op}
 use Rattle.stream_model.specs.declared.op.Op.TheVariants.{Publish, Subscribe, Unsubscribe}
 use Rattle.stream_model.specs.declared.op.Start.TheVariants.{Latest, At}
 use Rattle.stream_model.specs.declared.plain.PlainPartition.{PlainPartition}
-use Rattle.stream_model.specs.declared.reply.Reply.{Reply}
+use Rattle.stream_model.specs.declared.reply.Reply.TheVariants.{IsQuiet}
 use Rattle.stream_model.specs.Draining.{acknowledge, after_deliver, after_pull, deliver_all, deliver_once_more, drain, drain_all, serve, serve_each, take_turn, take_turns}
 use Rattle.stream_model.specs.History.{Entry}
+use Rattle.stream_model.specs.Looks.{quiet}
 use Rattle.stream_model.specs.Positions.{empty}
 use Rattle.stream_model.specs.Publishing.{add_rule, publish, subscribe, subscribe_at, unsubscribe, unsubscribe_from}
 use Rattle.stream_model.specs.Pulling.{ack, ack_of, ack_position, deliver, deliver_position, deliver_to, pull, pull_count, pull_events, pull_want}
 use Rattle.stream_model.specs.Step.{after_steps, replies_of, step}
 use Rattle.stream_model.specs.Turns.{begin, begin_for, begin_front, begin_in, begin_turn, commit, commit_for, commit_running}
+use Rattle.stream_laws.specs.Laws.{entries_of}
 use Rattle.script_parser.specs.declared.command.Command.{Command}
 use Rattle.script_parser.specs.declared.command.Command.TheVariants.{Step, Each, Drain, Up, Down}
 use Rattle.script_parser.specs.declared.command.EachOp.TheVariants.{Rule}
 use Rattle.script_printer.specs.Report.{queue_report}
 use Rattle.script_laws.specs.declared.script_line.ScriptLine.TheVariants.{Miss, Refused}
 use Rattle.script_laws.specs.ScriptReport.{script_lines, script_text, told_report}
-use Rattle.script_laws.specs.Told.{Line, a_miss, told, told_of}
+use Rattle.script_laws.specs.Told.{Line, producers_entries, told}
 use Prim.Native.String.{String}
 
 -- `unfolding computed` lets `refl` compute the steps of a partition and its drains
 computed : Unit {0}
-unfolding step publish subscribe subscribe_at unsubscribe unsubscribe_from add_rule pull pull_want pull_count pull_events deliver deliver_to deliver_position ack ack_of ack_position begin begin_in begin_front begin_for begin_turn commit commit_running commit_for drain drain_all after_pull serve_each serve deliver_all after_deliver acknowledge deliver_once_more take_turn take_turns
+unfolding step publish subscribe subscribe_at unsubscribe unsubscribe_from add_rule pull pull_want pull_count pull_events deliver deliver_to deliver_position ack ack_of ack_position begin begin_in begin_front begin_for begin_turn commit commit_running commit_for drain drain_all after_pull serve_each serve deliver_all after_deliver acknowledge deliver_once_more take_turn take_turns quiet
 computed = tt
 
 abbrev greatest : Limits
@@ -51,21 +53,27 @@ batch payload = codes payload ∷ []
 abbrev script_of : List Command → List Line
 script_of commands = map (λ line. record { number = line.0; command = line.1 }) (zip (range_with_len 1 (length commands)) commands)
 
--- what the producers ask at a queue, and what they are told, where no start token is refused
+-- what the producers ask at a queue where no start token is refused
 abbrev ops_at : ℕ → List Command → List Op
 ops_at queue commands = map (λ (e : Entry). e.op) (told [] queue (script_of commands))
 
-abbrev replies_at : ℕ → List Command → List Reply
-replies_at queue commands = map (λ (e : Entry). e.reply) (told [] queue (script_of commands))
+-- a new partition after these operations, and after a drain too
+abbrev after : ℕ → List Op → PlainPartition
+after blocks ops = after_steps (empty blocks greatest) ops
 
--- a new partition after these operations and a drain
 abbrev drained_after : ℕ → List Op → PlainPartition
-drained_after blocks ops = (drain (after_steps (empty blocks greatest) ops)).0.now
+drained_after blocks ops = (drain (after blocks ops)).0.now
 
--- the partition replies as the producers are told, and drained it reports as the script
+-- the history of both
+abbrev history_of : ℕ → List Op → List Entry
+history_of blocks ops = entries_of ops (replies_of (empty blocks greatest) ops) ++ (drain (after blocks ops)).0.entries
+
+-- The producers' entries of a partition that does what they ask and is drained are what the script tells. The
+-- partition is quiet then, and reports what the script does.
 abbrev AgreesWithPlain : ℕ → List Command → Type 0
 AgreesWithPlain queue commands =
-    (map told_of (replies_of (empty 4 greatest) (ops_at queue commands)) ≡ replies_at queue commands)
+    (producers_entries (history_of 4 (ops_at queue commands)) ≡ told [] queue (script_of commands))
+    × (quiet (drained_after 4 (ops_at queue commands)) ≡ IsQuiet)
     × (queue_report queue (drained_after 4 (ops_at queue commands)) ≡ told_report queue (told [] queue (script_of commands)))
 
 -- A subscription has all that is published to its stream after it; a number that wasn't given is refused.
@@ -86,7 +94,7 @@ refused_line_before_the_report = refl
 
 pub one_subscription_agrees : AgreesWithPlain 0 one_subscription
 unfolding computed
-one_subscription_agrees = (refl, refl)
+one_subscription_agrees = (refl, refl, refl)
 
 -- A cache of one block has dropped the first events once all are handled. A start there is refused, and the
 -- subscription isn't made.
@@ -101,9 +109,12 @@ late_start = Subscribe (stream "o" "k") (grain "g" "y") (At (record { seq = 0; i
 abbrev start_in_the_past : List Command
 start_in_the_past = before_the_start ++ Drain ∷ Step 0 late_start ∷ []
 
+abbrev start_answered : List Entry
+start_answered = entries_of (late_start ∷ []) (replies_of (drained_after 1 (ops_at 0 before_the_start)) (late_start ∷ []))
+
 pub start_below_low_is_a_miss :
     (script_lines (68 ∷ []) 1 (script_of start_in_the_past) ≡ Miss 68 ∷ [])
-    × (map told_of (replies_of (drained_after 1 (ops_at 0 before_the_start)) (late_start ∷ [])) ≡ a_miss ∷ [])
+    × (producers_entries (history_of 1 (ops_at 0 before_the_start) ++ start_answered) ≡ told (68 ∷ []) 0 (script_of start_in_the_past))
     × (queue_report 0 (drained_after 1 (ops_at 0 before_the_start)) ≡ told_report 0 (told (68 ∷ []) 0 (script_of start_in_the_past)))
 unfolding computed
 start_below_low_is_a_miss = (refl, refl, refl)
@@ -128,7 +139,7 @@ implicit_subscriptions_are_reported = refl
 
 pub one_rule_agrees : AgreesWithPlain 0 one_rule
 unfolding computed
-one_rule_agrees = (refl, refl)
+one_rule_agrees = (refl, refl, refl)
 
 -- Of two silos one is there already and one isn't; one comes, the others go, and the last can't. A closed
 -- subscription is reported by its name.
@@ -157,4 +168,4 @@ last_silo_stays = (refl, refl)
 
 pub silos_agree : AgreesWithPlain 1 silos_that_come_and_go
 unfolding computed
-silos_agree = (refl, refl)
+silos_agree = (refl, refl, refl)

@@ -4,7 +4,6 @@ use Rattle.std.specs.Fmt.{decimal}
 use Rattle.std.specs.List.{filter_map, flat_map, range_with_len}
 use Rattle.std.specs.Option.{option_map}
 use Rattle.stream_ident.specs.declared.ident.GrainId.{GrainId}
-use Rattle.stream_ident.specs.declared.ident.SubName.{SubName}
 use Rattle.stream_ident.specs.declared.ident.SubName.TheVariants as name
 use Rattle.stream_model.specs.declared.op.Op.{Op}
 use Rattle.stream_model.specs.declared.op.Op.TheVariants.{Subscribe}
@@ -40,7 +39,7 @@ explicit_of history (Subscribe stream grain start) (reply.Subscribed number) =
     option_map (explicit_sub history number grain) (binding_of history (name.Explicit number))
 explicit_of history _ _ = None
 
--- the explicit subscriptions, in the order of their numbers
+-- the explicit subscriptions, in the order in which they were made
 abbrev pub explicit_subs : List Entry → List SubSummary
 explicit_subs history = filter_map (λ (e : Entry). explicit_of history e.op e.reply) history
 

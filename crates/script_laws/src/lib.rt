@@ -1,9 +1,9 @@
 //! What a script tells the producers of a partition, and what the report of a run of it is.
 //!
-//! A script that is run while silos come and go leaves open when an event is pulled, delivered and handled.
-//! What its producers are told, and what is reported once the partitions are quiet, it leaves open only as far
-//! as `specs/` says: which start tokens are refused. Each function here has no parameter and no effect: its
-//! contract is a law, which its proof shows of the definitions alone.
+//! A script that is run while silos come and go doesn't say when an event is pulled, delivered and handled, nor
+//! which start tokens are refused by then. What else its producers are told, where no limit refuses what they
+//! ask, and what is reported once the partitions are quiet, follows from it. Each function here has no
+//! parameter and no effect: its contract is a law, which its proof shows of the definitions alone.
 #![tactic(auto)]
 
 ghost use Rattle.script_laws.specs.ScriptLaws.{ExplicitAreTold, ImplicitAreOwed, ImplicitSubsAreOwed, OpenHaveAll, ProducersTell, QuietTells, QuietTellsScript, RepliesAreTold, RulesAreTold};
@@ -12,8 +12,8 @@ mod script_line;
 
 pub use script_line::ScriptLine;
 
-/// What is published, bound, owed and closed, the rules and the explicit subscriptions are functions of the
-/// producers' entries alone.
+/// What is published, bound, owed and closed, the rules and the subscriptions that a report names are functions
+/// of the producers' entries alone.
 pub fn producers_tell()
     ensures { ProducersTell }
 {}
@@ -29,13 +29,13 @@ pub fn rules_are_told()
     ensures { RulesAreTold }
 {}
 
-/// The records of the explicit subscriptions are those that were made, in the order of their numbers, each of
+/// The records of the explicit subscriptions are those that were made, in the order in which they were, each of
 /// its stream and grain, with its start, and open where it isn't unsubscribed.
 pub fn explicit_are_told()
     ensures { ExplicitAreTold }
 {}
 
-/// An implicit subscription that has a record is owed an event, and is of the grain that its name says.
+/// An implicit subscription that has a record is owed an event, is of the grain that its name says, and is open.
 pub fn implicit_are_owed()
     ensures { ImplicitAreOwed }
 {}
