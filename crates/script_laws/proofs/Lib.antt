@@ -1,3 +1,4 @@
+pub mod Growing
 pub mod Made
 pub mod Producers
 pub mod QuietReports

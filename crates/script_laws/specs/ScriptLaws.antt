@@ -1,6 +1,6 @@
 -- What holds of every legal history: its producers' entries alone say what a report of it is, once the
 -- partition is quiet. A history stands as it is told, its oldest entry first.
-use Rattle.std.specs.Prelude.{◌≡◌, ◌≢◌, ℕ, Bool, true, false, List, [], filter, length, nat_lt, Some}
+use Rattle.std.specs.Prelude.{◌≡◌, ◌≢◌, ℕ, Bool, true, false, List, [], ◌∷◌, ◌++◌, filter, length, nat_lt, Some}
 use Rattle.std.specs.List.{list_any}
 use Rattle.stream_ident.specs.declared.ident.StreamId.{StreamId}
 use Rattle.stream_ident.specs.declared.ident.SubName.{SubName}
@@ -17,8 +17,16 @@ use Rattle.stream_laws.specs.Laws.{Always, AtEach}
 use Rattle.step_core.specs.declared.reading.SubSummary.{SubSummary}
 use Rattle.step_core.specs.Reads.{handled_of, summaries_in_order, summaries_of}
 use Rattle.script_printer.specs.Report.{queue_report}
-use Rattle.script_laws.specs.ScriptReport.{explicit_subs, implicit_subs, told_report, told_subs}
-use Rattle.script_laws.specs.Told.{Line, is_among, is_producer, producers_entries, rules_of, told, told_of, told_reply}
+use Rattle.script_laws.specs.ScriptReport.{command_printed, explicit_subs, implicit_subs, live_after, live_silos, script_lines, told_report, told_subs}
+use Rattle.script_laws.specs.Told.{Line, is_among, is_producer, op_at, producers_entries, rules_of, told, told_of, told_reply, with_told}
+
+-- One line more at the end of a script: what it adds to what is told, printed and alive.
+pub record ScriptsGrow : Type 0 where
+  pub told : (missed : List ℕ) (queue : ℕ) (script : List Line) (line : Line)
+      → told missed queue (script ++ line ∷ []) ≡ with_told missed (told missed queue script) line.number (op_at queue line.command)
+  pub printed : (missed : List ℕ) (silos : ℕ) (script : List Line) (line : Line)
+      → script_lines missed silos (script ++ line ∷ []) ≡ script_lines missed silos script ++ command_printed missed silos script line.number line.command
+  pub live : (silos : ℕ) (script : List Line) (line : Line) → live_silos silos (script ++ line ∷ []) ≡ live_after (live_silos silos script) line.command
 
 -- What is published, bound, owed and closed, the rules and the subscriptions that a report names are the same
 -- by the producers' entries alone. This holds of every list of entries, legal or not.

@@ -6,11 +6,17 @@
 //! parameter and no effect: its contract is a law, which its proof shows of the definitions alone.
 #![tactic(auto)]
 
-ghost use Rattle.script_laws.specs.ScriptLaws.{ExplicitAreTold, ImplicitAreOwed, ImplicitSubsAreOwed, OpenHaveAll, ProducersTell, QuietTells, QuietTellsScript, RepliesAreTold, RulesAreTold};
+ghost use Rattle.script_laws.specs.ScriptLaws.{ExplicitAreTold, ImplicitAreOwed, ImplicitSubsAreOwed, OpenHaveAll, ProducersTell, QuietTells, QuietTellsScript, RepliesAreTold, RulesAreTold, ScriptsGrow};
 
 mod script_line;
 
 pub use script_line::ScriptLine;
+
+/// One line more at the end of a script adds what it asks and is answered to what is told at its queues, its
+/// refusal to what is printed, and changes the silos that live.
+pub fn scripts_grow()
+    ensures { ScriptsGrow }
+{}
 
 /// What is published, bound, owed and closed, the rules and the subscriptions that a report names are functions
 /// of the producers' entries alone.
