@@ -1,9 +1,8 @@
 -- One line more at the end of a script.
-use Rattle.std.proofs.Common.{◌≡◌, ◌∙◌, ap, sym, refl, ℕ, List, [], ◌∷◌, ◌++◌}
+use Rattle.std.proofs.Common.{◌≡◌, ◌∙◌, ap, sym, ℕ, List, [], ◌∷◌, ◌++◌}
 use Rattle.std.proofs.lemmas.List.{append-nil, append_assoc}
 use Rattle.std.proofs.lemmas.List.Sums.{fold-append}
 use Rattle.std.specs.List.{range_with_len}
-use Rattle.stream_model.specs.History.{Entry}
 use Rattle.script_laws.specs.ScriptLaws.{ScriptsGrow}
 use Rattle.script_laws.specs.ScriptReport.{command_printed, lines_after, live_after}
 use Rattle.script_laws.specs.Told.{Line, op_at, with_told}

@@ -1,5 +1,6 @@
 pub mod Growing
 pub mod Made
+pub mod Misses
 pub mod Producers
 pub mod QuietReports
 pub mod Registrations

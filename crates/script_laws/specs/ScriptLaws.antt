@@ -1,7 +1,7 @@
 -- What holds of every legal history: its producers' entries alone say what a report of it is, once the
 -- partition is quiet. A history stands as it is told, its oldest entry first.
-use Rattle.std.specs.Prelude.{◌≡◌, ◌≢◌, ℕ, Bool, true, false, List, [], ◌∷◌, ◌++◌, filter, length, nat_lt, Some}
-use Rattle.std.specs.List.{list_any}
+use Rattle.std.specs.Prelude.{◌≡◌, ◌≢◌, ℕ, Bool, true, false, List, [], ◌∷◌, ◌++◌, filter, length, nat_lt, Some, ◌==◌}
+use Rattle.std.specs.List.{AllByRecursion, list_any}
 use Rattle.stream_ident.specs.declared.ident.StreamId.{StreamId}
 use Rattle.stream_ident.specs.declared.ident.SubName.{SubName}
 use Rattle.stream_ident.specs.declared.ident.SubName.TheVariants as name
@@ -27,6 +27,17 @@ pub record ScriptsGrow : Type 0 where
   pub printed : (missed : List ℕ) (silos : ℕ) (script : List Line) (line : Line)
       → script_lines missed silos (script ++ line ∷ []) ≡ script_lines missed silos script ++ command_printed missed silos script line.number line.command
   pub live : (silos : ℕ) (script : List Line) (line : Line) → live_silos silos (script ++ line ∷ []) ≡ live_after (live_silos silos script) line.command
+
+-- no line of the script has this number
+abbrev pub HasNoLine : ℕ → List Line → Type 0
+HasNoLine number script = AllByRecursion (λ (line : Line). (number == line.number) ≡ false) script
+
+-- That a line is refused changes nothing of what is told and printed by a script without it.
+pub record MissesChangeNoOther : Type 0 where
+  pub told : (missed : List ℕ) (number queue : ℕ) (script : List Line) → HasNoLine number script
+      → told (number ∷ missed) queue script ≡ told missed queue script
+  pub printed : (missed : List ℕ) (number silos : ℕ) (script : List Line) → HasNoLine number script
+      → script_lines (number ∷ missed) silos script ≡ script_lines missed silos script
 
 -- What is published, bound, owed and closed, the rules and the subscriptions that a report names are the same
 -- by the producers' entries alone. This holds of every list of entries, legal or not.

@@ -6,7 +6,7 @@
 //! parameter and no effect: its contract is a law, which its proof shows of the definitions alone.
 #![tactic(auto)]
 
-ghost use Rattle.script_laws.specs.ScriptLaws.{ExplicitAreTold, ImplicitAreOwed, ImplicitSubsAreOwed, OpenHaveAll, ProducersTell, QuietTells, QuietTellsScript, RepliesAreTold, RulesAreTold, ScriptsGrow};
+ghost use Rattle.script_laws.specs.ScriptLaws.{ExplicitAreTold, ImplicitAreOwed, ImplicitSubsAreOwed, MissesChangeNoOther, OpenHaveAll, ProducersTell, QuietTells, QuietTellsScript, RepliesAreTold, RulesAreTold, ScriptsGrow};
 
 mod script_line;
 
@@ -16,6 +16,12 @@ pub use script_line::ScriptLine;
 /// refusal to what is printed, and changes the silos that live.
 pub fn scripts_grow()
     ensures { ScriptsGrow }
+{}
+
+/// That the start token of a line is refused changes nothing of what is told and printed by the lines of other
+/// numbers alone.
+pub fn misses_change_no_other()
+    ensures { MissesChangeNoOther }
 {}
 
 /// What is published, bound, owed and closed, the rules and the subscriptions that a report names are functions
