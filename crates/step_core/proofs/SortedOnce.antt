@@ -128,3 +128,8 @@ module _ {X : Type 0} (lt : X → X → Bool) (o : IsStrictWeakOrder lt) where
   pub sorted-stable : (xs ys : List X) → IsSortedBy lt ys → IsStableBy lt xs ys → ys ≡ in_order lt xs
   sorted-stable xs ys up same =
       rises_once (in_order lt xs) ys (Rises-in_order xs) (Rises-from ys (sorted_far lt o ys up)) (λ z. same z ∙ sym (stable_in_order xs z))
+
+  -- lists in which the same elements tie with each, in one order, are the same in order
+  pub in_order-stable : (xs ys : List X) → IsStableBy lt xs ys → in_order lt ys ≡ in_order lt xs
+  in_order-stable xs ys same =
+      rises_once (in_order lt xs) (in_order lt ys) (Rises-in_order xs) (Rises-in_order ys) (λ z. stable_in_order ys z ∙ same z ∙ sym (stable_in_order xs z))

@@ -24,6 +24,12 @@ has_lesser_name a b = is_lt (name_order.ghosts.cmp a.name b.name)
 named_before : has_lesser_name ≡ is_named_before
 named_before = λ i a b. sub_less_at a.name b.name i
 
+-- names rank summaries
+pub named_order : IsStrictWeakOrder is_named_before
+named_order =
+    let name : SubSummary → SubName = λ summary. summary.name in
+    subst IsStrictWeakOrder named_before (ranks_by total-law name)
+
 -- what a stable sort gives whose key is the name
 pub in_name_order : {F : Type 0} {g : Mut F (Bor SubSummary × Unit {0}) SubName} {f : F} (xs ys : List SubSummary)
     → IsSortedByKeyClosure g name_order.ghosts.cmp f ys → IsStableByKeyClosure g name_order.ghosts.cmp f xs ys
@@ -32,7 +38,7 @@ pub in_name_order : {F : Type 0} {g : Mut F (Bor SubSummary × Unit {0}) SubName
 in_name_order {g = g} {f = f} xs ys up same gives =
     let name : SubSummary → SubName = λ summary. summary.name in
     let keyed = always_returns_same g (λ a r. r ≡ name a.0.now) f gives in
-    sorted-stable is_named_before (subst IsStrictWeakOrder named_before (ranks_by total-law name)) xs ys
+    sorted-stable is_named_before named_order xs ys
     (subst (λ lt. IsSortedBy lt ys) named_before (up name keyed))
     (subst (λ lt. IsStableBy lt xs ys) named_before (same name keyed))
 

@@ -1,0 +1,3 @@
+pub mod ScriptLaws
+pub mod ScriptReport
+pub mod Told
