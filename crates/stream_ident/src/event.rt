@@ -4,7 +4,7 @@ use crate::payload::Payload;
 use crate::token::Token;
 
 /// One published event.
-#[derive(Clone, Copy, Debug, PartialEq, Eq)]
+#[derive(Clone, Copy, Debug, PartialEq, Eq, PartialOrd, Ord, Hash)]
 pub struct Event {
     /// The stream that it was published to.
     pub stream: StreamId,
