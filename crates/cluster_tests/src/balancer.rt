@@ -3,36 +3,70 @@ ghost use Rattle.queue_balancer.specs.Balance.{HasNoDoubles};
 
 use queue_balancer::{RebalanceError, rebalance};
 use std::alloc::{AllocError, Global};
+use std::process::Abort;
 use std::test::Fail;
+
+/// Queues by their silos, the first live silo and the end of them, and the silos of the queues then, where
+/// just one answer is right.
+const MOVES: &[(&[u8], u8, u8, Option<&[u8]>)] = &[
+    (&[0, 1, 0, 1], 1, 2, Some(&[1, 1, 1, 1])),
+    (&[1, 0], 0, 3, Some(&[1, 0])),
+    (&[0, 0, 1, 1], 0, 3, None),
+];
+
+/// Whether the queues are moved so, and are balanced then.
+fn is_moved(
+    alloc: Global,
+    old: &[u8],
+    live: &[u8],
+    wanted: Option<&[u8]>,
+) -> Result<bool, RebalanceError>
+    requires { HasNoDoubles live.now }
+{
+    let new = rebalance(alloc, old, live)?;
+    let is_wanted = match wanted {
+        Some(wanted) => new.as_slice() == wanted,
+        None => true,
+    };
+    Ok(is_wanted && is_balanced(old, live, new.as_slice()))
+}
 
 #[test]
 fn few_queues_move(rt: HostRuntime) -> Result<(), Fail> {
-    let alloc = rt.alloc();
-    let second = silos(alloc, 1, 2)?;
-    let three = silos(alloc, 0, 3)?;
-    let all = rebalance(alloc, &[0, 1, 0, 1], second.as_slice())?;
-    assert_eq!(rt; all.as_slice(), [1, 1, 1, 1].as_slice());
-    let same = rebalance(alloc, &[1, 0], three.as_slice())?;
-    assert_eq!(rt; same.as_slice(), [1, 0].as_slice());
-    let spread = rebalance(alloc, &[0, 0, 1, 1], three.as_slice())?;
-    assert!(rt; is_balanced(&[0, 0, 1, 1], three.as_slice(), spread.as_slice()));
-    let none = rebalance(alloc, &[0], &[]);
+    for (old, first, end, wanted) in MOVES {
+        let live = silos(rt.alloc(), *first, *end)?;
+        assert!(rt;
+            is_moved(rt.alloc(), old, live.as_slice(), *wanted)?,
+            "{old:?}"
+        );
+    }
+    Ok(())
+}
+
+#[test]
+fn no_queue_is_without_a_silo(rt: HostRuntime) {
+    let none = rebalance(rt.alloc(), &[0], &[]);
     assert!(rt; matches!(none, Err(RebalanceError::NoSilo)));
+}
+
+/// Gives the queues to the silos from one to the sixteenth.
+fn move_all(rt: &impl Abort, alloc: Global, queues: &mut Vec<u8>, first: u8) -> Result<(), Fail> {
+    let live = silos(alloc, first, 16)?;
+    let new = rebalance(alloc, queues.as_slice(), live.as_slice())?;
+    let is_so = is_balanced(queues.as_slice(), live.as_slice(), new.as_slice());
+    assert!(rt; is_so, "from {first}");
+    *queues = new.into_vec();
     Ok(())
 }
 
 #[test]
 fn silos_go_and_come_back(rt: HostRuntime) -> Result<(), Fail> {
-    let alloc = rt.alloc();
-    let mut queues = vec![in alloc; 0; 64]?;
-    for first in (0..16).chain((0..16).rev()) {
-        let live = silos(alloc, first, 16)?;
-        let new = rebalance(alloc, queues.as_slice(), live.as_slice())?;
-        assert!(rt;
-            is_balanced(queues.as_slice(), live.as_slice(), new.as_slice()),
-            "from {first}"
-        );
-        queues = new.into_vec();
+    let mut queues = vec![in rt.alloc(); 0; 64]?;
+    for first in 0..16 {
+        move_all(&rt, rt.alloc(), &mut queues, first)?;
+    }
+    for back in 0..16 {
+        move_all(&rt, rt.alloc(), &mut queues, 15 - back)?;
     }
     Ok(())
 }

@@ -1,99 +1,138 @@
-use activation_directory::{Directory, DirectoryOp as Op, DirectoryReply as Reply};
+ghost use Rattle.std.specs.Prelude.{◌≤◌};
+
+use activation_directory::{Directory, DirectoryOp as Op};
 use std::alloc::{AllocError, Global};
+use std::process::Abort;
 use std::test::Fail;
 use stream_ident::GrainId;
 
-/// The reply, where one want of memory is answered by asking again.
-fn told(directory: &mut Directory, alloc: Global, op: Op) -> Result<Reply, AllocError> {
-    let again = op;
-    let told = directory.step(alloc, op);
-    if told.is_ok() {
-        return told;
-    }
-    directory.step(alloc, again)
+/// What is asked of a directory. A grain is named by two bytes: its kind and its key.
+#[derive(Clone, Copy)]
+enum Call {
+    /// A silo enters a grain.
+    Enter(&'static [u8; 2], u8),
+    /// A permit for a grain is given back.
+    Leave(&'static [u8; 2], u64),
+    /// A grain is taken out.
+    Unplace(&'static [u8; 2]),
+    /// A silo goes down.
+    Down(u8),
 }
+
+fn grain(rt: &impl Abort, name: &[u8; 2]) -> GrainId {
+    GrainId::new(&name[..1], &name[1..]).expect(rt, "a grain")
+}
+
+fn op(rt: &impl Abort, call: Call) -> Op {
+    match call {
+        Call::Enter(name, silo) => Op::Enter {
+            grain: grain(rt, name),
+            silo,
+        },
+        Call::Leave(name, permit) => Op::Leave {
+            grain: grain(rt, name),
+            permit,
+        },
+        Call::Unplace(name) => Op::Unplace {
+            grain: grain(rt, name),
+        },
+        Call::Down(silo) => Op::Down { silo },
+    }
+}
+
+/// The text of the reply. One want of memory is answered by asking again.
+fn told(
+    rt: &impl Abort,
+    alloc: Global,
+    directory: &mut Directory,
+    call: Call,
+) -> Result<String, AllocError> {
+    let reply = match directory.step(alloc, op(rt, call)) {
+        Ok(reply) => reply,
+        Err(AllocError) => directory.step(alloc, op(rt, call))?,
+    };
+    format!(in alloc; "{reply:?}")
+}
+
+/// Asks a new directory of so many permits. The replies have to read so.
+fn check(
+    rt: &impl Abort,
+    alloc: Global,
+    permits: u64,
+    rows: &[(Call, &str)],
+) -> Result<(), AllocError>
+    requires { permits ≤ 1000 }
+{
+    let mut directory = Directory::new(alloc, permits);
+    for (call, wanted) in rows {
+        let text = told(rt, alloc, &mut directory, *call)?;
+        assert!(rt; text.as_str() == *wanted, "{wanted}");
+    }
+    Ok(())
+}
+
+const ONE_GRAIN: [(Call, &str); 13] = [
+    (Call::Enter(b"gx", 0), "Entered { permit: 1 }"),
+    (Call::Enter(b"gx", 0), "Busy"),
+    (Call::Enter(b"gx", 1), "Elsewhere { silo: 0 }"),
+    (Call::Leave(b"gx", 9), "NotYours"),
+    (Call::Leave(b"gx", 1), "Left"),
+    (Call::Leave(b"gx", 1), "NotYours"),
+    (Call::Unplace(b"gx"), "Unplaced"),
+    (Call::Unplace(b"gx"), "NotPlaced"),
+    (Call::Enter(b"gx", 1), "Entered { permit: 2 }"),
+    (Call::Unplace(b"gx"), "Busy"),
+    (
+        Call::Down(1),
+        "Released { grain: GrainId { kind: g, key: x }, left: 0 }",
+    ),
+    (Call::Down(1), "NoneLeft"),
+    (Call::Leave(b"gx", 2), "NotYours"),
+];
 
 /// One grain that is entered, given back, taken out, and lost with its silo.
 #[test]
 fn a_grain_goes_from_silo_to_silo(rt: HostRuntime) -> Result<(), Fail> {
-    let grain = GrainId::new(b"g", b"x")?;
-    let mut directory = Directory::new(rt.alloc(), 10);
-    for (op, reply) in [
-        (Op::Enter { grain, silo: 0 }, Reply::Entered { permit: 1 }),
-        (Op::Enter { grain, silo: 0 }, Reply::Busy),
-        (Op::Enter { grain, silo: 1 }, Reply::Elsewhere { silo: 0 }),
-        (Op::Leave { grain, permit: 9 }, Reply::NotYours),
-        (Op::Leave { grain, permit: 1 }, Reply::Left),
-        (Op::Leave { grain, permit: 1 }, Reply::NotYours),
-        (Op::Unplace { grain }, Reply::Unplaced),
-        (Op::Unplace { grain }, Reply::NotPlaced),
-        (Op::Enter { grain, silo: 1 }, Reply::Entered { permit: 2 }),
-        (Op::Unplace { grain }, Reply::Busy),
-        (Op::Down { silo: 1 }, Reply::Released { grain, left: 0 }),
-        (Op::Down { silo: 1 }, Reply::NoneLeft),
-        (Op::Leave { grain, permit: 2 }, Reply::NotYours),
-    ] {
-        assert_eq!(rt; told(&mut directory, rt.alloc(), op)?, reply);
-    }
+    check(&rt, rt.alloc(), 10, &ONE_GRAIN)?;
     Ok(())
 }
+
+const SILOS: [(Call, &str); 9] = [
+    (Call::Enter(b"gy", 7), "Entered { permit: 1 }"),
+    (Call::Enter(b"gx", 7), "Entered { permit: 2 }"),
+    (Call::Enter(b"fz", 3), "Entered { permit: 3 }"),
+    (Call::Leave(b"gx", 2), "Left"),
+    (Call::Enter(b"gx", 7), "Spent"),
+    (
+        Call::Down(7),
+        "Released { grain: GrainId { kind: g, key: x }, left: 1 }",
+    ),
+    (Call::Enter(b"gx", 7), "Spent"),
+    (
+        Call::Down(7),
+        "Released { grain: GrainId { kind: g, key: y }, left: 0 }",
+    ),
+    (
+        Call::Down(3),
+        "Released { grain: GrainId { kind: f, key: z }, left: 0 }",
+    ),
+];
 
 /// The grains of a silo are taken out in their order, and the last permit stays the last.
 #[test]
 fn silos_go_down_and_permits_end(rt: HostRuntime) -> Result<(), Fail> {
-    let x = GrainId::new(b"g", b"x")?;
-    let y = GrainId::new(b"g", b"y")?;
-    let first = GrainId::new(b"f", b"z")?;
-    let mut directory = Directory::new(rt.alloc(), 3);
-    for (op, reply) in [
-        (
-            Op::Enter { grain: y, silo: 7 },
-            Reply::Entered { permit: 1 },
-        ),
-        (
-            Op::Enter { grain: x, silo: 7 },
-            Reply::Entered { permit: 2 },
-        ),
-        (
-            Op::Enter {
-                grain: first,
-                silo: 3,
-            },
-            Reply::Entered { permit: 3 },
-        ),
-        (
-            Op::Leave {
-                grain: x,
-                permit: 2,
-            },
-            Reply::Left,
-        ),
-        (Op::Enter { grain: x, silo: 7 }, Reply::Spent),
-        (Op::Down { silo: 7 }, Reply::Released { grain: x, left: 1 }),
-        (Op::Enter { grain: x, silo: 7 }, Reply::Spent),
-        (Op::Down { silo: 7 }, Reply::Released { grain: y, left: 0 }),
-        (
-            Op::Down { silo: 3 },
-            Reply::Released {
-                grain: first,
-                left: 0,
-            },
-        ),
-    ] {
-        assert_eq!(rt; told(&mut directory, rt.alloc(), op)?, reply);
-    }
+    check(&rt, rt.alloc(), 3, &SILOS)?;
     Ok(())
 }
+
+const ONE_PERMIT: [(Call, &str); 2] = [
+    (Call::Enter(b"gx", 0), "Entered { permit: 1 }"),
+    (Call::Enter(b"gy", 0), "Spent"),
+];
 
 /// The only permit.
 #[test]
 fn one_permit_is_spent(rt: HostRuntime) -> Result<(), Fail> {
-    let x = GrainId::new(b"g", b"x")?;
-    let y = GrainId::new(b"g", b"y")?;
-    let mut directory = Directory::new(rt.alloc(), 1);
-    let entered = told(&mut directory, rt.alloc(), Op::Enter { grain: x, silo: 0 })?;
-    assert_eq!(rt; entered, Reply::Entered { permit: 1 });
-    let spent = directory.step(rt.alloc(), Op::Enter { grain: y, silo: 0 })?;
-    assert_eq!(rt; spent, Reply::Spent);
+    check(&rt, rt.alloc(), 1, &ONE_PERMIT)?;
     Ok(())
 }

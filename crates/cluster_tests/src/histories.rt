@@ -1,40 +1,45 @@
 //! Histories of a turnstile that store less than proofs see.
-ghost use Rattle.std.specs.Prelude.{◌≡◌, ◌+◌, ◌%◌, ◌^◌, ◌∷◌, [], IfOk};
+ghost use Rattle.std.specs.Prelude.{◌≡◌, ◌+◌, ◌%◌, ◌^◌, IfOk};
 ghost use Rattle.turnstile.specs.Asked.{asked_entries};
 ghost use Rattle.turnstile.specs.Calls.{IsOf};
 ghost use Rattle.turnstile.specs.History.{IsLegal};
 
+use crate::passes::{alone, finished, pair};
 use crate::total::{Addition, Total, add, everything, expect, insist};
 use std::alloc::{AllocError, Global};
 use std::process::Abort;
+use std::sync::Wait;
 use std::test::Fail;
-use turnstile::{AskedHistory, Closed, PassOf, ProofHistory, Refusal, StoredHistory, Turnstile};
+use turnstile::{Asked, AskedHistory, PassOf, ProofHistory, Refusal, StoredHistory, Turnstile};
 
 type Proved = Total<ProofHistory<Addition, u64>>;
 
 type Noted = Total<AskedHistory<Addition, u64>>;
 
-// A history that only proofs see has any number of entries, and a refused call is none of them.
+// A refused call is no entry.
+fn ask_three<R: Wait + Abort>(
+    rt: &R,
+    alloc: Global,
+    turnstile: &Turnstile<Proved>,
+    pass: &mut PassOf<Proved>,
+)
+    requires { IsOf turnstile.now pass.old }
+    ensures { IsOf turnstile.now pass.new }
+{
+    let refused = Err(Refusal::Memory);
+    expect(rt, alloc, turnstile, pass, add(5), Ok(5));
+    expect(rt, alloc, turnstile, pass, everything(), refused);
+    assert!(rt; pass.len() == 1);
+    expect(rt, alloc, turnstile, pass, add(2), Ok(7));
+}
+
+// A history that only proofs see has any number of entries.
 #[test]
 fn only_proofs_see_the_calls(rt: HostRuntime) -> Result<(), Fail> {
     let alloc = rt.alloc();
     let (turnstile, mut pass) = Turnstile::new(alloc, Proved::new(), u64::MAX)?;
-    expect(&rt, alloc, &turnstile, &mut pass, add(5), Ok(5));
-    expect(
-        &rt,
-        alloc,
-        &turnstile,
-        &mut pass,
-        everything(),
-        Err(Refusal::Memory),
-    );
-    assert_eq!(rt; pass.len(), 1);
-    expect(&rt, alloc, &turnstile, &mut pass, add(2), Ok(7));
-    let mut passes = Vec::with_capacity(alloc, 1)?;
-    passes.push_reserved(pass);
-    let Closed::Traced(done) = turnstile.close(passes) else {
-        panic!(rt; "all passes were given");
-    };
+    ask_three(&rt, alloc, &turnstile, &mut pass);
+    let done = finished(&rt, turnstile, alone(alloc, pass)?);
     assert!(rt; done.object.sum == 7 && done.history.len() == 2);
     Ok(())
 }
@@ -47,23 +52,6 @@ fn opened(alloc: Global) -> Result<(Turnstile<Noted>, PassOf<Noted>), AllocError
         Ok(opened) => Ok(opened),
         Err(AllocError) => Turnstile::new(alloc, Noted::new(), 3),
     }
-}
-
-// Two passes in one vector.
-fn pair(
-    alloc: Global,
-    first: PassOf<Noted>,
-    second: PassOf<Noted>,
-) -> Result<Vec<PassOf<Noted>>, AllocError>
-    ensures { IfOk result (λ v. v.items ≡ first ∷ second ∷ []) }
-{
-    let mut passes = Vec::new(alloc);
-    if passes.reserve(2).is_err() {
-        passes.reserve(2)?;
-    }
-    passes.push_reserved(first);
-    passes.push_reserved(second);
-    Ok(passes)
 }
 
 // The replies of a replay on a fresh object, tried once more where memory was refused.
@@ -83,26 +71,44 @@ fn replayed<R: Abort>(
     history.replay(alloc, &mut fresh)
 }
 
+// The calls of two passes. A call that was refused memory changed nothing.
+fn ask_two<R: Wait + Abort>(
+    rt: &R,
+    alloc: Global,
+    turnstile: &Turnstile<Noted>,
+    first: &mut PassOf<Noted>,
+    second: &mut PassOf<Noted>,
+)
+    requires first { IsOf turnstile.now first.old }
+    requires second { IsOf turnstile.now second.old }
+    ensures first { IsOf turnstile.now first.new }
+    ensures second { IsOf turnstile.now second.new }
+{
+    assert!(rt; insist(rt, alloc, turnstile, first, 5) == Ok(5));
+    assert!(rt; insist(rt, alloc, turnstile, second, 2) == Ok(7));
+    assert!(rt; insist(rt, alloc, turnstile, first, 1) == Ok(8));
+    assert!(rt; insist(rt, alloc, turnstile, second, 1) == Err(Refusal::HistoryFull));
+}
+
+// The history has what was asked: the number and the amount of each.
+fn compare<R: Abort>(rt: &R, history: &[Asked<Addition>], wanted: &[(u64, u64)]) {
+    assert!(rt; history.len() == wanted.len());
+    for (asked, row) in history.iter().zip(wanted) {
+        assert!(rt; asked.number == row.0 && asked.op.amount == row.1);
+    }
+}
+
 // What was asked stands in the history, and a fresh object gives again what the passes were told. Run it
-// with each allocation failing in turn: a call that was refused changed nothing.
+// with each allocation failing in turn.
 #[test]
 fn a_fresh_object_gives_the_replies_again(rt: HostRuntime) -> Result<(), Fail> {
     let alloc = rt.alloc();
     let (turnstile, mut first) = opened(alloc)?;
     let mut second = turnstile.split(&mut first)?;
-    assert!(rt; insist(&rt, alloc, &turnstile, &mut first, 5) == Ok(5));
-    assert!(rt; insist(&rt, alloc, &turnstile, &mut second, 2) == Ok(7));
-    assert!(rt; insist(&rt, alloc, &turnstile, &mut first, 1) == Ok(8));
-    assert!(rt; insist(&rt, alloc, &turnstile, &mut second, 1) == Err(Refusal::HistoryFull));
-    let Closed::Traced(done) = turnstile.close(pair(alloc, first, second)?) else {
-        panic!(rt; "all passes were given");
-    };
-    let wanted = [(0, 5), (1, 2), (0, 1)];
-    assert_eq!(rt; done.history.len(), wanted.len());
-    for (asked, row) in done.history.as_slice().iter().zip(&wanted) {
-        assert!(rt; asked.number == row.0 && asked.op.amount == row.1);
-    }
-    assert_eq!(rt; done.object.sum, 8);
-    assert!(rt; replayed(&rt, alloc, &done.history)?.as_slice() == [5, 7, 8].as_slice());
+    ask_two(&rt, alloc, &turnstile, &mut first, &mut second);
+    let done = finished(&rt, turnstile, pair(alloc, first, second)?);
+    compare(&rt, done.history.as_slice(), &[(0, 5), (1, 2), (0, 1)]);
+    let replies = replayed(&rt, alloc, &done.history)?;
+    assert!(rt; done.object.sum == 8 && replies.as_slice() == [5, 7, 8].as_slice());
     Ok(())
 }

@@ -9,6 +9,8 @@ mod directory;
 #[cfg(test)]
 mod histories;
 #[cfg(test)]
+mod passes;
+#[cfg(test)]
 mod shared;
 #[cfg(test)]
 mod shared_directory;

@@ -1,7 +1,8 @@
-ghost use Rattle.std.specs.Prelude.{◌≡◌, ◌<◌, [], ◌∷◌, IfOk, All, vec_len};
+ghost use Rattle.std.specs.Prelude.{◌≡◌, IfOk};
 ghost use Rattle.turnstile.specs.Calls.{IsOf};
 ghost use Rattle.shared_partition.specs.Partitions.{BeganEmpty};
 
+use crate::passes::{alone, finished, pair};
 use shared_partition::{Gate, SharedPartition};
 use std::alloc::{AllocError, Global};
 use std::process::Abort;
@@ -12,7 +13,7 @@ use std::thread;
 use std::thread::{Threads, join};
 use step_core::{Limits, Op, Partition, Reply, Start};
 use stream_ident::{Batch, Event, GrainId, Payload, StreamId, SubName, Token};
-use turnstile::{Closed, Entry, PassOf, PlainHistory, Refusal, Traced, Turnstile};
+use turnstile::{Entry, PassOf, PlainHistory, Refusal, Turnstile};
 
 const QUEUE: usize = 5;
 
@@ -60,6 +61,47 @@ fn opened(
     Ok((gate, turnstile, pass))
 }
 
+// The same, asked for once more where memory was refused.
+fn opened_at_last(
+    alloc: Global,
+) -> Result<(Arc<Entered, Global>, Turnstile<Shared>, PassOf<Shared>), AllocError>
+    ensures { IfOk result (λ r. IsOf r.1 r.2 × BeganEmpty r.1.start) }
+{
+    match opened(alloc) {
+        Ok(opened) => Ok(opened),
+        Err(AllocError) => opened(alloc),
+    }
+}
+
+// What is asked of the partition: one grain, one stream and the subscription of one to the other.
+#[derive(Clone, Copy)]
+enum Call {
+    Subscribe,
+    // A batch of one event.
+    Publish,
+    Pull,
+    Deliver,
+    Begin,
+    // A turn of an activation ends, and leaves a note.
+    Commit(u64, u64, u64),
+    Acknowledge(Token),
+}
+
+// What of a reply matters here.
+#[derive(Clone, Copy, PartialEq, Eq)]
+enum Told {
+    Subscribed(u32),
+    Published,
+    Delivered,
+    // A turn of an activation, and the last note with its events added to it.
+    Turn(u64, u64, u64),
+    // The last event of the turn.
+    Committed(Token),
+    Acked,
+    // Something else.
+    Other,
+}
+
 fn grain(rt: &impl Abort) -> GrainId {
     GrainId::new(b"g", b"x").expect(rt, "a grain")
 }
@@ -68,36 +110,109 @@ fn stream(rt: &impl Abort) -> StreamId {
     StreamId::new(b"o", b"k").expect(rt, "a stream")
 }
 
-fn subscription(rt: &impl Abort) -> Op {
-    Op::Subscribe {
-        stream: stream(rt),
-        grain: grain(rt),
-        start: Start::Latest,
-    }
+// A batch of one payload.
+fn batch(rt: &impl Abort, alloc: Global) -> Result<Batch, AllocError> {
+    let mut payloads = Vec::with_capacity(alloc, 1)?;
+    payloads.push_reserved(Payload::new(b"a").expect(rt, "a payload"));
+    Ok(Batch::of(payloads))
 }
 
-fn publication(rt: &impl Abort, alloc: Global) -> Result<Op, AllocError> {
-    let payload = Payload::new(b"a").expect(rt, "a payload");
-    let mut payloads = Vec::with_capacity(alloc, 1)?;
-    payloads.push_reserved(payload);
-    Ok(Op::Publish {
-        stream: stream(rt),
-        payloads: Batch::of(payloads),
+// The operation of a call.
+fn operation(rt: &impl Abort, alloc: Global, call: Call) -> Result<Op, AllocError> {
+    let generation = 0;
+    Ok(match call {
+        Call::Subscribe => Op::Subscribe {
+            stream: stream(rt),
+            grain: grain(rt),
+            start: Start::Latest,
+        },
+        Call::Publish => Op::Publish {
+            stream: stream(rt),
+            payloads: batch(rt, alloc)?,
+        },
+        Call::Pull => Op::Pull {
+            generation,
+            max: 32,
+        },
+        Call::Deliver => Op::Deliver {
+            generation,
+            sub: SUB,
+        },
+        Call::Begin => Op::Begin {
+            grain: grain(rt),
+            max: 16,
+        },
+        Call::Commit(activation, turn, note) => Op::Commit {
+            grain: grain(rt),
+            activation,
+            turn,
+            note,
+        },
+        Call::Acknowledge(token) => Op::Ack {
+            generation,
+            sub: SUB,
+            token,
+        },
     })
 }
 
-// Does an operation, which isn't refused.
+fn summary(reply: &Reply) -> Told {
+    match reply {
+        Reply::Subscribed { number } => Told::Subscribed(*number),
+        Reply::Published { .. } => Told::Published,
+        Reply::Delivered { .. } => Told::Delivered,
+        Reply::Turn {
+            activation,
+            turn,
+            events,
+            note,
+            ..
+        } => Told::Turn(*activation, *turn, note.wrapping_add(events.len() as u64)),
+        Reply::Committed { sub, token } if *sub == SUB => Told::Committed(*token),
+        Reply::Acked => Told::Acked,
+        _ => Told::Other,
+    }
+}
+
+// The reply to a call, or none where memory was refused: then nothing is changed.
+fn attempt<R: Wait + Abort>(
+    rt: &R,
+    alloc: Global,
+    turnstile: &Turnstile<Shared>,
+    pass: &mut PassOf<Shared>,
+    call: Call,
+) -> Option<Reply>
+    requires { IsOf turnstile.now pass.old × BeganEmpty turnstile.now.start }
+    ensures { IsOf turnstile.now pass.new }
+{
+    let Ok(op) = operation(rt, alloc, call) else {
+        return None;
+    };
+    let seen = pass.len();
+    match SharedPartition::call(turnstile, rt, alloc, pass, op) {
+        Ok(reply) => Some(reply),
+        Err(refusal) => {
+            assert!(rt; refusal == Refusal::Memory && pass.len() == seen);
+            None
+        }
+    }
+}
+
+// What is told to a call, which isn't refused.
 fn ask<R: Wait + Abort>(
     rt: &R,
     alloc: Global,
     turnstile: &Turnstile<Shared>,
     pass: &mut PassOf<Shared>,
-    op: Op,
-) -> Reply
+    call: Call,
+) -> Told
     requires { IsOf turnstile.now pass.old × BeganEmpty turnstile.now.start }
     ensures { IsOf turnstile.now pass.new }
 {
-    SharedPartition::call(turnstile, rt, alloc, pass, op).expect(rt, "a reply")
+    match &attempt(rt, alloc, turnstile, pass, call) {
+        Some(reply) => summary(reply),
+        None => panic!(rt; "no reply"),
+    }
 }
 
 // Publishes so many events, each in a batch of its own.
@@ -112,9 +227,8 @@ fn produce<R: Wait + Abort>(
     ensures { IsOf turnstile.now pass.new }
 {
     for _ in 0..count {
-        let op = publication(rt, alloc).expect(rt, "memory");
-        let reply = ask(rt, alloc, turnstile, pass, op);
-        assert!(rt; matches!(reply, Reply::Published { .. }));
+        let told = ask(rt, alloc, turnstile, pass, Call::Publish);
+        assert!(rt; told == Told::Published);
     }
 }
 
@@ -128,33 +242,16 @@ fn work<R: Wait + Abort>(
     requires { IsOf turnstile.now pass.old × BeganEmpty turnstile.now.start }
     ensures { IsOf turnstile.now pass.new }
 {
-    let grain = grain(rt);
-    let Reply::Turn {
-        sub: _,
-        activation,
-        turn,
-        events,
-        note,
-    } = ask(rt, alloc, turnstile, pass, Op::Begin { grain, max: 16 })
-    else {
+    let begun = ask(rt, alloc, turnstile, pass, Call::Begin);
+    let Told::Turn(activation, turn, note) = begun else {
         return;
     };
-    let commit = Op::Commit {
-        grain,
-        activation,
-        turn,
-        note: note.wrapping_add(events.len() as u64),
-    };
-    let Reply::Committed { sub, token } = ask(rt, alloc, turnstile, pass, commit) else {
+    let commit = Call::Commit(activation, turn, note);
+    let Told::Committed(token) = ask(rt, alloc, turnstile, pass, commit) else {
         panic!(rt; "the turn runs");
     };
-    let acknowledgement = Op::Ack {
-        generation: 0,
-        sub,
-        token,
-    };
-    let reply = ask(rt, alloc, turnstile, pass, acknowledgement);
-    assert!(rt; matches!(reply, Reply::Acked));
+    let told = ask(rt, alloc, turnstile, pass, Call::Acknowledge(token));
+    assert!(rt; told == Told::Acked);
 }
 
 // One round of an agent and a worker: some events are pulled, delivered and handled.
@@ -167,18 +264,9 @@ fn serve<R: Wait + Abort>(
     requires { IsOf turnstile.now pass.old × BeganEmpty turnstile.now.start }
     ensures { IsOf turnstile.now pass.new }
 {
-    let pull = Op::Pull {
-        generation: 0,
-        max: 32,
-    };
-    let _pulled = ask(rt, alloc, turnstile, pass, pull);
+    let _pulled = ask(rt, alloc, turnstile, pass, Call::Pull);
     for _ in 0..32 {
-        let deliver = Op::Deliver {
-            generation: 0,
-            sub: SUB,
-        };
-        let reply = ask(rt, alloc, turnstile, pass, deliver);
-        if !matches!(reply, Reply::Delivered { .. }) {
+        if ask(rt, alloc, turnstile, pass, Call::Deliver) != Told::Delivered {
             break;
         }
     }
@@ -186,22 +274,24 @@ fn serve<R: Wait + Abort>(
     work(rt, alloc, turnstile, pass);
 }
 
-// Rounds enough for all events that are published here.
-fn serve_all<R: Wait + Abort>(
+// Twenty rounds, each of which begins with so many new events.
+fn serve_rounds<R: Wait + Abort>(
     rt: &R,
     alloc: Global,
     turnstile: &Turnstile<Shared>,
     pass: &mut PassOf<Shared>,
+    count: u32,
 )
     requires { IsOf turnstile.now pass.old × BeganEmpty turnstile.now.start }
     ensures { IsOf turnstile.now pass.new }
 {
     for _ in 0..20 {
+        produce(rt, alloc, turnstile, pass, count);
         serve(rt, alloc, turnstile, pass);
     }
 }
 
-// Publishes, and serves as an agent and a worker in between.
+// Publishes two hundred events, and serves as an agent and a worker in between.
 fn produce_and_serve<R: Wait + Abort>(
     rt: &R,
     alloc: Global,
@@ -211,10 +301,7 @@ fn produce_and_serve<R: Wait + Abort>(
     requires { IsOf turnstile.now pass × BeganEmpty turnstile.now.start }
     ensures { IsOf turnstile.now result }
 {
-    for _ in 0..20 {
-        produce(rt, alloc, turnstile, &mut pass, 10);
-        serve(rt, alloc, turnstile, &mut pass);
-    }
+    serve_rounds(rt, alloc, turnstile, &mut pass, 10);
     pass
 }
 
@@ -232,68 +319,33 @@ fn produce_alone<R: Wait + Abort>(
     pass
 }
 
-// The trace of a turnstile to which all passes are given.
-fn finished<R: Abort>(
-    rt: &R,
-    turnstile: Turnstile<Shared>,
-    passes: Vec<PassOf<Shared>>,
-) -> Traced<Shared>
-    requires some { 0 < vec_len passes }
-    requires passes { All (IsOf turnstile) passes.items }
-{
-    let Closed::Traced(done) = turnstile.close(passes) else {
-        panic!(rt; "all passes were given");
-    };
-    done
-}
-
 // The replies are those of a partition that does the same operations in the order of the history.
-fn replay<R: Abort>(rt: &R, alloc: Global, history: &[Entry<Op, Reply>]) -> Partition {
-    let mut partition = Partition::new(alloc, 4, Limits::GREATEST).expect(rt, "memory");
+fn replay<R: Abort>(
+    rt: &R,
+    alloc: Global,
+    partition: &mut Partition,
+    history: &[Entry<Op, Reply>],
+) {
     for entry in history {
-        let reply = partition.apply(alloc, &entry.op).expect(rt, "memory");
-        assert!(rt; reply == entry.reply);
+        let reply = partition.apply(alloc, &entry.op);
+        assert!(rt; matches!(&reply, Ok(reply) if *reply == entry.reply));
     }
-    partition
 }
 
 // All is handled, each event once; the history is what one partition answers, and each call of it has
 // entered the gate.
-fn compare<R: Abort>(rt: &R, alloc: Global, entered: u64, history: &[Entry<Op, Reply>]) {
-    let twin = replay(rt, alloc, history);
+fn compare<R: Abort>(
+    rt: &R,
+    alloc: Global,
+    entered: u64,
+    history: &[Entry<Op, Reply>],
+) -> Result<(), AllocError> {
+    let mut twin = Partition::new(alloc, 4, Limits::GREATEST)?;
+    replay(rt, alloc, &mut twin, history);
     assert!(rt; twin.quiet().is_none());
-    let handled = twin.handled(alloc, &SUB).expect(rt, "memory");
-    assert_eq!(rt; handled.len(), 400);
+    assert_eq!(rt; twin.handled(alloc, &SUB)?.len(), 400);
     assert_eq!(rt; entered, history.len() as u64);
-}
-
-// Two passes in one vector.
-fn pair<R: Abort>(
-    rt: &R,
-    alloc: Global,
-    first: PassOf<Shared>,
-    second: PassOf<Shared>,
-) -> Vec<PassOf<Shared>>
-    ensures { result.items ≡ first ∷ second ∷ [] }
-{
-    let mut passes = Vec::with_capacity(alloc, 2).expect(rt, "memory");
-    passes.push_reserved(first);
-    passes.push_reserved(second);
-    passes
-}
-
-// Subscribes the grain.
-fn subscribe<R: Wait + Abort>(
-    rt: &R,
-    alloc: Global,
-    turnstile: &Turnstile<Shared>,
-    pass: &mut PassOf<Shared>,
-)
-    requires { IsOf turnstile.now pass.old × BeganEmpty turnstile.now.start }
-    ensures { IsOf turnstile.now pass.new }
-{
-    let reply = ask(rt, alloc, turnstile, pass, subscription(rt));
-    assert!(rt; matches!(reply, Reply::Subscribed { number: 1 }));
+    Ok(())
 }
 
 // The passes after two threads have published, one of which is an agent and a worker as well.
@@ -319,78 +371,38 @@ fn in_two_threads<R: Threads + Wait + Abort + Sync>(
 
 // At the end all is handled, and the history is what one partition answers.
 #[test]
-fn two_threads_of_callers(rt: HostRuntime) {
+fn two_threads_of_callers(rt: HostRuntime) -> Result<(), Fail> {
     let alloc = rt.alloc();
-    let (gate, turnstile, mut first) = opened(alloc).expect(&rt, "memory");
-    subscribe(&rt, alloc, &turnstile, &mut first);
-    let second = turnstile.split(&mut first).expect(&rt, "a number");
+    let (gate, turnstile, mut first) = opened(alloc)?;
+    let told = ask(&rt, alloc, &turnstile, &mut first, Call::Subscribe);
+    assert!(rt; told == Told::Subscribed(1));
+    let second = turnstile.split(&mut first)?;
     let (mut first, second) = in_two_threads(&rt, alloc, &turnstile, first, second);
-    serve_all(&rt, alloc, &turnstile, &mut first);
-    let passes = pair(&rt, alloc, first, second);
-    let done = finished(&rt, turnstile, passes);
+    serve_rounds(&rt, alloc, &turnstile, &mut first, 0);
+    let done = finished(&rt, turnstile, pair(alloc, first, second)?);
     let entered = gate.calls.load(Ordering::SeqCst);
-    compare(&rt, alloc, entered, done.history.as_slice());
+    compare(&rt, alloc, entered, done.history.as_slice())?;
+    Ok(())
 }
 
-// A turnstile as `opened`, asked for once more where memory was refused.
-fn opened_at_last(
-    alloc: Global,
-) -> Result<(Arc<Entered, Global>, Turnstile<Shared>, PassOf<Shared>), AllocError>
-    ensures { IfOk result (λ r. IsOf r.1 r.2 × BeganEmpty r.1.start) }
-{
-    match opened(alloc) {
-        Ok(opened) => Ok(opened),
-        Err(AllocError) => opened(alloc),
-    }
-}
-
-// The operations by which one event is published and handled, by their places.
-fn operation(rt: &impl Abort, alloc: Global, place: u32) -> Result<Op, AllocError> {
-    let grain = grain(rt);
-    Ok(match place {
-        0 => subscription(rt),
-        1 => publication(rt, alloc)?,
-        2 => Op::Pull {
-            generation: 0,
-            max: 32,
-        },
-        3 => Op::Deliver {
-            generation: 0,
-            sub: SUB,
-        },
-        4 => Op::Begin { grain, max: 16 },
-        _ => Op::Commit {
-            grain,
-            activation: 1,
-            turn: 1,
-            note: 1,
-        },
-    })
-}
-
-// Does the operation of a place. Where memory was refused nothing is changed, and it is done then.
+// The reply to a call, which is made once more where memory was refused.
 fn insist<R: Wait + Abort>(
     rt: &R,
     alloc: Global,
     turnstile: &Turnstile<Shared>,
     pass: &mut PassOf<Shared>,
-    place: u32,
-) -> Result<Reply, AllocError>
+    call: Call,
+) -> Option<Reply>
     requires { IsOf turnstile.now pass.old × BeganEmpty turnstile.now.start }
     ensures { IsOf turnstile.now pass.new }
 {
-    let seen = pass.len();
-    if let Ok(op) = operation(rt, alloc, place) {
-        match SharedPartition::call(turnstile, rt, alloc, pass, op) {
-            Ok(reply) => return Ok(reply),
-            Err(refusal) => assert!(rt; refusal == Refusal::Memory && pass.len() == seen),
-        }
+    match attempt(rt, alloc, turnstile, pass, call) {
+        None => attempt(rt, alloc, turnstile, pass, call),
+        reply => reply,
     }
-    let op = operation(rt, alloc, place)?;
-    Ok(ask(rt, alloc, turnstile, pass, op))
 }
 
-// Does an operation at each of two turnstiles, which answer the same.
+// Makes a call at each of two turnstiles, which answer the same.
 fn ask_alike<R: Wait + Abort>(
     rt: &R,
     alloc: Global,
@@ -398,20 +410,29 @@ fn ask_alike<R: Wait + Abort>(
     pass: &mut PassOf<Shared>,
     other: &Turnstile<Shared>,
     twin: &mut PassOf<Shared>,
-    place: u32,
-) -> Result<(), AllocError>
+    call: Call,
+)
     requires one { IsOf one.now pass.old × BeganEmpty one.now.start }
     requires other { IsOf other.now twin.old × BeganEmpty other.now.start }
     ensures one { IsOf one.now pass.new }
     ensures other { IsOf other.now twin.new }
 {
-    let reply = insist(rt, alloc, one, pass, place)?;
-    assert!(rt; reply == insist(rt, alloc, other, twin, place)?);
+    let reply = insist(rt, alloc, one, pass, call);
+    assert!(rt; reply.is_some() && reply == insist(rt, alloc, other, twin, call));
     assert_eq!(rt; pass.len(), twin.len());
-    Ok(())
 }
 
-// Does six operations at each of them.
+// The calls by which one event is published and handled.
+const CALLS: [Call; 6] = [
+    Call::Subscribe,
+    Call::Publish,
+    Call::Pull,
+    Call::Deliver,
+    Call::Begin,
+    Call::Commit(1, 1, 1),
+];
+
+// Makes these calls at each of them.
 fn ask_all_alike<R: Wait + Abort>(
     rt: &R,
     alloc: Global,
@@ -419,28 +440,24 @@ fn ask_all_alike<R: Wait + Abort>(
     pass: &mut PassOf<Shared>,
     other: &Turnstile<Shared>,
     twin: &mut PassOf<Shared>,
-) -> Result<(), AllocError>
+)
     requires one { IsOf one.now pass.old × BeganEmpty one.now.start }
     requires other { IsOf other.now twin.old × BeganEmpty other.now.start }
     ensures one { IsOf one.now pass.new }
     ensures other { IsOf other.now twin.new }
 {
-    for place in 0..6 {
-        ask_alike(rt, alloc, one, pass, other, twin, place)?;
+    for call in &CALLS {
+        ask_alike(rt, alloc, one, pass, other, twin, *call);
     }
-    Ok(())
 }
 
-// A vector of one pass.
-fn alone(alloc: Global, pass: PassOf<Shared>) -> Result<Vec<PassOf<Shared>>, AllocError>
-    ensures { IfOk result (λ v. v.items ≡ pass ∷ []) }
-{
-    let mut passes = Vec::new(alloc);
-    if passes.reserve(1).is_err() {
-        passes.reserve(1)?;
+// Two histories of those calls are alike, and end with a commit.
+fn compare_histories<R: Abort>(rt: &R, history: &[Entry<Op, Reply>], twin: &[Entry<Op, Reply>]) {
+    assert!(rt; history.len() == 6 && twin.len() == 6);
+    for (entry, same) in history.iter().zip(twin) {
+        assert!(rt; entry.number == 0 && entry.reply == same.reply);
     }
-    passes.push_reserved(pass);
-    Ok(passes)
+    assert!(rt; matches!(history[5].reply, Reply::Committed { .. }));
 }
 
 // With any one allocation refused, of two turnstiles one is untouched, and they stay alike. Run it with
@@ -450,14 +467,9 @@ fn one_allocation_refused_in_a_call(rt: HostRuntime) -> Result<(), Fail> {
     let alloc = rt.alloc();
     let (_gate, one, mut pass) = opened_at_last(alloc)?;
     let (_other_gate, other, mut twin) = opened_at_last(alloc)?;
-    ask_all_alike(&rt, alloc, &one, &mut pass, &other, &mut twin)?;
+    ask_all_alike(&rt, alloc, &one, &mut pass, &other, &mut twin);
     let done = finished(&rt, one, alone(alloc, pass)?);
     let twin = finished(&rt, other, alone(alloc, twin)?);
-    let history = done.history.as_slice();
-    assert!(rt; history.len() == 6 && twin.history.as_slice().len() == 6);
-    for (entry, same) in history.iter().zip(twin.history.as_slice()) {
-        assert!(rt; entry.number == 0 && entry.reply == same.reply);
-    }
-    assert!(rt; matches!(history[5].reply, Reply::Committed { .. }));
+    compare_histories(&rt, done.history.as_slice(), twin.history.as_slice());
     Ok(())
 }

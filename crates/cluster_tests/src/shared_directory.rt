@@ -1,15 +1,17 @@
-ghost use Rattle.std.specs.Prelude.{◌≡◌, [], ◌∷◌, IfOk};
+ghost use Rattle.std.specs.Prelude.{◌≡◌, IfOk};
 ghost use Rattle.turnstile.specs.Calls.{IsOf};
 ghost use Rattle.shared_partition.specs.Directories.{BeganEmpty};
 
+use crate::passes::{finished, pair};
 use activation_directory::{Directory, DirectoryOp, DirectoryReply};
 use shared_partition::SharedDirectory;
 use std::alloc::{AllocError, Global};
 use std::process::Abort;
 use std::sync::Wait;
+use std::test::Fail;
 use std::thread::{Threads, join};
 use stream_ident::GrainId;
-use turnstile::{Closed, Entry, PassOf, PlainHistory, Turnstile};
+use turnstile::{Entry, PassOf, PlainHistory, Turnstile};
 
 type Shared = SharedDirectory<PlainHistory<DirectoryOp, DirectoryReply>>;
 
@@ -107,21 +109,6 @@ fn replay<R: Abort>(rt: &R, alloc: Global, history: &[Entry<DirectoryOp, Directo
     assert!(rt; history.len() >= 400);
 }
 
-// Two passes in one vector.
-fn pair<R: Abort>(
-    rt: &R,
-    alloc: Global,
-    first: PassOf<Shared>,
-    second: PassOf<Shared>,
-) -> Vec<PassOf<Shared>>
-    ensures { result.items ≡ first ∷ second ∷ [] }
-{
-    let mut passes = Vec::with_capacity(alloc, 2).expect(rt, "memory");
-    passes.push_reserved(first);
-    passes.push_reserved(second);
-    passes
-}
-
 // A turnstile over an empty directory.
 fn opened(alloc: Global) -> Result<(Turnstile<Shared>, PassOf<Shared>), AllocError>
     ensures { IfOk result (λ r. IsOf r.0 r.1 × BeganEmpty r.0.start) }
@@ -152,13 +139,12 @@ fn in_two_threads<R: Threads + Wait + Abort + Sync>(
 
 // The history is what one directory answers.
 #[test]
-fn two_threads_share_a_permit(rt: HostRuntime) {
+fn two_threads_share_a_permit(rt: HostRuntime) -> Result<(), Fail> {
     let alloc = rt.alloc();
-    let (turnstile, mut first) = opened(alloc).expect(&rt, "memory");
-    let second = turnstile.split(&mut first).expect(&rt, "a number");
+    let (turnstile, mut first) = opened(alloc)?;
+    let second = turnstile.split(&mut first)?;
     let (first, second) = in_two_threads(&rt, alloc, &turnstile, first, second);
-    let Closed::Traced(done) = turnstile.close(pair(&rt, alloc, first, second)) else {
-        panic!(&rt; "all passes were given");
-    };
+    let done = finished(&rt, turnstile, pair(alloc, first, second)?);
     replay(&rt, alloc, done.history.as_slice());
+    Ok(())
 }

@@ -1,7 +1,8 @@
 //! A turnstile, one or two of its passes, and what it gives at the end.
-ghost use Rattle.std.specs.Prelude.{◌≡◌, ◌<◌, [], ◌∷◌, IfOk, All, vec_len};
+ghost use Rattle.std.specs.Prelude.{◌≡◌, ◌<◌, IfOk, All, vec_len};
 ghost use Rattle.turnstile.specs.Calls.{IsOf};
 
+use crate::passes::{alone, finished, pair};
 use crate::total::{Addition, Total, add, everything, expect, insist};
 use std::alloc::{AllocError, Global};
 use std::ops::Range;
@@ -9,31 +10,41 @@ use std::process::Abort;
 use std::sync::Wait;
 use std::test::Fail;
 use std::thread::join;
-use turnstile::{Closed, Entry, PassOf, PlainHistory, Refusal, Traced, Turnstile};
+use turnstile::{Closed, Entry, PassOf, PlainHistory, Refusal, Turnstile};
 
 type Plain = Total<PlainHistory<Addition, u64>>;
 
-// The trace of a turnstile to which all passes are given.
-fn finished<R: Abort>(
-    rt: &R,
-    turnstile: Turnstile<Plain>,
-    passes: Vec<PassOf<Plain>>,
-) -> Traced<Plain>
-    requires some { 0 < vec_len passes }
-    requires passes { All (IsOf turnstile) passes.items }
-{
-    let Closed::Traced(done) = turnstile.close(passes) else {
-        panic!(rt; "all passes were given");
-    };
-    done
-}
-
 // The entries are these: the number, the amount and the reply of each.
 fn compare<R: Abort>(rt: &R, history: &[Entry<Addition, u64>], wanted: &[(u64, u64, u64)]) {
-    assert_eq!(rt; history.len(), wanted.len());
+    assert!(rt; history.len() == wanted.len());
     for (entry, row) in history.iter().zip(wanted) {
         assert!(rt; entry.number == row.0 && entry.op.amount == row.1 && entry.reply == row.2);
     }
+}
+
+// The number of a pass, how many entries it has seen, and of how many passes it knows.
+fn view(pass: &PassOf<Plain>) -> (u64, u64, u64) {
+    (pass.number(), pass.len(), pass.made())
+}
+
+// The calls of two passes of a turnstile with one entry, which has room for one more.
+fn fill<R: Wait + Abort>(
+    rt: &R,
+    alloc: Global,
+    turnstile: &Turnstile<Plain>,
+    first: &mut PassOf<Plain>,
+    second: &mut PassOf<Plain>,
+)
+    requires first { IsOf turnstile.now first.old }
+    requires second { IsOf turnstile.now second.old }
+    ensures first { IsOf turnstile.now first.new }
+    ensures second { IsOf turnstile.now second.new }
+{
+    assert!(rt; second.number() == 1 && second.len() == 1);
+    expect(rt, alloc, turnstile, second, add(2), Ok(7));
+    let refused = Err(Refusal::HistoryFull);
+    expect(rt, alloc, turnstile, first, add(1), refused);
+    assert!(rt; view(first) == (0, 2, 1));
 }
 
 #[test]
@@ -42,58 +53,61 @@ fn two_passes_and_a_full_history(rt: HostRuntime) -> Result<(), Fail> {
     let (turnstile, mut first) = Turnstile::new(alloc, Plain::new(), 2)?;
     expect(&rt, alloc, &turnstile, &mut first, add(5), Ok(5));
     let mut second = turnstile.split(&mut first)?;
-    assert!(rt; second.number() == 1 && second.len() == 1);
-    expect(&rt, alloc, &turnstile, &mut second, add(2), Ok(7));
-    expect(
-        &rt,
-        alloc,
-        &turnstile,
-        &mut first,
-        add(1),
-        Err(Refusal::HistoryFull),
-    );
-    assert!(rt; first.number() == 0 && first.len() == 2 && first.made() == 1);
-    let mut some = Vec::with_capacity(alloc, 2)?;
-    some.push_reserved(first);
-    let Closed::NotAll(back) = turnstile.close(some) else {
+    fill(&rt, alloc, &turnstile, &mut first, &mut second);
+    let Closed::NotAll(back) = turnstile.close(alone(alloc, first)?) else {
         panic!(rt; "a pass is missing");
     };
-    assert_eq!(rt; back.missing, 1);
+    assert!(rt; back.missing == 1);
     let mut passes = back.passes;
     passes.push(second)?;
     let done = finished(&rt, back.turnstile, passes);
-    assert_eq!(rt; done.object.sum, 7);
+    assert!(rt; done.object.sum == 7);
     compare(&rt, done.history.as_slice(), &[(0, 5, 5), (1, 2, 7)]);
     Ok(())
+}
+
+// A call that wants more memory than there is, one that is done, and one behind the last entry.
+fn ask_three<R: Wait + Abort>(
+    rt: &R,
+    alloc: Global,
+    turnstile: &Turnstile<Plain>,
+    pass: &mut PassOf<Plain>,
+)
+    requires { IsOf turnstile.now pass.old }
+    ensures { IsOf turnstile.now pass.new }
+{
+    let (refused, full) = (Err(Refusal::Memory), Err(Refusal::HistoryFull));
+    expect(rt, alloc, turnstile, pass, everything(), refused);
+    expect(rt, alloc, turnstile, pass, add(5), Ok(5));
+    expect(rt, alloc, turnstile, pass, everything(), full);
 }
 
 #[test]
 fn one_entry_and_no_room(rt: HostRuntime) -> Result<(), Fail> {
     let alloc = rt.alloc();
     let (turnstile, mut pass) = Turnstile::new(alloc, Plain::new(), 1)?;
-    expect(
-        &rt,
-        alloc,
-        &turnstile,
-        &mut pass,
-        everything(),
-        Err(Refusal::Memory),
-    );
-    expect(&rt, alloc, &turnstile, &mut pass, add(5), Ok(5));
-    expect(
-        &rt,
-        alloc,
-        &turnstile,
-        &mut pass,
-        everything(),
-        Err(Refusal::HistoryFull),
-    );
-    let mut passes = Vec::with_capacity(alloc, 1)?;
-    passes.push_reserved(pass);
-    let done = finished(&rt, turnstile, passes);
-    assert_eq!(rt; done.object.sum, 5);
+    ask_three(&rt, alloc, &turnstile, &mut pass);
+    let done = finished(&rt, turnstile, alone(alloc, pass)?);
+    assert!(rt; done.object.sum == 5);
     compare(&rt, done.history.as_slice(), &[(0, 5, 5)]);
     Ok(())
+}
+
+// Each of two passes makes a call.
+fn ask_both<R: Wait + Abort>(
+    rt: &R,
+    alloc: Global,
+    turnstile: &Turnstile<Plain>,
+    first: &mut PassOf<Plain>,
+    second: &mut PassOf<Plain>,
+)
+    requires first { IsOf turnstile.now first.old }
+    requires second { IsOf turnstile.now second.old }
+    ensures first { IsOf turnstile.now first.new }
+    ensures second { IsOf turnstile.now second.new }
+{
+    expect(rt, alloc, turnstile, first, add(5), Ok(5));
+    expect(rt, alloc, turnstile, second, add(2), Ok(7));
 }
 
 // A pass that takes in another brings what both did.
@@ -102,20 +116,14 @@ fn joined_passes(rt: HostRuntime) -> Result<(), Fail> {
     let alloc = rt.alloc();
     let (turnstile, mut first) = Turnstile::new(alloc, Plain::new(), 3)?;
     let mut second = turnstile.split(&mut first)?;
-    expect(&rt, alloc, &turnstile, &mut first, add(5), Ok(5));
-    expect(&rt, alloc, &turnstile, &mut second, add(2), Ok(7));
+    ask_both(&rt, alloc, &turnstile, &mut first, &mut second);
     turnstile.join(&mut first, second);
-    assert!(rt; first.number() == 0 && first.len() == 2 && first.made() == 2);
+    assert!(rt; view(&first) == (0, 2, 2));
     expect(&rt, alloc, &turnstile, &mut first, add(1), Ok(8));
-    let mut passes = Vec::with_capacity(alloc, 1)?;
-    passes.push_reserved(first);
-    let done = finished(&rt, turnstile, passes);
-    assert_eq!(rt; done.object.sum, 8);
-    compare(
-        &rt,
-        done.history.as_slice(),
-        &[(0, 5, 5), (1, 2, 7), (0, 1, 8)],
-    );
+    let done = finished(&rt, turnstile, alone(alloc, first)?);
+    assert!(rt; done.object.sum == 8);
+    let rows = [(0, 5, 5), (1, 2, 7), (0, 1, 8)];
+    compare(&rt, done.history.as_slice(), &rows);
     Ok(())
 }
 
@@ -169,21 +177,24 @@ fn add_all_alike<R: Wait + Abort>(
     }
 }
 
-// Two passes in one vector.
-fn pair(
-    alloc: Global,
-    first: PassOf<Plain>,
-    second: PassOf<Plain>,
-) -> Result<Vec<PassOf<Plain>>, AllocError>
-    ensures { IfOk result (λ v. v.items ≡ first ∷ second ∷ []) }
+// What two passes have added.
+const ADDED: [(u64, u64, u64); 6] = [
+    (0, 1, 1),
+    (0, 2, 3),
+    (0, 3, 6),
+    (0, 4, 10),
+    (1, 5, 15),
+    (1, 6, 21),
+];
+
+// What the passes of a turnstile have added, of which the history has the first six.
+fn expect_added<R: Abort>(rt: &R, turnstile: Turnstile<Plain>, passes: Vec<PassOf<Plain>>)
+    requires some { 0 < vec_len passes }
+    requires passes { All (IsOf turnstile) passes.items }
 {
-    let mut passes = Vec::new(alloc);
-    if passes.reserve(2).is_err() {
-        passes.reserve(2)?;
-    }
-    passes.push_reserved(first);
-    passes.push_reserved(second);
-    Ok(passes)
+    let done = finished(rt, turnstile, passes);
+    assert!(rt; done.object.sum == 21);
+    compare(rt, done.history.as_slice(), &ADDED);
 }
 
 // With any one allocation refused, of two turnstiles one is untouched, and they stay alike. Run it with
@@ -195,29 +206,10 @@ fn one_allocation_refused(rt: HostRuntime) -> Result<(), Fail> {
     let (other, mut twin) = opened(alloc)?;
     add_all_alike(&rt, alloc, &one, &mut first, &other, &mut twin, 1..5);
     let mut second = one.split(&mut first)?;
-    let mut second_twin = other.split(&mut twin)?;
-    add_all_alike(
-        &rt,
-        alloc,
-        &one,
-        &mut second,
-        &other,
-        &mut second_twin,
-        5..8,
-    );
-    let done = finished(&rt, one, pair(alloc, first, second)?);
-    let twin = finished(&rt, other, pair(alloc, twin, second_twin)?);
-    assert!(rt; done.object.sum == 21 && twin.object.sum == 21);
-    let rows = [
-        (0, 1, 1),
-        (0, 2, 3),
-        (0, 3, 6),
-        (0, 4, 10),
-        (1, 5, 15),
-        (1, 6, 21),
-    ];
-    compare(&rt, done.history.as_slice(), &rows);
-    compare(&rt, twin.history.as_slice(), &rows);
+    let mut again = other.split(&mut twin)?;
+    add_all_alike(&rt, alloc, &one, &mut second, &other, &mut again, 5..8);
+    expect_added(&rt, one, pair(alloc, first, second)?);
+    expect_added(&rt, other, pair(alloc, twin, again)?);
     Ok(())
 }
 
@@ -267,10 +259,7 @@ fn two_threads(rt: HostRuntime) -> Result<(), Fail> {
         || add_many(&rt, alloc, shared, first),
         || add_many(&rt, alloc, shared, second),
     );
-    let mut passes = Vec::with_capacity(alloc, 2)?;
-    passes.push_reserved(second);
-    passes.push_reserved(first);
-    let done = finished(&rt, turnstile, passes);
+    let done = finished(&rt, turnstile, pair(alloc, second, first)?);
     assert_eq!(rt; done.object.sum, 999_000);
     in_order(&rt, done.history.as_slice());
     Ok(())

@@ -1,5 +1,5 @@
 use Rattle.turnstile.specs.Calls.{IsOf}
-use Rattle.cluster_tests.proofs.shared.serve_all.Given as goal
+use Rattle.cluster_tests.proofs.shared.serve_rounds.Given as goal
 
 abbrev pub invariant-loop : goal.invariant-loop
 invariant-loop g l = IsOf l.turnstile l.pass
