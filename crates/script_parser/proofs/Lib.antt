@@ -3,6 +3,7 @@ pub mod AgainLemmas
 pub mod AgentFound
 pub mod BegunLemmas
 pub mod CutLemmas
+pub mod CuttingLaws
 pub mod FieldLemmas
 pub mod FoundLemmas
 pub mod LineLemmas

@@ -1,5 +1,5 @@
 -- What stands behind each verb: the command of its pieces, or their first fault from left to right.
-use Rattle.std.specs.Prelude.{ℕ, ◌^◌, List, [], ◌∷◌, Some, None, Result, Ok, Err, codes}
+use Rattle.std.specs.Prelude.{ℕ, ◌^◌, List, [], ◌∷◌, Some, None, Result, Ok, Err, codes, if◌then◌else◌}
 use Rattle.stream_ident.specs.declared.ident.StreamId.{StreamId}
 use Rattle.stream_model.specs.declared.op.Op.{Op}
 use Rattle.stream_model.specs.declared.op.Op.TheVariants as op
@@ -16,6 +16,7 @@ use Rattle.script_parser.specs.declared.verb.Verb.{Verb}
 use Rattle.script_parser.specs.declared.verb.Verb.TheVariants.{Pub, Sub, Unsub, Rule, Pull, Deliver, Retry, Ack, Purge, Move, Begin, Commit, Deactivate, Ready, Due, Quiet, Drain, Report, Up, Down}
 use Rattle.script_parser.specs.Fields.{guard, number_field, queue_field, stream_field, grain_field, token_field, payload_field, bare_name_field, sub_field, own_sub_field}
 use Rattle.script_parser.specs.Pieces.{Piece, Word, Text}
+use Rattle.script_parser.specs.Verbs.{takes_texts}
 
 -- each element as it reads, or the first fault
 abbrev pub read_all : {A B : Type 0} → (A → Result B FaultKind) → List A → Result (List B) FaultKind
@@ -287,24 +288,30 @@ abbrev pub alone : Command → List (List ℕ) → Result Command FaultKind
 alone command [] = Ok command
 alone command _ = Err kind.WordCount
 
+-- the command of a verb behind which words alone stand
+abbrev pub words_command : Verb → ℕ → List (List ℕ) → Result Command FaultKind
+words_command Pub queues words = Err kind.WordCount
+words_command Sub queues words = sub_words queues words
+words_command Unsub queues words = unsub_words queues words
+words_command Rule queues words = rule_words words
+words_command Pull queues words = pull_words queues words
+words_command Deliver queues words = deliver_words queues words
+words_command Retry queues words = retry_words queues words
+words_command Ack queues words = ack_words queues words
+words_command Purge queues words = purge_words queues words
+words_command Move queues words = move_words queues words
+words_command Begin queues words = begin_words queues words
+words_command Commit queues words = commit_words queues words
+words_command Deactivate queues words = deactivate_words queues words
+words_command Ready queues words = ready_words queues words
+words_command Due queues words = due_words queues words
+words_command Quiet queues words = alone (command.Each each.Quiet) words
+words_command Drain queues words = alone command.Drain words
+words_command Report queues words = alone command.Report words
+words_command Up queues words = up_words words
+words_command Down queues words = down_words words
+
+-- the command of a verb and the pieces behind it
 abbrev pub verb_command : Verb → ℕ → List Piece → Result Command FaultKind
-verb_command Pub queues pieces = pub_command queues pieces
-verb_command Sub queues pieces = words_of pieces >>= λ words. sub_words queues words
-verb_command Unsub queues pieces = words_of pieces >>= λ words. unsub_words queues words
-verb_command Rule queues pieces = words_of pieces >>= λ words. rule_words words
-verb_command Pull queues pieces = words_of pieces >>= λ words. pull_words queues words
-verb_command Deliver queues pieces = words_of pieces >>= λ words. deliver_words queues words
-verb_command Retry queues pieces = words_of pieces >>= λ words. retry_words queues words
-verb_command Ack queues pieces = words_of pieces >>= λ words. ack_words queues words
-verb_command Purge queues pieces = words_of pieces >>= λ words. purge_words queues words
-verb_command Move queues pieces = words_of pieces >>= λ words. move_words queues words
-verb_command Begin queues pieces = words_of pieces >>= λ words. begin_words queues words
-verb_command Commit queues pieces = words_of pieces >>= λ words. commit_words queues words
-verb_command Deactivate queues pieces = words_of pieces >>= λ words. deactivate_words queues words
-verb_command Ready queues pieces = words_of pieces >>= λ words. ready_words queues words
-verb_command Due queues pieces = words_of pieces >>= λ words. due_words queues words
-verb_command Quiet queues pieces = words_of pieces >>= λ words. alone (command.Each each.Quiet) words
-verb_command Drain queues pieces = words_of pieces >>= λ words. alone command.Drain words
-verb_command Report queues pieces = words_of pieces >>= λ words. alone command.Report words
-verb_command Up queues pieces = words_of pieces >>= λ words. up_words words
-verb_command Down queues pieces = words_of pieces >>= λ words. down_words words
+verb_command verb queues pieces =
+    if takes_texts verb then pub_command queues pieces else (words_of pieces >>= λ words. words_command verb queues words)

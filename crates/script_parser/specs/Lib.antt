@@ -1,3 +1,4 @@
+pub mod Cutting
 pub mod FaultTexts
 pub mod Fields
 pub mod Forms

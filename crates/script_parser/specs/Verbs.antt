@@ -60,6 +60,11 @@ operator_verb word =
 abbrev pub verb_of : List ℕ → Option Verb
 verb_of word = or_else (producer_verb word) (or_else (agent_verb word) (or_else (worker_verb word) (or_else (look_verb word) (operator_verb word))))
 
+-- behind this word texts stand
+abbrev pub takes_texts : Verb → Bool
+takes_texts Pub = true
+takes_texts _ = false
+
 -- what may stand in a script that is run: what producers do, a drain, and what changes the silos
 abbrev pub may_run : Verb → Bool
 may_run Pub = true

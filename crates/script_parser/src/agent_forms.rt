@@ -1,6 +1,6 @@
 //! What stands behind the verbs of pulling agents and workers.
 ghost use Rattle.std.specs.Prelude.{◌≡◌, map};
-ghost use Rattle.script_parser.specs.Forms.{pull_words, pull_fields, deliver_words, retry_words, ack_words, ack_fields, purge_words, purge_fields, move_words, begin_words, begin_one, begin_most, commit_words, commit_fields, deactivate_words, ready_words, due_words};
+ghost use Rattle.script_parser.specs.Forms.{pull_words, pull_fields, deliver_words, deliver_fields, retry_words, retry_fields, ack_words, ack_fields, purge_words, purge_fields, move_words, move_fields, begin_words, begin_one, begin_most, commit_words, commit_fields, deactivate_words, deactivate_fields, ready_words, ready_first, ready_after, due_words, due_first, due_after};
 
 use crate::command::{Command, FaultKind};
 use crate::fields;
@@ -32,26 +32,38 @@ fn pull_fields(
 }
 
 /// `deliver GEN SUB`
-#[tactic(auto, unfolding(crate::specs::Forms::deliver_fields))]
 pub(crate) fn deliver(words: &[&[u8]], queues: usize) -> Result<Command, FaultKind>
     ensures { result ≡ deliver_words queues (map (λ word. word.now) words.now) }
 {
-    let [generation, sub] = words else {
-        return Err(FaultKind::WordCount);
-    };
+    match words {
+        [generation, sub] => deliver_fields(generation, sub, queues),
+        _ => Err(FaultKind::WordCount),
+    }
+}
+
+#[tactic(auto, unfolding(crate::specs::Forms::deliver_fields))]
+fn deliver_fields(generation: &[u8], sub: &[u8], queues: usize) -> Result<Command, FaultKind>
+    ensures { result ≡ deliver_fields queues generation.now sub.now }
+{
     let generation = fields::number(generation)?;
     let (queue, sub) = fields::sub(sub, queues)?;
     Ok(Command::on_queue(queue, Op::Deliver { generation, sub }))
 }
 
 /// `retry GEN SUB`
-#[tactic(auto, unfolding(crate::specs::Forms::retry_fields))]
 pub(crate) fn retry(words: &[&[u8]], queues: usize) -> Result<Command, FaultKind>
     ensures { result ≡ retry_words queues (map (λ word. word.now) words.now) }
 {
-    let [generation, sub] = words else {
-        return Err(FaultKind::WordCount);
-    };
+    match words {
+        [generation, sub] => retry_fields(generation, sub, queues),
+        _ => Err(FaultKind::WordCount),
+    }
+}
+
+#[tactic(auto, unfolding(crate::specs::Forms::retry_fields))]
+fn retry_fields(generation: &[u8], sub: &[u8], queues: usize) -> Result<Command, FaultKind>
+    ensures { result ≡ retry_fields queues generation.now sub.now }
+{
     let generation = fields::number(generation)?;
     let (queue, sub) = fields::sub(sub, queues)?;
     Ok(Command::on_queue(queue, Op::Retry { generation, sub }))
@@ -115,13 +127,19 @@ fn purge_fields(
 }
 
 /// `move Q SILO`
-#[tactic(auto, unfolding(crate::specs::Forms::move_fields))]
 pub(crate) fn move_queue(words: &[&[u8]], queues: usize) -> Result<Command, FaultKind>
     ensures { result ≡ move_words queues (map (λ word. word.now) words.now) }
 {
-    let [queue, silo] = words else {
-        return Err(FaultKind::WordCount);
-    };
+    match words {
+        [queue, silo] => move_fields(queue, silo, queues),
+        _ => Err(FaultKind::WordCount),
+    }
+}
+
+#[tactic(auto, unfolding(crate::specs::Forms::move_fields))]
+fn move_fields(queue: &[u8], silo: &[u8], queues: usize) -> Result<Command, FaultKind>
+    ensures { result ≡ move_fields queues queue.now silo.now }
+{
     let queue = fields::queue(queue, queues)?;
     let silo = fields::silo(silo)?;
     Ok(Command::on_queue(queue, Op::Move { silo }))
@@ -197,52 +215,76 @@ fn commit_fields(
 }
 
 /// `deactivate Q GRAIN`
-#[tactic(auto, unfolding(crate::specs::Forms::deactivate_fields))]
 pub(crate) fn deactivate(words: &[&[u8]], queues: usize) -> Result<Command, FaultKind>
     ensures { result ≡ deactivate_words queues (map (λ word. word.now) words.now) }
 {
-    let [queue, grain] = words else {
-        return Err(FaultKind::WordCount);
-    };
+    match words {
+        [queue, grain] => deactivate_fields(queue, grain, queues),
+        _ => Err(FaultKind::WordCount),
+    }
+}
+
+#[tactic(auto, unfolding(crate::specs::Forms::deactivate_fields))]
+fn deactivate_fields(queue: &[u8], grain: &[u8], queues: usize) -> Result<Command, FaultKind>
+    ensures { result ≡ deactivate_fields queues queue.now grain.now }
+{
     let queue = fields::queue(queue, queues)?;
     let grain = fields::grain(grain)?;
     Ok(Command::on_queue(queue, Op::Deactivate { grain }))
 }
 
 /// `ready Q` or `ready Q GRAIN`
-#[tactic(auto, unfolding(crate::specs::Forms::ready_first, crate::specs::Forms::ready_after))]
 pub(crate) fn ready(words: &[&[u8]], queues: usize) -> Result<Command, FaultKind>
     ensures { result ≡ ready_words queues (map (λ word. word.now) words.now) }
 {
     match words {
-        [queue] => {
-            let queue = fields::queue(queue, queues)?;
-            Ok(Command::on_queue(queue, Op::Ready { after: None }))
-        }
-        [queue, grain] => {
-            let queue = fields::queue(queue, queues)?;
-            let after = Some(fields::grain(grain)?);
-            Ok(Command::on_queue(queue, Op::Ready { after }))
-        }
+        [queue] => ready_first(queue, queues),
+        [queue, grain] => ready_after(queue, grain, queues),
         _ => Err(FaultKind::WordCount),
     }
 }
 
+#[tactic(auto, unfolding(crate::specs::Forms::ready_first))]
+fn ready_first(queue: &[u8], queues: usize) -> Result<Command, FaultKind>
+    ensures { result ≡ ready_first queues queue.now }
+{
+    let queue = fields::queue(queue, queues)?;
+    Ok(Command::on_queue(queue, Op::Ready { after: None }))
+}
+
+#[tactic(auto, unfolding(crate::specs::Forms::ready_after))]
+fn ready_after(queue: &[u8], grain: &[u8], queues: usize) -> Result<Command, FaultKind>
+    ensures { result ≡ ready_after queues queue.now grain.now }
+{
+    let queue = fields::queue(queue, queues)?;
+    let after = Some(fields::grain(grain)?);
+    Ok(Command::on_queue(queue, Op::Ready { after }))
+}
+
 /// `due Q` or `due Q SUB`
-#[tactic(auto, unfolding(crate::specs::Forms::due_first, crate::specs::Forms::due_after))]
 pub(crate) fn due(words: &[&[u8]], queues: usize) -> Result<Command, FaultKind>
     ensures { result ≡ due_words queues (map (λ word. word.now) words.now) }
 {
     match words {
-        [queue] => {
-            let queue = fields::queue(queue, queues)?;
-            Ok(Command::on_queue(queue, Op::Due { after: None }))
-        }
-        [queue, sub] => {
-            let queue = fields::queue(queue, queues)?;
-            let after = Some(fields::own_sub(sub, queue, queues)?);
-            Ok(Command::on_queue(queue, Op::Due { after }))
-        }
+        [queue] => due_first(queue, queues),
+        [queue, sub] => due_after(queue, sub, queues),
         _ => Err(FaultKind::WordCount),
     }
+}
+
+#[tactic(auto, unfolding(crate::specs::Forms::due_first))]
+fn due_first(queue: &[u8], queues: usize) -> Result<Command, FaultKind>
+    ensures { result ≡ due_first queues queue.now }
+{
+    let queue = fields::queue(queue, queues)?;
+    Ok(Command::on_queue(queue, Op::Due { after: None }))
+}
+
+#[tactic(auto, unfolding(crate::specs::Forms::due_after))]
+fn due_after(queue: &[u8], sub: &[u8], queues: usize) -> Result<Command, FaultKind>
+    ensures { result ≡ due_after queues queue.now sub.now }
+{
+    let queue = fields::queue(queue, queues)?;
+    let after = Some(fields::own_sub(sub, queue, queues)?);
+    Ok(Command::on_queue(queue, Op::Due { after }))
 }

@@ -163,7 +163,7 @@ impl fmt::Display for Fault {
 }
 
 /// Why a line gives no command.
-#[derive(Debug, Drop)]
+#[derive(Drop)]
 pub(crate) enum LineError {
     /// Memory ran out.
     Memory,

@@ -1,6 +1,6 @@
 //! What stands behind each verb: those of producers and operators, and which form each verb has.
 ghost use Rattle.std.specs.Prelude.{◌≡◌, ◌≤◌, map};
-ghost use Rattle.script_parser.specs.Forms.{verb_command, alone, pub_command, sub_words, sub_latest, sub_from, unsub_words, rule_words, up_words, down_words};
+ghost use Rattle.script_parser.specs.Forms.{verb_command, words_command, alone, pub_command, pub_fields, queue_of, sub_words, sub_latest, sub_from, unsub_words, unsub_fields, rule_words, rule_fields, up_words, up_fields, down_words, down_fields};
 ghost use Rattle.script_parser.specs.Lexer.{pieces_in};
 ghost use Rattle.script_parser.specs.Reading.{Gives};
 
@@ -9,7 +9,7 @@ use crate::pieces::Piece;
 use crate::verb::Verb;
 use crate::{agent_forms, fields};
 use std::alloc::Global;
-use stream_ident::Batch;
+use stream_ident::{Batch, GrainId, StreamId};
 use stream_model::{Op, Start};
 
 /// The command of a verb and the pieces behind it.
@@ -22,27 +22,40 @@ pub(crate) fn command(
     requires { 1 ≤ queues }
     ensures { Gives (λ command. command) result (verb_command verb queues (pieces_in pieces.now)) }
 {
+    if verb.takes_texts() {
+        return publish(alloc, pieces, queues);
+    }
+    let words = fields::words(alloc, pieces)?;
+    Ok(of_words(verb, &words, queues)?)
+}
+
+/// The command of a verb and the words behind it.
+fn of_words(verb: Verb, words: &[&[u8]], queues: usize) -> Result<Command, FaultKind>
+    requires { 1 ≤ queues }
+    ensures { result ≡ words_command verb queues (map (λ word. word.now) words.now) }
+{
     match verb {
-        Verb::Pub => publish(alloc, pieces, queues),
-        Verb::Sub => Ok(subscribe(&fields::words(alloc, pieces)?, queues)?),
-        Verb::Unsub => Ok(unsubscribe(&fields::words(alloc, pieces)?, queues)?),
-        Verb::Rule => Ok(rule(&fields::words(alloc, pieces)?)?),
-        Verb::Pull => Ok(agent_forms::pull(&fields::words(alloc, pieces)?, queues)?),
-        Verb::Deliver => Ok(agent_forms::deliver(&fields::words(alloc, pieces)?, queues)?),
-        Verb::Retry => Ok(agent_forms::retry(&fields::words(alloc, pieces)?, queues)?),
-        Verb::Ack => Ok(agent_forms::ack(&fields::words(alloc, pieces)?, queues)?),
-        Verb::Purge => Ok(agent_forms::purge(&fields::words(alloc, pieces)?, queues)?),
-        Verb::Move => Ok(agent_forms::move_queue(&fields::words(alloc, pieces)?, queues)?),
-        Verb::Begin => Ok(agent_forms::begin(&fields::words(alloc, pieces)?, queues)?),
-        Verb::Commit => Ok(agent_forms::commit(&fields::words(alloc, pieces)?, queues)?),
-        Verb::Deactivate => Ok(agent_forms::deactivate(&fields::words(alloc, pieces)?, queues)?),
-        Verb::Ready => Ok(agent_forms::ready(&fields::words(alloc, pieces)?, queues)?),
-        Verb::Due => Ok(agent_forms::due(&fields::words(alloc, pieces)?, queues)?),
-        Verb::Report => Ok(alone(Command::Report, &fields::words(alloc, pieces)?)?),
-        Verb::Quiet => Ok(alone(Command::Each(EachOp::Quiet), &fields::words(alloc, pieces)?)?),
-        Verb::Drain => Ok(alone(Command::Drain, &fields::words(alloc, pieces)?)?),
-        Verb::Up => Ok(up(&fields::words(alloc, pieces)?)?),
-        Verb::Down => Ok(down(&fields::words(alloc, pieces)?)?),
+        // Texts stand behind it.
+        Verb::Pub => Err(FaultKind::WordCount),
+        Verb::Sub => subscribe(words, queues),
+        Verb::Unsub => unsubscribe(words, queues),
+        Verb::Rule => rule(words),
+        Verb::Pull => agent_forms::pull(words, queues),
+        Verb::Deliver => agent_forms::deliver(words, queues),
+        Verb::Retry => agent_forms::retry(words, queues),
+        Verb::Ack => agent_forms::ack(words, queues),
+        Verb::Purge => agent_forms::purge(words, queues),
+        Verb::Move => agent_forms::move_queue(words, queues),
+        Verb::Begin => agent_forms::begin(words, queues),
+        Verb::Commit => agent_forms::commit(words, queues),
+        Verb::Deactivate => agent_forms::deactivate(words, queues),
+        Verb::Ready => agent_forms::ready(words, queues),
+        Verb::Due => agent_forms::due(words, queues),
+        Verb::Report => alone(Command::Report, words),
+        Verb::Quiet => alone(Command::Each(EachOp::Quiet), words),
+        Verb::Drain => alone(Command::Drain, words),
+        Verb::Up => up(words),
+        Verb::Down => down(words),
     }
 }
 
@@ -57,7 +70,6 @@ fn alone(command: Command, words: &[&[u8]]) -> Result<Command, FaultKind>
 }
 
 /// `pub STREAM TEXT ..`
-#[tactic(auto, unfolding(crate::specs::Forms::pub_fields))]
 fn publish(alloc: Global, pieces: &[Piece], queues: usize) -> Result<Command, LineError>
     requires { 1 ≤ queues }
     ensures { Gives (λ command. command) result (pub_command queues (pieces_in pieces.now)) }
@@ -67,8 +79,21 @@ fn publish(alloc: Global, pieces: &[Piece], queues: usize) -> Result<Command, Li
     };
     let stream = fields::word(first)?;
     let texts = fields::texts(alloc, rest)?;
+    publish_fields(alloc, stream, &texts, queues)
+}
+
+#[tactic(auto, unfolding(crate::specs::Forms::pub_fields))]
+fn publish_fields(
+    alloc: Global,
+    stream: &[u8],
+    texts: &[&[u8]],
+    queues: usize,
+) -> Result<Command, LineError>
+    requires { 1 ≤ queues }
+    ensures { Gives (λ command. command) result (pub_fields queues stream.now (map (λ text. text.now) texts.now)) }
+{
     let stream = fields::stream(stream)?;
-    let payloads = fields::payloads(alloc, &texts)?;
+    let payloads = fields::payloads(alloc, texts)?;
     Ok(Command::on_queue(
         fields::queue_of(&stream, queues),
         Op::Publish {
@@ -105,14 +130,7 @@ fn subscribe_latest(
     if word != b"latest".as_slice() {
         return Err(FaultKind::BadCommand);
     }
-    Ok(Command::on_queue(
-        fields::queue_of(&stream, queues),
-        Op::Subscribe {
-            stream,
-            grain,
-            start: Start::Latest,
-        },
-    ))
+    Ok(subscription(stream, grain, Start::Latest, queues))
 }
 
 #[tactic(auto, unfolding(crate::specs::Forms::sub_from))]
@@ -132,61 +150,94 @@ fn subscribe_from(
         return Err(FaultKind::BadCommand);
     }
     let token = fields::token(token)?;
-    Ok(Command::on_queue(
-        fields::queue_of(&stream, queues),
+    Ok(subscription(stream, grain, Start::At(token), queues))
+}
+
+/// A subscription on the stream's queue.
+fn subscription(stream: StreamId, grain: GrainId, start: Start, queues: usize) -> Command
+    requires { 1 ≤ queues }
+    ensures { result ≡ Command.Step (queue_of stream queues) (Op.Subscribe stream grain start) }
+{
+    let queue = fields::queue_of(&stream, queues);
+    Command::on_queue(
+        queue,
         Op::Subscribe {
             stream,
             grain,
-            start: Start::At(token),
+            start,
         },
-    ))
+    )
 }
 
 /// `unsub SUB`
-#[tactic(auto, unfolding(crate::specs::Forms::unsub_fields))]
 fn unsubscribe(words: &[&[u8]], queues: usize) -> Result<Command, FaultKind>
     ensures { result ≡ unsub_words queues (map (λ word. word.now) words.now) }
 {
-    let [sub] = words else {
-        return Err(FaultKind::WordCount);
-    };
+    match words {
+        [sub] => unsubscribe_fields(sub, queues),
+        _ => Err(FaultKind::WordCount),
+    }
+}
+
+#[tactic(auto, unfolding(crate::specs::Forms::unsub_fields))]
+fn unsubscribe_fields(sub: &[u8], queues: usize) -> Result<Command, FaultKind>
+    ensures { result ≡ unsub_fields queues sub.now }
+{
     let (queue, sub) = fields::sub(sub, queues)?;
     Ok(Command::on_queue(queue, Op::Unsubscribe { sub }))
 }
 
 /// `rule KIND NS`
-#[tactic(auto, unfolding(crate::specs::Forms::rule_fields))]
 fn rule(words: &[&[u8]]) -> Result<Command, FaultKind>
     ensures { result ≡ rule_words (map (λ word. word.now) words.now) }
 {
-    let [kind, namespace] = words else {
-        return Err(FaultKind::WordCount);
-    };
+    match words {
+        [kind, namespace] => rule_fields(kind, namespace),
+        _ => Err(FaultKind::WordCount),
+    }
+}
+
+#[tactic(auto, unfolding(crate::specs::Forms::rule_fields))]
+fn rule_fields(kind: &[u8], namespace: &[u8]) -> Result<Command, FaultKind>
+    ensures { result ≡ rule_fields kind.now namespace.now }
+{
     let kind = fields::bare_name(kind)?;
     let namespace = fields::bare_name(namespace)?;
     Ok(Command::Each(EachOp::Rule { kind, namespace }))
 }
 
 /// `up SILO`
-#[tactic(auto, unfolding(crate::specs::Forms::up_fields))]
 fn up(words: &[&[u8]]) -> Result<Command, FaultKind>
     ensures { result ≡ up_words (map (λ word. word.now) words.now) }
 {
-    let [silo] = words else {
-        return Err(FaultKind::WordCount);
-    };
+    match words {
+        [silo] => up_fields(silo),
+        _ => Err(FaultKind::WordCount),
+    }
+}
+
+#[tactic(auto, unfolding(crate::specs::Forms::up_fields))]
+fn up_fields(silo: &[u8]) -> Result<Command, FaultKind>
+    ensures { result ≡ up_fields silo.now }
+{
     let silo = fields::silo(silo)?;
     Ok(Command::Up { silo })
 }
 
 /// `down SILO`
-#[tactic(auto, unfolding(crate::specs::Forms::down_fields))]
 fn down(words: &[&[u8]]) -> Result<Command, FaultKind>
     ensures { result ≡ down_words (map (λ word. word.now) words.now) }
 {
-    let [silo] = words else {
-        return Err(FaultKind::WordCount);
-    };
+    match words {
+        [silo] => down_fields(silo),
+        _ => Err(FaultKind::WordCount),
+    }
+}
+
+#[tactic(auto, unfolding(crate::specs::Forms::down_fields))]
+fn down_fields(silo: &[u8]) -> Result<Command, FaultKind>
+    ensures { result ≡ down_fields silo.now }
+{
     let silo = fields::silo(silo)?;
     Ok(Command::Down { silo })
 }

@@ -5,6 +5,7 @@ mod agent_forms;
 mod command;
 mod fields;
 mod forms;
+pub mod laws;
 mod lines;
 mod parse;
 mod pieces;

@@ -1,7 +1,8 @@
 //! The words that begin a command.
 ghost use Rattle.std.specs.Prelude.{◌≡◌};
+ghost use Rattle.stream_ident.specs.Name.{same_name};
 ghost use Rattle.script_parser.specs.Lexer.{piece_of};
-ghost use Rattle.script_parser.specs.Verbs.{verb_of, producer_verb, agent_verb, worker_verb, look_verb, operator_verb, verb_in_front, may_stand, not_here};
+ghost use Rattle.script_parser.specs.Verbs.{verb_of, producer_verb, agent_verb, worker_verb, look_verb, operator_verb, verb_in_front, takes_texts, may_stand, not_here};
 
 use crate::command::{FaultKind, Mode};
 use crate::pieces::Piece;
@@ -67,13 +68,13 @@ impl Verb {
     fn of_producer(word: &[u8]) -> Option<Verb>
         ensures { result ≡ producer_verb word.now }
     {
-        if word == b"pub".as_slice() {
+        if is(word, b"pub") {
             Some(Verb::Pub)
-        } else if word == b"sub".as_slice() {
+        } else if is(word, b"sub") {
             Some(Verb::Sub)
-        } else if word == b"unsub".as_slice() {
+        } else if is(word, b"unsub") {
             Some(Verb::Unsub)
-        } else if word == b"rule".as_slice() {
+        } else if is(word, b"rule") {
             Some(Verb::Rule)
         } else {
             None
@@ -84,15 +85,15 @@ impl Verb {
     fn of_agent(word: &[u8]) -> Option<Verb>
         ensures { result ≡ agent_verb word.now }
     {
-        if word == b"pull".as_slice() {
+        if is(word, b"pull") {
             Some(Verb::Pull)
-        } else if word == b"deliver".as_slice() {
+        } else if is(word, b"deliver") {
             Some(Verb::Deliver)
-        } else if word == b"retry".as_slice() {
+        } else if is(word, b"retry") {
             Some(Verb::Retry)
-        } else if word == b"ack".as_slice() {
+        } else if is(word, b"ack") {
             Some(Verb::Ack)
-        } else if word == b"purge".as_slice() {
+        } else if is(word, b"purge") {
             Some(Verb::Purge)
         } else {
             None
@@ -103,11 +104,11 @@ impl Verb {
     fn of_worker(word: &[u8]) -> Option<Verb>
         ensures { result ≡ worker_verb word.now }
     {
-        if word == b"begin".as_slice() {
+        if is(word, b"begin") {
             Some(Verb::Begin)
-        } else if word == b"commit".as_slice() {
+        } else if is(word, b"commit") {
             Some(Verb::Commit)
-        } else if word == b"deactivate".as_slice() {
+        } else if is(word, b"deactivate") {
             Some(Verb::Deactivate)
         } else {
             None
@@ -118,13 +119,13 @@ impl Verb {
     fn of_look(word: &[u8]) -> Option<Verb>
         ensures { result ≡ look_verb word.now }
     {
-        if word == b"ready".as_slice() {
+        if is(word, b"ready") {
             Some(Verb::Ready)
-        } else if word == b"due".as_slice() {
+        } else if is(word, b"due") {
             Some(Verb::Due)
-        } else if word == b"quiet".as_slice() {
+        } else if is(word, b"quiet") {
             Some(Verb::Quiet)
-        } else if word == b"report".as_slice() {
+        } else if is(word, b"report") {
             Some(Verb::Report)
         } else {
             None
@@ -135,13 +136,13 @@ impl Verb {
     fn of_operator(word: &[u8]) -> Option<Verb>
         ensures { result ≡ operator_verb word.now }
     {
-        if word == b"drain".as_slice() {
+        if is(word, b"drain") {
             Some(Verb::Drain)
-        } else if word == b"move".as_slice() {
+        } else if is(word, b"move") {
             Some(Verb::Move)
-        } else if word == b"up".as_slice() {
+        } else if is(word, b"up") {
             Some(Verb::Up)
-        } else if word == b"down".as_slice() {
+        } else if is(word, b"down") {
             Some(Verb::Down)
         } else {
             None
@@ -156,6 +157,13 @@ impl Verb {
             Piece::Word(word) => Verb::of(*word).ok_or(FaultKind::BadCommand),
             Piece::Text(_) => Err(FaultKind::BadCommand),
         }
+    }
+
+    /// Whether texts stand behind the word.
+    pub(crate) fn takes_texts(self) -> bool
+        ensures { result ≡ takes_texts self }
+    {
+        matches!(self, Verb::Pub)
     }
 
     /// Whether the command may stand in a script for this.
@@ -176,6 +184,13 @@ impl Verb {
             ),
         }
     }
+}
+
+/// Whether a word is this one.
+fn is(word: &[u8], text: &[u8]) -> bool
+    ensures { result ≡ same_name word.now text.now }
+{
+    word == text
 }
 
 /// The fault of a command that may not stand in a script for this.

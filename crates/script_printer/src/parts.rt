@@ -10,13 +10,20 @@ use itoa::Buffer;
 use std::alloc::AllocError;
 use stream_ident::{GrainId, Name, Payload, StreamId, SubName, Token};
 
+/// Appends a text.
+pub(crate) fn push_text(text: &[u8], out: &mut Vec<u8>) -> Result<(), AllocError>
+    ensures { Writes out.old.items out.new.items result text.now }
+{
+    out.extend_from_slice(text)
+}
+
 /// Appends a text, and behind it a number in decimal.
 pub(crate) fn push_count(before: &[u8], count: u64, out: &mut Vec<u8>) -> Result<(), AllocError>
     ensures { Writes out.old.items out.new.items result (before.now ++ decimal count) }
 {
-    out.extend_from_slice(before)?;
+    push_text(before, out)?;
     let mut digits = Buffer::new();
-    out.extend_from_slice(digits.format(count).as_bytes())
+    push_text(digits.format(count).as_bytes(), out)
 }
 
 /// Appends a text, and behind it a token.
@@ -25,6 +32,14 @@ pub(crate) fn push_placed(before: &[u8], token: Token, out: &mut Vec<u8>) -> Res
 {
     push_count(before, token.seq, out)?;
     push_count(b".", u64::from(token.idx), out)
+}
+
+/// Appends a text, and behind it a name.
+fn push_name(before: &[u8], name: &Name, out: &mut Vec<u8>) -> Result<(), AllocError>
+    ensures { Writes out.old.items out.new.items result (before.now ++ name.now) }
+{
+    push_text(before, out)?;
+    push_text(name.as_bytes(), out)
 }
 
 /// Appends a text, and behind it two names joined by `/`.
@@ -36,10 +51,8 @@ pub(crate) fn push_pair(
 ) -> Result<(), AllocError>
     ensures { Writes out.old.items out.new.items result (before.now ++ first.now ++ 47 ∷ second.now) }
 {
-    out.extend_from_slice(before)?;
-    out.extend_from_slice(first.as_bytes())?;
-    out.push(b'/')?;
-    out.extend_from_slice(second.as_bytes())
+    push_name(before, first, out)?;
+    push_name(b"/", second, out)
 }
 
 /// Appends a text, and behind it a grain.
@@ -72,8 +85,7 @@ fn push_implicit(
 ) -> Result<(), AllocError>
     ensures { Writes out.old.items out.new.items result (before.now ++ kind.now ++ 64 ∷ stream_text stream.now) }
 {
-    out.extend_from_slice(before)?;
-    out.extend_from_slice(kind.as_bytes())?;
+    push_name(before, kind, out)?;
     push_pair(b"@", &stream.namespace, &stream.key, out)
 }
 
@@ -81,10 +93,9 @@ fn push_implicit(
 pub(crate) fn push_quoted(payload: &Payload, out: &mut Vec<u8>) -> Result<(), AllocError>
     ensures { Writes out.old.items out.new.items result (32 ∷ spelling (Text payload.now)) }
 {
-    out.extend_from_slice(b" \"")?;
+    push_text(b" \"", out)?;
     push_escaped(payload.as_bytes(), out)?;
-    out.push(b'"')?;
-    Ok(())
+    push_text(b"\"", out)
 }
 
 /// Appends bytes, with a backslash in front of each quote and each backslash.
@@ -102,7 +113,7 @@ fn push_byte(byte: u8, out: &mut Vec<u8>) -> Result<(), AllocError>
     ensures { Writes out.old.items out.new.items result (escaped (byte ∷ [])) }
 {
     if byte == b'"' || byte == b'\\' {
-        return out.extend_from_slice(&[b'\\', byte]);
+        return push_text(&[b'\\', byte], out);
     }
-    out.extend_from_slice(&[byte])
+    push_text(&[byte], out)
 }

@@ -6,7 +6,9 @@ ghost use Rattle.script_printer.specs.Report.{queue_report, report_of, summary_t
 ghost use Rattle.script_parser.specs.Spelling.{sub_text};
 ghost use Rattle.script_printer.specs.Writing.{Writes};
 
-use crate::parts::{push_count, push_grain, push_named, push_pair, push_placed, push_quoted};
+use crate::parts::{
+    push_count, push_grain, push_named, push_pair, push_placed, push_quoted, push_text,
+};
 use std::alloc::{AllocError, Global};
 use step_core::{Partition, SubSummary};
 use stream_ident::{Event, SubName};
@@ -36,7 +38,7 @@ pub fn report_text(
 fn push_report(alloc: Global, partitions: &[Partition], out: &mut Vec<u8>) -> Result<(), AllocError>
     ensures { Writes out.old.items out.new.items result (report_of partitions.now) }
 {
-    out.extend_from_slice(b"report\n")?;
+    push_text(b"report\n", out)?;
     for queue in 0..partitions.len() {
         push_queue(alloc, queue, &partitions[queue], out)?;
     }
@@ -92,7 +94,7 @@ fn push_closed(queue: usize, name: &SubName, out: &mut Vec<u8>) -> Result<(), Al
     ensures { Writes out.old.items out.new.items result (closed_text queue name.now) }
 {
     push_sub_name(queue, name, out)?;
-    out.extend_from_slice(b" closed\n")
+    push_text(b" closed\n", out)
 }
 
 /// Appends the name of a subscription with its queue.
@@ -114,7 +116,7 @@ fn push_open(
 {
     push_binding(queue, sub, out)?;
     push_count(b" ", events.len() as u64, out)?;
-    out.extend_from_slice(b"\n")?;
+    push_text(b"\n", out)?;
     push_handled_lines(events, out)
 }
 

@@ -1,5 +1,5 @@
 //! The texts of replies.
-ghost use Rattle.std.specs.Prelude.{◌≡◌, ◌++◌, ◌∷◌, OnOk, OnErr, codes};
+ghost use Rattle.std.specs.Prelude.{◌≡◌, ◌++◌, [], ◌∷◌, OnOk, OnErr, codes};
 ghost use Rattle.std.specs.Fmt.{decimal};
 ghost use Rattle.std.specs.List.{flat_map};
 ghost use Rattle.stream_ident.specs.Token.{token_text};
@@ -7,7 +7,7 @@ ghost use Rattle.script_printer.specs.Replies.{reply_text, reply_line, drain_tex
 ghost use Rattle.script_parser.specs.Spelling.{name_text};
 ghost use Rattle.script_printer.specs.Writing.{Writes};
 
-use crate::parts::{push_count, push_grain, push_named, push_placed, push_quoted};
+use crate::parts::{push_count, push_grain, push_named, push_placed, push_quoted, push_text};
 use std::alloc::AllocError;
 use stream_ident::{Event, SubName, Token};
 use stream_model::{DrainEnd, Pending, Reply};
@@ -35,10 +35,17 @@ pub fn reply_text(reply: &Reply, out: &mut Vec<u8>) -> Result<(), AllocError>
 pub fn reply_line(queue: usize, reply: &Reply, out: &mut Vec<u8>) -> Result<(), AllocError>
     ensures { Writes out.old.items out.new.items result (reply_line queue reply.now) }
 {
-    push_count(b"", queue as u64, out)?;
-    out.extend_from_slice(b" ")?;
+    push_queue(queue, out)?;
     push_reply(reply, out)?;
-    out.extend_from_slice(b"\n")
+    push_text(b"\n", out)
+}
+
+/// Appends the number of the queue that a line is of, and a space.
+fn push_queue(queue: usize, out: &mut Vec<u8>) -> Result<(), AllocError>
+    ensures { Writes out.old.items out.new.items result (decimal queue ++ 32 ∷ []) }
+{
+    push_count(b"", queue as u64, out)?;
+    push_text(b" ", out)
 }
 
 /// Appends the text of a reply, or a front of it where memory runs out.
@@ -48,31 +55,31 @@ fn push_reply(reply: &Reply, out: &mut Vec<u8>) -> Result<(), AllocError>
 {
     match reply {
         Reply::Published { seq } => push_count(b"published ", *seq, out),
-        Reply::QueueFull => out.extend_from_slice(b"queue-full"),
-        Reply::BadBatch => out.extend_from_slice(b"bad-batch"),
+        Reply::QueueFull => push_text(b"queue-full", out),
+        Reply::BadBatch => push_text(b"bad-batch", out),
         Reply::Subscribed { number } => push_count(b"subscribed ", u64::from(*number), out),
         Reply::Miss {
             requested,
             low,
             high,
         } => push_miss(*requested, *low, *high, out),
-        Reply::TooMany => out.extend_from_slice(b"too-many"),
+        Reply::TooMany => push_text(b"too-many", out),
         Reply::Unsubscribed { handled } => push_count(b"unsubscribed ", *handled as u64, out),
-        Reply::NoSuch => out.extend_from_slice(b"no-such"),
-        Reply::Closed => out.extend_from_slice(b"closed"),
-        Reply::Implicit => out.extend_from_slice(b"implicit"),
+        Reply::NoSuch => push_text(b"no-such", out),
+        Reply::Closed => push_text(b"closed", out),
+        Reply::Implicit => push_text(b"implicit", out),
         Reply::RuleAdded { from } => push_count(b"rule-added ", *from, out),
-        Reply::RuleThere => out.extend_from_slice(b"rule-there"),
+        Reply::RuleThere => push_text(b"rule-there", out),
         Reply::Pulled { count, low, high } => push_pulled(*count as u64, *low, *high, out),
         Reply::Pressed { by } => push_named(b"pressed ", by, out),
-        Reply::Dry => out.extend_from_slice(b"dry"),
+        Reply::Dry => push_text(b"dry", out),
         Reply::StaleAgent { now } => push_count(b"stale-agent ", *now, out),
         Reply::Delivered { token } => push_placed(b"delivered ", *token, out),
-        Reply::Nothing => out.extend_from_slice(b"nothing"),
-        Reply::MailboxFull => out.extend_from_slice(b"mailbox-full"),
-        Reply::Rewound => out.extend_from_slice(b"rewound"),
-        Reply::Acked => out.extend_from_slice(b"acked"),
-        Reply::NotHandled => out.extend_from_slice(b"not-handled"),
+        Reply::Nothing => push_text(b"nothing", out),
+        Reply::MailboxFull => push_text(b"mailbox-full", out),
+        Reply::Rewound => push_text(b"rewound", out),
+        Reply::Acked => push_text(b"acked", out),
+        Reply::NotHandled => push_text(b"not-handled", out),
         Reply::Purged { low } => push_placed(b"purged low ", *low, out),
         Reply::Turn {
             sub,
@@ -82,19 +89,19 @@ fn push_reply(reply: &Reply, out: &mut Vec<u8>) -> Result<(), AllocError>
             note,
         } => push_turn(sub, *activation, *turn, events.as_slice(), *note, out),
         Reply::Dropped { sub, token } => push_handled(b"dropped ", sub, *token, out),
-        Reply::Empty => out.extend_from_slice(b"empty"),
-        Reply::Busy => out.extend_from_slice(b"busy"),
+        Reply::Empty => push_text(b"empty", out),
+        Reply::Busy => push_text(b"busy", out),
         Reply::Committed { sub, token } => push_handled(b"committed ", sub, *token, out),
-        Reply::Stale => out.extend_from_slice(b"stale"),
+        Reply::Stale => push_text(b"stale", out),
         Reply::Deactivated { lost } => push_count(b"deactivated ", *lost as u64, out),
-        Reply::NotActive => out.extend_from_slice(b"not-active"),
+        Reply::NotActive => push_text(b"not-active", out),
         Reply::Moved { generation, low } => push_moved(*generation, *low, out),
         Reply::Next(grain) => push_grain(b"next ", grain, out),
-        Reply::NoneReady => out.extend_from_slice(b"none-ready"),
+        Reply::NoneReady => push_text(b"none-ready", out),
         Reply::DueSub { sub, ack } => push_due(sub, *ack, out),
-        Reply::NoneDue => out.extend_from_slice(b"none-due"),
-        Reply::Spent => out.extend_from_slice(b"spent"),
-        Reply::IsQuiet => out.extend_from_slice(b"quiet"),
+        Reply::NoneDue => push_text(b"none-due", out),
+        Reply::Spent => push_text(b"spent", out),
+        Reply::IsQuiet => push_text(b"quiet", out),
         Reply::NotQuiet(why) => push_pending(why, out),
     }
 }
@@ -205,7 +212,7 @@ fn push_ack(ack: Option<Token>, out: &mut Vec<u8>) -> Result<(), AllocError>
     ensures { Writes out.old.items out.new.items result (codes " ack " ++ ack_text ack) }
 {
     match ack {
-        None => out.extend_from_slice(b" ack -"),
+        None => push_text(b" ack -", out),
         Some(token) => push_placed(b" ack ", token, out),
     }
 }
@@ -214,7 +221,7 @@ fn push_pending(why: &Pending, out: &mut Vec<u8>) -> Result<(), AllocError>
     ensures { Writes out.old.items out.new.items result (pending_text why.now) }
 {
     match why {
-        Pending::Behind => out.extend_from_slice(b"behind"),
+        Pending::Behind => push_text(b"behind", out),
         Pending::Deliverable(sub) => push_named(b"deliverable ", sub, out),
         Pending::Waiting(grain) => push_grain(b"waiting ", grain, out),
         Pending::Running(grain) => push_grain(b"running ", grain, out),
@@ -244,10 +251,9 @@ pub fn drain_text(end: &DrainEnd, out: &mut Vec<u8>) -> Result<(), AllocError>
 pub fn drain_line(queue: usize, end: &DrainEnd, out: &mut Vec<u8>) -> Result<(), AllocError>
     ensures { Writes out.old.items out.new.items result (drain_line queue end.now) }
 {
-    push_count(b"", queue as u64, out)?;
-    out.extend_from_slice(b" ")?;
+    push_queue(queue, out)?;
     push_end(end, out)?;
-    out.extend_from_slice(b"\n")
+    push_text(b"\n", out)
 }
 
 /// Appends the text of how a drain ended, or a front of it where memory runs out.
@@ -258,7 +264,7 @@ fn push_end(end: &DrainEnd, out: &mut Vec<u8>) -> Result<(), AllocError>
     match end {
         DrainEnd::Drained { turns } => push_count(b"drained ", *turns as u64, out),
         DrainEnd::Stuck { grain } => push_grain(b"stuck ", grain, out),
-        DrainEnd::TooMany => out.extend_from_slice(b"too-many"),
-        DrainEnd::Spent => out.extend_from_slice(b"spent"),
+        DrainEnd::TooMany => push_text(b"too-many", out),
+        DrainEnd::Spent => push_text(b"spent", out),
     }
 }
