@@ -1,0 +1,190 @@
+-- What a step leaves, put together.
+use Rattle.std.proofs.Common.{◌≡◌, ℕ, zero, suc, ◌+◌, ◌<◌, ◌≤◌, ◌⊎◌, inl, inr, List, [], ◌∷◌, All, length, map, Option, Some, None, Result, Ok, Err, refl, sym, ap, subst, ◌∙◌, arith}
+use Rattle.std.proofs.Math.Seq.{map-set_same}
+use Rattle.std.specs.List.{slice_get}
+use Rattle.std.specs.Option.{option_map, unwrap_or}
+use Rattle.std.proofs.lemmas.Option.{get_or_from_slice_get, none-some}
+use Rattle.stream_ident.specs.declared.event.Event.{Event}
+use Rattle.stream_model.specs.declared.op.Op.{Op}
+use Rattle.stream_model.specs.declared.plain.PlainPartition.{PlainPartition}
+use Rattle.stream_model.specs.declared.reply.Reply.{Reply}
+use Rattle.turnstile.specs.declared.turnstile.Refusal.{Refusal}
+use Rattle.turnstile.specs.Passes.{Origin}
+use Rattle.silo_loops.specs.declared.advance.Advance.{Advance}
+use Rattle.silo_loops.specs.declared.advance.Advance.TheVariants as advance
+use Rattle.silo_loops.specs.declared.advance.Over.{Over}
+use Rattle.silo_loops.specs.declared.advance.Over.TheVariants as over
+use Rattle.silo_loops.specs.declared.worker_walk.Step.TheVariants as step
+use Rattle.silo_loops.specs.declared.worker_walk.Walk.{Walk}
+use Rattle.silo_loops.specs.Walks.{Fits, IsAt, work_in}
+use Rattle.silo_loops.specs.Agents.{AgentAdvancesFrom, AgentCalls, AgentView, HasSamePlaces, OnesPulled, agent_at}
+use Rattle.silo_loops.specs.Answers.{advance_of}
+use Rattle.silo_loops.specs.Lines.{CallsAt, DirectoryPass, HasLooked, LineView, QueuePass, places, rested}
+use Rattle.silo_loops.specs.Workers.{HasCounted, IsBeside, most_rounds, worker_at, WorkerAdvancesFrom, WorkerAsks, WorkerCalls, WorkerRanOut, WorkerSteps, WorkerView, WorkerWorks}
+
+-- a call leaves each line at its turnstile
+places-called : (lines : List LineView) (at : ℕ) (op : Op) (result : Result Reply Refusal) (new : List LineView) → CallsAt lines at op result new → places new ≡ places lines
+places-called lines at op result new c =
+    ap places c.whole
+    ∙ map-set_same (λ (l : LineView). l.pass.turnstile) lines at c.is c.was
+    (ap (λ (p : QueuePass). p.turnstile) c.calls.call.only ∙ ap (λ (l : LineView). l.pass.turnstile) (sym (get_or_from_slice_get lines at c.was c.was c.had)))
+
+places-rested : (lines : List LineView) → places (map rested lines) ≡ places lines
+places-rested [] = refl
+places-rested (l ∷ lines) = ap (λ ps. l.pass.turnstile ∷ ps) (places-rested lines)
+
+called-beside : (v w : WorkerView) → WorkerCalls v w → IsBeside v w
+called-beside v w c = record { lines = places-called v.lines c.at c.op c.result w.lines c.calls; directory = ap (λ (d : DirectoryPass). d.turnstile) c.directory }
+
+asked-beside : (v w : WorkerView) → WorkerAsks v w → IsBeside v w
+asked-beside v w a = record { lines = ap places a.lines; directory = ap (λ (d : DirectoryPass). d.turnstile) a.calls.only }
+
+worked-beside : (v w : WorkerView) → WorkerWorks v w → IsBeside v w
+worked-beside v w a = record { lines = ap places a.lines; directory = ap (λ (d : DirectoryPass). d.turnstile) a.directory }
+
+-- a step leaves a worker at its turnstiles
+pub worker-beside : (from : Option Over) (did : Advance) (v w : WorkerView) → WorkerAdvancesFrom from did v w → IsBeside v w
+worker-beside None advance.Did v w a =
+    elim (a.0.1) as (λ s. IsBeside v w) [ inl c ↦ called-beside v w c | inr s ↦ elim s as (λ s. IsBeside v w) [ inl q ↦ asked-beside v w q | inr k ↦ worked-beside v w k ] ]
+worker-beside None advance.Idle v w a =
+    record { lines = ap places a.0.1.lines ∙ places-rested v.lines; directory = ap (λ (d : DirectoryPass). d.turnstile) a.0.1.directory }
+worker-beside None (advance.Over end) v w a =
+    elim (a.0.1) as (λ s. IsBeside v w) [
+      | inl c ↦ called-beside v w c
+      | inr s ↦
+          elim s as (λ s. IsBeside v w) [
+            | inl q ↦ asked-beside v w q
+            | inr k ↦ record { lines = ap (λ (u : WorkerView). places u.lines) k.0; directory = ap (λ (u : WorkerView). u.directory.turnstile) k.0 }
+          ]
+    ]
+worker-beside (Some end) did v w a = record { lines = ap (λ (u : WorkerView). places u.lines) a.1; directory = ap (λ (u : WorkerView). u.directory.turnstile) a.1 }
+
+-- and an agent
+pub agent-beside : (from : Option Over) (did : Advance) (v w : AgentView) → AgentAdvancesFrom from did v w → HasSamePlaces v w
+agent-beside None advance.Did v w a = places-called v.lines a.0.1.at a.0.1.op a.0.1.result w.lines a.0.1.calls
+agent-beside None advance.Idle v w a = ap places a.0.1.lines ∙ places-rested v.lines
+agent-beside None (advance.Over end) v w a =
+    elim (a.0.1) as (λ s. HasSamePlaces v w) [ inl c ↦ places-called v.lines c.at c.op c.result w.lines c.calls | inr k ↦ ap (λ (u : AgentView). places u.lines) k.ended ]
+agent-beside (Some end) did v w a = ap (λ (u : AgentView). places u.lines) a.1
+
+-- what a step is, by the way that it was made
+pub steps-called : (v w : WorkerView) (over : Option Over) → WorkerCalls v w → WorkerSteps v w over
+steps-called v w None c = inl c
+steps-called v w (Some end) c = inl c
+
+pub steps-asked : (v w : WorkerView) (over : Option Over) → WorkerAsks v w → WorkerSteps v w over
+steps-asked v w None a = inr (inl a)
+steps-asked v w (Some end) a = inr a
+
+pub goes-on : (v w : WorkerView) (over : Option Over) → WorkerSteps v w over → w.over ≡ over → HasCounted v.rounds w.rounds → WorkerAdvancesFrom None (advance_of over) v w
+goes-on v w None s is counted = ((is, s), counted)
+goes-on v w (Some end) s is counted =
+    ((is, elim s as (λ s. WorkerCalls v w ⊎ (WorkerAsks v w ⊎ WorkerRanOut v w)) [ inl c ↦ inl c | inr a ↦ inr (inl a) ]), counted)
+
+pub agent-goes-on : (v w : AgentView) (over : Option Over) → AgentCalls v w → w.over ≡ over → HasCounted v.rounds w.rounds → AgentAdvancesFrom None (advance_of over) v w
+agent-goes-on v w None c is counted = ((is, c), counted)
+agent-goes-on v w (Some end) c is counted = ((is, inl c), counted)
+
+get-rested : (lines : List LineView) (k : ℕ) (l : LineView) → slice_get lines k ≡ Some l → slice_get (map rested lines) k ≡ Some (rested l)
+get-rested [] k l had = absurd (none-some l had)
+get-rested (x ∷ xs) zero l had = ap (λ o. option_map rested o) had
+get-rested (x ∷ xs) (suc k) l had = get-rested xs k l had
+
+-- the same parts between two rounds
+module _ (silo : ℕ) (lines mid : List LineView) (d : DirectoryPass) (walk between : Walk) (events : List Event) (rounds counted : ℕ) (was : Option Over) where
+  between-at : mid ≡ lines → between ≡ record walk { changed = between.changed } → was ≡ None → worker_at silo mid d between events rounds None ≡ worker_at silo lines d walk events rounds was
+  between-at same is none =
+      ap (λ ls. worker_at silo ls d between events rounds None) same ∙ ap (λ (w : Walk). worker_at silo lines d w events rounds None) is
+      ∙ ap (λ o. worker_at silo lines d walk events rounds o) (sym none)
+
+  pub round-begun : (u : WorkerView) (over : Option Over) (answer : Advance) → mid ≡ lines → counted ≡ rounds + 1 → counted ≤ most_rounds → between ≡ record walk { changed = between.changed } → was ≡ None
+      → answer ≡ advance_of over → u.over ≡ over → u.rounds ≡ counted → WorkerSteps (worker_at silo mid d between events rounds None) u over
+      → WorkerAdvancesFrom None answer (worker_at silo lines d walk events rounds was) u
+  round-begun u over answer same more most is none says ended now steps =
+      subst (λ a. WorkerAdvancesFrom None a (worker_at silo lines d walk events rounds was) u) (sym says)
+      (goes-on (worker_at silo lines d walk events rounds was) u over (subst (λ v. WorkerSteps v u over) (between-at same is none) steps) ended
+      (omega (arith, now, more), omega (arith, now, more), omega (arith, now, most)))
+
+  pub round-idle : (fresh : Option Over) → All HasLooked lines → mid ≡ map rested lines → counted ≡ rounds → rounds ≤ most_rounds → walk.step ≡ step.Rest → between ≡ record walk { changed = between.changed } → was ≡ None → fresh ≡ was
+      → WorkerAdvancesFrom None advance.Idle (worker_at silo lines d walk events rounds was) (worker_at silo mid d between events counted fresh)
+  round-idle fresh looked same count most rest is none kept = (
+    (
+      kept ∙ none,
+      record {
+        looked = looked;
+        lines = same;
+        work = (ap (λ s. work_in walk.at s events) rest, ap (λ (w : Walk). work_in w.at w.step events) is ∙ ap (λ s. work_in walk.at s events) rest);
+        directory = refl;
+        silo = refl;
+      },
+    ),
+    (omega (arith, count), omega (arith, count), omega (arith, count, most)),
+  )
+
+  pub round-none : (answer : Advance) → mid ≡ lines → counted ≡ rounds → rounds ≡ most_rounds → walk.step ≡ step.Rest → between ≡ record walk { changed = between.changed } → was ≡ None → answer ≡ advance_of (Some over.Rounds)
+      → WorkerAdvancesFrom None answer (worker_at silo lines d walk events rounds was) (worker_at silo mid d between events counted (Some over.Rounds))
+  round-none answer same count most rest is none says =
+      subst (λ a. WorkerAdvancesFrom None a (worker_at silo lines d walk events rounds was) (worker_at silo mid d between events counted (Some over.Rounds))) (sym says) (
+        (
+          refl,
+          inr
+              (inr (
+                ap (λ ls. worker_at silo ls d between events counted (Some over.Rounds)) same ∙ ap (λ (w : Walk). worker_at silo lines d w events counted (Some over.Rounds)) is
+                    ∙ ap (λ n. worker_at silo lines d walk events n (Some over.Rounds)) count,
+                most,
+                ap (λ s. work_in walk.at s events) rest,
+              )),
+        ),
+        (omega (arith, count), omega (arith, count), omega (arith, count, most)),
+      )
+
+  pub between-is-at : mid ≡ lines → between ≡ record walk { changed = between.changed } → IsAt walk lines d → IsAt between mid d
+  between-is-at same is at =
+      subst (λ ls. IsAt between ls d) (sym same) (subst (λ w. IsAt w lines d) (sym is) (record { line = at.line; had = at.had; fits = at.fits }))
+
+  pub idle-at : mid ≡ map rested lines → walk.step ≡ step.Rest → between ≡ record walk { changed = between.changed } → IsAt walk lines d → IsAt between mid d
+  idle-at same rest is at =
+      subst (λ ls. IsAt between ls d) (sym same)
+      (subst (λ w. IsAt w (map rested lines) d) (sym is)
+      (record { line = rested at.line; had = get-rested lines walk.at at.line at.had; fits = subst (λ s. Fits s d (rested at.line).pass) (sym rest) tt }))
+
+pub beside-after : (u v w : WorkerView) → IsBeside u v → IsBeside v w → IsBeside u w
+beside-after u v w a b = record { lines = b.lines ∙ a.lines; directory = b.directory ∙ a.directory }
+
+-- the rounds of an agent
+pub agent-round : (lines new : List LineView) (was held : List (Option ℕ)) (rounds counted : ℕ) (before over : Option Over) (answer : Advance) → before ≡ None → counted ≡ rounds + 1 → counted ≤ most_rounds → answer ≡ advance_of over
+    → AgentCalls (agent_at lines was rounds None) (agent_at new held counted over) → AgentAdvancesFrom None answer (agent_at lines was rounds before) (agent_at new held counted over)
+agent-round lines new was held rounds counted before over answer none more most says calls =
+    subst (λ a. AgentAdvancesFrom None a (agent_at lines was rounds before) (agent_at new held counted over)) (sym says)
+    (agent-goes-on (agent_at lines was rounds before) (agent_at new held counted over) over
+    (subst (λ o. AgentCalls (agent_at lines was rounds o) (agent_at new held counted over)) (sym none) calls) refl (omega (arith, more), omega (arith, more), most))
+
+pub agent-asks : (lines new : List LineView) (was held : List (Option ℕ)) (rounds : ℕ) (before over : Option Over) (answer : Advance) → before ≡ None → rounds ≤ most_rounds → answer ≡ advance_of over
+    → AgentCalls (agent_at lines was rounds None) (agent_at new held rounds over) → AgentAdvancesFrom None answer (agent_at lines was rounds before) (agent_at new held rounds over)
+agent-asks lines new was held rounds before over answer none most says calls =
+    subst (λ a. AgentAdvancesFrom None a (agent_at lines was rounds before) (agent_at new held rounds over)) (sym says)
+    (agent-goes-on (agent_at lines was rounds before) (agent_at new held rounds over) over
+    (subst (λ o. AgentCalls (agent_at lines was rounds o) (agent_at new held rounds over)) (sym none) calls) refl (omega arith, omega arith, most))
+
+pub agent-rests : (lines new : List LineView) (was held : List (Option ℕ)) (rounds counted : ℕ) (before : Option Over) (answer : Advance) → before ≡ None → HasCounted rounds counted → answer ≡ advance.Idle → new ≡ map rested lines → OnesPulled lines held
+    → AgentAdvancesFrom None answer (agent_at lines was rounds before) (agent_at new held counted before)
+agent-rests lines new was held rounds counted before answer none count says same pulled =
+    subst (λ a. AgentAdvancesFrom None a (agent_at lines was rounds before) (agent_at new held counted before)) (sym says)
+    ((none, record { pulled = pulled; lines = same }), count)
+
+pub agent-ran-out : (lines : List LineView) (was held : List (Option ℕ)) (rounds : ℕ) (before : Option Over) (answer : Advance) → before ≡ None → rounds ≡ most_rounds → answer ≡ advance_of (Some over.Rounds)
+    → AgentAdvancesFrom None answer (agent_at lines was rounds before) (agent_at lines held rounds (Some over.Rounds))
+agent-ran-out lines was held rounds before answer none most says =
+    subst (λ a. AgentAdvancesFrom None a (agent_at lines was rounds before) (agent_at lines held rounds (Some over.Rounds))) (sym says)
+    ((refl, inr (record { ended = refl; most = most })), (omega arith, omega arith, omega (arith, most)))
+
+-- where no queue is held, each that is was pulled
+pub none-pulled : (lines : List LineView) (held : List (Option ℕ)) → length held ≡ length lines → ((at : ℕ) → at < length held → slice_get held at ≡ Some None) → OnesPulled lines held
+none-pulled lines held same none at line generation within holds = absurd (none-some generation (ap (λ o. unwrap_or o None) (sym (none at (omega (arith, same))) ∙ holds)))
+
+pub step-taken : (silo : ℕ) (lines : List LineView) (d : DirectoryPass) (walk : Walk) (events : List Event) (rounds : ℕ) (was : Option Over) (u : WorkerView) (over : Option Over) (answer : Advance) → rounds ≤ most_rounds → was ≡ None
+    → answer ≡ advance_of over → u.over ≡ over → u.rounds ≡ rounds → WorkerSteps (worker_at silo lines d walk events rounds None) u over → WorkerAdvancesFrom None answer (worker_at silo lines d walk events rounds was) u
+step-taken silo lines d walk events rounds was u over answer most none says ended now steps =
+    subst (λ a. WorkerAdvancesFrom None a (worker_at silo lines d walk events rounds was) u) (sym says)
+    (goes-on (worker_at silo lines d walk events rounds was) u over (subst (λ o. WorkerSteps (worker_at silo lines d walk events rounds o) u over) (sym none) steps) ended
+    (omega (arith, now), omega (arith, now), omega (arith, now, most)))

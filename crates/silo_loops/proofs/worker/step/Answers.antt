@@ -1,0 +1,26 @@
+use Rattle.std.proofs.Common.{inl, inr}
+use Rattle.silo_loops.proofs.worker.step.Goals as goal
+
+pub returns-in-Rest-clause-steps : goal.returns-in-Rest-clause-steps
+returns-in-Rest-clause-steps g c = λ rounds counted. c.look.ensures.steps c.args.silo rounds counted
+
+pub returns-in-Enter-clause-steps : goal.returns-in-Enter-clause-steps
+returns-in-Enter-clause-steps g c = λ rounds counted. c.enter.ensures.steps c.args.lines.now.items c.args.events.now.items rounds counted c.in-Enter.is
+
+pub returns-in-Begin-clause-steps : goal.returns-in-Begin-clause-steps
+returns-in-Begin-clause-steps g c = λ rounds counted. c.begin.ensures.steps c.args.silo rounds counted
+
+pub returns-then-turn-len-clause-steps : goal.returns-then-turn-len-clause-steps
+returns-then-turn-len-clause-steps g c =
+    λ rounds counted. inr (inr (c.handle.ensures.works c.args.silo c.args.lines.now.items c.args.directory.now rounds counted c.requires.at))
+
+pub returns-else-turn-len-clause-steps : goal.returns-else-turn-len-clause-steps
+returns-else-turn-len-clause-steps g c = λ rounds counted. c.commit.ensures.steps c.args.silo rounds counted
+
+pub returns-in-Tell-clause-steps : goal.returns-in-Tell-clause-steps
+returns-in-Tell-clause-steps g c =
+    λ rounds counted. inr (inr (c.tell.ensures.works c.args.silo c.args.lines.now.items c.args.directory.now c.args.events.now.items rounds counted c.requires.at))
+
+pub returns-in-Leave-clause-steps : goal.returns-in-Leave-clause-steps
+returns-in-Leave-clause-steps g c =
+    λ rounds counted. c.leave.ensures.steps c.args.silo c.args.lines.now.items c.args.events.now.items rounds counted c.in-Leave.is c.requires.at

@@ -1,0 +1,77 @@
+-- What an agent may do.
+use Rattle.std.specs.Prelude.{◌≡◌, ℕ, ◌<◌, ◌⊎◌, List, length, Option, Some, None, Result, slice_get, slice_index_or, map}
+use Rattle.stream_model.specs.declared.op.Op.{Op}
+use Rattle.stream_model.specs.declared.op.Op.TheVariants.{Pull, Due, Ack, Deliver}
+use Rattle.stream_model.specs.declared.reply.Reply.{Reply}
+use Rattle.turnstile.specs.declared.turnstile.Refusal.{Refusal}
+use Rattle.silo_loops.specs.declared.advance.Advance.{Advance}
+use Rattle.silo_loops.specs.declared.advance.Advance.TheVariants as advance
+use Rattle.silo_loops.specs.declared.advance.Over as why
+use Rattle.silo_loops.specs.declared.advance.Over.TheVariants as over
+use Rattle.silo_loops.specs.Answers.{end_of}
+use Rattle.silo_loops.specs.Lines.{CallsAt, HasPulled, LineView, places, rested}
+use Rattle.silo_loops.specs.Workers.{HasCounted, most_rounds}
+
+-- an agent: its lines in queue order, the generation under which it holds each queue, where it does, how many rounds
+-- it has begun, and why it has ended
+pub record AgentView : Type 0 where
+  pub lines : List LineView
+  pub held : List (Option ℕ)
+  pub rounds : ℕ
+  pub over : Option why.Over
+
+-- an agent with these parts
+abbrev pub agent_at : List LineView → List (Option ℕ) → ℕ → Option why.Over → AgentView
+agent_at lines held rounds over = record { lines = lines; held = held; rounds = rounds; over = over }
+
+-- What an agent may ask of a queue that it holds: an agent's operations, under the generation that it was told.
+abbrev pub AgentMay : ℕ → Op → Type 0
+AgentMay generation (Pull named most) = (named ≡ generation) × (most ≡ 32)
+AgentMay generation (Deliver named sub) = named ≡ generation
+AgentMay generation (Ack named sub token) = named ≡ generation
+AgentMay generation (Due last) = Unit {0}
+AgentMay generation _ = ⊥
+
+-- a call of an agent
+pub record AgentCalls (v w : AgentView) : Type 0 where
+  pub at : ℕ
+  pub op : Op
+  pub result : Result Reply Refusal
+  pub generation : ℕ
+  pub holds : slice_get w.held at ≡ Some (Some generation)
+  pub calls : CallsAt v.lines at op result w.lines
+  pub may : AgentMay generation op
+  pub over : w.over ≡ end_of result
+
+-- each queue that is held was pulled
+abbrev pub OnesPulled : List LineView → List (Option ℕ) → Type 0
+OnesPulled lines held =
+    (at : ℕ) (line : LineView) (generation : ℕ) → at < length lines → slice_get held at ≡ Some (Some generation) → HasPulled (slice_index_or lines at line)
+
+-- each queue that it then holds was pulled since the loop was made or last idle, and each line begins anew
+pub record AgentRests (v w : AgentView) : Type 0 where
+  pub pulled : OnesPulled v.lines w.held
+  pub lines : w.lines ≡ map rested v.lines
+
+-- it has made as many rounds as it may; what it holds it may have asked anew
+pub record AgentRanOut (v w : AgentView) : Type 0 where
+  pub ended : w ≡ record v { held = w.held; over = Some over.Rounds }
+  pub most : v.rounds ≡ most_rounds
+
+-- what a step may do, where the loop hasn't ended: it has no work but calls
+abbrev pub AgentGoesOn : Advance → AgentView → AgentView → Type 0
+AgentGoesOn advance.Did v w = (w.over ≡ None) × AgentCalls v w
+AgentGoesOn advance.Idle v w = (w.over ≡ None) × AgentRests v w
+AgentGoesOn (advance.Over end) v w = (w.over ≡ Some end) × (AgentCalls v w ⊎ AgentRanOut v w)
+
+-- what a step may do; a loop that has ended stays so
+abbrev pub AgentAdvancesFrom : Option why.Over → Advance → AgentView → AgentView → Type 0
+AgentAdvancesFrom None did v w = AgentGoesOn did v w × HasCounted v.rounds w.rounds
+AgentAdvancesFrom (Some end) did v w = (did ≡ advance.Over end) × (w ≡ v)
+
+abbrev pub AgentAdvances : Advance → AgentView → AgentView → Type 0
+AgentAdvances did v w = AgentAdvancesFrom v.over did v w
+
+-- the same turnstiles
+abbrev pub HasSamePlaces : AgentView → AgentView → Type 0
+HasSamePlaces v w = places w.lines ≡ places v.lines

@@ -1,0 +1,84 @@
+-- What a loop takes from an answer.
+use Rattle.std.specs.Prelude.{List, Option, Some, None, Result, Ok, Err, Bool, true, false}
+use Rattle.stream_ident.specs.declared.event.Event.{Event}
+use Rattle.stream_model.specs.declared.reply.Reply.{Reply}
+use Rattle.stream_model.specs.declared.reply.Reply.TheVariants as reply
+use Rattle.activation_directory.specs.declared.reply.DirectoryReply.{DirectoryReply}
+use Rattle.activation_directory.specs.declared.reply.DirectoryReply.TheVariants as directory
+use Rattle.turnstile.specs.declared.turnstile.Refusal.{Refusal}
+use Rattle.turnstile.specs.declared.turnstile.Refusal.TheVariants as refusal
+use Rattle.silo_loops.specs.declared.advance.Advance.{Advance}
+use Rattle.silo_loops.specs.declared.advance.Advance.TheVariants as advance
+use Rattle.silo_loops.specs.declared.advance.Over.{Over}
+use Rattle.silo_loops.specs.declared.advance.Over.TheVariants as over
+use Rattle.silo_loops.specs.declared.answer.Answer.{Answer}
+use Rattle.silo_loops.specs.declared.answer.Answer.TheVariants as answer
+
+-- the answers after which a loop may find more to do
+abbrev pub rings : Reply → Bool
+rings (reply.Published seq) = true
+rings (reply.Subscribed number) = true
+rings (reply.Unsubscribed handled) = true
+rings (reply.RuleAdded from) = true
+rings (reply.Pulled count low high) = true
+rings (reply.Delivered token) = true
+rings reply.Rewound = true
+rings reply.Acked = true
+rings (reply.Committed sub token) = true
+rings (reply.Dropped sub token) = true
+rings (reply.Deactivated lost) = true
+rings (reply.Moved generation low) = true
+rings _ = false
+
+abbrev pub directory_rings : DirectoryReply → Bool
+directory_rings directory.Left = true
+directory_rings _ = false
+
+-- how a refusal ends a loop
+abbrev pub end_by : Refusal → Over
+end_by refusal.HistoryFull = over.Limit
+end_by refusal.Memory = over.Memory
+
+-- how an answer at a queue ends a loop, where it does
+abbrev pub end_of : Result Reply Refusal → Option Over
+end_of (Ok reply.TooMany) = Some over.Limit
+end_of (Ok reply.Spent) = Some over.Limit
+end_of (Ok _) = None
+end_of (Err refused) = Some (end_by refused)
+
+-- how an answer of the directory does
+abbrev pub end_of_asking : Result DirectoryReply Refusal → Option Over
+end_of_asking (Ok directory.Spent) = Some over.Limit
+end_of_asking (Ok _) = None
+end_of_asking (Err refused) = Some (end_by refused)
+
+-- the same answer, without the events of a turn
+abbrev pub answer_of : Result Reply Refusal → Answer
+answer_of (Ok reply.TooMany) = answer.Ended over.Limit
+answer_of (Ok reply.Spent) = answer.Ended over.Limit
+answer_of (Err refused) = answer.Ended (end_by refused)
+answer_of (Ok (reply.Next grain)) = answer.Next grain
+answer_of (Ok (reply.Turn sub activation turn events note)) = answer.Turn sub activation turn note
+answer_of (Ok (reply.Committed sub token)) = answer.Committed sub token
+answer_of (Ok (reply.DueSub sub ack)) = answer.Due sub ack
+answer_of (Ok (reply.StaleAgent now)) = answer.StaleAgent
+answer_of (Ok (reply.Pulled count low high)) = answer.Changed
+answer_of (Ok (reply.Delivered token)) = answer.Changed
+answer_of (Ok reply.Acked) = answer.Changed
+answer_of (Ok (reply.Dropped sub token)) = answer.Changed
+answer_of (Ok _) = answer.Other
+
+-- the events of a turn take the place of those before
+abbrev pub events_after : Result Reply Refusal → List Event → List Event
+events_after (Ok (reply.Turn sub activation turn events note)) old = events
+events_after _ old = old
+
+-- how an answer ends a loop, where it does
+abbrev pub end_in : Answer → Option Over
+end_in (answer.Ended end) = Some end
+end_in _ = None
+
+-- what a step answers that ended a loop so, or didn't
+abbrev pub advance_of : Option Over → Advance
+advance_of None = advance.Did
+advance_of (Some end) = advance.Over end

@@ -1,0 +1,6 @@
+pub mod Agents
+pub mod Answers
+pub mod Lines
+pub mod Passes
+pub mod Walks
+pub mod Workers

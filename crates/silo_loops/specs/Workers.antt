@@ -1,0 +1,161 @@
+-- What a worker may do.
+use Rattle.std.specs.Prelude.{◌≡◌, ℕ, ◌+◌, ◌≤◌, ◌⊎◌, List, [], ◌∷◌, Option, Some, None, Result, Ok, slice_get, map, All}
+use Rattle.stream_ident.specs.declared.event.Event.{Event}
+use Rattle.stream_model.specs.declared.op.Op.{Op}
+use Rattle.stream_model.specs.declared.op.Op.TheVariants as op
+use Rattle.stream_model.specs.declared.reply.Reply.{Reply}
+use Rattle.stream_model.specs.declared.reply.Reply.TheVariants as reply
+use Rattle.activation_directory.specs.declared.op.DirectoryOp.{DirectoryOp}
+use Rattle.activation_directory.specs.declared.op.DirectoryOp.TheVariants as asked
+use Rattle.activation_directory.specs.declared.reply.DirectoryReply.{DirectoryReply}
+use Rattle.shared_partition.specs.Directories as directory
+use Rattle.turnstile.specs.declared.turnstile.Refusal.{Refusal}
+use Rattle.silo_loops.specs.declared.advance.Advance.{Advance}
+use Rattle.silo_loops.specs.declared.advance.Advance.TheVariants as advance
+use Rattle.silo_loops.specs.declared.advance.Over as why
+use Rattle.silo_loops.specs.declared.advance.Over.TheVariants as over
+use Rattle.silo_loops.specs.declared.worker.Start.{Start}
+use Rattle.silo_loops.specs.declared.worker.Start.TheVariants as start
+use Rattle.silo_loops.specs.declared.worker_walk.Walk.{Walk}
+use Rattle.silo_loops.specs.Answers.{end_of, end_of_asking}
+use Rattle.silo_loops.specs.Lines.{CallsAt, DirectoryPass, HasLooked, LineView, QueuePass, places, rested}
+use Rattle.silo_loops.specs.Passes.{CallsBy, LastOwn}
+use Rattle.silo_loops.specs.Walks.{HasCommitted, Keeps, Nothing, Runs, Telling, Turning, Work, work_in}
+
+-- a worker: its silo, its lines in queue order, its pass at the directory, what it has in hand, how many rounds it
+-- has begun, and why it has ended
+pub record WorkerView : Type 0 where
+  pub silo : ℕ
+  pub lines : List LineView
+  pub directory : DirectoryPass
+  pub work : Work
+  pub rounds : ℕ
+  pub over : Option why.Over
+
+-- the rounds that a loop may make
+abbrev pub most_rounds : ℕ
+most_rounds = 1000000
+
+-- What a worker may ask of a queue: which grain is ready; a turn of a grain whose permit it keeps; the end of the
+-- turn that it began.
+abbrev pub WorkerMay : DirectoryPass → QueuePass → Op → Type 0
+WorkerMay d p (op.Ready last) = Unit {0}
+WorkerMay d p (op.Begin grain most) = (most ≡ 16) × ((permit : ℕ) × Keeps d grain permit)
+WorkerMay d p (op.Commit grain activation turn note) = Runs p grain activation turn
+WorkerMay d p _ = ⊥
+
+-- What it may ask of the directory: a permit for its silo, and to give back the one that it keeps.
+abbrev pub WorkerMayAsk : ℕ → DirectoryPass → DirectoryOp → Type 0
+WorkerMayAsk own d (asked.Enter grain silo) = silo ≡ own
+WorkerMayAsk own d (asked.Leave grain permit) = Keeps d grain permit
+WorkerMayAsk own d _ = ⊥
+
+-- what the answer to a Begin puts in hand, and the one to a Commit
+abbrev pub turn_in : ℕ → Result Reply Refusal → Work
+turn_in at (Ok (reply.Turn sub activation turn events note)) = Turning at events
+turn_in at _ = Nothing
+
+abbrev pub commit_in : ℕ → Result Reply Refusal → Work
+commit_in at (Ok (reply.Committed sub token)) = Telling at sub token
+commit_in at _ = Nothing
+
+abbrev pub work_of : ℕ → Op → Result Reply Refusal → Work
+work_of at (op.Begin grain most) result = turn_in at result
+work_of at (op.Commit grain activation turn note) result = commit_in at result
+work_of at _ result = Nothing
+
+-- a call of a worker at a queue
+pub record WorkerCalls (v w : WorkerView) : Type 0 where
+  pub at : ℕ
+  pub op : Op
+  pub result : Result Reply Refusal
+  pub calls : CallsAt v.lines at op result w.lines
+  pub may : WorkerMay v.directory calls.was.pass op
+  pub over : w.over ≡ end_of result
+  pub work : w.work ≡ work_of at op result
+  pub directory : w.directory ≡ v.directory
+  pub silo : w.silo ≡ v.silo
+
+-- a call of a worker at the directory
+pub record WorkerAsks (v w : WorkerView) : Type 0 where
+  pub op : DirectoryOp
+  pub result : Result DirectoryReply Refusal
+  pub calls : CallsBy directory.replied directory.after v.directory op result w.directory
+  pub may : WorkerMayAsk v.silo v.directory op
+  pub over : w.over ≡ end_of_asking result
+  pub work : (v.work ≡ Nothing) × (w.work ≡ Nothing)
+  pub lines : w.lines ≡ v.lines
+  pub silo : w.silo ≡ v.silo
+
+-- the handler has had one event more, or the commit was told
+abbrev pub HasWorked : Work → Work → Type 0
+HasWorked (Turning at (event ∷ events)) work = work ≡ Turning at events
+HasWorked (Telling at sub token) work = work ≡ Nothing
+HasWorked _ work = ⊥
+
+-- the turn in hand runs: its Begin is the last call of the pass there; or its Commit is
+abbrev pub IsInHand : List LineView → Work → Type 0
+IsInHand lines Nothing = Unit {0}
+IsInHand lines (Turning at events) =
+    (line : LineView) × (slice_get lines at ≡ Some line) × ((grain : _) × (activation : ℕ) × (turn : ℕ) × Runs line.pass grain activation turn)
+IsInHand lines (Telling at sub token) = (line : LineView) × (slice_get lines at ≡ Some line) × HasCommitted line.pass sub token
+
+-- a piece of work with no call
+pub record WorkerWorks (v w : WorkerView) : Type 0 where
+  pub in_hand : IsInHand v.lines v.work
+  pub worked : HasWorked v.work w.work
+  pub lines : w.lines ≡ v.lines
+  pub directory : w.directory ≡ v.directory
+  pub silo : w.silo ≡ v.silo
+
+-- each queue was looked at since the loop was made or last idle, nothing is in hand, and each line begins anew
+pub record WorkerRests (v w : WorkerView) : Type 0 where
+  pub looked : All HasLooked v.lines
+  pub lines : w.lines ≡ map rested v.lines
+  pub work : (v.work ≡ Nothing) × (w.work ≡ Nothing)
+  pub directory : w.directory ≡ v.directory
+  pub silo : w.silo ≡ v.silo
+
+-- it has made as many rounds as it may
+abbrev pub WorkerRanOut : WorkerView → WorkerView → Type 0
+WorkerRanOut v w = (w ≡ record v { over = Some over.Rounds }) × (v.rounds ≡ most_rounds) × (v.work ≡ Nothing)
+
+-- at most one round more was begun
+abbrev pub HasCounted : ℕ → ℕ → Type 0
+HasCounted rounds counted = (rounds ≤ counted) × (counted ≤ rounds + 1) × (counted ≤ most_rounds)
+
+-- What a step may do, where the loop hasn't ended. Did: one call, which doesn't end it, or a piece of work in hand.
+-- Idle: each queue was looked at. Over: a call that ends it, or no round is left.
+abbrev pub WorkerGoesOn : Advance → WorkerView → WorkerView → Type 0
+WorkerGoesOn advance.Did v w = (w.over ≡ None) × (WorkerCalls v w ⊎ (WorkerAsks v w ⊎ WorkerWorks v w))
+WorkerGoesOn advance.Idle v w = (w.over ≡ None) × WorkerRests v w
+WorkerGoesOn (advance.Over end) v w = (w.over ≡ Some end) × (WorkerCalls v w ⊎ (WorkerAsks v w ⊎ WorkerRanOut v w))
+
+-- what a step may do; a loop that has ended stays so
+abbrev pub WorkerAdvancesFrom : Option why.Over → Advance → WorkerView → WorkerView → Type 0
+WorkerAdvancesFrom None did v w = WorkerGoesOn did v w × HasCounted v.rounds w.rounds
+WorkerAdvancesFrom (Some end) did v w = (did ≡ advance.Over end) × (w ≡ v)
+
+abbrev pub WorkerAdvances : Advance → WorkerView → WorkerView → Type 0
+WorkerAdvances did v w = WorkerAdvancesFrom v.over did v w
+
+-- a worker with these parts
+abbrev pub worker_at : ℕ → List LineView → DirectoryPass → Walk → List Event → ℕ → Option why.Over → WorkerView
+worker_at silo lines directory walk events rounds over =
+    record { silo = silo; lines = lines; directory = directory; work = work_in walk.at walk.step events; rounds = rounds; over = over }
+
+-- what a step of a worker that isn't at rest does
+abbrev pub WorkerSteps : WorkerView → WorkerView → Option why.Over → Type 0
+WorkerSteps v w None = WorkerCalls v w ⊎ (WorkerAsks v w ⊎ WorkerWorks v w)
+WorkerSteps v w (Some end) = WorkerCalls v w ⊎ WorkerAsks v w
+
+-- how a round begins, or doesn't
+abbrev pub Starts : Start → List LineView → List LineView → ℕ → ℕ → Type 0
+Starts start.Begun lines new rounds counted = (new ≡ lines) × (counted ≡ rounds + 1) × (counted ≤ most_rounds)
+Starts start.Idle lines new rounds counted = All HasLooked lines × (new ≡ map rested lines) × (counted ≡ rounds)
+Starts start.RanOut lines new rounds counted = (new ≡ lines) × (counted ≡ rounds) × (rounds ≡ most_rounds)
+
+-- the same turnstiles
+pub record IsBeside (v w : WorkerView) : Type 0 where
+  pub lines : places w.lines ≡ places v.lines
+  pub directory : w.directory.turnstile ≡ v.directory.turnstile

@@ -1,0 +1,55 @@
+//! What a step of a loop answers.
+ghost use Rattle.std.specs.Prelude.{◌≡◌};
+ghost use Rattle.silo_loops.specs.Answers.{advance_of, end_by};
+
+use crate::doorbell::Doorbell;
+use std::sync::Wait;
+use turnstile::Refusal;
+
+/// The most rounds that a loop makes.
+pub const MOST_ROUNDS: u64 = 1_000_000;
+
+/// What a step of a loop did.
+#[derive(Clone, Copy, Debug, PartialEq, Eq)]
+pub enum Advance {
+    /// One call, or one piece of work that was in hand.
+    Did,
+    /// Nothing: the round found nothing to do. The next step begins another.
+    Idle,
+    /// Nothing more: the loop has ended, and answers so from then on.
+    Over(Over),
+}
+
+/// Why a loop has ended.
+#[derive(Clone, Copy, Debug, PartialEq, Eq)]
+pub enum Over {
+    /// It has made as many rounds as it may.
+    Rounds,
+    /// A call was answered `TooMany` or `Spent`, or a history is full.
+    Limit,
+    /// A call failed to allocate.
+    Memory,
+}
+
+// How a refusal ends a loop.
+pub(crate) fn end_by(refusal: Refusal) -> Over
+    ensures { result ≡ end_by refusal }
+{
+    match refusal {
+        Refusal::HistoryFull => Over::Limit,
+        Refusal::Memory => Over::Memory,
+    }
+}
+
+// What a step answers that ended the loop or didn't. Where a loop ends, the doorbell tells.
+pub(crate) fn told<R: Wait>(rt: &R, doorbell: &Doorbell, over: Option<Over>) -> Advance
+    ensures { result ≡ advance_of over }
+{
+    match over {
+        None => Advance::Did,
+        Some(end) => {
+            doorbell.ring(rt);
+            Advance::Over(end)
+        }
+    }
+}

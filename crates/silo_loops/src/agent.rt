@@ -1,0 +1,391 @@
+//! The loop of a pulling agent.
+ghost use Rattle.std.specs.Prelude.{◌≡◌, ℕ, ◌<◌, ◌≤◌, length, map, replicate, true, List, Option, None, Some, IfErr, IfNone, IfOk, IfSome, slice_get};
+ghost use Rattle.silo_loops.specs.declared.advance.Advance.TheVariants.{Idle};
+ghost use Rattle.silo_loops.specs.Agents.{AgentAdvances, AgentAdvancesFrom, AgentCalls, HasSamePlaces, OnesPulled, agent_at};
+ghost use Rattle.silo_loops.specs.Answers.{advance_of};
+ghost use Rattle.silo_loops.specs.Lines.{HasPulled, rested};
+ghost use Rattle.silo_loops.specs.Workers.{most_rounds};
+
+use crate::advance::{Advance, MOST_ROUNDS, Over, told};
+use crate::agent_walk::Visit;
+use crate::assigned::Assigned;
+use crate::doorbell::Doorbell;
+use crate::line::{Line, rest_all};
+use crate::worker_steps::hear_at;
+use shared_partition::Gate;
+use std::alloc::Global;
+use std::marker::Model;
+use std::sync::atomic::{AtomicBool, Ordering};
+use std::sync::{Arc, Wait};
+use stream_model::{Op, Reply};
+use turnstile::StoredHistory;
+
+/// The loop of a pulling agent, with its passes. A round is for each queue that is assigned to it: Pull, then
+/// for each due subscription Ack, where there is something to acknowledge, and Deliver, until each was named
+/// twice with nothing changed. It names the generation that it was told; where that is stale, it goes on with
+/// the next queue.
+///
+/// A contract sees its lines, the generation under which it holds each queue, as it last looked, how many
+/// rounds it has begun, and why it has ended.
+#[derive(Drop)]
+pub struct AgentLoop<G: Gate, H: StoredHistory<Op, Reply>> {
+    doorbell: Arc<Doorbell, Global>,
+    assigned: Arc<Assigned, Global>,
+    lines: Vec<Line<G, H>>,
+    held: Vec<Option<u64>>,
+    visit: Visit,
+    rounds: u64,
+    over: Option<Over>,
+}
+
+impl<G: Gate, H: StoredHistory<Op, Reply>> Model for AgentLoop<G, H> {
+    ghost use Rattle.std.specs.Prelude.{◌≡◌, ◌≤◌, length};
+    ghost use Rattle.silo_loops.specs.Agents.{AgentView};
+    ghost use Rattle.silo_loops.specs.Workers.{most_rounds};
+
+    ghost Value = { AgentView };
+
+    ghost view = { λ a. record { lines = a.lines.items; held = a.held.items; rounds = a.rounds; over = a.over } };
+
+    ghost invariant = { λ a. (length a.held.items ≡ length a.lines.items) × (a.rounds ≤ most_rounds) };
+}
+
+// The generation under which the agent holds the queue at which it is, or else the next queue that it holds.
+// None where it holds none of the round's other queues.
+fn next_held(assigned: &Assigned, held: &mut Vec<Option<u64>>, visit: &mut Visit) -> Option<u64>
+    ensures same { length held.new.items ≡ length held.old.items }
+    ensures held { IfSome result (λ generation. slice_get held.new.items visit.new.at ≡ Some (Some generation)) }
+    ensures place { IfSome result (λ generation. visit.new.at < length held.new.items) }
+    ensures none { IfNone result ((at : ℕ) → at < length held.new.items → visit.old.at ≤ at → slice_get held.new.items at ≡ Some None) }
+{
+    for at in visit.at..held.len() {
+        let generation = assigned.generation(at);
+        held[at] = generation;
+        if generation.is_some() {
+            if at != visit.at {
+                visit.arrive(at);
+            }
+            return generation;
+        }
+    }
+    None
+}
+
+// Whether each queue that it holds was pulled since its mark.
+fn all_pulled<G: Gate, H: StoredHistory<Op, Reply>>(
+    lines: &Vec<Line<G, H>>,
+    held: &Vec<Option<u64>>,
+) -> bool
+    requires { length held.now.items ≡ length lines.now.items }
+    ensures { result ≡ true → OnesPulled lines.now.items held.now.items }
+{
+    for at in 0..lines.len() {
+        if !is_pulled(&lines[at], held[at]) {
+            return false;
+        }
+    }
+    true
+}
+
+// Whether a queue was pulled since its mark, where it is held.
+fn is_pulled<G: Gate, H: StoredHistory<Op, Reply>>(line: &Line<G, H>, held: Option<u64>) -> bool
+    ensures { result ≡ true → (generation : ℕ) → held ≡ Some generation → HasPulled line.now }
+{
+    match held {
+        None => true,
+        Some(_) => line.has_pulled(),
+    }
+}
+
+// The next call, at the queue at which it is.
+fn ask<G: Gate, H: StoredHistory<Op, Reply>, R: Wait>(
+    rt: &R,
+    alloc: Global,
+    doorbell: &Doorbell,
+    lines: &mut Vec<Line<G, H>>,
+    visit: &mut Visit,
+    generation: u64,
+) -> Option<Over>
+    requires { visit.old.at < length lines.old.items }
+    ensures length { length lines.new.items ≡ length lines.old.items }
+    ensures calls { (held was : List (Option ℕ)) (rounds counted : ℕ) → slice_get held visit.old.at ≡ Some (Some generation) → AgentCalls (agent_at lines.old.items was rounds None) (agent_at lines.new.items held counted result) }
+{
+    let mut none = Vec::new(alloc);
+    let op = visit.op(generation);
+    let answer = hear_at(rt, alloc, doorbell, lines, visit.at, op, &mut none);
+    visit.after(&answer)
+}
+
+// Each line begins anew, and the next step begins a round.
+fn rest<G: Gate, H: StoredHistory<Op, Reply>>(
+    lines: &mut Vec<Line<G, H>>,
+    visit: &mut Visit,
+) -> Advance
+    ensures idle { result ≡ Idle }
+    ensures lines { lines.new.items ≡ map rested lines.old.items }
+{
+    rest_all(lines);
+    visit.changed = true;
+    Advance::Idle
+}
+
+// The next call at the queue at which the agent is, and what it answers.
+fn take_step<G: Gate, H: StoredHistory<Op, Reply>, R: Wait>(
+    rt: &R,
+    alloc: Global,
+    doorbell: &Doorbell,
+    lines: &mut Vec<Line<G, H>>,
+    visit: &mut Visit,
+    generation: u64,
+    over: &mut Option<Over>,
+) -> Advance
+    requires { visit.old.at < length lines.old.items }
+    ensures length { length lines.new.items ≡ length lines.old.items }
+    ensures answer { result ≡ advance_of over.new }
+    ensures calls { (held was : List (Option ℕ)) (rounds counted : ℕ) → slice_get held visit.old.at ≡ Some (Some generation) → AgentCalls (agent_at lines.old.items was rounds None) (agent_at lines.new.items held counted over.new) }
+{
+    *over = ask(rt, alloc, doorbell, lines, visit, generation);
+    told(rt, doorbell, *over)
+}
+
+// The first step of another round, where one may be made. It is idle where the agent holds no queue.
+fn begin_round<G: Gate, H: StoredHistory<Op, Reply>, R: Wait>(
+    rt: &R,
+    alloc: Global,
+    assigned: &Assigned,
+    doorbell: &Doorbell,
+    lines: &mut Vec<Line<G, H>>,
+    held: &mut Vec<Option<u64>>,
+    visit: &mut Visit,
+    rounds: &mut u64,
+    over: &mut Option<Over>,
+) -> Advance
+    requires held { length held.old.items ≡ length lines.old.items }
+    requires rounds { rounds.old ≤ most_rounds }
+    requires goes_on { over.old ≡ None }
+    ensures held { length held.new.items ≡ length lines.new.items }
+    ensures rounds { rounds.new ≤ most_rounds }
+    ensures advances { (was : List (Option ℕ)) → AgentAdvancesFrom None result (agent_at lines.old.items was rounds.old over.old) (agent_at lines.new.items held.new.items rounds.new over.new) }
+{
+    if *rounds >= MOST_ROUNDS {
+        *over = Some(Over::Rounds);
+        return told(rt, doorbell, *over);
+    }
+    *rounds += 1;
+    visit.begin();
+    match next_held(assigned, held, visit) {
+        Some(generation) => take_step(rt, alloc, doorbell, lines, visit, generation, over),
+        None => rest(lines, visit),
+    }
+}
+
+// The step after the last call of a round.
+fn end_round<G: Gate, H: StoredHistory<Op, Reply>, R: Wait>(
+    rt: &R,
+    alloc: Global,
+    assigned: &Assigned,
+    doorbell: &Doorbell,
+    lines: &mut Vec<Line<G, H>>,
+    held: &mut Vec<Option<u64>>,
+    visit: &mut Visit,
+    rounds: &mut u64,
+    over: &mut Option<Over>,
+) -> Advance
+    requires held { length held.old.items ≡ length lines.old.items }
+    requires rounds { rounds.old ≤ most_rounds }
+    requires goes_on { over.old ≡ None }
+    ensures held { length held.new.items ≡ length lines.new.items }
+    ensures rounds { rounds.new ≤ most_rounds }
+    ensures advances { (was : List (Option ℕ)) → AgentAdvancesFrom None result (agent_at lines.old.items was rounds.old over.old) (agent_at lines.new.items held.new.items rounds.new over.new) }
+{
+    if is_done(lines, held, visit) {
+        return rest(lines, visit);
+    }
+    begin_round(
+        rt, alloc, assigned, doorbell, lines, held, visit, rounds, over,
+    )
+}
+
+// Whether the round changed nothing.
+fn is_done<G: Gate, H: StoredHistory<Op, Reply>>(
+    lines: &Vec<Line<G, H>>,
+    held: &Vec<Option<u64>>,
+    visit: &Visit,
+) -> bool
+    requires { length held.now.items ≡ length lines.now.items }
+    ensures { result ≡ true → OnesPulled lines.now.items held.now.items }
+{
+    if visit.changed {
+        return false;
+    }
+    all_pulled(lines, held)
+}
+
+// The next step of an agent that hasn't ended.
+fn go_on<G: Gate, H: StoredHistory<Op, Reply>, R: Wait>(
+    rt: &R,
+    alloc: Global,
+    assigned: &Assigned,
+    doorbell: &Doorbell,
+    lines: &mut Vec<Line<G, H>>,
+    held: &mut Vec<Option<u64>>,
+    visit: &mut Visit,
+    rounds: &mut u64,
+    over: &mut Option<Over>,
+) -> Advance
+    requires held { length held.old.items ≡ length lines.old.items }
+    requires rounds { rounds.old ≤ most_rounds }
+    requires goes_on { over.old ≡ None }
+    ensures held { length held.new.items ≡ length lines.new.items }
+    ensures rounds { rounds.new ≤ most_rounds }
+    ensures advances { AgentAdvancesFrom None result (agent_at lines.old.items held.old.items rounds.old over.old) (agent_at lines.new.items held.new.items rounds.new over.new) }
+{
+    match next_held(assigned, held, visit) {
+        Some(generation) => take_step(rt, alloc, doorbell, lines, visit, generation, over),
+        None => end_round(
+            rt, alloc, assigned, doorbell, lines, held, visit, rounds, over,
+        ),
+    }
+}
+
+// The next step of an agent.
+fn advance_parts<G: Gate, H: StoredHistory<Op, Reply>, R: Wait>(
+    rt: &R,
+    alloc: Global,
+    assigned: &Assigned,
+    doorbell: &Doorbell,
+    lines: &mut Vec<Line<G, H>>,
+    held: &mut Vec<Option<u64>>,
+    visit: &mut Visit,
+    rounds: &mut u64,
+    over: &mut Option<Over>,
+) -> Advance
+    requires held { length held.old.items ≡ length lines.old.items }
+    requires rounds { rounds.old ≤ most_rounds }
+    ensures held { length held.new.items ≡ length lines.new.items }
+    ensures rounds { rounds.new ≤ most_rounds }
+    ensures advances { AgentAdvances result (agent_at lines.old.items held.old.items rounds.old over.old) (agent_at lines.new.items held.new.items rounds.new over.new) }
+{
+    match *over {
+        Some(end) => Advance::Over(end),
+        None => go_on(
+            rt, alloc, assigned, doorbell, lines, held, visit, rounds, over,
+        ),
+    }
+}
+
+impl<G: Gate, H: StoredHistory<Op, Reply>> AgentLoop<G, H> {
+    /// An agent that has done nothing yet, with a line for each queue, in their order. What is assigned to it
+    /// others may change at any time.
+    ///
+    /// # Errors
+    /// The call failed to allocate. The lines are handed back.
+    pub fn new(
+        alloc: Global,
+        doorbell: Arc<Doorbell, Global>,
+        assigned: Arc<Assigned, Global>,
+        lines: Vec<Line<G, H>>,
+    ) -> Result<AgentLoop<G, H>, Vec<Line<G, H>>>
+        ensures made { IfOk result (λ agent. agent ≡ record { lines = lines.items; held = replicate (length lines.items) None; rounds = 0; over = None }) }
+        ensures back { IfErr result (λ back. back ≡ lines) }
+    {
+        let queues = lines.len();
+        let Ok(held) = vec![in alloc; None; queues] else {
+            return Err(lines);
+        };
+        Ok(AgentLoop {
+            doorbell,
+            assigned,
+            lines,
+            held,
+            visit: Visit::new(queues),
+            rounds: 0,
+            over: None,
+        })
+    }
+
+    /// Makes the next single call of the round; or answers that the round found nothing to do, or why the loop
+    /// has ended.
+    ///
+    /// It makes an agent's operations alone, under the generation that it was told. It is idle only where it
+    /// has pulled each queue that it then holds since it was made or last idle.
+    pub fn advance<R: Wait>(&mut self, rt: &R, alloc: Global) -> Advance
+        ensures advances { AgentAdvances result self.old self.new }
+        ensures beside { HasSamePlaces self.old self.new }
+    {
+        advance_parts(
+            rt,
+            alloc,
+            &self.assigned,
+            &self.doorbell,
+            &mut self.lines,
+            &mut self.held,
+            &mut self.visit,
+            &mut self.rounds,
+            &mut self.over,
+        )
+    }
+
+    /// How many rounds it has begun.
+    pub fn rounds(&self) -> u64
+        ensures { result ≡ self.now.rounds }
+    {
+        self.rounds
+    }
+
+    /// Why it has ended, where it has.
+    pub fn over(&self) -> Option<Over>
+        ensures { result ≡ self.now.over }
+    {
+        self.over
+    }
+
+    // One step, unless it is told to stop, and a wait where it is idle. Whether it goes on.
+    fn go<R: Wait>(&mut self, rt: &R, alloc: Global, stop: &AtomicBool, seen: &mut u64) -> bool
+        ensures { HasSamePlaces self.old self.new }
+    {
+        if stop.load(Ordering::SeqCst) {
+            return false;
+        }
+        match self.advance(rt, alloc) {
+            Advance::Did => true,
+            Advance::Idle => {
+                self.doorbell.wait_past(rt, *seen, stop);
+                *seen = self.doorbell.now(rt);
+                true
+            }
+            Advance::Over(_) => false,
+        }
+    }
+
+    /// Steps until `stop` is set or the loop has ended, and waits at the doorbell where a round found nothing
+    /// to do. It comes back with its passes.
+    pub fn run<R: Wait>(self, rt: &R, alloc: Global, stop: &AtomicBool) -> AgentLoop<G, H>
+        ensures { HasSamePlaces self result }
+    {
+        let mut agent = self;
+        let mut seen = agent.doorbell.now(rt);
+        for _ in rt.forever() {
+            if !agent.go(rt, alloc, stop, &mut seen) {
+                break;
+            }
+        }
+        agent
+    }
+
+    /// Its lines.
+    pub fn into_lines(self) -> Vec<Line<G, H>>
+        ensures { result.items ≡ self.lines }
+    {
+        let AgentLoop {
+            doorbell: _,
+            assigned: _,
+            lines,
+            held: _,
+            visit: _,
+            rounds: _,
+            over: _,
+        } = self;
+        lines
+    }
+}

@@ -1,0 +1,169 @@
+//! Where an agent is, and what it does next.
+ghost use Rattle.std.specs.Prelude.{◌≡◌, false};
+ghost use Rattle.silo_loops.specs.Agents.{AgentMay};
+ghost use Rattle.silo_loops.specs.Answers.{end_in};
+ghost use Rattle.silo_loops.specs.Lines.{is_producer};
+
+use crate::advance::Over;
+use crate::answer::Answer;
+use stream_ident::{SubName, Token};
+use stream_model::Op;
+
+// The most events of a pull.
+const MOST_PULLED: u32 = 32;
+
+// How often each due subscription is named before an agent goes on.
+const LAPS: u8 = 2;
+
+/// What an agent does next at its queue.
+#[derive(Clone, Copy)]
+pub(crate) enum AgentStep {
+    /// Takes events into the cache.
+    Pull,
+    /// Asks for a due subscription.
+    Due,
+    /// Acknowledges what a subscription has handled.
+    Acknowledge { sub: SubName, token: Token },
+    /// Delivers the next event of a subscription.
+    Deliver { sub: SubName },
+}
+
+/// The queue at which an agent is, the due subscription that was named there last, how many more laps over the
+/// due ones it makes, whether the round changed anything, and what it does next.
+#[derive(Drop)]
+pub(crate) struct Visit {
+    pub(crate) at: usize,
+    pub(crate) last: Option<SubName>,
+    pub(crate) laps: u8,
+    pub(crate) changed: bool,
+    pub(crate) step: AgentStep,
+}
+
+impl Visit {
+    /// Before the first round over so many queues.
+    pub(crate) fn new(queues: usize) -> Visit {
+        Visit {
+            at: queues,
+            last: None,
+            laps: LAPS,
+            changed: true,
+            step: AgentStep::Pull,
+        }
+    }
+
+    /// At this queue, before anything is done there.
+    pub(crate) fn arrive(&mut self, at: usize)
+        ensures { self.new.at ≡ at }
+    {
+        self.at = at;
+        self.last = None;
+        self.laps = LAPS;
+        self.step = AgentStep::Pull;
+    }
+
+    /// Begins another round.
+    pub(crate) fn begin(&mut self)
+        ensures { self.new.at ≡ 0 }
+    {
+        self.arrive(0);
+        self.changed = false;
+    }
+
+    /// What it asks next, under this generation.
+    pub(crate) fn op(&self, generation: u64) -> Op
+        ensures may { AgentMay generation result }
+        ensures producer { is_producer result ≡ false }
+    {
+        match self.step {
+            AgentStep::Pull => Op::Pull {
+                generation,
+                max: MOST_PULLED,
+            },
+            AgentStep::Due => Op::Due { after: self.last },
+            AgentStep::Acknowledge { sub, token } => Op::Ack {
+                generation,
+                sub,
+                token,
+            },
+            AgentStep::Deliver { sub } => Op::Deliver { generation, sub },
+        }
+    }
+
+    /// What it does after this answer. It goes on with the next queue where another agent is the current one,
+    /// and where each due subscription was named twice since something last changed here.
+    pub(crate) fn after(&mut self, answer: &Answer) -> Option<Over>
+        ensures { result ≡ end_in answer.now }
+    {
+        if answer.is_change() {
+            self.changed = true;
+        }
+        if matches!(*answer, Answer::StaleAgent) {
+            self.leave();
+        } else {
+            self.go_on(answer);
+        }
+        answer.end()
+    }
+
+    // What it does after any other answer.
+    fn go_on(&mut self, answer: &Answer) {
+        let step = self.step;
+        match step {
+            AgentStep::Pull => self.step = AgentStep::Due,
+            AgentStep::Due => self.after_due(answer),
+            AgentStep::Acknowledge { ref sub, .. } => {
+                self.note_change(answer);
+                self.step = AgentStep::Deliver { sub: *sub };
+            }
+            AgentStep::Deliver { .. } => {
+                self.note_change(answer);
+                self.step = AgentStep::Due;
+            }
+        }
+    }
+
+    // What is left of a lap in which something changed doesn't count.
+    fn note_change(&mut self, answer: &Answer) {
+        if answer.is_change() {
+            self.laps = LAPS + 1;
+        }
+    }
+
+    // Subscriptions are named in their order, so one that isn't past the last begins another lap.
+    fn after_due(&mut self, answer: &Answer) {
+        match *answer {
+            Answer::Due { ref sub, ack } => self.serve(sub, ack),
+            _ => self.leave(),
+        }
+    }
+
+    // What it does for a due subscription.
+    fn serve(&mut self, sub: &SubName, ack: Option<Token>) {
+        if !self.is_new(sub) {
+            self.laps = self.laps.saturating_sub(1);
+        }
+        if self.laps == 0 {
+            self.leave();
+            return;
+        }
+        self.last = Some(*sub);
+        self.step = match ack {
+            Some(token) => AgentStep::Acknowledge { sub: *sub, token },
+            None => AgentStep::Deliver { sub: *sub },
+        };
+    }
+
+    // Whether the subscription is past the last one.
+    fn is_new(&self, sub: &SubName) -> bool {
+        match self.last {
+            None => true,
+            Some(ref last) => last.is_before(sub),
+        }
+    }
+
+    // On to the next queue.
+    fn leave(&mut self) {
+        let next = self.at.saturating_add(1);
+        self.arrive(next);
+    }
+}

@@ -1,0 +1,76 @@
+//! The doorbell that loops wait at.
+ghost use Rattle.std.specs.Prelude.{◌≡◌};
+ghost use Rattle.silo_loops.specs.Answers as told;
+
+use activation_directory::DirectoryReply;
+use std::sync::atomic::{AtomicBool, Ordering};
+use std::sync::{Condvar, Mutex, Wait};
+use stream_model::Reply;
+
+/// A count of what happened, at which loops that found nothing to do wait for more. It wraps.
+///
+/// It is rung after each answer for which [`rings`] or [`directory_rings`] holds, where a loop ends by itself,
+/// and by whoever tells a loop to stop. No contract says that it wakes anybody.
+#[derive(Drop)]
+pub struct Doorbell {
+    count: Mutex<u64>,
+    rung: Condvar,
+}
+
+impl Doorbell {
+    /// A doorbell whose count begins with this number.
+    pub fn new(count: u64) -> Doorbell {
+        Doorbell {
+            count: Mutex::new(count),
+            rung: Condvar::new(),
+        }
+    }
+
+    /// Counts one more, and wakes all that wait.
+    pub fn ring<R: Wait>(&self, rt: &R) {
+        let mut count = self.count.lock(rt);
+        *count = count.wrapping_add(1);
+        drop(count);
+        self.rung.notify_all();
+    }
+
+    /// The count, to be remembered before a loop looks for something to do.
+    pub fn now<R: Wait>(&self, rt: &R) -> u64 {
+        *self.count.lock(rt)
+    }
+
+    /// Waits while the count is this one and `stop` isn't set. Whoever sets `stop` rings after it.
+    pub fn wait_past<R: Wait>(&self, rt: &R, seen: u64, stop: &AtomicBool) {
+        let _count = self.rung.wait_while(rt, self.count.lock(rt), |count| {
+            *count == seen && !stop.load(Ordering::SeqCst)
+        });
+    }
+}
+
+/// Whether a loop may find more to do after this answer at a queue.
+pub fn rings(reply: &Reply) -> bool
+    ensures { result ≡ told.rings reply.now }
+{
+    matches!(
+        reply,
+        Reply::Published { .. }
+            | Reply::Subscribed { .. }
+            | Reply::Unsubscribed { .. }
+            | Reply::RuleAdded { .. }
+            | Reply::Pulled { .. }
+            | Reply::Delivered { .. }
+            | Reply::Rewound
+            | Reply::Acked
+            | Reply::Committed { .. }
+            | Reply::Dropped { .. }
+            | Reply::Deactivated { .. }
+            | Reply::Moved { .. }
+    )
+}
+
+/// Whether a loop may find more to do after this answer of the directory.
+pub fn directory_rings(reply: &DirectoryReply) -> bool
+    ensures { result ≡ told.directory_rings reply.now }
+{
+    matches!(reply, DirectoryReply::Left)
+}

@@ -1,0 +1,445 @@
+//! The loop of a turn worker.
+ghost use Rattle.std.specs.Prelude.{◌≡◌, ℕ, ◌<◌, ◌≤◌, length, true, None, All, vec_capacity};
+ghost use Rattle.silo_loops.specs.declared.worker_walk.Step.TheVariants as step;
+ghost use Rattle.silo_loops.specs.Answers.{advance_of};
+ghost use Rattle.silo_loops.specs.Lines.{HasLooked};
+ghost use Rattle.silo_loops.specs.Walks.{IsAt, Nothing};
+ghost use Rattle.silo_loops.specs.Workers.{IsBeside, Starts, WorkerAdvances, WorkerAdvancesFrom, WorkerSteps, most_rounds, worker_at};
+
+use crate::advance::{Advance, MOST_ROUNDS, Over, told};
+use crate::directory_line::DirectoryLine;
+use crate::doorbell::Doorbell;
+use crate::line::{Line, rest_all};
+use crate::worker_steps::{begin, commit, enter, handle, leave, look, tell};
+use crate::worker_walk::{Step, Walk};
+use activation_directory::{DirectoryOp, DirectoryReply};
+use shared_partition::Gate;
+use std::alloc::{AllocError, Global};
+use std::marker::Model;
+use std::sync::atomic::{AtomicBool, Ordering};
+use std::sync::{Arc, Wait};
+use stream_ident::Event;
+use stream_model::{Op, Reply};
+use turnstile::StoredHistory;
+
+/// Room for the events of one turn, which a worker takes with it.
+#[derive(Drop)]
+pub struct TurnRoom {
+    events: Vec<Event>,
+    ghost room: { 16 ≤ vec_capacity events },
+}
+
+impl TurnRoom {
+    /// Room for the sixteen events that a turn may have.
+    ///
+    /// # Errors
+    /// The call failed to allocate.
+    pub fn new(alloc: Global) -> Result<TurnRoom, AllocError> {
+        let events = Vec::with_capacity(alloc, 16)?;
+        Ok(TurnRoom { events })
+    }
+}
+
+/// The loop of a turn worker, with its passes. A round is for each queue, and there for each ready grain:
+/// Ready, Enter, Begin, the gate's handler for each event, Commit, the gate's `done`, Leave. A grain whose
+/// permit another has, or that is placed on another silo, is passed over.
+///
+/// A contract sees its silo, its lines, its pass at the directory, what it has in hand, how many rounds it has
+/// begun and why it has ended.
+#[derive(Drop)]
+pub struct WorkerLoop<
+    G: Gate,
+    H: StoredHistory<Op, Reply>,
+    D: StoredHistory<DirectoryOp, DirectoryReply>,
+> {
+    silo: u8,
+    gate: Arc<G, Global>,
+    doorbell: Arc<Doorbell, Global>,
+    lines: Vec<Line<G, H>>,
+    directory: DirectoryLine<D>,
+    events: Vec<Event>,
+    walk: Walk,
+    rounds: u64,
+    over: Option<Over>,
+}
+
+impl<G: Gate, H: StoredHistory<Op, Reply>, D: StoredHistory<DirectoryOp, DirectoryReply>> Model
+    for WorkerLoop<G, H, D> {
+    ghost use Rattle.std.specs.Prelude.{◌≤◌, vec_capacity};
+    ghost use Rattle.silo_loops.specs.Walks.{IsAt};
+    ghost use Rattle.silo_loops.specs.Workers.{WorkerView, most_rounds, worker_at};
+
+    ghost Value = { WorkerView };
+
+    ghost view = { λ w. worker_at w.silo w.lines.items w.directory w.walk w.events.items w.rounds w.over };
+
+    ghost invariant = { λ w. IsAt w.walk w.lines.items w.directory × (16 ≤ vec_capacity w.events) × (w.rounds ≤ most_rounds) };
+}
+
+// How a round begins, or doesn't.
+enum Start {
+    Begun,
+    Idle,
+    RanOut,
+}
+
+// Begins another round, where the last one found something to do. Where it found nothing, each line begins
+// anew instead.
+fn start_round<G: Gate, H: StoredHistory<Op, Reply>>(
+    lines: &mut Vec<Line<G, H>>,
+    walk: &mut Walk,
+    rounds: &mut u64,
+) -> Start
+    requires { rounds.old ≤ most_rounds }
+    ensures starts { Starts result lines.old.items lines.new.items rounds.old rounds.new }
+    ensures walk { walk.new ≡ record walk.old { changed = walk.new.changed } }
+{
+    if !walk.changed && all_looked(lines) {
+        rest_all(lines);
+        walk.changed = true;
+        return Start::Idle;
+    }
+    if *rounds >= MOST_ROUNDS {
+        return Start::RanOut;
+    }
+    *rounds += 1;
+    walk.changed = false;
+    Start::Begun
+}
+
+// Whether each line has asked for a ready grain past its mark.
+fn all_looked<G: Gate, H: StoredHistory<Op, Reply>>(lines: &Vec<Line<G, H>>) -> bool
+    ensures { result ≡ true → All HasLooked lines.now.items }
+{
+    for line in lines {
+        if !line.has_looked() {
+            return false;
+        }
+    }
+    true
+}
+
+// The next call of the round, or the next piece of work in hand.
+fn step<
+    G: Gate,
+    H: StoredHistory<Op, Reply>,
+    D: StoredHistory<DirectoryOp, DirectoryReply>,
+    R: Wait,
+>(
+    rt: &R,
+    alloc: Global,
+    gate: &G,
+    doorbell: &Doorbell,
+    silo: u8,
+    lines: &mut Vec<Line<G, H>>,
+    directory: &mut DirectoryLine<D>,
+    walk: &mut Walk,
+    events: &mut Vec<Event>,
+) -> Option<Over>
+    requires at { IsAt walk.old lines.old.items directory.old }
+    requires room { 16 ≤ vec_capacity events.old }
+    ensures at { IsAt walk.new lines.new.items directory.new }
+    ensures room { vec_capacity events.new ≡ vec_capacity events.old }
+    ensures steps { (rounds counted : ℕ) → WorkerSteps (worker_at silo lines.old.items directory.old walk.old events.old.items rounds None) (worker_at silo lines.new.items directory.new walk.new events.new.items counted result) result }
+{
+    let step = walk.step;
+    match &step {
+        Step::Rest | Step::Look => look(rt, alloc, doorbell, lines, directory, walk, events),
+        Step::Enter { grain } => enter(rt, alloc, doorbell, silo, directory, walk, grain),
+        Step::Begin { grain, permit } => begin(
+            rt, alloc, doorbell, lines, directory, walk, events, grain, *permit,
+        ),
+        Step::Handle {
+            grain,
+            permit,
+            turn,
+        } => {
+            if turn.next < events.len() {
+                handle(gate, walk, events, grain, *permit, turn);
+                return None;
+            }
+            commit(
+                rt, alloc, doorbell, lines, directory, walk, events, grain, *permit, turn,
+            )
+        }
+        Step::Tell {
+            grain,
+            permit,
+            sub,
+            token,
+        } => {
+            tell(gate, walk, grain, *permit, sub, *token);
+            None
+        }
+        Step::Leave { grain, permit } => {
+            leave(rt, alloc, doorbell, directory, walk, grain, *permit)
+        }
+    }
+}
+
+// The next call of the round, or the next piece of work in hand, and what it answers.
+fn take_step<
+    G: Gate,
+    H: StoredHistory<Op, Reply>,
+    D: StoredHistory<DirectoryOp, DirectoryReply>,
+    R: Wait,
+>(
+    rt: &R,
+    alloc: Global,
+    gate: &G,
+    doorbell: &Doorbell,
+    silo: u8,
+    lines: &mut Vec<Line<G, H>>,
+    directory: &mut DirectoryLine<D>,
+    walk: &mut Walk,
+    events: &mut Vec<Event>,
+    over: &mut Option<Over>,
+) -> Advance
+    requires at { IsAt walk.old lines.old.items directory.old }
+    requires room { 16 ≤ vec_capacity events.old }
+    ensures at { IsAt walk.new lines.new.items directory.new }
+    ensures room { vec_capacity events.new ≡ vec_capacity events.old }
+    ensures answer { result ≡ advance_of over.new }
+    ensures steps { (rounds counted : ℕ) → WorkerSteps (worker_at silo lines.old.items directory.old walk.old events.old.items rounds None) (worker_at silo lines.new.items directory.new walk.new events.new.items counted over.new) over.new }
+{
+    *over = step(
+        rt, alloc, gate, doorbell, silo, lines, directory, walk, events,
+    );
+    told(rt, doorbell, *over)
+}
+
+// The first step after a round: it begins another, or answers that the last one found nothing to do, or that
+// no more may be made.
+fn begin_round<
+    G: Gate,
+    H: StoredHistory<Op, Reply>,
+    D: StoredHistory<DirectoryOp, DirectoryReply>,
+    R: Wait,
+>(
+    rt: &R,
+    alloc: Global,
+    gate: &G,
+    doorbell: &Doorbell,
+    silo: u8,
+    lines: &mut Vec<Line<G, H>>,
+    directory: &mut DirectoryLine<D>,
+    walk: &mut Walk,
+    events: &mut Vec<Event>,
+    rounds: &mut u64,
+    over: &mut Option<Over>,
+) -> Advance
+    requires at { IsAt walk.old lines.old.items directory.old }
+    requires rest { walk.old.step ≡ step.Rest }
+    requires room { 16 ≤ vec_capacity events.old }
+    requires rounds { rounds.old ≤ most_rounds }
+    requires goes_on { over.old ≡ None }
+    ensures at { IsAt walk.new lines.new.items directory.new }
+    ensures room { vec_capacity events.new ≡ vec_capacity events.old }
+    ensures rounds { rounds.new ≤ most_rounds }
+    ensures advances { WorkerAdvancesFrom None result (worker_at silo lines.old.items directory.old walk.old events.old.items rounds.old over.old) (worker_at silo lines.new.items directory.new walk.new events.new.items rounds.new over.new) }
+{
+    match start_round(lines, walk, rounds) {
+        Start::Begun => take_step(
+            rt, alloc, gate, doorbell, silo, lines, directory, walk, events, over,
+        ),
+        Start::Idle => Advance::Idle,
+        Start::RanOut => {
+            *over = Some(Over::Rounds);
+            told(rt, doorbell, *over)
+        }
+    }
+}
+
+// The next step of a worker that hasn't ended.
+fn go_on<
+    G: Gate,
+    H: StoredHistory<Op, Reply>,
+    D: StoredHistory<DirectoryOp, DirectoryReply>,
+    R: Wait,
+>(
+    rt: &R,
+    alloc: Global,
+    gate: &G,
+    doorbell: &Doorbell,
+    silo: u8,
+    lines: &mut Vec<Line<G, H>>,
+    directory: &mut DirectoryLine<D>,
+    walk: &mut Walk,
+    events: &mut Vec<Event>,
+    rounds: &mut u64,
+    over: &mut Option<Over>,
+) -> Advance
+    requires at { IsAt walk.old lines.old.items directory.old }
+    requires room { 16 ≤ vec_capacity events.old }
+    requires rounds { rounds.old ≤ most_rounds }
+    requires goes_on { over.old ≡ None }
+    ensures at { IsAt walk.new lines.new.items directory.new }
+    ensures room { vec_capacity events.new ≡ vec_capacity events.old }
+    ensures rounds { rounds.new ≤ most_rounds }
+    ensures advances { WorkerAdvancesFrom None result (worker_at silo lines.old.items directory.old walk.old events.old.items rounds.old over.old) (worker_at silo lines.new.items directory.new walk.new events.new.items rounds.new over.new) }
+{
+    match walk.step {
+        Step::Rest => begin_round(
+            rt, alloc, gate, doorbell, silo, lines, directory, walk, events, rounds, over,
+        ),
+        _ => take_step(
+            rt, alloc, gate, doorbell, silo, lines, directory, walk, events, over,
+        ),
+    }
+}
+
+// The next step of a worker.
+fn advance_parts<
+    G: Gate,
+    H: StoredHistory<Op, Reply>,
+    D: StoredHistory<DirectoryOp, DirectoryReply>,
+    R: Wait,
+>(
+    rt: &R,
+    alloc: Global,
+    gate: &G,
+    doorbell: &Doorbell,
+    silo: u8,
+    lines: &mut Vec<Line<G, H>>,
+    directory: &mut DirectoryLine<D>,
+    walk: &mut Walk,
+    events: &mut Vec<Event>,
+    rounds: &mut u64,
+    over: &mut Option<Over>,
+) -> Advance
+    requires at { IsAt walk.old lines.old.items directory.old }
+    requires room { 16 ≤ vec_capacity events.old }
+    requires rounds { rounds.old ≤ most_rounds }
+    ensures at { IsAt walk.new lines.new.items directory.new }
+    ensures room { vec_capacity events.new ≡ vec_capacity events.old }
+    ensures rounds { rounds.new ≤ most_rounds }
+    ensures advances { WorkerAdvances result (worker_at silo lines.old.items directory.old walk.old events.old.items rounds.old over.old) (worker_at silo lines.new.items directory.new walk.new events.new.items rounds.new over.new) }
+{
+    match *over {
+        Some(end) => Advance::Over(end),
+        None => go_on(
+            rt, alloc, gate, doorbell, silo, lines, directory, walk, events, rounds, over,
+        ),
+    }
+}
+
+impl<
+    G: Gate,
+    H: StoredHistory<Op, Reply>,
+    D: StoredHistory<DirectoryOp, DirectoryReply>,
+> WorkerLoop<G, H, D> {
+    /// A worker of this silo that has done nothing yet, with a line for each queue, in their order.
+    pub fn new(
+        silo: u8,
+        gate: Arc<G, Global>,
+        doorbell: Arc<Doorbell, Global>,
+        lines: Vec<Line<G, H>>,
+        directory: DirectoryLine<D>,
+        room: TurnRoom,
+    ) -> WorkerLoop<G, H, D>
+        requires { 0 < length lines.items }
+        ensures { result ≡ record { silo = silo; lines = lines.items; directory = directory; work = Nothing; rounds = 0; over = None } }
+    {
+        WorkerLoop {
+            silo,
+            gate,
+            doorbell,
+            lines,
+            directory,
+            events: room.events,
+            walk: Walk::new(),
+            rounds: 0,
+            over: None,
+        }
+    }
+
+    /// Makes the next single call of the round, or has the gate handle one event of the turn in hand, or tells
+    /// it of the commit in hand; or answers that the round found nothing to do, or why the loop has ended.
+    ///
+    /// It begins a turn only of a grain whose permit it keeps, and commits only the turn that it began. It is
+    /// idle only where it has asked each queue for a ready grain since it was made or last idle.
+    pub fn advance<R: Wait>(&mut self, rt: &R, alloc: Global) -> Advance
+        ensures advances { WorkerAdvances result self.old self.new }
+        ensures beside { IsBeside self.old self.new }
+    {
+        advance_parts(
+            rt,
+            alloc,
+            &*self.gate,
+            &self.doorbell,
+            self.silo,
+            &mut self.lines,
+            &mut self.directory,
+            &mut self.walk,
+            &mut self.events,
+            &mut self.rounds,
+            &mut self.over,
+        )
+    }
+
+    /// How many rounds it has begun.
+    pub fn rounds(&self) -> u64
+        ensures { result ≡ self.now.rounds }
+    {
+        self.rounds
+    }
+
+    /// Why it has ended, where it has.
+    pub fn over(&self) -> Option<Over>
+        ensures { result ≡ self.now.over }
+    {
+        self.over
+    }
+
+    // One step, unless it is told to stop, and a wait where it is idle. Whether it goes on.
+    fn go<R: Wait>(&mut self, rt: &R, alloc: Global, stop: &AtomicBool, seen: &mut u64) -> bool
+        ensures { IsBeside self.old self.new }
+    {
+        if stop.load(Ordering::SeqCst) {
+            return false;
+        }
+        match self.advance(rt, alloc) {
+            Advance::Did => true,
+            Advance::Idle => {
+                self.doorbell.wait_past(rt, *seen, stop);
+                *seen = self.doorbell.now(rt);
+                true
+            }
+            Advance::Over(_) => false,
+        }
+    }
+
+    /// Steps until `stop` is set or the loop has ended, and waits at the doorbell where a round found nothing
+    /// to do. It comes back with its passes.
+    pub fn run<R: Wait>(self, rt: &R, alloc: Global, stop: &AtomicBool) -> WorkerLoop<G, H, D>
+        ensures { IsBeside self result }
+    {
+        let mut worker = self;
+        let mut seen = worker.doorbell.now(rt);
+        for _ in rt.forever() {
+            if !worker.go(rt, alloc, stop, &mut seen) {
+                break;
+            }
+        }
+        worker
+    }
+
+    /// Its lines, its pass at the directory, and its room for events.
+    pub fn into_parts(self) -> (Vec<Line<G, H>>, DirectoryLine<D>)
+        ensures lines { result.0.items ≡ self.lines }
+        ensures directory { result.1 ≡ self.directory }
+    {
+        let WorkerLoop {
+            silo: _,
+            gate: _,
+            doorbell: _,
+            lines,
+            directory,
+            events: _,
+            walk: _,
+            rounds: _,
+            over: _,
+        } = self;
+        (lines, directory)
+    }
+}

@@ -1,0 +1,240 @@
+//! The steps of a worker, each one call or one piece of work.
+ghost use Rattle.std.specs.Prelude.{◌≡◌, ℕ, ◌<◌, ◌≤◌, false, length, List, vec_capacity};
+ghost use Rattle.silo_loops.specs.Lines.{DirectoryPass, HearsAt, LineView, is_producer};
+ghost use Rattle.stream_ident.specs.declared.event.Event.{Event};
+ghost use Rattle.silo_loops.specs.Walks.{IsAt};
+ghost use Rattle.silo_loops.specs.Workers.{WorkerSteps, WorkerWorks, worker_at};
+ghost use Rattle.silo_loops.specs.declared.worker_walk.Step.TheVariants as step;
+
+use crate::advance::Over;
+use crate::answer::Answer;
+use crate::directory_line::DirectoryLine;
+use crate::doorbell::Doorbell;
+use crate::line::Line;
+use crate::worker_walk::{Step, Turn, Walk, end_of_asking};
+use activation_directory::{DirectoryOp, DirectoryReply};
+use shared_partition::Gate;
+use std::alloc::Global;
+use std::sync::Wait;
+use stream_ident::{Event, GrainId, SubName, Token};
+use stream_model::{Op, Reply};
+use turnstile::StoredHistory;
+
+// The most events of a turn.
+const MOST_EVENTS: u32 = 16;
+
+// One call at one queue.
+pub(crate) fn hear_at<G: Gate, H: StoredHistory<Op, Reply>, R: Wait>(
+    rt: &R,
+    alloc: Global,
+    doorbell: &Doorbell,
+    lines: &mut Vec<Line<G, H>>,
+    at: usize,
+    op: Op,
+    events: &mut Vec<Event>,
+) -> Answer
+    requires here { at < length lines.old.items }
+    requires op { is_producer op ≡ false }
+    ensures heard { HearsAt lines.old.items at op lines.new.items (vec_capacity events.old) events.old.items events.new.items result }
+    ensures room { vec_capacity events.new ≡ vec_capacity events.old }
+{
+    let line = &mut lines[at];
+    line.hear(rt, alloc, doorbell, op, events)
+}
+
+// Asks the queue for a ready grain.
+pub(crate) fn look<
+    G: Gate,
+    H: StoredHistory<Op, Reply>,
+    D: StoredHistory<DirectoryOp, DirectoryReply>,
+    R: Wait,
+>(
+    rt: &R,
+    alloc: Global,
+    doorbell: &Doorbell,
+    lines: &mut Vec<Line<G, H>>,
+    directory: &DirectoryLine<D>,
+    walk: &mut Walk,
+    events: &mut Vec<Event>,
+) -> Option<Over>
+    requires { IsAt walk.old lines.old.items directory.now }
+    ensures at { IsAt walk.new lines.new.items directory.now }
+    ensures room { vec_capacity events.new ≡ vec_capacity events.old }
+    ensures steps { (silo rounds counted : ℕ) → WorkerSteps (worker_at silo lines.old.items directory.now walk.old events.old.items rounds None) (worker_at silo lines.new.items directory.now walk.new events.new.items counted result) result }
+{
+    let last = walk.last;
+    let answer = hear_at(
+        rt,
+        alloc,
+        doorbell,
+        lines,
+        walk.at,
+        Op::Ready { after: last },
+        events,
+    );
+    walk.after_look(lines.len(), &answer)
+}
+
+// Asks the directory for the permit of a grain.
+pub(crate) fn enter<D: StoredHistory<DirectoryOp, DirectoryReply>, R: Wait>(
+    rt: &R,
+    alloc: Global,
+    doorbell: &Doorbell,
+    silo: u8,
+    directory: &mut DirectoryLine<D>,
+    walk: &mut Walk,
+    grain: &GrainId,
+) -> Option<Over>
+    ensures at { (lines : List LineView) → walk.old.step ≡ step.Enter grain.now → IsAt walk.old lines directory.old → IsAt walk.new lines directory.new }
+    ensures steps { (lines : List LineView) (events : List Event) (rounds counted : ℕ) → walk.old.step ≡ step.Enter grain.now → WorkerSteps (worker_at silo lines directory.old walk.old events rounds None) (worker_at silo lines directory.new walk.new events counted result) result }
+{
+    let answer = directory.call(
+        rt,
+        alloc,
+        doorbell,
+        DirectoryOp::Enter {
+            grain: *grain,
+            silo,
+        },
+    );
+    walk.after_enter(grain, &answer)
+}
+
+// Begins a turn of the grain whose permit the worker has.
+pub(crate) fn begin<
+    G: Gate,
+    H: StoredHistory<Op, Reply>,
+    D: StoredHistory<DirectoryOp, DirectoryReply>,
+    R: Wait,
+>(
+    rt: &R,
+    alloc: Global,
+    doorbell: &Doorbell,
+    lines: &mut Vec<Line<G, H>>,
+    directory: &DirectoryLine<D>,
+    walk: &mut Walk,
+    events: &mut Vec<Event>,
+    grain: &GrainId,
+    permit: u64,
+) -> Option<Over>
+    requires at { IsAt walk.old lines.old.items directory.now }
+    requires step { walk.old.step ≡ step.Begin grain.now permit }
+    requires room { 16 ≤ vec_capacity events.old }
+    ensures at { IsAt walk.new lines.new.items directory.now }
+    ensures room { vec_capacity events.new ≡ vec_capacity events.old }
+    ensures steps { (silo rounds counted : ℕ) → WorkerSteps (worker_at silo lines.old.items directory.now walk.old events.old.items rounds None) (worker_at silo lines.new.items directory.now walk.new events.new.items counted result) result }
+{
+    let op = Op::Begin {
+        grain: *grain,
+        max: MOST_EVENTS,
+    };
+    let answer = hear_at(rt, alloc, doorbell, lines, walk.at, op, events);
+    walk.after_begin(grain, permit, &answer)
+}
+
+// Commits the turn, all of whose events were handled.
+pub(crate) fn commit<
+    G: Gate,
+    H: StoredHistory<Op, Reply>,
+    D: StoredHistory<DirectoryOp, DirectoryReply>,
+    R: Wait,
+>(
+    rt: &R,
+    alloc: Global,
+    doorbell: &Doorbell,
+    lines: &mut Vec<Line<G, H>>,
+    directory: &DirectoryLine<D>,
+    walk: &mut Walk,
+    events: &mut Vec<Event>,
+    grain: &GrainId,
+    permit: u64,
+    turn: &Turn,
+) -> Option<Over>
+    requires at { IsAt walk.old lines.old.items directory.now }
+    requires step { walk.old.step ≡ step.Handle grain.now permit turn.now }
+    ensures at { IsAt walk.new lines.new.items directory.now }
+    ensures room { vec_capacity events.new ≡ vec_capacity events.old }
+    ensures steps { (silo rounds counted : ℕ) → WorkerSteps (worker_at silo lines.old.items directory.now walk.old events.old.items rounds None) (worker_at silo lines.new.items directory.now walk.new events.new.items counted result) result }
+{
+    let op = Op::Commit {
+        grain: *grain,
+        activation: turn.activation,
+        turn: turn.number,
+        note: turn.note,
+    };
+    let answer = hear_at(rt, alloc, doorbell, lines, walk.at, op, events);
+    walk.after_commit(grain, permit, &answer)
+}
+
+// Gives the permit back.
+pub(crate) fn leave<D: StoredHistory<DirectoryOp, DirectoryReply>, R: Wait>(
+    rt: &R,
+    alloc: Global,
+    doorbell: &Doorbell,
+    directory: &mut DirectoryLine<D>,
+    walk: &mut Walk,
+    grain: &GrainId,
+    permit: u64,
+) -> Option<Over>
+    ensures at { (lines : List LineView) → walk.old.step ≡ step.Leave grain.now permit → IsAt walk.old lines directory.old → IsAt walk.new lines directory.new }
+    ensures steps { (silo : ℕ) (lines : List LineView) (events : List Event) (rounds counted : ℕ) → walk.old.step ≡ step.Leave grain.now permit → IsAt walk.old lines directory.old → WorkerSteps (worker_at silo lines directory.old walk.old events rounds None) (worker_at silo lines directory.new walk.new events counted result) result }
+{
+    let answer = directory.call(
+        rt,
+        alloc,
+        doorbell,
+        DirectoryOp::Leave {
+            grain: *grain,
+            permit,
+        },
+    );
+    walk.step = Step::Look;
+    end_of_asking(&answer)
+}
+
+// Has the gate handle the next event of the turn, with the note that the one before left.
+pub(crate) fn handle<G: Gate>(
+    gate: &G,
+    walk: &mut Walk,
+    events: &Vec<Event>,
+    grain: &GrainId,
+    permit: u64,
+    turn: &Turn,
+)
+    requires next { turn.now.next < length events.now.items }
+    requires step { walk.old.step ≡ step.Handle grain.now permit turn.now }
+    ensures at { (lines : List LineView) (d : DirectoryPass) → IsAt walk.old lines d → IsAt walk.new lines d }
+    ensures works { (silo : ℕ) (lines : List LineView) (d : DirectoryPass) (rounds counted : ℕ) → IsAt walk.old lines d → WorkerWorks (worker_at silo lines d walk.old events.now.items rounds None) (worker_at silo lines d walk.new events.now.items counted None) }
+{
+    let note = gate.handle(&turn.sub, &events[turn.next], turn.note);
+    let next = turn.next + 1;
+    walk.step = Step::Handle {
+        grain: *grain,
+        permit,
+        turn: Turn {
+            note,
+            next,
+            ..*turn
+        },
+    };
+}
+
+// Tells the gate of a commit.
+pub(crate) fn tell<G: Gate>(
+    gate: &G,
+    walk: &mut Walk,
+    grain: &GrainId,
+    permit: u64,
+    sub: &SubName,
+    token: Token,
+)
+    requires step { walk.old.step ≡ step.Tell grain.now permit sub.now token }
+    ensures at { (lines : List LineView) (d : DirectoryPass) → IsAt walk.old lines d → IsAt walk.new lines d }
+    ensures works { (silo : ℕ) (lines : List LineView) (d : DirectoryPass) (events : List Event) (rounds counted : ℕ) → IsAt walk.old lines d → WorkerWorks (worker_at silo lines d walk.old events rounds None) (worker_at silo lines d walk.new events counted None) }
+{
+    gate.done(sub, token);
+    walk.step = Step::Leave {
+        grain: *grain,
+        permit,
+    };
+}
