@@ -130,6 +130,19 @@ fn add_implied(
     registry.add_implied(alloc, *kind, *stream, START)
 }
 
+/// The events of these rows.
+fn events(
+    rt: &impl Abort,
+    alloc: Global,
+    rows: &[(u8, u8, u64, u32)],
+) -> Result<Vec<Event>, AllocError> {
+    let mut events = Vec::with_capacity(alloc, rows.len())?;
+    for row in rows {
+        events.push(event(rt, *row))?;
+    }
+    Ok(events)
+}
+
 /// Makes subscriptions of the events from one place to another.
 fn imply(
     rt: &impl Abort,
@@ -138,15 +151,10 @@ fn imply(
     from: usize,
     to: usize,
 ) -> Result<Implied, AllocError> {
-    let mut events = [event(rt, EVENTS[0]); 18];
-    for (place, row) in events.iter_mut().zip(EVENTS) {
-        *place = event(rt, row);
-    }
-    let all = events.as_slice();
-    assert!(rt; from <= to && to <= all.len());
-    let events = &all[from..to];
+    assert!(rt; from <= to && to <= EVENTS.len());
+    let events = events(rt, alloc, &EVENTS[from..to])?;
     assert!(rt; events.len() <= 256);
-    registry.imply(alloc, events)
+    registry.imply(alloc, events.as_slice())
 }
 
 /// Makes a call that may take memory.
@@ -174,97 +182,111 @@ pub(crate) fn change(
     }
 }
 
-/// The name of a subscription: its number, or the kind and the stream.
-fn sub_text(alloc: Global, sub: &SubName) -> Result<String, AllocError> {
+/// Writes the name of a subscription: its number, or the kind and the stream.
+fn write_sub(text: &mut String, sub: &SubName) -> Result<(), AllocError> {
     match sub {
-        SubName::Explicit(number) => format!(in alloc; "{number}"),
+        SubName::Explicit(number) => write!(text, "{number}"),
         SubName::Implicit { kind, stream } => {
-            format!(in alloc; "{kind:?}@{:?}/{:?}", stream.namespace, stream.key)
+            write!(text, "{kind:?}@{:?}/{:?}", stream.namespace, stream.key)
         }
     }
 }
 
-fn subs_text(alloc: Global, subs: &[SubName]) -> Result<String, AllocError> {
-    let mut text = String::new(alloc);
+fn write_subs(text: &mut String, subs: &[SubName]) -> Result<(), AllocError> {
     for sub in subs {
         text.push_str(" ")?;
-        text.push_str(sub_text(alloc, sub)?.as_str())?;
+        write_sub(text, sub)?;
     }
-    Ok(text)
+    Ok(())
 }
 
-fn registration_text(
-    alloc: Global,
-    sub: &SubName,
-    registration: &Registration,
-) -> Result<String, AllocError> {
+fn write_registration(text: &mut String, registration: &Registration) -> Result<(), AllocError> {
     let Registration {
         stream,
         grain,
         start,
         is_open,
     } = registration;
-    let name = sub_text(alloc, sub)?;
     let state = if *is_open { "open" } else { "closed" };
-    format!(in alloc;
-        "{name} {state}: {:?}/{:?} to {:?}/{:?} from {}.{}",
-        stream.namespace, stream.key, grain.kind, grain.key, start.seq, start.idx
+    write!(
+        text,
+        " {state}: {:?}/{:?} to ",
+        stream.namespace, stream.key
+    )?;
+    write!(
+        text,
+        "{:?}/{:?} from {}.{}",
+        grain.kind, grain.key, start.seq, start.idx
     )
 }
 
-/// What is seen of a registry.
-fn seen(
+/// Writes what stands at a place.
+fn write_at(
     rt: &impl Abort,
-    alloc: Global,
+    text: &mut String,
+    registry: &Registry,
+    index: usize,
+) -> Result<(), AllocError> {
+    assert!(rt; index < registry.len());
+    let (sub, registration) = registry.at(index);
+    write_sub(text, sub)?;
+    write_registration(text, registration)
+}
+
+/// Writes what is seen of a registry.
+fn write_seen(
+    rt: &impl Abort,
+    text: &mut String,
     registry: &Registry,
     call: Call,
-) -> Result<String, AllocError> {
+) -> Result<(), AllocError> {
     match call {
-        Call::Find(number) => format!(in alloc; "{:?}", registry.find(&SubName::Explicit(number))),
-        Call::At(index) => {
-            assert!(rt; index < registry.len());
-            let (sub, registration) = registry.at(index);
-            registration_text(alloc, sub, registration)
-        }
+        Call::Find(number) => write!(text, "{:?}", registry.find(&SubName::Explicit(number))),
+        Call::At(index) => write_at(rt, text, registry, index),
         Call::Subs(namespace, key) => {
-            subs_text(alloc, registry.subs_of(&stream(rt, namespace, key)))
+            write_subs(text, registry.subs_of(&stream(rt, namespace, key)))
         }
         Call::ImpliedBy(namespace, key) => {
-            format!(in alloc; "{:?}", registry.implied_by(&stream(rt, namespace, key)))
+            write!(
+                text,
+                "{:?}",
+                registry.implied_by(&stream(rt, namespace, key))
+            )
         }
-        Call::Rules => format!(in alloc; "{:?}", registry.rules()),
+        Call::Rules => write!(text, "{:?}", registry.rules()),
         _ => {
             let (len, explicit) = (registry.len(), registry.explicit());
             let (is_empty, is_full) = (registry.is_empty(), registry.is_full());
-            format!(in alloc; "{len} there, {explicit} given, empty {is_empty}, full {is_full}")
+            write!(
+                text,
+                "{len} there, {explicit} given, empty {is_empty}, full {is_full}"
+            )
         }
     }
 }
 
-/// The text of the reply to a call.
-fn told(
+/// Writes the reply to a call.
+fn write_told(
     rt: &impl Abort,
     alloc: Global,
+    text: &mut String,
     registry: &mut Registry,
     call: Call,
-) -> Result<String, AllocError> {
+) -> Result<(), AllocError> {
     match call {
         Call::Add(..) | Call::AddImplied(..) | Call::AddRule(..) | Call::Imply(..) => {
-            let told = change(rt, alloc, registry, call)?;
-            format!(in alloc; "{told:?}")
+            write!(text, "{:?}", change(rt, alloc, registry, call)?)
         }
-        Call::Close(number) => {
-            format!(in alloc; "{:?}", registry.close(&SubName::Explicit(number)))
-        }
+        Call::Close(number) => { write!(text, "{:?}", registry.close(&SubName::Explicit(number))) }
         Call::CloseImplied(kind, namespace, key) => {
             let sub = implicit(rt, kind, namespace, key);
-            format!(in alloc; "{:?}", registry.close(&sub))
+            write!(text, "{:?}", registry.close(&sub))
         }
         Call::Truncate(len) => {
             registry.truncate(len);
-            Ok(String::new(alloc))
+            Ok(())
         }
-        _ => seen(rt, alloc, registry, call),
+        _ => write_seen(rt, text, registry, call),
     }
 }
 
@@ -274,10 +296,12 @@ fn ask(
     alloc: Global,
     registry: &mut Registry,
     rows: &[(Call, &str)],
-) -> Result<(), Fail> {
+) -> Result<(), AllocError> {
+    let mut text = String::new(alloc);
     for (call, expected) in rows {
-        let text = told(rt, alloc, registry, *call)?;
-        assert_eq!(rt; text.as_str(), *expected);
+        text.clear();
+        write_told(rt, alloc, &mut text, registry, *call)?;
+        assert!(rt; text.as_str() == *expected, "{expected}");
     }
     Ok(())
 }
@@ -294,22 +318,28 @@ pub(crate) fn check(
     requires rules { most_rules ≤ 64 }
 {
     let mut registry = Registry::new(alloc, most_names, most_rules);
-    ask(rt, alloc, &mut registry, rows)
+    ask(rt, alloc, &mut registry, rows)?;
+    Ok(())
+}
+
+/// What two registries have at a place is equal.
+fn compare_at(rt: &impl Abort, registry: &Registry, twin: &Registry, index: usize) {
+    assert!(rt; index < registry.len() && index < twin.len());
+    let (sub, registration) = registry.at(index);
+    let (twin_sub, twin_registration) = twin.at(index);
+    assert!(rt; sub == twin_sub && registration == twin_registration);
 }
 
 /// Each read of one registry is that of another.
-fn assert_same(rt: &impl Abort, registry: &Registry, twin: &Registry, stream: &StreamId) {
-    let len = registry.len();
-    assert_eq!(rt; twin.len(), len);
-    assert_eq!(rt; registry.explicit(), twin.explicit());
-    assert!(rt; registry.rules() == twin.rules());
-    assert!(rt; registry.subs_of(stream) == twin.subs_of(stream));
-    assert!(rt; registry.implied_by(stream) == twin.implied_by(stream));
-    for index in 0..len {
-        let (sub, registration) = registry.at(index);
-        let (twin_sub, twin_registration) = twin.at(index);
-        assert!(rt; sub == twin_sub);
-        assert!(rt; registration == twin_registration);
+fn compare(rt: &impl Abort, registry: &Registry, twin: &Registry, stream: &StreamId) {
+    assert!(rt; registry.len() == twin.len() && registry.explicit() == twin.explicit());
+    assert!(rt;
+        registry.rules() == twin.rules()
+            && registry.subs_of(stream) == twin.subs_of(stream)
+            && registry.implied_by(stream) == twin.implied_by(stream)
+    );
+    for index in 0..registry.len() {
+        compare_at(rt, registry, twin, index);
     }
 }
 
@@ -326,7 +356,7 @@ fn change_both(
     let answer = match change(rt, alloc, registry, call) {
         Ok(answer) => answer,
         Err(AllocError) => {
-            assert_same(rt, registry, twin, stream);
+            compare(rt, registry, twin, stream);
             change(rt, alloc, registry, call)?
         }
     };
@@ -335,7 +365,7 @@ fn change_both(
         Err(AllocError) => change(rt, alloc, twin, call)?,
     };
     assert!(rt; answer == same);
-    assert_same(rt, registry, twin, stream);
+    compare(rt, registry, twin, stream);
     Ok(())
 }
 

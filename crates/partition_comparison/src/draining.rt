@@ -1,10 +1,12 @@
-//! Drains, which go on where they failed to allocate.
+//! Drains, which go on where they were meant to fail to allocate.
+use crate::fault::Fault;
+use crate::memory::Memory;
 use crate::tally::Tally;
 use std::alloc::{AllocError, Global};
 use step_core::{DrainEnd, Op, Partition};
 
 /// How a partition was drained.
-#[derive(Clone, Copy, Debug)]
+#[derive(Debug, Drop)]
 pub struct Drained {
     /// How the last drain ended.
     pub end: DrainEnd,
@@ -17,16 +19,18 @@ impl Drained {
     /// Whether the other is drained in the same way. The numbers of turns can be compared where both drains
     /// are whole.
     pub fn agrees_with(&self, other: &Drained) -> bool {
-        match (self.end, other.end) {
-            (DrainEnd::Drained { .. }, DrainEnd::Drained { .. }) if !are_whole(self, other) => true,
-            (DrainEnd::Spent, _) | (_, DrainEnd::Spent) if !are_whole(self, other) => true,
-            (end, expected) => end == expected,
+        if self.end == other.end {
+            return true;
         }
+        if are_whole(self, other) {
+            return false;
+        }
+        is_spent(self) || is_spent(other) || (is_drained(self) && is_drained(other))
     }
 
     /// Whether what is left has to look the same: rises that a lost turn took may have been the last.
     pub fn leaves_the_same(&self, other: &Drained) -> bool {
-        are_whole(self, other) || (self.end != DrainEnd::Spent && other.end != DrainEnd::Spent)
+        are_whole(self, other) || !(is_spent(self) || is_spent(other))
     }
 }
 
@@ -34,24 +38,33 @@ fn are_whole(one: &Drained, other: &Drained) -> bool {
     one.is_whole && other.is_whole
 }
 
-/// Drains a partition, and drains it again where the drain failed to allocate.
+fn is_spent(drained: &Drained) -> bool {
+    matches!(drained.end, DrainEnd::Spent)
+}
+
+fn is_drained(drained: &Drained) -> bool {
+    matches!(drained.end, DrainEnd::Drained { .. })
+}
+
+/// Drains a partition, and drains it again where the drain was meant to fail to allocate.
 ///
 /// # Errors
 /// The call failed to allocate.
 pub fn drain(
-    alloc: Global,
+    memory: Memory,
     partition: &mut Partition,
     tally: &mut Tally,
-) -> Result<Drained, AllocError> {
-    if let Ok(end) = partition.drain(alloc) {
+) -> Result<Drained, Fault> {
+    if let Ok(end) = partition.drain(memory.alloc) {
         return Ok(Drained {
             end,
             is_whole: true,
         });
     }
+    memory.go_on()?;
     tally.want_drain();
     Ok(Drained {
-        end: drain_on(alloc, partition)?,
+        end: drain_on(memory.alloc, partition)?,
         is_whole: false,
     })
 }
@@ -62,6 +75,6 @@ fn drain_on(alloc: Global, partition: &mut Partition) -> Result<DrainEnd, AllocE
     let DrainEnd::Stuck { grain } = end else {
         return Ok(end);
     };
-    let _ = partition.step(alloc, Op::Deactivate { grain })?;
+    partition.apply(alloc, &Op::Deactivate { grain })?;
     partition.drain(alloc)
 }

@@ -1,8 +1,8 @@
 //! Draws operations.
 ghost use Rattle.std.specs.Prelude.{◌<◌};
 
-use crate::again::again;
 use crate::heard::Heard;
+use crate::memory::Memory;
 use crate::names::Names;
 use rand::rngs::SmallRng;
 use rand::{RngExt, SeedableRng};
@@ -11,7 +11,7 @@ use step_core::{Op, Start};
 use stream_ident::{Batch, GrainId, Payload, StreamId, SubName, Token};
 
 /// Who does nothing for a while.
-#[derive(Clone, Copy, PartialEq, Eq)]
+#[derive(Clone, Copy)]
 pub enum Idle {
     /// All of them work.
     Nobody,
@@ -92,16 +92,14 @@ impl Draws {
     }
 
     /// A batch of 0 to 5 payloads, and now and then one of up to 69.
-    fn publication(&mut self, alloc: Global) -> Result<Op, AllocError> {
+    fn publication(&mut self, memory: Memory) -> Result<Op, AllocError> {
         let count = match self.below(12) {
             0 => self.below(70),
             _ => self.below(6),
         };
-        let payloads = self.names.payloads;
-        Ok(Op::Publish {
-            stream: self.stream(),
-            payloads: again(|| batch(alloc, payloads, count))?,
-        })
+        let stream = self.stream();
+        let payloads = batch(memory, &self.names.payloads, count)?;
+        Ok(Op::Publish { stream, payloads })
     }
 
     /// An operation of a subscriber.
@@ -211,22 +209,29 @@ impl Draws {
     /// The call failed to allocate.
     pub fn operation(
         &mut self,
-        alloc: Global,
+        memory: Memory,
         heard: &Heard,
         idle: Idle,
     ) -> Result<Op, AllocError> {
-        match self.below(20) {
-            0 | 1 if idle != Idle::Producers => self.publication(alloc),
-            2 if idle != Idle::Producers => Ok(self.subscriber(heard)),
-            3 => Ok(self.operator(heard)),
-            4..=10 if idle != Idle::Workers => Ok(self.worker(heard)),
+        match (self.below(20), idle) {
+            (0 | 1, Idle::Nobody | Idle::Workers) => self.publication(memory),
+            (2, Idle::Nobody | Idle::Workers) => Ok(self.subscriber(heard)),
+            (3, _) => Ok(self.operator(heard)),
+            (4..=10, Idle::Nobody | Idle::Producers) => Ok(self.worker(heard)),
             _ => Ok(self.agent(heard)),
         }
     }
 }
 
 /// A batch of so many payloads, which take turns.
-fn batch(alloc: Global, payloads: [Payload; 3], count: u32) -> Result<Batch, AllocError> {
+fn batch(memory: Memory, payloads: &[Payload; 3], count: u32) -> Result<Batch, AllocError> {
+    match batch_once(memory.alloc, payloads, count) {
+        Err(_) if memory.retries => batch_once(memory.alloc, payloads, count),
+        batch => batch,
+    }
+}
+
+fn batch_once(alloc: Global, payloads: &[Payload; 3], count: u32) -> Result<Batch, AllocError> {
     let mut batch = Vec::new(alloc);
     for place in 0..count {
         batch.push(payloads[place as usize % 3])?;

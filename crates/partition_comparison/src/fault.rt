@@ -1,41 +1,49 @@
 //! Why the program ends with a status other than 0.
-use crate::difference::Difference;
 use std::alloc::{AllocError, AllocFailed};
 use std::io;
 use std::process::ExitCode;
 use stream_ident::{BadName, BadPayload};
-use thiserror::Error;
 
 /// What ends the program.
-#[derive(Debug, Drop, Error)]
+#[derive(Drop)]
 pub enum Fault {
     /// The command line is faulty.
-    #[error("partition_comparison [RUNS [ROUNDS [SEED]]], each of them a number")]
     CommandLine,
-    /// The partition isn't what it has to be.
-    #[error("{0}")]
-    Different(Difference),
-    /// A call failed to allocate twice.
-    #[error("out of memory")]
+    /// The partition isn't what it has to be, as the text tells.
+    Different(String),
+    /// A partition that differs was taken for the same.
+    Untold,
+    /// A call failed to allocate, twice where that was meant.
     Memory,
     /// The output couldn't be written.
-    #[error("write fault")]
     Write,
     /// A text that operations are made of is no name or no payload.
-    #[error("bad name")]
     Name,
 }
 
 impl Fault {
     /// Prints the fault on standard error, and gives the exit status.
     pub fn report<R: Eprint>(&self, rt: &R) -> ExitCode {
-        let _ = eprintln!(rt; "{self}");
+        let text = self.text();
+        let _ = eprintln!(rt; "{text}");
         ExitCode::from(self.status())
+    }
+
+    fn text(&self) -> &str {
+        match self {
+            Fault::CommandLine =>
+                "partition_comparison [RUNS [ROUNDS [SEED [retry]]]], three numbers",
+            Fault::Different(text) => text.as_str(),
+            Fault::Untold => "a partition with more blocks was taken for the same",
+            Fault::Memory => "out of memory",
+            Fault::Write => "write fault",
+            Fault::Name => "bad name",
+        }
     }
 
     fn status(&self) -> u8 {
         match self {
-            Fault::Different(_) => 1,
+            Fault::Different(_) | Fault::Untold => 1,
             Fault::CommandLine => 2,
             Fault::Memory | Fault::Write | Fault::Name => 3,
         }

@@ -26,7 +26,7 @@ pub struct HandledEvent {
 }
 
 /// What the replies said, so that operations which answer them can be made.
-#[derive(Clone, Copy)]
+#[derive(Drop)]
 pub struct Heard {
     /// The last generation that a reply gave.
     pub generation: u64,
@@ -82,60 +82,56 @@ impl Heard {
             Reply::Next(grain) => {
                 self.grain = *grain;
             }
-            Reply::NotQuiet(why) => self.hear_pending(*why),
-            _ => self.hear_work(op, reply),
-        }
-    }
-
-    /// Hears why the partition isn't quiet.
-    fn hear_pending(&mut self, why: Pending) {
-        match why {
-            Pending::Behind => {}
-            Pending::Deliverable(sub) => {
-                self.sub = sub;
-            }
-            Pending::Waiting(grain) | Pending::Running(grain) => {
-                self.grain = grain;
-            }
-        }
-    }
-
-    /// Hears of a turn, or of what can be acknowledged.
-    fn hear_work(&mut self, op: &Op, reply: &Reply) {
-        match (op, reply) {
-            (
-                Op::Begin { grain, .. },
-                Reply::Turn {
-                    activation,
-                    turn,
-                    ..
-                },
-            ) => self.begin(GivenTurn {
-                grain: *grain,
-                activation: *activation,
-                turn: *turn,
-            }),
-            (_, Reply::Committed { sub, token }) => self.handle(*sub, *token),
-            (_, Reply::DueSub { sub, ack }) => {
-                self.sub = *sub;
-                if let Some(token) = ack {
-                    self.handle(*sub, *token);
-                }
-            }
+            Reply::NotQuiet(why) => self.hear_pending(why),
+            Reply::Turn {
+                activation,
+                turn,
+                ..
+            } => self.hear_turn(op, *activation, *turn),
+            Reply::Committed { sub, token } => self.handle(sub, *token),
+            Reply::DueSub { sub, ack } => self.hear_due(sub, *ack),
             _ => {}
         }
     }
 
+    /// Hears why the partition isn't quiet.
+    fn hear_pending(&mut self, why: &Pending) {
+        match why {
+            Pending::Behind => {}
+            Pending::Deliverable(sub) => {
+                self.sub = *sub;
+            }
+            Pending::Waiting(grain) | Pending::Running(grain) => {
+                self.grain = *grain;
+            }
+        }
+    }
+
     /// Hears that a turn was given.
-    fn begin(&mut self, turn: GivenTurn) {
+    fn hear_turn(&mut self, op: &Op, activation: u64, turn: u64) {
+        let Op::Begin { grain, .. } = op else {
+            return;
+        };
         self.turn_before = self.turn;
-        self.turn = turn;
+        self.turn = GivenTurn {
+            grain: *grain,
+            activation,
+            turn,
+        };
+    }
+
+    /// Hears that something is due.
+    fn hear_due(&mut self, sub: &SubName, ack: Option<Token>) {
+        self.sub = *sub;
+        if let Some(token) = ack {
+            self.handle(sub, token);
+        }
     }
 
     /// Hears that an event of a subscription was handled, or that a reply gives it again.
-    fn handle(&mut self, sub: SubName, token: Token) {
+    fn handle(&mut self, sub: &SubName, token: Token) {
         self.handled_before = self.handled;
-        self.handled = HandledEvent { sub, token };
+        self.handled = HandledEvent { sub: *sub, token };
     }
 }
 

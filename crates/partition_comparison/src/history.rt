@@ -2,15 +2,15 @@
 ghost use Rattle.std.specs.Prelude.{◌≤◌};
 ghost use Rattle.stream_model.specs.Bounds.{AreLimits};
 
-use crate::again::again;
 use crate::draws::{Draws, Idle};
 use crate::fault::Fault;
 use crate::heard::Heard;
+use crate::memory::Memory;
 use crate::names::Names;
 use crate::options::Plan;
 use crate::side_by_side::SideBySide;
 use crate::tally::Tally;
-use std::alloc::{AllocError, Global};
+use std::alloc::AllocError;
 use step_core::{DrainEnd, Limits, Op, Reply};
 
 /// How many operations a round has.
@@ -23,47 +23,78 @@ const DRAINS: usize = 5;
 ///
 /// # Errors
 /// There is a difference, or the call failed to allocate.
-pub fn compare(alloc: Global, plan: Plan) -> Result<Tally, Fault> {
-    let mut tally = Tally::new();
+pub fn compare(memory: Memory, plan: Plan) -> Result<Tally, Fault> {
+    let mut tally = Tally::new(memory)?;
+    see_difference(memory)?;
     for run in 0..plan.runs {
         let seed = plan.seed.wrapping_add(run);
-        compare_history(alloc, seed, plan.rounds, &mut tally)?;
+        let rounds = plan.rounds;
+        compare_history(memory, Like { seed, more: 0 }, rounds, &mut tally)?;
     }
     Ok(tally)
 }
 
-/// Compares the history of a seed.
-fn compare_history(alloc: Global, seed: u64, rounds: u64, tally: &mut Tally) -> Result<(), Fault> {
-    let names = Names::new()?;
-    let mut history = History {
-        alloc,
-        both: SideBySide::new(alloc, seed, blocks(seed), limits(seed))?,
-        heard: Heard::nothing(&names.grains[0]),
-        draws: Draws::new(seed, names),
-    };
-    for round in 0..rounds {
-        history.go_on(round, tally)?;
+/// Sees that a difference is told: a short history beside a plain program with a block more has to end with
+/// one.
+fn see_difference(memory: Memory) -> Result<(), Fault> {
+    let mut tally = Tally::new(memory)?;
+    match compare_history(memory, Like { seed: 3, more: 1 }, 64, &mut tally) {
+        Err(Fault::Different(_)) => Ok(()),
+        Err(fault) => Err(fault),
+        Ok(()) => Err(Fault::Untold),
     }
-    history.end(tally)
+}
+
+/// Of which seed a history is, and by how many blocks the plain program has more.
+#[derive(Clone, Copy)]
+struct Like {
+    seed: u64,
+    more: usize,
+}
+
+/// Compares the history of a seed.
+fn compare_history(memory: Memory, like: Like, rounds: u64, tally: &mut Tally) -> Result<(), Fault>
+    requires { like.more ≤ 1 }
+{
+    let seed = like.seed;
+    let names = Names::new()?;
+    let both = SideBySide::new(memory, seed, blocks(seed), like.more, limits(seed))?;
+    let heard = Heard::nothing(&names.grains[0]);
+    let draws = Draws::new(seed, names);
+    let mut history = History {
+        memory,
+        both,
+        heard,
+        draws,
+    };
+    history.go_through(rounds, tally)
 }
 
 /// A history that is made.
 #[derive(Drop)]
 struct History {
-    alloc: Global,
+    memory: Memory,
     both: SideBySide,
     heard: Heard,
     draws: Draws,
 }
 
 impl History {
+    /// All rounds, and the end.
+    fn go_through(&mut self, rounds: u64, tally: &mut Tally) -> Result<(), Fault> {
+        for round in 0..rounds {
+            self.go_on(round, tally)?;
+        }
+        self.end(tally)
+    }
+
     /// A round: one operation after another, or in each fourth round all of them at once.
     fn go_on(&mut self, round: u64, tally: &mut Tally) -> Result<(), Fault> {
         if round % 4 == 3 {
             return self.run_round(idle(round), tally);
         }
         for _ in 0..ROUND {
-            let op = self.draws.operation(self.alloc, &self.heard, idle(round))?;
+            let op = self.draws.operation(self.memory, &self.heard, idle(round))?;
             self.step(&op, tally)?;
         }
         Ok(())
@@ -81,21 +112,27 @@ impl History {
     fn run_round(&mut self, idle: Idle, tally: &mut Tally) -> Result<(), Fault> {
         let ops = self.draw_round(idle)?;
         let done = self.run(ops.as_slice(), tally)?;
-        let Some(others) = ops.as_slice().get(done..) else {
-            return Ok(());
-        };
-        if others.is_empty() || self.run(others, tally)? == others.len() {
-            return Ok(());
+        match ops.as_slice().get(done..) {
+            Some(others) if !others.is_empty() => self.run_others(others, tally),
+            _ => Ok(()),
         }
-        Err(Fault::Memory)
+    }
+
+    /// Does those at once that a run left.
+    fn run_others(&mut self, others: &[Op], tally: &mut Tally) -> Result<(), Fault> {
+        if self.run(others, tally)? == others.len() {
+            Ok(())
+        } else {
+            Err(Fault::Memory)
+        }
     }
 
     /// The operations of a round, drawn one after another.
     fn draw_round(&mut self, idle: Idle) -> Result<Vec<Op>, AllocError> {
-        let alloc = self.alloc;
-        let mut ops = again(|| Vec::with_capacity(alloc, ROUND))?;
+        let memory = self.memory;
+        let mut ops = room(memory)?;
         for _ in 0..ROUND {
-            ops.push(self.draws.operation(alloc, &self.heard, idle)?)?;
+            ops.push(self.draws.operation(memory, &self.heard, idle)?)?;
         }
         Ok(ops)
     }
@@ -130,6 +167,14 @@ impl History {
     }
 }
 
+/// Room for the operations of a round.
+fn room(memory: Memory) -> Result<Vec<Op>, AllocError> {
+    match Vec::with_capacity(memory.alloc, ROUND) {
+        Err(_) if memory.retries => Vec::with_capacity(memory.alloc, ROUND),
+        room => room,
+    }
+}
+
 /// Who is idle in a round.
 fn idle(round: u64) -> Idle {
     match round % 64 {
@@ -142,7 +187,7 @@ fn idle(round: u64) -> Idle {
 /// How many blocks the cache has: few, so that they are full at times.
 fn blocks(seed: u64) -> usize
     ensures some { 1 ≤ result }
-    ensures few { result ≤ 64 }
+    ensures few { result ≤ 3 }
 {
     1 + (seed % 3) as usize
 }

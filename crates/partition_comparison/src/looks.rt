@@ -115,8 +115,7 @@ fn plain_events(
     name: &SubName,
 ) -> Result<Vec<Event>, AllocError> {
     let mut events = Vec::new(alloc);
-    let mut records = plain.subs.as_slice().iter();
-    let Some((_, record)) = records.find(|entry| entry.0 == *name) else {
+    let Some(record) = record_of(plain, name) else {
         return Ok(events);
     };
     for position in record.handled.as_slice() {
@@ -125,6 +124,16 @@ fn plain_events(
         }
     }
     Ok(events)
+}
+
+/// The record of a subscription.
+fn record_of<'a>(plain: &'a PlainPartition, name: &SubName) -> Option<&'a Subscription> {
+    for (other, record) in plain.subs.as_slice() {
+        if other == name {
+            return Some(record);
+        }
+    }
+    None
 }
 
 /// What each of these subscriptions has handled once nothing is left to do: an open one all that it is
@@ -151,9 +160,13 @@ pub fn all_owed(
 
 /// The events of a subscription's stream from its start on.
 fn owed(alloc: Global, plain: &PlainPartition, sub: &SubSummary) -> Result<Vec<Event>, AllocError> {
-    let log = plain.log.as_slice().iter().copied();
-    log.filter(|event| event.stream == sub.stream && !event.token.is_before(&sub.start))
-        .collect(alloc)
+    let mut events = Vec::new(alloc);
+    for event in plain.log.as_slice() {
+        if event.stream == sub.stream && !event.token.is_before(&sub.start) {
+            events.push(*event)?;
+        }
+    }
+    Ok(events)
 }
 
 /// The token at a position, and at the log's end that of the next batch.

@@ -2,8 +2,6 @@
 //! pseudo-random lists of operations, and compares every reply.
 #![tactic(auto)]
 
-mod again;
-mod difference;
 mod draining;
 mod draws;
 mod fault;
@@ -11,22 +9,24 @@ mod heard;
 mod history;
 mod kinds;
 mod looks;
+mod memory;
 mod names;
 mod options;
+mod place;
 mod side_by_side;
 mod stepping;
 mod tally;
 
-use crate::again::again;
 use crate::fault::Fault;
 use crate::history::compare;
 use crate::kinds::REPLIES;
+use crate::memory::Memory;
 use crate::options::{Plan, parse};
 use crate::tally::Tally;
 use std::process::ExitCode;
 
-/// Exit statuses: 0 no difference, 1 a difference, 2 a faulty command line, 3 no answer, since a call failed
-/// to allocate twice or the output couldn't be written.
+/// Exit statuses: 0 no difference, 1 a difference, or one that wasn't told, 2 a faulty command line, 3 no
+/// answer, since a call failed to allocate, twice where that was meant, or the output couldn't be written.
 fn main(rt: HostRuntime) -> ExitCode {
     match run(&rt) {
         Ok(()) => ExitCode::SUCCESS,
@@ -36,12 +36,30 @@ fn main(rt: HostRuntime) -> ExitCode {
 
 /// Compares what the command line asks for, and prints how often each reply came.
 fn run(rt: &HostRuntime) -> Result<(), Fault> {
-    let plan = again(|| asked(rt))?;
-    let tally = compare(rt.alloc(), plan)?;
+    let plan = plan(rt)?;
+    let memory = Memory {
+        alloc: rt.alloc(),
+        retries: plan.retries,
+    };
+    let tally = compare(memory, plan)?;
     report(rt, &tally)
 }
 
-/// The plan that the command line asks for.
+/// The plan that the command line asks for. Only what it says tells whether it was meant to fail to
+/// allocate.
+fn plan(rt: &HostRuntime) -> Result<Plan, Fault> {
+    if let Ok(plan) = asked(rt) {
+        return Ok(plan);
+    }
+    let plan = asked(rt)?;
+    if plan.retries {
+        Ok(plan)
+    } else {
+        Err(Fault::Memory)
+    }
+}
+
+/// The plan that the command line says.
 fn asked(rt: &HostRuntime) -> Result<Plan, Fault> {
     let alloc = rt.alloc();
     let words = std::env::args(rt).map_err(|_| Fault::Memory)?;

@@ -3,7 +3,7 @@ use crate::fault::Fault;
 use stream_ident::parse_number;
 
 /// Which histories are made.
-#[derive(Clone, Copy, Debug, PartialEq, Eq)]
+#[derive(Clone, Copy)]
 pub struct Plan {
     /// How many histories.
     pub runs: u64,
@@ -11,20 +11,25 @@ pub struct Plan {
     pub rounds: u64,
     /// The seed of the first: each has one more than that before.
     pub seed: u64,
+    /// Whether some call is meant to fail to allocate, and is then made once more.
+    pub retries: bool,
 }
 
-/// The plan that the words ask for: `RUNS`, `ROUNDS` and `SEED`, of which the last ones may be left out.
+/// The plan that the words ask for: `RUNS`, `ROUNDS`, `SEED` and `retry`, of which the last ones may be left
+/// out.
 ///
 /// # Errors
-/// More words, and one that is no number.
+/// More words, one that is no number, and another than `retry` behind the numbers.
 pub fn parse(words: &[String]) -> Result<Plan, Fault> {
-    if words.len() > 3 {
+    let retries = words.get(3).map(|word| word.as_str() == "retry");
+    if words.len() > 4 || retries == Some(false) {
         return Err(Fault::CommandLine);
     }
     Ok(Plan {
         runs: number(words.first(), 300)?,
         rounds: number(words.get(1), 128)?,
         seed: number(words.get(2), 0)?,
+        retries: retries.is_some(),
     })
 }
 

@@ -1,12 +1,12 @@
 //! A partition beside the plain program.
-ghost use Rattle.std.specs.Prelude.{◌≤◌};
+ghost use Rattle.std.specs.Prelude.{◌≤◌, ◌+◌};
 ghost use Rattle.stream_model.specs.Bounds.{AreLimits};
 
-use crate::again::again;
-use crate::difference::Place;
 use crate::draining::{Drained, drain};
 use crate::fault::Fault;
 use crate::looks::{Looks, all_owed};
+use crate::memory::Memory;
+use crate::place::Place;
 use crate::stepping::{compare_looks, step_partition, step_reference};
 use crate::tally::Tally;
 use std::alloc::{AllocError, Global};
@@ -24,29 +24,31 @@ pub struct SideBySide {
 }
 
 impl SideBySide {
-    /// All of them before the first operation.
+    /// All of them before the first operation. The cache of the plain program has so many blocks more.
     ///
     /// # Errors
     /// The call failed to allocate.
     pub fn new(
-        alloc: Global,
+        memory: Memory,
         seed: u64,
         blocks: usize,
+        more: usize,
         limits: Limits,
     ) -> Result<SideBySide, AllocError>
         requires some_blocks { 1 ≤ blocks }
-        requires blocks { blocks ≤ 64 }
+        requires blocks { blocks + more ≤ 64 }
         requires limits { AreLimits limits }
     {
+        let alloc = memory.alloc;
         Ok(SideBySide {
             place: Place {
-                alloc,
+                memory,
                 seed,
                 operation: 0,
             },
-            partition: again(|| Partition::new(alloc, blocks, limits))?,
-            twin: again(|| Partition::new(alloc, blocks, limits))?,
-            reference: partition_reference::Partition::new(alloc, blocks, limits),
+            partition: partition(memory, blocks, limits)?,
+            twin: partition(memory, blocks, limits)?,
+            reference: partition_reference::Partition::new(alloc, blocks + more, limits),
         })
     }
 
@@ -66,19 +68,25 @@ impl SideBySide {
     /// # Errors
     /// There is a difference, or the call failed to allocate.
     pub fn run(&mut self, ops: &[Op], tally: &mut Tally) -> Result<Vec<Reply>, Fault> {
-        let alloc = self.place.alloc;
-        let copies = again(|| copies(alloc, ops))?;
+        let Memory { alloc, .. } = self.place.memory;
+        let copies = copies(self.place.memory, ops)?;
         let mut replies = Vec::new(alloc);
         let is_done = self.partition.run(alloc, copies, &mut replies).is_ok();
         self.follow_all(ops, replies.as_slice(), tally)?;
-        if is_done != (replies.len() == ops.len()) {
-            return Err(self.place.difference(&replies.len(), &ops.len()));
-        }
-        if !is_done {
-            tally.want_run();
-            self.compare_looks()?;
+        if is_done {
+            self.place.compare(&replies.len(), &ops.len())?;
+        } else {
+            self.stop_run(replies.len() < ops.len(), tally)?;
         }
         Ok(replies)
+    }
+
+    /// Goes on after a run that failed to allocate, and so has to leave something to do.
+    fn stop_run(&self, leaves_some: bool, tally: &mut Tally) -> Result<(), Fault> {
+        self.place.memory.go_on()?;
+        tally.want_run();
+        self.place.compare(&leaves_some, &true)?;
+        self.compare_looks()
     }
 
     /// Does what the partition has done.
@@ -96,16 +104,20 @@ impl SideBySide {
 
     /// Does an operation to the twin and to the plain program, which have to reply so.
     fn follow(&mut self, op: &Op, reply: &Reply, tally: &mut Tally) -> Result<(), Fault> {
-        let twins = step_partition(self.place, &mut self.twin, &self.reference, op, tally)?;
-        let expected = step_reference(self.place.alloc, &mut self.reference, op)?;
-        if *reply != expected {
-            return Err(self.place.difference(reply, &expected));
-        }
-        if twins != expected {
-            return Err(self.place.difference(&twins, &expected));
-        }
+        self.follow_by_twin(op, reply, tally)?;
+        self.follow_by_reference(op, reply)?;
         self.place.operation = self.place.operation.saturating_add(1);
         Ok(())
+    }
+
+    fn follow_by_twin(&mut self, op: &Op, reply: &Reply, tally: &mut Tally) -> Result<(), Fault> {
+        let twins = step_partition(self.place, &mut self.twin, &self.reference, op, tally)?;
+        self.place.compare(reply, &twins)
+    }
+
+    fn follow_by_reference(&mut self, op: &Op, reply: &Reply) -> Result<(), Fault> {
+        let expected = step_reference(self.place.memory, &mut self.reference, op)?;
+        self.place.compare(reply, &expected)
     }
 
     /// Compares all that can be looked at.
@@ -122,31 +134,29 @@ impl SideBySide {
     /// # Errors
     /// There is a difference, or the call failed to allocate.
     pub fn drain(&mut self, tally: &mut Tally) -> Result<DrainEnd, Fault> {
-        let drained = drain(self.place.alloc, &mut self.partition, tally)?;
-        let twins = drain(self.place.alloc, &mut self.twin, tally)?;
-        self.compare_drained(&drained, &twins)?;
+        let drained = drain(self.place.memory, &mut self.partition, tally)?;
+        let twins = drain(self.place.memory, &mut self.twin, tally)?;
+        if !drained.agrees_with(&twins) {
+            return Err(self.place.difference(&drained, &twins));
+        }
+        if drained.leaves_the_same(&twins) {
+            self.compare_left(&twins.end)?;
+        }
         Ok(twins.end)
     }
 
-    /// Compares how two drains ended, and what they left.
-    fn compare_drained(&self, drained: &Drained, twins: &Drained) -> Result<(), Fault> {
-        if !drained.agrees_with(twins) {
-            return Err(self.place.difference(drained, twins));
+    /// Compares what two drains left, and with what is owed where nothing is left to do.
+    fn compare_left(&self, end: &DrainEnd) -> Result<(), Fault> {
+        match self.compare_left_once(end) {
+            Err(Fault::Memory) if self.place.memory.retries => self.compare_left_once(end),
+            result => result,
         }
-        if !drained.leaves_the_same(twins) {
-            return Ok(());
-        }
-        self.compare_left(twins.end)
     }
 
-    /// Compares what two drains left, and with what is owed where nothing is left to do.
-    fn compare_left(&self, end: DrainEnd) -> Result<(), Fault> {
-        let alloc = self.place.alloc;
-        let looks = again(|| Looks::of(alloc, &self.partition))?;
-        let twins = again(|| Looks::of(alloc, &self.twin))?;
-        if looks != twins {
-            return Err(self.place.difference(&looks, &twins));
-        }
+    fn compare_left_once(&self, end: &DrainEnd) -> Result<(), Fault> {
+        let looks = Looks::of(self.place.memory.alloc, &self.partition)?;
+        let twins = Looks::of(self.place.memory.alloc, &self.twin)?;
+        self.place.compare(&looks, &twins)?;
         match end {
             DrainEnd::Drained { .. } => self.compare_owed(&looks),
             _ => Ok(()),
@@ -155,18 +165,34 @@ impl SideBySide {
 
     /// Where nothing is left to do, each subscription has handled what it is owed.
     fn compare_owed(&self, looks: &Looks) -> Result<(), Fault> {
-        let alloc = self.place.alloc;
         let plain = self.reference.plain();
-        let owed = again(|| all_owed(alloc, plain, looks.subs.as_slice()))?;
-        if looks.pending.is_some() || looks.handled != owed {
-            return Err(self.place.difference(looks, &owed));
-        }
-        Ok(())
+        let owed = all_owed(self.place.memory.alloc, plain, looks.subs.as_slice())?;
+        self.place.compare(&looks.pending, &None)?;
+        self.place.compare(&looks.handled, &owed)
+    }
+}
+
+/// A partition without events and subscriptions.
+fn partition(memory: Memory, blocks: usize, limits: Limits) -> Result<Partition, AllocError>
+    requires some_blocks { 1 ≤ blocks }
+    requires blocks { blocks ≤ 64 }
+    requires limits { AreLimits limits }
+{
+    match Partition::new(memory.alloc, blocks, limits) {
+        Err(_) if memory.retries => Partition::new(memory.alloc, blocks, limits),
+        partition => partition,
     }
 }
 
 /// Equal operations.
-fn copies(alloc: Global, ops: &[Op]) -> Result<Vec<Op>, AllocError> {
+fn copies(memory: Memory, ops: &[Op]) -> Result<Vec<Op>, AllocError> {
+    match copies_once(memory.alloc, ops) {
+        Err(_) if memory.retries => copies_once(memory.alloc, ops),
+        copies => copies,
+    }
+}
+
+fn copies_once(alloc: Global, ops: &[Op]) -> Result<Vec<Op>, AllocError> {
     let mut copies = Vec::new(alloc);
     for op in ops {
         copies.push(op.copy(alloc)?)?;

@@ -1,46 +1,57 @@
 //! How often each operation had each reply.
 use crate::kinds::{ENDS, OPERATIONS, REPLIES, end_kind, operation_kind, reply_kind};
+use crate::memory::Memory;
+use std::alloc::{AllocError, Global};
 use std::io;
 use step_core::{DrainEnd, Op, Reply};
 
 /// How often each operation had each reply, and which of them failed to allocate.
 #[derive(Drop)]
 pub struct Tally {
-    replies: [[u64; 42]; 16],
-    ends: [u64; 4],
-    wants: [u64; 16],
+    /// The counts of the first operation's replies, then those of the next.
+    replies: Vec<u64>,
+    ends: Vec<u64>,
+    wants: Vec<u64>,
     runs: u64,
     drains: u64,
 }
 
 impl Tally {
     /// Nothing is counted yet.
-    pub fn new() -> Tally {
-        Tally {
-            replies: [[0; 42]; 16],
-            ends: [0; 4],
-            wants: [0; 16],
+    ///
+    /// # Errors
+    /// The call failed to allocate.
+    pub fn new(memory: Memory) -> Result<Tally, AllocError> {
+        match Tally::new_once(memory.alloc) {
+            Err(_) if memory.retries => Tally::new_once(memory.alloc),
+            tally => tally,
+        }
+    }
+
+    fn new_once(alloc: Global) -> Result<Tally, AllocError> {
+        Ok(Tally {
+            replies: vec![in alloc; 0; OPERATIONS.len() * REPLIES.len()]?,
+            ends: vec![in alloc; 0; ENDS.len()]?,
+            wants: vec![in alloc; 0; OPERATIONS.len()]?,
             runs: 0,
             drains: 0,
-        }
+        })
     }
 
     /// Counts a reply.
     pub fn count(&mut self, op: &Op, reply: &Reply) {
-        let count = &mut self.replies[operation_kind(op)][reply_kind(reply)];
-        *count = count.saturating_add(1);
+        let row = operation_kind(op) * REPLIES.len();
+        count_at(&mut self.replies, row + reply_kind(reply));
     }
 
     /// Counts the end of a drain.
     pub fn count_end(&mut self, end: &DrainEnd) {
-        let count = &mut self.ends[end_kind(end)];
-        *count = count.saturating_add(1);
+        count_at(&mut self.ends, end_kind(end));
     }
 
     /// Counts an operation that failed to allocate.
     pub fn want(&mut self, op: &Op) {
-        let count = &mut self.wants[operation_kind(op)];
-        *count = count.saturating_add(1);
+        count_at(&mut self.wants, operation_kind(op));
     }
 
     /// Counts a run that failed to allocate.
@@ -56,10 +67,8 @@ impl Tally {
     /// How many operations were counted.
     pub fn total(&self) -> u64 {
         let mut total = 0u64;
-        for counts in &self.replies {
-            for count in counts {
-                total = total.saturating_add(*count);
-            }
+        for count in &self.replies {
+            total = total.saturating_add(*count);
         }
         total
     }
@@ -71,9 +80,8 @@ impl Tally {
 
     /// Whether a kind of reply came.
     fn came(&self, kind: usize) -> bool {
-        self.replies
-            .iter()
-            .any(|counts| counts.get(kind).is_some_and(|count| *count > 0))
+        let mut counts = self.replies.iter().skip(kind).step_by(REPLIES.len());
+        counts.any(|count| *count > 0)
     }
 
     /// Prints a line for each operation, with the replies that it had.
@@ -81,12 +89,11 @@ impl Tally {
     /// # Errors
     /// The output couldn't be written.
     pub fn print(&self, rt: &impl Print) -> io::Result<()> {
-        for (name, counts) in OPERATIONS.iter().zip(self.replies.iter()) {
-            print!(rt; "{name:<12}")?;
-            print_counts(rt, REPLIES.as_slice(), counts.as_slice())?;
+        let rows = self.replies.chunks_exact(REPLIES.len());
+        for (name, counts) in OPERATIONS.iter().zip(rows) {
+            print_counts(rt, name, REPLIES.as_slice(), counts)?;
         }
-        print!(rt; "{:<12}", "drain")?;
-        print_counts(rt, ENDS.as_slice(), self.ends.as_slice())
+        print_counts(rt, "drain", ENDS.as_slice(), self.ends.as_slice())
     }
 
     /// Prints what failed to allocate on standard error, since the output is the same as if nothing had.
@@ -102,6 +109,13 @@ impl Tally {
     }
 }
 
+/// Counts what has this place.
+fn count_at(counts: &mut [u64], place: usize) {
+    if let Some(count) = counts.get_mut(place) {
+        *count = count.saturating_add(1);
+    }
+}
+
 /// Prints how often something failed to allocate, if it did.
 fn tell_want(rt: &impl Eprint, name: &str, count: u64) -> io::Result<()> {
     if count == 0 {
@@ -110,11 +124,12 @@ fn tell_want(rt: &impl Eprint, name: &str, count: u64) -> io::Result<()> {
     eprintln!(rt; "{name} failed to allocate, so often: {count}")
 }
 
-/// Prints the names of what came, with the counts, to the end of the line.
-fn print_counts(rt: &impl Print, names: &[&str], counts: &[u64]) -> io::Result<()> {
-    for (name, count) in names.iter().zip(counts.iter()) {
+/// Prints a line: a name, and behind it what came, with the counts.
+fn print_counts(rt: &impl Print, name: &str, replies: &[&str], counts: &[u64]) -> io::Result<()> {
+    print!(rt; "{name:<12}")?;
+    for (reply, count) in replies.iter().zip(counts.iter()) {
         if *count > 0 {
-            print!(rt; " {name} {count}")?;
+            print!(rt; " {reply} {count}")?;
         }
     }
     println!(rt; "")
