@@ -1,10 +1,9 @@
 -- The queues that an agent holds.
-use Rattle.std.proofs.Common.{◌≡◌, ℕ, ◌<◌, ◌≤◌, ◌+◌, List, length, get_or, set, Option, Some, None, refl, sym, ap, subst, ◌∙◌, arith}
+use Rattle.std.proofs.Common.{◌≡◌, ℕ, ◌<◌, ◌≤◌, ◌+◌, List, length, get_or, Option, Some, None, sym, ap, subst, ◌∙◌, arith}
 use Rattle.std.specs.List.{slice_get, slice_index_or, slice_set}
 use Rattle.std.proofs.lemmas.List.{get_or-set_other, get_or-set_same, length-set}
 use Rattle.std.proofs.lemmas.Option.{get_or_from_slice_get, slice_get-get_or}
-use borrow.Author.Count.{below_more, below_none}
-use Rattle.silo_loops.specs.Agents.{OnesPulled}
+use borrow.Author.Count.{below_more}
 use Rattle.silo_loops.specs.Lines.{HasPulled, LineView}
 
 -- from one place on, up to another, no queue is held

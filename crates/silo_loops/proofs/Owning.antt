@@ -1,13 +1,13 @@
 -- What a pass owns after a call, a split and a join.
-use Rattle.std.proofs.Common.{◌≡◌, ℕ, ◌≤◌, ◌+◌, Bool, true, false, List, [], ◌∷◌, ◌++◌, length, Contains, Some, Result, Ok, Err, MatchResult, refl, sym, ap, subst, ◌∙◌, append_assoc, arith, inl, inr, ◌⊎◌}
+use Rattle.std.proofs.Common.{◌≡◌, ℕ, ◌≤◌, Bool, true, false, List, [], ◌∷◌, ◌++◌, length, Contains, Result, Ok, Err, MatchResult, sym, ap, subst, ◌∙◌, append_assoc, arith, inl, inr}
 use Rattle.std.proofs.lemmas.List.{append-nil, length-append}
 use Rattle.std.proofs.lemmas.List.Elements.{Contains-append_cases}
 use Rattle.turnstile.specs.declared.history.Entry.{Entry}
 use Rattle.turnstile.specs.declared.turnstile.Refusal.{Refusal}
 use Rattle.turnstile.specs.declared.view.Start.{Start}
-use Rattle.turnstile.specs.Calls.{Agree, Called, Found, HasOnlySeen, IsSplitOff, joined_pass, numbers_of}
+use Rattle.turnstile.specs.Calls.{Agree, Called, Found, IsSplitOff, joined_pass, numbers_of}
 use Rattle.turnstile.specs.History.{Claims, Foreign, entry}
-use Rattle.turnstile.specs.Passes.{Origin, PassView}
+use Rattle.turnstile.specs.Passes.{PassView}
 use Rattle.silo_loops.specs.Passes.{CallsBy, HasOwnPast, LastOwn, OwnsNone}
 
 either : {A : Type 0} (xs ys : List ℕ) (k : ℕ) → (Contains xs k → A) → (Contains ys k → A) → Contains (xs ++ ys) k → A

@@ -1,6 +1,6 @@
 -- What the steps of a worker do.
-use Rattle.std.proofs.Common.{◌≡◌, ℕ, suc, ◌<◌, ◌≤◌, ◌+◌, ◌⊎◌, inl, inr, List, [], ◌∷◌, length, drop, Option, Some, None, Result, Ok, Err, refl, sym, ap, subst, ◌∙◌, arith, add-one}
-use Rattle.std.specs.List.{slice_get, slice_set}
+use Rattle.std.proofs.Common.{◌≡◌, ℕ, ◌<◌, ◌≤◌, ◌+◌, List, length, drop, Option, Some, None, Result, refl, sym, ap, subst, ◌∙◌, add-one}
+use Rattle.std.specs.List.{slice_get}
 use Rattle.std.specs.Option.{unwrap_or}
 use Rattle.std.proofs.Math.Seq.{drop-cons}
 use Rattle.std.proofs.lemmas.List.{length-set}
@@ -23,12 +23,12 @@ use Rattle.silo_loops.specs.declared.worker_walk.Step.TheVariants as step
 use Rattle.silo_loops.specs.declared.worker_walk.Turn.{Turn}
 use Rattle.silo_loops.specs.declared.worker_walk.Walk.{Walk}
 use Rattle.silo_loops.specs.Agents.{AgentCalls, AgentMay, agent_at}
-use Rattle.silo_loops.specs.Answers.{answer_of, end_in, end_of, end_of_asking, events_after}
-use Rattle.silo_loops.specs.Lines.{CallsAt, DirectoryPass, HearsAt, LineView, QueuePass}
+use Rattle.silo_loops.specs.Answers.{answer_of, end_in, end_of, end_of_asking}
+use Rattle.silo_loops.specs.Lines.{DirectoryPass, HearsAt, LineView}
 use Rattle.silo_loops.specs.Passes.{CallsBy}
-use Rattle.silo_loops.specs.Walks.{Fits, IsAt, IsFree, Keeps, Nothing, Runs, Telling, Turning, Work, step_after_begin, step_after_commit, step_after_enter, work_in}
-use Rattle.silo_loops.specs.Workers.{HasWorked, IsInHand, WorkerAsks, WorkerCalls, WorkerWorks, commit_in, turn_in, worker_at}
-use Rattle.silo_loops.proofs.Working.{begun-fits, begun-work, committed-fits, committed-work, end-heard, entered-fits, entered-work, free-at, free-work, get-set}
+use Rattle.silo_loops.specs.Walks.{Fits, IsAt, IsFree, Runs, Turning, step_after_begin, step_after_commit, step_after_enter, work_in}
+use Rattle.silo_loops.specs.Workers.{HasWorked, IsInHand, WorkerAsks, WorkerCalls, WorkerWorks, worker_at}
+use Rattle.silo_loops.proofs.Working.{begun-fits, begun-work, committed-fits, committed-work, end-heard, entered-fits, entered-work, free-work, get-set}
 
 -- one place has one line
 one-line : (lines : List LineView) (at : ℕ) (l m : LineView) → slice_get lines at ≡ Some l → slice_get lines at ≡ Some m → l ≡ m

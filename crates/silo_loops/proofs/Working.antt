@@ -1,12 +1,10 @@
 -- What a worker's next step is, and what its passes have done by then.
-use Rattle.std.proofs.Common.{◌≡◌, ℕ, zero, suc, ◌<◌, ◌+◌, ◌⊎◌, inl, inr, true, List, [], ◌∷◌, length, get_or, drop, Option, Some, None, Result, Ok, Err, refl, sym, ap, subst, ◌∙◌, arith}
+use Rattle.std.proofs.Common.{◌≡◌, ℕ, ◌<◌, true, List, [], ◌∷◌, length, get_or, Some, None, Result, Ok, Err, refl, sym, ap, subst, ◌∙◌, arith}
 use Rattle.std.specs.List.{slice_get, slice_set}
 use Rattle.std.proofs.lemmas.List.{get_or-set_same, length-set}
 use Rattle.std.proofs.lemmas.Option.{slice_get-get_or, slice_get_within}
 use Rattle.stream_ident.specs.declared.event.Event.{Event}
 use Rattle.stream_ident.specs.declared.ident.GrainId.{GrainId}
-use Rattle.stream_ident.specs.declared.ident.SubName.{SubName}
-use Rattle.stream_ident.specs.declared.token.Token.{Token}
 use Rattle.stream_model.specs.declared.op.Op.{Op}
 use Rattle.stream_model.specs.declared.op.Op.TheVariants as op
 use Rattle.stream_model.specs.declared.reply.Reply.{Reply}
@@ -21,9 +19,9 @@ use Rattle.silo_loops.specs.declared.worker_walk.Step.{Step}
 use Rattle.silo_loops.specs.declared.worker_walk.Step.TheVariants as step
 use Rattle.silo_loops.specs.declared.worker_walk.Walk.{Walk}
 use Rattle.silo_loops.specs.Answers.{answer_of, end_in, end_of, events_after}
-use Rattle.silo_loops.specs.Lines.{CallsAt, DirectoryPass, LineView, QueuePass}
-use Rattle.silo_loops.specs.Passes.{CallsBy, LastOwn}
-use Rattle.silo_loops.specs.Walks.{Fits, IsAt, IsFree, Keeps, Nothing, Runs, Work, step_after_begin, step_after_commit, step_after_enter, work_in}
+use Rattle.silo_loops.specs.Lines.{DirectoryPass, LineView, QueuePass}
+use Rattle.silo_loops.specs.Passes.{CallsBy}
+use Rattle.silo_loops.specs.Walks.{Fits, IsAt, IsFree, Keeps, Nothing, step_after_begin, step_after_commit, step_after_enter, work_in}
 use Rattle.silo_loops.specs.Workers.{commit_in, turn_in}
 use Rattle.silo_loops.proofs.Owning.{last-answered}
 

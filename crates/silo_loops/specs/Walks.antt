@@ -1,5 +1,5 @@
 -- Where a worker is, and what it does next.
-use Rattle.std.specs.Prelude.{◌≡◌, ℕ, List, drop, Option, Some, Result, Ok, slice_get}
+use Rattle.std.specs.Prelude.{◌≡◌, ℕ, List, drop, Some, Result, Ok, slice_get}
 use Rattle.stream_ident.specs.declared.event.Event.{Event}
 use Rattle.stream_ident.specs.declared.ident.GrainId.{GrainId}
 use Rattle.stream_ident.specs.declared.ident.SubName.{SubName}

@@ -1,5 +1,5 @@
 -- What a worker may do.
-use Rattle.std.specs.Prelude.{◌≡◌, ℕ, ◌+◌, ◌≤◌, ◌⊎◌, List, [], ◌∷◌, Option, Some, None, Result, Ok, slice_get, map, All}
+use Rattle.std.specs.Prelude.{◌≡◌, ℕ, ◌+◌, ◌≤◌, ◌⊎◌, List, ◌∷◌, Option, Some, None, Result, Ok, slice_get, map, All}
 use Rattle.stream_ident.specs.declared.event.Event.{Event}
 use Rattle.stream_model.specs.declared.op.Op.{Op}
 use Rattle.stream_model.specs.declared.op.Op.TheVariants as op
@@ -19,7 +19,7 @@ use Rattle.silo_loops.specs.declared.worker.Start.TheVariants as start
 use Rattle.silo_loops.specs.declared.worker_walk.Walk.{Walk}
 use Rattle.silo_loops.specs.Answers.{end_of, end_of_asking}
 use Rattle.silo_loops.specs.Lines.{CallsAt, DirectoryPass, HasLooked, LineView, QueuePass, places, rested}
-use Rattle.silo_loops.specs.Passes.{CallsBy, LastOwn}
+use Rattle.silo_loops.specs.Passes.{CallsBy}
 use Rattle.silo_loops.specs.Walks.{HasCommitted, Keeps, Nothing, Runs, Telling, Turning, Work, work_in}
 
 -- a worker: its silo, its lines in queue order, its pass at the directory, what it has in hand, how many rounds it

@@ -1,5 +1,4 @@
 //! The queues that are assigned to an agent.
-ghost use Rattle.std.specs.Prelude.{◌-◌, ◌<◌, ◌^◌};
 
 use std::alloc::{AllocError, Global};
 use std::sync::atomic::{AtomicU64, Ordering};
@@ -26,13 +25,11 @@ impl Assigned {
         Ok(Assigned { queues: none })
     }
 
-    /// The agent has the queue from now on, under this generation. Nothing happens where there is no such
-    /// queue.
-    pub fn assign(&self, queue: usize, generation: u64)
-        requires { generation < 2 ^ 64 - 1 }
-    {
+    /// The agent has the queue from now on, under this generation, which a partition keeps far below the
+    /// greatest number. Nothing happens where there is no such queue.
+    pub fn assign(&self, queue: usize, generation: u64) {
         if let Some(cell) = self.queues.get(queue) {
-            cell.store(generation + 1, Ordering::SeqCst);
+            cell.store(generation.saturating_add(1), Ordering::SeqCst);
         }
     }
 

@@ -1,7 +1,7 @@
 //! A pass at the turnstile of the directory, as loops hold it.
-ghost use Rattle.std.specs.Prelude.{◌≡◌, IfOk, OnOk};
+ghost use Rattle.std.specs.Prelude.{◌≡◌, IfOk, OnOk, OnErr};
 ghost use Rattle.std.specs.Arc.{arc_value};
-ghost use Rattle.turnstile.specs.Calls.{IsOf, IsSplitOff, joined_pass};
+ghost use Rattle.turnstile.specs.Calls.{Agree, HasOnlyMade, IsOf, IsSplitOff, joined_pass};
 ghost use Rattle.shared_partition.specs.Directories.{BeganEmpty, after, replied};
 ghost use Rattle.silo_loops.specs.Passes.{CallsBy};
 
@@ -78,6 +78,7 @@ impl<D: StoredHistory<DirectoryOp, DirectoryReply>> DirectoryLine<D> {
         ensures same { OnOk result (self.new ≡ self.old) }
         ensures turnstile { self.new.turnstile ≡ self.old.turnstile }
         ensures new { IfOk result (λ line. IsSplitOff self.old line) }
+        ensures made { OnErr result (HasOnlyMade self.old self.new) }
     {
         let turnstile = Arc::try_clone(&self.turnstile)?;
         match turnstile.split(&mut self.pass) {
@@ -90,7 +91,8 @@ impl<D: StoredHistory<DirectoryOp, DirectoryReply>> DirectoryLine<D> {
     /// more.
     pub fn join(&mut self, other: DirectoryLine<D>)
         requires { other.turnstile ≡ self.old.turnstile }
-        ensures { self.new ≡ joined_pass self.old other }
+        ensures joined { self.new ≡ joined_pass self.old other }
+        ensures agree { Agree self.old other self.new }
     {
         let (_turnstile, pass) = other.into_parts();
         self.turnstile.join(&mut self.pass, pass);

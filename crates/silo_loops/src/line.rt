@@ -1,7 +1,7 @@
 //! A pass at the turnstile of a queue, as loops hold it.
-ghost use Rattle.std.specs.Prelude.{◌≡◌, ◌≤◌, false, true, length, map, IfOk, OnOk, vec_capacity};
+ghost use Rattle.std.specs.Prelude.{◌≡◌, ◌≤◌, false, true, length, map, IfOk, OnOk, OnErr, vec_capacity};
 ghost use Rattle.std.specs.Arc.{arc_value};
-ghost use Rattle.turnstile.specs.Calls.{IsOf, IsSplitOff, joined_pass};
+ghost use Rattle.turnstile.specs.Calls.{Agree, HasOnlyMade, IsOf, IsSplitOff, joined_pass};
 ghost use Rattle.shared_partition.specs.Partitions.{BeganEmpty};
 ghost use Rattle.silo_loops.specs.Lines.{CallsOn, Hears, HasLooked, HasPulled, NeverProduces, is_producer, is_pull, is_ready, rested};
 
@@ -144,6 +144,7 @@ impl<G: Gate, H: StoredHistory<Op, Reply>> Line<G, H> {
         ensures same { OnOk result (self.new ≡ self.old) }
         ensures turnstile { self.new.pass.turnstile ≡ self.old.pass.turnstile }
         ensures new { IfOk result (λ line. IsSplitOff self.old.pass line.pass × (line.mark ≡ length line.pass.seen)) }
+        ensures made { OnErr result (HasOnlyMade self.old.pass self.new.pass × (self.new.mark ≡ self.old.mark)) }
     {
         let turnstile = Arc::try_clone(&self.turnstile)?;
         match turnstile.split(&mut self.pass) {
@@ -156,7 +157,8 @@ impl<G: Gate, H: StoredHistory<Op, Reply>> Line<G, H> {
     /// more.
     pub fn join(&mut self, other: Line<G, H>)
         requires { other.pass.turnstile ≡ self.old.pass.turnstile }
-        ensures { self.new ≡ record self.old { pass = joined_pass self.old.pass other.pass } }
+        ensures joined { self.new ≡ record self.old { pass = joined_pass self.old.pass other.pass } }
+        ensures agree { Agree self.old.pass other.pass self.new.pass }
     {
         let (_turnstile, pass) = other.into_parts();
         self.turnstile.join(&mut self.pass, pass);

@@ -1,4 +1,3 @@
-use Rattle.std.proofs.Common.{◌≡◌, length}
 use Rattle.silo_loops.proofs.Resting.{HaveRested}
 use Rattle.silo_loops.proofs.line.rest_all.Given as goal
 

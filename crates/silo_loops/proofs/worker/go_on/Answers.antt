@@ -1,4 +1,4 @@
-use Rattle.std.proofs.Common.{arith, refl}
+use Rattle.std.proofs.Common.{refl}
 use Rattle.silo_loops.proofs.Advancing.{step-taken}
 use Rattle.silo_loops.proofs.worker.go_on.Goals as goal
 

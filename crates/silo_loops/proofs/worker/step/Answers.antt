@@ -1,4 +1,4 @@
-use Rattle.std.proofs.Common.{inl, inr}
+use Rattle.std.proofs.Common.{inr}
 use Rattle.silo_loops.proofs.worker.step.Goals as goal
 
 pub returns-in-Rest-clause-steps : goal.returns-in-Rest-clause-steps

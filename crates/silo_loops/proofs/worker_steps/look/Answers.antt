@@ -1,7 +1,7 @@
 use Rattle.std.proofs.Common.{rules, arith}
 use Rattle.std.proofs.lemmas.Grind.{common_steps}
 use Rattle.silo_loops.proofs.Advancing.{steps-called}
-use Rattle.silo_loops.proofs.Stepping.{length-called, looked, within}
+use Rattle.silo_loops.proofs.Stepping.{looked, within}
 use Rattle.silo_loops.proofs.Working.{free-at}
 use Rattle.silo_loops.proofs.worker_steps.look.Goals as goal
 
