@@ -34,11 +34,11 @@ const SUBJECTS: [Subject; 3] = [Subject::Partition, Subject::Scripts, Subject::T
 fn main(rt: HostRuntime) -> Result<()> {
     let alloc = rt.alloc();
     let words: Vec<String> = std::env::args(&rt)?.collect(alloc)?;
-    let has = |word: &str| words.iter().any(|own| own.as_str() == word);
-    let is_timed = has("time");
-    let is_chosen = SUBJECTS.iter().any(|subject| has(subject.word()));
+    let words = words.as_slice();
+    let is_timed = has(words, "time");
+    let is_chosen = SUBJECTS.iter().any(|subject| has(words, subject.word()));
     for subject in SUBJECTS {
-        if is_chosen && !has(subject.word()) {
+        if is_chosen && !has(words, subject.word()) {
             continue;
         }
         match (subject, is_timed) {
@@ -51,4 +51,9 @@ fn main(rt: HostRuntime) -> Result<()> {
         }
     }
     Ok(())
+}
+
+/// Whether a word is among these.
+fn has(words: &[String], word: &str) -> bool {
+    words.iter().any(|own| own.as_str() == word)
 }

@@ -1,15 +1,16 @@
 //! Measures `step_core::Partition`, and beside it the plain program `partition_reference::Partition`: what an
 //! event or an operation costs, and how many times that of a smaller case and of the plain program.
-mod asking;
-mod cases;
-mod draining;
-mod feeding;
-mod lagging;
-mod queues;
-mod timing;
+pub mod asking;
+pub mod calls;
+pub mod cases;
+pub mod draining;
+pub mod feeding;
+pub mod lagging;
+pub mod queues;
+pub mod timing;
 
 use crate::partition::cases::{CASES, Case};
-use crate::partition::timing::{Row, compare, measure};
+use crate::partition::timing::{Row, compare, measure, see_difference};
 use anyhow::Result;
 use std::alloc::Global;
 use std::rt::Clock;
@@ -23,11 +24,12 @@ pub fn time<R: Print + Clock>(rt: &R, alloc: Global) -> Result<()> {
     Ok(())
 }
 
-/// Sees that both partitions do the same, in the smallest of each case.
+/// Sees that both partitions do the same, in the smallest of each case, and that a difference is told.
 pub fn check<R: Print + Clock>(rt: &R, alloc: Global) -> Result<()> {
     for case in CASES {
         compare(rt, alloc, case)?;
     }
+    see_difference(rt, alloc)?;
     println!(rt; "both partitions do the same")?;
     Ok(())
 }

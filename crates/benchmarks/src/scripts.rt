@@ -4,7 +4,7 @@ mod timing;
 mod ways;
 
 use crate::scripts::timing::fastest;
-use crate::scripts::ways::{copy_lines, operate, script_of, simulate};
+use crate::scripts::ways::{Copying, Operations, Simulation, script_of};
 use anyhow::{Result, ensure};
 use std::alloc::Global;
 use std::rt::Clock;
@@ -24,9 +24,11 @@ pub fn time<R: Print + Clock>(rt: &R, alloc: Global) -> Result<()> {
     Ok(())
 }
 
-/// Sees that the three ways agree on a short script.
+/// Sees that the three ways agree on a short script, and that a difference is told.
 pub fn check<R: Print + Clock>(rt: &R, alloc: Global) -> Result<()> {
     measure(rt, alloc, FEW)?;
+    let is_told = !agree(b"a\n", b"b\n", 1) && !agree(b"a\n", b"a\n", 2);
+    ensure!(is_told, "what differs was taken for the same");
     println!(rt; "the three agree")?;
     Ok(())
 }
@@ -42,17 +44,26 @@ struct Seconds {
 /// Goes each way with so many batches, and fails where they don't agree.
 fn measure<C: Clock>(clock: &C, alloc: Global, batches: usize) -> Result<Seconds> {
     let script = script_of(alloc, batches)?;
-    let (simulating, text) = fastest(clock, || simulate(alloc, &script))?;
-    let (operating, lines) = fastest(clock, || operate(alloc, batches))?;
-    let (copying, copied) = fastest(clock, || copy_lines(alloc, &text))?;
-    ensure!(copied.as_slice() == text.as_slice(), "the copy differs");
+    let simulation = Simulation {
+        alloc,
+        script: script.as_slice(),
+    };
+    let (simulating, text) = fastest(clock, &simulation)?;
+    let (operating, lines) = fastest(clock, &Operations { alloc, batches })?;
+    let text = text.as_slice();
+    let (copying, copied) = fastest(clock, &Copying { alloc, text })?;
     ensure!(
-        text.iter().filter(|byte| **byte == b'\n').count() == lines,
-        "the numbers of lines differ"
+        agree(text, copied.as_slice(), lines),
+        "the three don't agree"
     );
     Ok(Seconds {
         simulating,
         operating,
         copying,
     })
+}
+
+/// Whether the copy is the text, and the text has so many lines.
+fn agree(text: &[u8], copied: &[u8], lines: usize) -> bool {
+    copied == text && text.iter().filter(|byte| **byte == b'\n').count() == lines
 }

@@ -2,9 +2,12 @@
 mod timing;
 mod ways;
 
-use crate::tags::timing::{Seconds, compare};
-use crate::tags::ways::{Blocks, SOUGHT, tags_of};
-use anyhow::Result;
+use crate::tags::timing::{Seconds, agree, compare};
+use crate::tags::ways::{
+    CountByLanes, CountByMemchr, CountPlainly, FindByLanes, FindByMemchr, FindPlainly, MaskByLanes,
+    MaskByMemchr, MaskPlainly, Tags, Way,
+};
+use anyhow::{Result, ensure};
 use std::alloc::Global;
 use std::rt::Clock;
 
@@ -25,12 +28,25 @@ pub fn time<R: Print + Clock>(rt: &R, alloc: Global) -> Result<()> {
     Ok(())
 }
 
-/// Sees that the three ways agree.
+/// Sees that the three ways agree, and that a difference is told.
 pub fn check<R: Print + Clock>(rt: &R, alloc: Global) -> Result<()> {
     for size in SIZES {
         measure(rt, alloc, size, 1)?;
     }
+    see_difference(alloc)?;
     println!(rt; "the three ways agree")?;
+    Ok(())
+}
+
+/// Sees that a difference is told: a place isn't taken for a count.
+fn see_difference(alloc: Global) -> Result<()> {
+    let tags = Tags::new(alloc, SIZES[0])?;
+    let (place, count) = (
+        FindByLanes::search(&tags, 0),
+        CountByLanes::search(&tags, 0),
+    );
+    let is_told = !agree(place, count, place) && !agree(place, place, count);
+    ensure!(is_told, "a count was taken for a place");
     Ok(())
 }
 
@@ -44,11 +60,11 @@ struct Searches {
 
 /// Searches so many tags, over so many rounds.
 fn measure<C: Clock>(clock: &C, alloc: Global, size: usize, rounds: usize) -> Result<Searches> {
-    let tags = tags_of(alloc, size)?;
+    let tags = Tags::new(alloc, size)?;
     Ok(Searches {
-        find: compare_find(clock, tags.as_slice(), rounds)?,
-        count: compare_count(clock, tags.as_slice(), rounds)?,
-        mask: compare_mask(clock, &Blocks::of(alloc, tags.as_slice())?, rounds)?,
+        find: compare::<FindByLanes, FindPlainly, FindByMemchr, C>(clock, &tags, rounds)?,
+        count: compare::<CountByLanes, CountPlainly, CountByMemchr, C>(clock, &tags, rounds)?,
+        mask: compare::<MaskByLanes, MaskPlainly, MaskByMemchr, C>(clock, &tags, rounds)?,
     })
 }
 
@@ -58,37 +74,4 @@ fn print(rt: &impl Print, name: &str, size: usize, seconds: Seconds) -> Result<(
     let memchr = seconds.memchr / seconds.lanes;
     println!(rt; "{name}, {size} tags: {plain:.1} times a plain loop, {memchr:.2} times memchr")?;
     Ok(())
-}
-
-/// Searches for the tag at the last place.
-fn compare_find(clock: &impl Clock, tags: &[u8], rounds: usize) -> Result<Seconds> {
-    compare(
-        clock,
-        rounds,
-        |round| ways::find_by_lanes(tags, round % 2, SOUGHT),
-        |round| ways::find_plainly(tags, round % 2, SOUGHT),
-        |round| ways::find_by_memchr(tags, round % 2, SOUGHT),
-    )
-}
-
-/// Counts a tag that stands at a third of the places.
-fn compare_count(clock: &impl Clock, tags: &[u8], rounds: usize) -> Result<Seconds> {
-    compare(
-        clock,
-        rounds,
-        |round| ways::count_by_lanes(tags, (round % 2) as u8),
-        |round| ways::count_plainly(tags, (round % 2) as u8),
-        |round| ways::count_by_memchr(tags, (round % 2) as u8),
-    )
-}
-
-/// Marks, block after block, a tag that stands at a third of the places.
-fn compare_mask(clock: &impl Clock, blocks: &Blocks, rounds: usize) -> Result<Seconds> {
-    compare(
-        clock,
-        rounds,
-        |round| blocks.masks_by_lanes((round % 2) as u8),
-        |round| blocks.masks_plainly((round % 2) as u8),
-        |round| blocks.masks_by_memchr((round % 2) as u8),
-    )
 }

@@ -1,22 +1,25 @@
 //! What is measured.
-use crate::partition::asking::{BLOCKS, TIMES, ask_due, ask_ready, pull_singly, purge_singly};
+use crate::partition::asking::ask_in_turn;
+use crate::partition::calls::Call;
 use crate::partition::draining::deliver;
-use crate::partition::feeding::{Consumer, publish_all, pull, subscribe_all};
+use crate::partition::feeding::{Consumer, publish_all, pull_all, subscribe_all};
 use crate::partition::lagging::{CONSUMERS, run_with_lag};
-use crate::partition::queues::{Drains, Queue};
+use crate::partition::queues::Queue;
 use anyhow::{Result, ensure};
 use std::alloc::Global;
 use std::rt::Clock;
 use std::time::Instant;
 
-/// The events of a full cache.
+/// How often an operation is asked for, but for a Purge.
+const TIMES: usize = 1_024;
+
+/// The blocks of a full cache, each of which a Purge drops, and its events.
+const BLOCKS: usize = 64;
+
 const CACHED: usize = 4_096;
 
-/// The most events of a pull.
-const PULL_MAX: u32 = 256;
-
 /// What is measured. The first two cost so much for each event, the others for each operation.
-#[derive(Clone, Copy, Debug, PartialEq, Eq)]
+#[derive(Clone, Copy)]
 pub enum Case {
     /// A drain of so many events.
     Drain,
@@ -48,6 +51,21 @@ pub struct Measured {
     pub told: u64,
 }
 
+/// What a partition has when a case begins.
+#[derive(Clone, Copy)]
+struct Before {
+    /// How many events are in the cache when the subscriptions come, which need none of them.
+    early: usize,
+    subs: usize,
+    streams: usize,
+    /// How many events come after the subscriptions.
+    late: usize,
+    /// How many of these are in the cache.
+    pulled: usize,
+    /// Whether one is delivered to each subscription.
+    is_delivered: bool,
+}
+
 impl Case {
     pub fn name(self) -> &'static str {
         match self {
@@ -77,98 +95,102 @@ impl Case {
         }
     }
 
+    /// How many events or operations are measured.
+    fn units(self, size: usize) -> usize {
+        match self {
+            Case::Drain | Case::Lag => size,
+            Case::Purge => BLOCKS,
+            _ => TIMES,
+        }
+    }
+
+    fn before(self, size: usize) -> Before {
+        let (early, subs, streams) = match self {
+            Case::Drain | Case::Lag => (0, CONSUMERS, CONSUMERS),
+            Case::Purge => (CACHED, size, 1),
+            _ => (0, size, 1),
+        };
+        let (late, pulled) = match self {
+            Case::Drain | Case::Lag => (size, 0),
+            Case::Due | Case::Ready => (4, 4),
+            Case::Pull => (TIMES, 0),
+            Case::Purge => (0, 0),
+        };
+        Before {
+            early,
+            subs,
+            streams,
+            late,
+            pulled,
+            is_delivered: matches!(self, Case::Ready),
+        }
+    }
+
     /// Runs the case once, with a partition of its own.
-    pub fn run<Q: Drains, C: Clock>(
+    pub fn run<Q: Queue, C: Clock>(
         self,
         clock: &C,
         alloc: Global,
         size: usize,
     ) -> Result<Measured> {
-        match self {
-            Case::Drain => run_drain::<Q, C>(clock, alloc, size),
-            Case::Lag => run_lag::<Q, C>(clock, alloc, size),
-            Case::Due => run_due::<Q, C>(clock, alloc, size),
-            Case::Ready => run_ready::<Q, C>(clock, alloc, size),
-            Case::Pull => run_pull::<Q, C>(clock, alloc, size),
-            Case::Purge => run_purge::<Q, C>(clock, alloc, size),
-        }
+        let mut queue = Q::make(alloc)?;
+        let mut consumers = prepare(&mut queue, alloc, self.before(size))?;
+        let start = Instant::now(clock)?;
+        let told = self.work(&mut queue, alloc, consumers.as_mut_slice(), size)?;
+        let seconds = start.elapsed(clock)?.as_secs_f64();
+        let units = u32::try_from(self.units(size)).unwrap_or(u32::MAX);
+        Ok(Measured {
+            seconds: seconds / f64::from(units),
+            told,
+        })
+    }
+
+    /// Does what is measured, and gives a sum of the replies.
+    fn work<Q: Queue>(
+        self,
+        queue: &mut Q,
+        alloc: Global,
+        consumers: &mut [Consumer],
+        size: usize,
+    ) -> Result<u64> {
+        let turns = match self {
+            Case::Drain => queue.drain(alloc, consumers)?,
+            Case::Lag => run_with_lag(queue, alloc, consumers, size)?,
+            _ => return self.ask(queue, alloc),
+        };
+        ensure!(turns == size, "an event wasn't handled");
+        Ok(turns as u64)
+    }
+
+    /// Does single operations.
+    fn ask<Q: Queue>(self, queue: &mut Q, alloc: Global) -> Result<u64> {
+        let call = match self {
+            Case::Due => Call::Due(None),
+            Case::Ready => Call::Ready(None),
+            Case::Purge => Call::Purge(BLOCKS as u32 - 1),
+            _ => Call::Pull(1),
+        };
+        ask_in_turn(queue, alloc, call, self.units(0))
     }
 }
 
-/// The cost of one event or operation of so many, which took all the time since `start`.
-fn per_unit<C: Clock>(clock: &C, start: Instant, count: usize, told: u64) -> Result<Measured> {
-    let count = u32::try_from(count).unwrap_or(u32::MAX);
-    let seconds = start.elapsed(clock)?.as_secs_f64() / f64::from(count);
-    Ok(Measured { seconds, told })
-}
-
-fn run_drain<Q: Drains, C: Clock>(clock: &C, alloc: Global, events: usize) -> Result<Measured> {
-    let mut queue = Q::make(alloc)?;
-    let mut consumers = subscribe_all(&mut queue, alloc, CONSUMERS, CONSUMERS)?;
-    publish_all(&mut queue, alloc, events, CONSUMERS)?;
-    let start = Instant::now(clock)?;
-    let turns = queue.drain(alloc, consumers.as_mut_slice())?;
-    ensure!(turns == events, "an event wasn't handled");
-    per_unit(clock, start, events, turns as u64)
-}
-
-fn run_lag<Q: Queue, C: Clock>(clock: &C, alloc: Global, events: usize) -> Result<Measured> {
-    let mut queue = Q::make(alloc)?;
-    let mut consumers = subscribe_all(&mut queue, alloc, CONSUMERS, CONSUMERS)?;
-    publish_all(&mut queue, alloc, events, CONSUMERS)?;
-    let start = Instant::now(clock)?;
-    let turns = run_with_lag(&mut queue, alloc, consumers.as_mut_slice(), events)?;
-    ensure!(turns == events, "an event wasn't handled");
-    per_unit(clock, start, events, turns as u64)
-}
-
-/// Grains that are owed four events, which the cache has.
-fn owed<Q: Queue>(queue: &mut Q, alloc: Global, count: usize) -> Result<Vec<Consumer>> {
-    let consumers = subscribe_all(queue, alloc, count, 1)?;
-    publish_all(queue, alloc, 4, 1)?;
-    ensure!(pull(queue, alloc, PULL_MAX)?, "nothing was pulled");
+/// Brings a partition to where a case begins.
+fn prepare<Q: Queue>(queue: &mut Q, alloc: Global, before: Before) -> Result<Vec<Consumer>> {
+    publish_all(queue, alloc, before.early, 1)?;
+    pull_all(queue, alloc, before.early)?;
+    let consumers = subscribe_all(queue, alloc, before.subs, before.streams)?;
+    publish_all(queue, alloc, before.late, before.streams)?;
+    pull_all(queue, alloc, before.pulled)?;
+    if before.is_delivered {
+        deliver_each(queue, alloc, consumers.as_slice())?;
+    }
     Ok(consumers)
 }
 
-fn run_due<Q: Queue, C: Clock>(clock: &C, alloc: Global, subs: usize) -> Result<Measured> {
-    let mut queue = Q::make(alloc)?;
-    let _consumers = owed(&mut queue, alloc, subs)?;
-    let start = Instant::now(clock)?;
-    let told = ask_due(&mut queue, alloc)?;
-    per_unit(clock, start, TIMES, told)
-}
-
-fn run_ready<Q: Queue, C: Clock>(clock: &C, alloc: Global, grains: usize) -> Result<Measured> {
-    let mut queue = Q::make(alloc)?;
-    for consumer in owed(&mut queue, alloc, grains)? {
-        ensure!(
-            deliver(&mut queue, alloc, &consumer)?,
-            "an event is missing"
-        );
+/// An event is delivered to each consumer.
+fn deliver_each<Q: Queue>(queue: &mut Q, alloc: Global, consumers: &[Consumer]) -> Result<()> {
+    for consumer in consumers {
+        ensure!(deliver(queue, alloc, consumer)?, "an event is missing");
     }
-    let start = Instant::now(clock)?;
-    let told = ask_ready(&mut queue, alloc)?;
-    per_unit(clock, start, TIMES, told)
-}
-
-fn run_pull<Q: Queue, C: Clock>(clock: &C, alloc: Global, subs: usize) -> Result<Measured> {
-    let mut queue = Q::make(alloc)?;
-    subscribe_all(&mut queue, alloc, subs, 1)?;
-    publish_all(&mut queue, alloc, TIMES, 1)?;
-    let start = Instant::now(clock)?;
-    let told = pull_singly(&mut queue, alloc)?;
-    per_unit(clock, start, TIMES, told)
-}
-
-/// The subscriptions come when the cache is full, and need nothing of it.
-fn run_purge<Q: Queue, C: Clock>(clock: &C, alloc: Global, subs: usize) -> Result<Measured> {
-    let mut queue = Q::make(alloc)?;
-    publish_all(&mut queue, alloc, CACHED, 1)?;
-    for _ in 0..CACHED / PULL_MAX as usize {
-        ensure!(pull(&mut queue, alloc, PULL_MAX)?, "nothing was pulled");
-    }
-    subscribe_all(&mut queue, alloc, subs, 1)?;
-    let start = Instant::now(clock)?;
-    let told = purge_singly(&mut queue, alloc)?;
-    per_unit(clock, start, BLOCKS as usize, told)
+    Ok(())
 }

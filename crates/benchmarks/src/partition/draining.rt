@@ -1,10 +1,9 @@
 //! The operations of a drain, one by one.
+use crate::partition::calls::{Call, Told, Turn};
 use crate::partition::feeding::{Consumer, pull};
-use crate::partition::queues::Queue;
+use crate::partition::queues::Asked;
 use anyhow::{Result, bail, ensure};
 use std::alloc::Global;
-use stream_ident::{GrainId, Token};
-use stream_model::{Op, Reply};
 
 /// The most events of a pull.
 const PULL_MAX: u32 = 32;
@@ -17,7 +16,7 @@ const MOST_CACHED: usize = 5_000;
 
 /// Does the operations of `step_core::Partition::drain`, and gives the number of turns. Nothing may wait and
 /// no turn run before.
-pub fn drain_by_hand<Q: Queue>(
+pub fn drain_by_hand<Q: Asked>(
     queue: &mut Q,
     alloc: Global,
     consumers: &mut [Consumer],
@@ -44,7 +43,7 @@ pub fn handled(consumers: &[Consumer]) -> usize {
 
 /// All that the cache has for a consumer is delivered and handled, the last of it is acknowledged, and one
 /// more delivery finds nothing.
-fn serve<Q: Queue>(queue: &mut Q, alloc: Global, consumer: &mut Consumer) -> Result<()> {
+fn serve<Q: Asked>(queue: &mut Q, alloc: Global, consumer: &mut Consumer) -> Result<()> {
     for _ in 0..MOST_CACHED {
         if !deliver(queue, alloc, consumer)? {
             break;
@@ -57,68 +56,37 @@ fn serve<Q: Queue>(queue: &mut Q, alloc: Global, consumer: &mut Consumer) -> Res
 }
 
 /// Puts the next event into the mailbox, and gives whether there was one.
-pub fn deliver<Q: Queue>(queue: &mut Q, alloc: Global, consumer: &Consumer) -> Result<bool> {
-    let deliver = Op::Deliver {
-        generation: 0,
-        sub: consumer.sub,
-    };
-    match queue.step(alloc, deliver)? {
-        Reply::Delivered { .. } => Ok(true),
-        Reply::Nothing => Ok(false),
+pub fn deliver<Q: Asked>(queue: &mut Q, alloc: Global, consumer: &Consumer) -> Result<bool> {
+    match queue.ask(alloc, Call::Deliver(consumer.sub))? {
+        Told::Delivered(_) => Ok(true),
+        Told::Nothing => Ok(false),
         _ => bail!("a delivery was refused"),
     }
 }
 
 /// A turn of one event is begun and committed.
-pub fn take_turn<Q: Queue>(queue: &mut Q, alloc: Global, consumer: &mut Consumer) -> Result<()> {
-    let grain = consumer.grain;
-    let Reply::Turn {
-        activation,
-        turn,
-        note,
-        ..
-    } = queue.step(alloc, Op::Begin { grain, max: 1 })?
-    else {
+pub fn take_turn<Q: Asked>(queue: &mut Q, alloc: Global, consumer: &mut Consumer) -> Result<()> {
+    let Told::Turn(turn) = queue.ask(alloc, Call::Begin(consumer.grain))? else {
         bail!("no turn was begun");
     };
-    let note = note.saturating_add(1);
-    consumer.last = Some(commit(queue, alloc, grain, activation, turn, note)?);
+    let turn = Turn {
+        note: turn.note.saturating_add(1),
+        ..turn
+    };
+    let Told::Committed(last) = queue.ask(alloc, Call::Commit(consumer.grain, turn))? else {
+        bail!("a commit was refused");
+    };
+    consumer.last = Some(last);
     consumer.handled = consumer.handled.wrapping_add(1);
     Ok(())
 }
 
-/// Commits a turn, and gives the token of its last event.
-fn commit<Q: Queue>(
-    queue: &mut Q,
-    alloc: Global,
-    grain: GrainId,
-    activation: u64,
-    turn: u64,
-    note: u64,
-) -> Result<Token> {
-    let commit = Op::Commit {
-        grain,
-        activation,
-        turn,
-        note,
-    };
-    match queue.step(alloc, commit)? {
-        Reply::Committed { token, .. } => Ok(token),
-        _ => bail!("a commit was refused"),
-    }
-}
-
 /// Acknowledges the last event that a consumer has handled, where there is one.
-pub fn acknowledge<Q: Queue>(queue: &mut Q, alloc: Global, consumer: &Consumer) -> Result<()> {
+pub fn acknowledge<Q: Asked>(queue: &mut Q, alloc: Global, consumer: &Consumer) -> Result<()> {
     let Some(token) = consumer.last else {
         return Ok(());
     };
-    let ack = Op::Ack {
-        generation: 0,
-        sub: consumer.sub,
-        token,
-    };
-    let reply = queue.step(alloc, ack)?;
-    ensure!(matches!(reply, Reply::Acked), "an ack was refused");
+    let told = queue.ask(alloc, Call::Ack(consumer.sub, token))?;
+    ensure!(matches!(told, Told::Acked), "an ack was refused");
     Ok(())
 }

@@ -1,17 +1,18 @@
 //! What a partition is asked before it is measured: subscriptions and events.
-use crate::partition::queues::Queue;
+use crate::partition::calls::{Call, Told};
+use crate::partition::queues::Asked;
 use anyhow::{Result, bail, ensure};
 use std::alloc::Global;
-use stream_ident::{Batch, GrainId, Payload, StreamId, SubName, Token};
-use stream_model::{Op, Reply, Start};
+use stream_ident::{GrainId, Payload, StreamId, Token};
 
 /// The payloads of a batch.
-const BATCH: usize = 4;
+pub const BATCH: usize = 4;
 
 /// A subscription with its grain, and the last event that it has handled.
 #[derive(Clone, Copy)]
 pub struct Consumer {
-    pub sub: SubName,
+    /// The number of the subscription.
+    pub sub: u32,
     pub grain: GrainId,
     pub last: Option<Token>,
     /// How many events it has handled.
@@ -19,7 +20,7 @@ pub struct Consumer {
 }
 
 impl Consumer {
-    fn new(sub: SubName, grain: GrainId) -> Consumer {
+    fn new(sub: u32, grain: GrainId) -> Consumer {
         Consumer {
             sub,
             grain,
@@ -41,26 +42,21 @@ fn grain(alloc: Global, number: usize) -> Result<GrainId> {
     Ok(GrainId::new(b"packer", key.as_bytes())?)
 }
 
-/// A grain subscribes to a stream, from the next batch on.
-fn subscribe<Q: Queue>(
+/// A grain subscribes to a stream, from the next batch on. The result is the number of the subscription.
+pub fn subscribe<Q: Asked>(
     queue: &mut Q,
     alloc: Global,
     stream: StreamId,
     grain: GrainId,
-) -> Result<SubName> {
-    let subscribe = Op::Subscribe {
-        stream,
-        grain,
-        start: Start::Latest,
-    };
-    match queue.step(alloc, subscribe)? {
-        Reply::Subscribed { number } => Ok(SubName::Explicit(number)),
+) -> Result<u32> {
+    match queue.ask(alloc, Call::Subscribe(stream, grain))? {
+        Told::Subscribed(number) => Ok(number),
         _ => bail!("a subscription was refused"),
     }
 }
 
 /// So many grains subscribe, one after another, to so many streams in turn.
-pub fn subscribe_all<Q: Queue>(
+pub fn subscribe_all<Q: Asked>(
     queue: &mut Q,
     alloc: Global,
     count: usize,
@@ -79,7 +75,7 @@ pub fn subscribe_all<Q: Queue>(
 }
 
 /// Publishes so many events, in batches of four, to so many streams in turn.
-pub fn publish_all<Q: Queue>(
+pub fn publish_all<Q: Asked>(
     queue: &mut Q,
     alloc: Global,
     events: usize,
@@ -93,22 +89,26 @@ pub fn publish_all<Q: Queue>(
 }
 
 /// Publishes a batch of four events.
-fn publish<Q: Queue>(queue: &mut Q, alloc: Global, stream: StreamId) -> Result<()> {
+pub fn publish<Q: Asked>(queue: &mut Q, alloc: Global, stream: StreamId) -> Result<()> {
     let payload = Payload::new(b"one box")?;
-    let payloads = Batch::of(vec![in alloc; payload; BATCH]?);
-    let reply = queue.step(alloc, Op::Publish { stream, payloads })?;
-    ensure!(
-        matches!(reply, Reply::Published { .. }),
-        "a batch was refused"
-    );
+    let told = queue.ask(alloc, Call::Publish(stream, payload, BATCH))?;
+    ensure!(matches!(told, Told::Published), "a batch was refused");
     Ok(())
 }
 
 /// The agent pulls at most so many events, and the result says whether it got any.
-pub fn pull<Q: Queue>(queue: &mut Q, alloc: Global, max: u32) -> Result<bool> {
-    match queue.step(alloc, Op::Pull { generation: 0, max })? {
-        Reply::Pulled { .. } => Ok(true),
-        Reply::Dry => Ok(false),
+pub fn pull<Q: Asked>(queue: &mut Q, alloc: Global, max: u32) -> Result<bool> {
+    match queue.ask(alloc, Call::Pull(max))? {
+        Told::Pulled(_) => Ok(true),
+        Told::Dry => Ok(false),
         _ => bail!("a pull was refused"),
     }
+}
+
+/// The agent pulls so many events.
+pub fn pull_all<Q: Asked>(queue: &mut Q, alloc: Global, events: usize) -> Result<()> {
+    for _ in 0..events / BATCH {
+        ensure!(pull(queue, alloc, BATCH as u32)?, "nothing was pulled");
+    }
+    Ok(())
 }

@@ -1,7 +1,7 @@
 //! Consumers of which some lag behind, so that the cache stays full.
 use crate::partition::draining::{acknowledge, deliver, handled, take_turn};
 use crate::partition::feeding::{Consumer, pull};
-use crate::partition::queues::Queue;
+use crate::partition::queues::Asked;
 use anyhow::{Result, ensure};
 use std::alloc::Global;
 
@@ -16,7 +16,7 @@ const LAG: usize = 3_840;
 
 /// Pulls so many events, 32 at a time. Six consumers handle at once what was pulled, and two only what is
 /// 60 blocks old, until all is pulled. Then they handle the rest. It gives the number of turns.
-pub fn run_with_lag<Q: Queue>(
+pub fn run_with_lag<Q: Asked>(
     queue: &mut Q,
     alloc: Global,
     consumers: &mut [Consumer],
@@ -32,7 +32,7 @@ pub fn run_with_lag<Q: Queue>(
 }
 
 /// Each consumer handles its events among the first `pulled`, a slow one those that are `lag` older.
-fn serve_each<Q: Queue>(
+fn serve_each<Q: Asked>(
     queue: &mut Q,
     alloc: Global,
     consumers: &mut [Consumer],
@@ -48,7 +48,7 @@ fn serve_each<Q: Queue>(
 }
 
 /// A consumer handles events until it has handled so many, and acknowledges the last.
-fn serve_up_to<Q: Queue>(
+pub fn serve_up_to<Q: Asked>(
     queue: &mut Q,
     alloc: Global,
     consumer: &mut Consumer,

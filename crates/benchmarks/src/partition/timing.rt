@@ -1,6 +1,6 @@
 //! The least of several times, and ratios of them.
 use crate::partition::cases::{Case, Measured};
-use crate::partition::queues::Drains;
+use crate::partition::queues::Queue;
 use anyhow::{Result, ensure};
 use std::alloc::Global;
 use std::rt::Clock;
@@ -22,8 +22,23 @@ pub fn compare<C: Clock>(clock: &C, alloc: Global, case: Case) -> Result<()> {
     let size = case.sizes()[0];
     let cost = case.run::<step_core::Partition, C>(clock, alloc, size)?;
     let plain = case.run::<partition_reference::Partition, C>(clock, alloc, size)?;
-    ensure!(cost.told == plain.told, "the partitions don't agree");
+    ensure!(agree(cost, plain), "the partitions don't agree");
     Ok(())
+}
+
+/// Sees that a difference is told: a case of another size isn't taken for the same.
+pub fn see_difference<C: Clock>(clock: &C, alloc: Global) -> Result<()> {
+    let case = Case::Due;
+    let [first, second, ..] = case.sizes();
+    let one = case.run::<step_core::Partition, C>(clock, alloc, first)?;
+    let other = case.run::<step_core::Partition, C>(clock, alloc, second)?;
+    ensure!(!agree(one, other), "a larger case was taken for the same");
+    Ok(())
+}
+
+/// Whether two runs had the same replies.
+pub fn agree(one: Measured, other: Measured) -> bool {
+    one.told == other.told
 }
 
 /// Measures each size of a case.
@@ -45,23 +60,32 @@ fn measure_size<C: Clock>(
     smaller: Option<f64>,
 ) -> Result<Row> {
     let cost = fastest::<step_core::Partition, C>(clock, alloc, case, size)?;
-    let plain = if size <= case.most_plain() {
-        Some(fastest::<partition_reference::Partition, C>(clock, alloc, case, size)?)
-    } else {
-        None
-    };
-    let is_same = plain.map_or(true, |plain| plain.told == cost.told);
-    ensure!(is_same, "the partitions don't agree");
     Ok(Row {
         size,
         cost: cost.seconds,
         smaller: smaller.map(|smaller| cost.seconds / smaller),
-        plain: plain.map(|plain| cost.seconds / plain.seconds),
+        plain: beside_plain(clock, alloc, case, size, cost)?,
     })
 }
 
+/// How many times that of the plain program a cost is, at a size at which that is measured.
+fn beside_plain<C: Clock>(
+    clock: &C,
+    alloc: Global,
+    case: Case,
+    size: usize,
+    cost: Measured,
+) -> Result<Option<f64>> {
+    if size > case.most_plain() {
+        return Ok(None);
+    }
+    let plain = fastest::<partition_reference::Partition, C>(clock, alloc, case, size)?;
+    ensure!(agree(cost, plain), "the partitions don't agree");
+    Ok(Some(cost.seconds / plain.seconds))
+}
+
 /// The cost in the fastest of several tries: 3 of the largest sizes, 20 of the smallest.
-fn fastest<Q: Drains, C: Clock>(
+fn fastest<Q: Queue, C: Clock>(
     clock: &C,
     alloc: Global,
     case: Case,

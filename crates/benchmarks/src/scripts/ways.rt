@@ -1,10 +1,13 @@
 //! A script, and what it comes to: simulated, as operations alone, and as text alone.
 ghost use Rattle.stream_script.specs.Simulation.{IsSimConfig};
 
+use crate::partition::calls::Call;
+use crate::partition::feeding::subscribe;
+use crate::partition::queues::Asked;
 use anyhow::Result;
 use std::alloc::{AllocError, Global};
-use step_core::{Limits, Op, Partition, Start};
-use stream_ident::{Batch, GrainId, Payload, StreamId};
+use step_core::{Limits, Partition};
+use stream_ident::{GrainId, Payload, StreamId};
 use stream_script::{Counted, SimConfig, sim};
 
 /// How many subscriptions there are, each of a grain of its own.
@@ -24,13 +27,32 @@ pub fn script_of(alloc: Global, batches: usize) -> Result<Vec<u8>, AllocError> {
     Ok(script)
 }
 
-/// The text of a script.
-#[inline(never)]
-pub fn simulate(alloc: Global, script: &[u8]) -> Result<Vec<u8>> {
-    let mut source = Counted::new(script);
-    let mut sink = Counted::new(Vec::new(alloc));
-    sim(alloc, config(), &mut source, &mut sink)?;
-    Ok(sink.into_inner())
+/// A way to a value, which can be gone more than once.
+pub trait Way {
+    /// The value.
+    type Made: Drop;
+
+    /// Goes the way.
+    fn go(&self) -> Result<Self::Made>;
+}
+
+/// Simulates a script, to its text.
+#[derive(Clone, Copy)]
+pub struct Simulation<'a> {
+    pub alloc: Global,
+    pub script: &'a [u8],
+}
+
+impl<'a> Way for Simulation<'a> {
+    type Made = Vec<u8>;
+
+    #[inline(never)]
+    fn go(&self) -> Result<Vec<u8>> {
+        let mut source = Counted::new(self.script);
+        let mut sink = Counted::new(Vec::new(self.alloc));
+        sim(self.alloc, config(), &mut source, &mut sink)?;
+        Ok(sink.into_inner())
+    }
 }
 
 fn config() -> SimConfig
@@ -43,39 +65,38 @@ fn config() -> SimConfig
     }
 }
 
-/// Does what the script says on a partition, and gives how many lines that comes to.
-#[inline(never)]
-pub fn operate(alloc: Global, batches: usize) -> Result<usize> {
-    let mut partition = Partition::new(alloc, 4, Limits::GREATEST)?;
-    subscribe(alloc, &mut partition)?;
-    publish(alloc, &mut partition, batches)?;
-    partition.drain(alloc)?;
-    // A line for each reply, one for the drain, and those of the report.
-    let replies = SUBS.saturating_add(batches).saturating_add(1);
-    Ok(replies.saturating_add(report(alloc, &partition)?))
+/// Does what the script says on a partition, to the number of lines that it comes to.
+#[derive(Clone, Copy)]
+pub struct Operations {
+    pub alloc: Global,
+    pub batches: usize,
 }
 
-fn subscribe(alloc: Global, partition: &mut Partition) -> Result<()> {
-    for key in 0..SUBS {
-        let op = Op::Subscribe {
-            stream: StreamId::new(b"o", b"k")?,
-            grain: GrainId::new(b"g", format!(in alloc; "{key}")?.as_bytes())?,
-            start: Start::Latest,
-        };
-        partition.step(alloc, op)?;
+impl Way for Operations {
+    type Made = usize;
+
+    #[inline(never)]
+    fn go(&self) -> Result<usize> {
+        let alloc = self.alloc;
+        let mut partition = Partition::new(alloc, 4, Limits::GREATEST)?;
+        feed(alloc, &mut partition, self.batches)?;
+        partition.drain(alloc)?;
+        // A line for each reply, one for the drain, and those of the report.
+        let replies = SUBS.saturating_add(self.batches).saturating_add(1);
+        Ok(replies.saturating_add(report(alloc, &partition)?))
     }
-    Ok(())
 }
 
-fn publish(alloc: Global, partition: &mut Partition, batches: usize) -> Result<()> {
+/// Each of the grains subscribes to a stream, and so many batches of one event are published to it.
+fn feed(alloc: Global, partition: &mut Partition, batches: usize) -> Result<()> {
+    let stream = StreamId::new(b"o", b"k")?;
+    for key in 0..SUBS {
+        let grain = GrainId::new(b"g", format!(in alloc; "{key}")?.as_bytes())?;
+        subscribe(partition, alloc, stream, grain)?;
+    }
+    let publish = Call::Publish(stream, Payload::new(b"e")?, 1);
     for _ in 0..batches {
-        let mut payloads = Vec::new(alloc);
-        payloads.push(Payload::new(b"e")?)?;
-        let op = Op::Publish {
-            stream: StreamId::new(b"o", b"k")?,
-            payloads: Batch::of(payloads),
-        };
-        partition.step(alloc, op)?;
+        partition.ask(alloc, publish)?;
     }
     Ok(())
 }
@@ -90,12 +111,22 @@ fn report(alloc: Global, partition: &Partition) -> Result<usize> {
     Ok(lines)
 }
 
-/// The text, line by line.
-#[inline(never)]
-pub fn copy_lines(alloc: Global, text: &[u8]) -> Result<Vec<u8>> {
-    let mut copied = Vec::new(alloc);
-    for line in text.split_inclusive(|byte| *byte == b'\n') {
-        copied.extend_from_slice(line)?;
+/// Copies a text, line by line.
+#[derive(Clone, Copy)]
+pub struct Copying<'a> {
+    pub alloc: Global,
+    pub text: &'a [u8],
+}
+
+impl<'a> Way for Copying<'a> {
+    type Made = Vec<u8>;
+
+    #[inline(never)]
+    fn go(&self) -> Result<Vec<u8>> {
+        let mut copied = Vec::new(self.alloc);
+        for line in self.text.split_inclusive(|byte| *byte == b'\n') {
+            copied.extend_from_slice(line)?;
+        }
+        Ok(copied)
     }
-    Ok(copied)
 }

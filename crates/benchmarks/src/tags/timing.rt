@@ -1,4 +1,5 @@
 //! Measures three ways to the same numbers.
+use crate::tags::ways::{Tags, Way};
 use anyhow::{Result, ensure};
 use std::rt::Clock;
 use std::time::Instant;
@@ -15,24 +16,15 @@ pub struct Seconds {
 }
 
 /// Measures each way over so many rounds, and fails where they don't give the same sum.
-pub fn compare<C: Clock, L: Fn(usize) -> u64, P: Fn(usize) -> u64, M: Fn(usize) -> u64>(
+pub fn compare<L: Way, P: Way, M: Way, C: Clock>(
     clock: &C,
+    tags: &Tags,
     rounds: usize,
-    lanes: L,
-    plain: P,
-    memchr: M,
-) -> Result<Seconds>
-    requires lanes { L.IsAlwaysCallable lanes }
-    requires plain { P.IsAlwaysCallable plain }
-    requires memchr { M.IsAlwaysCallable memchr }
-{
-    let (lanes, sum) = fastest(clock, rounds, &lanes)?;
-    let (plain, plain_sum) = fastest(clock, rounds, &plain)?;
-    let (memchr, memchr_sum) = fastest(clock, rounds, &memchr)?;
-    ensure!(
-        sum == plain_sum && sum == memchr_sum,
-        "the ways don't agree"
-    );
+) -> Result<Seconds> {
+    let (lanes, sum) = fastest::<L, C>(clock, tags, rounds)?;
+    let (plain, plain_sum) = fastest::<P, C>(clock, tags, rounds)?;
+    let (memchr, memchr_sum) = fastest::<M, C>(clock, tags, rounds)?;
+    ensure!(agree(sum, plain_sum, memchr_sum), "the ways don't agree");
     Ok(Seconds {
         lanes,
         plain,
@@ -40,16 +32,19 @@ pub fn compare<C: Clock, L: Fn(usize) -> u64, P: Fn(usize) -> u64, M: Fn(usize) 
     })
 }
 
+/// Whether three ways gave the same sum.
+pub fn agree(lanes: u64, plain: u64, memchr: u64) -> bool {
+    lanes == plain && lanes == memchr
+}
+
 /// The seconds of the fastest try, and the sum of all that the rounds gave.
-fn fastest<C: Clock, F: Fn(usize) -> u64>(clock: &C, rounds: usize, way: &F) -> Result<(f64, u64)>
-    requires { F.IsAlwaysCallable way.now }
-{
+fn fastest<W: Way, C: Clock>(clock: &C, tags: &Tags, rounds: usize) -> Result<(f64, u64)> {
     let mut best = f64::INFINITY;
     let mut sum = 0u64;
     for _ in 0..TRIES {
         let start = Instant::now(clock)?;
         for round in 0..rounds {
-            sum = sum.wrapping_add(way(round));
+            sum = sum.wrapping_add(W::search(tags, round));
         }
         best = best.min(start.elapsed(clock)?.as_secs_f64());
     }
