@@ -39,7 +39,8 @@ fn only_proofs_see_the_calls(rt: HostRuntime) -> Result<(), Fail> {
     let alloc = rt.alloc();
     let (turnstile, mut pass) = Turnstile::new(alloc, Proved::new(), u64::MAX)?;
     ask_three(&rt, alloc, &turnstile, &mut pass);
-    let done = finished(&rt, turnstile, alone(alloc, pass)?);
+    let passes = alone(alloc, pass).expect(&rt, "memory");
+    let done = finished(&rt, turnstile, passes);
     assert!(rt; done.object.sum == 7 && done.history.len() == 2);
     Ok(())
 }
@@ -104,11 +105,12 @@ fn compare<R: Abort>(rt: &R, history: &[Asked<Addition>], wanted: &[(u64, u64)])
 fn a_fresh_object_gives_the_replies_again(rt: HostRuntime) -> Result<(), Fail> {
     let alloc = rt.alloc();
     let (turnstile, mut first) = opened(alloc)?;
-    let mut second = turnstile.split(&mut first)?;
+    let mut second = turnstile.split(&mut first).expect(&rt, "a pass");
     ask_two(&rt, alloc, &turnstile, &mut first, &mut second);
-    let done = finished(&rt, turnstile, pair(alloc, first, second)?);
+    let passes = pair(alloc, first, second).expect(&rt, "memory");
+    let done = finished(&rt, turnstile, passes);
     compare(&rt, done.history.as_slice(), &[(0, 5), (1, 2), (0, 1)]);
-    let replies = replayed(&rt, alloc, &done.history)?;
+    let replies = replayed(&rt, alloc, &done.history).expect(&rt, "memory");
     assert!(rt; done.object.sum == 8 && replies.as_slice() == [5, 7, 8].as_slice());
     Ok(())
 }

@@ -332,20 +332,44 @@ fn replay<R: Abort>(
     }
 }
 
-// All is handled, each event once; the history is what one partition answers, and each call of it has
-// entered the gate.
-fn compare<R: Abort>(
+// How many events the subscription has handled.
+fn count_handled<R: Abort>(rt: &R, alloc: Global, partition: &Partition) -> usize {
+    let handled = partition.handled(alloc, &SUB).expect(rt, "memory");
+    handled.len()
+}
+
+// All is handled, each event once, by a partition that does the operations of the history.
+fn compare_with<R: Abort>(
     rt: &R,
     alloc: Global,
-    entered: u64,
+    twin: &mut Partition,
     history: &[Entry<Op, Reply>],
-) -> Result<(), AllocError> {
-    let mut twin = Partition::new(alloc, 4, Limits::GREATEST)?;
-    replay(rt, alloc, &mut twin, history);
+) {
+    replay(rt, alloc, twin, history);
     assert!(rt; twin.quiet().is_none());
-    assert_eq!(rt; twin.handled(alloc, &SUB)?.len(), 400);
-    assert_eq!(rt; entered, history.len() as u64);
-    Ok(())
+    assert!(rt; count_handled(rt, alloc, twin) == 400);
+}
+
+// The history is what one partition answers, and each call of it has entered the gate.
+fn compare<R: Abort>(rt: &R, alloc: Global, gate: &Entered, history: &[Entry<Op, Reply>]) {
+    let entered = gate.calls.load(Ordering::SeqCst);
+    assert!(rt; entered == history.len() as u64);
+    let mut twin = Partition::new(alloc, 4, Limits::GREATEST).expect(rt, "memory");
+    compare_with(rt, alloc, &mut twin, history);
+}
+
+// Makes the one subscription.
+fn subscribe<R: Wait + Abort>(
+    rt: &R,
+    alloc: Global,
+    turnstile: &Turnstile<Shared>,
+    pass: &mut PassOf<Shared>,
+)
+    requires { IsOf turnstile.now pass.old × BeganEmpty turnstile.now.start }
+    ensures { IsOf turnstile.now pass.new }
+{
+    let told = ask(rt, alloc, turnstile, pass, Call::Subscribe);
+    assert!(rt; told == Told::Subscribed(1));
 }
 
 // The passes after two threads have published, one of which is an agent and a worker as well.
@@ -374,14 +398,13 @@ fn in_two_threads<R: Threads + Wait + Abort + Sync>(
 fn two_threads_of_callers(rt: HostRuntime) -> Result<(), Fail> {
     let alloc = rt.alloc();
     let (gate, turnstile, mut first) = opened(alloc)?;
-    let told = ask(&rt, alloc, &turnstile, &mut first, Call::Subscribe);
-    assert!(rt; told == Told::Subscribed(1));
-    let second = turnstile.split(&mut first)?;
+    subscribe(&rt, alloc, &turnstile, &mut first);
+    let second = turnstile.split(&mut first).expect(&rt, "a pass");
     let (mut first, second) = in_two_threads(&rt, alloc, &turnstile, first, second);
     serve_rounds(&rt, alloc, &turnstile, &mut first, 0);
-    let done = finished(&rt, turnstile, pair(alloc, first, second)?);
-    let entered = gate.calls.load(Ordering::SeqCst);
-    compare(&rt, alloc, entered, done.history.as_slice())?;
+    let passes = pair(alloc, first, second).expect(&rt, "memory");
+    let done = finished(&rt, turnstile, passes);
+    compare(&rt, alloc, &gate, done.history.as_slice());
     Ok(())
 }
 
@@ -468,8 +491,10 @@ fn one_allocation_refused_in_a_call(rt: HostRuntime) -> Result<(), Fail> {
     let (_gate, one, mut pass) = opened_at_last(alloc)?;
     let (_other_gate, other, mut twin) = opened_at_last(alloc)?;
     ask_all_alike(&rt, alloc, &one, &mut pass, &other, &mut twin);
-    let done = finished(&rt, one, alone(alloc, pass)?);
-    let twin = finished(&rt, other, alone(alloc, twin)?);
+    let pass = alone(alloc, pass).expect(&rt, "memory");
+    let done = finished(&rt, one, pass);
+    let twin = alone(alloc, twin).expect(&rt, "memory");
+    let twin = finished(&rt, other, twin);
     compare_histories(&rt, done.history.as_slice(), twin.history.as_slice());
     Ok(())
 }

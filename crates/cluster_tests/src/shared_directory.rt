@@ -142,9 +142,10 @@ fn in_two_threads<R: Threads + Wait + Abort + Sync>(
 fn two_threads_share_a_permit(rt: HostRuntime) -> Result<(), Fail> {
     let alloc = rt.alloc();
     let (turnstile, mut first) = opened(alloc)?;
-    let second = turnstile.split(&mut first)?;
+    let second = turnstile.split(&mut first).expect(&rt, "a pass");
     let (first, second) = in_two_threads(&rt, alloc, &turnstile, first, second);
-    let done = finished(&rt, turnstile, pair(alloc, first, second)?);
+    let passes = pair(alloc, first, second).expect(&rt, "memory");
+    let done = finished(&rt, turnstile, passes);
     replay(&rt, alloc, done.history.as_slice());
     Ok(())
 }

@@ -22,6 +22,22 @@ fn compare<R: Abort>(rt: &R, history: &[Entry<Addition, u64>], wanted: &[(u64, u
     }
 }
 
+// What a turnstile has at its end: the sum, and these entries.
+fn expect_done<R: Abort>(
+    rt: &R,
+    turnstile: Turnstile<Plain>,
+    passes: Vec<PassOf<Plain>>,
+    sum: u64,
+    wanted: &[(u64, u64, u64)],
+)
+    requires some { 0 < vec_len passes }
+    requires passes { All (IsOf turnstile) passes.items }
+{
+    let done = finished(rt, turnstile, passes);
+    compare(rt, done.history.as_slice(), wanted);
+    assert!(rt; done.object.sum == sum);
+}
+
 // The number of a pass, how many entries it has seen, and of how many passes it knows.
 fn view(pass: &PassOf<Plain>) -> (u64, u64, u64) {
     (pass.number(), pass.len(), pass.made())
@@ -52,17 +68,16 @@ fn two_passes_and_a_full_history(rt: HostRuntime) -> Result<(), Fail> {
     let alloc = rt.alloc();
     let (turnstile, mut first) = Turnstile::new(alloc, Plain::new(), 2)?;
     expect(&rt, alloc, &turnstile, &mut first, add(5), Ok(5));
-    let mut second = turnstile.split(&mut first)?;
+    let mut second = turnstile.split(&mut first).expect(&rt, "a pass");
     fill(&rt, alloc, &turnstile, &mut first, &mut second);
-    let Closed::NotAll(back) = turnstile.close(alone(alloc, first)?) else {
+    let first = alone(alloc, first).expect(&rt, "memory");
+    let Closed::NotAll(back) = turnstile.close(first) else {
         panic!(rt; "a pass is missing");
     };
     assert!(rt; back.missing == 1);
     let mut passes = back.passes;
     passes.push(second)?;
-    let done = finished(&rt, back.turnstile, passes);
-    assert!(rt; done.object.sum == 7);
-    compare(&rt, done.history.as_slice(), &[(0, 5, 5), (1, 2, 7)]);
+    expect_done(&rt, back.turnstile, passes, 7, &[(0, 5, 5), (1, 2, 7)]);
     Ok(())
 }
 
@@ -87,9 +102,8 @@ fn one_entry_and_no_room(rt: HostRuntime) -> Result<(), Fail> {
     let alloc = rt.alloc();
     let (turnstile, mut pass) = Turnstile::new(alloc, Plain::new(), 1)?;
     ask_three(&rt, alloc, &turnstile, &mut pass);
-    let done = finished(&rt, turnstile, alone(alloc, pass)?);
-    assert!(rt; done.object.sum == 5);
-    compare(&rt, done.history.as_slice(), &[(0, 5, 5)]);
+    let passes = alone(alloc, pass).expect(&rt, "memory");
+    expect_done(&rt, turnstile, passes, 5, &[(0, 5, 5)]);
     Ok(())
 }
 
@@ -115,15 +129,14 @@ fn ask_both<R: Wait + Abort>(
 fn joined_passes(rt: HostRuntime) -> Result<(), Fail> {
     let alloc = rt.alloc();
     let (turnstile, mut first) = Turnstile::new(alloc, Plain::new(), 3)?;
-    let mut second = turnstile.split(&mut first)?;
+    let mut second = turnstile.split(&mut first).expect(&rt, "a pass");
     ask_both(&rt, alloc, &turnstile, &mut first, &mut second);
     turnstile.join(&mut first, second);
     assert!(rt; view(&first) == (0, 2, 2));
     expect(&rt, alloc, &turnstile, &mut first, add(1), Ok(8));
-    let done = finished(&rt, turnstile, alone(alloc, first)?);
-    assert!(rt; done.object.sum == 8);
+    let passes = alone(alloc, first).expect(&rt, "memory");
     let rows = [(0, 5, 5), (1, 2, 7), (0, 1, 8)];
-    compare(&rt, done.history.as_slice(), &rows);
+    expect_done(&rt, turnstile, passes, 8, &rows);
     Ok(())
 }
 
@@ -177,7 +190,7 @@ fn add_all_alike<R: Wait + Abort>(
     }
 }
 
-// What two passes have added.
+// What two passes have added, of which the history has the first six.
 const ADDED: [(u64, u64, u64); 6] = [
     (0, 1, 1),
     (0, 2, 3),
@@ -187,16 +200,6 @@ const ADDED: [(u64, u64, u64); 6] = [
     (1, 6, 21),
 ];
 
-// What the passes of a turnstile have added, of which the history has the first six.
-fn expect_added<R: Abort>(rt: &R, turnstile: Turnstile<Plain>, passes: Vec<PassOf<Plain>>)
-    requires some { 0 < vec_len passes }
-    requires passes { All (IsOf turnstile) passes.items }
-{
-    let done = finished(rt, turnstile, passes);
-    assert!(rt; done.object.sum == 21);
-    compare(rt, done.history.as_slice(), &ADDED);
-}
-
 // With any one allocation refused, of two turnstiles one is untouched, and they stay alike. Run it with
 // each allocation failing in turn.
 #[test]
@@ -205,11 +208,13 @@ fn one_allocation_refused(rt: HostRuntime) -> Result<(), Fail> {
     let (one, mut first) = opened(alloc)?;
     let (other, mut twin) = opened(alloc)?;
     add_all_alike(&rt, alloc, &one, &mut first, &other, &mut twin, 1..5);
-    let mut second = one.split(&mut first)?;
-    let mut again = other.split(&mut twin)?;
+    let mut second = one.split(&mut first).expect(&rt, "a pass");
+    let mut again = other.split(&mut twin).expect(&rt, "a pass");
     add_all_alike(&rt, alloc, &one, &mut second, &other, &mut again, 5..8);
-    expect_added(&rt, one, pair(alloc, first, second)?);
-    expect_added(&rt, other, pair(alloc, twin, again)?);
+    let passes = pair(alloc, first, second).expect(&rt, "memory");
+    expect_done(&rt, one, passes, 21, &ADDED);
+    let passes = pair(alloc, twin, again).expect(&rt, "memory");
+    expect_done(&rt, other, passes, 21, &ADDED);
     Ok(())
 }
 
@@ -252,15 +257,16 @@ fn in_order<R: Abort>(rt: &R, history: &[Entry<Addition, u64>]) {
 fn two_threads(rt: HostRuntime) -> Result<(), Fail> {
     let alloc = rt.alloc();
     let (turnstile, mut first) = Turnstile::new(alloc, Plain::new(), 2000)?;
-    let second = turnstile.split(&mut first)?;
+    let second = turnstile.split(&mut first).expect(&rt, "a pass");
     let shared = &turnstile;
     let (first, second) = join(
         &rt,
         || add_many(&rt, alloc, shared, first),
         || add_many(&rt, alloc, shared, second),
     );
-    let done = finished(&rt, turnstile, pair(alloc, second, first)?);
-    assert_eq!(rt; done.object.sum, 999_000);
+    let passes = pair(alloc, second, first).expect(&rt, "memory");
+    let done = finished(&rt, turnstile, passes);
     in_order(&rt, done.history.as_slice());
+    assert!(rt; done.object.sum == 999_000);
     Ok(())
 }
