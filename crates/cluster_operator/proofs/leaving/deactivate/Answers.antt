@@ -1,0 +1,8 @@
+use Rattle.std.proofs.Common.{refl}
+use Rattle.shared_partition.specs.Partitions.{after, replied}
+use Rattle.cluster_operator.specs.Changes.{IsDeactivation}
+use Rattle.cluster_operator.proofs.Making.{made-called}
+use Rattle.cluster_operator.proofs.leaving.deactivate.Goals as goal
+
+pub returns-clause-done : goal.returns-clause-done
+returns-clause-done g c = made-called replied after (IsDeactivation c.args.grain.now) c.args.line.now.pass _ c.in_ok-call.field-0 c.call.new.self.pass c.in_ok-call.ensures.call refl

@@ -1,0 +1,11 @@
+use Rattle.silo_crew.specs.Silos.{GoOn, GoesOn}
+use Rattle.cluster_operator.specs.Changes.{AreDeactivated}
+use Rattle.cluster_operator.proofs.leaving.evict.Given as goal
+
+abbrev pub invariant-loop : goal.invariant-loop
+invariant-loop g l =
+    record {
+      on : GoOn l.fn.lines.items l.lines.items;
+      directory : GoesOn l.fn.directory l.directory;
+      deactivated : AreDeactivated l.fn.silo l.fn.directory l.directory l.fn.lines.items l.lines.items;
+    }

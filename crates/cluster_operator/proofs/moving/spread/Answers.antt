@@ -1,0 +1,36 @@
+use Rattle.std.proofs.Common.{arith, refl, rules}
+use Rattle.std.proofs.lemmas.Grind.{common_steps}
+use Rattle.silo_crew.proofs.Going.{goes-length}
+use Rattle.cluster_operator.proofs.Changing.{since-all, since-more, since-none, since-on}
+use Rattle.cluster_operator.proofs.moving.spread.Goals as goal
+
+pub loop-queue-init : goal.loop-queue-init
+loop-queue-init g c = since-none _ _ c.args.lines.now.items
+
+pub index_mut-line-requires : goal.index_mut-line-requires
+index_mut-line-requires g c =
+    let below = c.loop-queue-test.true in
+    let len = c.len-queue-end.ensures in
+    let long = goes-length _ _ c.loop-queue.invariant.on in first_of (omega (arith, below, len, long), grind (arith, common_steps))
+
+pub returns-in_err-move_queue-clause-on : goal.returns-in_err-move_queue-clause-on
+returns-in_err-move_queue-clause-on g c =
+    let below = c.loop-queue-test.true in
+    let len = c.len-queue-end.ensures in
+    let long = goes-length _ _ c.loop-queue.invariant.on in
+    since-on _ _ c.args.lines.now.items c.loop-queue.lines.items _ c.loop-queue.queue c.index_mut-line.result.now c.move_queue.new.line (first_of (omega (arith, below, len, long), search rules, grind (arith, common_steps))) c.index_mut-line.ensures.value
+    c.move_queue.ensures.on refl c.loop-queue.invariant
+
+pub loop-queue-preserved : goal.loop-queue-preserved
+loop-queue-preserved g c =
+    let below = c.loop-queue-test.true in
+    let len = c.len-queue-end.ensures in
+    let long = goes-length _ _ c.loop-queue.invariant.on in
+    since-more _ _ c.args.lines.now.items c.loop-queue.lines.items _ c.loop-queue.queue c.index_mut-line.result.now c.move_queue.new.line (first_of (omega (arith, below, len, long), search rules, grind (arith, common_steps))) c.index_mut-line.ensures.value
+    c.move_queue.ensures.on c.in_ok-move_queue.ensures.moved refl c.loop-queue.invariant
+
+pub returns-clause-moved : goal.returns-clause-moved
+returns-clause-moved g c =
+    let past = c.loop-queue-test.false in
+    let len = c.len-queue-end.ensures in
+    since-all _ _ c.args.lines.now.items c.loop-queue.lines.items c.loop-queue.queue (first_of (omega (arith, past, len), search rules, grind (arith, common_steps))) c.loop-queue.invariant

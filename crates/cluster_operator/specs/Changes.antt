@@ -1,0 +1,69 @@
+-- What the calls of a cluster's own passes leave when its silos change.
+use Rattle.std.specs.Prelude.{◌≡◌, ◌≢◌, ℕ, List, length, drop, Some, Result, Ok, Err, slice_get, slice_index}
+use Rattle.stream_ident.specs.declared.ident.GrainId.{GrainId}
+use Rattle.stream_ident.specs.declared.token.Token.{Token}
+use Rattle.stream_model.specs.declared.op.Op.{Op}
+use Rattle.stream_model.specs.declared.op.Op.TheVariants as op
+use Rattle.stream_model.specs.declared.reply.Reply.{Reply}
+use Rattle.stream_model.specs.declared.reply.Reply.TheVariants as reply
+use Rattle.activation_directory.specs.declared.op.DirectoryOp.{DirectoryOp}
+use Rattle.activation_directory.specs.declared.op.DirectoryOp.TheVariants as asked
+use Rattle.activation_directory.specs.declared.reply.DirectoryReply.{DirectoryReply}
+use Rattle.activation_directory.specs.declared.reply.DirectoryReply.TheVariants as directory
+use Rattle.turnstile.specs.declared.history.Entry.{Entry}
+use Rattle.turnstile.specs.Closing.{HasSome}
+use Rattle.turnstile.specs.Passes.{PassView}
+use Rattle.shared_partition.specs.Directories as places
+use Rattle.silo_loops.specs.Lines.{DirectoryPass, LineView}
+use Rattle.silo_loops.specs.Passes.{CallsBy}
+use Rattle.silo_crew.specs.Silos.{GoesOn}
+use Rattle.cluster_operator.specs.declared.halt.Halt.{Halt}
+use Rattle.cluster_operator.specs.declared.leaving.Release.{Release}
+use Rattle.cluster_operator.specs.declared.leaving.Release.TheVariants as release
+
+-- past its mark one of the pass's own calls is such
+abbrev pub HasMade : {O R S : Type 0} → ℕ → PassView O R S → (O → R → Type 0) → Type 0
+HasMade {O} {R} mark p IsSuch = HasSome (λ (e : Entry O R). (e.number ≡ p.number) × IsSuch e.op e.reply) (drop mark p.seen)
+
+-- since the line was so the other, later one has made such a call
+abbrev pub HasSince : LineView → LineView → (Op → Reply → Type 0) → Type 0
+HasSince was is IsSuch = HasMade (length was.pass.seen) is.pass IsSuch
+
+-- the queue went to an agent on this silo
+abbrev pub IsMove : ℕ → Op → Reply → Type 0
+IsMove silo o r = (o ≡ op.Move silo) × ((generation : ℕ) × (low : Token) × (r ≡ reply.Moved generation low))
+
+-- the grain was deactivated, or wasn't active
+abbrev pub IsDeactivation : GrainId → Op → Reply → Type 0
+IsDeactivation grain o r = o ≡ op.Deactivate grain
+
+-- the directory took the grain from the silo
+abbrev pub IsRelease : ℕ → GrainId → DirectoryOp → DirectoryReply → Type 0
+IsRelease silo grain o r = (o ≡ asked.Down silo) × ((left : ℕ) × (r ≡ directory.Released grain left))
+
+-- the directory has no grain on the silo
+abbrev pub IsNoneLeft : ℕ → DirectoryOp → DirectoryReply → Type 0
+IsNoneLeft silo o r = (o ≡ asked.Down silo) × (r ≡ directory.NoneLeft)
+
+-- what one call for a grain of the silo left
+abbrev pub Releases : ℕ → DirectoryPass → Result Release Halt → DirectoryPass → Type 0
+Releases silo d (Ok (release.Grain grain)) e = (left : ℕ) × CallsBy places.replied places.after d (asked.Down silo) (Ok (directory.Released grain left)) e
+Releases silo d (Ok release.NoneLeft) e = CallsBy places.replied places.after d (asked.Down silo) (Ok directory.NoneLeft) e
+Releases silo d (Err halt) e = GoesOn d e
+
+-- R holds of the line of each queue before and after
+abbrev pub AtEachQueue : List LineView → List LineView → (ℕ → LineView → LineView → Type 0) → Type 0
+AtEachQueue old new R = (queue : ℕ) (was is : LineView) → slice_get old queue ≡ Some was → slice_get new queue ≡ Some is → R queue was is
+
+-- each queue that has another silo than before was moved there
+abbrev pub HaveMoved : List LineView → List LineView → List ℕ → List ℕ → Type 0
+HaveMoved old new before now =
+    AtEachQueue old new (λ queue was is. slice_index now queue ≢ slice_index before queue → HasSince was is (IsMove (slice_index now queue)))
+
+-- the grain was deactivated at each queue
+abbrev pub IsDeactivated : List LineView → List LineView → GrainId → Type 0
+IsDeactivated old new grain = AtEachQueue old new (λ queue was is. HasSince was is (IsDeactivation grain))
+
+-- each grain that the directory took from the silo since was deactivated at each queue
+abbrev pub AreDeactivated : ℕ → DirectoryPass → DirectoryPass → List LineView → List LineView → Type 0
+AreDeactivated silo d e old new = (grain : GrainId) → HasMade (length d.seen) e (IsRelease silo grain) → IsDeactivated old new grain

@@ -1,0 +1,77 @@
+//! Queues that go to agents on other silos.
+ghost use Rattle.std.specs.Prelude.{◌≡◌, ◌≢◌, length, OnOk};
+ghost use Rattle.silo_crew.specs.Silos.{GoOn, LineGoesOn};
+ghost use Rattle.cluster_operator.specs.Changes.{HasSince, HaveMoved, IsMove};
+
+use crate::halt::Halt;
+use shared_partition::Gate;
+use silo_loops::{Assigned, Doorbell, Line};
+use std::alloc::Global;
+use std::sync::{Arc, Wait};
+use stream_model::{Op, Reply};
+use turnstile::StoredHistory;
+
+// The queue goes to an agent on another silo, where it is another. Each agent is told before the doorbell is rung
+// for the last time.
+fn move_queue<G: Gate, H: StoredHistory<Op, Reply>, R: Wait>(
+    rt: &R,
+    alloc: Global,
+    doorbell: &Doorbell,
+    agents: &Vec<Arc<Assigned, Global>>,
+    line: &mut Line<G, H>,
+    queue: usize,
+    from: u8,
+    to: u8,
+) -> Result<(), Halt>
+    ensures on { LineGoesOn line.old line.new }
+    ensures moved { OnOk result (to ≢ from → HasSince line.old line.new (IsMove to)) }
+{
+    if from == to {
+        return Ok(());
+    }
+    match line.call(rt, alloc, doorbell, Op::Move { silo: to })? {
+        Reply::Moved { generation, low: _ } => {
+            tell(agents, queue, from, to, generation);
+            doorbell.ring(rt);
+            Ok(())
+        }
+        _ => Err(Halt::Limit),
+    }
+}
+
+// Tells the agent of one silo that it hasn't the queue any more, and that of another that it has.
+fn tell(agents: &Vec<Arc<Assigned, Global>>, queue: usize, from: u8, to: u8, generation: u64) {
+    if let Some(old) = agents.get(from as usize) {
+        old.take_away(queue);
+    }
+    if let Some(new) = agents.get(to as usize) {
+        new.assign(queue, generation);
+    }
+}
+
+/// Moves each queue that is to have another silo.
+///
+/// # Errors
+/// A move was refused. Those before it stand.
+pub(crate) fn spread<G: Gate, H: StoredHistory<Op, Reply>, R: Wait>(
+    rt: &R,
+    alloc: Global,
+    doorbell: &Doorbell,
+    agents: &Vec<Arc<Assigned, Global>>,
+    lines: &mut Vec<Line<G, H>>,
+    old: &[u8],
+    new: &[u8],
+) -> Result<(), Halt>
+    requires old { length old.now ≡ length lines.old.items }
+    requires new { length new.now ≡ length lines.old.items }
+    ensures on { GoOn lines.old.items lines.new.items }
+    ensures moved { OnOk result (HaveMoved lines.old.items lines.new.items old.now new.now) }
+{
+    for queue in 0..lines.len() {
+        let line = &mut lines[queue];
+        move_queue(
+            rt, alloc, doorbell, agents, line, queue, old[queue], new[queue],
+        )?;
+    }
+    Ok(())
+}

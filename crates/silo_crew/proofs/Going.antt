@@ -1,0 +1,201 @@
+-- Passes that go on, and the lines that have them.
+use Rattle.std.proofs.Common.{◌≡◌, ℕ, zero, suc, ◌<◌, ◌≤◌, ◌+◌, true, false, if◌then◌else◌, List, [], ◌∷◌, ◌++◌, length, get_or, set, Contains, refl, sym, ap, subst, ◌∙◌, append_assoc, arith}
+use Rattle.std.proofs.lemmas.List.{append-nil, length-append, length_push, set-get_or}
+use Rattle.std.specs.List.{AllByRecursion, AllZip}
+use Rattle.std.specs.Prelude.{nat_lt}
+use Rattle.turnstile.specs.declared.history.Entry.{Entry}
+use Rattle.turnstile.specs.Calls.{Agree, HasOnlyMade, IsSplitOff, joined_pass}
+use Rattle.turnstile.specs.History.{Foreign}
+use Rattle.turnstile.specs.Passes.{PassView}
+use Rattle.silo_loops.specs.Lines.{LineView, places}
+use Rattle.cluster_callers.specs.Calls.{AllZipFront}
+use Rattle.silo_crew.specs.Silos.{AreAlike, GoOn, GoesOn, IsMarked, IsSilent, IsSplitLine, LineGoesOn}
+use Rattle.cluster_callers.proofs.Fronts.{front-all, front-fits, front-last, front-push, front-set, front-weaker}
+
+-- the first of a longer list
+first-of-all : (number : ℕ) (joined : List ℕ) (k : ℕ) → Contains (number ∷ []) k → Contains (number ∷ joined) k
+first-of-all number joined k here = (0, omega arith, only-one here.0 here.1 here.2)
+  where
+    only-one : (at : ℕ) → at < 1 → get_or (number ∷ []) at k ≡ k → number ≡ k
+    only-one zero within same = same
+    only-one (suc at) within same = absurd (omega arith)
+
+module _ {O R S : Type 0} where
+  abbrev pub on-refl : (p : PassView O R S) → GoesOn p p
+  on-refl p = record { turnstile = refl; number = refl; more = []; seen = sym (append-nil p.seen) }
+
+  abbrev pub on-trans : (p q r : PassView O R S) → GoesOn p q → GoesOn q r → GoesOn p r
+  on-trans p q r a b =
+      record {
+        turnstile = b.turnstile ∙ a.turnstile;
+        number = b.number ∙ a.number;
+        more = a.more ++ b.more;
+        seen = b.seen ∙ ap (λ (es : List (Entry O R)). es ++ b.more) a.seen ∙ append_assoc p.seen a.more b.more;
+      }
+
+  pub on-made : (p q : PassView O R S) → HasOnlyMade p q → GoesOn p q
+  on-made p q made = subst (λ (w : PassView O R S). GoesOn p w) (sym made.0) (record { turnstile = refl; number = refl; more = []; seen = sym (append-nil p.seen) })
+
+  abbrev pub on-joined : (p q r : PassView O R S) → r ≡ joined_pass p q → Agree p q r → GoesOn p r
+  on-joined p q r is agree =
+      record {
+        turnstile = ap (λ (w : PassView O R S). w.turnstile) is;
+        number = ap (λ (w : PassView O R S). w.number) is;
+        more = agree.0.rest;
+        seen = agree.0.is;
+      }
+
+module _ {O R : Type 0} where
+  foreign-append : (numbers : List ℕ) (xs ys : List (Entry O R)) → Foreign numbers xs → Foreign numbers ys → Foreign numbers (xs ++ ys)
+  foreign-append numbers [] ys a b = b
+  foreign-append numbers (x ∷ xs) ys a b = (a.0, foreign-append numbers xs ys a.1 b)
+
+  -- who owns none of more numbers owns none of fewer
+  foreign-first : (number : ℕ) (joined : List ℕ) (es : List (Entry O R)) → Foreign (number ∷ joined) es → Foreign (number ∷ []) es
+  foreign-first number joined [] foreign = tt
+  foreign-first number joined (e ∷ es) foreign = ((λ here. foreign.0 (first-of-all number joined e.number here)), foreign-first number joined es foreign.1)
+
+module _ {O R S : Type 0} where
+  pub silent-refl : (p : PassView O R S) → IsSilent p p
+  silent-refl p = record { on = on-refl p; foreign = tt }
+
+  pub silent-trans : (p q r : PassView O R S) → IsSilent p q → IsSilent q r → IsSilent p r
+  silent-trans p q r a b =
+      record {
+        on = on-trans p q r a.on b.on;
+        foreign = foreign-append (p.number ∷ []) a.on.more b.on.more a.foreign (subst (λ n. Foreign (n ∷ []) b.on.more) a.on.number b.foreign);
+      }
+
+  pub silent-made : (p q : PassView O R S) → HasOnlyMade p q → IsSilent p q
+  silent-made p q made = subst (λ (w : PassView O R S). IsSilent p w) (sym made.0) (record { on = record { turnstile = refl; number = refl; more = []; seen = sym (append-nil p.seen) }; foreign = tt })
+
+  pub silent-same : (p q : PassView O R S) → q ≡ p → IsSilent p q
+  silent-same p q same = subst (λ (w : PassView O R S). IsSilent p w) (sym same) (silent-refl p)
+
+  pub silent-joined : (p q r : PassView O R S) → r ≡ joined_pass p q → Agree p q r → IsSilent p r
+  silent-joined p q r is agree = record { on = on-joined p q r is agree; foreign = foreign-first p.number p.joined agree.0.rest agree.0.foreign }
+
+pub goes-refl : (ls : List LineView) → GoOn ls ls
+goes-refl [] = tt
+goes-refl (l ∷ ls) = (on-refl l.pass, goes-refl ls)
+
+pub goes-same : (ls ms : List LineView) → ms ≡ ls → GoOn ls ms
+goes-same ls ms same = subst (λ (es : List LineView). GoOn ls es) (sym same) (goes-refl ls)
+
+pub goes-trans : (ls ms ns : List LineView) → GoOn ls ms → GoOn ms ns → GoOn ls ns
+goes-trans [] [] [] a b = tt
+goes-trans [] [] (n ∷ ns) a b = absurd b
+goes-trans [] (m ∷ ms) ns a b = absurd a
+goes-trans (l ∷ ls) [] ns a b = absurd a
+goes-trans (l ∷ ls) (m ∷ ms) [] a b = absurd b
+goes-trans (l ∷ ls) (m ∷ ms) (n ∷ ns) a b = (on-trans l.pass m.pass n.pass a.0 b.0, goes-trans ls ms ns a.1 b.1)
+
+-- one line goes on
+pub goes-set : (ls : List LineView) (at : ℕ) (d m : LineView) → at < length ls → LineGoesOn (get_or ls at d) m → GoOn ls (set ls at m)
+goes-set [] at d m less on = absurd (omega arith)
+goes-set (l ∷ ls) zero d m less on = (on, goes-refl ls)
+goes-set (l ∷ ls) (suc at) d m less on = (on-refl l.pass, goes-set ls at d m (omega arith) on)
+
+-- lines that go on are at their turnstiles
+pub goes-places : (ls ms : List LineView) → GoOn ls ms → places ms ≡ places ls
+goes-places [] [] on = refl
+goes-places [] (m ∷ ms) on = absurd on
+goes-places (l ∷ ls) [] on = absurd on
+goes-places (l ∷ ls) (m ∷ ms) on = ap (λ t. t ∷ places ms) on.0.turnstile ∙ ap (λ ts. l.pass.turnstile ∷ ts) (goes-places ls ms on.1)
+
+pub goes-length : (ls ms : List LineView) → GoOn ls ms → length ms ≡ length ls
+goes-length [] [] on = refl
+goes-length [] (m ∷ ms) on = absurd on
+goes-length (l ∷ ls) [] on = absurd on
+goes-length (l ∷ ls) (m ∷ ms) on = ap (λ n. suc n) (goes-length ls ms on.1)
+
+pub front-alike : (ls ms : List LineView) → places ms ≡ places ls → AllZipFront AreAlike ls ms
+front-alike ls [] same = tt
+front-alike [] (m ∷ ms) same = absurd (cc)
+front-alike (l ∷ ls) (m ∷ ms) same =
+    let rest : places ms ≡ places ls = cc in
+    let first : m.pass.turnstile ≡ l.pass.turnstile = cc in
+    (first, front-alike ls ms rest)
+
+split-alike : (l m : LineView) → IsSplitLine l m → AreAlike l m
+split-alike l m split = ap (λ w. w.turnstile) split.0.0
+
+pub split-places : (ls ms : List LineView) → AllZip IsSplitLine ls ms → places ms ≡ places ls
+split-places [] [] all = refl
+split-places [] (m ∷ ms) all = absurd all
+split-places (l ∷ ls) [] all = absurd all
+split-places (l ∷ ls) (m ∷ ms) all = ap (λ t. t ∷ places ms) (split-alike l m all.0) ∙ ap (λ ts. l.pass.turnstile ∷ ts) (split-places ls ms all.1)
+
+pub split-marked : (ls ms : List LineView) → AllZip IsSplitLine ls ms → AllByRecursion IsMarked ms
+split-marked [] [] all = tt
+split-marked [] (m ∷ ms) all = absurd all
+split-marked (l ∷ ls) [] all = absurd all
+split-marked (l ∷ ls) (m ∷ ms) all = (all.0.1, split-marked ls ms all.1)
+
+pub split-length : (ls ms : List LineView) → AllZip IsSplitLine ls ms → length ms ≡ length ls
+split-length [] [] all = refl
+split-length [] (m ∷ ms) all = absurd all
+split-length (l ∷ ls) [] all = absurd all
+split-length (l ∷ ls) (m ∷ ms) all = ap (λ n. suc n) (split-length ls ms all.1)
+
+-- a loop that joins each of the others to the one at its place, from the last one on
+pub join-next : (ls ms rest : List LineView) (at : ℕ) (l m : LineView) → ms ≡ rest ++ m ∷ [] → at ≡ length rest → AllZipFront AreAlike ls ms → (at < length ls) × (l ≡ get_or ls at l → AreAlike l m)
+join-next ls ms rest at l m is here all =
+    let last = front-last AreAlike ls rest l m (subst (λ (es : List LineView). AllZipFront AreAlike ls es) is all) in
+    let less : length rest < length ls = last.0 in
+    (omega arith, λ read. last.1 ∙ ap (λ (w : LineView). w.pass.turnstile) (ap (λ n. get_or ls n l) (sym here) ∙ sym read))
+
+pub join-more : (old ls ms rest new : List LineView) (at : ℕ) (l m w : LineView) → ms ≡ rest ++ m ∷ [] → at ≡ length rest → AllZipFront AreAlike ls ms → l ≡ get_or ls at l → w ≡ record l { pass = joined_pass l.pass m.pass } → Agree l.pass m.pass w.pass
+    → new ≡ set ls at w → GoOn old ls → AllZipFront AreAlike new rest × GoOn old new
+join-more old ls ms rest new at l m w is here all read made agree put on =
+    let last = front-last AreAlike ls rest l m (subst (λ (es : List LineView). AllZipFront AreAlike ls es) is all) in
+    let less : length rest < length ls = last.0 in
+    let whole : new ≡ set ls (length rest) w = put ∙ ap (λ n. set ls n w) here in
+    let goes : LineGoesOn l w = on-joined l.pass m.pass w.pass (ap (λ (v : LineView). v.pass) made) agree in (
+      subst (λ (es : List LineView). AllZipFront AreAlike es rest) (sym whole) (front-set AreAlike ls rest w last.2),
+      goes-trans old ls new on (subst (λ (es : List LineView). GoOn ls es) (sym put) (goes-set ls at l w (omega arith) (subst (λ (v : LineView). LineGoesOn v w) read goes))),
+    )
+
+-- a loop that splits each, from the first one on
+pub split-more : (old now fresh made more : List LineView) (at : ℕ) (l m new : LineView) → at < length old → now ≡ old → length made ≡ at → AllZipFront IsSplitLine old made → l ≡ get_or now at l → m ≡ l → fresh ≡ set now at m
+    → IsSplitLine l new → more ≡ made ++ new ∷ [] → (fresh ≡ old) × (length more ≡ at + 1) × AllZipFront IsSplitLine old more
+split-more old now fresh made more at l m new within same here all read kept put split is = (
+  put ∙ ap (λ (e : LineView). set now at e) (kept ∙ read) ∙ set-get_or now at l ∙ same,
+  ap (λ (es : List LineView). length es) is ∙ length_push made new ∙ ap (λ n. n + 1) here,
+  subst (λ (es : List LineView). AllZipFront IsSplitLine old es) (sym is)
+      (front-push IsSplitLine old made l new (omega arith) all
+      (subst (λ (e : LineView). IsSplitLine e new) (read ∙ ap (λ (es : List LineView). get_or es at l) same ∙ ap (λ n. get_or old n l) (sym here)) split)),
+)
+
+-- where one is refused, what was split off is at the turnstiles of those before it
+pub refused-alike : (old now fresh made : List LineView) (at : ℕ) (m : LineView) → now ≡ old → length made ≡ at → AllZipFront IsSplitLine old made → fresh ≡ set now at m → AllZipFront AreAlike fresh made
+refused-alike old now fresh made at m same here all put =
+    subst (λ (es : List LineView). AllZipFront AreAlike es made) (sym (put ∙ ap (λ (es : List LineView). set es at m) same ∙ ap (λ n. set old n m) (sym here)))
+    (front-set AreAlike old made m (front-weaker IsSplitLine AreAlike split-alike old made all))
+
+pub refused-on : (old now fresh : List LineView) (at : ℕ) (l m : LineView) → at < length old → now ≡ old → l ≡ get_or now at l → HasOnlyMade l.pass m.pass → fresh ≡ set now at m → GoOn old fresh
+refused-on old now fresh at l m within same read made put =
+    let goes = on-made l.pass m.pass made in
+    subst (λ (es : List LineView). GoOn old es) (sym (put ∙ ap (λ (es : List LineView). set es at m) same))
+    (goes-set old at l m within (subst (λ (v : LineView). LineGoesOn v m) (read ∙ ap (λ (es : List LineView). get_or es at l) same) goes))
+
+pub splits-all : (old made : List LineView) (at : ℕ) → length old ≤ at → length made ≡ at → AllZipFront IsSplitLine old made → AllZip IsSplitLine old made
+splits-all old made at past long front =
+    let fits = front-fits IsSplitLine old made front in
+    front-all IsSplitLine old made (omega (arith, fits)) front
+
+-- lines that were split off these are at their turnstiles, and stay there
+pub split-at : (old own new : List LineView) → AllZip IsSplitLine old own → GoOn old new → places own ≡ places new
+split-at old own new split on = split-places old own split ∙ sym (goes-places old new on)
+
+-- what is at the turnstiles of these lines is so when they have gone on
+pub still-at : (others ls ms : List LineView) → places others ≡ places ls → GoOn ls ms → places others ≡ places ms
+still-at others ls ms at on = at ∙ sym (goes-places ls ms on)
+
+pub split-fresh : (old own : List LineView) → AllZip IsSplitLine old own → (0 < length old) → (0 < length own) × AllByRecursion IsMarked own
+split-fresh old own split some =
+    let long = split-length old own split in
+    (omega (arith, long), split-marked old own split)
+
+pub goes-some : (ls ms : List LineView) → GoOn ls ms → 0 < length ls → 0 < length ms
+goes-some ls ms on some = let long = goes-length ls ms on in omega (arith, long)

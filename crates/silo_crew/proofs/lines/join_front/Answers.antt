@@ -1,0 +1,26 @@
+use Rattle.std.proofs.Common.{arith, refl, rules, set}
+use Rattle.std.proofs.lemmas.Grind.{common_steps}
+use Rattle.silo_crew.proofs.Going.{goes-refl, join-more, join-next}
+use Rattle.silo_crew.proofs.lines.join_front.Goals as goal
+
+pub loop-other-init : goal.loop-other-init
+loop-other-init g c = record { alike = c.requires; on = goes-refl c.args.lines.now.items }
+
+pub index_mut-line-requires : goal.index_mut-line-requires
+index_mut-line-requires g c =
+    let len = c.len.ensures in
+    let next = join-next c.loop-other.lines.items c.loop-other.others.items c.pop.new.self.items c.len.result c.in-Some.other c.in-Some.other c.in-Some.ensures.items (first_of (omega (arith, len), search rules, grind (arith, common_steps))) c.loop-other.invariant.alike in
+    let less = next.0 in first_of (omega (arith, less), search (rules, less), grind (arith, common_steps, less))
+
+pub join-requires-after_bounds : goal.join-requires-after_bounds
+join-requires-after_bounds g c κs within =
+    let len = c.len.ensures in
+    let next = join-next c.loop-other.lines.items c.loop-other.others.items c.pop.new.self.items c.len.result c.index_mut-line.result.now c.in-Some.other c.in-Some.ensures.items (first_of (omega (arith, len), search rules, grind (arith, common_steps))) c.loop-other.invariant.alike in
+    next.1 c.index_mut-line.ensures.value
+
+pub loop-other-preserved : goal.loop-other-preserved
+loop-other-preserved g c =
+    let len = c.len.ensures in
+    let more = join-more c.args.lines.now.items c.loop-other.lines.items c.loop-other.others.items c.pop.new.self.items (set c.loop-other.lines.items c.len.result c.join.new.self) c.len.result c.index_mut-line.result.now c.in-Some.other c.join.new.self c.in-Some.ensures.items (first_of (omega (arith, len), search rules, grind (arith, common_steps)))
+    c.loop-other.invariant.alike c.index_mut-line.ensures.value c.join.ensures.joined c.join.ensures.agree refl c.loop-other.invariant.on in
+    record { alike = more.0; on = more.1 }

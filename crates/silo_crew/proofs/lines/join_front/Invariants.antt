@@ -1,0 +1,14 @@
+use Rattle.std.proofs.Common.{◌≡◌, vec_len}
+use Rattle.cluster_callers.specs.Calls.{AllZipFront}
+use Rattle.silo_crew.specs.Silos.{AreAlike, GoOn}
+use Rattle.silo_crew.proofs.lines.join_front.Given as goal
+
+abbrev pub invariant-loop-other : goal.invariant-loop-other
+invariant-loop-other g l =
+    record {
+      alike : AllZipFront AreAlike l.lines.items l.others.items;
+      on : GoOn l.fn.lines.items l.lines.items;
+    }
+
+abbrev pub decreases-loop-other : goal.decreases-loop-other
+decreases-loop-other g l = vec_len l.others

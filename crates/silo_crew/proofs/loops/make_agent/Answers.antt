@@ -1,0 +1,17 @@
+use Rattle.std.proofs.Common.{refl, rules, sym, subst, ap, ◌∙◌}
+use Rattle.silo_loops.specs.Agents.{AgentView}
+use Rattle.silo_crew.specs.Silos.{IsAgentAt, IsFreshAgent}
+use Rattle.silo_crew.proofs.Going.{split-at, split-marked}
+use Rattle.silo_crew.proofs.loops.make_agent.Goals as goal
+
+pub returns-in-Ok-clause-fresh : goal.returns-in-Ok-clause-fresh
+returns-in-Ok-clause-fresh g c =
+    let split = c.in_ok-own.ensures.new in
+    subst (λ (a : AgentView). IsFreshAgent a × IsAgentAt c.split_lines.new.lines.items a) (sym c.in-Ok.ensures.made)
+    ((split-marked _ _ split, refl, refl), split-at _ _ _ split c.split_lines.ensures.go_on)
+
+pub join_lines-requires-after_bounds : goal.join_lines-requires-after_bounds
+join_lines-requires-after_bounds g c κs within =
+    let same = c.in-Err.ensures.back in
+    let at = split-at _ _ _ c.in_ok-own.ensures.new c.split_lines.ensures.go_on in
+    search (rules, same, at)

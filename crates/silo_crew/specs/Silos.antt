@@ -1,0 +1,81 @@
+-- What the making, starting and joining of a silo's loops says of the passes.
+use Rattle.std.specs.Prelude.{◌≡◌, ℕ, List, [], ◌∷◌, ◌++◌, length, Option, None}
+use Rattle.std.specs.List.{AllByRecursion, AllZip}
+use Rattle.turnstile.specs.declared.history.Entry.{Entry}
+use Rattle.turnstile.specs.Calls.{IsSplitOff}
+use Rattle.turnstile.specs.History.{Foreign}
+use Rattle.turnstile.specs.Passes.{PassView}
+use Rattle.silo_loops.specs.Agents.{AgentView, HasSamePlaces}
+use Rattle.silo_loops.specs.Lines.{DirectoryPass, LineView, places}
+use Rattle.silo_loops.specs.Walks.{Nothing}
+use Rattle.silo_loops.specs.Workers.{IsBeside, WorkerView}
+
+-- the same pass later: it has seen as much and more
+pub record GoesOn {O R S : Type 0} (p q : PassView O R S) : Type 0 where
+  pub turnstile : q.turnstile ≡ p.turnstile
+  pub number : q.number ≡ p.number
+  pub more : List (Entry O R)
+  pub seen : q.seen ≡ p.seen ++ more
+
+-- the same pass later, which has made no call since
+pub record IsSilent {O R S : Type 0} (p q : PassView O R S) : Type 0 where
+  pub on : GoesOn p q
+  pub foreign : Foreign (p.number ∷ []) on.more
+
+-- the pass of a line later
+abbrev pub LineGoesOn : LineView → LineView → Type 0
+LineGoesOn l m = GoesOn l.pass m.pass
+
+abbrev pub GoOn : List LineView → List LineView → Type 0
+GoOn old new = AllZip LineGoesOn old new
+
+-- two lines at one turnstile
+abbrev pub AreAlike : LineView → LineView → Type 0
+AreAlike l m = m.pass.turnstile ≡ l.pass.turnstile
+
+-- nothing is new since the mark
+abbrev pub IsMarked : LineView → Type 0
+IsMarked l = l.mark ≡ length l.pass.seen
+
+-- a line with a pass that was split off, of which nothing is new
+abbrev pub IsSplitLine : LineView → LineView → Type 0
+IsSplitLine l m = IsSplitOff l.pass m.pass × IsMarked m
+
+-- the three loops of a silo; of running ones, as they were started
+pub record SiloView : Type 0 where
+  pub silo : ℕ
+  pub agent : AgentView
+  pub first : WorkerView
+  pub second : WorkerView
+
+-- the loop has done nothing yet: nothing is new, nothing in hand
+abbrev pub IsFreshAgent : AgentView → Type 0
+IsFreshAgent a = AllByRecursion IsMarked a.lines × (a.rounds ≡ 0) × (a.over ≡ None)
+
+abbrev pub IsFreshWorker : ℕ → WorkerView → Type 0
+IsFreshWorker silo w = (w.silo ≡ silo) × AllByRecursion IsMarked w.lines × (w.work ≡ Nothing) × (w.rounds ≡ 0) × (w.over ≡ None)
+
+-- so have the three loops of the silo
+abbrev pub IsFresh : ℕ → SiloView → Type 0
+IsFresh silo s = (s.silo ≡ silo) × IsFreshAgent s.agent × IsFreshWorker silo s.first × IsFreshWorker silo s.second
+
+-- the agent's passes are of the turnstiles of these lines
+abbrev pub IsAgentAt : List LineView → AgentView → Type 0
+IsAgentAt lines a = places a.lines ≡ places lines
+
+-- the worker's passes are of the turnstiles of these lines and of this pass at the directory
+abbrev pub IsWorkerAt : List LineView → DirectoryPass → WorkerView → Type 0
+IsWorkerAt lines d w = (places w.lines ≡ places lines) × (w.directory.turnstile ≡ d.turnstile)
+
+-- so are those of all loops of the silo
+pub record IsSiloAt (lines : List LineView) (d : DirectoryPass) (s : SiloView) : Type 0 where
+  pub agent : IsAgentAt lines s.agent
+  pub first : IsWorkerAt lines d s.first
+  pub second : IsWorkerAt lines d s.second
+
+-- the same silo, with its passes at the same turnstiles
+pub record IsSameSilo (s t : SiloView) : Type 0 where
+  pub silo : t.silo ≡ s.silo
+  pub agent : HasSamePlaces s.agent t.agent
+  pub first : IsBeside s.first t.first
+  pub second : IsBeside s.second t.second

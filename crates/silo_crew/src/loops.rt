@@ -1,0 +1,223 @@
+//! The loops of a silo.
+ghost use Rattle.std.specs.Prelude.{◌≡◌, ◌<◌, length, IfOk};
+ghost use Rattle.silo_crew.specs.Silos.{GoOn, IsAgentAt, IsFresh, IsFreshAgent, IsFreshWorker, IsSilent, IsSiloAt, IsWorkerAt};
+
+use crate::lines::{join_lines, split_lines};
+use activation_directory::{DirectoryOp, DirectoryReply};
+use shared_partition::Gate;
+use silo_loops::{AgentLoop, Assigned, DirectoryLine, Doorbell, Line, TurnRoom, WorkerLoop};
+use std::alloc::{AllocError, Global};
+use std::marker::Model;
+use std::sync::Arc;
+use stream_model::{Op, Reply};
+use turnstile::StoredHistory;
+
+/// What the loops of a silo go by: the gate, the doorbell, and the queues that are assigned to its agent.
+#[derive(Drop)]
+pub struct SiloTools<G> {
+    /// What handles the events.
+    pub gate: Arc<G, Global>,
+    /// Where the loops wait.
+    pub doorbell: Arc<Doorbell, Global>,
+    /// The queues of the agent.
+    pub assigned: Arc<Assigned, Global>,
+}
+
+impl<G: Drop> SiloTools<G> {
+    /// The same tools once more.
+    ///
+    /// # Errors
+    /// The call failed to allocate.
+    pub fn try_clone(&self) -> Result<SiloTools<G>, AllocError> {
+        Ok(SiloTools {
+            gate: Arc::try_clone(&self.gate)?,
+            doorbell: Arc::try_clone(&self.doorbell)?,
+            assigned: Arc::try_clone(&self.assigned)?,
+        })
+    }
+}
+
+/// The three loops of a silo: its agent and two turn workers, each with passes of its own.
+///
+/// A contract sees the silo and its loops.
+#[derive(Drop)]
+pub struct SiloLoops<
+    G: Gate,
+    H: StoredHistory<Op, Reply>,
+    D: StoredHistory<DirectoryOp, DirectoryReply>,
+> {
+    /// The silo, a number.
+    pub silo: u8,
+    /// The loop of its agent.
+    pub agent: AgentLoop<G, H>,
+    /// The loop of its first turn worker.
+    pub first: WorkerLoop<G, H, D>,
+    /// The loop of its second turn worker.
+    pub second: WorkerLoop<G, H, D>,
+}
+
+impl<G: Gate, H: StoredHistory<Op, Reply>, D: StoredHistory<DirectoryOp, DirectoryReply>> Model
+    for SiloLoops<G, H, D> {
+    ghost use Rattle.silo_crew.specs.Silos.{SiloView};
+
+    ghost Value = { SiloView };
+
+    ghost view = { λ s. record { silo = s.silo; agent = s.agent; first = s.first; second = s.second } };
+}
+
+// An agent with passes that are split off.
+fn make_agent<G: Gate, H: StoredHistory<Op, Reply>>(
+    alloc: Global,
+    tools: SiloTools<G>,
+    lines: &mut Vec<Line<G, H>>,
+) -> Result<AgentLoop<G, H>, AllocError>
+    ensures go_on { GoOn lines.old.items lines.new.items }
+    ensures fresh { IfOk result (λ agent. IsFreshAgent agent × IsAgentAt lines.new.items agent) }
+{
+    let own = split_lines(alloc, lines)?;
+    match AgentLoop::new(alloc, tools.doorbell, tools.assigned, own) {
+        Ok(agent) => Ok(agent),
+        Err(own) => {
+            join_lines(lines, own);
+            Err(AllocError)
+        }
+    }
+}
+
+// A worker with passes that are split off.
+fn make_worker<G: Gate, H: StoredHistory<Op, Reply>, D: StoredHistory<DirectoryOp, DirectoryReply>>(
+    alloc: Global,
+    silo: u8,
+    tools: SiloTools<G>,
+    lines: &mut Vec<Line<G, H>>,
+    directory: &mut DirectoryLine<D>,
+) -> Result<WorkerLoop<G, H, D>, AllocError>
+    requires some { 0 < length lines.old.items }
+    ensures go_on { GoOn lines.old.items lines.new.items }
+    ensures directory { IsSilent directory.old directory.new }
+    ensures fresh { IfOk result (λ worker. IsFreshWorker silo worker × IsWorkerAt lines.new.items directory.new worker) }
+{
+    let room = TurnRoom::new(alloc)?;
+    let own = split_lines(alloc, lines)?;
+    match directory.split() {
+        Ok(line) => Ok(WorkerLoop::new(silo, tools.gate, tools.doorbell, own, line, room)),
+        Err(error) => {
+            join_lines(lines, own);
+            Err(error)
+        }
+    }
+}
+
+// Takes back the passes of an agent.
+fn join_agent<G: Gate, H: StoredHistory<Op, Reply>>(
+    lines: &mut Vec<Line<G, H>>,
+    agent: AgentLoop<G, H>,
+)
+    requires { IsAgentAt lines.old.items agent }
+    ensures { GoOn lines.old.items lines.new.items }
+{
+    join_lines(lines, agent.into_lines());
+}
+
+// Takes back the passes of a worker.
+fn join_worker<G: Gate, H: StoredHistory<Op, Reply>, D: StoredHistory<DirectoryOp, DirectoryReply>>(
+    lines: &mut Vec<Line<G, H>>,
+    directory: &mut DirectoryLine<D>,
+    worker: WorkerLoop<G, H, D>,
+)
+    requires { IsWorkerAt lines.old.items directory.old worker }
+    ensures go_on { GoOn lines.old.items lines.new.items }
+    ensures directory { IsSilent directory.old directory.new }
+{
+    let (own, line) = worker.into_parts();
+    join_lines(lines, own);
+    directory.join(line);
+}
+
+// Two workers of a silo.
+fn make_workers<
+    G: Gate,
+    H: StoredHistory<Op, Reply>,
+    D: StoredHistory<DirectoryOp, DirectoryReply>,
+>(
+    alloc: Global,
+    silo: u8,
+    tools: &SiloTools<G>,
+    lines: &mut Vec<Line<G, H>>,
+    directory: &mut DirectoryLine<D>,
+) -> Result<(WorkerLoop<G, H, D>, WorkerLoop<G, H, D>), AllocError>
+    requires some { 0 < length lines.old.items }
+    ensures go_on { GoOn lines.old.items lines.new.items }
+    ensures directory { IsSilent directory.old directory.new }
+    ensures first { IfOk result (λ r. IsFreshWorker silo r.0 × IsWorkerAt lines.new.items directory.new r.0) }
+    ensures second { IfOk result (λ r. IsFreshWorker silo r.1 × IsWorkerAt lines.new.items directory.new r.1) }
+{
+    let first_tools = tools.try_clone()?;
+    let second_tools = tools.try_clone()?;
+    let first = make_worker(alloc, silo, first_tools, lines, directory)?;
+    match make_worker(alloc, silo, second_tools, lines, directory) {
+        Ok(second) => Ok((first, second)),
+        Err(error) => {
+            join_worker(lines, directory, first);
+            Err(error)
+        }
+    }
+}
+
+impl<G: Gate, H: StoredHistory<Op, Reply>, D: StoredHistory<DirectoryOp, DirectoryReply>> SiloLoops<
+    G,
+    H,
+    D,
+> {
+    /// The loops of a silo, which have done nothing yet, with passes that are split off from these.
+    ///
+    /// # Errors
+    /// The call failed to allocate, or a turnstile has no number for another pass. Each pass that was split off
+    /// is joined back.
+    pub fn new(
+        alloc: Global,
+        silo: u8,
+        tools: &SiloTools<G>,
+        lines: &mut Vec<Line<G, H>>,
+        directory: &mut DirectoryLine<D>,
+    ) -> Result<SiloLoops<G, H, D>, AllocError>
+        requires some { 0 < length lines.old.items }
+        ensures go_on { GoOn lines.old.items lines.new.items }
+        ensures directory { IsSilent directory.old directory.new }
+        ensures fresh { IfOk result (λ loops. IsFresh silo loops) }
+        ensures at { IfOk result (λ loops. IsSiloAt lines.new.items directory.new loops) }
+    {
+        let agent_tools = tools.try_clone()?;
+        let (first, second) = make_workers(alloc, silo, tools, lines, directory)?;
+        match make_agent(alloc, agent_tools, lines) {
+            Ok(agent) => Ok(SiloLoops {
+                silo,
+                agent,
+                first,
+                second,
+            }),
+            Err(error) => {
+                join_worker(lines, directory, first);
+                join_worker(lines, directory, second);
+                Err(error)
+            }
+        }
+    }
+
+    /// Takes the passes of all loops into these, at the same turnstiles. It takes no memory.
+    pub fn join_into(self, lines: &mut Vec<Line<G, H>>, directory: &mut DirectoryLine<D>)
+        requires { IsSiloAt lines.old.items directory.old self }
+        ensures go_on { GoOn lines.old.items lines.new.items }
+        ensures directory { IsSilent directory.old directory.new }
+    {
+        let SiloLoops {
+            silo: _,
+            agent,
+            first,
+            second,
+        } = self;
+        join_agent(lines, agent);
+        join_worker(lines, directory, first);
+        join_worker(lines, directory, second);
+    }
+}
