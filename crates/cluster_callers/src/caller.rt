@@ -44,6 +44,11 @@ impl<G: Gate, H: StoredHistory<Op, Reply>> Caller<G, H> {
         self.queues.len()
     }
 
+    /// The doorbell of the cluster's loops.
+    pub fn doorbell(&self) -> &Doorbell {
+        &self.doorbell
+    }
+
     /// Waits for its turn at a queue, does an operation there, and rings where a loop may then find more to
     /// do.
     ///

@@ -1,7 +1,7 @@
 //! A pass at the turnstile of a queue, as a producer holds it.
 ghost use Rattle.std.specs.Prelude.{◌≡◌, IfOk, OnErr, OnOk};
 ghost use Rattle.std.specs.Arc.{arc_value};
-ghost use Rattle.turnstile.specs.Calls.{HasOnlyMade, IsOf, IsSplitOff, joined_pass};
+ghost use Rattle.turnstile.specs.Calls.{Agree, HasOnlyMade, IsOf, IsSplitOff, joined_pass};
 ghost use Rattle.shared_partition.specs.Partitions.{BeganEmpty};
 ghost use Rattle.cluster_callers.specs.Calls.{IsUnused, QueueCalls};
 
@@ -92,7 +92,8 @@ impl<G: Gate, H: StoredHistory<Op, Reply>> QueueCaller<G, H> {
     /// more. It takes no memory.
     pub fn join(&mut self, other: QueueCaller<G, H>)
         requires { other.turnstile ≡ self.old.turnstile }
-        ensures { self.new ≡ joined_pass self.old other }
+        ensures joined { self.new ≡ joined_pass self.old other }
+        ensures agree { Agree self.old other self.new }
     {
         let (_turnstile, pass) = other.into_parts();
         self.turnstile.join(&mut self.pass, pass);

@@ -10,7 +10,7 @@ use Rattle.turnstile.specs.Passes.{PassView}
 use Rattle.turnstile.specs.declared.turnstile.Refusal.{Refusal}
 use Rattle.silo_loops.specs.Passes.{CallsBy}
 use Rattle.silo_loops.proofs.Owning.{calls-more, calls-number}
-use Rattle.silo_crew.specs.Silos.{GoesOn}
+use Rattle.silo_crew.specs.Silos.{GoesOn, IsSilent}
 use Rattle.cluster_operator.specs.Changes.{HasMade}
 
 module _ {A : Type 0} (P : A → Type 0) where
@@ -108,3 +108,16 @@ module _ {S O R : Type 0} (reply : S → O → R) (after : S → O → S) where
               | inr here ↦ elim here as (λ s. HasMade mark p IsSuch ⊎ IsSuch op r) [ inl is ↦ inr is.1 | inr none ↦ absurd none ]
             ]
       ]
+
+-- what was made since a pass that has made no call on its way to a later one is made since that one
+pub made-since-silent : {O R S : Type 0} (IsSuch : O → R → Type 0) (p q r : PassView O R S) → IsSilent p q → GoesOn q r → HasMade (length p.seen) r IsSuch → HasMade (length q.seen) r IsSuch
+made-since-silent {O} {R} {S} IsSuch p q r silent on made =
+    let whole = ap (λ (es : List (Entry O R)). drop (length p.seen) es) (on.seen ∙ ap (λ (es : List (Entry O R)). es ++ on.more) silent.on.seen ∙ append_assoc p.seen silent.on.more on.more) ∙ drop-append_seam p.seen (silent.on.more ++ on.more) in
+    let rest = ap (λ (es : List (Entry O R)). drop (length q.seen) es) on.seen ∙ drop-append_seam q.seen on.more in
+    let renumber = some-map (λ (e : Entry O R). (e.number ≡ r.number) × IsSuch e.op e.reply) (λ (e : Entry O R). (e.number ≡ p.number) × IsSuch e.op e.reply) (λ e is. (is.0 ∙ on.number ∙ silent.on.number, is.1)) silent.on.more in
+    let parts = some-cases (λ (e : Entry O R). (e.number ≡ r.number) × IsSuch e.op e.reply) silent.on.more on.more
+    (subst (λ (es : List (Entry O R)). HasSome (λ (e : Entry O R). (e.number ≡ r.number) × IsSuch e.op e.reply) es) whole made) in
+    elim parts as (λ s. HasMade (length q.seen) r IsSuch) [
+      | inl before ↦ absurd (none-foreign p.number [] IsSuch silent.on.more silent.foreign (renumber before))
+      | inr since ↦ subst (λ (es : List (Entry O R)). HasSome (λ (e : Entry O R). (e.number ≡ r.number) × IsSuch e.op e.reply) es) (sym rest) since
+    ]

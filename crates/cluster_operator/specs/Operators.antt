@@ -1,5 +1,5 @@
 -- What the operator of a cluster holds, and what a change of silos leaves.
-use Rattle.std.specs.Prelude.{◌≡◌, ◌≢◌, ℕ, ◌<◌, List, [], ◌∷◌, ◌++◌, length}
+use Rattle.std.specs.Prelude.{◌≡◌, ℕ, ◌<◌, List, length}
 use Rattle.queue_balancer.specs.Balance.{HasNoDoubles, IsBalanced}
 use Rattle.silo_loops.specs.Lines.{DirectoryPass, LineView}
 use Rattle.silo_crew.specs.Silos.{GoOn, GoesOn}
@@ -33,11 +33,3 @@ pub record HasOnlyGoneOn (v w : OperatorView) : Type 0 where
 pub record HasSpread (v w : OperatorView) : Type 0 where
   pub balanced : IsBalanced v.assignment w.live w.assignment
   pub moved : HaveMoved v.lines w.lines v.assignment w.assignment
-
--- the silos with one more, which didn't live
-abbrev pub HasGained : ℕ → List ℕ → List ℕ → Type 0
-HasGained silo old new = new ≡ old ++ silo ∷ []
-
--- the silos without this one
-abbrev pub HasLost : ℕ → List ℕ → List ℕ → Type 0
-HasLost silo old new = (before : List ℕ) × (later : List ℕ) × (old ≡ before ++ silo ∷ later) × (new ≡ before ++ later)

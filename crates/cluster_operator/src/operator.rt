@@ -132,6 +132,22 @@ impl<G: Gate, H: StoredHistory<Op, Reply>, D: StoredHistory<DirectoryOp, Directo
         })
     }
 
+    /// The doorbell, and the operator's passes of the queues.
+    pub fn into_lines(self) -> (Arc<Doorbell, Global>, Vec<Line<G, H>>)
+        ensures { result.1.items ≡ self.lines }
+    {
+        let Operator {
+            gate: _gate,
+            doorbell,
+            agents: _agents,
+            lines,
+            directory: _directory,
+            live: _live,
+            assignment: _assignment,
+        } = self;
+        (doorbell, lines)
+    }
+
     /// The doorbell at which all loops wait.
     pub fn doorbell(&self) -> &Doorbell {
         &self.doorbell

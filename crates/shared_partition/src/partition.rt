@@ -83,6 +83,19 @@ impl<G: Gate, H: StoredHistory<Op, Reply>> SharedPartition<G, H> {
         })
     }
 
+    /// The partition, without the gate.
+    pub fn into_partition(self) -> Partition
+        ensures { result ≡ self }
+    {
+        let SharedPartition {
+            partition,
+            gate: _gate,
+            queue: _,
+            history: _,
+        } = self;
+        Box::into_inner(partition)
+    }
+
     /// Waits for its turn, and does one operation on the partition of a turnstile that began with an empty
     /// one.
     ///

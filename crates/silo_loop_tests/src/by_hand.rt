@@ -2,7 +2,7 @@ use crate::cluster::{Cluster, KEYS};
 use crate::operations::{add_rule, grain, subscribe, unsubscribe};
 use crate::silo::Loop;
 use silo_loops::Advance;
-use std::alloc::{AllocError, Global};
+use std::alloc::Global;
 use std::process::Abort;
 use std::sync::Wait;
 use std::test::Fail;
@@ -11,12 +11,12 @@ use step_core::{Op, Reply};
 const CALLS: u64 = 1_000_000;
 
 // One queue with a subscription, which the agent of the first silo has.
-fn one_queue<R: Wait + Abort>(rt: &R, alloc: Global) -> Result<Cluster, AllocError> {
-    let mut cluster = Cluster::new(alloc, 1, CALLS)?;
+fn one_queue<R: Wait + Abort>(rt: &R, alloc: Global) -> Cluster {
+    let mut cluster = Cluster::new(rt, alloc, 1, CALLS);
     cluster.one().assign(0, Some(0));
     let op = subscribe(rt, KEYS[0]);
     assert!(rt; cluster.ask(rt, alloc, 0, op) == Reply::Subscribed { number: 1 });
-    Ok(cluster)
+    cluster
 }
 
 // A step of the first worker, and what the gate was told then: calls since some time, and work.
@@ -62,7 +62,7 @@ const TURN: [(u64, (u64, u64, u64)); 11] = [
 #[test]
 fn a_turn_step_by_step(rt: HostRuntime) -> Result<(), Fail> {
     let alloc = rt.alloc();
-    let mut cluster = one_queue(&rt, alloc)?;
+    let mut cluster = one_queue(&rt, alloc);
     cluster.publish(&rt, alloc, 0, 3);
     cluster.rest(&rt, alloc, Loop::Agent);
     let since = cluster.gate().calls();
@@ -72,7 +72,7 @@ fn a_turn_step_by_step(rt: HostRuntime) -> Result<(), Fail> {
     let did = cluster.advance(&rt, alloc, true, Loop::First);
     assert!(rt; did == Advance::Idle && cluster.one().rounds()[1] == 2);
     is_settled(&rt, alloc, &mut cluster, 3);
-    cluster.finish(&rt, alloc)?;
+    cluster.finish(&rt, alloc);
     Ok(())
 }
 
@@ -88,7 +88,7 @@ const LOST: [(u64, (u64, u64, u64)); 4] = [
 #[test]
 fn a_turn_that_is_lost(rt: HostRuntime) -> Result<(), Fail> {
     let alloc = rt.alloc();
-    let mut cluster = one_queue(&rt, alloc)?;
+    let mut cluster = one_queue(&rt, alloc);
     cluster.publish(&rt, alloc, 0, 3);
     cluster.rest(&rt, alloc, Loop::Agent);
     let since = cluster.gate().calls();
@@ -104,7 +104,7 @@ fn a_turn_that_is_lost(rt: HostRuntime) -> Result<(), Fail> {
     }
     cluster.settle_one(&rt, alloc);
     assert!(rt; cluster.gate().work() == (6, 1, 1));
-    cluster.finish(&rt, alloc)?;
+    cluster.finish(&rt, alloc);
     Ok(())
 }
 
@@ -130,7 +130,7 @@ fn round<R: Wait + Abort>(
 #[test]
 fn all_operations_of_a_producer(rt: HostRuntime) -> Result<(), Fail> {
     let alloc = rt.alloc();
-    let mut cluster = one_queue(&rt, alloc)?;
+    let mut cluster = one_queue(&rt, alloc);
     is_settled(&rt, alloc, &mut cluster, 0);
     cluster.publish(&rt, alloc, 0, 40);
     is_settled(&rt, alloc, &mut cluster, 40);
@@ -148,7 +148,7 @@ fn all_operations_of_a_producer(rt: HostRuntime) -> Result<(), Fail> {
         0,
         870,
     );
-    cluster.finish(&rt, alloc)?;
+    cluster.finish(&rt, alloc);
     Ok(())
 }
 
@@ -156,14 +156,14 @@ fn all_operations_of_a_producer(rt: HostRuntime) -> Result<(), Fail> {
 #[test]
 fn a_full_mailbox(rt: HostRuntime) -> Result<(), Fail> {
     let alloc = rt.alloc();
-    let mut cluster = one_queue(&rt, alloc)?;
+    let mut cluster = one_queue(&rt, alloc);
     cluster.publish(&rt, alloc, 0, 20);
     cluster.rest(&rt, alloc, Loop::Agent);
     cluster.rest(&rt, alloc, Loop::Agent);
     cluster.rest(&rt, alloc, Loop::First);
     assert!(rt; cluster.gate().work() == (16, 1, 0));
     is_settled(&rt, alloc, &mut cluster, 20);
-    cluster.finish(&rt, alloc)?;
+    cluster.finish(&rt, alloc);
     Ok(())
 }
 
@@ -172,7 +172,7 @@ fn a_full_mailbox(rt: HostRuntime) -> Result<(), Fail> {
 #[test]
 fn a_stale_generation(rt: HostRuntime) -> Result<(), Fail> {
     let alloc = rt.alloc();
-    let mut cluster = one_queue(&rt, alloc)?;
+    let mut cluster = one_queue(&rt, alloc);
     let moved = cluster.ask(&rt, alloc, 0, Op::Move { silo: 0 });
     assert!(rt; matches!(moved, Reply::Moved { generation: 1, .. }));
     for (generation, handled) in [(Some(0), 0), (Some(1), 10), (None, 10), (Some(1), 20)] {
@@ -182,6 +182,6 @@ fn a_stale_generation(rt: HostRuntime) -> Result<(), Fail> {
         assert!(rt; cluster.gate().work().0 == handled);
     }
     is_settled(&rt, alloc, &mut cluster, 20);
-    cluster.finish(&rt, alloc)?;
+    cluster.finish(&rt, alloc);
     Ok(())
 }

@@ -44,22 +44,22 @@ pub struct Cluster {
 
 impl Cluster {
     /// Empty queues, whose histories have at most so many calls each. The doorbell's count is about to wrap.
-    pub fn new(alloc: Global, queues: usize, calls: u64) -> Result<Cluster, AllocError> {
-        let gate = Arc::new(alloc, Recorder::new())?;
-        let mut queues = open_all(alloc, &gate, queues, calls)?;
+    pub fn new<R: Abort>(rt: &R, alloc: Global, queues: usize, calls: u64) -> Cluster {
+        let gate = Arc::new(alloc, Recorder::new()).expect(rt, "memory");
+        let mut queues = open_all(rt, alloc, &gate, queues, calls);
         let mut shared = Shared {
             gate,
-            doorbell: Arc::new(alloc, Doorbell::new(u64::MAX - 2))?,
-            directory: directory(alloc)?,
+            doorbell: Arc::new(alloc, Doorbell::new(u64::MAX - 2)).expect(rt, "memory"),
+            directory: directory(rt, alloc),
         };
-        let one = Silo::new(alloc, &mut shared, &mut queues, 0)?;
-        let other = Silo::new(alloc, &mut shared, &mut queues, 1)?;
-        Ok(Cluster {
+        let one = Silo::new(rt, alloc, &mut shared, &mut queues, 0);
+        let other = Silo::new(rt, alloc, &mut shared, &mut queues, 1);
+        Cluster {
             shared,
             queues,
             one,
             other,
-        })
+        }
     }
 
     pub fn gate(&self) -> &Recorder {
@@ -69,6 +69,11 @@ impl Cluster {
     /// How often the doorbell was rung, and two less.
     pub fn rung<R: Wait>(&self, rt: &R) -> u64 {
         self.shared.doorbell.now(rt)
+    }
+
+    /// Whether a loop has ended by itself.
+    pub fn has_ended(&self) -> bool {
+        self.shared.doorbell.has_ended()
     }
 
     pub fn one(&self) -> &Silo {
@@ -167,7 +172,7 @@ impl Cluster {
     }
 
     /// Closes each queue, to which all passes come back, and compares its history with the plain program.
-    pub fn finish<R: Abort>(self, rt: &R, alloc: Global) -> Result<(), AllocError> {
+    pub fn finish<R: Abort>(self, rt: &R, alloc: Global) {
         let Cluster {
             shared: _,
             mut queues,
@@ -177,29 +182,29 @@ impl Cluster {
         one.leave(&mut queues);
         other.leave(&mut queues);
         for queue in queues {
-            let history = queue.finish(rt, alloc)?;
+            let history = queue.finish(rt, alloc);
             replay(rt, alloc, history.as_slice());
         }
-        Ok(())
     }
 }
 
-fn open_all(
+fn open_all<R: Abort>(
+    rt: &R,
     alloc: Global,
     gate: &Arc<Recorder, Global>,
     count: usize,
     calls: u64,
-) -> Result<Vec<Queue>, AllocError> {
-    let mut queues = Vec::new(alloc);
+) -> Vec<Queue> {
+    let mut queues = Vec::with_capacity(alloc, count).expect(rt, "memory");
     for queue in 0..count {
-        queues.push(Queue::open(alloc, gate, queue, calls)?)?;
+        queues.push_reserved(Queue::open(rt, alloc, gate, queue, calls));
     }
-    Ok(queues)
+    queues
 }
 
-fn directory(alloc: Global) -> Result<Directory, AllocError> {
-    let (turnstile, pass) = open_directory(alloc)?;
-    Ok(DirectoryLine::new(Arc::new(alloc, turnstile)?, pass))
+fn directory<R: Abort>(rt: &R, alloc: Global) -> Directory {
+    let (turnstile, pass) = open_directory(alloc).expect(rt, "memory");
+    DirectoryLine::new(Arc::new(alloc, turnstile).expect(rt, "memory"), pass)
 }
 
 // A turnstile over an empty directory.

@@ -27,15 +27,16 @@ fn use_up<R: Wait + Abort>(rt: &R, alloc: Global, cluster: &mut Cluster) {
         cluster.rest(rt, alloc, Loop::Agent);
     }
     let rung = cluster.rung(rt);
+    assert!(rt; !cluster.has_ended());
     assert!(rt; cluster.advance(rt, alloc, true, Loop::Agent) == Advance::Over(Over::Rounds));
-    assert!(rt; cluster.rung(rt) == rung.wrapping_add(1));
+    assert!(rt; cluster.has_ended() && cluster.rung(rt) == rung.wrapping_add(1));
 }
 
 // A loop makes a million rounds at most.
 #[test]
 fn no_round_is_left(rt: HostRuntime) -> Result<(), Fail> {
     let alloc = rt.alloc();
-    let mut cluster = Cluster::new(alloc, 1, 100)?;
+    let mut cluster = Cluster::new(&rt, alloc, 1, 100);
     use_up(&rt, alloc, &mut cluster);
     has_ended(&rt, alloc, &mut cluster, Loop::Agent, Over::Rounds);
     assert!(rt; cluster.one().rounds()[0] == MOST_ROUNDS);
@@ -59,12 +60,12 @@ fn run_against<R: Wait + Abort>(rt: &R, alloc: Global, cluster: &mut Cluster, wh
 #[test]
 fn a_full_history(rt: HostRuntime) -> Result<(), Fail> {
     let alloc = rt.alloc();
-    let mut cluster = Cluster::new(alloc, 1, 10)?;
+    let mut cluster = Cluster::new(&rt, alloc, 1, 10);
     cluster.one().assign(0, Some(0));
     run_against(&rt, alloc, &mut cluster, Loop::Agent);
     run_against(&rt, alloc, &mut cluster, Loop::First);
     run_against(&rt, alloc, &mut cluster, Loop::Second);
     assert!(rt; cluster.gate().calls() == 10);
-    cluster.finish(&rt, alloc)?;
+    cluster.finish(&rt, alloc);
     Ok(())
 }

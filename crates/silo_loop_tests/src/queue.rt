@@ -49,24 +49,25 @@ impl Model for Queue {
 
 impl Queue {
     /// An empty queue, whose history has at most so many calls.
-    pub fn open(
+    pub fn open<R: Abort>(
+        rt: &R,
         alloc: Global,
         gate: &Arc<Recorder, Global>,
         queue: usize,
         calls: u64,
-    ) -> Result<Queue, AllocError> {
-        let gate = Arc::try_clone(gate)?;
-        let (turnstile, mut pass) = opened(alloc, gate, queue, calls)?;
-        let turnstile = Arc::new(alloc, turnstile)?;
+    ) -> Queue {
+        let gate = Arc::try_clone(gate).expect(rt, "memory");
+        let (turnstile, mut pass) = opened(alloc, gate, queue, calls).expect(rt, "memory");
+        let turnstile = Arc::new(alloc, turnstile).expect(rt, "memory");
         let Ok(other) = turnstile.split(&mut pass) else {
-            return Err(AllocError);
+            panic!(rt; "a number is left");
         };
-        let line = Line::new(Arc::try_clone(&turnstile)?, other);
-        Ok(Queue {
+        let line = Line::new(Arc::try_clone(&turnstile).expect(rt, "memory"), other);
+        Queue {
             turnstile,
             pass,
             line,
-        })
+        }
     }
 
     /// Does an operation of a producer, which isn't refused, and rings.
@@ -89,11 +90,11 @@ impl Queue {
     }
 
     /// A line for a loop.
-    pub fn split(&mut self) -> Result<QueueLine, AllocError>
+    pub fn split<R: Abort>(&mut self, rt: &R) -> QueueLine
         ensures same { self.new ≡ self.old }
-        ensures line { IfOk result (λ line. line.pass.turnstile ≡ self.old) }
+        ensures line { result.pass.turnstile ≡ self.old }
     {
-        self.line.split()
+        self.line.split().expect(rt, "memory")
     }
 
     /// Takes the line of a loop back.
@@ -105,7 +106,7 @@ impl Queue {
     }
 
     /// The history of the queue. Each line has to be back.
-    pub fn finish<R: Abort>(self, rt: &R, alloc: Global) -> Result<History, AllocError> {
+    pub fn finish<R: Abort>(self, rt: &R, alloc: Global) -> History {
         let Queue {
             turnstile,
             pass,
@@ -113,12 +114,12 @@ impl Queue {
         } = self;
         let (again, other) = line.into_parts();
         drop(again);
-        let passes = pair(alloc, pass, other)?;
+        let passes = pair(alloc, pass, other).expect(rt, "memory");
         let turnstile = Arc::into_inner(turnstile).expect(rt, "no loop has it");
         let Closed::Traced(done) = turnstile.close(passes) else {
             panic!(rt; "no pass is missing");
         };
-        Ok(done.history)
+        done.history
     }
 }
 

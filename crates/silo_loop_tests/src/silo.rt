@@ -1,5 +1,5 @@
 //! A silo by hand.
-ghost use Rattle.std.specs.Prelude.{◌≡◌, IfOk};
+ghost use Rattle.std.specs.Prelude.{◌≡◌};
 ghost use Rattle.silo_loops.specs.Lines.{places};
 ghost use Rattle.silo_loops.specs.Workers.{IsBeside};
 
@@ -9,7 +9,7 @@ use activation_directory::{DirectoryOp, DirectoryReply};
 use silo_loops::{
     Advance, AgentLoop, Assigned, DirectoryLine, Doorbell, Over, TurnRoom, WorkerLoop,
 };
-use std::alloc::{AllocError, Global};
+use std::alloc::Global;
 use std::marker::Model;
 use std::process::Abort;
 use std::sync::atomic::AtomicBool;
@@ -68,25 +68,27 @@ pub struct Shared {
 
 impl Silo {
     /// A silo whose agent has no queue yet.
-    pub fn new(
+    pub fn new<R: Abort>(
+        rt: &R,
         alloc: Global,
         shared: &mut Shared,
         queues: &mut Vec<Queue>,
         number: u8,
-    ) -> Result<Silo, AllocError>
+    ) -> Silo
         ensures queues { queues.new.items ≡ queues.old.items }
-        ensures silo { IfOk result (λ silo. silo ≡ queues.old.items) }
+        ensures silo { result ≡ queues.old.items }
     {
-        let assigned = Arc::new(alloc, Assigned::new(alloc, queues.len())?)?;
-        let agent = new_agent(alloc, shared, queues, &assigned)?;
-        let first = new_worker(alloc, shared, queues, number)?;
-        let second = new_worker(alloc, shared, queues, number)?;
-        Ok(Silo {
+        let assigned = Assigned::new(alloc, queues.len()).expect(rt, "memory");
+        let assigned = Arc::new(alloc, assigned).expect(rt, "memory");
+        let agent = new_agent(rt, alloc, shared, queues, &assigned);
+        let first = new_worker(rt, alloc, shared, queues, number);
+        let second = new_worker(rt, alloc, shared, queues, number);
+        Silo {
             assigned,
             agent,
             first,
             second,
-        })
+        }
     }
 
     /// Its agent has the queue from now on, under this generation, or has it no more.
@@ -209,54 +211,54 @@ fn run_workers<R: Threads + Wait + Sync>(
     )
 }
 
-fn new_agent(
+fn new_agent<R: Abort>(
+    rt: &R,
     alloc: Global,
     shared: &Shared,
     queues: &mut Vec<Queue>,
     assigned: &Arc<Assigned, Global>,
-) -> Result<Agent, AllocError>
+) -> Agent
     ensures queues { queues.new.items ≡ queues.old.items }
-    ensures agent { IfOk result (λ agent. places agent.lines ≡ queues.old.items) }
+    ensures agent { places result.lines ≡ queues.old.items }
 {
-    let lines = split_all(alloc, queues)?;
-    let doorbell = Arc::try_clone(&shared.doorbell)?;
-    let assigned = Arc::try_clone(assigned)?;
+    let doorbell = Arc::try_clone(&shared.doorbell).expect(rt, "memory");
+    let assigned = Arc::try_clone(assigned).expect(rt, "memory");
+    let lines = split_all(rt, alloc, queues);
     match AgentLoop::new(alloc, doorbell, assigned, lines) {
-        Ok(agent) => Ok(agent),
-        Err(_lines) => Err(AllocError),
+        Ok(agent) => agent,
+        Err(_lines) => panic!(rt; "memory"),
     }
 }
 
-fn new_worker(
+fn new_worker<R: Abort>(
+    rt: &R,
     alloc: Global,
     shared: &mut Shared,
     queues: &mut Vec<Queue>,
     silo: u8,
-) -> Result<Worker, AllocError>
+) -> Worker
     ensures queues { queues.new.items ≡ queues.old.items }
-    ensures worker { IfOk result (λ worker. places worker.lines ≡ queues.old.items) }
+    ensures worker { places result.lines ≡ queues.old.items }
 {
-    let lines = split_all(alloc, queues)?;
-    if lines.is_empty() {
-        return Err(AllocError);
-    }
-    let gate = Arc::try_clone(&shared.gate)?;
-    let doorbell = Arc::try_clone(&shared.doorbell)?;
-    let directory = shared.directory.split()?;
-    let room = TurnRoom::new(alloc)?;
-    Ok(WorkerLoop::new(silo, gate, doorbell, lines, directory, room))
+    let gate = Arc::try_clone(&shared.gate).expect(rt, "memory");
+    let doorbell = Arc::try_clone(&shared.doorbell).expect(rt, "memory");
+    let directory = shared.directory.split().expect(rt, "memory");
+    let room = TurnRoom::new(alloc).expect(rt, "memory");
+    let lines = split_all(rt, alloc, queues);
+    assert!(rt; !lines.is_empty());
+    WorkerLoop::new(silo, gate, doorbell, lines, directory, room)
 }
 
 // A line of each queue.
-fn split_all(alloc: Global, queues: &mut Vec<Queue>) -> Result<Vec<QueueLine>, AllocError>
+fn split_all<R: Abort>(rt: &R, alloc: Global, queues: &mut Vec<Queue>) -> Vec<QueueLine>
     ensures queues { queues.new.items ≡ queues.old.items }
-    ensures lines { IfOk result (λ lines. places lines.items ≡ queues.old.items) }
+    ensures lines { places result.items ≡ queues.old.items }
 {
-    let mut lines = Vec::new(alloc);
+    let mut lines = Vec::with_capacity(alloc, queues.len()).expect(rt, "memory");
     for at in 0..queues.len() {
-        lines.push(queues[at].split()?)?;
+        lines.push_reserved(queues[at].split(rt));
     }
-    Ok(lines)
+    lines
 }
 
 // Each queue takes its line back.

@@ -3,7 +3,7 @@ use crate::operations::{subscribe, unsubscribe};
 use crate::silo::{Loop, Silo};
 use rand::rngs::SmallRng;
 use rand::{RngExt, SeedableRng};
-use std::alloc::{AllocError, Global};
+use std::alloc::Global;
 use std::process::Abort;
 use std::sync::Wait;
 use std::test::Fail;
@@ -23,12 +23,12 @@ fn subscribe_both<R: Wait + Abort>(rt: &R, alloc: Global, cluster: &mut Cluster)
 }
 
 // Two queues, each of which the agent of one silo has.
-fn two_queues<R: Wait + Abort>(rt: &R, alloc: Global) -> Result<Cluster, AllocError> {
-    let mut cluster = Cluster::new(alloc, 2, 1_000_000)?;
+fn two_queues<R: Wait + Abort>(rt: &R, alloc: Global) -> Cluster {
+    let mut cluster = Cluster::new(rt, alloc, 2, 1_000_000);
     cluster.one().assign(0, Some(0));
     cluster.other().assign(1, Some(0));
     subscribe_both(rt, alloc, &mut cluster);
-    Ok(cluster)
+    cluster
 }
 
 // The queue goes to a silo. The agent that had it isn't told, and goes on under a stale generation.
@@ -105,12 +105,12 @@ fn is_done<R: Wait + Abort>(rt: &R, alloc: Global, cluster: &mut Cluster, publis
 fn two_silos_in_random_orders(rt: HostRuntime) -> Result<(), Fail> {
     let alloc = rt.alloc();
     for seed in [7, 11] {
-        let mut cluster = two_queues(&rt, alloc)?;
+        let mut cluster = two_queues(&rt, alloc);
         let published = interleave(&rt, alloc, &mut cluster, seed);
         assert!(rt; published > 1_000);
         cluster.settle(&rt, alloc);
         is_done(&rt, alloc, &mut cluster, published);
-        cluster.finish(&rt, alloc)?;
+        cluster.finish(&rt, alloc);
     }
     Ok(())
 }
@@ -128,14 +128,14 @@ fn has_waited<R: Abort>(rt: &R, silo: &Silo, rung: u64) {
 #[test]
 fn two_silos_in_threads(rt: HostRuntime) -> Result<(), Fail> {
     let alloc = rt.alloc();
-    let cluster = two_queues(&rt, alloc)?;
+    let cluster = two_queues(&rt, alloc);
     let before = cluster.rung(&rt);
     let mut cluster = cluster.run(&rt, alloc, Beside::Publish(500));
     let rung = cluster.rung(&rt).wrapping_sub(before);
     has_waited(&rt, cluster.one(), rung);
     has_waited(&rt, cluster.other(), rung);
     is_done(&rt, alloc, &mut cluster, 1_000);
-    cluster.finish(&rt, alloc)?;
+    cluster.finish(&rt, alloc);
     Ok(())
 }
 
@@ -144,10 +144,10 @@ fn two_silos_in_threads(rt: HostRuntime) -> Result<(), Fail> {
 #[test]
 fn idle_silos_in_threads(rt: HostRuntime) -> Result<(), Fail> {
     let alloc = rt.alloc();
-    let cluster = two_queues(&rt, alloc)?;
+    let cluster = two_queues(&rt, alloc);
     let calls = cluster.gate().calls().wrapping_add(12);
     let cluster = cluster.run(&rt, alloc, Beside::Watch(calls));
     assert!(rt; cluster.one().rounds() == [1; 3] && cluster.other().rounds() == [1; 3]);
-    cluster.finish(&rt, alloc)?;
+    cluster.finish(&rt, alloc);
     Ok(())
 }

@@ -48,7 +48,7 @@ pub(crate) fn told<R: Wait>(rt: &R, doorbell: &Doorbell, over: Option<Over>) -> 
     match over {
         None => Advance::Did,
         Some(end) => {
-            doorbell.ring(rt);
+            doorbell.end(rt);
             Advance::Over(end)
         }
     }

@@ -2,7 +2,7 @@
 ghost use Rattle.std.specs.Prelude.{◌≡◌, false};
 ghost use Rattle.silo_loops.specs.Agents.{AgentMay};
 ghost use Rattle.silo_loops.specs.Answers.{end_in};
-ghost use Rattle.silo_loops.specs.Lines.{is_producer};
+ghost use Rattle.stream_model.specs.Producers.{is_producer};
 
 use crate::advance::Over;
 use crate::answer::Answer;

@@ -15,6 +15,7 @@ use stream_model::Reply;
 pub struct Doorbell {
     count: Mutex<u64>,
     rung: Condvar,
+    ended: AtomicBool,
 }
 
 impl Doorbell {
@@ -23,6 +24,7 @@ impl Doorbell {
         Doorbell {
             count: Mutex::new(count),
             rung: Condvar::new(),
+            ended: AtomicBool::new(false),
         }
     }
 
@@ -32,6 +34,17 @@ impl Doorbell {
         *count = count.wrapping_add(1);
         drop(count);
         self.rung.notify_all();
+    }
+
+    // A loop has ended by itself. That is to be seen before those who wait look again.
+    pub(crate) fn end<R: Wait>(&self, rt: &R) {
+        self.ended.store(true, Ordering::SeqCst);
+        self.ring(rt);
+    }
+
+    /// Whether a loop has ended by itself. Then a queue may never get quiet.
+    pub fn has_ended(&self) -> bool {
+        self.ended.load(Ordering::SeqCst)
     }
 
     /// The count, to be remembered before a loop looks for something to do.

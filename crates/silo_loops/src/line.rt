@@ -3,7 +3,8 @@ ghost use Rattle.std.specs.Prelude.{◌≡◌, ◌≤◌, false, true, length, m
 ghost use Rattle.std.specs.Arc.{arc_value};
 ghost use Rattle.turnstile.specs.Calls.{Agree, HasOnlyMade, IsOf, IsSplitOff, joined_pass};
 ghost use Rattle.shared_partition.specs.Partitions.{BeganEmpty};
-ghost use Rattle.silo_loops.specs.Lines.{CallsOn, Hears, HasLooked, HasPulled, NeverProduces, is_producer, is_pull, is_ready, rested};
+ghost use Rattle.stream_model.specs.Producers.{is_producer};
+ghost use Rattle.silo_loops.specs.Lines.{CallsOn, Hears, HasLooked, HasPulled, NeverProduces, is_pull, is_ready, rested};
 
 use crate::answer::{Answer, answer_of, keep_events};
 use crate::doorbell::{Doorbell, rings};

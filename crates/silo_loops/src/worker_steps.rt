@@ -1,6 +1,7 @@
 //! The steps of a worker, each one call or one piece of work.
 ghost use Rattle.std.specs.Prelude.{◌≡◌, ℕ, ◌<◌, ◌≤◌, false, length, List, vec_capacity};
-ghost use Rattle.silo_loops.specs.Lines.{DirectoryPass, HearsAt, LineView, is_producer};
+ghost use Rattle.stream_model.specs.Producers.{is_producer};
+ghost use Rattle.silo_loops.specs.Lines.{DirectoryPass, HearsAt, LineView};
 ghost use Rattle.stream_ident.specs.declared.event.Event.{Event};
 ghost use Rattle.silo_loops.specs.Walks.{IsAt};
 ghost use Rattle.silo_loops.specs.Workers.{WorkerSteps, WorkerWorks, worker_at};

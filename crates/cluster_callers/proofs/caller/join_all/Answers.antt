@@ -20,5 +20,5 @@ join-requires-after_bounds g c = λ κs bounds.
 pub loop-other-preserved : goal.loop-other-preserved
 loop-other-preserved g c =
     let len = c.len.ensures in
-    let more = join-more c.loop-other.queues.items c.loop-other.others.items c.pop.new.self.items (set c.loop-other.queues.items c.len.result c.join.new.self) (joined_passes c.args.queues.now.items c.args.others.items) c.len.result c.index_mut-queue.result.now c.in-Some.other c.join.new.self c.in-Some.ensures.items (first_of (omega (arith, len), search rules, grind (arith, common_steps))) c.loop-other.invariant.alike c.index_mut-queue.ensures.value c.join.ensures refl c.loop-other.invariant.joined in
+    let more = join-more c.loop-other.queues.items c.loop-other.others.items c.pop.new.self.items (set c.loop-other.queues.items c.len.result c.join.new.self) (joined_passes c.args.queues.now.items c.args.others.items) c.len.result c.index_mut-queue.result.now c.in-Some.other c.join.new.self c.in-Some.ensures.items (first_of (omega (arith, len), search rules, grind (arith, common_steps))) c.loop-other.invariant.alike c.index_mut-queue.ensures.value c.join.ensures.joined refl c.loop-other.invariant.joined in
     record { alike = more.0; joined = more.1 }

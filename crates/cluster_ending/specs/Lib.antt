@@ -1,0 +1,5 @@
+pub mod Asking
+pub mod Closing
+pub mod Ends
+pub mod Finishing
+pub mod Gathering

@@ -1,0 +1,48 @@
+//! Whether each queue of a cluster is quiet.
+ghost use Rattle.std.specs.Prelude.{◌≡◌};
+ghost use Rattle.cluster_callers.specs.Calls.{turnstiles};
+ghost use Rattle.cluster_ending.specs.Asking.{AsksQuiet};
+
+use cluster_callers::Caller;
+use shared_partition::Gate;
+use std::alloc::Global;
+use std::sync::Wait;
+use stream_model::{Op, Pending, Reply};
+use turnstile::{Refusal, StoredHistory};
+
+/// What the queues of a cluster answer.
+#[derive(Clone, Copy, Debug, PartialEq, Eq)]
+pub enum Quiet {
+    /// In each queue everything is pulled, delivered and handled.
+    All,
+    /// In a queue something is left to do. Each queue before it is quiet, and those behind it weren't asked.
+    NotQuiet {
+        /// The queue.
+        queue: usize,
+        /// What is left to do there.
+        why: Pending,
+    },
+}
+
+/// Asks each queue whether it is quiet, one after another, up to the first that isn't.
+///
+/// # Errors
+/// A queue refused the call, as [`Caller::call`] says. Each queue before it is quiet, and those behind it
+/// weren't asked.
+pub fn ask_quiet<G: Gate, H: StoredHistory<Op, Reply>, R: Wait>(
+    rt: &R,
+    alloc: Global,
+    caller: &mut Caller<G, H>,
+) -> Result<Quiet, Refusal>
+    ensures asks { AsksQuiet caller.old result caller.new }
+    ensures turnstiles { turnstiles caller.new ≡ turnstiles caller.old }
+{
+    for queue in 0..caller.queues() {
+        match caller.call(rt, alloc, queue, Op::Quiet)? {
+            Reply::IsQuiet => {}
+            Reply::NotQuiet(why) => return Ok(Quiet::NotQuiet { queue, why }),
+            _ => unreachable!(),
+        }
+    }
+    Ok(Quiet::All)
+}

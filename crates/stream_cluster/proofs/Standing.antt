@@ -1,0 +1,323 @@
+-- What a change of silos leaves.
+use Rattle.std.proofs.Common.{◌≡◌, ◌≢◌, ℕ, zero, suc, ◌<◌, ◌≤◌, ◌+◌, true, false, List, [], ◌∷◌, ◌++◌, length, get_or, map, take, drop, remove, Contains, Option, Some, Result, Ok, Err, refl, sym, ap, subst, ◌∙◌, arith}
+use Rattle.std.proofs.lemmas.List.{get_or-map, length-map, map-append}
+use Rattle.std.proofs.lemmas.Option.{slice_get-get_or, slice_get_within}
+use Rattle.std.proofs.lemmas.List.FromFn.{get_or-range_with_len, length-range_with_len}
+use Rattle.std.specs.List.{AllByRecursion, AllZip, range_with_len, slice_get, slice_index}
+use Rattle.std.specs.Option.{unwrap_or}
+use Rattle.std.specs.Prelude.{replicate, IfOk, ◌||◌}
+use Rattle.std.specs.declared.alloc.AllocError.{AllocError}
+use Rattle.turnstile.specs.Calls.{IsSplitOff}
+use Rattle.turnstile.specs.History.{Foreign}
+use Rattle.turnstile.specs.Passes.{PassView}
+use Rattle.cluster_callers.specs.Calls.{IsUnused, turnstiles}
+use Rattle.queue_balancer.specs.Balance.{IsBalanced}
+use Rattle.cluster_ending.specs.declared.ends.LoopEnds.{LoopEnds}
+use Rattle.cluster_ending.specs.declared.finishing.Finished.{Finished}
+use Rattle.cluster_ending.specs.Finishing.{CallersAloneProduce, HaveBegun, IsFinished, OnHistories}
+use Rattle.cluster_ending.specs.Gathering.{AreAt, gathered, passes_of}
+use Rattle.stream_model.specs.declared.op.Op.{Op}
+use Rattle.stream_model.specs.declared.reply.Reply.{Reply}
+use Rattle.turnstile.specs.declared.history.Entry.{Entry}
+use Rattle.silo_loops.specs.Lines.{DirectoryPass, LineView, QueuePass, places}
+use Rattle.silo_crew.specs.Silos.{GoOn, GoesOn, IsFresh, IsSameSilo, IsSilent, IsSiloAt, IsSplitLine, SiloView}
+use Rattle.silo_crew.proofs.Going.{goes-length, goes-places, goes-refl, goes-trans, on-refl, on-trans, still-at}
+use Rattle.cluster_operator.specs.declared.halt.Halt.{Halt}
+use Rattle.cluster_operator.specs.declared.halt.Halt.TheVariants as halt
+use Rattle.cluster_operator.specs.Changes.{AreDeactivated, HasMade, HaveMoved, IsDeactivation, IsMove, IsNoneLeft, IsRelease}
+use Rattle.cluster_operator.specs.Operators.{HasOnlyGoneOn, HasSpread, OperatorGoesOn, OperatorView}
+use Rattle.cluster_operator.proofs.Changing.{each-earlier, each-later, goes-at, goes-back}
+use Rattle.cluster_operator.proofs.Making.{goes-longer, made-earlier, made-since-silent}
+use Rattle.stream_cluster.specs.Clusters.{AnswersDown, AnswersUp, AreAtQueues, AreStarted, ClusterView, EndsBy, HasFinished, HasHalted, HasLeft, HasNoted, IsCluster, IsDownBy, IsOpened, IsUpBy, MayGo, RunsOn, is_fixed, noted}
+use Rattle.stream_cluster.specs.declared.config.Config.{Config}
+use Rattle.stream_cluster.specs.declared.cluster.SiloDown.{SiloDown}
+use Rattle.stream_cluster.specs.declared.cluster.SiloDown.TheVariants as down
+use Rattle.stream_cluster.specs.declared.cluster.SiloUp.{SiloUp}
+use Rattle.stream_cluster.specs.declared.cluster.SiloUp.TheVariants as up
+
+pub op-refl : (v : OperatorView) → OperatorGoesOn v v
+op-refl v = record { lines = goes-refl v.lines; directory = on-refl v.directory }
+
+pub op-trans : (u v w : OperatorView) → OperatorGoesOn u v → OperatorGoesOn v w → OperatorGoesOn u w
+op-trans u v w a b = record { lines = goes-trans u.lines v.lines w.lines a.lines b.lines; directory = on-trans u.directory v.directory w.directory a.directory b.directory }
+
+-- an operator of which only the silos that live are others
+pub op-same : (u v : OperatorView) → v.lines ≡ u.lines → v.directory ≡ u.directory → OperatorGoesOn u v
+op-same u v lines directory =
+    record {
+      lines = subst (λ (ls : List LineView). GoOn u.lines ls) (sym lines) (goes-refl u.lines);
+      directory = subst (λ (d : DirectoryPass). GoesOn u.directory d) (sym directory) (on-refl u.directory);
+    }
+
+sits-one : (v w : OperatorView) (s : SiloView) → OperatorGoesOn v w → IsSiloAt v.lines v.directory s → IsSiloAt w.lines w.directory s
+sits-one v w s on at =
+    record {
+      agent = still-at s.agent.lines v.lines w.lines at.agent on.lines;
+      first = (still-at s.first.lines v.lines w.lines at.first.0 on.lines, at.first.1 ∙ sym on.directory.turnstile);
+      second = (still-at s.second.lines v.lines w.lines at.second.0 on.lines, at.second.1 ∙ sym on.directory.turnstile);
+    }
+
+pub only-trans : (u v w : OperatorView) → HasOnlyGoneOn u v → HasOnlyGoneOn v w → HasOnlyGoneOn u w
+only-trans u v w a b = record { on = op-trans u v w a.on b.on; live = b.live ∙ a.live; assignment = b.assignment ∙ a.assignment }
+
+pub sits-on : (v w : OperatorView) (ss : List SiloView) → OperatorGoesOn v w → AllByRecursion (IsSiloAt v.lines v.directory) ss → AllByRecursion (IsSiloAt w.lines w.directory) ss
+sits-on v w [] on all = tt
+sits-on v w (s ∷ ss) on all = (sits-one v w s on all.0, sits-on v w ss on all.1)
+
+module _ {A : Type 0} (P : A → Type 0) where
+  pub all-push : (xs : List A) (x : A) → AllByRecursion P xs → P x → AllByRecursion P (xs ++ x ∷ [])
+  all-push [] x all holds = (holds, tt)
+  all-push (y ∷ ys) x all holds = (all.0, all-push ys x all.1 holds)
+
+  pub all-remove : (xs : List A) (at : ℕ) → AllByRecursion P xs → AllByRecursion P (remove xs at)
+  all-remove [] zero all = all
+  all-remove [] (suc at) all = all
+  all-remove (x ∷ xs) zero all = all.1
+  all-remove (x ∷ xs) (suc at) all = (all.0, all-remove xs at all.1)
+
+  pub all-at : (xs : List A) (at : ℕ) (d : A) → at < length xs → AllByRecursion P xs → P (get_or xs at d)
+  all-at [] at d within all = absurd (omega arith)
+  all-at (x ∷ xs) zero d within all = all.0
+  all-at (x ∷ xs) (suc at) d within all = all-at xs at d (omega arith) all.1
+
+-- a silo whose loops came back is at the same turnstiles
+pub same-at : (lines : List LineView) (d : DirectoryPass) (s t : SiloView) → IsSiloAt lines d s → IsSameSilo s t → IsSiloAt lines d t
+same-at lines d s t at same =
+    record {
+      agent = same.agent ∙ at.agent;
+      first = (same.first.lines ∙ at.first.0, same.first.directory ∙ at.first.1);
+      second = (same.second.lines ∙ at.second.0, same.second.directory ∙ at.second.1);
+    }
+
+-- what was moved since is moved since what was before
+moved-earlier : (old new fresh : List LineView) (before now : List ℕ) → GoOn old new → GoOn new fresh → HaveMoved new fresh before now → HaveMoved old fresh before now
+moved-earlier old new fresh before now on on2 moved =
+    λ k was is a b differs.
+    let middle = goes-back new fresh k is on2 b in
+    let goes = goes-at old new k was middle.0 on a middle.1 in
+    made-earlier (IsMove (slice_index now k)) (length was.pass.seen) (length middle.0.pass.seen) is.pass (goes-longer was.pass middle.0.pass goes) (moved k middle.0 is middle.1 b differs)
+
+pub spread-from : (u v w : OperatorView) → OperatorGoesOn u v → OperatorGoesOn v w → v.assignment ≡ u.assignment → HasSpread v w → HasSpread u w
+spread-from u v w on on2 same spread =
+    record {
+      balanced = subst (λ (xs : List ℕ). IsBalanced xs w.live w.assignment) same spread.balanced;
+      moved = subst (λ (xs : List ℕ). HaveMoved u.lines w.lines xs w.assignment) same (moved-earlier u.lines v.lines w.lines v.assignment w.assignment on.lines on2.lines spread.moved);
+    }
+
+-- how a change that was broken off is answered
+pub halted-up : (v w : ClusterView) (silo : ℕ) (h : Halt) (r : Result SiloUp AllocError) → IsUpBy h r → is_fixed v ≡ false → (Contains v.operator.live silo → ⊥) → HasHalted v w → AnswersUp v silo r w
+halted-up v w silo halt.Limit r is goes absent halted = subst (λ (x : Result SiloUp AllocError). AnswersUp v silo x w) (sym is) (goes, absent, halted)
+halted-up v w silo halt.Memory (Ok x) is goes absent halted = absurd (cc (is))
+halted-up v w silo halt.Memory (Err e) is goes absent halted = (goes, absent, halted)
+
+pub halted-down : (v w : ClusterView) (silo : ℕ) (h : Halt) (r : Result SiloDown AllocError) → IsDownBy h r → is_fixed v ≡ false → MayGo v silo → HasHalted v w → HasNoted v w → AnswersDown v silo r w
+halted-down v w silo halt.Limit r is goes may halted noted = subst (λ (x : Result SiloDown AllocError). AnswersDown v silo x w) (sym is) (goes, may, halted, noted)
+halted-down v w silo halt.Memory (Ok x) is goes may halted noted = absurd (cc (is))
+halted-down v w silo halt.Memory (Err e) is goes may halted noted = (goes, may, halted, noted)
+
+-- Each grain that left since the first pass was deactivated: the passes in between made no call, and the lines went on.
+deactivated-from : (silo : ℕ) (d e f : DirectoryPass) (old new last later : List LineView) → IsSilent d e → GoesOn e f → GoOn old new → GoOn new last → GoOn last later → AreDeactivated silo e f new last → AreDeactivated silo d f old later
+deactivated-from silo d e f old new last later silent on lines lines2 lines3 gone =
+    λ grain made.
+    each-later (IsDeactivation grain) old last later (goes-trans old new last lines lines2) lines3
+    (each-earlier (IsDeactivation grain) old new last lines lines2 (gone grain (made-since-silent (IsRelease silo grain) d e f silent on made)))
+
+-- What is left once a silo went: its passes were joined, its grains taken, it lives no more, and the queues are spread.
+pub left-whole : (silo place : ℕ) (v u t s w : OperatorView) → HasOnlyGoneOn v u → IsSilent v.directory u.directory → HasOnlyGoneOn u t → AreDeactivated silo u.directory t.directory u.lines t.lines
+    → HasMade (length u.directory.seen) t.directory (IsNoneLeft silo) → s ≡ record t { live = remove t.live place } → OperatorGoesOn s w → w.directory ≡ s.directory → w.live ≡ s.live → HasSpread s w → HasLeft silo place v w
+left-whole silo place v u t s w back silent taken gone none_left dismissed on kept live spread =
+    let directory : w.directory ≡ t.directory = kept ∙ ap (λ (o : OperatorView). o.directory) dismissed in
+    let lines : s.lines ≡ t.lines = ap (λ (o : OperatorView). o.lines) dismissed in
+    let later : GoOn t.lines w.lines = subst (λ (ls : List LineView). GoOn ls w.lines) lines on.lines in
+    let away = op-trans v u t back.on taken.on in
+    record {
+      live = live ∙ ap (λ (o : OperatorView). o.live) dismissed ∙ ap (λ (xs : List ℕ). remove xs place) (taken.live ∙ back.live);
+      none_left = subst (λ (d : DirectoryPass). HasMade (length v.directory.seen) d (IsNoneLeft silo)) (sym directory)
+          (made-earlier (IsNoneLeft silo) (length v.directory.seen) (length u.directory.seen) t.directory (goes-longer v.directory u.directory back.on.directory) none_left);
+      deactivated = subst (λ (d : DirectoryPass). AreDeactivated silo v.directory d v.lines w.lines) (sym directory)
+          (deactivated-from silo v.directory u.directory t.directory v.lines u.lines t.lines w.lines silent taken.on.directory back.on.lines taken.on.lines later gone);
+      spread = spread-from v s w (op-trans v t s away (op-same t s lines (ap (λ (o : OperatorView). o.directory) dismissed))) on (ap (λ (o : OperatorView). o.assignment) dismissed ∙ taken.assignment ∙ back.assignment) spread;
+    }
+
+at-goes : (config : Config) (ls ms : List LineView) → GoOn ls ms → AreAtQueues config ls → AreAtQueues config ms
+at-goes config [] [] on at = tt
+at-goes config [] (m ∷ ms) on at = absurd on
+at-goes config (l ∷ ls) [] on at = absurd on
+at-goes config (l ∷ ls) (m ∷ ms) on at = ((at.0.0, on.0.turnstile ∙ at.0.1, at.0.2), at-goes config ls ms on.1 at.1)
+
+-- what was opened is so while the operator's passes go on
+pub opened-on : (config : Config) (v w : OperatorView) (caller : List QueuePass) → HasOnlyGoneOn v w → IsOpened config v caller → IsOpened config w caller
+opened-on config v w caller only opened =
+    record {
+      live = only.live ∙ opened.live;
+      queues = goes-length v.lines w.lines only.on.lines ∙ opened.queues;
+      at = at-goes config v.lines w.lines only.on.lines opened.at;
+      balanced = subst (λ (xs : List ℕ). IsBalanced (replicate config.queues 0) xs w.assignment) (sym only.live)
+          (subst (λ (xs : List ℕ). IsBalanced (replicate config.queues 0) v.live xs) (sym only.assignment) opened.balanced);
+      beside = opened.beside ∙ sym (goes-places v.lines w.lines only.on.lines);
+      unused = opened.unused;
+    }
+
+-- one number more at the end
+pub range-more : (a n : ℕ) → range_with_len a (suc n) ≡ range_with_len a n ++ (a + n) ∷ []
+range-more a zero = ap (λ k. k ∷ []) (omega arith)
+range-more a (suc n) = ap (λ xs. a ∷ xs) (range-more (a + 1) n ∙ ap (λ k. range_with_len (a + 1) n ++ k ∷ []) (omega arith))
+
+pub range-next : (n : ℕ) → range_with_len 0 n ++ n ∷ [] ≡ range_with_len 0 (n + 1)
+range-next n =
+    let same : n ≡ 0 + n = omega arith in
+    let more : suc n ≡ n + 1 = omega arith in
+    ap (λ k. range_with_len 0 n ++ k ∷ []) same ∙ sym (range-more 0 n) ∙ ap (λ k. range_with_len 0 k) more
+
+pub range-absent : (n : ℕ) → Contains (range_with_len 0 n) n → ⊥
+range-absent n (at, within, here) =
+    let long = length-range_with_len 0 n in
+    let less : at < n = omega (arith, long, within) in
+    let value = get_or-range_with_len 0 n at n less in
+    absurd (omega (arith, less, value, here))
+
+-- a pass that was split off has made no call
+split-unused : (p q : QueuePass) → IsSplitOff p q → IsUnused q
+split-unused p q split =
+    record {
+      alone = ap (λ (w : QueuePass). w.joined) split.0;
+      silent = subst (λ (ns : List ℕ). Foreign ns q.seen) (sym (ap (λ (w : QueuePass). w.number ∷ w.joined) split.0))
+          (subst (λ es. Foreign (q.number ∷ []) es) (sym (ap (λ (w : QueuePass). w.seen) split.0)) split.2);
+    }
+
+pub all-unused : (ls ms : List LineView) → AllZip IsSplitLine ls ms → AllByRecursion IsUnused (map (λ (l : LineView). l.pass) ms)
+all-unused [] [] all = tt
+all-unused [] (m ∷ ms) all = absurd all
+all-unused (l ∷ ls) [] all = absurd all
+all-unused (l ∷ ls) (m ∷ ms) all = (split-unused l.pass m.pass all.0.0, all-unused ls ms all.1)
+
+pub line-turnstiles : (ls : List LineView) → turnstiles (map (λ (l : LineView). l.pass) ls) ≡ places ls
+line-turnstiles [] = refl
+line-turnstiles (l ∷ ls) = ap (λ ts. l.pass.turnstile ∷ ts) (line-turnstiles ls)
+
+-- a silo more that was started
+pub started-more : (v w : OperatorView) (ss : List SiloView) (s : SiloView) (n : ℕ) → HasOnlyGoneOn v w → AreStarted n ss → RunsOn v ss → s.silo ≡ n → IsSiloAt w.lines w.directory s
+    → AreStarted (n + 1) (ss ++ s ∷ []) × RunsOn w (ss ++ s ∷ [])
+started-more v w ss s n only started runs silo at = (
+  map-append (λ (x : SiloView). x.silo) ss (s ∷ []) ∙ ap (λ (xs : List ℕ). xs ++ s.silo ∷ []) started ∙ ap (λ k. range_with_len 0 n ++ k ∷ []) silo ∙ range-next n,
+  all-push (IsSiloAt w.lines w.directory) ss s (sits-on v w ss only.on runs) at,
+)
+
+-- the loops of the silo at a place come back where they were
+pub back-at : (v : OperatorView) (ss : List SiloView) (place : ℕ) (s t : SiloView) → place < length ss → s ≡ get_or ss place s → RunsOn v ss → IsSameSilo s t → IsSiloAt v.lines v.directory t
+back-at v ss place s t within read runs same = same-at v.lines v.directory s t (subst (λ (x : SiloView). IsSiloAt v.lines v.directory x) (sym read) (all-at (IsSiloAt v.lines v.directory) ss place s within runs)) same
+
+-- the first of the silos that run comes back, and the others go on running
+pub stop-first : (v w : OperatorView) (s : SiloView) (ss : List SiloView) → HasOnlyGoneOn v w → RunsOn v (s ∷ ss) → RunsOn w ss
+stop-first v w s ss only runs = sits-on v w ss only.on runs.1
+
+-- the silo at a place lives there
+pub silo-place : (ss : List SiloView) (live : List ℕ) (place : ℕ) (s : SiloView) → map (λ (x : SiloView). x.silo) ss ≡ live → place < length ss → s ≡ get_or ss place s → slice_get live place ≡ Some s.silo
+silo-place ss live place s loops within read =
+    let long = length-map ss (λ (x : SiloView). x.silo) in
+    let same = ap (λ (xs : List ℕ). length xs) loops in
+    slice_get-get_or live place s.silo (omega (arith, within, long, same))
+    ∙ ap (λ k. Some k) (ap (λ (xs : List ℕ). get_or xs place s.silo) (sym loops) ∙ get_or-map (λ (x : SiloView). x.silo) ss place s s.silo within ∙ ap (λ (x : SiloView). x.silo) (sym read))
+
+pub map-remove : (ss : List SiloView) (place : ℕ) → map (λ (x : SiloView). x.silo) (remove ss place) ≡ remove (map (λ (x : SiloView). x.silo) ss) place
+map-remove [] zero = refl
+map-remove [] (suc place) = refl
+map-remove (s ∷ ss) zero = refl
+map-remove (s ∷ ss) (suc place) = ap (λ (xs : List ℕ). s.silo ∷ xs) (map-remove ss place)
+
+pub not-fixed : (v : ClusterView) → v.is_parked ≡ false → v.is_halted ≡ false → is_fixed v ≡ false
+not-fixed v parked halted = ap (λ b. b || v.is_halted) parked ∙ halted
+
+-- a cluster whose silos don't change any more
+pub cluster-halted : (v : ClusterView) (ends : LoopEnds) (o : OperatorView) (ss : List SiloView) → v.is_parked ≡ false → RunsOn o ss → IsCluster (record { operator = o; silos = ss; ends = ends; is_parked = v.is_parked; is_halted = true })
+cluster-halted v ends o ss free runs =
+    record {
+      at = runs;
+      loops = λ goes. let differ : true ≡ false = sym (ap (λ b. b || true) free) ∙ goes in absurd (cc (differ));
+      parked = λ parked. let differ : true ≡ false = sym parked ∙ free in absurd (cc (differ));
+    }
+
+-- a cluster of which a silo went
+pub cluster-gone : (v : ClusterView) (ends : LoopEnds) (o : OperatorView) (ss : List SiloView) (place : ℕ) → v.is_parked ≡ false → v.is_halted ≡ false → IsCluster v → ss ≡ remove v.silos place → OperatorGoesOn v.operator o → o.live ≡ remove v.operator.live place
+    → IsCluster (record { operator = o; silos = ss; ends = ends; is_parked = v.is_parked; is_halted = v.is_halted })
+cluster-gone v ends o ss place free goes kept left on live =
+    record {
+      at = subst (λ (xs : List SiloView). RunsOn o xs) (sym left) (sits-on v.operator o (remove v.silos place) on (all-remove (IsSiloAt v.operator.lines v.operator.directory) v.silos place kept.at));
+      loops = λ fixed. ap (λ (xs : List SiloView). map (λ (x : SiloView). x.silo) xs) left ∙ map-remove v.silos place ∙ ap (λ (xs : List ℕ). remove xs place) (kept.loops (not-fixed v free goes)) ∙ sym live;
+      parked = λ parked. let differ : true ≡ false = sym parked ∙ free in absurd (cc (differ));
+    }
+
+-- a cluster to which a silo came
+pub cluster-came : (v : ClusterView) (ends : LoopEnds) (o : OperatorView) (ss : List SiloView) (silo : ℕ) (s : SiloView) → v.is_parked ≡ false → v.is_halted ≡ false → IsCluster v → ss ≡ v.silos ++ s ∷ [] → s.silo ≡ silo → RunsOn o ss → o.live ≡ v.operator.live ++ silo ∷ []
+    → IsCluster (record { operator = o; silos = ss; ends = ends; is_parked = v.is_parked; is_halted = v.is_halted })
+cluster-came v ends o ss silo s free goes kept more named runs live =
+    record {
+      at = runs;
+      loops = λ fixed. ap (λ (xs : List SiloView). map (λ (x : SiloView). x.silo) xs) more ∙ map-append (λ (x : SiloView). x.silo) v.silos (s ∷ []) ∙ ap (λ (xs : List ℕ). xs ++ s.silo ∷ []) (kept.loops (not-fixed v free goes))
+          ∙ ap (λ k. v.operator.live ++ k ∷ []) named ∙ sym live;
+      parked = λ parked. let differ : true ≡ false = sym parked ∙ free in absurd (cc (differ));
+    }
+
+pub lives-at : (live : List ℕ) (place silo : ℕ) → slice_get live place ≡ Some silo → Contains live silo
+lives-at live place silo stood =
+    let within = slice_get_within live place silo stood in
+    (place, within, ap (λ o. unwrap_or o silo) (sym (slice_get-get_or live place silo within) ∙ stood))
+
+-- where one silo lives, and not one alone, another does
+pub may-go : (v : ClusterView) (place silo : ℕ) → slice_get v.operator.live place ≡ Some silo → (length v.operator.live ≡ 1 → ⊥) → MayGo v silo
+may-go v place silo stood other = let within = slice_get_within v.operator.live place silo stood in (lives-at v.operator.live place silo stood, omega (arith, within, other))
+
+pub one-name : (live : List ℕ) (place one other : ℕ) → slice_get live place ≡ Some one → slice_get live place ≡ Some other → one ≡ other
+one-name live place one other a b = ap (λ o. unwrap_or o one) (sym a ∙ b)
+
+-- what a new operator comes to, once its first silos live and the queues are spread over them
+pub opened-whole : (config : Config) (first lines : List LineView) (d : DirectoryPass) (v e w : OperatorView) (caller : List QueuePass) → lines ≡ first → length first ≡ config.queues → AreAtQueues config first → turnstiles caller ≡ places first → AllByRecursion IsUnused caller
+    → v ≡ record { lines = lines; directory = d; live = []; assignment = replicate (length lines) 0 } → e ≡ record v { live = range_with_len 0 config.silos } → OperatorGoesOn e w → w.live ≡ e.live → HasSpread e w → IsOpened config w caller
+opened-whole config first lines d v e w caller same many at beside unused made enlisted on live spread =
+    let kept : e.lines ≡ first = ap (λ (o : OperatorView). o.lines) enlisted ∙ ap (λ (o : OperatorView). o.lines) made ∙ same in
+    let all : e.assignment ≡ replicate config.queues 0 =
+        ap (λ (o : OperatorView). o.assignment) enlisted ∙ ap (λ (o : OperatorView). o.assignment) made ∙ ap (λ n. replicate n 0) (ap (λ (ls : List LineView). length ls) same ∙ many) in
+    record {
+      live = live ∙ ap (λ (o : OperatorView). o.live) enlisted;
+      queues = goes-length e.lines w.lines on.lines ∙ ap (λ (ls : List LineView). length ls) kept ∙ many;
+      at = at-goes config e.lines w.lines on.lines (subst (λ (ls : List LineView). AreAtQueues config ls) (sym kept) at);
+      balanced = subst (λ (xs : List ℕ). IsBalanced xs w.live w.assignment) all spread.balanced;
+      beside = beside ∙ ap (λ (ls : List LineView). places ls) (sym kept) ∙ sym (goes-places e.lines w.lines on.lines);
+      unused = unused;
+    }
+
+-- where the silos that run are those that live, one that lives at a place runs there
+pub place-within : (ss : List SiloView) (live : List ℕ) (place silo : ℕ) → map (λ (x : SiloView). x.silo) ss ≡ live → slice_get live place ≡ Some silo → place < length ss
+place-within ss live place silo loops stood =
+    let within = slice_get_within live place silo stood in
+    let long = length-map ss (λ (x : SiloView). x.silo) in
+    let same = ap (λ (xs : List ℕ). length xs) loops in
+    omega (arith, within, long, same)
+
+pub down-done : (v w : ClusterView) (place silo gone : ℕ) → is_fixed v ≡ false → MayGo v silo → slice_get v.operator.live place ≡ Some silo → gone ≡ silo → OperatorGoesOn v.operator w.operator → HasLeft gone place v.operator w.operator → w.is_parked ≡ v.is_parked → w.is_halted ≡ false → HasNoted v w
+    → AnswersDown v silo (Ok down.Down) w
+down-done v w place silo gone fixed may stood named on left same goes noted =
+    (fixed, may, record { on = on; place = place; stood = stood; left = subst (λ k. HasLeft k place v.operator w.operator) named left; same = same; goes_on = goes }, noted)
+
+pub up-done : (v w : ClusterView) (silo : ℕ) (s : SiloView) → is_fixed v ≡ false → (Contains v.operator.live silo → ⊥) → OperatorGoesOn v.operator w.operator → w.operator.live ≡ v.operator.live ++ silo ∷ [] → w.silos ≡ v.silos ++ s ∷ [] → IsFresh silo s → HasSpread v.operator w.operator → w.is_parked ≡ v.is_parked → w.is_halted ≡ false
+    → AnswersUp v silo (Ok up.Up) w
+up-done v w silo s fixed absent on live more fresh spread same goes = (fixed, absent, record { on = on; live = live; started = (s, more, fresh); spread = spread; same = same; goes_on = goes })
+
+-- a silo that ran came back, and how its loops have ended was noted
+pub has-noted : (v w : ClusterView) (place : ℕ) (s back : SiloView) → place < length v.silos → s ≡ get_or v.silos place s → IsSameSilo s back → w.ends ≡ noted v.ends back → HasNoted v w
+has-noted v w place s back within read same ends = (place, s, slice_get-get_or v.silos place s within ∙ ap (λ (x : SiloView). Some x) (sym read), (back, same, ends))
+
+-- one silo more whose loops came back
+pub ends-push : (ends mid : LoopEnds) (ss : List SiloView) (s back : SiloView) → EndsBy ends ss mid → IsSameSilo s back → EndsBy ends (ss ++ s ∷ []) (noted mid back)
+ends-push ends mid [] s back by same = (back, same, ap (λ (e : LoopEnds). noted e back) by)
+ends-push ends mid (x ∷ ss) s back by same = (by.0, by.1, ends-push (noted ends by.0) mid ss s back by.2 same)
+
+-- callers of lines are at them while those go on
+pub callers-on : (ls ms : List LineView) (callers : List (List QueuePass)) → GoOn ls ms → AllByRecursion (AreAt (places ls)) callers → AllByRecursion (AreAt (places ms)) callers
+callers-on ls ms callers on at = subst (λ ts. AllByRecursion (AreAt ts) callers) (sym (goes-places ls ms on)) at
+
+-- what is said of each end of a cluster, taken together
+pub finished-whole : {H : Type 0} (entries : H → List (Entry Op Reply)) (c : ClusterView) (callers : List (List QueuePass)) (lines : List LineView) (ends : LoopEnds) (result : Result (Finished H) AllocError) → GoOn c.operator.lines lines → EndsBy c.ends c.silos ends
+    → IfOk result (IsFinished entries ends (gathered (passes_of lines) callers)) → IfOk result (OnHistories entries (HaveBegun (passes_of lines) callers)) → IfOk result (OnHistories entries (CallersAloneProduce callers)) → IfOk result (HasFinished entries c callers)
+finished-whole entries c callers lines ends (Ok answer) on ended finished begun producers = record { lines = lines; on = on; ends = ends; ended = ended; finished = finished; begun = begun; producers = producers }
+finished-whole entries c callers lines ends (Err e) on ended finished begun producers = tt

@@ -1,0 +1,53 @@
+use Rattle.std.proofs.Common.{List, ℕ, ap, refl, subst, sym, ◌∙◌, ◌++◌, ◌∷◌, [], ◌≡◌}
+use Rattle.std.proofs.lemmas.Result.{on_ok_weaker}
+use Rattle.silo_crew.specs.Silos.{IsFresh, IsSiloAt, SiloView}
+use Rattle.cluster_operator.specs.Operators.{HasSpread, OperatorView}
+use Rattle.stream_cluster.specs.Clusters.{RunsOn}
+use Rattle.stream_cluster.proofs.Standing.{all-push, op-refl, op-same, op-trans, sits-on, spread-from}
+use Rattle.stream_cluster.proofs.changes.bring_up.Goals as goal
+
+pub returns-in_err-reserve-clause-on : goal.returns-in_err-reserve-clause-on
+returns-in_err-reserve-clause-on g c = op-refl c.args.operator.now
+
+pub returns-in_err-start_silo-clause-at : goal.returns-in_err-start_silo-clause-at
+returns-in_err-start_silo-clause-at g c =
+    subst (λ (ss : List SiloView). RunsOn c.start_silo.new.operator ss) (sym c.reserve.ensures.items)
+    (sits-on c.args.operator.now c.start_silo.new.operator c.args.silos.now.items c.start_silo.ensures.only.on c.requires.at)
+
+pub returns-in_err-enlist-clause-at : goal.returns-in_err-enlist-clause-at
+returns-in_err-enlist-clause-at g c =
+    let started = c.in_ok-start_silo.ensures.started in
+    let whole = c.push_reserved.ensures.items ∙ ap (λ (ss : List SiloView). ss ++ c.in_ok-start_silo.field-0 ∷ []) c.reserve.ensures.items in
+    let runs = all-push (IsSiloAt c.start_silo.new.operator.lines c.start_silo.new.operator.directory) c.args.silos.now.items c.in_ok-start_silo.field-0
+    (sits-on c.args.operator.now c.start_silo.new.operator c.args.silos.now.items c.start_silo.ensures.only.on c.requires.at) started.1 in
+    subst (λ (o : OperatorView). RunsOn o c.push_reserved.new.self.items) (sym c.in_err-enlist.ensures.err)
+    (subst (λ (ss : List SiloView). RunsOn c.start_silo.new.operator ss) (sym whole) runs)
+
+pub returns-clause-at : goal.returns-clause-at
+returns-clause-at g c =
+    let started = c.in_ok-start_silo.ensures.started in
+    let whole = c.push_reserved.ensures.items ∙ ap (λ (ss : List SiloView). ss ++ c.in_ok-start_silo.field-0 ∷ []) c.reserve.ensures.items in
+    let runs = all-push (IsSiloAt c.start_silo.new.operator.lines c.start_silo.new.operator.directory) c.args.silos.now.items c.in_ok-start_silo.field-0
+    (sits-on c.args.operator.now c.start_silo.new.operator c.args.silos.now.items c.start_silo.ensures.only.on c.requires.at) started.1 in
+    let same = op-same c.start_silo.new.operator c.enlist.new.self (ap (λ (o : OperatorView). o.lines) c.in_ok-enlist.ensures.ok) (ap (λ (o : OperatorView). o.directory) c.in_ok-enlist.ensures.ok) in
+    sits-on c.start_silo.new.operator c.spread.new.self c.push_reserved.new.self.items (op-trans c.start_silo.new.operator c.enlist.new.self c.spread.new.self same c.spread.ensures.on)
+    (subst (λ (ss : List SiloView). RunsOn c.start_silo.new.operator ss) (sym whole) runs)
+
+pub returns-clause-on : goal.returns-clause-on
+returns-clause-on g c =
+    let same = op-same c.start_silo.new.operator c.enlist.new.self (ap (λ (o : OperatorView). o.lines) c.in_ok-enlist.ensures.ok) (ap (λ (o : OperatorView). o.directory) c.in_ok-enlist.ensures.ok) in
+    op-trans c.args.operator.now c.enlist.new.self c.spread.new.self (op-trans c.args.operator.now c.start_silo.new.operator c.enlist.new.self c.start_silo.ensures.only.on same) c.spread.ensures.on
+
+pub returns-clause-started : goal.returns-clause-started
+returns-clause-started g c =
+    let whole : c.push_reserved.new.self.items ≡ c.args.silos.now.items ++ c.in_ok-start_silo.field-0 ∷ [] = c.push_reserved.ensures.items ∙ ap (λ (ss : List SiloView). ss ++ c.in_ok-start_silo.field-0 ∷ []) c.reserve.ensures.items in
+    on_ok_weaker c.spread.result (λ (spread : HasSpread c.enlist.new.self c.spread.new.self). (c.in_ok-start_silo.field-0, whole, c.in_ok-start_silo.ensures.started.0)) c.spread.ensures.spread
+
+pub returns-clause-spread : goal.returns-clause-spread
+returns-clause-spread g c =
+    let same = op-same c.start_silo.new.operator c.enlist.new.self (ap (λ (o : OperatorView). o.lines) c.in_ok-enlist.ensures.ok) (ap (λ (o : OperatorView). o.directory) c.in_ok-enlist.ensures.ok) in
+    on_ok_weaker c.spread.result
+    (λ (spread : HasSpread c.enlist.new.self c.spread.new.self).
+        spread-from c.args.operator.now c.enlist.new.self c.spread.new.self (op-trans c.args.operator.now c.start_silo.new.operator c.enlist.new.self c.start_silo.ensures.only.on same) c.spread.ensures.on
+        (ap (λ (o : OperatorView). o.assignment) c.in_ok-enlist.ensures.ok ∙ c.start_silo.ensures.only.assignment) spread)
+    c.spread.ensures.spread

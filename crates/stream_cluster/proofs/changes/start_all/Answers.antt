@@ -1,0 +1,40 @@
+use Rattle.std.proofs.Common.{List, ap, length, map, subst, sym, ◌+◌, ◌∙◌}
+use Rattle.std.proofs.lemmas.List.{length_push}
+use Rattle.silo_crew.specs.Silos.{SiloView}
+use Rattle.cluster_operator.proofs.Spreading.{only-refl}
+use Rattle.stream_cluster.specs.Clusters.{AreStarted, RunsOn}
+use Rattle.stream_cluster.proofs.Standing.{only-trans, sits-on, started-more}
+use Rattle.stream_cluster.proofs.changes.start_all.Goals as goal
+
+pub returns-in_err-running-clause-only : goal.returns-in_err-running-clause-only
+returns-in_err-running-clause-only g c = only-refl c.args.operator.now
+
+pub loop-silo-init : goal.loop-silo-init
+loop-silo-init g c =
+    let none = c.in_ok-running.ensures.items in
+    record {
+      only = only-refl c.args.operator.now;
+      many = ap (λ (ss : List SiloView). length ss) none;
+      started = ap (λ (ss : List SiloView). map (λ (s : SiloView). s.silo) ss) none;
+      runs = subst (λ (ss : List SiloView). RunsOn c.args.operator.now ss) (sym none) tt;
+      room = c.in_ok-running.ensures.exact ∙ c.from.ensures;
+    }
+
+pub stop_all-ends-requires-after_bounds : goal.stop_all-ends-requires-after_bounds
+stop_all-ends-requires-after_bounds g c κs within = sits-on c.loop-silo.operator c.start_silo.new.operator c.loop-silo.running.items c.start_silo.ensures.only.on c.loop-silo.invariant.runs
+
+pub returns-in-Err-clause-only : goal.returns-in-Err-clause-only
+returns-in-Err-clause-only g c =
+    only-trans c.args.operator.now c.start_silo.new.operator c.stop_all-ends.new.operator (only-trans c.args.operator.now c.loop-silo.operator c.start_silo.new.operator c.loop-silo.invariant.only c.start_silo.ensures.only) c.stop_all-ends.ensures.only
+
+pub loop-silo-preserved : goal.loop-silo-preserved
+loop-silo-preserved g c =
+    let started = c.in-Ok.ensures.started in
+    let more = started-more c.loop-silo.operator c.start_silo.new.operator c.loop-silo.running.items c.in-Ok.started c.loop-silo.silo c.start_silo.ensures.only c.loop-silo.invariant.started c.loop-silo.invariant.runs started.0.0 started.1 in
+    record {
+      only = only-trans c.args.operator.now c.loop-silo.operator c.start_silo.new.operator c.loop-silo.invariant.only c.start_silo.ensures.only;
+      many = ap (λ (ss : List SiloView). length ss) c.push_reserved.ensures.items ∙ length_push c.loop-silo.running.items c.in-Ok.started ∙ ap (λ n. n + 1) c.loop-silo.invariant.many;
+      started = subst (λ (ss : List SiloView). AreStarted (c.loop-silo.silo + 1) ss) (sym c.push_reserved.ensures.items) more.0;
+      runs = subst (λ (ss : List SiloView). RunsOn c.start_silo.new.operator ss) (sym c.push_reserved.ensures.items) more.1;
+      room = c.push_reserved.ensures.capacity ∙ c.loop-silo.invariant.room;
+    }

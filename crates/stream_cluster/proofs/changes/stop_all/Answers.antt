@@ -1,0 +1,26 @@
+use Rattle.std.proofs.Common.{[], List, refl, subst, sym, ◌++◌, ◌∷◌}
+use Rattle.silo_crew.specs.Silos.{SiloView}
+use Rattle.cluster_ending.specs.declared.ends.LoopEnds.{LoopEnds}
+use Rattle.cluster_operator.proofs.Spreading.{only-refl}
+use Rattle.stream_cluster.specs.Clusters.{EndsBy, RunsOn}
+use Rattle.stream_cluster.proofs.Standing.{ends-push, only-trans, same-at, sits-on}
+use Rattle.stream_cluster.proofs.changes.stop_all.Goals as goal
+
+pub take_back-requires-after_bounds : goal.take_back-requires-after_bounds
+take_back-requires-after_bounds g c κs within =
+    let runs = subst (λ (ss : List SiloView). RunsOn c.loop-silo.operator ss) c.in-Some.ensures.steps.0 c.loop-silo.invariant.runs in
+    same-at c.loop-silo.operator.lines c.loop-silo.operator.directory c.in-Some.silo c.stop-loops.result runs.0 c.stop-loops.ensures
+
+pub loop-silo-init : goal.loop-silo-init
+loop-silo-init g c =
+    record { only = only-refl c.args.operator.now; runs = subst (λ (ss : List SiloView). RunsOn c.args.operator.now ss) (sym c.into_iter-silo-iterator.ensures.into_iter_gives.0) c.requires; ends = refl }
+
+pub loop-silo-preserved : goal.loop-silo-preserved
+loop-silo-preserved g c =
+    let runs = subst (λ (ss : List SiloView). RunsOn c.loop-silo.operator ss) c.in-Some.ensures.steps.0 c.loop-silo.invariant.runs in
+    record {
+      only = only-trans c.args.operator.now c.loop-silo.operator c.take_back.new.self c.loop-silo.invariant.only c.take_back.ensures.only;
+      runs = sits-on c.loop-silo.operator c.take_back.new.self _ c.take_back.ensures.only.on runs.1;
+      ends = subst (λ (e : LoopEnds). EndsBy c.args.ends (c.loop-silo.yielded ++ c.in-Some.silo ∷ []) e) (sym c.note_ends-ends.ensures)
+          (ends-push c.args.ends c.loop-silo.ends c.loop-silo.yielded c.in-Some.silo c.stop-loops.result c.loop-silo.invariant.ends c.stop-loops.ensures);
+    }

@@ -1,0 +1,183 @@
+-- What contracts see of a cluster, and what its calls say.
+use Rattle.std.specs.Prelude.{◌≡◌, ℕ, ◌≤◌, ◌<◌, Bool, true, false, ◌||◌, if◌then◌else◌, List, [], ◌∷◌, ◌++◌, length, map, remove, replicate, slice_get, Contains, Some, Result, Ok, Err, IsErr}
+use Rattle.std.specs.List.{AllByRecursion, range_with_len}
+use Rattle.std.specs.declared.alloc.AllocError.{AllocError}
+use Rattle.stream_model.specs.Bounds.{AreLimits}
+use Rattle.stream_model.specs.declared.op.Op.{Op}
+use Rattle.stream_model.specs.declared.reply.Reply.{Reply}
+use Rattle.stream_model.specs.Positions.{empty}
+use Rattle.stream_model.specs.declared.plain.PlainPartition.{PlainPartition}
+use Rattle.turnstile.specs.declared.history.Entry.{Entry}
+use Rattle.turnstile.specs.Passes.{Origin}
+use Rattle.turnstile.specs.declared.view.Start.{Start}
+use Rattle.queue_balancer.specs.Balance.{IsBalanced}
+use Rattle.silo_loops.specs.Lines.{LineView, QueuePass, places}
+use Rattle.cluster_callers.specs.Calls.{IsUnused, turnstiles}
+use Rattle.silo_crew.specs.Silos.{GoOn, IsFresh, IsSameSilo, IsSiloAt, SiloView}
+use Rattle.cluster_ending.specs.declared.ends.LoopEnds.{LoopEnds}
+use Rattle.cluster_ending.specs.declared.finishing.Finished.{Finished}
+use Rattle.cluster_ending.specs.Ends.{ends_with}
+use Rattle.cluster_ending.specs.Finishing.{CallersAloneProduce, HaveBegun, IsFinished, OnHistories}
+use Rattle.cluster_ending.specs.Gathering.{gathered, passes_of}
+use Rattle.cluster_operator.specs.declared.halt.Halt.{Halt}
+use Rattle.cluster_operator.specs.declared.halt.Halt.TheVariants as halt
+use Rattle.cluster_operator.specs.Changes.{AreDeactivated, HasMade, IsNoneLeft}
+use Rattle.cluster_operator.specs.Operators.{HasSpread, OperatorGoesOn, OperatorView}
+use Rattle.stream_cluster.specs.declared.config.Config.{Config}
+use Rattle.stream_cluster.specs.declared.cluster.SiloDown.{SiloDown}
+use Rattle.stream_cluster.specs.declared.cluster.SiloDown.TheVariants as down
+use Rattle.stream_cluster.specs.declared.cluster.SiloUp.{SiloUp}
+use Rattle.stream_cluster.specs.declared.cluster.SiloUp.TheVariants as up
+
+-- a configuration that a cluster may have
+pub record IsConfig (config : Config) : Type 0 where
+  pub queues : (1 ≤ config.queues) × (config.queues ≤ 64)
+  pub blocks : (1 ≤ config.blocks) × (config.blocks ≤ 64)
+  pub silos : (1 ≤ config.silos) × (config.silos ≤ 16)
+  pub limits : AreLimits config.limits
+  pub rises : 1 ≤ config.limits.rises
+  pub history : 1 ≤ config.history
+
+-- how the turnstile of each queue begins
+abbrev pub opening : Config → Start PlainPartition
+opening config = record { state = empty config.blocks config.limits; limit = config.history }
+
+-- a pass of a turnstile that began so
+abbrev pub IsAtQueue : Config → QueuePass → Type 0
+IsAtQueue config p = (t : Origin PlainPartition) × (p.turnstile ≡ Some t) × (t.start ≡ opening config)
+
+-- A cluster: what its operator holds, the silos whose loops run, as they were started, how those have ended that came
+-- back, whether the loops were given to whoever made it, and whether a change of silos was broken off.
+pub record ClusterView : Type 0 where
+  pub operator : OperatorView
+  pub silos : List SiloView
+  pub ends : LoopEnds
+  pub is_parked : Bool
+  pub is_halted : Bool
+
+-- no silo comes or goes by itself
+abbrev pub is_fixed : ClusterView → Bool
+is_fixed c = c.is_parked || c.is_halted
+
+-- the loops of each live silo run, and no other
+abbrev pub RunLoops : ClusterView → Type 0
+RunLoops c = map (λ (s : SiloView). s.silo) c.silos ≡ c.operator.live
+
+-- the loops of these silos have their passes at the operator's turnstiles
+abbrev pub RunsOn : OperatorView → List SiloView → Type 0
+RunsOn o silos = AllByRecursion (IsSiloAt o.lines o.directory) silos
+
+-- so many silos were started, numbered from 0 on
+abbrev pub AreStarted : ℕ → List SiloView → Type 0
+AreStarted many silos = map (λ (s : SiloView). s.silo) silos ≡ range_with_len 0 many
+
+-- what every cluster keeps
+pub record IsCluster (c : ClusterView) : Type 0 where
+  pub at : RunsOn c.operator c.silos
+  pub loops : is_fixed c ≡ false → RunLoops c
+  pub parked : c.is_parked ≡ true → c.silos ≡ []
+
+-- how loops have ended, and then those of this silo
+abbrev pub noted : LoopEnds → SiloView → LoopEnds
+noted ends s = ends_with (ends_with (ends_with ends s.agent.over) s.first.over) s.second.over
+
+-- the loops of these silos came back, as those of the same silos, and it was noted how they have ended
+abbrev pub EndsBy : LoopEnds → List SiloView → LoopEnds → Type 0
+EndsBy ends [] new = new ≡ ends
+EndsBy ends (s ∷ ss) new = (back : SiloView) × IsSameSilo s back × EndsBy (noted ends back) ss new
+
+-- calls were refused on the way: what was answered stands, and no silo comes or goes any more
+pub record HasHalted (v w : ClusterView) : Type 0 where
+  pub on : OperatorGoesOn v.operator w.operator
+  pub same : w.is_parked ≡ v.is_parked
+  pub halted : w.is_halted ≡ true
+
+-- a silo came: its loops, which had done nothing, were started, and the queues are spread anew
+pub record IsUp (v : ClusterView) (silo : ℕ) (w : ClusterView) : Type 0 where
+  pub on : OperatorGoesOn v.operator w.operator
+  pub live : w.operator.live ≡ v.operator.live ++ silo ∷ []
+  pub started : (s : SiloView) × (w.silos ≡ v.silos ++ s ∷ []) × IsFresh silo s
+  pub spread : HasSpread v.operator w.operator
+  pub same : w.is_parked ≡ v.is_parked
+  pub goes_on : w.is_halted ≡ false
+
+-- what `silo_up` answers, by the silos that live
+abbrev pub AnswersUp : ClusterView → ℕ → Result SiloUp AllocError → ClusterView → Type 0
+AnswersUp v silo (Ok up.Halted) w = (is_fixed v ≡ true) × (w ≡ v)
+AnswersUp v silo (Ok up.Already) w = (is_fixed v ≡ false) × Contains v.operator.live silo × (w ≡ v)
+AnswersUp v silo (Ok up.Up) w = (is_fixed v ≡ false) × (¬ Contains v.operator.live silo) × IsUp v silo w
+AnswersUp v silo (Ok up.Limit) w = (is_fixed v ≡ false) × (¬ Contains v.operator.live silo) × HasHalted v w
+AnswersUp v silo (Err e) w = (is_fixed v ≡ false) × (¬ Contains v.operator.live silo) × HasHalted v w
+
+-- how a change of silos that was broken off is answered
+abbrev pub IsUpBy : Halt → Result SiloUp AllocError → Type 0
+IsUpBy halt.Limit result = result ≡ Ok up.Limit
+IsUpBy halt.Memory result = IsErr result
+
+abbrev pub IsDownBy : Halt → Result SiloDown AllocError → Type 0
+IsDownBy halt.Limit result = result ≡ Ok down.Limit
+IsDownBy halt.Memory result = IsErr result
+
+-- What is left once a silo went that stood at this place among those that live: no grain is left on it, each grain that
+-- was taken from it is deactivated at each queue, and the queues are spread anew.
+pub record HasLeft (silo place : ℕ) (v w : OperatorView) : Type 0 where
+  pub live : w.live ≡ remove v.live place
+  pub none_left : HasMade (length v.directory.seen) w.directory (IsNoneLeft silo)
+  pub deactivated : AreDeactivated silo v.directory w.directory v.lines w.lines
+  pub spread : HasSpread v w
+
+-- a silo went: its loops came back, and this is left
+pub record IsDown (v : ClusterView) (silo : ℕ) (w : ClusterView) : Type 0 where
+  pub on : OperatorGoesOn v.operator w.operator
+  pub place : ℕ
+  pub stood : slice_get v.operator.live place ≡ Some silo
+  pub left : HasLeft silo place v.operator w.operator
+  pub same : w.is_parked ≡ v.is_parked
+  pub goes_on : w.is_halted ≡ false
+
+-- the silo lives, and another one too
+abbrev pub MayGo : ClusterView → ℕ → Type 0
+MayGo v silo = Contains v.operator.live silo × (1 < length v.operator.live)
+
+-- the loops of a silo that ran came back, and it was noted how they have ended
+abbrev pub HasNoted : ClusterView → ClusterView → Type 0
+HasNoted v w = (place : ℕ) × (s : SiloView) × (slice_get v.silos place ≡ Some s) × EndsBy v.ends (s ∷ []) w.ends
+
+-- what `silo_down` answers, by the silos that live
+abbrev pub AnswersDown : ClusterView → ℕ → Result SiloDown AllocError → ClusterView → Type 0
+AnswersDown v silo (Ok down.Halted) w = (is_fixed v ≡ true) × (w ≡ v)
+AnswersDown v silo (Ok down.NotLive) w = (is_fixed v ≡ false) × (¬ Contains v.operator.live silo) × (w ≡ v)
+AnswersDown v silo (Ok down.LastSilo) w = (is_fixed v ≡ false) × (v.operator.live ≡ silo ∷ []) × (w ≡ v)
+AnswersDown v silo (Ok down.Down) w = (is_fixed v ≡ false) × MayGo v silo × IsDown v silo w × HasNoted v w
+AnswersDown v silo (Ok down.Limit) w = (is_fixed v ≡ false) × MayGo v silo × HasHalted v w × HasNoted v w
+AnswersDown v silo (Err e) w = (is_fixed v ≡ false) × MayGo v silo × HasHalted v w × HasNoted v w
+
+-- a line for each of these lines is of a queue's turnstile
+abbrev pub AreAtQueues : Config → List LineView → Type 0
+AreAtQueues config lines = AllByRecursion (λ (l : LineView). IsAtQueue config l.pass) lines
+
+-- The operator of a new cluster and its caller: the first silos are to live, all queues are spread from silo 0 over them,
+-- and the caller has made no call.
+pub record IsOpened (config : Config) (o : OperatorView) (caller : List QueuePass) : Type 0 where
+  pub live : o.live ≡ range_with_len 0 config.silos
+  pub queues : length o.lines ≡ config.queues
+  pub at : AreAtQueues config o.lines
+  pub balanced : IsBalanced (replicate config.queues 0) o.live o.assignment
+  pub beside : turnstiles caller ≡ places o.lines
+  pub unused : AllByRecursion IsUnused caller
+
+-- a new cluster and its caller: so it was opened, and the loops of the silos run
+pub record IsNew (config : Config) (c : ClusterView) (caller : List QueuePass) : Type 0 where
+  pub opened : IsOpened config c.operator caller
+  pub loops : RunLoops c
+  pub goes_on : is_fixed c ≡ false
+
+-- How a cluster has ended: its loops came back, and its own passes, as they were then, were gathered with the callers'.
+pub record HasFinished {H : Type 0} (entries : H → List (Entry Op Reply)) (c : ClusterView) (callers : List (List QueuePass)) (answer : Finished H) : Type 0 where
+  pub lines : List LineView
+  pub on : GoOn c.operator.lines lines
+  pub ends : LoopEnds
+  pub ended : EndsBy c.ends c.silos ends
+  pub finished : IsFinished entries ends (gathered (passes_of lines) callers) answer
+  pub begun : OnHistories entries (HaveBegun (passes_of lines) callers) answer
+  pub producers : OnHistories entries (CallersAloneProduce callers) answer

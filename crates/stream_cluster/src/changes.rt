@@ -1,0 +1,167 @@
+//! Silos that come and go.
+ghost use Rattle.std.specs.Prelude.{◌≡◌, [], ◌∷◌, ◌++◌, map, Contains, Some, slice_get, IfOk, OnOk};
+ghost use Rattle.std.specs.List.{AllByRecursion, range_with_len};
+ghost use Rattle.silo_crew.specs.Silos.{IsFresh, IsSiloAt, SiloView};
+ghost use Rattle.cluster_operator.specs.Operators.{HasOnlyGoneOn, HasSpread, OperatorGoesOn};
+ghost use Rattle.stream_cluster.specs.Clusters.{AreStarted, EndsBy, HasLeft, RunsOn, noted};
+
+use activation_directory::{DirectoryOp, DirectoryReply};
+use cluster_ending::LoopEnds;
+use cluster_operator::{Halt, Operator};
+use shared_partition::Gate;
+use silo_crew::{RunningSilo, SiloLoops};
+use std::alloc::{AllocError, Global};
+use std::sync::Wait;
+use std::thread::Threads;
+use stream_model::{Op, Reply};
+use turnstile::StoredHistory;
+
+// Starts the loops of a silo. Where they can't be started, their passes are joined back.
+pub(crate) fn start_silo<
+    G: Gate + 'static,
+    H: StoredHistory<Op, Reply> + Send + 'static,
+    D: StoredHistory<DirectoryOp, DirectoryReply> + Send + 'static,
+    R: Threads + Wait + Copy + Send + 'static,
+>(
+    rt: &R,
+    alloc: Global,
+    operator: &mut Operator<G, H, D>,
+    silo: u8,
+) -> Result<RunningSilo<G, H, D>, AllocError>
+    ensures only { HasOnlyGoneOn operator.old operator.new }
+    ensures started { IfOk result (λ running. IsFresh silo running × IsSiloAt operator.new.lines operator.new.directory running) }
+{
+    let loops = operator.make_loops(alloc, silo)?;
+    match RunningSilo::start(rt, alloc, operator.doorbell(), loops) {
+        Ok(running) => Ok(running),
+        Err(back) => {
+            operator.take_back(back);
+            Err(AllocError)
+        }
+    }
+}
+
+// Brings a silo up: its loops are started, and the queues are spread anew.
+pub(crate) fn bring_up<
+    G: Gate + 'static,
+    H: StoredHistory<Op, Reply> + Send + 'static,
+    D: StoredHistory<DirectoryOp, DirectoryReply> + Send + 'static,
+    R: Threads + Wait + Copy + Send + 'static,
+>(
+    rt: &R,
+    alloc: Global,
+    operator: &mut Operator<G, H, D>,
+    silos: &mut Vec<RunningSilo<G, H, D>>,
+    silo: u8,
+) -> Result<(), Halt>
+    requires absent { ¬ Contains operator.old.live silo }
+    requires at { RunsOn operator.old silos.old.items }
+    ensures at { RunsOn operator.new silos.new.items }
+    ensures on { OperatorGoesOn operator.old operator.new }
+    ensures live { OnOk result (operator.new.live ≡ operator.old.live ++ silo ∷ []) }
+    ensures started { OnOk result ((s : SiloView) × (silos.new.items ≡ silos.old.items ++ s ∷ []) × IsFresh silo s) }
+    ensures spread { OnOk result (HasSpread operator.old operator.new) }
+{
+    silos.reserve(1)?;
+    silos.push_reserved(start_silo(rt, alloc, operator, silo)?);
+    operator.enlist(silo)?;
+    operator.spread(rt, alloc)
+}
+
+// What is done once a silo's loops came back: their passes are joined, its grains are deactivated, and the queues are
+// spread over the silos that are left.
+pub(crate) fn leave<
+    G: Gate,
+    H: StoredHistory<Op, Reply>,
+    D: StoredHistory<DirectoryOp, DirectoryReply>,
+    R: Wait,
+>(
+    rt: &R,
+    alloc: Global,
+    operator: &mut Operator<G, H, D>,
+    place: usize,
+    loops: SiloLoops<G, H, D>,
+) -> Result<(), Halt>
+    requires place { slice_get operator.old.live place ≡ Some loops.silo }
+    requires at { IsSiloAt operator.old.lines operator.old.directory loops }
+    ensures on { OperatorGoesOn operator.old operator.new }
+    ensures left { OnOk result (HasLeft loops.silo place operator.old operator.new) }
+{
+    let silo = loops.silo;
+    operator.take_back(loops);
+    operator.evict(rt, alloc, silo)?;
+    operator.dismiss(place);
+    operator.spread(rt, alloc)
+}
+
+// Starts the loops of the silos that live. Where one can't be started, those that run are stopped, and all passes are
+// joined back.
+pub(crate) fn start_all<
+    G: Gate + 'static,
+    H: StoredHistory<Op, Reply> + Send + 'static,
+    D: StoredHistory<DirectoryOp, DirectoryReply> + Send + 'static,
+    R: Threads + Wait + Copy + Send + 'static,
+>(
+    rt: &R,
+    alloc: Global,
+    operator: &mut Operator<G, H, D>,
+    silos: u8,
+) -> Result<Vec<RunningSilo<G, H, D>>, AllocError>
+    ensures only { HasOnlyGoneOn operator.old operator.new }
+    ensures started { IfOk result (λ running. AreStarted silos running.items × RunsOn operator.new running.items) }
+{
+    let mut running = Vec::with_capacity(alloc, usize::from(silos))?;
+    for silo in 0..silos {
+        match start_silo(rt, alloc, operator, silo) {
+            Ok(started) => running.push_reserved(started),
+            Err(AllocError) => {
+                let _ends = stop_all(rt, operator, running, LoopEnds::default());
+                return Err(AllocError);
+            }
+        }
+    }
+    Ok(running)
+}
+
+// Notes how the loops of a silo have ended.
+pub(crate) fn note_ends<
+    G: Gate,
+    H: StoredHistory<Op, Reply>,
+    D: StoredHistory<DirectoryOp, DirectoryReply>,
+>(
+    ends: LoopEnds,
+    loops: &SiloLoops<G, H, D>,
+) -> LoopEnds
+    ensures { result ≡ noted ends loops.now }
+{
+    let mut ends = ends;
+    ends.note(loops.agent.over());
+    ends.note(loops.first.over());
+    ends.note(loops.second.over());
+    ends
+}
+
+// Stops the loops of silos, joins their passes back, and notes how they have ended.
+pub(crate) fn stop_all<
+    G: Gate,
+    H: StoredHistory<Op, Reply>,
+    D: StoredHistory<DirectoryOp, DirectoryReply>,
+    R: Threads + Wait,
+>(
+    rt: &R,
+    operator: &mut Operator<G, H, D>,
+    silos: Vec<RunningSilo<G, H, D>>,
+    ends: LoopEnds,
+) -> LoopEnds
+    requires { RunsOn operator.old silos.items }
+    ensures only { HasOnlyGoneOn operator.old operator.new }
+    ensures ends { EndsBy ends silos.items result }
+{
+    let mut ends = ends;
+    for silo in silos {
+        let loops = silo.stop(rt, operator.doorbell());
+        ends = note_ends(ends, &loops);
+        operator.take_back(loops);
+    }
+    ends
+}

@@ -1,0 +1,237 @@
+//! A cluster whose silos are threads.
+ghost use Rattle.std.specs.Prelude.{◌≡◌, ◌<◌, IfOk};
+ghost use Rattle.std.specs.List.{AllByRecursion};
+ghost use Rattle.silo_loops.specs.Lines.{places};
+ghost use Rattle.cluster_ending.specs.Gathering.{AreAt};
+ghost use Rattle.stream_cluster.specs.Clusters.{AnswersDown, AnswersUp, HasFinished, IsConfig, IsDownBy, IsNew, IsUpBy};
+
+use crate::changes::{bring_up, leave, note_ends, start_all, stop_all};
+use crate::config::Config;
+use crate::opening::open;
+use activation_directory::{DirectoryOp, DirectoryReply};
+use cluster_callers::Caller;
+use cluster_ending::{Finished, LoopEnds, finish};
+use cluster_operator::{Halt, Operator};
+use shared_partition::Gate;
+use silo_crew::RunningSilo;
+use std::alloc::{AllocError, Global};
+use std::marker::Model;
+use std::sync::{Arc, Wait};
+use std::thread::Threads;
+use stream_model::{Op, Reply};
+use turnstile::StoredHistory;
+
+/// What became of a silo that was to come.
+#[derive(Clone, Copy, Debug, PartialEq, Eq)]
+pub enum SiloUp {
+    /// It lives, its loops run, and the queues are spread over all silos that live.
+    Up,
+    /// It lived already. Nothing was done.
+    Already,
+    /// A call was answered `Spent`, or a history is full. What was answered by then stands, and the cluster's silos
+    /// don't change any more.
+    Limit,
+    /// The cluster's silos don't change any more. Nothing was done.
+    Halted,
+}
+
+/// What became of a silo that was to go.
+#[derive(Clone, Copy, Debug, PartialEq, Eq)]
+pub enum SiloDown {
+    /// It lives no more: its loops came back, its grains are deactivated, and the queues are spread over the silos
+    /// that live.
+    Down,
+    /// It didn't live. Nothing was done.
+    NotLive,
+    /// No other silo lives. Nothing was done.
+    LastSilo,
+    /// A call was answered `Spent`, or a history is full. What was answered by then stands, and the cluster's silos
+    /// don't change any more.
+    Limit,
+    /// The cluster's silos don't change any more. Nothing was done.
+    Halted,
+}
+
+// How a change of silos that was broken off is answered.
+fn up_by(halt: Halt) -> Result<SiloUp, AllocError>
+    ensures { IsUpBy halt result }
+{
+    match halt {
+        Halt::Limit => Ok(SiloUp::Limit),
+        Halt::Memory => Err(AllocError),
+    }
+}
+
+fn down_by(halt: Halt) -> Result<SiloDown, AllocError>
+    ensures { IsDownBy halt result }
+{
+    match halt {
+        Halt::Limit => Ok(SiloDown::Limit),
+        Halt::Memory => Err(AllocError),
+    }
+}
+
+/// A cluster whose silos are threads.
+///
+/// A contract sees what its operator holds, the loops of its silos as they were started, how those have ended that
+/// came back, whether the loops were given to whoever made it, and whether a change of silos was broken off.
+#[derive(Drop)]
+pub struct Cluster<
+    G: Gate,
+    H: StoredHistory<Op, Reply>,
+    D: StoredHistory<DirectoryOp, DirectoryReply>,
+> {
+    operator: Operator<G, H, D>,
+    silos: Vec<RunningSilo<G, H, D>>,
+    // how the loops of silos that went have ended
+    ends: LoopEnds,
+    // whether whoever made the cluster has the loops of its silos
+    parked: bool,
+    // whether a change of silos was broken off
+    halted: bool,
+}
+
+impl<G: Gate, H: StoredHistory<Op, Reply>, D: StoredHistory<DirectoryOp, DirectoryReply>> Model
+    for Cluster<G, H, D> {
+    ghost use Rattle.stream_cluster.specs.Clusters.{ClusterView, IsCluster};
+
+    ghost Value = { ClusterView };
+
+    ghost view = { λ c. record { operator = c.operator; silos = c.silos.items; ends = c.ends; is_parked = c.parked; is_halted = c.halted } };
+
+    ghost invariant = { λ c. IsCluster (record { operator = c.operator; silos = c.silos.items; ends = c.ends; is_parked = c.parked; is_halted = c.halted }) };
+}
+
+impl<
+    G: Gate + 'static,
+    H: StoredHistory<Op, Reply> + Send + 'static,
+    D: StoredHistory<DirectoryOp, DirectoryReply> + Send + 'static,
+> Cluster<G, H, D> {
+    /// A cluster and its first caller. The silos are numbered from 0 on, and their loops run; the queues are spread
+    /// over them, from silo 0 on which all are at first.
+    ///
+    /// # Errors
+    /// The call failed to allocate, or a thread can't be made. Loops that ran by then were stopped.
+    pub fn new<R: Threads + Wait + Copy + Send + 'static>(
+        rt: &R,
+        alloc: Global,
+        config: &Config,
+        gate: Arc<G, Global>,
+    ) -> Result<(Cluster<G, H, D>, Caller<G, H>), AllocError>
+        requires { IsConfig config.now }
+        ensures { IfOk result (λ made. IsNew config.now made.0 made.1) }
+    {
+        let (mut operator, caller) = open(rt, alloc, config, gate)?;
+        let silos = start_all(rt, alloc, &mut operator, config.silos)?;
+        let cluster = Cluster {
+            operator,
+            silos,
+            ends: LoopEnds::default(),
+            parked: false,
+            halted: false,
+        };
+        Ok((cluster, caller))
+    }
+
+    /// Starts the loops of a silo, and spreads the queues over all silos that live. Each queue that has another silo
+    /// then was moved there.
+    ///
+    /// # Errors
+    /// The call failed to allocate, or a thread can't be made. What was answered by then stands, no pass is lost,
+    /// and the cluster's silos don't change any more.
+    pub fn silo_up<R: Threads + Wait + Copy + Send + 'static>(
+        &mut self,
+        rt: &R,
+        alloc: Global,
+        silo: u8,
+    ) -> Result<SiloUp, AllocError>
+        requires { silo < 16 }
+        ensures { AnswersUp self.old silo result self.new }
+    {
+        if self.parked || self.halted {
+            return Ok(SiloUp::Halted);
+        }
+        match self.operator.place_of(silo) {
+            Some(_) => return Ok(SiloUp::Already),
+            None => {}
+        }
+        match bring_up(rt, alloc, &mut self.operator, &mut self.silos, silo) {
+            Ok(()) => Ok(SiloUp::Up),
+            Err(halt) => {
+                self.halted = true;
+                up_by(halt)
+            }
+        }
+    }
+}
+
+impl<G: Gate, H: StoredHistory<Op, Reply>, D: StoredHistory<DirectoryOp, DirectoryReply>> Cluster<
+    G,
+    H,
+    D,
+> {
+    /// Stops the loops of a silo and waits until they came back, deactivates the grains that the directory has on
+    /// it, and spreads the queues over the silos that live. Each queue that has another silo then was moved there.
+    ///
+    /// # Errors
+    /// The call failed to allocate. What was answered by then stands, no pass is lost, and the cluster's silos
+    /// don't change any more.
+    pub fn silo_down<R: Threads + Wait>(
+        &mut self,
+        rt: &R,
+        alloc: Global,
+        silo: u8,
+    ) -> Result<SiloDown, AllocError>
+        requires { silo < 16 }
+        ensures { AnswersDown self.old silo result self.new }
+    {
+        if self.parked || self.halted {
+            return Ok(SiloDown::Halted);
+        }
+        let Some(place) = self.operator.place_of(silo) else {
+            return Ok(SiloDown::NotLive);
+        };
+        if self.operator.live_count() == 1 {
+            return Ok(SiloDown::LastSilo);
+        }
+        let running = self.silos.remove(place);
+        let loops = running.stop(rt, self.operator.doorbell());
+        self.ends = note_ends(self.ends, &loops);
+        match leave(rt, alloc, &mut self.operator, place, loops) {
+            Ok(()) => Ok(SiloDown::Down),
+            Err(halt) => {
+                self.halted = true;
+                down_by(halt)
+            }
+        }
+    }
+
+    /// Stops the loops of all silos and waits until they came back, takes in the callers' passes, asks each queue
+    /// whether it is quiet, closes the turnstiles, and writes the report.
+    ///
+    /// Where several answers could be given, it is `InUse`, else `NotAll`, `Limit`, `RoundLimit`, `NotQuiet`, and
+    /// `Report` where none of these could be.
+    ///
+    /// # Errors
+    /// The call failed to allocate, or a loop had. All loops have come back then, and nothing is handed back.
+    pub fn finish<R: Threads + Wait>(
+        self,
+        rt: &R,
+        alloc: Global,
+        callers: Vec<Caller<G, H>>,
+    ) -> Result<Finished<H>, AllocError>
+        requires { AllByRecursion (AreAt (places self.operator.lines)) callers.items }
+        ensures { IfOk result (HasFinished H.entries self callers.items) }
+    {
+        let Cluster {
+            mut operator,
+            silos,
+            ends,
+            parked: _,
+            halted: _,
+        } = self;
+        let ends = stop_all(rt, &mut operator, silos, ends);
+        let (doorbell, lines) = operator.into_lines();
+        finish(rt, alloc, doorbell, lines, callers, ends)
+    }
+}

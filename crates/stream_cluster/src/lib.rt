@@ -1,0 +1,14 @@
+//! A cluster: silos that come and go over the partitions of its queues.
+//!
+//! A [`Cluster`] holds the partition of each queue behind a turnstile of its own, a directory of grains, and the
+//! loops of each live silo in threads. Producers call the partitions through a
+//! [`Caller`](cluster_callers::Caller), from any thread.
+#![tactic(auto)]
+
+mod changes;
+mod cluster;
+mod config;
+mod opening;
+
+pub use cluster::{Cluster, SiloDown, SiloUp};
+pub use config::Config;
