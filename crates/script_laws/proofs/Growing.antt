@@ -5,7 +5,8 @@ use Rattle.std.proofs.lemmas.List.Sums.{fold-append}
 use Rattle.std.specs.List.{range_with_len}
 use Rattle.script_laws.specs.ScriptLaws.{ScriptsGrow}
 use Rattle.script_laws.specs.ScriptReport.{command_printed, lines_after, live_after}
-use Rattle.script_laws.specs.Told.{Line, op_at, with_told}
+use Rattle.script_laws.specs.declared.line.Line.{Line}
+use Rattle.script_laws.specs.Told.{op_at, with_told}
 
 printed-grown : (missed : List ℕ) (silos : ℕ) (before lines : List Line) (line : Line)
     → lines_after missed silos before (lines ++ line ∷ []) ≡ lines_after missed silos before lines ++ command_printed missed silos (before ++ lines) line.number line.command

@@ -10,7 +10,8 @@ use Rattle.script_parser.specs.declared.command.Command.TheVariants as command
 use Rattle.script_parser.specs.Forms.{op_of}
 use Rattle.script_laws.specs.ScriptLaws.{HasNoLine, MissesChangeNoOther}
 use Rattle.script_laws.specs.ScriptReport.{command_printed, lines_after, op_printed, reply_lines}
-use Rattle.script_laws.specs.Told.{Line, is_among, op_at, subscribe_reply, told, told_reply, with_told}
+use Rattle.script_laws.specs.declared.line.Line.{Line}
+use Rattle.script_laws.specs.Told.{is_among, op_at, subscribe_reply, told, told_reply, with_told}
 
 module _ (missed : List ℕ) (number : ℕ) where
   reply-same : (before : List Entry) (line : ℕ) (op : Op) → (number == line) ≡ false → told_reply (number ∷ missed) before line op ≡ told_reply missed before line op

@@ -20,7 +20,8 @@ use Rattle.stream_laws.specs.Laws.{gives, is_given}
 use Rattle.step_core.specs.Reads.{is_named_before, summary_of}
 use Rattle.script_laws.specs.ScriptLaws.{ProducersTell}
 use Rattle.script_laws.specs.ScriptReport.{explicit_of, explicit_subs, implicit_subs, told_subs}
-use Rattle.script_laws.specs.Told.{batch_count, is_producer, is_subscribed, producers_entries, rule_of, rules_of, subscribed_count, told_of}
+use Rattle.stream_model.specs.Producers.{is_producer}
+use Rattle.script_laws.specs.Told.{batch_count, is_subscribed, producers_entries, rule_of, rules_of, subscribed_count, told_of}
 
 -- ---- in either order
 

@@ -31,7 +31,8 @@ use Rattle.stream_laws.proofs.Legal.{fits-stands, leads-split}
 use Rattle.script_laws.proofs.Producers.{batches-same, count-same, given-same, producers-tell}
 use Rattle.script_laws.proofs.ToldSteps.{told-legal}
 use Rattle.script_laws.specs.ScriptLaws.{RepliesAreTold, is_limit, is_miss}
-use Rattle.script_laws.specs.Told.{batch_count, has_rule, is_among, is_producer, producers_entries, rules_of, subscribe_reply, subscribed_count, told_of, told_reply}
+use Rattle.stream_model.specs.Producers.{is_producer}
+use Rattle.script_laws.specs.Told.{batch_count, has_rule, is_among, producers_entries, rules_of, subscribe_reply, subscribed_count, told_of, told_reply}
 
 -- what the producers' entries tell of the partition
 record Knows (before : List Entry) (p : PlainPartition) : Type 0 where

@@ -28,7 +28,8 @@ use Rattle.script_parser.specs.declared.command.EachOp.TheVariants.{Rule}
 use Rattle.script_printer.specs.Report.{queue_report}
 use Rattle.script_laws.specs.declared.script_line.ScriptLine.TheVariants.{Miss, Refused}
 use Rattle.script_laws.specs.ScriptReport.{script_lines, script_text, told_report}
-use Rattle.script_laws.specs.Told.{Line, producers_entries, told}
+use Rattle.script_laws.specs.declared.line.Line.{Line}
+use Rattle.script_laws.specs.Told.{producers_entries, told}
 use Prim.Native.String.{String}
 
 -- `unfolding computed` lets `refl` compute the steps of a partition and its drains

@@ -18,7 +18,9 @@ use Rattle.step_core.specs.declared.reading.SubSummary.{SubSummary}
 use Rattle.step_core.specs.Reads.{handled_of, summaries_in_order, summaries_of}
 use Rattle.script_printer.specs.Report.{queue_report}
 use Rattle.script_laws.specs.ScriptReport.{command_printed, explicit_subs, implicit_subs, live_after, live_silos, script_lines, told_report, told_subs}
-use Rattle.script_laws.specs.Told.{Line, is_among, is_producer, op_at, producers_entries, rules_of, told, told_of, told_reply, with_told}
+use Rattle.stream_model.specs.Producers.{is_producer}
+use Rattle.script_laws.specs.declared.line.Line.{Line}
+use Rattle.script_laws.specs.Told.{is_among, op_at, producers_entries, rules_of, told, told_of, told_reply, with_told}
 
 -- One line more at the end of a script: what it adds to what is told, printed and alive.
 pub record ScriptsGrow : Type 0 where

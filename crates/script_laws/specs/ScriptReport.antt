@@ -20,7 +20,8 @@ use Rattle.script_parser.specs.Forms.{op_of}
 use Rattle.script_printer.specs.Report.{closed_text, open_text}
 use Rattle.script_laws.specs.declared.script_line.ScriptLine.{ScriptLine}
 use Rattle.script_laws.specs.declared.script_line.ScriptLine.TheVariants as printed
-use Rattle.script_laws.specs.Told.{Line, is_among, rules_of, told, told_reply}
+use Rattle.script_laws.specs.declared.line.Line.{Line}
+use Rattle.script_laws.specs.Told.{is_among, rules_of, told, told_reply}
 
 -- an explicit subscription with its stream and its start
 abbrev pub explicit_sub : List Entry → ℕ → GrainId → Binding → SubSummary

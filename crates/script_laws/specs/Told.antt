@@ -11,6 +11,7 @@ use Rattle.stream_model.specs.declared.op.Op.{Op}
 use Rattle.stream_model.specs.declared.op.Op.TheVariants.{Publish, Subscribe, Unsubscribe, AddRule}
 use Rattle.stream_model.specs.declared.op.Start.TheVariants.{Latest, At}
 use Rattle.stream_model.specs.declared.reply.Reply.{Reply}
+use Rattle.stream_model.specs.Producers.{is_producer}
 use Rattle.stream_model.specs.declared.reply.Reply.TheVariants as reply
 use Rattle.stream_model.specs.History.{Entry, is_closed}
 use Rattle.stream_model.specs.NewestFirst as newest
@@ -18,19 +19,7 @@ use Rattle.stream_laws.specs.Laws.{is_given}
 use Rattle.script_parser.specs.declared.command.Command.{Command}
 use Rattle.script_parser.specs.declared.command.Command.TheVariants as command
 use Rattle.script_parser.specs.Forms.{op_of}
-
--- a command, and the number of its line
-pub record Line : Type 0 where
-  pub number : ℕ
-  pub command : Command
-
--- the operations that producers alone ask for; agents and workers ask for the others
-abbrev pub is_producer : Op → Bool
-is_producer (Publish stream payloads) = true
-is_producer (Subscribe stream grain start) = true
-is_producer (Unsubscribe sub) = true
-is_producer (AddRule kind namespace) = true
-is_producer _ = false
+use Rattle.script_laws.specs.declared.line.Line.{Line}
 
 -- how many batches were accepted
 abbrev pub batch_count : List Entry → ℕ

@@ -8,8 +8,10 @@
 
 ghost use Rattle.script_laws.specs.ScriptLaws.{ExplicitAreTold, ImplicitAreOwed, ImplicitSubsAreOwed, MissesChangeNoOther, OpenHaveAll, ProducersTell, QuietTells, QuietTellsScript, RepliesAreTold, RulesAreTold, ScriptsGrow};
 
+mod line;
 mod script_line;
 
+pub use line::Line;
 pub use script_line::ScriptLine;
 
 /// One line more at the end of a script adds what it asks and is answered to what is told at its queues, its

@@ -9,7 +9,8 @@ use Rattle.turnstile.specs.declared.turnstile.Refusal.{Refusal}
 use Rattle.turnstile.specs.Calls.{Agree, Called, Found, HasOnlyMade, HasOnlySeen, IsOf, joined_pass}
 use Rattle.turnstile.specs.Passes.{Origin}
 use Rattle.stream_model.specs.declared.plain.PlainPartition.{PlainPartition}
-use Rattle.silo_loops.specs.Lines.{CallsOn, IsKept, LineView, NeverProduces, QueuePass, is_producer, is_pull, is_ready}
+use Rattle.stream_model.specs.Producers.{is_producer}
+use Rattle.silo_loops.specs.Lines.{CallsOn, IsKept, LineView, NeverProduces, QueuePass, is_pull, is_ready}
 use Rattle.silo_loops.specs.Passes.{HasOwnPast}
 use Rattle.silo_loops.proofs.Owning.{calls-more, owns-called, owns-joined, past-answered, past-called, past-more}
 

@@ -1,9 +1,10 @@
 -- Lines: a loop's passes, and how much they had seen when the loop was last idle.
 use Rattle.std.specs.Prelude.{◌≡◌, ℕ, ◌≤◌, Bool, true, false, List, length, map, Option, Some, Result, slice_get, slice_set}
 use Rattle.stream_model.specs.declared.op.Op.{Op}
-use Rattle.stream_model.specs.declared.op.Op.TheVariants.{Publish, Subscribe, Unsubscribe, AddRule, Pull, Ready}
+use Rattle.stream_model.specs.declared.op.Op.TheVariants.{Pull, Ready}
 use Rattle.stream_model.specs.declared.plain.PlainPartition.{PlainPartition}
 use Rattle.stream_model.specs.declared.reply.Reply.{Reply}
+use Rattle.stream_model.specs.Producers.{is_producer}
 use Rattle.activation_directory.specs.declared.op.DirectoryOp.{DirectoryOp}
 use Rattle.activation_directory.specs.declared.reply.DirectoryReply.{DirectoryReply}
 use Rattle.activation_directory.specs.Plain.{PlainDirectory}
@@ -27,14 +28,6 @@ DirectoryPass = PassView DirectoryOp DirectoryReply PlainDirectory
 pub record LineView : Type 0 where
   pub pass : QueuePass
   pub mark : ℕ
-
--- the operations that a producer alone makes
-abbrev pub is_producer : Op → Bool
-is_producer (Publish stream payloads) = true
-is_producer (Subscribe stream grain start) = true
-is_producer (Unsubscribe sub) = true
-is_producer (AddRule kind namespace) = true
-is_producer _ = false
 
 abbrev pub is_ready : Op → Bool
 is_ready (Ready last) = true

@@ -7,6 +7,7 @@ pub mod Memory
 pub mod NewestFirst
 pub mod Places
 pub mod Positions
+pub mod Producers
 pub mod Publishing
 pub mod Pulling
 pub mod Step

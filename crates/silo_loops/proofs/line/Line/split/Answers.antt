@@ -1,5 +1,5 @@
 use Rattle.std.proofs.Common.{rules}
-use Rattle.silo_loops.specs.Lines.{is_producer}
+use Rattle.stream_model.specs.Producers.{is_producer}
 use Rattle.silo_loops.proofs.Kept.{kept-split}
 use Rattle.silo_loops.proofs.Owning.{owns-split}
 use Rattle.silo_loops.proofs.line.Line.split.Goals as goal
