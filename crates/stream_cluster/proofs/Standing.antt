@@ -276,7 +276,7 @@ pub opened-whole : (config : Config) (first lines : List LineView) (d : Director
 opened-whole config first lines d v e w caller same many at beside unused made enlisted on live spread =
     let kept : e.lines ≡ first = ap (λ (o : OperatorView). o.lines) enlisted ∙ ap (λ (o : OperatorView). o.lines) made ∙ same in
     let all : e.assignment ≡ replicate config.queues 0 =
-        ap (λ (o : OperatorView). o.assignment) enlisted ∙ ap (λ (o : OperatorView). o.assignment) made ∙ ap (λ n. replicate n 0) (ap (λ (ls : List LineView). length ls) same ∙ many) in
+    ap (λ (o : OperatorView). o.assignment) enlisted ∙ ap (λ (o : OperatorView). o.assignment) made ∙ ap (λ n. replicate n 0) (ap (λ (ls : List LineView). length ls) same ∙ many) in
     record {
       live = live ∙ ap (λ (o : OperatorView). o.live) enlisted;
       queues = goes-length e.lines w.lines on.lines ∙ ap (λ (ls : List LineView). length ls) kept ∙ many;

@@ -128,10 +128,7 @@ pub(crate) fn note_ends<
     G: Gate,
     H: StoredHistory<Op, Reply>,
     D: StoredHistory<DirectoryOp, DirectoryReply>,
->(
-    ends: LoopEnds,
-    loops: &SiloLoops<G, H, D>,
-) -> LoopEnds
+>(ends: LoopEnds, loops: &SiloLoops<G, H, D>) -> LoopEnds
     ensures { result ≡ noted ends loops.now }
 {
     let mut ends = ends;
