@@ -1,6 +1,7 @@
 -- What the one producer of a script asks, line by line, and what it is told.
 use Rattle.std.specs.Prelude.{◌≡◌, ◌≢◌, ℕ, Bool, true, false, List, [], ◌∷◌, ◌++◌, Contains, Option, Some, Result, Ok, Err, slice_get, if◌then◌else◌}
 use Rattle.std.specs.List.{AllByRecursion, AllZip}
+use Rattle.std.specs.declared.alloc.AllocError.{AllocError}
 use Rattle.stream_model.specs.declared.op.Op.{Op}
 use Rattle.stream_model.specs.declared.plain.PlainPartition.{PlainPartition}
 use Rattle.stream_model.specs.declared.reply.Reply.{Reply}
@@ -8,10 +9,13 @@ use Rattle.stream_model.specs.declared.reply.Reply.TheVariants as reply
 use Rattle.stream_model.specs.History as told
 use Rattle.stream_model.specs.Producers.{is_producer}
 use Rattle.turnstile.specs.declared.history.Entry.{Entry}
+use Rattle.turnstile.specs.declared.turnstile.Refusal.{Refusal}
+use Rattle.turnstile.specs.declared.turnstile.Refusal.TheVariants.{HistoryFull, Memory}
 use Rattle.turnstile.specs.Calls.{HasOnlySeen, numbers_of}
 use Rattle.turnstile.specs.Passes.{Origin}
 use Rattle.shared_partition.specs.Partitions.{BeganEmpty, told_of}
 use Rattle.silo_loops.specs.Lines.{QueuePass}
+use Rattle.cluster_callers.specs.Calls.{CallerCalls}
 use Rattle.cluster_ending.specs.declared.asking.Quiet.TheVariants.{All}
 use Rattle.cluster_ending.specs.Asking.{AsksQuiet}
 use Rattle.script_parser.specs.declared.command.Command.{Command}
@@ -87,6 +91,18 @@ pub record Tells (old : List QueuePass) (command : Command) (answer : Answer) (n
 -- what an answer says that isn't a limit
 abbrev pub TellsUnlessLimit : List QueuePass → Command → Answer → List QueuePass → Type 0
 TellsUnlessLimit old command a new = a ≢ answer.Limit → Tells old command a new
+
+-- what a line gets that makes one call, of which this came
+abbrev pub IsAnswered : Result Reply Refusal → Result Answer AllocError → Type 0
+IsAnswered (Ok r) result = result ≡ Ok (answer_of r)
+IsAnswered (Err HistoryFull) result = result ≡ Ok answer.Limit
+IsAnswered (Err Memory) result = (e : AllocError) × (result ≡ Err e)
+
+-- one call at one queue, which was answered so
+pub record AsksOnce (old : List QueuePass) (queue : ℕ) (op : Op) (result : Result Answer AllocError) (new : List QueuePass) : Type 0 where
+  pub outcome : Result Reply Refusal
+  pub calls : CallerCalls old queue op outcome new
+  pub answered : IsAnswered outcome result
 
 -- each queue was quiet in one look at all of them
 pub record LooksQuiet (old new : List QueuePass) : Type 0 where

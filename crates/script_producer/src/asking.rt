@@ -5,7 +5,7 @@ ghost use Rattle.stream_model.specs.Producers.{is_producer};
 ghost use Rattle.cluster_callers.specs.Calls.{turnstiles};
 ghost use Rattle.script_parser.specs.declared.command.Command.TheVariants as command;
 ghost use Rattle.script_parser.specs.Forms.{op_of};
-ghost use Rattle.script_producer.specs.Telling.{HasGoneOn, TellsUnlessLimit};
+ghost use Rattle.script_producer.specs.Telling.{AsksOnce, HasGoneOn, TellsUnlessLimit};
 
 use crate::answer::{Answer, answer_of};
 use cluster_callers::Caller;
@@ -33,11 +33,7 @@ pub fn ask<G: Gate, H: StoredHistory<Op, Reply>, R: Wait>(
     ensures on { AllZip HasGoneOn caller.old caller.new }
     ensures turnstiles { turnstiles caller.new ≡ turnstiles caller.old }
 {
-    match caller.call(rt, alloc, queue, op) {
-        Ok(reply) => Ok(answer_of(&reply)),
-        Err(Refusal::HistoryFull) => Ok(Answer::Limit),
-        Err(Refusal::Memory) => Err(AllocError),
-    }
+    ask_once(rt, alloc, caller, queue, op)
 }
 
 /// Asks for an operation of a producer at each queue, in order. The answer is that of the first queue: a rule is there
@@ -58,14 +54,33 @@ pub fn ask_each<G: Gate, H: StoredHistory<Op, Reply>, R: Wait>(
     ensures on { AllZip HasGoneOn caller.old caller.new }
     ensures turnstiles { turnstiles caller.new ≡ turnstiles caller.old }
 {
-    let first = ask(rt, alloc, caller, 0, each.op())?;
+    let first = ask_once(rt, alloc, caller, 0, each.op())?;
     if first == Answer::Limit {
         return Ok(Answer::Limit);
     }
     for queue in 1..caller.queues() {
-        if ask(rt, alloc, caller, queue, each.op())? == Answer::Limit {
+        if ask_once(rt, alloc, caller, queue, each.op())? == Answer::Limit {
             return Ok(Answer::Limit);
         }
     }
     Ok(first)
+}
+
+// One call at a queue, and what its reply answers.
+fn ask_once<G: Gate, H: StoredHistory<Op, Reply>, R: Wait>(
+    rt: &R,
+    alloc: Global,
+    caller: &mut Caller<G, H>,
+    queue: usize,
+    op: Op,
+) -> Result<Answer, AllocError>
+    requires { queue < length caller.old }
+    ensures asks { AsksOnce caller.old queue op result caller.new }
+    ensures turnstiles { turnstiles caller.new ≡ turnstiles caller.old }
+{
+    match caller.call(rt, alloc, queue, op) {
+        Ok(reply) => Ok(answer_of(&reply)),
+        Err(Refusal::HistoryFull) => Ok(Answer::Limit),
+        Err(Refusal::Memory) => Err(AllocError),
+    }
 }
