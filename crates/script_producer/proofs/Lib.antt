@@ -1,5 +1,5 @@
-pub mod Asking
-pub mod Draining
+pub mod Asked
+pub mod Looked
 pub mod Placing
 pub mod Replying
 pub mod Seen

@@ -43,9 +43,11 @@ pub record ProducesNone (p q : QueuePass) : Type 0 where
   pub none : OwnsNone is_producer (numbers_of p) on.more
 
 pub none-refl : (p : QueuePass) → ProducesNone p p
+unfolding gone-refl
 none-refl p = record { on = gone-refl p; none = tt }
 
 pub none-trans : (p q r : QueuePass) → ProducesNone p q → ProducesNone q r → ProducesNone p r
+unfolding gone-trans
 none-trans p q r a b =
     record {
       on = gone-trans p q r a.on b.on;
