@@ -9,7 +9,7 @@ use Rattle.script_producer.proofs.asking.ask_each.Given as goal
 abbrev pub invariant-loop-queue : goal.invariant-loop-queue
 invariant-loop-queue g l =
     record {
-      asked : AskedUpTo l.first (op_of l.fn.each.now) l.queue l.fn.caller l.caller;
+      asked : AskedUpTo l.first (op_of l.fn.each) l.queue l.fn.caller l.caller;
       on : AllZip HasGoneOn l.fn.caller l.caller;
       at : turnstiles l.caller ≡ turnstiles l.fn.caller;
       some : 1 ≤ l.queue;
