@@ -28,7 +28,7 @@ use Rattle.script_laws.specs.Told.{batch_count, is_subscribed, producers_entries
 abbrev told_entry : Entry → Entry
 told_entry e = record { op = e.op; reply = told_of e.reply }
 
-kept-append : (first second : List Entry) → producers_entries (first ++ second) ≡ producers_entries first ++ producers_entries second
+pub kept-append : (first second : List Entry) → producers_entries (first ++ second) ≡ producers_entries first ++ producers_entries second
 kept-append first second =
     ap (map told_entry) (filter-append (λ (e : Entry). is_producer e.op) first second)
     ∙ map-append told_entry (filter (λ (e : Entry). is_producer e.op) first) (filter (λ (e : Entry). is_producer e.op) second)

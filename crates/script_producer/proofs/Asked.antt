@@ -117,11 +117,14 @@ one-more first a op queue old now new front once free same =
     upto-next (IsAsked first op) queue old now new calls.was calls.is front calls.had calls.whole
     (record { reply = replies.0; calls = calls.calls; free = λ limit. free (replies.2 ∙ limit); first_is = λ zeroth. same zeroth ∙ replies.2 })
 
-pub each-first : (first : Answer) (op : Op) (old new : List QueuePass) → AsksOnce old 0 op (Ok first) new → first ≢ answer.Limit → AskedUpTo first op 1 old new
-each-first first op old new once free = one-more first first op 0 old old new refl once free (λ zeroth. refl)
+pub each-first : (first : Answer) (asked op : Op) (old new : List QueuePass) → op ≡ asked → AsksOnce old 0 op (Ok first) new → first ≢ answer.Limit → AskedUpTo first asked 1 old new
+each-first first asked op old new is once free =
+    one-more first first asked 0 old old new refl (subst (λ (o : Op). AsksOnce old 0 o (Ok first) new) is once) free (λ zeroth. refl)
 
-pub each-next : (first a : Answer) (op : Op) (queue : ℕ) (old now new : List QueuePass) → AskedUpTo first op queue old now → AsksOnce now queue op (Ok a) new → a ≢ answer.Limit → 1 ≤ queue → AskedUpTo first op (queue + 1) old new
-each-next first a op queue old now new front once free some = one-more first a op queue old now new front once free (λ zeroth. absurd (omega arith))
+pub each-next : (first a : Answer) (asked op : Op) (queue : ℕ) (old now new : List QueuePass) → op ≡ asked → AskedUpTo first asked queue old now → AsksOnce now queue op (Ok a) new → a ≢ answer.Limit → 1 ≤ queue
+    → AskedUpTo first asked (queue + 1) old new
+each-next first a asked op queue old now new is front once free some =
+    one-more first a asked queue old now new front (subst (λ (o : Op). AsksOnce now queue o (Ok a) new) is once) free (λ zeroth. absurd (omega arith))
 
 -- a rule is told without a look at the lines whose start token was refused
 each-alike : (asked : EachOp) (a b : Answer) (number : ℕ) (missed : List ℕ) → is_producer (op_of asked) ≡ true → IsToldAlike a b number missed (op_of asked)

@@ -1,6 +1,6 @@
-use Rattle.std.proofs.Common.{◌∙◌, refl, ap}
-use Rattle.silo_loops.specs.Lines.{QueuePass}
-use Rattle.cluster_callers.specs.Calls.{turnstiles}
+use Rattle.std.proofs.Common.{◌∙◌, Ok, refl, subst}
+use Rattle.cluster_ending.specs.declared.asking.Quiet.{Quiet}
+use Rattle.cluster_ending.specs.Asking.{AsksQuiet}
 use Rattle.cluster_ending.proofs.Rows.{zip-refl}
 use Rattle.script_producer.proofs.Looked.{drain-tells, looks-none, none-on, quiet-look}
 use Rattle.script_producer.proofs.Seen.{ProducesNone, none-refl}
@@ -13,7 +13,9 @@ pub returns-in-Ok-All-clause-told : goal.returns-in-Ok-All-clause-told
 returns-in-Ok-All-clause-told g c = drain-tells c.args.caller.now c.ask_quiet.new.caller (looks-none c.args.caller.now c.loop.caller c.ask_quiet.new.caller c.ask_quiet.result c.loop.invariant.none c.ask_quiet.ensures.asks)
 
 pub returns-in-Ok-All-clause-quiet : goal.returns-in-Ok-All-clause-quiet
-returns-in-Ok-All-clause-quiet g c = λ _. quiet-look c.args.caller.now c.loop.caller c.ask_quiet.new.caller c.loop.invariant.none c.in-Ok-All.ensures.asks
+returns-in-Ok-All-clause-quiet g c = λ _.
+    quiet-look c.args.caller.now c.loop.caller c.ask_quiet.new.caller c.loop.invariant.none
+    (subst (λ (end : Quiet). AsksQuiet c.loop.caller (Ok end) c.ask_quiet.new.caller) c.in-Ok-All.field-0-is c.in-Ok-All.ensures.asks)
 
 pub returns-in-Ok-All-clause-on : goal.returns-in-Ok-All-clause-on
 returns-in-Ok-All-clause-on g c = none-on c.args.caller.now c.ask_quiet.new.caller (looks-none c.args.caller.now c.loop.caller c.ask_quiet.new.caller c.ask_quiet.result c.loop.invariant.none c.ask_quiet.ensures.asks)
