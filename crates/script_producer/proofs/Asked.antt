@@ -1,9 +1,9 @@
 -- A line that asks at one queue or at each.
-use Rattle.std.proofs.Common.{◌≡◌, ◌≢◌, ℕ, zero, ◌+◌, ◌<◌, ◌≤◌, inl, inr, true, false, if◌then◌else◌, List, [], ◌∷◌, ◌++◌, length, Option, Some, None, Result, Ok, Err, IfOk, refl, sym, ap, subst, ◌∙◌, arith}
-use Rattle.std.proofs.lemmas.Bool.{eq-eqb, false≢true}
+use Rattle.std.proofs.Common.{◌≡◌, ◌≢◌, ℕ, ◌+◌, ◌≤◌, inl, inr, true, if◌then◌else◌, List, [], ◌∷◌, ◌++◌, length, Some, None, Result, Ok, Err, IfOk, refl, sym, ap, subst, ◌∙◌, arith}
+use Rattle.std.proofs.lemmas.Bool.{eq-eqb}
 use Rattle.std.proofs.lemmas.Bool.Decides.{eqb_tells}
 use Rattle.std.specs.List.{AllByRecursion, AllZip}
-use Rattle.std.specs.Prelude.{slice_get, ◌==◌}
+use Rattle.std.specs.Prelude.{slice_get}
 use Rattle.std.specs.declared.alloc.AllocError.{AllocError}
 use Rattle.stream_model.specs.declared.op.Op.{Op}
 use Rattle.stream_model.specs.declared.reply.Reply.{Reply}
@@ -12,7 +12,7 @@ use Rattle.turnstile.specs.declared.turnstile.Refusal.{Refusal}
 use Rattle.turnstile.specs.declared.turnstile.Refusal.TheVariants.{HistoryFull, Memory}
 use Rattle.silo_loops.specs.Lines.{QueuePass}
 use Rattle.cluster_callers.specs.Calls.{CallerCalls, QueueCalls}
-use Rattle.cluster_ending.proofs.Rows.{all-at, zip-trans}
+use Rattle.cluster_ending.proofs.Rows.{all-at}
 use Rattle.script_parser.specs.declared.command.Command.TheVariants as command
 use Rattle.script_parser.specs.declared.command.EachOp.{EachOp}
 use Rattle.script_parser.specs.declared.command.EachOp.TheVariants as each
@@ -25,7 +25,7 @@ use Rattle.script_producer.specs.declared.answer.Answer.TheVariants as answer
 use Rattle.script_producer.specs.Telling.{AloneProduces, AsksOnce, BeginsEmpty, HasGoneOn, HasTold, IsAnswered, IsNewNumber, ProducesAlone, Tells, TellsUnlessLimit, answer_of, printed_lines, told_at, with_missed}
 use Rattle.script_producer.proofs.Placing.{UpTo, set-at, set-here, upto-at, upto-first, upto-next, zip-set}
 use Rattle.script_producer.proofs.Replying.{IsToldAlike, line-none, line-printed, line-told}
-use Rattle.script_producer.proofs.Seen.{called-on, gone-refl, gone-trans}
+use Rattle.script_producer.proofs.Seen.{called-on, gone-refl}
 
 -- ---- one call
 
@@ -63,7 +63,6 @@ op-there queue other op differs =
       | inr not ↦ ap (λ b. if b then script.producer_op op else None) not.0
     ]
 
-
 step-told : (old new : List QueuePass) (queue : ℕ) (op : Op) (r : Reply) (number : ℕ) (missed : List ℕ) (lines : List Line)
     → is_producer op ≡ true → answer_of r ≢ answer.Limit → CallerCalls old queue op (Ok r) new → AllByRecursion BeginsEmpty old → AloneProduces new → IsNewNumber number missed lines → HasTold missed lines old
     → HasTold (with_missed (answer_of r) number missed) (lines ++ record { number = number; command = command.Step queue op } ∷ []) new
@@ -74,9 +73,9 @@ step-told old new queue op r number missed lines produces free calls begins alon
     let alone_there = all-at ProducesAlone new other q alone at in
     elim (set-at old queue other was calls.is q calls.had (ap (λ (es : List QueuePass). slice_get es other) (sym calls.whole) ∙ at)) as (λ s. told_at q ≡ script.told (with_missed a number missed) other (lines ++ record { number = number; command = asks } ∷ [])) [
       | inl here ↦ line-told was q op r a number missed other lines asks (all-at BeginsEmpty old queue was begins calls.had) alone_there produces free fresh (ap (λ k. script.op_at k asks) here.0 ∙ op-here queue op produces)
-      (λ before. refl)
-      (subst (λ (w : QueuePass). QueueCalls was op (Ok r) w) (sym here.1) calls.calls)
-      (has other was (ap (λ k. slice_get old k) here.0 ∙ calls.had))
+          (λ before. refl)
+          (subst (λ (w : QueuePass). QueueCalls was op (Ok r) w) (sym here.1) calls.calls)
+          (has other was (ap (λ k. slice_get old k) here.0 ∙ calls.had))
       | inr there ↦ line-none q q a number missed other lines asks fresh (op-there queue other op there.0) refl (has other q there.1)
     ]
 

@@ -1,5 +1,5 @@
 -- What a script says of the reply to a line, and of the lines after it.
-use Rattle.std.proofs.Common.{◌≡◌, ◌≢◌, ◌||◌, ℕ, true, false, List, [], ◌∷◌, ◌++◌, Option, Some, None, Result, Ok, refl, sym, ap, subst, ◌∙◌}
+use Rattle.std.proofs.Common.{◌≡◌, ◌≢◌, ◌||◌, ℕ, true, false, List, [], ◌∷◌, ◌++◌, Option, Some, None, Ok, refl, sym, ap, subst, ◌∙◌}
 use Rattle.std.proofs.lemmas.Bool.{eq-eqb}
 use Rattle.std.proofs.lemmas.List.{map-append}
 use Rattle.stream_model.specs.declared.op.Op.{Op}
@@ -26,7 +26,7 @@ use Rattle.script_laws.proofs.ToldReplies.{replies-told}
 use Rattle.script_producer.specs.declared.answer.Answer.{Answer}
 use Rattle.script_producer.specs.declared.answer.Answer.TheVariants as answer
 use Rattle.script_producer.specs.Telling.{BeginsEmpty, IsNewNumber, ProducesAlone, answer_of, printed_lines, told_at, with_missed}
-use Rattle.script_producer.proofs.Seen.{all_told, called-told}
+use Rattle.script_producer.proofs.Seen.{called-told}
 
 -- ---- replies and answers
 

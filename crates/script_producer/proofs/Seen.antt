@@ -10,7 +10,7 @@ use Rattle.stream_model.specs.Producers.{is_producer}
 use Rattle.turnstile.specs.declared.history.Entry.{Entry}
 use Rattle.turnstile.specs.declared.turnstile.Refusal.{Refusal}
 use Rattle.turnstile.specs.Calls.{numbers_of}
-use Rattle.turnstile.specs.History.{Foreign, entry}
+use Rattle.turnstile.specs.History.{entry}
 use Rattle.shared_partition.specs.Partitions.{after, replied, told_of}
 use Rattle.silo_loops.specs.Lines.{QueuePass}
 use Rattle.silo_loops.specs.Passes.{OwnsNone}

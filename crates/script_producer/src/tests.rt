@@ -187,10 +187,33 @@ fn a_start_below_the_low_token(rt: HostRuntime) -> Result<(), Fail> {
     let (_doorbell, mut caller) = opened(alloc, 100)?;
     let full = publish(&rt, alloc, 64)?;
     assert!(rt; asked(&rt, alloc, &mut caller, 0, full)? == Answer::Taken);
-    let pulled = called(&rt, alloc, &mut caller, Op::Pull { generation: 0, max: 64 });
+    let pulled = called(
+        &rt,
+        alloc,
+        &mut caller,
+        Op::Pull {
+            generation: 0,
+            max: 64,
+        },
+    );
     assert!(rt; matches!(pulled, Reply::Pulled { count: 64, .. }));
-    let purged = called(&rt, alloc, &mut caller, Op::Purge { generation: 0, keep: 0 });
-    assert!(rt; matches!(purged, Reply::Purged { low: Token { seq: 1, idx: 0 } }));
+    let purged = called(
+        &rt,
+        alloc,
+        &mut caller,
+        Op::Purge {
+            generation: 0,
+            keep: 0,
+        },
+    );
+    assert!(rt;
+        matches!(
+            purged,
+            Reply::Purged {
+                low: Token { seq: 1, idx: 0 }
+            }
+        )
+    );
     assert!(rt; asked(&rt, alloc, &mut caller, 0, subscribe(&rt, 0))? == Answer::Missed);
     assert!(rt; asked(&rt, alloc, &mut caller, 0, subscribe(&rt, 1))? == Answer::Taken);
     Ok(())
