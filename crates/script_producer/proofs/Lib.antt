@@ -1,0 +1,5 @@
+pub mod Asked
+pub mod Looked
+pub mod Placing
+pub mod Replying
+pub mod Seen

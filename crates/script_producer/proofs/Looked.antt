@@ -1,0 +1,52 @@
+-- Looks at all queues, which ask for nothing that producers ask for.
+use Rattle.std.proofs.Common.{ℕ, zero, suc, List, [], ◌∷◌, Result, Ok, Err, refl, sym, subst}
+use Rattle.std.specs.List.{AllZip}
+use Rattle.stream_model.specs.declared.op.Op.TheVariants as op
+use Rattle.stream_model.specs.declared.reply.Reply.{Reply}
+use Rattle.stream_model.specs.declared.reply.Reply.TheVariants as reply
+use Rattle.turnstile.specs.declared.turnstile.Refusal.{Refusal}
+use Rattle.silo_loops.specs.Lines.{QueuePass}
+use Rattle.cluster_ending.specs.declared.asking.Quiet.{Quiet}
+use Rattle.cluster_ending.specs.declared.asking.Quiet.TheVariants.{All, NotQuiet}
+use Rattle.cluster_ending.specs.Asking.{AsksQuiet, AsksUpTo, IsQuiet}
+use Rattle.cluster_ending.proofs.Rows.{all-at, zip-at, zip-refl, zip-trans}
+use Rattle.script_parser.specs.declared.command.Command.TheVariants as command
+use Rattle.script_producer.specs.declared.answer.Answer.TheVariants as answer
+use Rattle.script_producer.specs.Telling.{HasGoneOn, LooksQuiet, ProducesAlone, Tells}
+use Rattle.script_producer.proofs.Placing.{zip-weaker}
+use Rattle.script_producer.proofs.Replying.{line-none}
+use Rattle.script_producer.proofs.Seen.{ProducesNone, called-none, none-refl, none-told, none-trans}
+
+asked-none : (queue : ℕ) (result : Result Reply Refusal) (ps qs : List QueuePass) → AsksUpTo queue result ps qs → AllZip ProducesNone ps qs
+asked-none queue result [] qs asks = absurd asks
+asked-none queue result (p ∷ ps) [] asks = absurd asks
+asked-none zero result (p ∷ ps) (q ∷ qs) asks =
+    (called-none p q op.Quiet result refl asks.0, subst (λ (es : List QueuePass). AllZip ProducesNone ps es) (sym asks.1) (zip-refl ProducesNone none-refl ps))
+asked-none (suc queue) result (p ∷ ps) (q ∷ qs) asks = (called-none p q op.Quiet (Ok reply.IsQuiet) refl asks.0, asked-none queue result ps qs asks.1)
+
+pub look-none : (old : List QueuePass) (result : Result Quiet Refusal) (new : List QueuePass) → AsksQuiet old result new → AllZip ProducesNone old new
+look-none old (Ok All) new asks = zip-weaker IsQuiet ProducesNone (λ p q quiet. called-none p q op.Quiet (Ok reply.IsQuiet) refl quiet) old new asks
+look-none old (Ok (NotQuiet queue why)) new asks = asked-none queue (Ok (reply.NotQuiet why)) old new asks
+look-none old (Err refusal) new asks = asked-none asks.0 (Err refusal) old new asks.1
+
+-- one look more
+pub looks-none : (old now new : List QueuePass) (result : Result Quiet Refusal) → AllZip ProducesNone old now → AsksQuiet now result new → AllZip ProducesNone old new
+looks-none old now new result so_far asks = zip-trans ProducesNone ProducesNone ProducesNone none-trans old now new so_far (look-none now result new asks)
+
+pub none-on : (old new : List QueuePass) → AllZip ProducesNone old new → AllZip HasGoneOn old new
+none-on old new all = zip-weaker ProducesNone HasGoneOn (λ p q none. none.on) old new all
+
+-- a line that drains
+pub drain-tells : (old new : List QueuePass) → AllZip ProducesNone old new → Tells old command.Drain answer.Taken new
+drain-tells old new all =
+    record {
+      told = λ begins alone missed lines number fresh has queue q at.
+          let beside = zip-at ProducesNone old new queue q all at in
+          let p = beside.0 in
+          line-none p q answer.Taken number missed queue lines command.Drain fresh refl
+          (none-told p q beside.2 (all-at ProducesAlone new queue q alone at)) (has queue p beside.1);
+      printed = λ begins alone missed lines number fresh has silos. refl;
+    }
+
+pub quiet-look : (old now new : List QueuePass) → AllZip ProducesNone old now → AsksQuiet now (Ok All) new → LooksQuiet old new
+quiet-look old now new so_far asks = record { before = now; on = none-on old now so_far; quiet = asks }

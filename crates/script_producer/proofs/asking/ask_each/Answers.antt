@@ -1,0 +1,68 @@
+use Rattle.std.proofs.Common.{◌≢◌, ◌∙◌, rules, arith}
+use Rattle.script_parser.specs.Forms.{op_of}
+use Rattle.script_producer.specs.declared.answer.Answer.TheVariants as answer
+use Rattle.script_producer.specs.Telling.{HasGoneOn}
+use Rattle.cluster_ending.proofs.Looking.{turnstiles-length}
+use Rattle.cluster_ending.proofs.Rows.{zip-trans}
+use Rattle.script_producer.proofs.Asked.{each-first, each-next, each-tells, once-on}
+use Rattle.script_producer.proofs.Seen.{gone-trans}
+use Rattle.script_producer.proofs.asking.ask_each.Goals as goal
+
+pub returns-in_err-first-clause-on : goal.returns-in_err-first-clause-on
+returns-in_err-first-clause-on g c = once-on _ _ _ _ _ c.ask_once.ensures.asks
+
+pub returns-then-eq-clause-on : goal.returns-then-eq-clause-on
+returns-then-eq-clause-on g c = once-on _ _ _ _ _ c.ask_once.ensures.asks
+
+pub loop-queue-init : goal.loop-queue-init
+loop-queue-init g c =
+    let free : c.in_ok-first.first ≢ answer.Limit = search (rules, c.eq.ensures, c.if-eq.false) in
+    record {
+      asked = each-first c.in_ok-first.first (op_of c.args.each.now) c.op.result c.args.caller.now c.ask_once.new.caller c.op.ensures c.in_ok-first.ensures.asks free;
+      on = once-on _ _ _ _ _ c.ask_once.ensures.asks;
+      at = c.ask_once.ensures.turnstiles;
+      some = omega arith;
+    }
+
+pub ask_once-requires-in-loop-queue-after_bounds : goal.ask_once-requires-in-loop-queue-after_bounds
+ask_once-requires-in-loop-queue-after_bounds g c = λ κs bounds.
+    let below = c.loop-queue-test.true in
+    let end = c.queues-queue-end.ensures in
+    let first = turnstiles-length c.args.caller.now c.ask_once.new.caller c.ask_once.ensures.turnstiles in
+    let now = turnstiles-length c.args.caller.now c.loop-queue.caller c.loop-queue.invariant.at in
+    omega (arith, below, end, first, now)
+
+pub returns-in_err-ask_once-clause-on : goal.returns-in_err-ask_once-clause-on
+returns-in_err-ask_once-clause-on g c = zip-trans HasGoneOn HasGoneOn HasGoneOn gone-trans _ _ _ c.loop-queue.invariant.on (once-on _ _ _ _ _ c.ask_once-in-loop-queue.ensures.asks)
+
+pub returns-in_err-ask_once-clause-turnstiles : goal.returns-in_err-ask_once-clause-turnstiles
+returns-in_err-ask_once-clause-turnstiles g c = c.ask_once-in-loop-queue.ensures.turnstiles ∙ c.loop-queue.invariant.at
+
+pub returns-then-eq-2-clause-on : goal.returns-then-eq-2-clause-on
+returns-then-eq-2-clause-on g c = zip-trans HasGoneOn HasGoneOn HasGoneOn gone-trans _ _ _ c.loop-queue.invariant.on (once-on _ _ _ _ _ c.ask_once-in-loop-queue.ensures.asks)
+
+pub returns-then-eq-2-clause-turnstiles : goal.returns-then-eq-2-clause-turnstiles
+returns-then-eq-2-clause-turnstiles g c = c.ask_once-in-loop-queue.ensures.turnstiles ∙ c.loop-queue.invariant.at
+
+pub loop-queue-preserved : goal.loop-queue-preserved
+loop-queue-preserved g c =
+    let free : c.in_ok-ask_once.field-0 ≢ answer.Limit = search (rules, c.eq-in-loop-queue.ensures, c.if-eq-2.false) in
+    record {
+      asked = each-next c.in_ok-first.first c.in_ok-ask_once.field-0 (op_of c.args.each.now) c.op-in-loop-queue.result c.loop-queue.queue c.args.caller.now c.loop-queue.caller c.ask_once-in-loop-queue.new.caller c.op-in-loop-queue.ensures c.loop-queue.invariant.asked c.in_ok-ask_once.ensures.asks free c.loop-queue.invariant.some;
+      on = zip-trans HasGoneOn HasGoneOn HasGoneOn gone-trans _ _ _ c.loop-queue.invariant.on (once-on _ _ _ _ _ c.ask_once-in-loop-queue.ensures.asks);
+      at = c.ask_once-in-loop-queue.ensures.turnstiles ∙ c.loop-queue.invariant.at;
+      some = omega arith;
+    }
+
+pub returns-clause-told : goal.returns-clause-told
+returns-clause-told g c = λ _.
+    let past = c.loop-queue-test.false in
+    let end = c.queues-queue-end.ensures in
+    let first = turnstiles-length c.args.caller.now c.ask_once.new.caller c.ask_once.ensures.turnstiles in
+    each-tells c.in_ok-first.first c.args.each.now c.loop-queue.queue c.args.caller.now c.loop-queue.caller c.requires.some (omega (arith, past, end, first)) c.requires.producer c.loop-queue.invariant.asked
+
+pub returns-clause-on : goal.returns-clause-on
+returns-clause-on g c = c.loop-queue.invariant.on
+
+pub returns-clause-turnstiles : goal.returns-clause-turnstiles
+returns-clause-turnstiles g c = c.loop-queue.invariant.at

@@ -1,0 +1,86 @@
+//! What a line of a script asks for at the queues.
+ghost use Rattle.std.specs.Prelude.{◌≡◌, ◌<◌, ◌≤◌, length, true, IfOk};
+ghost use Rattle.std.specs.List.{AllZip};
+ghost use Rattle.stream_model.specs.Producers.{is_producer};
+ghost use Rattle.cluster_callers.specs.Calls.{turnstiles};
+ghost use Rattle.script_parser.specs.declared.command.Command.TheVariants as command;
+ghost use Rattle.script_parser.specs.Forms.{op_of};
+ghost use Rattle.script_producer.specs.Telling.{AsksOnce, HasGoneOn, TellsUnlessLimit};
+
+use crate::answer::{Answer, answer_of};
+use cluster_callers::Caller;
+use script_parser::EachOp;
+use shared_partition::Gate;
+use std::alloc::{AllocError, Global};
+use std::sync::Wait;
+use stream_model::{Op, Reply};
+use turnstile::{Refusal, StoredHistory};
+
+/// Asks for an operation of a producer at a queue.
+///
+/// # Errors
+/// The call failed to allocate. The partition is as before.
+pub fn ask<G: Gate, H: StoredHistory<Op, Reply>, R: Wait>(
+    rt: &R,
+    alloc: Global,
+    caller: &mut Caller<G, H>,
+    queue: usize,
+    op: Op,
+) -> Result<Answer, AllocError>
+    requires queue { queue < length caller.old }
+    requires producer { is_producer op ≡ true }
+    ensures told { IfOk result (λ answer. TellsUnlessLimit caller.old (command.Step queue op) answer caller.new) }
+    ensures on { AllZip HasGoneOn caller.old caller.new }
+    ensures turnstiles { turnstiles caller.new ≡ turnstiles caller.old }
+{
+    ask_once(rt, alloc, caller, queue, op)
+}
+
+/// Asks for an operation of a producer at each queue, in order. The answer is that of the first queue: a rule is there
+/// in each queue or in none. Where a queue answers that a limit is reached, so is the answer, and the queues behind it
+/// aren't asked.
+///
+/// # Errors
+/// A call failed to allocate. The queues before it were asked.
+pub fn ask_each<G: Gate, H: StoredHistory<Op, Reply>, R: Wait>(
+    rt: &R,
+    alloc: Global,
+    caller: &mut Caller<G, H>,
+    each: &EachOp,
+) -> Result<Answer, AllocError>
+    requires some { 1 ≤ length caller.old }
+    requires producer { is_producer (op_of each.now) ≡ true }
+    ensures told { IfOk result (λ answer. TellsUnlessLimit caller.old (command.Each each.now) answer caller.new) }
+    ensures on { AllZip HasGoneOn caller.old caller.new }
+    ensures turnstiles { turnstiles caller.new ≡ turnstiles caller.old }
+{
+    let first = ask_once(rt, alloc, caller, 0, each.op())?;
+    if first == Answer::Limit {
+        return Ok(Answer::Limit);
+    }
+    for queue in 1..caller.queues() {
+        if ask_once(rt, alloc, caller, queue, each.op())? == Answer::Limit {
+            return Ok(Answer::Limit);
+        }
+    }
+    Ok(first)
+}
+
+// One call at a queue, and what its reply answers.
+fn ask_once<G: Gate, H: StoredHistory<Op, Reply>, R: Wait>(
+    rt: &R,
+    alloc: Global,
+    caller: &mut Caller<G, H>,
+    queue: usize,
+    op: Op,
+) -> Result<Answer, AllocError>
+    requires { queue < length caller.old }
+    ensures asks { AsksOnce caller.old queue op result caller.new }
+    ensures turnstiles { turnstiles caller.new ≡ turnstiles caller.old }
+{
+    match caller.call(rt, alloc, queue, op) {
+        Ok(reply) => Ok(answer_of(&reply)),
+        Err(Refusal::HistoryFull) => Ok(Answer::Limit),
+        Err(Refusal::Memory) => Err(AllocError),
+    }
+}

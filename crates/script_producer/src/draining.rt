@@ -1,0 +1,62 @@
+//! Waiting until all queues are quiet.
+ghost use Rattle.std.specs.Prelude.{◌≡◌, Ok, IfOk};
+ghost use Rattle.std.specs.List.{AllZip};
+ghost use Rattle.cluster_callers.specs.Calls.{turnstiles};
+ghost use Rattle.script_parser.specs.declared.command.Command.TheVariants as command;
+ghost use Rattle.script_producer.specs.declared.answer.Answer.TheVariants as answer;
+ghost use Rattle.script_producer.specs.declared.draining.Drained.TheVariants as drained;
+ghost use Rattle.script_producer.specs.Telling.{HasGoneOn, LooksQuiet, Tells};
+
+use cluster_callers::Caller;
+use cluster_ending::{Quiet, ask_quiet};
+use shared_partition::Gate;
+use std::alloc::{AllocError, Global};
+use std::sync::Wait;
+use std::sync::atomic::AtomicBool;
+use stream_model::{Op, Reply};
+use turnstile::{Refusal, StoredHistory};
+
+/// How often a drain looks at the queues before it gives up.
+pub const MOST_LOOKS: u32 = 100_000;
+
+/// How a drain has ended.
+#[derive(Clone, Copy, Debug, PartialEq, Eq)]
+pub enum Drained {
+    /// In one look at all queues each was quiet.
+    Quiet,
+    /// Not all queues got quiet: a loop has ended, or there were 100,000 looks.
+    NotQuiet,
+    /// The history of a queue is full.
+    Limit,
+}
+
+/// Looks at the queues until all are quiet, and waits at the doorbell between two looks.
+///
+/// # Errors
+/// A call failed to allocate.
+pub fn drain<G: Gate, H: StoredHistory<Op, Reply>, R: Wait>(
+    rt: &R,
+    alloc: Global,
+    caller: &mut Caller<G, H>,
+) -> Result<Drained, AllocError>
+    ensures told { Tells caller.old command.Drain answer.Taken caller.new }
+    ensures quiet { IfOk result (λ end. end ≡ drained.Quiet → LooksQuiet caller.old caller.new) }
+    ensures on { AllZip HasGoneOn caller.old caller.new }
+    ensures turnstiles { turnstiles caller.new ≡ turnstiles caller.old }
+{
+    let never = AtomicBool::new(false);
+    for _ in 0..MOST_LOOKS {
+        let rung = caller.doorbell().now(rt);
+        match ask_quiet(rt, alloc, caller) {
+            Ok(Quiet::All) => return Ok(Drained::Quiet),
+            Ok(Quiet::NotQuiet { .. }) => {}
+            Err(Refusal::HistoryFull) => return Ok(Drained::Limit),
+            Err(Refusal::Memory) => return Err(AllocError),
+        }
+        if caller.doorbell().has_ended() {
+            return Ok(Drained::NotQuiet);
+        }
+        caller.doorbell().wait_past(rt, rung, &never);
+    }
+    Ok(Drained::NotQuiet)
+}

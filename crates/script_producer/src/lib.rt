@@ -1,0 +1,19 @@
+//! The one producer of a script, line by line.
+//!
+//! A script that is run on silos has one producer, which asks for what each line says and is answered. What it is told
+//! follows from the lines before, whatever the silos do meanwhile: [`ask`], [`ask_each`] and [`drain`] say so in their
+//! contracts, provided that nobody else produces.
+//!
+//! Not claimed: that a call's turn comes, and that a drain ends.
+#![tactic(auto)]
+
+mod answer;
+mod asking;
+mod draining;
+
+pub use answer::Answer;
+pub use asking::{ask, ask_each};
+pub use draining::{Drained, MOST_LOOKS, drain};
+
+#[cfg(test)]
+mod tests;
