@@ -1,5 +1,5 @@
 //! A cluster whose silos are threads, or parked.
-ghost use Rattle.std.specs.Prelude.{◌≡◌, ◌<◌, true, Contains, IfOk};
+ghost use Rattle.std.specs.Prelude.{◌≡◌, ◌<◌, true, false, Contains, IfOk};
 ghost use Rattle.std.specs.List.{AllByRecursion};
 ghost use Rattle.silo_crew.specs.Silos.{IsSiloAt};
 ghost use Rattle.silo_loops.specs.Lines.{places};
@@ -325,7 +325,7 @@ impl<G: Gate, H: StoredHistory<Op, Reply>, D: StoredHistory<DirectoryOp, Directo
     ) -> Result<Retired<G, H, D>, AllocError>
         requires parked { self.old.is_parked ≡ true }
         requires at { IsSiloAt self.old.operator.lines self.old.operator.directory loops }
-        requires live { Contains self.old.operator.live loops.silo }
+        requires live { self.old.is_halted ≡ false → Contains self.old.operator.live loops.silo }
         ensures { AnswersRetire self.old loops result self.new }
     {
         if self.halted {
