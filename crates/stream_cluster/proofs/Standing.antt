@@ -28,7 +28,7 @@ use Rattle.cluster_operator.specs.Changes.{AreDeactivated, HasMade, HaveMoved, I
 use Rattle.cluster_operator.specs.Operators.{HasOnlyGoneOn, HasSpread, OperatorGoesOn, OperatorView}
 use Rattle.cluster_operator.proofs.Changing.{each-earlier, each-later, goes-at, goes-back}
 use Rattle.cluster_operator.proofs.Making.{goes-longer, made-earlier, made-since-silent}
-use Rattle.stream_cluster.specs.Clusters.{AnswersDown, AnswersRetire, AnswersUp, AreAtQueues, AreFresh, AreStarted, ClusterView, EndsBy, HasEnded, HasHalted, HasLeft, HasNoted, IsCluster, IsDownBy, IsOpened, IsRetiredBy, IsUpBy, MayGo, RunsOn, all_noted, is_fixed, noted}
+use Rattle.stream_cluster.specs.Clusters.{AnswersDown, AnswersRetire, AnswersUp, AreAtQueues, AreFresh, AreStarted, ClusterView, EndsBy, HasEnded, HasHalted, HasLeft, HasNoted, IsBrokenOff, IsCluster, IsDownBy, IsOpened, IsRetired, IsRetiredBy, IsUpBy, MayGo, RunsOn, all_noted, is_fixed, noted}
 use Rattle.stream_cluster.specs.declared.config.Config.{Config}
 use Rattle.stream_cluster.specs.declared.cluster.Retired.{Retired}
 use Rattle.stream_cluster.specs.declared.cluster.Retired.TheVariants as retired
@@ -345,8 +345,19 @@ parked-stays v ends o halted parked kept =
       parked = λ same. kept.parked parked;
     }
 
+-- where one silo lives alone, it is this one
+pub only-one : (live : List ℕ) (silo : ℕ) → Contains live silo → length live ≡ 1 → live ≡ silo ∷ []
+only-one [] silo lives one = absurd (omega (arith, one))
+only-one (x ∷ []) silo (zero, within, here) one = ap (λ k. k ∷ []) here
+only-one (x ∷ []) silo (suc at, within, here) one = absurd (omega (arith, within))
+only-one (x ∷ y ∷ ys) silo lives one = absurd (omega (arith, one))
+
+-- what `retire` answers where the silo is the last
+pub last-stays : (v : ClusterView) (loops : SiloView) (many : ℕ) → v.is_halted ≡ false → (v.is_halted ≡ false → Contains v.operator.live loops.silo) → many ≡ length v.operator.live → many ≡ 1 → v.operator.live ≡ loops.silo ∷ []
+last-stays v loops many free lives count one = only-one v.operator.live loops.silo (lives free) (sym count ∙ one)
+
 pub retire-done : (v w : ClusterView) (loops : SiloView) (place silo gone : ℕ) → v.is_halted ≡ false → (length v.operator.live ≡ 1 → ⊥) → slice_get v.operator.live place ≡ Some silo → silo ≡ loops.silo → gone ≡ loops.silo → OperatorGoesOn v.operator w.operator
-    → HasLeft gone place v.operator w.operator → w.is_parked ≡ v.is_parked → w.is_halted ≡ false → w.ends ≡ noted v.ends loops → AnswersRetire v loops (Ok retired.Down) w
+    → HasLeft gone place v.operator w.operator → w.is_parked ≡ v.is_parked → w.is_halted ≡ false → w.ends ≡ noted v.ends loops → IsRetired v loops w
 retire-done v w loops place silo gone free other stood silo_is named on left same goes ends =
     let here = subst (λ k. slice_get v.operator.live place ≡ Some k) silo_is stood in
     (
@@ -355,7 +366,7 @@ retire-done v w loops place silo gone free other stood silo_is named on left sam
       ends,
     )
 
-pub halted-retire : (v w : ClusterView) (loops : SiloView) (h : Halt) (r : Result Retired AllocError) → IsRetiredBy h r → v.is_halted ≡ false → MayGo v loops.silo → HasHalted v w → w.ends ≡ noted v.ends loops → AnswersRetire v loops r w
-halted-retire v w loops halt.Limit r is free may halted ends = subst (λ (x : Result Retired AllocError). AnswersRetire v loops x w) (sym is) (free, may, halted, ends)
-halted-retire v w loops halt.Memory (Ok x) is free may halted ends = absurd (cc (is))
-halted-retire v w loops halt.Memory (Err e) is free may halted ends = (free, may, halted, ends)
+pub halted-retire : {G H D : Type 0} (v w : ClusterView) (loops : SiloView) (h : Halt) (r : Result (Retired G H D) AllocError) → IsRetiredBy h r → IsBrokenOff v loops w → AnswersRetire v loops r w
+halted-retire {G = G} {H = H} {D = D} v w loops halt.Limit r is broken = subst (λ (x : Result (Retired G H D) AllocError). AnswersRetire v loops x w) (sym is) broken
+halted-retire v w loops halt.Memory (Ok x) is broken = absurd (cc (is))
+halted-retire v w loops halt.Memory (Err e) is broken = broken

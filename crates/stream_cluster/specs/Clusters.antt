@@ -133,7 +133,7 @@ abbrev pub IsDownBy : Halt → Result SiloDown AllocError → Type 0
 IsDownBy halt.Limit result = result ≡ Ok down.Limit
 IsDownBy halt.Memory result = IsErr result
 
-abbrev pub IsRetiredBy : Halt → Result Retired AllocError → Type 0
+abbrev pub IsRetiredBy : {G H D : Type 0} → Halt → Result (Retired G H D) AllocError → Type 0
 IsRetiredBy halt.Limit result = result ≡ Ok retired.Limit
 IsRetiredBy halt.Memory result = IsErr result
 
@@ -171,13 +171,21 @@ AnswersDown v silo (Ok down.Down) w = (is_fixed v ≡ false) × MayGo v silo × 
 AnswersDown v silo (Ok down.Limit) w = (is_fixed v ≡ false) × MayGo v silo × HasHalted v w × HasNoted v w
 AnswersDown v silo (Err e) w = (is_fixed v ≡ false) × MayGo v silo × HasHalted v w × HasNoted v w
 
+-- the silo of these loops went, and it was noted how they have ended
+abbrev pub IsRetired : ClusterView → SiloView → ClusterView → Type 0
+IsRetired v loops w = (v.is_halted ≡ false) × MayGo v loops.silo × IsDown v loops.silo w × (w.ends ≡ noted v.ends loops)
+
+-- these loops came back and it was noted how they have ended, but their silo didn't go in full
+abbrev pub IsBrokenOff : ClusterView → SiloView → ClusterView → Type 0
+IsBrokenOff v loops w = (v.is_halted ≡ false) × MayGo v loops.silo × HasHalted v w × (w.ends ≡ noted v.ends loops)
+
 -- what `retire` answers for these loops, by the silos that live
-abbrev pub AnswersRetire : ClusterView → SiloView → Result Retired AllocError → ClusterView → Type 0
+abbrev pub AnswersRetire : {G H D : Type 0} → ClusterView → SiloView → Result (Retired G H D) AllocError → ClusterView → Type 0
 AnswersRetire v loops (Ok (retired.Halted back)) w = (v.is_halted ≡ true) × (back ≡ loops) × (w ≡ v)
 AnswersRetire v loops (Ok (retired.LastSilo back)) w = (v.is_halted ≡ false) × (v.operator.live ≡ loops.silo ∷ []) × (back ≡ loops) × (w ≡ v)
-AnswersRetire v loops (Ok retired.Down) w = (v.is_halted ≡ false) × MayGo v loops.silo × IsDown v loops.silo w × (w.ends ≡ noted v.ends loops)
-AnswersRetire v loops (Ok retired.Limit) w = (v.is_halted ≡ false) × MayGo v loops.silo × HasHalted v w × (w.ends ≡ noted v.ends loops)
-AnswersRetire v loops (Err e) w = (v.is_halted ≡ false) × MayGo v loops.silo × HasHalted v w × (w.ends ≡ noted v.ends loops)
+AnswersRetire v loops (Ok retired.Down) w = IsRetired v loops w
+AnswersRetire v loops (Ok retired.Limit) w = IsBrokenOff v loops w
+AnswersRetire v loops (Err e) w = IsBrokenOff v loops w
 
 -- a line for each of these lines is of a queue's turnstile
 abbrev pub AreAtQueues : Config → List LineView → Type 0
