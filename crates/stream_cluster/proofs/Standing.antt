@@ -31,7 +31,6 @@ use Rattle.cluster_operator.proofs.Making.{goes-longer, made-earlier, made-since
 use Rattle.stream_cluster.specs.Clusters.{AnswersDown, AnswersRetire, AnswersUp, AreAtQueues, AreFresh, AreStarted, ClusterView, EndsBy, HasEnded, HasHalted, HasLeft, HasNoted, IsBrokenOff, IsCluster, IsDownBy, IsOpened, IsRetired, IsRetiredBy, IsUpBy, MayGo, RunsOn, all_noted, is_fixed, noted}
 use Rattle.stream_cluster.specs.declared.config.Config.{Config}
 use Rattle.stream_cluster.specs.declared.cluster.Retired.{Retired}
-use Rattle.stream_cluster.specs.declared.cluster.Retired.TheVariants as retired
 use Rattle.stream_cluster.specs.declared.cluster.SiloDown.{SiloDown}
 use Rattle.stream_cluster.specs.declared.cluster.SiloDown.TheVariants as down
 use Rattle.stream_cluster.specs.declared.cluster.SiloUp.{SiloUp}
