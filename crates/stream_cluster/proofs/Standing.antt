@@ -28,7 +28,7 @@ use Rattle.cluster_operator.specs.Changes.{AreDeactivated, HasMade, HaveMoved, I
 use Rattle.cluster_operator.specs.Operators.{HasOnlyGoneOn, HasSpread, OperatorGoesOn, OperatorView}
 use Rattle.cluster_operator.proofs.Changing.{each-earlier, each-later, goes-at, goes-back}
 use Rattle.cluster_operator.proofs.Making.{goes-longer, made-earlier, made-since-silent}
-use Rattle.stream_cluster.specs.Clusters.{AnswersDown, AnswersRetire, AnswersUp, AreAtQueues, AreFresh, AreStarted, ClusterView, EndsBy, HasEnded, HasHalted, HasLeft, HasNoted, IsBrokenOff, IsCluster, IsDownBy, IsOpened, IsRetired, IsRetiredBy, IsUpBy, MayGo, RunsOn, all_noted, is_fixed, noted}
+use Rattle.stream_cluster.specs.Clusters.{AnswersDown, AnswersRetire, AnswersUp, AreAtQueues, AreFresh, AreStarted, ClusterView, EndsBy, HasEnded, HasHalted, HasLeft, HasNoted, IsBrokenOff, IsCluster, IsDownBy, IsOpened, IsRetired, IsRetiredBy, IsUpBy, MayGo, RunsOn, all_noted, is_fixed, none_ended, noted}
 use Rattle.stream_cluster.specs.declared.config.Config.{Config}
 use Rattle.stream_cluster.specs.declared.cluster.Retired.{Retired}
 use Rattle.stream_cluster.specs.declared.cluster.SiloDown.{SiloDown}
@@ -369,3 +369,8 @@ pub halted-retire : {G H D : Type 0} (v w : ClusterView) (loops : SiloView) (h :
 halted-retire {G = G} {H = H} {D = D} v w loops halt.Limit r is broken = subst (λ (x : Result (Retired G H D) AllocError). AnswersRetire v loops x w) (sym is) broken
 halted-retire v w loops halt.Memory (Ok x) is broken = absurd (cc (is))
 halted-retire v w loops halt.Memory (Err e) is broken = broken
+
+-- ends of which each is of no loop
+pub ends-none : (e : LoopEnds) → e.memory ≡ false → e.limit ≡ false → e.rounds ≡ false → e ≡ none_ended
+ends-none e memory limit rounds =
+    ap (λ (b : Bool). record e { memory = b }) memory ∙ ap (λ (b : Bool). record none_ended { limit = b; rounds = e.rounds }) limit ∙ ap (λ (b : Bool). record none_ended { rounds = b }) rounds

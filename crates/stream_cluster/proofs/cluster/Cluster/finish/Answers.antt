@@ -1,4 +1,4 @@
-use Rattle.std.proofs.Common.{List, ap, subst, sym, ◌∙◌}
+use Rattle.std.proofs.Common.{List, ap, subst, sym}
 use Rattle.silo_loops.specs.Lines.{LineView}
 use Rattle.silo_crew.specs.Silos.{GoOn}
 use Rattle.stream_cluster.specs.Clusters.{ClusterView, EndsBy}
