@@ -1,5 +1,5 @@
 -- What a change of silos leaves.
-use Rattle.std.proofs.Common.{◌≡◌, ◌≢◌, ℕ, zero, suc, ◌<◌, ◌≤◌, ◌+◌, Bool, true, false, List, [], ◌∷◌, ◌++◌, length, get_or, map, take, drop, remove, Contains, Option, Some, Result, Ok, Err, refl, sym, ap, subst, ◌∙◌, arith}
+use Rattle.std.proofs.Common.{◌≡◌, ℕ, zero, suc, ◌<◌, ◌+◌, Bool, true, false, List, [], ◌∷◌, ◌++◌, length, get_or, map, remove, Contains, Some, Result, Ok, Err, refl, sym, ap, subst, ◌∙◌, arith}
 use Rattle.std.proofs.lemmas.List.{get_or-map, length-map, map-append}
 use Rattle.std.proofs.lemmas.Option.{slice_get-get_or, slice_get_within}
 use Rattle.std.proofs.lemmas.List.FromFn.{get_or-range_with_len, length-range_with_len}
@@ -9,7 +9,6 @@ use Rattle.std.specs.Prelude.{replicate, IfOk, ◌||◌}
 use Rattle.std.specs.declared.alloc.AllocError.{AllocError}
 use Rattle.turnstile.specs.Calls.{IsSplitOff}
 use Rattle.turnstile.specs.History.{Foreign}
-use Rattle.turnstile.specs.Passes.{PassView}
 use Rattle.cluster_callers.specs.Calls.{IsUnused, turnstiles}
 use Rattle.queue_balancer.specs.Balance.{IsBalanced}
 use Rattle.cluster_ending.specs.declared.ends.LoopEnds.{LoopEnds}
@@ -277,7 +276,7 @@ pub opened-whole : (config : Config) (first lines : List LineView) (d : Director
 opened-whole config first lines d v e w caller same many at beside unused made enlisted on live spread =
     let kept : e.lines ≡ first = ap (λ (o : OperatorView). o.lines) enlisted ∙ ap (λ (o : OperatorView). o.lines) made ∙ same in
     let all : e.assignment ≡ replicate config.queues 0 =
-        ap (λ (o : OperatorView). o.assignment) enlisted ∙ ap (λ (o : OperatorView). o.assignment) made ∙ ap (λ n. replicate n 0) (ap (λ (ls : List LineView). length ls) same ∙ many) in
+    ap (λ (o : OperatorView). o.assignment) enlisted ∙ ap (λ (o : OperatorView). o.assignment) made ∙ ap (λ n. replicate n 0) (ap (λ (ls : List LineView). length ls) same ∙ many) in
     record {
       live = live ∙ ap (λ (o : OperatorView). o.live) enlisted;
       queues = goes-length e.lines w.lines on.lines ∙ ap (λ (ls : List LineView). length ls) kept ∙ many;
@@ -358,9 +357,9 @@ last-stays v loops many free lives count one = only-one v.operator.live loops.si
 pub retire-done : (v w : ClusterView) (loops : SiloView) (place silo gone : ℕ) → v.is_halted ≡ false → (length v.operator.live ≡ 1 → ⊥) → slice_get v.operator.live place ≡ Some silo → silo ≡ loops.silo → gone ≡ loops.silo → OperatorGoesOn v.operator w.operator
     → HasLeft gone place v.operator w.operator → w.is_parked ≡ v.is_parked → w.is_halted ≡ false → w.ends ≡ noted v.ends loops → IsRetired v loops w
 retire-done v w loops place silo gone free other stood silo_is named on left same goes ends =
-    let here = subst (λ k. slice_get v.operator.live place ≡ Some k) silo_is stood in
-    (
-      free, may-go v place loops.silo here other,
+    let here = subst (λ k. slice_get v.operator.live place ≡ Some k) silo_is stood in (
+      free,
+      may-go v place loops.silo here other,
       record { on = on; place = place; stood = here; left = subst (λ k. HasLeft k place v.operator w.operator) named left; same = same; goes_on = goes },
       ends,
     )

@@ -128,10 +128,7 @@ pub(crate) fn note_ends<
     G: Gate,
     H: StoredHistory<Op, Reply>,
     D: StoredHistory<DirectoryOp, DirectoryReply>,
->(
-    ends: LoopEnds,
-    loops: &SiloLoops<G, H, D>,
-) -> LoopEnds
+>(ends: LoopEnds, loops: &SiloLoops<G, H, D>) -> LoopEnds
     ensures { result ≡ noted ends loops.now }
 {
     let mut ends = ends;
@@ -197,11 +194,7 @@ pub(crate) fn take_all_back<
     G: Gate,
     H: StoredHistory<Op, Reply>,
     D: StoredHistory<DirectoryOp, DirectoryReply>,
->(
-    operator: &mut Operator<G, H, D>,
-    silos: Vec<SiloLoops<G, H, D>>,
-    ends: LoopEnds,
-) -> LoopEnds
+>(operator: &mut Operator<G, H, D>, silos: Vec<SiloLoops<G, H, D>>, ends: LoopEnds) -> LoopEnds
     requires { RunsOn operator.old silos.items }
     ensures only { HasOnlyGoneOn operator.old operator.new }
     ensures ends { result ≡ all_noted ends silos.items }

@@ -6,9 +6,7 @@ ghost use Rattle.silo_loops.specs.Lines.{places};
 ghost use Rattle.cluster_ending.specs.Gathering.{AreAt};
 ghost use Rattle.stream_cluster.specs.Clusters.{AnswersDown, AnswersRetire, AnswersUp, HasFinished, HasFinishedParked, IsConfig, IsDownBy, IsNew, IsNewParked, IsRetiredBy, IsUpBy, RunsOn};
 
-use crate::changes::{
-    bring_up, leave, make_all, note_ends, start_all, stop_all, take_all_back,
-};
+use crate::changes::{bring_up, leave, make_all, note_ends, start_all, stop_all, take_all_back};
 use crate::config::Config;
 use crate::opening::open;
 use activation_directory::{DirectoryOp, DirectoryReply};
@@ -98,11 +96,7 @@ fn down_by(halt: Halt) -> Result<SiloDown, AllocError>
     }
 }
 
-fn retired_by<
-    G: Gate,
-    H: StoredHistory<Op, Reply>,
-    D: StoredHistory<DirectoryOp, DirectoryReply>,
->(
+fn retired_by<G: Gate, H: StoredHistory<Op, Reply>, D: StoredHistory<DirectoryOp, DirectoryReply>>(
     halt: Halt,
 ) -> Result<Retired<G, H, D>, AllocError>
     ensures { IsRetiredBy halt result }

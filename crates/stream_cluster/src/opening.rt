@@ -28,7 +28,13 @@ fn open_turnstile<G: Gate, H: StoredHistory<Op, Reply>>(
     gate: Arc<G, Global>,
     config: &Config,
     queue: usize,
-) -> Result<(Turnstile<SharedPartition<G, H>>, PassOf<SharedPartition<G, H>>), AllocError>
+) -> Result<
+    (
+        Turnstile<SharedPartition<G, H>>,
+        PassOf<SharedPartition<G, H>>,
+    ),
+    AllocError,
+>
     requires { IsConfig config.now }
     ensures start { IfOk result (λ r. r.0.start ≡ opening config.now) }
     ensures pass { IfOk result (λ r. r.1 ≡ first_pass r.0) }
@@ -124,10 +130,11 @@ fn queue_callers<G: Gate, H: StoredHistory<Op, Reply>>(
 }
 
 // So many silos live from now on, numbered from 0 on.
-fn enlist_first<G: Gate, H: StoredHistory<Op, Reply>, D: StoredHistory<DirectoryOp, DirectoryReply>>(
-    operator: &mut Operator<G, H, D>,
-    silos: u8,
-) -> Result<(), AllocError>
+fn enlist_first<
+    G: Gate,
+    H: StoredHistory<Op, Reply>,
+    D: StoredHistory<DirectoryOp, DirectoryReply>,
+>(operator: &mut Operator<G, H, D>, silos: u8) -> Result<(), AllocError>
     requires { operator.old.live ≡ [] }
     ensures { OnOk result (operator.new ≡ record operator.old { live = range_with_len 0 silos }) }
 {

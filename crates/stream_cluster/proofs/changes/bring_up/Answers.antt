@@ -48,6 +48,6 @@ returns-clause-spread g c =
     let same = op-same c.start_silo.new.operator c.enlist.new.self (ap (λ (o : OperatorView). o.lines) c.in_ok-enlist.ensures.ok) (ap (λ (o : OperatorView). o.directory) c.in_ok-enlist.ensures.ok) in
     on_ok_weaker c.spread.result
     (λ (spread : HasSpread c.enlist.new.self c.spread.new.self).
-        spread-from c.args.operator.now c.enlist.new.self c.spread.new.self (op-trans c.args.operator.now c.start_silo.new.operator c.enlist.new.self c.start_silo.ensures.only.on same) c.spread.ensures.on
-        (ap (λ (o : OperatorView). o.assignment) c.in_ok-enlist.ensures.ok ∙ c.start_silo.ensures.only.assignment) spread)
+    spread-from c.args.operator.now c.enlist.new.self c.spread.new.self (op-trans c.args.operator.now c.start_silo.new.operator c.enlist.new.self c.start_silo.ensures.only.on same) c.spread.ensures.on
+    (ap (λ (o : OperatorView). o.assignment) c.in_ok-enlist.ensures.ok ∙ c.start_silo.ensures.only.assignment) spread)
     c.spread.ensures.spread

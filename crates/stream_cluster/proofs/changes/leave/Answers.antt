@@ -26,7 +26,7 @@ pub returns-clause-left : goal.returns-clause-left
 returns-clause-left g c =
     subst (λ (silo : ℕ). OnOk c.spread.result (HasLeft silo c.args.place c.args.operator.now c.spread.new.self)) (ap (λ (s : SiloView). s.silo) c.loops.view_is)
     (on_ok_weaker c.spread.result
-        (λ (spread : HasSpread c.dismiss.new.self c.spread.new.self).
-            left-whole c.loops.inside.silo c.args.place c.args.operator.now c.take_back.new.self c.evict.new.self c.dismiss.new.self c.spread.new.self c.take_back.ensures.only c.take_back.ensures.silent c.evict.ensures.only
-            c.in_ok-evict.ensures.deactivated c.in_ok-evict.ensures.none_left c.dismiss.ensures c.spread.ensures.on c.spread.ensures.directory c.spread.ensures.live spread)
-        c.spread.ensures.spread)
+    (λ (spread : HasSpread c.dismiss.new.self c.spread.new.self).
+    left-whole c.loops.inside.silo c.args.place c.args.operator.now c.take_back.new.self c.evict.new.self c.dismiss.new.self c.spread.new.self c.take_back.ensures.only c.take_back.ensures.silent c.evict.ensures.only
+    c.in_ok-evict.ensures.deactivated c.in_ok-evict.ensures.none_left c.dismiss.ensures c.spread.ensures.on c.spread.ensures.directory c.spread.ensures.live spread)
+    c.spread.ensures.spread)

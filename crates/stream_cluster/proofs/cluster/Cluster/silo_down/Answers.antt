@@ -45,8 +45,8 @@ returns-in-Ok g c =
     let more : 1 < length v.operator.live = omega (arith, stood, count, other) in
     subst (λ (u : ClusterView). AnswersDown u c.args.silo (Ok down.Down) w) c.self.view_is
     (down-done v w c.in-Some.place c.args.silo c.stop-loops.result.silo fixed (lives-at v.operator.live c.in-Some.place c.args.silo c.in-Some.ensures, more) c.in-Some.ensures
-        (one-name v.operator.live c.in-Some.place c.stop-loops.result.silo c.args.silo named c.in-Some.ensures) c.leave.ensures.on c.in-Ok.ensures.left refl c.if-self-2.false
-        (has-noted v w c.in-Some.place c.remove-running.result c.stop-loops.result here c.remove-running.ensures.value c.stop-loops.ensures c.note_ends-self-inside.ensures))
+    (one-name v.operator.live c.in-Some.place c.stop-loops.result.silo c.args.silo named c.in-Some.ensures) c.leave.ensures.on c.in-Ok.ensures.left refl c.if-self-2.false
+    (has-noted v w c.in-Some.place c.remove-running.result c.stop-loops.result here c.remove-running.ensures.value c.stop-loops.ensures c.note_ends-self-inside.ensures))
 
 pub returns-in-Err : goal.returns-in-Err
 returns-in-Err g c =
@@ -60,4 +60,4 @@ returns-in-Err g c =
     let more : 1 < length v.operator.live = omega (arith, stood, count, other) in
     subst (λ (u : ClusterView). AnswersDown u c.args.silo c.down_by.result w) c.self.view_is
     (halted-down v w c.args.silo c.in-Err.halt c.down_by.result c.down_by.ensures fixed (lives-at v.operator.live c.in-Some.place c.args.silo c.in-Some.ensures, more) (record { on = c.leave.ensures.on; same = refl; halted = refl })
-        (has-noted v w c.in-Some.place c.remove-running.result c.stop-loops.result here c.remove-running.ensures.value c.stop-loops.ensures c.note_ends-self-inside.ensures))
+    (has-noted v w c.in-Some.place c.remove-running.result c.stop-loops.result here c.remove-running.ensures.value c.stop-loops.ensures c.note_ends-self-inside.ensures))
