@@ -1,5 +1,5 @@
 -- What a change of silos leaves.
-use Rattle.std.proofs.Common.{◌≡◌, ◌≢◌, ℕ, zero, suc, ◌<◌, ◌≤◌, ◌+◌, true, false, List, [], ◌∷◌, ◌++◌, length, get_or, map, take, drop, remove, Contains, Option, Some, Result, Ok, Err, refl, sym, ap, subst, ◌∙◌, arith}
+use Rattle.std.proofs.Common.{◌≡◌, ℕ, zero, suc, ◌<◌, ◌+◌, Bool, true, false, List, [], ◌∷◌, ◌++◌, length, get_or, map, remove, Contains, Some, Result, Ok, Err, refl, sym, ap, subst, ◌∙◌, arith}
 use Rattle.std.proofs.lemmas.List.{get_or-map, length-map, map-append}
 use Rattle.std.proofs.lemmas.Option.{slice_get-get_or, slice_get_within}
 use Rattle.std.proofs.lemmas.List.FromFn.{get_or-range_with_len, length-range_with_len}
@@ -9,7 +9,6 @@ use Rattle.std.specs.Prelude.{replicate, IfOk, ◌||◌}
 use Rattle.std.specs.declared.alloc.AllocError.{AllocError}
 use Rattle.turnstile.specs.Calls.{IsSplitOff}
 use Rattle.turnstile.specs.History.{Foreign}
-use Rattle.turnstile.specs.Passes.{PassView}
 use Rattle.cluster_callers.specs.Calls.{IsUnused, turnstiles}
 use Rattle.queue_balancer.specs.Balance.{IsBalanced}
 use Rattle.cluster_ending.specs.declared.ends.LoopEnds.{LoopEnds}
@@ -28,8 +27,9 @@ use Rattle.cluster_operator.specs.Changes.{AreDeactivated, HasMade, HaveMoved, I
 use Rattle.cluster_operator.specs.Operators.{HasOnlyGoneOn, HasSpread, OperatorGoesOn, OperatorView}
 use Rattle.cluster_operator.proofs.Changing.{each-earlier, each-later, goes-at, goes-back}
 use Rattle.cluster_operator.proofs.Making.{goes-longer, made-earlier, made-since-silent}
-use Rattle.stream_cluster.specs.Clusters.{AnswersDown, AnswersUp, AreAtQueues, AreStarted, ClusterView, EndsBy, HasFinished, HasHalted, HasLeft, HasNoted, IsCluster, IsDownBy, IsOpened, IsUpBy, MayGo, RunsOn, is_fixed, noted}
+use Rattle.stream_cluster.specs.Clusters.{AnswersDown, AnswersRetire, AnswersUp, AreAtQueues, AreFresh, AreStarted, ClusterView, EndsBy, HasEnded, HasHalted, HasLeft, HasNoted, IsBrokenOff, IsCluster, IsDownBy, IsOpened, IsRetired, IsRetiredBy, IsUpBy, MayGo, RunsOn, all_noted, is_fixed, none_ended, noted}
 use Rattle.stream_cluster.specs.declared.config.Config.{Config}
+use Rattle.stream_cluster.specs.declared.cluster.Retired.{Retired}
 use Rattle.stream_cluster.specs.declared.cluster.SiloDown.{SiloDown}
 use Rattle.stream_cluster.specs.declared.cluster.SiloDown.TheVariants as down
 use Rattle.stream_cluster.specs.declared.cluster.SiloUp.{SiloUp}
@@ -317,7 +317,59 @@ pub callers-on : (ls ms : List LineView) (callers : List (List QueuePass)) → G
 callers-on ls ms callers on at = subst (λ ts. AllByRecursion (AreAt ts) callers) (sym (goes-places ls ms on)) at
 
 -- what is said of each end of a cluster, taken together
-pub finished-whole : {H : Type 0} (entries : H → List (Entry Op Reply)) (c : ClusterView) (callers : List (List QueuePass)) (lines : List LineView) (ends : LoopEnds) (result : Result (Finished H) AllocError) → GoOn c.operator.lines lines → EndsBy c.ends c.silos ends
-    → IfOk result (IsFinished entries ends (gathered (passes_of lines) callers)) → IfOk result (OnHistories entries (HaveBegun (passes_of lines) callers)) → IfOk result (OnHistories entries (CallersAloneProduce callers)) → IfOk result (HasFinished entries c callers)
-finished-whole entries c callers lines ends (Ok answer) on ended finished begun producers = record { lines = lines; on = on; ends = ends; ended = ended; finished = finished; begun = begun; producers = producers }
-finished-whole entries c callers lines ends (Err e) on ended finished begun producers = tt
+pub finished-whole : {H : Type 0} (entries : H → List (Entry Op Reply)) (c : ClusterView) (Ended : LoopEnds → Type 0) (callers : List (List QueuePass)) (lines : List LineView) (ends : LoopEnds) (result : Result (Finished H) AllocError) → GoOn c.operator.lines lines → Ended ends
+    → IfOk result (IsFinished entries ends (gathered (passes_of lines) callers)) → IfOk result (OnHistories entries (HaveBegun (passes_of lines) callers)) → IfOk result (OnHistories entries (CallersAloneProduce callers)) → IfOk result (HasEnded entries c Ended callers)
+finished-whole entries c Ended callers lines ends (Ok answer) on ended finished begun producers = record { lines = lines; on = on; ends = ends; ended = ended; finished = finished; begun = begun; producers = producers }
+finished-whole entries c Ended callers lines ends (Err e) on ended finished begun producers = tt
+
+-- one silo more whose loops were made, and have done nothing
+pub made-more : (v w : OperatorView) (ss : List SiloView) (s : SiloView) (n : ℕ) → HasOnlyGoneOn v w → AreStarted n ss → AreFresh ss → RunsOn v ss → IsFresh n s → IsSiloAt w.lines w.directory s
+    → AreStarted (n + 1) (ss ++ s ∷ []) × AreFresh (ss ++ s ∷ []) × RunsOn w (ss ++ s ∷ [])
+made-more v w ss s n only started fresh runs new at =
+    let more = started-more v w ss s n only started runs new.0 at in
+    (more.0, all-push (λ (x : SiloView). IsFresh x.silo x) ss s fresh (subst (λ k. IsFresh k s) (sym new.0) new), more.1)
+
+-- one silo more of which it was noted how its loops have ended
+pub noted-push : (ends : LoopEnds) (ss : List SiloView) (s : SiloView) → all_noted ends (ss ++ s ∷ []) ≡ noted (all_noted ends ss) s
+noted-push ends [] s = refl
+noted-push ends (x ∷ ss) s = noted-push (noted ends x) ss s
+
+-- a parked cluster stays one, whose loops are elsewhere
+pub parked-stays : (v : ClusterView) (ends : LoopEnds) (o : OperatorView) (halted : Bool) → v.is_parked ≡ true → IsCluster v → IsCluster (record { operator = o; silos = v.silos; ends = ends; is_parked = v.is_parked; is_halted = halted })
+parked-stays v ends o halted parked kept =
+    record {
+      at = subst (λ (ss : List SiloView). RunsOn o ss) (sym (kept.parked parked)) tt;
+      loops = λ fixed. let differ : true ≡ false = sym (ap (λ b. b || halted) parked) ∙ fixed in absurd (cc (differ));
+      parked = λ same. kept.parked parked;
+    }
+
+-- where one silo lives alone, it is this one
+pub only-one : (live : List ℕ) (silo : ℕ) → Contains live silo → length live ≡ 1 → live ≡ silo ∷ []
+only-one [] silo lives one = absurd (omega (arith, one))
+only-one (x ∷ []) silo (zero, within, here) one = ap (λ k. k ∷ []) here
+only-one (x ∷ []) silo (suc at, within, here) one = absurd (omega (arith, within))
+only-one (x ∷ y ∷ ys) silo lives one = absurd (omega (arith, one))
+
+-- what `retire` answers where the silo is the last
+pub last-stays : (v : ClusterView) (loops : SiloView) (many : ℕ) → v.is_halted ≡ false → (v.is_halted ≡ false → Contains v.operator.live loops.silo) → many ≡ length v.operator.live → many ≡ 1 → v.operator.live ≡ loops.silo ∷ []
+last-stays v loops many free lives count one = only-one v.operator.live loops.silo (lives free) (sym count ∙ one)
+
+pub retire-done : (v w : ClusterView) (loops : SiloView) (place silo gone : ℕ) → v.is_halted ≡ false → (length v.operator.live ≡ 1 → ⊥) → slice_get v.operator.live place ≡ Some silo → silo ≡ loops.silo → gone ≡ loops.silo → OperatorGoesOn v.operator w.operator
+    → HasLeft gone place v.operator w.operator → w.is_parked ≡ v.is_parked → w.is_halted ≡ false → w.ends ≡ noted v.ends loops → IsRetired v loops w
+retire-done v w loops place silo gone free other stood silo_is named on left same goes ends =
+    let here = subst (λ k. slice_get v.operator.live place ≡ Some k) silo_is stood in (
+      free,
+      may-go v place loops.silo here other,
+      record { on = on; place = place; stood = here; left = subst (λ k. HasLeft k place v.operator w.operator) named left; same = same; goes_on = goes },
+      ends,
+    )
+
+pub halted-retire : {G H D : Type 0} (v w : ClusterView) (loops : SiloView) (h : Halt) (r : Result (Retired G H D) AllocError) → IsRetiredBy h r → IsBrokenOff v loops w → AnswersRetire v loops r w
+halted-retire {G = G} {H = H} {D = D} v w loops halt.Limit r is broken = subst (λ (x : Result (Retired G H D) AllocError). AnswersRetire v loops x w) (sym is) broken
+halted-retire v w loops halt.Memory (Ok x) is broken = absurd (cc (is))
+halted-retire v w loops halt.Memory (Err e) is broken = broken
+
+-- ends of which each is of no loop
+pub ends-none : (e : LoopEnds) → e.memory ≡ false → e.limit ≡ false → e.rounds ≡ false → e ≡ none_ended
+ends-none e memory limit rounds =
+    ap (λ (b : Bool). record e { memory = b }) memory ∙ ap (λ (b : Bool). record none_ended { limit = b; rounds = e.rounds }) limit ∙ ap (λ (b : Bool). record none_ended { rounds = b }) rounds

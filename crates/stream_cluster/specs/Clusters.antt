@@ -1,5 +1,5 @@
 -- What contracts see of a cluster, and what its calls say.
-use Rattle.std.specs.Prelude.{◌≡◌, ℕ, ◌≤◌, ◌<◌, Bool, true, false, ◌||◌, if◌then◌else◌, List, [], ◌∷◌, ◌++◌, length, map, remove, replicate, slice_get, Contains, Some, Result, Ok, Err, IsErr}
+use Rattle.std.specs.Prelude.{◌≡◌, ℕ, ◌≤◌, ◌<◌, Bool, true, false, ◌||◌, List, [], ◌∷◌, ◌++◌, length, map, remove, replicate, slice_get, Contains, Some, Result, Ok, Err, IsErr}
 use Rattle.std.specs.List.{AllByRecursion, range_with_len}
 use Rattle.std.specs.declared.alloc.AllocError.{AllocError}
 use Rattle.stream_model.specs.Bounds.{AreLimits}
@@ -24,6 +24,8 @@ use Rattle.cluster_operator.specs.declared.halt.Halt.TheVariants as halt
 use Rattle.cluster_operator.specs.Changes.{AreDeactivated, HasMade, IsNoneLeft}
 use Rattle.cluster_operator.specs.Operators.{HasSpread, OperatorGoesOn, OperatorView}
 use Rattle.stream_cluster.specs.declared.config.Config.{Config}
+use Rattle.stream_cluster.specs.declared.cluster.Retired.{Retired}
+use Rattle.stream_cluster.specs.declared.cluster.Retired.TheVariants as retired
 use Rattle.stream_cluster.specs.declared.cluster.SiloDown.{SiloDown}
 use Rattle.stream_cluster.specs.declared.cluster.SiloDown.TheVariants as down
 use Rattle.stream_cluster.specs.declared.cluster.SiloUp.{SiloUp}
@@ -71,6 +73,10 @@ RunsOn o silos = AllByRecursion (IsSiloAt o.lines o.directory) silos
 abbrev pub AreStarted : ℕ → List SiloView → Type 0
 AreStarted many silos = map (λ (s : SiloView). s.silo) silos ≡ range_with_len 0 many
 
+-- the loops of each silo have done nothing yet
+abbrev pub AreFresh : List SiloView → Type 0
+AreFresh silos = AllByRecursion (λ (s : SiloView). IsFresh s.silo s) silos
+
 -- what every cluster keeps
 pub record IsCluster (c : ClusterView) : Type 0 where
   pub at : RunsOn c.operator c.silos
@@ -80,6 +86,15 @@ pub record IsCluster (c : ClusterView) : Type 0 where
 -- how loops have ended, and then those of this silo
 abbrev pub noted : LoopEnds → SiloView → LoopEnds
 noted ends s = ends_with (ends_with (ends_with ends s.agent.over) s.first.over) s.second.over
+
+-- how loops have ended, and then those of each of these silos
+abbrev pub all_noted : LoopEnds → List SiloView → LoopEnds
+all_noted ends [] = ends
+all_noted ends (s ∷ ss) = all_noted (noted ends s) ss
+
+-- no loop has ended by itself so far
+abbrev pub none_ended : LoopEnds
+none_ended = record { memory = false; limit = false; rounds = false }
 
 -- the loops of these silos came back, as those of the same silos, and it was noted how they have ended
 abbrev pub EndsBy : LoopEnds → List SiloView → LoopEnds → Type 0
@@ -118,6 +133,10 @@ abbrev pub IsDownBy : Halt → Result SiloDown AllocError → Type 0
 IsDownBy halt.Limit result = result ≡ Ok down.Limit
 IsDownBy halt.Memory result = IsErr result
 
+abbrev pub IsRetiredBy : {G H D : Type 0} → Halt → Result (Retired G H D) AllocError → Type 0
+IsRetiredBy halt.Limit result = result ≡ Ok retired.Limit
+IsRetiredBy halt.Memory result = IsErr result
+
 -- What is left once a silo went that stood at this place among those that live: no grain is left on it, each grain that
 -- was taken from it is deactivated at each queue, and the queues are spread anew.
 pub record HasLeft (silo place : ℕ) (v w : OperatorView) : Type 0 where
@@ -152,6 +171,22 @@ AnswersDown v silo (Ok down.Down) w = (is_fixed v ≡ false) × MayGo v silo × 
 AnswersDown v silo (Ok down.Limit) w = (is_fixed v ≡ false) × MayGo v silo × HasHalted v w × HasNoted v w
 AnswersDown v silo (Err e) w = (is_fixed v ≡ false) × MayGo v silo × HasHalted v w × HasNoted v w
 
+-- the silo of these loops went, and it was noted how they have ended
+abbrev pub IsRetired : ClusterView → SiloView → ClusterView → Type 0
+IsRetired v loops w = (v.is_halted ≡ false) × MayGo v loops.silo × IsDown v loops.silo w × (w.ends ≡ noted v.ends loops)
+
+-- these loops came back and it was noted how they have ended, but their silo didn't go in full
+abbrev pub IsBrokenOff : ClusterView → SiloView → ClusterView → Type 0
+IsBrokenOff v loops w = (v.is_halted ≡ false) × MayGo v loops.silo × HasHalted v w × (w.ends ≡ noted v.ends loops)
+
+-- what `retire` answers for these loops, by the silos that live
+abbrev pub AnswersRetire : {G H D : Type 0} → ClusterView → SiloView → Result (Retired G H D) AllocError → ClusterView → Type 0
+AnswersRetire v loops (Ok (retired.Halted back)) w = (v.is_halted ≡ true) × (back ≡ loops) × (w ≡ v)
+AnswersRetire v loops (Ok (retired.LastSilo back)) w = (v.is_halted ≡ false) × (v.operator.live ≡ loops.silo ∷ []) × (back ≡ loops) × (w ≡ v)
+AnswersRetire v loops (Ok retired.Down) w = IsRetired v loops w
+AnswersRetire v loops (Ok retired.Limit) w = IsBrokenOff v loops w
+AnswersRetire v loops (Err e) w = IsBrokenOff v loops w
+
 -- a line for each of these lines is of a queue's turnstile
 abbrev pub AreAtQueues : Config → List LineView → Type 0
 AreAtQueues config lines = AllByRecursion (λ (l : LineView). IsAtQueue config l.pass) lines
@@ -172,12 +207,33 @@ pub record IsNew (config : Config) (c : ClusterView) (caller : List QueuePass) :
   pub loops : RunLoops c
   pub goes_on : is_fixed c ≡ false
 
--- How a cluster has ended: its loops came back, and its own passes, as they were then, were gathered with the callers'.
-pub record HasFinished {H : Type 0} (entries : H → List (Entry Op Reply)) (c : ClusterView) (callers : List (List QueuePass)) (answer : Finished H) : Type 0 where
+-- A new parked cluster, its caller, and the loops of its silos: so it was opened, and the loops are those of the silos
+-- that live, in their order, at the cluster's turnstiles. They have done nothing yet.
+pub record IsNewParked (config : Config) (c : ClusterView) (caller : List QueuePass) (loops : List SiloView) : Type 0 where
+  pub opened : IsOpened config c.operator caller
+  pub parked : c.is_parked ≡ true
+  pub goes_on : c.is_halted ≡ false
+  pub none : c.ends ≡ none_ended
+  pub silos : map (λ (s : SiloView). s.silo) loops ≡ c.operator.live
+  pub fresh : AreFresh loops
+  pub at : RunsOn c.operator loops
+
+-- How a cluster has ended: its loops came back, of which Ended says how they have ended, and its own passes, as they
+-- were then, were gathered with the callers'.
+pub record HasEnded {H : Type 0} (entries : H → List (Entry Op Reply)) (c : ClusterView) (Ended : LoopEnds → Type 0) (callers : List (List QueuePass)) (answer : Finished H) : Type 0 where
   pub lines : List LineView
   pub on : GoOn c.operator.lines lines
   pub ends : LoopEnds
-  pub ended : EndsBy c.ends c.silos ends
+  pub ended : Ended ends
   pub finished : IsFinished entries ends (gathered (passes_of lines) callers) answer
   pub begun : OnHistories entries (HaveBegun (passes_of lines) callers) answer
   pub producers : OnHistories entries (CallersAloneProduce callers) answer
+
+module _ {H : Type 0} (entries : H → List (Entry Op Reply)) where
+  -- a cluster has ended whose silos were threads
+  abbrev pub HasFinished : ClusterView → List (List QueuePass) → Finished H → Type 0
+  HasFinished c callers answer = HasEnded entries c (EndsBy c.ends c.silos) callers answer
+
+  -- a parked cluster has ended, to which these loops came back
+  abbrev pub HasFinishedParked : ClusterView → List SiloView → List (List QueuePass) → Finished H → Type 0
+  HasFinishedParked c loops callers answer = HasEnded entries c (λ ends. ends ≡ all_noted c.ends loops) callers answer

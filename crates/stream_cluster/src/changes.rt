@@ -3,7 +3,7 @@ ghost use Rattle.std.specs.Prelude.{◌≡◌, [], ◌∷◌, ◌++◌, map, Con
 ghost use Rattle.std.specs.List.{AllByRecursion, range_with_len};
 ghost use Rattle.silo_crew.specs.Silos.{IsFresh, IsSiloAt, SiloView};
 ghost use Rattle.cluster_operator.specs.Operators.{HasOnlyGoneOn, HasSpread, OperatorGoesOn};
-ghost use Rattle.stream_cluster.specs.Clusters.{AreStarted, EndsBy, HasLeft, RunsOn, noted};
+ghost use Rattle.stream_cluster.specs.Clusters.{AreFresh, AreStarted, EndsBy, HasLeft, RunsOn, all_noted, noted};
 
 use activation_directory::{DirectoryOp, DirectoryReply};
 use cluster_ending::LoopEnds;
@@ -157,6 +157,50 @@ pub(crate) fn stop_all<
     let mut ends = ends;
     for silo in silos {
         let loops = silo.stop(rt, operator.doorbell());
+        ends = note_ends(ends, &loops);
+        operator.take_back(loops);
+    }
+    ends
+}
+
+// Makes the loops of the silos that live. Where those of one can't be made, all passes are joined back.
+pub(crate) fn make_all<
+    G: Gate,
+    H: StoredHistory<Op, Reply>,
+    D: StoredHistory<DirectoryOp, DirectoryReply>,
+>(
+    alloc: Global,
+    operator: &mut Operator<G, H, D>,
+    silos: u8,
+) -> Result<Vec<SiloLoops<G, H, D>>, AllocError>
+    ensures only { HasOnlyGoneOn operator.old operator.new }
+    ensures made { IfOk result (λ made. AreStarted silos made.items × AreFresh made.items × RunsOn operator.new made.items) }
+{
+    let mut made = Vec::with_capacity(alloc, usize::from(silos))?;
+    for silo in 0..silos {
+        match operator.make_loops(alloc, silo) {
+            Ok(loops) => made.push_reserved(loops),
+            Err(AllocError) => {
+                let _ends = take_all_back(operator, made, LoopEnds::default());
+                return Err(AllocError);
+            }
+        }
+    }
+    Ok(made)
+}
+
+// Joins the passes of loops back, and notes how the loops have ended.
+pub(crate) fn take_all_back<
+    G: Gate,
+    H: StoredHistory<Op, Reply>,
+    D: StoredHistory<DirectoryOp, DirectoryReply>,
+>(operator: &mut Operator<G, H, D>, silos: Vec<SiloLoops<G, H, D>>, ends: LoopEnds) -> LoopEnds
+    requires { RunsOn operator.old silos.items }
+    ensures only { HasOnlyGoneOn operator.old operator.new }
+    ensures ends { result ≡ all_noted ends silos.items }
+{
+    let mut ends = ends;
+    for loops in silos {
         ends = note_ends(ends, &loops);
         operator.take_back(loops);
     }

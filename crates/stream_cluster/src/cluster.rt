@@ -1,11 +1,12 @@
-//! A cluster whose silos are threads.
-ghost use Rattle.std.specs.Prelude.{◌≡◌, ◌<◌, IfOk};
+//! A cluster whose silos are threads, or parked.
+ghost use Rattle.std.specs.Prelude.{◌≡◌, ◌<◌, true, false, Contains, IfOk};
 ghost use Rattle.std.specs.List.{AllByRecursion};
+ghost use Rattle.silo_crew.specs.Silos.{IsSiloAt};
 ghost use Rattle.silo_loops.specs.Lines.{places};
 ghost use Rattle.cluster_ending.specs.Gathering.{AreAt};
-ghost use Rattle.stream_cluster.specs.Clusters.{AnswersDown, AnswersUp, HasFinished, IsConfig, IsDownBy, IsNew, IsUpBy};
+ghost use Rattle.stream_cluster.specs.Clusters.{AnswersDown, AnswersRetire, AnswersUp, HasFinished, HasFinishedParked, IsConfig, IsDownBy, IsNew, IsNewParked, IsRetiredBy, IsUpBy, RunsOn};
 
-use crate::changes::{bring_up, leave, note_ends, start_all, stop_all};
+use crate::changes::{bring_up, leave, make_all, note_ends, start_all, stop_all, take_all_back};
 use crate::config::Config;
 use crate::opening::open;
 use activation_directory::{DirectoryOp, DirectoryReply};
@@ -13,7 +14,7 @@ use cluster_callers::Caller;
 use cluster_ending::{Finished, LoopEnds, finish};
 use cluster_operator::{Halt, Operator};
 use shared_partition::Gate;
-use silo_crew::RunningSilo;
+use silo_crew::{RunningSilo, SiloLoops};
 use std::alloc::{AllocError, Global};
 use std::marker::Model;
 use std::sync::{Arc, Wait};
@@ -52,6 +53,30 @@ pub enum SiloDown {
     Halted,
 }
 
+/// What became of a silo whose loops were given back to a parked cluster.
+#[derive(Drop)]
+pub enum Retired<
+    G: Gate,
+    H: StoredHistory<Op, Reply>,
+    D: StoredHistory<DirectoryOp, DirectoryReply>,
+> {
+    /// It lives no more: its grains are deactivated, and the queues are spread over the silos that live.
+    Down,
+    /// No other silo lives. Nothing was done.
+    LastSilo {
+        /// The loops as they were given.
+        loops: SiloLoops<G, H, D>,
+    },
+    /// A call was answered `Spent`, or a history is full. What was answered by then stands, the loops came back, and
+    /// the cluster's silos don't change any more.
+    Limit,
+    /// The cluster's silos don't change any more. Nothing was done.
+    Halted {
+        /// The loops as they were given.
+        loops: SiloLoops<G, H, D>,
+    },
+}
+
 // How a change of silos that was broken off is answered.
 fn up_by(halt: Halt) -> Result<SiloUp, AllocError>
     ensures { IsUpBy halt result }
@@ -71,7 +96,24 @@ fn down_by(halt: Halt) -> Result<SiloDown, AllocError>
     }
 }
 
-/// A cluster whose silos are threads.
+fn retired_by<G: Gate, H: StoredHistory<Op, Reply>, D: StoredHistory<DirectoryOp, DirectoryReply>>(
+    halt: Halt,
+) -> Result<Retired<G, H, D>, AllocError>
+    ensures { IsRetiredBy halt result }
+{
+    match halt {
+        Halt::Limit => Ok(Retired::Limit),
+        Halt::Memory => Err(AllocError),
+    }
+}
+
+/// A cluster whose silos are threads, or a parked one.
+///
+/// A parked cluster starts no thread. Whoever made it has the loops of its silos, advances them by hand in any order,
+/// and gives them back: those of one silo to [`retire`](Cluster::retire), and all that are left to
+/// [`finish_parked`](Cluster::finish_parked). So a silo can be stopped between any two of its steps. No silo comes to
+/// a parked cluster or goes from it otherwise: [`silo_up`](Cluster::silo_up) and [`silo_down`](Cluster::silo_down)
+/// answer `Halted`.
 ///
 /// A contract sees what its operator holds, the loops of its silos as they were started, how those have ended that
 /// came back, whether the loops were given to whoever made it, and whether a change of silos was broken off.
@@ -231,6 +273,102 @@ impl<G: Gate, H: StoredHistory<Op, Reply>, D: StoredHistory<DirectoryOp, Directo
             halted: _,
         } = self;
         let ends = stop_all(rt, &mut operator, silos, ends);
+        let (doorbell, lines) = operator.into_lines();
+        finish(rt, alloc, doorbell, lines, callers, ends)
+    }
+    /// A parked cluster, its first caller, and the loops of its silos, which have done nothing yet. The silos are
+    /// numbered from 0 on, and the loops are in their order; the queues are spread over the silos, from silo 0 on which
+    /// all are at first.
+    ///
+    /// # Errors
+    /// The call failed to allocate.
+    pub fn parked<R: Wait>(
+        rt: &R,
+        alloc: Global,
+        config: &Config,
+        gate: Arc<G, Global>,
+    ) -> Result<(Cluster<G, H, D>, Caller<G, H>, Vec<SiloLoops<G, H, D>>), AllocError>
+        requires { IsConfig config.now }
+        ensures { IfOk result (λ made. IsNewParked config.now made.0 made.1 made.2.items) }
+    {
+        let (mut operator, caller) = open(rt, alloc, config, gate)?;
+        let loops = make_all(alloc, &mut operator, config.silos)?;
+        let cluster = Cluster {
+            operator,
+            silos: Vec::new(alloc),
+            ends: LoopEnds::default(),
+            parked: true,
+            halted: false,
+        };
+        Ok((cluster, caller, loops))
+    }
+
+    /// Takes back the loops of a silo of a parked cluster, deactivates the grains that the directory has on it, and
+    /// spreads the queues over the silos that are left. Each queue that has another silo then was moved there.
+    ///
+    /// Where the cluster's silos don't change any more, or no other silo lives, the loops are handed out again.
+    ///
+    /// # Errors
+    /// The call failed to allocate. What was answered by then stands, the loops came back, no pass is lost, and the
+    /// cluster's silos don't change any more.
+    pub fn retire<R: Wait>(
+        &mut self,
+        rt: &R,
+        alloc: Global,
+        loops: SiloLoops<G, H, D>,
+    ) -> Result<Retired<G, H, D>, AllocError>
+        requires parked { self.old.is_parked ≡ true }
+        requires at { IsSiloAt self.old.operator.lines self.old.operator.directory loops }
+        requires live { self.old.is_halted ≡ false → Contains self.old.operator.live loops.silo }
+        ensures { AnswersRetire self.old loops result self.new }
+    {
+        if self.halted {
+            return Ok(Retired::Halted { loops });
+        }
+        if self.operator.live_count() == 1 {
+            return Ok(Retired::LastSilo { loops });
+        }
+        let Some(place) = self.operator.place_of(loops.silo) else {
+            unreachable!()
+        };
+        self.ends = note_ends(self.ends, &loops);
+        match leave(rt, alloc, &mut self.operator, place, loops) {
+            Ok(()) => Ok(Retired::Down),
+            Err(halt) => {
+                self.halted = true;
+                retired_by(halt)
+            }
+        }
+    }
+
+    /// Takes back the loops of a parked cluster, and ends it as [`finish`](Cluster::finish) does. Where loops of its
+    /// silos are neither given here nor were given before, their passes are missing.
+    ///
+    /// Where several answers could be given, it is `InUse`, else `NotAll`, `Limit`, `RoundLimit`, `NotQuiet`, and
+    /// `Report` where none of these could be.
+    ///
+    /// # Errors
+    /// The call failed to allocate, or a loop had. Nothing is handed back.
+    pub fn finish_parked<R: Wait>(
+        self,
+        rt: &R,
+        alloc: Global,
+        callers: Vec<Caller<G, H>>,
+        loops: Vec<SiloLoops<G, H, D>>,
+    ) -> Result<Finished<H>, AllocError>
+        requires parked { self.is_parked ≡ true }
+        requires callers { AllByRecursion (AreAt (places self.operator.lines)) callers.items }
+        requires loops { RunsOn self.operator loops.items }
+        ensures { IfOk result (HasFinishedParked H.entries self loops.items callers.items) }
+    {
+        let Cluster {
+            mut operator,
+            silos: _silos,
+            ends,
+            parked: _,
+            halted: _,
+        } = self;
+        let ends = take_all_back(&mut operator, loops, ends);
         let (doorbell, lines) = operator.into_lines();
         finish(rt, alloc, doorbell, lines, callers, ends)
     }

@@ -3,6 +3,9 @@
 //! A [`Cluster`] holds the partition of each queue behind a turnstile of its own, a directory of grains, and the
 //! loops of each live silo in threads. Producers call the partitions through a
 //! [`Caller`](cluster_callers::Caller), from any thread.
+//!
+//! A parked cluster starts no thread: whoever made it advances the loops by hand, so that a silo can be stopped
+//! between any two of its steps.
 #![tactic(auto)]
 
 mod changes;
@@ -10,5 +13,5 @@ mod cluster;
 mod config;
 mod opening;
 
-pub use cluster::{Cluster, SiloDown, SiloUp};
+pub use cluster::{Cluster, Retired, SiloDown, SiloUp};
 pub use config::Config;

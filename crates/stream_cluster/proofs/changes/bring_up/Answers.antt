@@ -1,6 +1,6 @@
-use Rattle.std.proofs.Common.{List, ℕ, ap, refl, subst, sym, ◌∙◌, ◌++◌, ◌∷◌, [], ◌≡◌}
+use Rattle.std.proofs.Common.{List, ap, subst, sym, ◌∙◌, ◌++◌, ◌∷◌, [], ◌≡◌}
 use Rattle.std.proofs.lemmas.Result.{on_ok_weaker}
-use Rattle.silo_crew.specs.Silos.{IsFresh, IsSiloAt, SiloView}
+use Rattle.silo_crew.specs.Silos.{IsSiloAt, SiloView}
 use Rattle.cluster_operator.specs.Operators.{HasSpread, OperatorView}
 use Rattle.stream_cluster.specs.Clusters.{RunsOn}
 use Rattle.stream_cluster.proofs.Standing.{all-push, op-refl, op-same, op-trans, sits-on, spread-from}

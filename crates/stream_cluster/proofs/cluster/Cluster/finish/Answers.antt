@@ -1,4 +1,4 @@
-use Rattle.std.proofs.Common.{List, ap, subst, sym, ◌∙◌}
+use Rattle.std.proofs.Common.{List, ap, subst, sym}
 use Rattle.silo_loops.specs.Lines.{LineView}
 use Rattle.silo_crew.specs.Silos.{GoOn}
 use Rattle.stream_cluster.specs.Clusters.{ClusterView, EndsBy}
@@ -18,4 +18,4 @@ returns g c =
     let on = subst (λ (ls : List LineView). GoOn ls c.stop_all-ends.new.operator.lines) lines c.stop_all-ends.ensures.only.on.lines in
     let whole = subst (λ (ls : List LineView). GoOn c.args.self.operator.lines ls) (sym c.into_lines-doorbell.ensures) on in
     let ended = subst (λ (v : ClusterView). EndsBy v.ends v.silos c.stop_all-ends.result) c.self.view_is c.stop_all-ends.ensures.ends in
-    finished-whole _ c.args.self c.args.callers.items c.into_lines-doorbell.result.1.items c.stop_all-ends.result c.finish.result whole ended c.finish.ensures.finished c.finish.ensures.begun c.finish.ensures.producers
+    finished-whole _ c.args.self (EndsBy c.args.self.ends c.args.self.silos) c.args.callers.items c.into_lines-doorbell.result.1.items c.stop_all-ends.result c.finish.result whole ended c.finish.ensures.finished c.finish.ensures.begun c.finish.ensures.producers

@@ -1,0 +1,15 @@
+use Rattle.std.proofs.Common.{◌≡◌, length, vec_capacity}
+use Rattle.cluster_operator.specs.Operators.{HasOnlyGoneOn}
+use Rattle.stream_cluster.specs.Clusters.{AreFresh, AreStarted, RunsOn}
+use Rattle.stream_cluster.proofs.changes.make_all.Given as goal
+
+abbrev pub invariant-loop-silo : goal.invariant-loop-silo
+invariant-loop-silo g l =
+    record {
+      only : HasOnlyGoneOn l.fn.operator l.operator;
+      many : length l.made.items ≡ l.silo;
+      started : AreStarted l.silo l.made.items;
+      fresh : AreFresh l.made.items;
+      runs : RunsOn l.operator l.made.items;
+      room : vec_capacity l.made ≡ l.fn.silos;
+    }

@@ -1,0 +1,12 @@
+use Rattle.std.proofs.Common.{◌≡◌}
+use Rattle.cluster_operator.specs.Operators.{HasOnlyGoneOn}
+use Rattle.stream_cluster.specs.Clusters.{RunsOn, all_noted}
+use Rattle.stream_cluster.proofs.changes.take_all_back.Given as goal
+
+abbrev pub invariant-loop-loops : goal.invariant-loop-loops
+invariant-loop-loops g l =
+    record {
+      only : HasOnlyGoneOn l.fn.operator l.operator;
+      runs : RunsOn l.operator l.loops-iterator.rest.items;
+      ends : l.ends ≡ all_noted l.fn.ends l.yielded;
+    }

@@ -1,0 +1,24 @@
+use Rattle.std.proofs.Common.{List, ap, subst, sym, ◌≡◌}
+use Rattle.silo_loops.specs.Lines.{LineView}
+use Rattle.silo_crew.specs.Silos.{GoOn}
+use Rattle.stream_cluster.specs.Clusters.{ClusterView, RunsOn, all_noted}
+use Rattle.stream_cluster.proofs.Standing.{callers-on, finished-whole}
+use Rattle.stream_cluster.proofs.cluster.Cluster.finish_parked.Goals as goal
+
+pub take_all_back-ends-requires-after_bounds : goal.take_all_back-ends-requires-after_bounds
+take_all_back-ends-requires-after_bounds g c κs within = subst (λ (v : ClusterView). RunsOn v.operator c.args.loops.items) (sym c.self.view_is) c.requires.loops
+
+pub finish-requires-after_bounds : goal.finish-requires-after_bounds
+finish-requires-after_bounds g c κs within =
+    let lines = ap (λ (v : ClusterView). v.operator.lines) c.self.view_is in
+    let on = subst (λ (ls : List LineView). GoOn ls c.take_all_back-ends.new.operator.lines) lines c.take_all_back-ends.ensures.only.on.lines in
+    let whole = subst (λ (ls : List LineView). GoOn c.args.self.operator.lines ls) (sym c.into_lines-doorbell.ensures) on in
+    callers-on c.args.self.operator.lines c.into_lines-doorbell.result.1.items c.args.callers.items whole c.requires.callers
+
+pub returns : goal.returns
+returns g c =
+    let lines = ap (λ (v : ClusterView). v.operator.lines) c.self.view_is in
+    let on = subst (λ (ls : List LineView). GoOn ls c.take_all_back-ends.new.operator.lines) lines c.take_all_back-ends.ensures.only.on.lines in
+    let whole = subst (λ (ls : List LineView). GoOn c.args.self.operator.lines ls) (sym c.into_lines-doorbell.ensures) on in
+    let ended = subst (λ (v : ClusterView). c.take_all_back-ends.result ≡ all_noted v.ends c.args.loops.items) c.self.view_is c.take_all_back-ends.ensures.ends in
+    finished-whole _ c.args.self (λ ends. ends ≡ all_noted c.args.self.ends c.args.loops.items) c.args.callers.items c.into_lines-doorbell.result.1.items c.take_all_back-ends.result c.finish.result whole ended c.finish.ensures.finished c.finish.ensures.begun c.finish.ensures.producers
