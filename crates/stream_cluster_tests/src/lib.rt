@@ -1,0 +1,11 @@
+//! Tests of a cluster, through its public calls.
+#![tactic(auto)]
+
+#[cfg(test)]
+mod gates;
+#[cfg(test)]
+mod in_parallel;
+#[cfg(test)]
+mod running;
+#[cfg(test)]
+mod silos;
