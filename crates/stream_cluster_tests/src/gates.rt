@@ -5,9 +5,9 @@ use std::sync::atomic::{AtomicBool, Ordering};
 use stream_ident::{Event, SubName, Token};
 
 // Looks so often at most.
-const LOOKS: u32 = 1_000_000;
+const LOOKS: u32 = 10_000_000;
 
-// Waits until the flag is set, and whether it was.
+// Waits until the flag is set, and tells whether it was.
 fn wait_for(flag: &AtomicBool) -> bool {
     let backoff = Backoff::new();
     for _ in 0..LOOKS {
@@ -57,9 +57,11 @@ impl Gate for Crossing {
     }
 }
 
-/// A gate in which the first call of the first queue waits until a call of another queue was answered.
+/// A gate in which a call of the first queue waits until a call of another queue was answered: the first one after
+/// the gate was told to wait.
 #[derive(Drop)]
 pub struct Elsewhere {
+    waits: AtomicBool,
     came: AtomicBool,
     answered: AtomicBool,
     saw: AtomicBool,
@@ -68,10 +70,21 @@ pub struct Elsewhere {
 impl Elsewhere {
     pub fn new() -> Elsewhere {
         Elsewhere {
+            waits: AtomicBool::new(false),
             came: AtomicBool::new(false),
             answered: AtomicBool::new(false),
             saw: AtomicBool::new(false),
         }
+    }
+
+    /// The next call of the first queue is to wait.
+    pub fn wait(&self) {
+        self.waits.store(true, Ordering::SeqCst);
+    }
+
+    /// Waits until a call of the first queue waits, and tells whether one does.
+    pub fn comes(&self) -> bool {
+        wait_for(&self.came)
     }
 
     /// The call of the other queue was answered.
@@ -79,7 +92,7 @@ impl Elsewhere {
         self.answered.store(true, Ordering::SeqCst);
     }
 
-    /// Whether the first call of the first queue has seen that.
+    /// Whether the call of the first queue has seen that.
     pub fn saw(&self) -> bool {
         self.saw.load(Ordering::SeqCst)
     }
@@ -87,8 +100,11 @@ impl Elsewhere {
 
 impl Gate for Elsewhere {
     fn inside(&self, queue: usize) {
-        if queue == 0 && !self.came.swap(true, Ordering::SeqCst) && wait_for(&self.answered) {
-            self.saw.store(true, Ordering::SeqCst);
+        if queue == 0 && self.waits.swap(false, Ordering::SeqCst) {
+            self.came.store(true, Ordering::SeqCst);
+            if wait_for(&self.answered) {
+                self.saw.store(true, Ordering::SeqCst);
+            }
         }
     }
 

@@ -2,9 +2,13 @@
 #![tactic(auto)]
 
 #[cfg(test)]
+mod ends;
+#[cfg(test)]
 mod gates;
 #[cfg(test)]
 mod in_parallel;
+#[cfg(test)]
+mod producer;
 #[cfg(test)]
 mod running;
 #[cfg(test)]

@@ -1,126 +1,131 @@
-//! A cluster that runs, with a caller.
-ghost use Rattle.std.specs.Prelude.{◌≡◌, ◌≤◌};
-ghost use Rattle.cluster_callers.specs.Calls.{turnstiles};
-ghost use Rattle.silo_loops.specs.Lines.{places};
+//! A cluster that runs.
+ghost use Rattle.std.specs.Prelude.{◌≡◌, ◌≤◌, IfOk};
 
+use crate::producer::{Calls, Producer};
 use activation_directory::{DirectoryOp, DirectoryReply};
-use cluster_callers::Caller;
 use cluster_ending::Finished;
 use shared_partition::Gate;
-use std::alloc::Global;
+use std::alloc::{AllocError, Global};
+use std::marker::Model;
 use std::process::Abort;
 use std::sync::{Arc, Wait};
-use std::thread;
 use std::thread::Threads;
 use step_core::Limits;
 use stream_cluster::{Cluster, Config, SiloDown, SiloUp};
-use stream_ident::{Batch, GrainId, Payload, StreamId};
-use stream_model::{Op, Reply, Start};
 use turnstile::PlainHistory;
-
-type Calls = PlainHistory<Op, Reply>;
 
 type Asked = PlainHistory<DirectoryOp, DirectoryReply>;
 
-/// A cluster and its first caller.
+/// How a cluster has ended, or that the end failed to allocate.
+pub type Ended = Result<Finished<Calls>, AllocError>;
+
+/// A cluster. A contract sees the turnstiles of its queues.
 #[derive(Drop)]
 pub struct Running<G: Gate> {
     cluster: Cluster<G, Calls, Asked>,
-    caller: Caller<G, Calls>,
-    ghost beside: { turnstiles caller ≡ places cluster.operator.lines },
+}
+
+impl<G: Gate> Model for Running<G> {
+    ghost use Rattle.std.specs.Prelude.{List, Option};
+    ghost use Rattle.silo_loops.specs.Lines.{places};
+    ghost use Rattle.stream_model.specs.declared.plain.PlainPartition.{PlainPartition};
+    ghost use Rattle.turnstile.specs.Passes.{Origin};
+
+    ghost Value = { List (Option (Origin PlainPartition)) };
+
+    ghost view = { λ r. places r.cluster.operator.lines };
+}
+
+/// So many silos over so many queues, and its first caller. No history has more calls than that.
+pub fn start<G: Gate + 'static, R: Threads + Wait + Abort + Copy + Send + 'static>(
+    rt: &R,
+    alloc: Global,
+    queues: usize,
+    silos: u8,
+    history: u64,
+    gate: Arc<G, Global>,
+) -> Result<(Running<G>, Producer<G>), AllocError>
+    ensures { IfOk result (λ r. r.1 ≡ r.0) }
+{
+    assert!(rt; 1 <= queues && queues <= 64);
+    assert!(rt; 1 <= silos && silos <= 16);
+    assert!(rt; 1 <= history);
+    let config = Config {
+        queues,
+        blocks: 4,
+        silos,
+        limits: Limits::GREATEST,
+        history,
+    };
+    let (cluster, caller) = Cluster::new(rt, alloc, &config, gate)?;
+    Ok((Running { cluster }, Producer::new(caller)))
 }
 
 impl<G: Gate + 'static> Running<G> {
-    /// So many silos over so many queues.
-    pub fn start<R: Threads + Wait + Abort + Copy + Send + 'static>(
-        rt: &R,
-        alloc: Global,
-        queues: usize,
-        silos: u8,
-        gate: Arc<G, Global>,
-    ) -> Running<G> {
-        assert!(rt; 1 <= queues && queues <= 64);
-        assert!(rt; 1 <= silos && silos <= 16);
-        let config = Config {
-            queues,
-            blocks: 4,
-            silos,
-            limits: Limits::GREATEST,
-            history: 1_000_000,
-        };
-        let (cluster, caller) = Cluster::new(rt, alloc, &config, gate).expect(rt, "it starts");
-        Running { cluster, caller }
-    }
-
-    /// Does an operation of a producer.
-    pub fn ask<R: Wait + Abort>(&mut self, rt: &R, alloc: Global, queue: usize, op: Op) -> Reply {
-        assert!(rt; queue < self.caller.queues());
-        self.caller.call(rt, alloc, queue, op).expect(rt, "a reply")
-    }
-
-    /// A grain subscribes to a stream from the next event on; both have this key.
-    pub fn subscribe<R: Wait + Abort>(&mut self, rt: &R, alloc: Global, queue: usize, key: &[u8]) {
-        let op = Op::Subscribe {
-            stream: StreamId::new(b"o", key).expect(rt, "a stream"),
-            grain: GrainId::new(b"g", key).expect(rt, "a grain"),
-            start: Start::Latest,
-        };
-        let reply = self.ask(rt, alloc, queue, op);
-        assert!(rt; matches!(reply, Reply::Subscribed { .. }));
-    }
-
-    /// Publishes an event to the stream of this key.
-    pub fn publish<R: Wait + Abort>(&mut self, rt: &R, alloc: Global, queue: usize, key: &[u8]) {
-        let reply = self.ask(rt, alloc, queue, publish(rt, alloc, key));
-        assert!(rt; matches!(reply, Reply::Published { .. }));
-    }
-
-    /// Waits until a queue is quiet.
-    pub fn wait_until_quiet<R: Wait + Abort>(&mut self, rt: &R, alloc: Global, queue: usize) {
-        for _ in rt.forever() {
-            if self.ask(rt, alloc, queue, Op::Quiet) == Reply::IsQuiet {
-                break;
-            }
-            thread::yield_now();
-        }
-    }
-
     /// A silo comes.
     pub fn up<R: Threads + Wait + Abort + Copy + Send + 'static>(
         &mut self,
         rt: &R,
         alloc: Global,
         silo: u8,
-    ) -> SiloUp {
+    ) -> Result<SiloUp, AllocError>
+        ensures { self.new ≡ self.old }
+    {
         assert!(rt; silo < 16);
-        self.cluster.silo_up(rt, alloc, silo).expect(rt, "memory")
+        self.cluster.silo_up(rt, alloc, silo)
     }
 
     /// A silo goes.
-    pub fn down<R: Threads + Wait + Abort>(&mut self, rt: &R, alloc: Global, silo: u8) -> SiloDown {
+    pub fn down<R: Threads + Wait + Abort>(
+        &mut self,
+        rt: &R,
+        alloc: Global,
+        silo: u8,
+    ) -> Result<SiloDown, AllocError>
+        ensures { self.new ≡ self.old }
+    {
         assert!(rt; silo < 16);
-        self.cluster.silo_down(rt, alloc, silo).expect(rt, "memory")
+        self.cluster.silo_down(rt, alloc, silo)
     }
 
-    /// The report at the end.
-    pub fn report<R: Threads + Wait + Abort>(self, rt: &R, alloc: Global) -> Vec<u8> {
-        let Running { cluster, caller } = self;
+    /// Ends with this caller.
+    pub fn finish<R: Threads + Wait + Abort>(
+        self,
+        rt: &R,
+        alloc: Global,
+        producer: Producer<G>,
+    ) -> Ended
+        requires { producer ≡ self }
+    {
+        let Running { cluster } = self;
         let mut callers = Vec::with_capacity(alloc, 1).expect(rt, "memory");
-        callers.push_reserved(caller);
-        let ended = cluster.finish(rt, alloc, callers).expect(rt, "memory");
-        let Finished::Report { text, traces: _ } = ended else {
-            panic!(rt; "it ends with a report");
-        };
-        text
+        callers.push_reserved(producer.into_caller());
+        cluster.finish(rt, alloc, callers)
+    }
+
+    /// Ends with these callers.
+    pub fn finish_both<R: Threads + Wait + Abort>(
+        self,
+        rt: &R,
+        alloc: Global,
+        first: Producer<G>,
+        second: Producer<G>,
+    ) -> Ended
+        requires first { first ≡ self }
+        requires second { second ≡ self }
+    {
+        let Running { cluster } = self;
+        let mut callers = Vec::with_capacity(alloc, 2).expect(rt, "memory");
+        callers.push_reserved(first.into_caller());
+        callers.push_reserved(second.into_caller());
+        cluster.finish(rt, alloc, callers)
     }
 }
 
-/// An event for the stream of this key.
-pub fn publish<R: Abort>(rt: &R, alloc: Global, key: &[u8]) -> Op {
-    let mut payloads = Vec::with_capacity(alloc, 1).expect(rt, "memory");
-    payloads.push_reserved(Payload::new(b"a").expect(rt, "a payload"));
-    Op::Publish {
-        stream: StreamId::new(b"o", key).expect(rt, "a stream"),
-        payloads: Batch::of(payloads),
-    }
+/// The report of a cluster that has ended with one.
+pub fn report<R: Abort>(rt: &R, ended: Ended) -> Vec<u8> {
+    let Ok(Finished::Report { text, traces: _ }) = ended else {
+        panic!(rt; "it ends with a report");
+    };
+    text
 }
