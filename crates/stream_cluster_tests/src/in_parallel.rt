@@ -9,11 +9,9 @@ use std::sync::{Arc, Wait};
 use std::test::Fail;
 use std::thread::{Threads, join};
 
-const CROSSED: &[u8] =
-    b"report\n0:1 o/x g/x 0.0 1\n  0.0 \"a\"\n0:2 o/y g/y 1.0 1\n  1.0 \"a\"\n";
+const CROSSED: &[u8] = b"report\n0:1 o/x g/x 0.0 1\n  0.0 \"a\"\n0:2 o/y g/y 1.0 1\n  1.0 \"a\"\n";
 
-const BESIDE: &[u8] =
-    b"report\n0:1 o/x g/x 0.0 1\n  0.0 \"a\"\n1:1 o/y g/y 0.0 1\n  0.0 \"b\"\n";
+const BESIDE: &[u8] = b"report\n0:1 o/x g/x 0.0 1\n  0.0 \"a\"\n1:1 o/y g/y 0.0 1\n  0.0 \"b\"\n";
 
 // Two grains handle an event each. The one that comes first waits until the other has committed.
 #[test]

@@ -4,7 +4,8 @@ use std::sync::Arc;
 use std::test::Fail;
 use stream_cluster::{SiloDown, SiloUp};
 
-const REPORT: &[u8] = b"report\n0:1 o/x g/x 0.0 3\n  0.0 \"a\"\n  1.0 \"a\"\n  2.0 \"a\"\n1:1 o/y g/y 0.0 3\n  0.0 \"b\"\n  1.0 \"b\"\n  2.0 \"b\"\n";
+const REPORT: &[u8] =
+    b"report\n0:1 o/x g/x 0.0 3\n  0.0 \"a\"\n  1.0 \"a\"\n  2.0 \"a\"\n1:1 o/y g/y 0.0 3\n  0.0 \"b\"\n  1.0 \"b\"\n  2.0 \"b\"\n";
 
 // Silos come and go while events are published to two queues. Each is handled once.
 #[test]
