@@ -109,12 +109,12 @@ told-none numbers (e ∷ es) alone none =
     let rest : List told.Entry = filter (λ (e : told.Entry). is_producer e.op) (told_of es) in
     ap (λ b. map kept (if b then as_told e ∷ rest else rest)) other ∙ told-none numbers es alone.1 none.1
 
-alone-front : (numbers : List ℕ) (xs ys : List (Entry Op Reply)) → AreAlone numbers (xs ++ ys) → AreAlone numbers xs × AreAlone numbers ys
+pub alone-front : (numbers : List ℕ) (xs ys : List (Entry Op Reply)) → AreAlone numbers (xs ++ ys) → AreAlone numbers xs × AreAlone numbers ys
 alone-front numbers [] ys alone = (tt, alone)
 alone-front numbers (x ∷ xs) ys alone = let rest = alone-front numbers xs ys alone.1 in ((alone.0, rest.0), rest.1)
 
 -- the same with the numbers of the pass as it was
-alone-as : (p q : QueuePass) → HasGoneOn p q → ProducesAlone q → AreAlone (numbers_of p) q.seen
+pub alone-as : (p q : QueuePass) → HasGoneOn p q → ProducesAlone q → AreAlone (numbers_of p) q.seen
 alone-as p q on alone = subst (λ ks. AreAlone ks q.seen) (ap (λ (w : QueuePass). numbers_of w) on.only) alone
 
 -- entries of others stand behind what was seen

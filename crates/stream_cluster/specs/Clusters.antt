@@ -206,6 +206,7 @@ pub record IsNew (config : Config) (c : ClusterView) (caller : List QueuePass) :
   pub opened : IsOpened config c.operator caller
   pub loops : RunLoops c
   pub goes_on : is_fixed c ≡ false
+  pub none : c.ends ≡ none_ended
 
 -- A new parked cluster, its caller, and the loops of its silos: so it was opened, and the loops are those of the silos
 -- that live, in their order, at the cluster's turnstiles. They have done nothing yet.

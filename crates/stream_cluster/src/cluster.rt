@@ -4,7 +4,7 @@ ghost use Rattle.std.specs.List.{AllByRecursion};
 ghost use Rattle.silo_crew.specs.Silos.{IsSiloAt};
 ghost use Rattle.silo_loops.specs.Lines.{places};
 ghost use Rattle.cluster_ending.specs.Gathering.{AreAt};
-ghost use Rattle.stream_cluster.specs.Clusters.{AnswersDown, AnswersRetire, AnswersUp, HasFinished, HasFinishedParked, IsConfig, IsDownBy, IsNew, IsNewParked, IsRetiredBy, IsUpBy, RunsOn};
+ghost use Rattle.stream_cluster.specs.Clusters.{AnswersDown, AnswersRetire, AnswersUp, HasFinished, HasFinishedParked, IsConfig, IsDownBy, IsNew, IsNewParked, IsRetiredBy, IsUpBy, RunsOn, is_fixed};
 
 use crate::changes::{bring_up, leave, make_all, note_ends, start_all, stop_all, take_all_back};
 use crate::config::Config;
@@ -212,6 +212,14 @@ impl<G: Gate, H: StoredHistory<Op, Reply>, D: StoredHistory<DirectoryOp, Directo
     H,
     D,
 > {
+    /// Whether its silos don't change any more by [`silo_up`](Cluster::silo_up) and
+    /// [`silo_down`](Cluster::silo_down): it is parked, or a change of silos was broken off.
+    pub fn is_fixed(&self) -> bool
+        ensures { result ≡ is_fixed self.now }
+    {
+        self.parked || self.halted
+    }
+
     /// Stops the loops of a silo and waits until they came back, deactivates the grains that the directory has on
     /// it, and spreads the queues over the silos that live. Each queue that has another silo then was moved there.
     ///

@@ -1,0 +1,4 @@
+pub mod Changing
+pub mod Doing
+pub mod Progress
+pub mod Reporting

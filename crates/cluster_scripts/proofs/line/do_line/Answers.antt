@@ -1,0 +1,48 @@
+use Rattle.std.proofs.Common.{IfOk, refl, subst, sym}
+use Rattle.cluster_ending.proofs.Rows.{zip-refl}
+use Rattle.stream_cluster.proofs.Standing.{op-refl}
+use Rattle.script_parser.specs.declared.command.Command.{Command}
+use Rattle.script_parser.specs.declared.command.Command.TheVariants as command
+use Rattle.script_producer.specs.Telling.{HasGoneOn}
+use Rattle.script_producer.proofs.Seen.{gone-refl}
+use Rattle.cluster_scripts.specs.Lines.{DoesLine}
+use Rattle.cluster_scripts.proofs.Doing.{asked-line, changed-line}
+use Rattle.cluster_scripts.proofs.line.do_line.Goals as goal
+
+pub returns-in_err-wait_until_quiet-in-Drain-clause-cluster : goal.returns-in_err-wait_until_quiet-in-Drain-clause-cluster
+returns-in_err-wait_until_quiet-in-Drain-clause-cluster g c = op-refl _
+
+pub returns-in_ok-wait_until_quiet-in-Drain-clause-cluster : goal.returns-in_ok-wait_until_quiet-in-Drain-clause-cluster
+returns-in_ok-wait_until_quiet-in-Drain-clause-cluster g c = op-refl _
+
+pub returns-in-Step-clause-line : goal.returns-in-Step-clause-line
+returns-in-Step-clause-line g c =
+    subst (λ (said : Command). IfOk c.unless_limit.result (λ told. DoesLine c.args.cluster.now c.args.caller.now said told c.args.cluster.now c.ask.new.caller)) (sym c.in-Step.is)
+    (asked-line c.args.cluster.now c.args.caller.now c.ask.new.caller (command.Step c.in-Step.queue c.in-Step.op) c.ask.result c.unless_limit.result (λ live. refl) c.ask.ensures.told c.unless_limit.ensures)
+
+pub returns-in-Step-clause-cluster : goal.returns-in-Step-clause-cluster
+returns-in-Step-clause-cluster g c = op-refl _
+
+pub returns-in-Each-clause-line : goal.returns-in-Each-clause-line
+returns-in-Each-clause-line g c =
+    subst (λ (said : Command). IfOk c.unless_limit-in-Each.result (λ told. DoesLine c.args.cluster.now c.args.caller.now said told c.args.cluster.now c.ask_each.new.caller)) (sym c.in-Each.is)
+    (asked-line c.args.cluster.now c.args.caller.now c.ask_each.new.caller (command.Each c.in-Each.each) c.ask_each.result c.unless_limit-in-Each.result (λ live. refl) c.ask_each.ensures.told c.unless_limit-in-Each.ensures)
+
+pub returns-in-Each-clause-cluster : goal.returns-in-Each-clause-cluster
+returns-in-Each-clause-cluster g c = op-refl _
+
+pub returns-in-Up-clause-line : goal.returns-in-Up-clause-line
+returns-in-Up-clause-line g c =
+    subst (λ (said : Command). IfOk c.up.result (λ told. DoesLine c.args.cluster.now c.args.caller.now said told c.up.new.cluster c.args.caller.now)) (sym c.in-Up.is)
+    (changed-line c.args.cluster.now c.up.new.cluster c.args.caller.now (command.Up c.in-Up.silo) c.up.result (λ queue. refl) c.up.ensures.changes)
+
+pub returns-in-Up-clause-on : goal.returns-in-Up-clause-on
+returns-in-Up-clause-on g c = zip-refl HasGoneOn gone-refl _
+
+pub returns-in-Down-clause-line : goal.returns-in-Down-clause-line
+returns-in-Down-clause-line g c =
+    subst (λ (said : Command). IfOk c.down.result (λ told. DoesLine c.args.cluster.now c.args.caller.now said told c.down.new.cluster c.args.caller.now)) (sym c.in-Down.is)
+    (changed-line c.args.cluster.now c.down.new.cluster c.args.caller.now (command.Down c.in-Down.silo) c.down.result (λ queue. refl) c.down.ensures.changes)
+
+pub returns-in-Down-clause-on : goal.returns-in-Down-clause-on
+returns-in-Down-clause-on g c = zip-refl HasGoneOn gone-refl _

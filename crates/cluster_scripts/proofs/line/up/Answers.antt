@@ -1,0 +1,18 @@
+use Rattle.std.proofs.Common.{◌∙◌, Ok, ap}
+use Rattle.stream_cluster.specs.declared.cluster.SiloUp.{SiloUp}
+use Rattle.cluster_scripts.proofs.Changing.{came-up, up-on, was-there}
+use Rattle.cluster_scripts.proofs.line.up.Goals as goal
+
+pub returns-in-Ok-Up-clause-changes : goal.returns-in-Ok-Up-clause-changes
+returns-in-Ok-Up-clause-changes g c =
+    came-up c.args.cluster.now c.silo_up.new.self c.args.silo c.silo_up.result c.silo_up.ensures (c.in-Ok-Up.is ∙ ap (λ (u : SiloUp). Ok u) c.in-Ok-Up.field-0-is)
+
+pub returns-in-Ok-Already-clause-changes : goal.returns-in-Ok-Already-clause-changes
+returns-in-Ok-Already-clause-changes g c =
+    was-there c.args.cluster.now c.silo_up.new.self c.args.silo c.silo_up.result c.silo_up.ensures (c.in-Ok-Already.is ∙ ap (λ (u : SiloUp). Ok u) c.in-Ok-Already.field-0-is)
+
+pub returns-in-Ok-Already-clause-cluster : goal.returns-in-Ok-Already-clause-cluster
+returns-in-Ok-Already-clause-cluster g c = up-on c.args.cluster.now c.silo_up.new.self c.args.silo c.silo_up.result c.silo_up.ensures
+
+pub returns-in-Ok-Limit-clause-cluster : goal.returns-in-Ok-Limit-clause-cluster
+returns-in-Ok-Limit-clause-cluster g c = up-on c.args.cluster.now c.silo_up.new.self c.args.silo c.silo_up.result c.silo_up.ensures

@@ -1,0 +1,60 @@
+use Rattle.std.proofs.Common.{◌∙◌, List, [], arith, refl, rules, subst, sym}
+use Rattle.std.proofs.lemmas.Grind.{common_steps}
+use Rattle.std.proofs.lemmas.Iterator.Adapters.{YieldsList-from_vec}
+use Rattle.std.proofs.lemmas.Iterator.Consumers.{YieldsList-end, YieldsList-turn}
+use Rattle.stream_cluster.proofs.Standing.{op-trans}
+use Rattle.script_laws.specs.declared.script_line.ScriptLine.{ScriptLine}
+use Rattle.cluster_scripts.proofs.Progress.{Progress, begins, does, done-all, map-same, on-all, on-err, on-ok, stopped}
+use Rattle.cluster_scripts.proofs.running.do_lines.Goals as goal
+
+pub loop-line-init : goal.loop-line-init
+loop-line-init g c =
+    record {
+      progress = subst (λ (found : List ScriptLine). Progress c.args.lines.items c.args.cluster.now c.args.caller.now [] found c.args.cluster.now c.args.caller.now) (sym c.requires.none)
+          (begins _ c.args.lines.items c.args.cluster.now c.args.caller.now c.requires.script);
+    }
+
+pub returns-in_err-answer-clause-front : goal.returns-in_err-answer-clause-front
+returns-in_err-answer-clause-front g c =
+    on-err c.from_residual.result (stopped _ _ _ c.loop-line.yielded c.loop-line.printed.items c.loop-line.printed.items c.loop-line.cluster c.loop-line.caller c.do_line.new.caller c.loop-line.invariant.progress refl c.do_line.ensures.on)
+
+pub returns-in_err-answer-clause-on : goal.returns-in_err-answer-clause-on
+returns-in_err-answer-clause-on g c = on-all _ _ _ c.loop-line.invariant.progress.on c.do_line.ensures.on
+
+pub returns-in_err-answer-clause-cluster : goal.returns-in_err-answer-clause-cluster
+returns-in_err-answer-clause-cluster g c = op-trans _ _ _ c.loop-line.invariant.progress.cluster c.do_line.ensures.cluster
+
+pub loop-line-preserved : goal.loop-line-preserved
+loop-line-preserved g c =
+    let gives = c.into_iter-line-iterator.ensures.into_iter_gives in
+    let turn = YieldsList-turn (YieldsList-from_vec {s = c.into_iter-line-iterator.result} c.args.lines.items gives.0 (first_of (search rules, grind (arith, common_steps)))) c.loop-line.yielded c.loop-line.line-iterator c.loop-line.yielded_by c.next.result c.next.new.self c.in-Some.line c.in-Some.is c.next.ensures.steps in
+    record {
+      progress =
+          does c.args.lines.items c.args.cluster.now c.args.caller.now c.loop-line.yielded c.loop-line.printed.items c.loop-line.cluster c.loop-line.caller c.in-Some.line c.in_ok-answer.answer c.note.new.printed.items c.do_line.new.cluster c.do_line.new.caller
+          c.loop-line.invariant.progress turn.0 turn.1 c.in_ok-answer.ensures.line c.in_ok-note.ensures.noted c.do_line.ensures.on c.do_line.ensures.turnstiles c.do_line.ensures.cluster;
+    }
+
+pub returns-in_err-note-clause-front : goal.returns-in_err-note-clause-front
+returns-in_err-note-clause-front g c =
+    on-err c.from_residual-in_err-note.result (stopped _ _ _ c.loop-line.yielded c.loop-line.printed.items c.note.new.printed.items c.loop-line.cluster c.loop-line.caller c.do_line.new.caller c.loop-line.invariant.progress c.in_err-note.ensures.same c.do_line.ensures.on)
+
+pub returns-in_err-note-clause-on : goal.returns-in_err-note-clause-on
+returns-in_err-note-clause-on g c = on-all _ _ _ c.loop-line.invariant.progress.on c.do_line.ensures.on
+
+pub returns-in_err-note-clause-cluster : goal.returns-in_err-note-clause-cluster
+returns-in_err-note-clause-cluster g c = op-trans _ _ _ c.loop-line.invariant.progress.cluster c.do_line.ensures.cluster
+
+pub returns : goal.returns
+returns g c =
+    let far = c.loop-line.invariant.progress in
+    let waits = c.wait_until_quiet.ensures in
+    let gives = c.into_iter-line-iterator.ensures.into_iter_gives in
+    let ending = YieldsList-end (YieldsList-from_vec {s = c.into_iter-line-iterator.result} c.args.lines.items gives.0 (first_of (search rules, grind (arith, common_steps)))) c.loop-line.yielded c.loop-line.line-iterator c.loop-line.yielded_by c.next.result c.next.new.self c.in-None.is c.next.ensures.steps in
+    let whole = sym (map-same c.loop-line.yielded) ∙ ending.0 in
+    record {
+      all = on-ok c.wait_until_quiet.result (λ quiet. done-all _ _ _ c.loop-line.yielded c.loop-line.printed.items c.loop-line.cluster c.loop-line.caller c.wait_until_quiet.new.caller far whole waits.on waits.told quiet) waits.quiet;
+      front = on-err c.wait_until_quiet.result (stopped _ _ _ c.loop-line.yielded c.loop-line.printed.items c.loop-line.printed.items c.loop-line.cluster c.loop-line.caller c.wait_until_quiet.new.caller far refl waits.on);
+      on = on-all _ _ _ far.on waits.on;
+      turnstiles = waits.turnstiles ∙ far.at;
+      cluster = far.cluster;
+    }

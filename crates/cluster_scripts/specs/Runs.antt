@@ -1,0 +1,125 @@
+-- What a script does on a cluster, and what a run of it prints.
+use Rattle.std.specs.Prelude.{◌≡◌, ℕ, true, false, List, [], ◌∷◌, ◌++◌, map, fold, Some, None, slice_get}
+use Rattle.std.specs.List.{AllByRecursion, flat_map, range_with_len}
+use Rattle.stream_model.specs.declared.op.Op.{Op}
+use Rattle.stream_model.specs.declared.reply.Reply.{Reply}
+use Rattle.turnstile.specs.declared.history.Entry.{Entry}
+use Rattle.shared_partition.specs.Partitions.{told_of}
+use Rattle.silo_loops.specs.Lines.{QueuePass}
+use Rattle.cluster_callers.specs.Calls.{IsUnused}
+use Rattle.cluster_ending.specs.declared.closing.Traces.{Traces}
+use Rattle.cluster_ending.specs.declared.finishing.Finished.{Finished}
+use Rattle.cluster_ending.specs.declared.finishing.Finished.TheVariants as finished
+use Rattle.stream_cluster.specs.declared.config.Config.{Config}
+use Rattle.stream_cluster.specs.Clusters.{ClusterView, is_fixed}
+use Rattle.script_laws.specs.declared.line.Line.{Line}
+use Rattle.script_laws.specs.declared.script_line.ScriptLine.{ScriptLine}
+use Rattle.script_laws.specs.declared.script_line.ScriptLine.TheVariants as printed
+use Rattle.script_laws.specs.ScriptReport.{line_text, live_silos, script_lines, script_report}
+use Rattle.script_laws.specs.Told as script
+use Rattle.script_producer.specs.Telling.{AloneProduces, BeginsEmpty, HasTold, LooksQuiet}
+use Rattle.cluster_scripts.specs.declared.outcome.Ran.{Ran}
+use Rattle.cluster_scripts.specs.declared.outcome.RunEnd.{RunEnd}
+use Rattle.cluster_scripts.specs.declared.outcome.RunEnd.TheVariants as ends
+use Rattle.cluster_scripts.specs.declared.outcome.Unfinished.{Unfinished}
+use Rattle.cluster_scripts.specs.declared.outcome.Unfinished.TheVariants as unfinished
+use Rattle.cluster_scripts.specs.declared.running.ScriptEnd.{ScriptEnd}
+use Rattle.cluster_scripts.specs.declared.running.ScriptEnd.TheVariants as end
+use Rattle.cluster_scripts.specs.declared.running.ScriptRun.{ScriptRun}
+
+-- the lines whose start token was refused, and then this one where it is such a line
+abbrev pub with_printed : List ℕ → ScriptLine → List ℕ
+with_printed missed (printed.Miss line) = line ∷ missed
+with_printed missed (printed.Refused line) = missed
+
+-- the lines whose start token was refused, by what was printed of them, the last first
+abbrev pub missed_in : List ScriptLine → List ℕ
+missed_in lines = fold with_printed [] lines
+
+-- the lines of a script were done that printed this: it is what the script says
+abbrev pub IsPrinted : ℕ → List Line → List ScriptLine → Type 0
+IsPrinted silos lines found = found ≡ script_lines (missed_in found) silos lines
+
+-- The first so many silos live, the turnstiles began with empty partitions, and the caller has made no call.
+pub record IsUntouched (silos : ℕ) (v : ClusterView) (caller : List QueuePass) : Type 0 where
+  pub live : v.operator.live ≡ range_with_len 0 silos
+  pub empty : AllByRecursion BeginsEmpty caller
+  pub unused : AllByRecursion IsUnused caller
+
+-- A front of the lines of a script was done. Where nobody else has produced, they printed what the script says.
+pub record DoesFront (lines : List Line) (v : ClusterView) (old : List QueuePass) (found : List ScriptLine) (new : List QueuePass) : Type 0 where
+  pub done : List Line
+  pub left : List Line
+  pub whole : lines ≡ done ++ left
+  pub printed : (silos : ℕ) → IsUntouched silos v old → AloneProduces new → IsPrinted silos done found
+
+-- All lines of a script were done, and in one look after them each queue was quiet. Where nobody else has produced, they
+-- printed what the script says, its producer was told what it says, and the silos live that it says.
+pub record DoesAll (lines : List Line) (v : ClusterView) (old : List QueuePass) (found : List ScriptLine) (w : ClusterView) (new : List QueuePass) : Type 0 where
+  pub quiet : LooksQuiet old new
+  pub printed : (silos : ℕ) → IsUntouched silos v old → AloneProduces new → IsPrinted silos lines found
+  pub told : (silos : ℕ) → IsUntouched silos v old → AloneProduces new → HasTold (missed_in found) lines new
+  pub live : (silos : ℕ) → IsUntouched silos v old → w.operator.live ≡ live_silos silos lines
+
+-- nothing was done
+pub record DoesNothing (v : ClusterView) (old : List QueuePass) (found : List ScriptLine) (w : ClusterView) (new : List QueuePass) : Type 0 where
+  pub printed : found ≡ []
+  pub cluster : w ≡ v
+  pub caller : new ≡ old
+
+-- What `run_script` does, by how the script has ended.
+abbrev pub EndsScript : ScriptEnd → List Line → ClusterView → List QueuePass → List ScriptLine → ClusterView → List QueuePass → Type 0
+EndsScript end.Done lines v old found w new = (is_fixed v ≡ false) × DoesAll lines v old found w new
+EndsScript end.Limit lines v old found w new = (is_fixed v ≡ false) × DoesFront lines v old found new
+EndsScript end.NotQuiet lines v old found w new = (is_fixed v ≡ false) × DoesFront lines v old found new
+EndsScript end.Halted lines v old found w new = (is_fixed v ≡ true) × DoesNothing v old found w new
+
+-- what `run_script` answers
+abbrev pub AnswersScript : List Line → ClusterView → List QueuePass → ScriptRun → ClusterView → List QueuePass → Type 0
+AnswersScript lines v old ran w new = EndsScript ran.end lines v old ran.printed.items w new
+
+module _ {H : Type 0} (entries : H → List (Entry Op Reply)) where
+  -- At each queue producers asked and were told what the script tells.
+  abbrev pub TraceScript : List ℕ → List Line → Traces H → Type 0
+  TraceScript missed lines traces =
+      (queue : ℕ) (history : List (Entry Op Reply)) → slice_get (map entries traces.histories.items) queue ≡ Some history
+      → script.producers_entries (told_of history) ≡ script.told missed queue lines
+
+  -- What a run has printed that ended so, and its report. A run without a report did a front of the lines; where passes
+  -- are missing nothing is said.
+  abbrev pub EndsRun : Config → List Line → List ScriptLine → RunEnd H → Type 0
+  EndsRun config lines found (ends.Report text traces) =
+      IsPrinted config.silos lines found × (text.items ≡ script_report config.queues (missed_in found) lines)
+      × TraceScript (missed_in found) lines traces
+  EndsRun config lines found (ends.Unfinished why (Some traces)) =
+      (done left : List Line) × (lines ≡ done ++ left) × IsPrinted config.silos done found
+  EndsRun config lines found (ends.Unfinished why None) = Unit {0}
+
+  -- A run of a script prints what the script says of the lines that were done. Where it ends with a report these are all
+  -- lines, the report is the script's, and so is what producers asked and were told at each queue.
+  abbrev pub RunsScript : Config → List Line → Ran H → Type 0
+  RunsScript config lines ran = EndsRun config lines ran.printed.items ran.end
+
+-- Why a run has no report, by how its script and its cluster have ended: a limit goes first, then too many rounds.
+abbrev pub why_after : ScriptEnd → Unfinished → Unfinished
+why_after end.Limit why = unfinished.Limit
+why_after end.Halted why = unfinished.Limit
+why_after _ why = why
+
+-- how a run has ended, by how its script and its cluster have ended
+abbrev pub run_end : {H : Type 0} → Finished H → ScriptEnd → RunEnd H
+run_end (finished.Report text traces) end.Done = ends.Report text traces
+run_end (finished.Report text traces) how = ends.Unfinished (why_after how unfinished.NotQuiet) (Some traces)
+run_end (finished.NotQuiet queue why traces) how = ends.Unfinished (why_after how unfinished.NotQuiet) (Some traces)
+run_end (finished.RoundLimit traces) how = ends.Unfinished (why_after how unfinished.RoundLimit) (Some traces)
+run_end (finished.Limit traces) how = ends.Unfinished (why_after how unfinished.Limit) (Some traces)
+run_end (finished.NotAll queue missing) how = ends.Unfinished unfinished.Limit None
+run_end finished.InUse how = ends.Unfinished unfinished.Limit None
+
+-- what goes out of a run: its lines, and the report where there is one
+abbrev pub report_in : {H : Type 0} → RunEnd H → List ℕ
+report_in (ends.Report text traces) = text.items
+report_in (ends.Unfinished why traces) = []
+
+abbrev pub text_of : {H : Type 0} → Ran H → List ℕ
+text_of ran = flat_map line_text ran.printed.items ++ report_in ran.end

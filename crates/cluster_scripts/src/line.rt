@@ -1,0 +1,135 @@
+//! One line of a script.
+ghost use Rattle.std.specs.Prelude.{◌≡◌, ◌≢◌, ◌<◌, ◌≤◌, length, Ok, IfOk, OnOk};
+ghost use Rattle.std.specs.List.{AllZip};
+ghost use Rattle.cluster_callers.specs.Calls.{turnstiles};
+ghost use Rattle.script_parser.specs.declared.command.Command.TheVariants as command;
+ghost use Rattle.script_producer.specs.declared.answer.Answer.TheVariants as answer;
+ghost use Rattle.script_producer.specs.Telling.{HasGoneOn, LooksQuiet, Tells};
+ghost use Rattle.script_reader.specs.Scripts.{IsRunCommand};
+ghost use Rattle.cluster_operator.specs.Operators.{OperatorGoesOn};
+ghost use Rattle.cluster_scripts.specs.Lines.{ChangesBy, DoesLine};
+
+use activation_directory::{DirectoryOp, DirectoryReply};
+use cluster_callers::Caller;
+use script_parser::Command;
+use script_producer::{Answer, Drained, ask, ask_each, drain};
+use shared_partition::Gate;
+use std::alloc::{AllocError, Global};
+use std::sync::Wait;
+use std::thread::Threads;
+use stream_cluster::{Cluster, SiloDown, SiloUp};
+use stream_model::{Op, Reply};
+use turnstile::StoredHistory;
+
+/// Why a script isn't done to its end.
+#[derive(Clone, Copy, Debug, PartialEq, Eq)]
+pub(crate) enum Stop {
+    /// A limit is reached.
+    Limit,
+    /// Not all queues got quiet.
+    NotQuiet,
+    /// A call failed to allocate.
+    Memory,
+}
+
+// A silo comes by a line.
+fn up<
+    G: Gate + 'static,
+    H: StoredHistory<Op, Reply> + Send + 'static,
+    D: StoredHistory<DirectoryOp, DirectoryReply> + Send + 'static,
+    R: Threads + Wait + Copy + Send + 'static,
+>(rt: &R, alloc: Global, cluster: &mut Cluster<G, H, D>, silo: u8) -> Result<Answer, Stop>
+    requires { silo < 16 }
+    ensures changes { IfOk result (λ told. ChangesBy cluster.old (command.Up silo) told cluster.new) }
+    ensures cluster { OperatorGoesOn cluster.old.operator cluster.new.operator }
+{
+    match cluster.silo_up(rt, alloc, silo) {
+        Ok(SiloUp::Up) => Ok(Answer::Taken),
+        Ok(SiloUp::Already) => Ok(Answer::Refused),
+        Ok(SiloUp::Limit | SiloUp::Halted) => Err(Stop::Limit),
+        Err(_) => Err(Stop::Memory),
+    }
+}
+
+// A silo goes by a line.
+fn down<
+    G: Gate,
+    H: StoredHistory<Op, Reply>,
+    D: StoredHistory<DirectoryOp, DirectoryReply>,
+    R: Threads + Wait,
+>(rt: &R, alloc: Global, cluster: &mut Cluster<G, H, D>, silo: u8) -> Result<Answer, Stop>
+    requires { silo < 16 }
+    ensures changes { IfOk result (λ told. ChangesBy cluster.old (command.Down silo) told cluster.new) }
+    ensures cluster { OperatorGoesOn cluster.old.operator cluster.new.operator }
+{
+    match cluster.silo_down(rt, alloc, silo) {
+        Ok(SiloDown::Down) => Ok(Answer::Taken),
+        Ok(SiloDown::NotLive) => Ok(Answer::Refused),
+        Ok(SiloDown::LastSilo) => Ok(Answer::Refused),
+        Ok(SiloDown::Limit | SiloDown::Halted) => Err(Stop::Limit),
+        Err(_) => Err(Stop::Memory),
+    }
+}
+
+/// Does one line of a script. A line that is stopped may be done in part.
+pub(crate) fn do_line<
+    G: Gate + 'static,
+    H: StoredHistory<Op, Reply> + Send + 'static,
+    D: StoredHistory<DirectoryOp, DirectoryReply> + Send + 'static,
+    R: Threads + Wait + Copy + Send + 'static,
+>(
+    rt: &R,
+    alloc: Global,
+    cluster: &mut Cluster<G, H, D>,
+    caller: &mut Caller<G, H>,
+    command: Command,
+) -> Result<Answer, Stop>
+    requires some { 1 ≤ length caller.old }
+    requires command { IsRunCommand (length caller.old) command }
+    ensures line { IfOk result (λ told. DoesLine cluster.old caller.old command told cluster.new caller.new) }
+    ensures on { AllZip HasGoneOn caller.old caller.new }
+    ensures turnstiles { turnstiles caller.new ≡ turnstiles caller.old }
+    ensures cluster { OperatorGoesOn cluster.old.operator cluster.new.operator }
+{
+    match command {
+        Command::Step { queue, op } => unless_limit(ask(rt, alloc, caller, queue, op)),
+        Command::Each(each) => unless_limit(ask_each(rt, alloc, caller, &each)),
+        Command::Drain => {
+            wait_until_quiet(rt, alloc, caller)?;
+            Ok(Answer::Taken)
+        }
+        Command::Up { silo } => up(rt, alloc, cluster, silo),
+        Command::Down { silo } => down(rt, alloc, cluster, silo),
+        Command::Report => Ok(Answer::Taken),
+    }
+}
+
+// An answer that isn't a limit.
+fn unless_limit(asked: Result<Answer, AllocError>) -> Result<Answer, Stop>
+    ensures { IfOk result (λ taken. (asked ≡ Ok taken) × (taken ≢ answer.Limit)) }
+{
+    match asked {
+        Ok(Answer::Limit) => Err(Stop::Limit),
+        Ok(taken) => Ok(taken),
+        Err(_) => Err(Stop::Memory),
+    }
+}
+
+/// Waits until all queues are quiet.
+pub(crate) fn wait_until_quiet<G: Gate, H: StoredHistory<Op, Reply>, R: Wait>(
+    rt: &R,
+    alloc: Global,
+    caller: &mut Caller<G, H>,
+) -> Result<(), Stop>
+    ensures told { Tells caller.old command.Drain answer.Taken caller.new }
+    ensures quiet { OnOk result (LooksQuiet caller.old caller.new) }
+    ensures on { AllZip HasGoneOn caller.old caller.new }
+    ensures turnstiles { turnstiles caller.new ≡ turnstiles caller.old }
+{
+    match drain(rt, alloc, caller) {
+        Ok(Drained::Quiet) => Ok(()),
+        Ok(Drained::NotQuiet) => Err(Stop::NotQuiet),
+        Ok(Drained::Limit) => Err(Stop::Limit),
+        Err(_) => Err(Stop::Memory),
+    }
+}
