@@ -1,5 +1,5 @@
 -- What a line does, by what it asks for.
-use Rattle.std.proofs.Common.{◌≡◌, ◌≢◌, ℕ, List, [], ◌∷◌, Option, None, Result, Ok, Err, IfOk, refl, sym, ap, subst, ◌∙◌}
+use Rattle.std.proofs.Common.{◌≡◌, ◌≢◌, ℕ, List, Option, None, Result, Ok, Err, IfOk, sym, ap, subst, ◌∙◌}
 use Rattle.std.specs.declared.alloc.AllocError.{AllocError}
 use Rattle.stream_model.specs.declared.op.Op.{Op}
 use Rattle.silo_loops.specs.Lines.{QueuePass}

@@ -1,11 +1,10 @@
 -- How far a script is done.
-use Rattle.std.proofs.Common.{◌≡◌, ◌≢◌, ℕ, zero, suc, ◌+◌, ◌<◌, ◌≤◌, Bool, true, false, ◌||◌, Contains, List, [], ◌∷◌, ◌++◌, map, Result, Ok, Err, OnErr, OnOk, length, get_or, Some, fold, refl, sym, ap, subst, ◌∙◌, arith, append_assoc, ◌==◌}
+use Rattle.std.proofs.Common.{◌≡◌, ◌≢◌, ℕ, zero, suc, ◌+◌, ◌<◌, ◌≤◌, true, false, ◌||◌, Contains, List, [], ◌∷◌, ◌++◌, map, Result, Ok, Err, OnErr, OnOk, length, get_or, refl, sym, ap, subst, ◌∙◌, arith, append_assoc, ◌==◌}
 use Rattle.std.proofs.lemmas.Bool.{ne_eqb}
 use Rattle.std.proofs.lemmas.List.{append-nil}
 use Rattle.std.proofs.lemmas.List.Kept.{AllPairs-cons}
 use Rattle.std.proofs.lemmas.List.Sums.{fold-append}
 use Rattle.std.specs.List.{AllByRecursion, AllZip, range_with_len}
-use Rattle.std.specs.Prelude.{slice_get}
 use Rattle.queue_balancer.specs.Balance.{HasNoDoubles}
 use Rattle.stream_model.specs.Producers.{is_producer}
 use Rattle.turnstile.specs.Calls.{numbers_of}
@@ -13,7 +12,7 @@ use Rattle.silo_loops.specs.Lines.{QueuePass}
 use Rattle.silo_loops.proofs.Owning.{owns-foreign}
 use Rattle.cluster_callers.specs.Calls.{IsUnused, turnstiles}
 use Rattle.cluster_ending.proofs.Looking.{turnstiles-length}
-use Rattle.cluster_ending.proofs.Rows.{all-at, all-get, all-push, all-weaker, zip-at, zip-refl, zip-trans}
+use Rattle.cluster_ending.proofs.Rows.{all-at, all-get, all-push, all-weaker, zip-refl, zip-trans}
 use Rattle.cluster_operator.specs.Operators.{OperatorGoesOn}
 use Rattle.stream_cluster.specs.Clusters.{ClusterView}
 use Rattle.stream_cluster.proofs.Standing.{op-refl, op-trans}

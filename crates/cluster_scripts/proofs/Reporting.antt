@@ -1,5 +1,5 @@
 -- What a run prints, by what its script did and how its cluster has ended.
-use Rattle.std.proofs.Common.{◌≡◌, ◌⊎◌, ℕ, zero, suc, ◌+◌, inl, inr, true, false, List, [], ◌∷◌, ◌++◌, length, map, Contains, Option, Some, None, codes, refl, sym, ap, subst, ◌∙◌, add-one, arith}
+use Rattle.std.proofs.Common.{◌≡◌, ℕ, suc, ◌+◌, inl, inr, true, false, List, [], ◌∷◌, ◌++◌, length, map, Contains, Some, codes, refl, sym, ap, subst, ◌∙◌, add-one, arith}
 use Rattle.std.proofs.lemmas.Bool.{true≢false}
 use Rattle.std.proofs.lemmas.List.{append-nil, length-map}
 use Rattle.std.specs.List.{AllByRecursion, AllZip, flat_map, range_with_len}
@@ -16,26 +16,25 @@ use Rattle.shared_partition.specs.Partitions.{told_of}
 use Rattle.silo_loops.specs.Lines.{LineView, QueuePass, places}
 use Rattle.silo_loops.proofs.Owning.{owns-foreign}
 use Rattle.cluster_callers.specs.Calls.{turnstiles}
-use Rattle.cluster_ending.specs.declared.closing.Traces.{Traces}
 use Rattle.cluster_ending.specs.declared.finishing.Finished.{Finished}
 use Rattle.cluster_ending.specs.declared.finishing.Finished.TheVariants as finished
 use Rattle.cluster_ending.specs.Closing.{AreTraces, IsTraceOf}
-use Rattle.cluster_ending.specs.Finishing.{CallersAloneProduce, HasBegun, HaveBegun, IsDone}
+use Rattle.cluster_ending.specs.Finishing.{CallersAloneProduce, HasBegun, IsDone}
 use Rattle.cluster_ending.proofs.Looking.{turnstiles-length}
 use Rattle.cluster_ending.proofs.Rows.{zip-at}
 use Rattle.script_printer.specs.Report.{queue_report, report_from}
 use Rattle.stream_cluster.specs.declared.config.Config.{Config}
-use Rattle.stream_cluster.specs.Clusters.{ClusterView, HasFinished, IsAtQueue, IsConfig, IsNew, IsOpened}
+use Rattle.stream_cluster.specs.Clusters.{ClusterView, HasFinished, IsAtQueue, IsConfig, IsNew}
 use Rattle.script_laws.specs.declared.line.Line.{Line}
 use Rattle.script_laws.specs.declared.script_line.ScriptLine.{ScriptLine}
-use Rattle.script_laws.specs.ScriptReport.{script_report, told_report}
+use Rattle.script_laws.specs.ScriptReport.{told_report}
 use Rattle.script_laws.specs.Told as script
 use Rattle.script_laws.proofs.QuietReports.{script-told}
-use Rattle.script_producer.specs.Telling.{AloneProduces, BeginsEmpty, HasGoneOn, HasTold, ProducesAlone, told_at}
+use Rattle.script_producer.specs.Telling.{AloneProduces, BeginsEmpty, HasGoneOn, HasTold, ProducesAlone}
 use Rattle.script_producer.proofs.Seen.{none-told}
 use Rattle.cluster_scripts.specs.declared.running.ScriptEnd.{ScriptEnd}
 use Rattle.cluster_scripts.specs.declared.running.ScriptEnd.TheVariants as end
-use Rattle.cluster_scripts.specs.Runs.{DoesAll, DoesFront, EndsRun, EndsScript, IsPrinted, IsUntouched, TraceScript, missed_in, run_end}
+use Rattle.cluster_scripts.specs.Runs.{EndsRun, EndsScript, IsPrinted, IsUntouched, missed_in, run_end}
 use Rattle.cluster_scripts.proofs.Progress.{alone-back}
 
 -- ---- a new cluster

@@ -1,16 +1,15 @@
 -- What a line of a script does on a cluster.
-use Rattle.std.specs.Prelude.{◌≡◌, ℕ, false, List, [], ◌∷◌, ◌++◌}
-use Rattle.std.specs.List.{AllByRecursion, AllZip}
+use Rattle.std.specs.Prelude.{◌≡◌, ℕ, List, [], ◌∷◌, ◌++◌}
+use Rattle.std.specs.List.{AllByRecursion}
 use Rattle.queue_balancer.specs.Balance.{HasNoDoubles}
 use Rattle.silo_loops.specs.Lines.{QueuePass}
 use Rattle.cluster_operator.specs.Operators.{OperatorGoesOn}
-use Rattle.stream_cluster.specs.Clusters.{ClusterView, is_fixed}
+use Rattle.stream_cluster.specs.Clusters.{ClusterView}
 use Rattle.script_parser.specs.declared.command.Command.{Command}
 use Rattle.script_laws.specs.declared.line.Line.{Line}
 use Rattle.script_laws.specs.ScriptReport.{command_printed, live_after, live_silos}
 use Rattle.script_producer.specs.declared.answer.Answer.{Answer}
-use Rattle.script_producer.specs.declared.answer.Answer.TheVariants as answer
-use Rattle.script_producer.specs.Telling.{AloneProduces, BeginsEmpty, HasGoneOn, HasTold, IsNewNumber, printed_lines, with_missed}
+use Rattle.script_producer.specs.Telling.{AloneProduces, BeginsEmpty, HasTold, IsNewNumber, printed_lines, with_missed}
 
 -- The silos that live are changed by a line that was answered so: they are then what the script says.
 abbrev pub ChangesLive : List ℕ → Command → List ℕ → Type 0
