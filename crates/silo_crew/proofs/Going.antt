@@ -9,7 +9,7 @@ use Rattle.turnstile.specs.History.{Foreign}
 use Rattle.turnstile.specs.Passes.{PassView}
 use Rattle.silo_loops.specs.Lines.{LineView, places}
 use Rattle.cluster_callers.specs.Calls.{AllZipFront}
-use Rattle.silo_crew.specs.Silos.{AreAlike, GoOn, GoesOn, IsMarked, IsSilent, IsSplitLine, LineGoesOn}
+use Rattle.silo_crew.specs.Silos.{AreAlike, GoOn, GoesOn, IsMarked, IsSilent, IsSplitLine, LineGoesOn, joined_line, joined_lines}
 use Rattle.cluster_callers.proofs.Fronts.{front-all, front-fits, front-last, front-push, front-set, front-weaker}
 
 -- the first of a longer list
@@ -144,6 +144,20 @@ join-next ls ms rest at l m is here all =
     let last = front-last AreAlike ls rest l m (subst (λ (es : List LineView). AllZipFront AreAlike ls es) is all) in
     let less : length rest < length ls = last.0 in
     (omega arith, λ read. last.1 ∙ ap (λ (w : LineView). w.pass.turnstile) (ap (λ n. get_or ls n l) (sym here) ∙ sym read))
+
+-- the last one is joined first
+joined-last : (ls ms : List LineView) (d m : LineView) → length ms < length ls → joined_lines ls (ms ++ m ∷ []) ≡ joined_lines (set ls (length ms) (joined_line (get_or ls (length ms) d) m)) ms
+joined-last [] ms d m less = absurd (omega arith)
+joined-last (l ∷ ls) [] d m less = refl
+joined-last (l ∷ ls) (x ∷ ms) d m less = ap (λ (es : List LineView). joined_line l x ∷ es) (joined-last ls ms d m (omega arith))
+
+-- what is left to be joined leads to the same
+pub joined-more : (ls ms rest new all : List LineView) (at : ℕ) (l m w : LineView) → ms ≡ rest ++ m ∷ [] → at ≡ length rest → AllZipFront AreAlike ls ms → l ≡ get_or ls at l → w ≡ joined_line l m → new ≡ set ls at w → joined_lines ls ms ≡ all → joined_lines new rest ≡ all
+joined-more ls ms rest new all at l m w is here alike read made put joined =
+    let last = front-last AreAlike ls rest l m (subst (λ (es : List LineView). AllZipFront AreAlike ls es) is alike) in
+    let this : w ≡ joined_line (get_or ls (length rest) l) m = made ∙ ap (λ (v : LineView). joined_line v m) (read ∙ ap (λ n. get_or ls n l) here) in
+    ap (λ (es : List LineView). joined_lines es rest) (put ∙ ap (λ n. set ls n w) here ∙ ap (λ (v : LineView). set ls (length rest) v) this)
+    ∙ sym (joined-last ls rest l m last.0) ∙ ap (λ (es : List LineView). joined_lines ls es) (sym is) ∙ joined
 
 pub join-more : (old ls ms rest new : List LineView) (at : ℕ) (l m w : LineView) → ms ≡ rest ++ m ∷ [] → at ≡ length rest → AllZipFront AreAlike ls ms → l ≡ get_or ls at l → w ≡ record l { pass = joined_pass l.pass m.pass } → Agree l.pass m.pass w.pass
     → new ≡ set ls at w → GoOn old ls → AllZipFront AreAlike new rest × GoOn old new

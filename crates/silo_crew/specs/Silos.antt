@@ -2,7 +2,7 @@
 use Rattle.std.specs.Prelude.{◌≡◌, ℕ, List, [], ◌∷◌, ◌++◌, length, Option, None}
 use Rattle.std.specs.List.{AllByRecursion, AllZip}
 use Rattle.turnstile.specs.declared.history.Entry.{Entry}
-use Rattle.turnstile.specs.Calls.{IsSplitOff}
+use Rattle.turnstile.specs.Calls.{IsSplitOff, joined_pass}
 use Rattle.turnstile.specs.History.{Foreign}
 use Rattle.turnstile.specs.Passes.{PassView}
 use Rattle.silo_loops.specs.Agents.{AgentView, HasSamePlaces}
@@ -32,6 +32,16 @@ GoOn old new = AllZip LineGoesOn old new
 -- two lines at one turnstile
 abbrev pub AreAlike : LineView → LineView → Type 0
 AreAlike l m = m.pass.turnstile ≡ l.pass.turnstile
+
+-- the pass of another line joined to this one's
+abbrev pub joined_line : LineView → LineView → LineView
+joined_line l m = record l { pass = joined_pass l.pass m.pass }
+
+-- the line at each place joined with the one at its place among the others, where there is one
+abbrev pub joined_lines : List LineView → List LineView → List LineView
+joined_lines ls [] = ls
+joined_lines [] (m ∷ ms) = []
+joined_lines (l ∷ ls) (m ∷ ms) = joined_line l m ∷ joined_lines ls ms
 
 -- nothing is new since the mark
 abbrev pub IsMarked : LineView → Type 0
@@ -72,6 +82,11 @@ pub record IsSiloAt (lines : List LineView) (d : DirectoryPass) (s : SiloView) :
   pub agent : IsAgentAt lines s.agent
   pub first : IsWorkerAt lines d s.first
   pub second : IsWorkerAt lines d s.second
+
+-- the passes of all loops of the silo were joined to those of these lines and to this pass at the directory
+pub record HaveJoined (s : SiloView) (ls : List LineView) (d : DirectoryPass) (new : List LineView) (e : DirectoryPass) : Type 0 where
+  pub lines : new ≡ joined_lines (joined_lines (joined_lines ls s.agent.lines) s.first.lines) s.second.lines
+  pub directory : e ≡ joined_pass (joined_pass d s.first.directory) s.second.directory
 
 -- the same silo, with its passes at the same turnstiles
 pub record IsSameSilo (s t : SiloView) : Type 0 where

@@ -3,7 +3,7 @@ ghost use Rattle.std.specs.Prelude.{◌≡◌, IfOk, OnOk};
 ghost use Rattle.silo_loops.specs.Lines.{places};
 ghost use Rattle.std.specs.List.{AllZip};
 ghost use Rattle.cluster_callers.specs.Calls.{AllZipFront};
-ghost use Rattle.silo_crew.specs.Silos.{AreAlike, GoOn, IsSplitLine};
+ghost use Rattle.silo_crew.specs.Silos.{AreAlike, GoOn, IsSplitLine, joined_lines};
 
 use shared_partition::Gate;
 use silo_loops::Line;
@@ -44,7 +44,8 @@ pub fn join_lines<G: Gate, H: StoredHistory<Op, Reply>>(
     others: Vec<Line<G, H>>,
 )
     requires { places others.items ≡ places lines.old.items }
-    ensures { GoOn lines.old.items lines.new.items }
+    ensures go_on { GoOn lines.old.items lines.new.items }
+    ensures joined { lines.new.items ≡ joined_lines lines.old.items others.items }
 {
     join_front(lines, others)
 }
@@ -55,7 +56,8 @@ fn join_front<G: Gate, H: StoredHistory<Op, Reply>>(
     mut others: Vec<Line<G, H>>,
 )
     requires { AllZipFront AreAlike lines.old.items others.items }
-    ensures { GoOn lines.old.items lines.new.items }
+    ensures go_on { GoOn lines.old.items lines.new.items }
+    ensures joined { lines.new.items ≡ joined_lines lines.old.items others.items }
 {
     while let Some(other) = others.pop() {
         let line = &mut lines[others.len()];

@@ -1,6 +1,7 @@
 //! The loops of a silo.
 ghost use Rattle.std.specs.Prelude.{◌≡◌, ◌<◌, length, IfOk};
-ghost use Rattle.silo_crew.specs.Silos.{GoOn, IsAgentAt, IsFresh, IsFreshAgent, IsFreshWorker, IsSilent, IsSiloAt, IsWorkerAt};
+ghost use Rattle.turnstile.specs.Calls.{joined_pass};
+ghost use Rattle.silo_crew.specs.Silos.{GoOn, HaveJoined, IsAgentAt, IsFresh, IsFreshAgent, IsFreshWorker, IsSilent, IsSiloAt, IsWorkerAt, joined_lines};
 
 use crate::lines::{join_lines, split_lines};
 use activation_directory::{DirectoryOp, DirectoryReply};
@@ -114,7 +115,8 @@ fn join_agent<G: Gate, H: StoredHistory<Op, Reply>>(
     agent: AgentLoop<G, H>,
 )
     requires { IsAgentAt lines.old.items agent }
-    ensures { GoOn lines.old.items lines.new.items }
+    ensures go_on { GoOn lines.old.items lines.new.items }
+    ensures joined { lines.new.items ≡ joined_lines lines.old.items agent.lines }
 {
     join_lines(lines, agent.into_lines());
 }
@@ -128,6 +130,8 @@ fn join_worker<G: Gate, H: StoredHistory<Op, Reply>, D: StoredHistory<DirectoryO
     requires { IsWorkerAt lines.old.items directory.old worker }
     ensures go_on { GoOn lines.old.items lines.new.items }
     ensures directory { IsSilent directory.old directory.new }
+    ensures joined { lines.new.items ≡ joined_lines lines.old.items worker.lines }
+    ensures joined_directory { directory.new ≡ joined_pass directory.old worker.directory }
 {
     let (own, line) = worker.into_parts();
     join_lines(lines, own);
@@ -209,6 +213,7 @@ impl<G: Gate, H: StoredHistory<Op, Reply>, D: StoredHistory<DirectoryOp, Directo
         requires { IsSiloAt lines.old.items directory.old self }
         ensures go_on { GoOn lines.old.items lines.new.items }
         ensures directory { IsSilent directory.old directory.new }
+        ensures joined { HaveJoined self lines.old.items directory.old lines.new.items directory.new }
     {
         let SiloLoops {
             silo: _,

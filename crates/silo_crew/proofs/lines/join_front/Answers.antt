@@ -1,10 +1,11 @@
 use Rattle.std.proofs.Common.{arith, refl, rules, set}
 use Rattle.std.proofs.lemmas.Grind.{common_steps}
-use Rattle.silo_crew.proofs.Going.{goes-refl, join-more, join-next}
+use Rattle.silo_crew.specs.Silos.{joined_lines}
+use Rattle.silo_crew.proofs.Going.{goes-refl, join-more, join-next, joined-more}
 use Rattle.silo_crew.proofs.lines.join_front.Goals as goal
 
 pub loop-other-init : goal.loop-other-init
-loop-other-init g c = record { alike = c.requires; on = goes-refl c.args.lines.now.items }
+loop-other-init g c = record { alike = c.requires; on = goes-refl c.args.lines.now.items; joined = refl }
 
 pub index_mut-line-requires : goal.index_mut-line-requires
 index_mut-line-requires g c =
@@ -23,4 +24,6 @@ loop-other-preserved g c =
     let len = c.len.ensures in
     let more = join-more c.args.lines.now.items c.loop-other.lines.items c.loop-other.others.items c.pop.new.self.items (set c.loop-other.lines.items c.len.result c.join.new.self) c.len.result c.index_mut-line.result.now c.in-Some.other c.join.new.self c.in-Some.ensures.items (first_of (omega (arith, len), search rules, grind (arith, common_steps)))
     c.loop-other.invariant.alike c.index_mut-line.ensures.value c.join.ensures.joined c.join.ensures.agree refl c.loop-other.invariant.on in
-    record { alike = more.0; on = more.1 }
+    let joined = joined-more c.loop-other.lines.items c.loop-other.others.items c.pop.new.self.items (set c.loop-other.lines.items c.len.result c.join.new.self) (joined_lines c.args.lines.now.items c.args.others.items) c.len.result c.index_mut-line.result.now c.in-Some.other c.join.new.self c.in-Some.ensures.items (first_of (omega (arith, len), search rules, grind (arith, common_steps)))
+    c.loop-other.invariant.alike c.index_mut-line.ensures.value c.join.ensures.joined refl c.loop-other.invariant.joined in
+    record { alike = more.0; on = more.1; joined = joined }

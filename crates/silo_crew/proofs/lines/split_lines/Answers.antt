@@ -16,7 +16,7 @@ returns-in-Err-clause-go_on g c =
     let len = c.len-at-end.ensures in
     goes-trans c.args.lines.now.items _ c.join_front.new.lines.items
     (refused-on c.args.lines.now.items c.loop-at.lines.items _ c.loop-at.at c.index_mut-line.result.now c.split.new.self (first_of (omega (arith, below, len), search rules, grind (arith, common_steps))) c.loop-at.invariant.same
-    c.index_mut-line.ensures.value c.in-Err.ensures.made.0 refl) c.join_front.ensures
+    c.index_mut-line.ensures.value c.in-Err.ensures.made.0 refl) c.join_front.ensures.go_on
 
 pub loop-at-preserved : goal.loop-at-preserved
 loop-at-preserved g c =
