@@ -1,7 +1,7 @@
 //! What the operator of a cluster holds: passes of its own, the silos that live, and the silo of each queue.
 ghost use Rattle.std.specs.Prelude.{◌≡◌, ◌<◌, [], ◌∷◌, ◌++◌, length, remove, replicate, Contains, Some, slice_get, OnErr, OnOk, IfOk, MatchOption};
 ghost use Rattle.queue_balancer.specs.Balance.{HasNoDoubles, IsBalanced};
-ghost use Rattle.silo_crew.specs.Silos.{GoOn, IsFresh, IsSilent, IsSiloAt};
+ghost use Rattle.silo_crew.specs.Silos.{GoOn, HaveJoined, IsFresh, IsSilent, IsSiloAt};
 ghost use Rattle.cluster_operator.specs.Changes.{AreDeactivated, HasMade, HaveMoved, IsNoneLeft};
 ghost use Rattle.cluster_operator.specs.Operators.{HasOnlyGoneOn, HasSpread, OperatorGoesOn};
 
@@ -219,6 +219,7 @@ impl<G: Gate, H: StoredHistory<Op, Reply>, D: StoredHistory<DirectoryOp, Directo
         requires { IsSiloAt self.old.lines self.old.directory loops }
         ensures only { HasOnlyGoneOn self.old self.new }
         ensures silent { IsSilent self.old.directory self.new.directory }
+        ensures joined { HaveJoined loops self.old.lines self.old.directory self.new.lines self.new.directory }
     {
         loops.join_into(&mut self.lines, &mut self.directory)
     }
