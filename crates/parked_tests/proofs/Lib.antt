@@ -1,0 +1,2 @@
+mod Crew
+mod Whole
