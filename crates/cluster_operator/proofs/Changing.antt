@@ -1,25 +1,22 @@
 -- Lines whose passes make calls, one after another.
-use Rattle.std.proofs.Common.{◌≡◌, ◌≢◌, ℕ, zero, suc, ◌<◌, ◌≤◌, ◌+◌, ◌⊎◌, inl, inr, List, [], ◌∷◌, length, get_or, set, Option, Some, None, Result, Ok, Err, refl, sym, ap, subst, ◌∙◌, arith}
+use Rattle.std.proofs.Common.{◌≡◌, ◌≢◌, ℕ, zero, suc, ◌<◌, ◌≤◌, ◌+◌, ◌⊎◌, inl, inr, List, [], ◌∷◌, length, get_or, set, Some, Result, Ok, Err, refl, sym, ap, subst, ◌∙◌, arith}
 use Rattle.std.proofs.lemmas.Bool.{cases_lt}
 use Rattle.std.proofs.lemmas.Option.{slice_get-get_or, slice_get_within}
-use Rattle.std.specs.List.{slice_get, slice_index}
+use Rattle.std.specs.List.{slice_get}
 use Rattle.std.specs.Option.{unwrap_or}
 use Rattle.stream_ident.specs.declared.ident.GrainId.{GrainId}
 use Rattle.stream_model.specs.declared.op.Op.{Op}
 use Rattle.stream_model.specs.declared.reply.Reply.{Reply}
-use Rattle.activation_directory.specs.declared.op.DirectoryOp.{DirectoryOp}
 use Rattle.activation_directory.specs.declared.op.DirectoryOp.TheVariants as asked
-use Rattle.activation_directory.specs.declared.reply.DirectoryReply.{DirectoryReply}
 use Rattle.activation_directory.specs.declared.reply.DirectoryReply.TheVariants as directory
 use Rattle.shared_partition.specs.Directories as places
 use Rattle.silo_loops.specs.Lines.{DirectoryPass, LineView}
-use Rattle.silo_loops.specs.Passes.{CallsBy}
 use Rattle.silo_crew.specs.Silos.{GoOn, GoesOn, LineGoesOn}
-use Rattle.silo_crew.proofs.Going.{goes-refl, goes-set, goes-trans, on-refl, on-trans}
+use Rattle.silo_crew.proofs.Going.{goes-refl, goes-set, goes-trans}
 use Rattle.cluster_operator.specs.declared.halt.Halt.{Halt}
 use Rattle.cluster_operator.specs.declared.leaving.Release.{Release}
 use Rattle.cluster_operator.specs.declared.leaving.Release.TheVariants as release
-use Rattle.cluster_operator.specs.Changes.{AreDeactivated, AtEachQueue, HasMade, HasSince, HaveMoved, IsDeactivated, IsDeactivation, IsMove, IsNoneLeft, IsRelease, Releases}
+use Rattle.cluster_operator.specs.Changes.{AreDeactivated, AtEachQueue, HasMade, HasSince, IsDeactivated, IsDeactivation, IsNoneLeft, IsRelease, Releases}
 use Rattle.cluster_operator.proofs.Making.{goes-called, goes-longer, made-called, made-cases, made-earlier, made-later, made-none}
 
 one : (lines : List LineView) (k : ℕ) (l m : LineView) → slice_get lines k ≡ Some l → slice_get lines k ≡ Some m → l ≡ m

@@ -1,8 +1,7 @@
 -- What an operator keeps.
-use Rattle.std.proofs.Common.{◌≡◌, ◌≢◌, ℕ, zero, suc, ◌<◌, List, [], ◌∷◌, ◌++◌, length, get_or, Contains, remove, refl, sym, ap, subst, ◌∙◌, arith}
-use Rattle.std.proofs.lemmas.List.Quantifiers.{all_pairs_push, all_pairs_remove}
+use Rattle.std.proofs.Common.{◌≡◌, ◌≢◌, ℕ, zero, suc, ◌<◌, List, [], ◌∷◌, ◌++◌, length, get_or, Contains, refl, sym, ap, subst, ◌∙◌, arith}
+use Rattle.std.proofs.lemmas.List.Quantifiers.{all_pairs_push}
 use Rattle.queue_balancer.specs.Balance.{HasNoDoubles}
-use Rattle.silo_loops.specs.Lines.{LineView}
 use Rattle.silo_crew.specs.Silos.{GoOn}
 use Rattle.silo_crew.proofs.Going.{goes-length, goes-refl, goes-some, on-refl}
 use Rattle.cluster_operator.specs.Operators.{HasOnlyGoneOn, IsOperator, OperatorView}

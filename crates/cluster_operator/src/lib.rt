@@ -12,3 +12,6 @@ mod operator;
 
 pub use halt::Halt;
 pub use operator::{MOST_SILOS, Operator};
+
+#[cfg(test)]
+mod tests;

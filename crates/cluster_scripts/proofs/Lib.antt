@@ -1,4 +1,5 @@
 pub mod Changing
 pub mod Doing
+pub mod Histories
 pub mod Progress
 pub mod Reporting

@@ -1,10 +1,13 @@
 -- What a script does on a cluster, and what a run of it prints.
-use Rattle.std.specs.Prelude.{◌≡◌, ℕ, true, false, List, [], ◌∷◌, ◌++◌, map, fold, Some, None, slice_get}
-use Rattle.std.specs.List.{AllByRecursion, flat_map, range_with_len}
+use Rattle.std.specs.Prelude.{◌≡◌, ℕ, true, false, List, [], ◌∷◌, ◌++◌, length, map, fold, Some, None, slice_get}
+use Rattle.std.specs.List.{AllByRecursion, AllZip, flat_map, range_with_len}
 use Rattle.stream_model.specs.declared.op.Op.{Op}
+use Rattle.stream_model.specs.declared.plain.PlainPartition.{PlainPartition}
 use Rattle.stream_model.specs.declared.reply.Reply.{Reply}
+use Rattle.stream_model.specs.Positions.{empty}
 use Rattle.turnstile.specs.declared.history.Entry.{Entry}
-use Rattle.shared_partition.specs.Partitions.{told_of}
+use Rattle.turnstile.specs.History.{IsLegal, replay}
+use Rattle.shared_partition.specs.Partitions.{TellsOneHistory, after, replied, told_of}
 use Rattle.silo_loops.specs.Lines.{QueuePass}
 use Rattle.cluster_callers.specs.Calls.{IsUnused}
 use Rattle.cluster_ending.specs.declared.closing.Traces.{Traces}
@@ -78,12 +81,32 @@ EndsScript end.Halted lines v old found w new = (is_fixed v ≡ true) × DoesNot
 abbrev pub AnswersScript : List Line → ClusterView → List QueuePass → ScriptRun → ClusterView → List QueuePass → Type 0
 AnswersScript lines v old ran w new = EndsScript ran.end lines v old ran.printed.items w new
 
+-- The history of a queue is legal from the empty partition of the configuration, and the partition is what it leaves. So
+-- the headline holds of it, and each law of every legal history.
+pub record IsLegalHistory (config : Config) (history : List (Entry Op Reply)) (partition : PlainPartition) : Type 0 where
+  pub legal : IsLegal replied after (empty config.blocks config.limits) history
+  pub leaves : partition ≡ replay replied after (empty config.blocks config.limits) history
+  pub headline : TellsOneHistory history
+
+-- In the history of each queue producers asked and were told what the script tells.
+abbrev pub TellScript : List ℕ → List Line → List (List (Entry Op Reply)) → Type 0
+TellScript missed lines histories =
+    (queue : ℕ) (history : List (Entry Op Reply)) → slice_get histories queue ≡ Some history → script.producers_entries (told_of history) ≡ script.told missed queue lines
+
 module _ {H : Type 0} (entries : H → List (Entry Op Reply)) where
-  -- At each queue producers asked and were told what the script tells.
+  -- there is a history for each queue, and it is legal
+  pub record AreLegal (config : Config) (traces : Traces H) : Type 0 where
+    pub count : length traces.histories.items ≡ config.queues
+    pub each : AllZip (IsLegalHistory config) (map entries traces.histories.items) traces.partitions.items
+
+  -- so it is with those that a run has left, where all passes came back
+  abbrev pub LeavesLegalTraces : Config → RunEnd H → Type 0
+  LeavesLegalTraces config (ends.Report text traces) = AreLegal config traces
+  LeavesLegalTraces config (ends.Unfinished why (Some traces)) = AreLegal config traces
+  LeavesLegalTraces config (ends.Unfinished why None) = Unit {0}
+
   abbrev pub TraceScript : List ℕ → List Line → Traces H → Type 0
-  TraceScript missed lines traces =
-      (queue : ℕ) (history : List (Entry Op Reply)) → slice_get (map entries traces.histories.items) queue ≡ Some history
-      → script.producers_entries (told_of history) ≡ script.told missed queue lines
+  TraceScript missed lines traces = TellScript missed lines (map entries traces.histories.items)
 
   -- What a run has printed that ended so, and its report. A run without a report did a front of the lines; where passes
   -- are missing nothing is said.

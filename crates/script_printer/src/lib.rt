@@ -1,7 +1,7 @@
 //! What a script's simulation prints: the texts of replies, of the ends of drains, and of the report.
 #![tactic(auto)]
 
-mod parts;
+pub mod parts;
 mod report;
 mod text;
 

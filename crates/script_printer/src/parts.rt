@@ -11,14 +11,20 @@ use std::alloc::AllocError;
 use stream_ident::{GrainId, Name, Payload, StreamId, SubName, Token};
 
 /// Appends a text.
-pub(crate) fn push_text(text: &[u8], out: &mut Vec<u8>) -> Result<(), AllocError>
+///
+/// # Errors
+/// The call failed to allocate, and a front of what it appends may stay.
+pub fn push_text(text: &[u8], out: &mut Vec<u8>) -> Result<(), AllocError>
     ensures { Writes out.old.items out.new.items result text.now }
 {
     out.extend_from_slice(text)
 }
 
 /// Appends a text, and behind it a number in decimal.
-pub(crate) fn push_count(before: &[u8], count: u64, out: &mut Vec<u8>) -> Result<(), AllocError>
+///
+/// # Errors
+/// The call failed to allocate, and a front of what it appends may stay.
+pub fn push_count(before: &[u8], count: u64, out: &mut Vec<u8>) -> Result<(), AllocError>
     ensures { Writes out.old.items out.new.items result (before.now ++ decimal count) }
 {
     push_text(before, out)?;
@@ -27,7 +33,10 @@ pub(crate) fn push_count(before: &[u8], count: u64, out: &mut Vec<u8>) -> Result
 }
 
 /// Appends a text, and behind it a token.
-pub(crate) fn push_placed(before: &[u8], token: Token, out: &mut Vec<u8>) -> Result<(), AllocError>
+///
+/// # Errors
+/// The call failed to allocate, and a front of what it appends may stay.
+pub fn push_placed(before: &[u8], token: Token, out: &mut Vec<u8>) -> Result<(), AllocError>
     ensures { Writes out.old.items out.new.items result (before.now ++ token_text token) }
 {
     push_count(before, token.seq, out)?;
@@ -35,7 +44,10 @@ pub(crate) fn push_placed(before: &[u8], token: Token, out: &mut Vec<u8>) -> Res
 }
 
 /// Appends a text, and behind it a name.
-fn push_name(before: &[u8], name: &Name, out: &mut Vec<u8>) -> Result<(), AllocError>
+///
+/// # Errors
+/// The call failed to allocate, and a front of what it appends may stay.
+pub fn push_name(before: &[u8], name: &Name, out: &mut Vec<u8>) -> Result<(), AllocError>
     ensures { Writes out.old.items out.new.items result (before.now ++ name.now) }
 {
     push_text(before, out)?;
@@ -43,7 +55,10 @@ fn push_name(before: &[u8], name: &Name, out: &mut Vec<u8>) -> Result<(), AllocE
 }
 
 /// Appends a text, and behind it two names joined by `/`.
-pub(crate) fn push_pair(
+///
+/// # Errors
+/// The call failed to allocate, and a front of what it appends may stay.
+pub fn push_pair(
     before: &[u8],
     first: &Name,
     second: &Name,
@@ -56,18 +71,20 @@ pub(crate) fn push_pair(
 }
 
 /// Appends a text, and behind it a grain.
-pub(crate) fn push_grain(
-    before: &[u8],
-    grain: &GrainId,
-    out: &mut Vec<u8>,
-) -> Result<(), AllocError>
+///
+/// # Errors
+/// The call failed to allocate, and a front of what it appends may stay.
+pub fn push_grain(before: &[u8], grain: &GrainId, out: &mut Vec<u8>) -> Result<(), AllocError>
     ensures { Writes out.old.items out.new.items result (before.now ++ grain_text grain.now) }
 {
     push_pair(before, &grain.kind, &grain.key, out)
 }
 
 /// Appends a text, and behind it the name of a subscription.
-pub(crate) fn push_named(before: &[u8], sub: &SubName, out: &mut Vec<u8>) -> Result<(), AllocError>
+///
+/// # Errors
+/// The call failed to allocate, and a front of what it appends may stay.
+pub fn push_named(before: &[u8], sub: &SubName, out: &mut Vec<u8>) -> Result<(), AllocError>
     ensures { Writes out.old.items out.new.items result (before.now ++ name_text sub.now) }
 {
     match sub {
@@ -90,7 +107,10 @@ fn push_implicit(
 }
 
 /// Appends a payload as it stands in a line: in quotes, behind a space.
-pub(crate) fn push_quoted(payload: &Payload, out: &mut Vec<u8>) -> Result<(), AllocError>
+///
+/// # Errors
+/// The call failed to allocate, and a front of what it appends may stay.
+pub fn push_quoted(payload: &Payload, out: &mut Vec<u8>) -> Result<(), AllocError>
     ensures { Writes out.old.items out.new.items result (32 ∷ spelling (Text payload.now)) }
 {
     push_text(b" \"", out)?;

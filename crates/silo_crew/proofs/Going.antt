@@ -1,10 +1,9 @@
 -- Passes that go on, and the lines that have them.
-use Rattle.std.proofs.Common.{◌≡◌, ℕ, zero, suc, ◌<◌, ◌≤◌, ◌+◌, true, false, if◌then◌else◌, List, [], ◌∷◌, ◌++◌, length, get_or, set, Contains, refl, sym, ap, subst, ◌∙◌, append_assoc, arith}
-use Rattle.std.proofs.lemmas.List.{append-nil, length-append, length_push, set-get_or}
+use Rattle.std.proofs.Common.{◌≡◌, ℕ, zero, suc, ◌<◌, ◌≤◌, ◌+◌, List, [], ◌∷◌, ◌++◌, length, get_or, set, Contains, refl, sym, ap, subst, ◌∙◌, append_assoc, arith}
+use Rattle.std.proofs.lemmas.List.{append-nil, length_push, set-get_or}
 use Rattle.std.specs.List.{AllByRecursion, AllZip}
-use Rattle.std.specs.Prelude.{nat_lt}
 use Rattle.turnstile.specs.declared.history.Entry.{Entry}
-use Rattle.turnstile.specs.Calls.{Agree, HasOnlyMade, IsSplitOff, joined_pass}
+use Rattle.turnstile.specs.Calls.{Agree, HasOnlyMade, joined_pass}
 use Rattle.turnstile.specs.History.{Foreign}
 use Rattle.turnstile.specs.Passes.{PassView}
 use Rattle.silo_loops.specs.Lines.{LineView, places}

@@ -4,7 +4,7 @@ use Rattle.activation_directory.specs.Plain.{PlainDirectory}
 use Rattle.stream_model.specs.declared.plain.PlainPartition.{PlainPartition}
 use Rattle.turnstile.specs.Passes.{Origin}
 use Rattle.silo_loops.specs.Lines.{DirectoryPass, LineView, places}
-use Rattle.silo_crew.specs.Silos.{GoOn, GoesOn, IsSameSilo, IsSiloAt, SiloView}
+use Rattle.silo_crew.specs.Silos.{GoOn, GoesOn, IsSiloAt, SiloView}
 use Rattle.silo_crew.proofs.Going.{goes-places}
 
 -- those of the queues and that of the directory
@@ -24,12 +24,3 @@ kept-turnstiles ls ms d e on goes =
 pub turnstiles-silo : (ls : List LineView) (d : DirectoryPass) (s : SiloView) → IsSiloAt ls d s → turnstiles_of s ≡ turnstiles_at ls d
 turnstiles-silo ls d s at =
     ap (λ (ps : List (Option (Origin PlainPartition))). (ps, s.first.directory.turnstile)) at.agent ∙ ap (λ (t : Option (Origin PlainDirectory)). (places ls, t)) at.first.1
-
--- loops that came back are where they were
-pub same-at : (ls : List LineView) (d : DirectoryPass) (s t : SiloView) → IsSiloAt ls d s → IsSameSilo s t → IsSiloAt ls d t
-same-at ls d s t at same =
-    record {
-      agent = same.agent ∙ at.agent;
-      first = (same.first.lines ∙ at.first.0, same.first.directory ∙ at.first.1);
-      second = (same.second.lines ∙ at.second.0, same.second.directory ∙ at.second.1);
-    }

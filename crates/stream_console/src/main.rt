@@ -1,36 +1,44 @@
-//! The program `streams`: it does a script of producers, consumers and operator steps, and prints each
-//! reply.
+//! The program `streams`: it does a script of producers, consumers and operator steps, on one thread or on silos in
+//! threads, and prints what comes of it.
 #![tactic(auto)]
 
 mod fault;
 mod options;
+mod silos;
 
-ghost use Rattle.stream_script.specs.Simulation.{IsSimConfig};
+ghost use Rattle.stream_console.specs.Tasks.{IsTask};
 
 use crate::fault::ProgramFault;
-use crate::options::options;
-use std::fs::{self, File};
+use crate::options::{Request, Task, options};
+use crate::silos::run_on_silos;
+use std::alloc::Global;
+use std::fs::{self, Files};
 use std::io::{self, Read};
 use std::process::ExitCode;
-use stream_script::{Counted, SimConfig, SimError, sim};
+use std::rt::Runtime;
+use std::sync::Wait;
+use std::thread::Threads;
+use stream_script::{Counted, SimError, sim};
 
 /// Exit statuses: 0 done, 1 a faulty script, 2 a faulty command line, 3 a read or write fault or a failure to
-/// allocate.
+/// allocate, 4 a run without a report.
 fn main(rt: HostRuntime) -> ExitCode {
-    match run(&rt) {
+    match perform(&rt) {
         Ok(()) => ExitCode::SUCCESS,
         Err(fault) => fault.report(&rt),
     }
 }
 
 /// Does what the command line asks for.
-fn run(rt: &HostRuntime) -> Result<(), ProgramFault> {
+fn perform<R: Runtime + AllocGlobal + Threads + Wait + Copy + Send + 'static>(
+    rt: &R,
+) -> Result<(), ProgramFault> {
     let alloc = rt.alloc();
     let words = std::env::args(rt)?.collect::<Vec<String>>(alloc)?;
-    let request = options(alloc, words.as_slice())?;
-    match request.file {
-        None => simulate(rt, request.config, rt.reader()),
-        Some(path) => simulate(rt, request.config, open(rt, path)?),
+    let Request { file, task } = options(alloc, words.as_slice())?;
+    match file {
+        None => perform_on(rt, alloc, task, rt.reader()),
+        Some(path) => perform_on(rt, alloc, task, open(rt, path)?),
     }
 }
 
@@ -38,24 +46,29 @@ fn run(rt: &HostRuntime) -> Result<(), ProgramFault> {
 ///
 /// # Errors
 /// `ReadFault` where the file can't be opened, and `Memory` where the call failed to allocate.
-fn open(rt: &HostRuntime, path: &str) -> Result<File, SimError> {
+fn open<R: Files>(rt: &R, path: &str) -> Result<R::File, SimError> {
     fs::open(rt, path).map_err(|error| match error.kind() {
         io::ErrorKind::OutOfMemory => SimError::Memory,
         _ => SimError::ReadFault,
     })
 }
 
-/// Simulates a script. The text goes out through a buffer, which the simulation flushes at its end.
-fn simulate<S: Read + Drop>(
-    rt: &HostRuntime,
-    config: SimConfig,
+/// Does a task on a script. The text goes out through a buffer, which is flushed at the end.
+fn perform_on<R: Print + Threads + Wait + Copy + Send + 'static, S: Read + Drop>(
+    rt: &R,
+    alloc: Global,
+    task: Task,
     script: S,
 ) -> Result<(), ProgramFault>
-    requires { IsSimConfig config }
+    requires { IsTask task }
 {
-    let alloc = rt.alloc();
     let mut source = Counted::new(script);
-    let mut sink = Counted::new(io::BufWriter::new(alloc, io::writer(rt))?);
-    sim(alloc, config, &mut source, &mut sink)?;
-    Ok(())
+    let mut writer = io::BufWriter::new(alloc, io::writer(rt))?;
+    match task {
+        Task::Simulate(config) => {
+            sim(alloc, config, &mut source, &mut Counted::new(writer))?;
+            Ok(())
+        }
+        Task::Run(config) => run_on_silos(rt, alloc, &config, &mut source, &mut writer),
+    }
 }

@@ -1,14 +1,24 @@
 //! The command line.
 ghost use Rattle.std.specs.Prelude.{IfOk};
+ghost use Rattle.stream_cluster.specs.Clusters.{IsConfig};
+ghost use Rattle.stream_console.specs.Tasks.{IsTask};
 ghost use Rattle.stream_script.specs.Simulation.{IsSimConfig};
 
 use clap::{Arg, ArgMatches, Command, value_parser};
 use std::alloc::{AllocError, Global};
+use stream_cluster::Config;
 use stream_model::Limits;
 use stream_script::SimConfig;
 
-/// What help says below the options: an example, and how the program ends.
-const EXAMPLE: &str =
+/// What help says below the subcommands.
+const STATUSES: &str =
+    r#"Without a subcommand a script is simulated. `streams sim --help` and `streams run --help` show an example.
+
+Exit status: 0 done; 1 a line is faulty; 2 the command line is faulty; 3 reading or writing failed, or
+memory ran out; 4 a run met a limit, or not all of it was handled."#;
+
+/// What help says below the options of a simulation: an example, and how the program ends.
+const SIM_EXAMPLE: &str =
     r#"A script has one command a line. In this one the grain clerk/17 subscribes to the stream orders/17,
 a batch of two events is published to it, and all that is then left to do is done:
 
@@ -34,13 +44,50 @@ scripts in examples/.
 Exit status: 0 done; 1 a line is faulty, and the replies to the lines before it are printed; 2 the
 command line is faulty; 3 reading or writing failed, or memory ran out."#;
 
+/// What help says below the options of a run: an example, and how the program ends.
+const RUN_EXAMPLE: &str =
+    r#"A script that is run has what producers do and how silos come and go: pub, sub, unsub, rule, drain,
+up and down. What is between, the silos do in threads. In this one silo 0 leaves in the middle, and the
+last line names a subscription that there isn't:
+
+    sub orders/17 clerk/17 latest
+    pub orders/17 "paid"
+    down 0
+    pub orders/17 "shipped"
+    unsub 0:7
+
+At the end it is waited until all is handled. Then the lines that were refused are named by their
+numbers, and the report tells what each subscription has handled:
+
+    refused 5
+    report
+    0:1 orders/17 clerk/17 0.0 2
+      0.0 "paid"
+      1.0 "shipped"
+
+This needs --silos 2, since the last silo can't leave. Lines that are empty or begin with # are passed
+over, but counted. More of this stands in docs/SCRIPT.md, and another script in examples/auctions.script.
+
+Exit status: 0 done; 1 a line is faulty, and nothing is done; 2 the command line is faulty; 3 reading or
+writing failed, or memory ran out; 4 a run met a limit (`limit reached`, `round limit`), or not all of it
+was handled (`not quiet`), and the report is missing."#;
+
 /// What the command line asks for.
 #[derive(Drop)]
 pub struct Request<'a> {
     /// The file of the script, or none where it is on standard input.
     pub file: Option<&'a str>,
-    /// What the simulation has.
-    pub config: SimConfig,
+    /// What is done with the script.
+    pub task: Task,
+}
+
+/// What is done with a script.
+#[derive(Clone, Copy, Debug, PartialEq, Eq)]
+pub enum Task {
+    /// It is simulated, on one thread.
+    Simulate(SimConfig),
+    /// It is run, on silos in threads.
+    Run(Config),
 }
 
 /// What the words ask for. Where there are none, they ask for a simulation with one queue and four blocks.
@@ -48,71 +95,112 @@ pub struct Request<'a> {
 /// # Errors
 /// A word isn't understood, help is asked for, or the call failed to allocate.
 pub fn options<'a>(alloc: Global, words: &'a [String]) -> Result<Request<'a>, clap::Error>
-    ensures { IfOk result (λ request. IsSimConfig request.config) }
+    ensures { IfOk result (λ request. IsTask request.task) }
 {
     if words.len() <= 1 {
         return Ok(usual());
     }
     let matches = command(alloc)?.try_get_matches_from(words)?;
-    let Some((_, given)) = matches.subcommand() else {
+    let Some((name, given)) = matches.subcommand() else {
         return Ok(usual());
     };
     Ok(Request {
         file: given.get_str("file"),
-        config: config(number(given, "queues", 1), number(given, "blocks", 4)),
+        task: task_of(name, given),
     })
 }
 
 /// What is done where nothing is asked for.
 fn usual<'a>() -> Request<'a>
-    ensures { IsSimConfig result.config }
+    ensures { IsTask result.task }
 {
     Request {
         file: None,
-        config: config(1, 4),
+        task: Task::Simulate(sim_config(1, 4)),
     }
 }
 
-/// The command with its one subcommand.
+/// What the words of a subcommand ask for.
+fn task_of(name: &str, given: &ArgMatches<'_>) -> Task
+    ensures { IsTask result }
+{
+    let queues = number(given, "queues", 1);
+    let blocks = number(given, "blocks", 4);
+    if name == "run" {
+        Task::Run(run_config(queues, blocks, number(given, "silos", 1)))
+    } else {
+        Task::Simulate(sim_config(queues, blocks))
+    }
+}
+
+/// The command with its two subcommands.
 fn command<'a>(alloc: Global) -> Result<Command<'a>, AllocError> {
-    let file = Arg::new(alloc, "file")
+    let sim = Command::new(alloc, "sim")
+        .about("Does a script line by line, and prints the reply to each line")
+        .arg(file(alloc))?
+        .arg(queues(alloc))?
+        .arg(blocks(alloc))?
+        .after_help(SIM_EXAMPLE);
+    let run = Command::new(alloc, "run")
+        .about("Runs a script on silos in threads, and prints what each subscription has handled")
+        .arg(file(alloc))?
+        .arg(silos(alloc))?
+        .arg(queues(alloc))?
+        .arg(blocks(alloc))?
+        .after_help(RUN_EXAMPLE);
+    Command::new(alloc, "streams")
+        .bin_name("streams")?
+        .about("Streams of events for virtual actors: publishes, pulls, delivers and handles")
+        .subcommand_required(true)
+        .after_help(STATUSES)
+        .subcommand(sim)?
+        .subcommand(run)
+}
+
+/// The script.
+fn file<'a>(alloc: Global) -> Arg<'a> {
+    Arg::new(alloc, "file")
         .value_name("FILE")
-        .help("The script; without it standard input is read");
-    let queues = Arg::new(alloc, "queues")
+        .help("The script; without it standard input is read")
+}
+
+/// How many silos.
+fn silos<'a>(alloc: Global) -> Arg<'a> {
+    Arg::new(alloc, "silos")
+        .long("silos")
+        .value_name("N")
+        .help("How many silos there are at the start, 1 to 16")
+        .value_parser(value_parser!(u32).range(1..=16))
+        .default_value("1")
+}
+
+/// How many queues.
+fn queues<'a>(alloc: Global) -> Arg<'a> {
+    Arg::new(alloc, "queues")
         .long("queues")
         .value_name("N")
         .help("How many queues the streams share, 1 to 64")
         .value_parser(value_parser!(u32).range(1..=64))
-        .default_value("1");
-    let blocks = Arg::new(alloc, "blocks")
+        .default_value("1")
+}
+
+/// How many blocks.
+fn blocks<'a>(alloc: Global) -> Arg<'a> {
+    Arg::new(alloc, "blocks")
         .long("blocks")
         .value_name("N")
         .help("How many blocks of 64 events each queue's cache has, 1 to 64")
         .value_parser(value_parser!(u32).range(1..=64))
-        .default_value("4");
-    let sim = Command::new(alloc, "sim")
-        .about("Does a script line by line, and prints the reply to each line")
-        .arg(file)?
-        .arg(queues)?
-        .arg(blocks)?
-        .after_help(EXAMPLE);
-    Command::new(alloc, "streams")
-        .bin_name("streams")?
-        .about(
-            "Streams of events for virtual actors: publishes, pulls, delivers and handles, a step a line",
-        )
-        .subcommand_required(true)
-        .after_help(EXAMPLE)
-        .subcommand(sim)
+        .default_value("4")
 }
 
-/// A number of the matches, which the parser has found to be 1 to 64.
+/// A number of the matches, which the parser has found to be in its range.
 fn number(matches: &ArgMatches<'_>, id: &str, usual: u32) -> u32 {
     matches.get_one::<u32>(id).unwrap_or(usual)
 }
 
 /// The simulation with this many queues and blocks, each taken as 1 to 64.
-fn config(queues: u32, blocks: u32) -> SimConfig
+fn sim_config(queues: u32, blocks: u32) -> SimConfig
     ensures { IsSimConfig result }
 {
     SimConfig {
@@ -122,12 +210,29 @@ fn config(queues: u32, blocks: u32) -> SimConfig
     }
 }
 
+/// The cluster with this many queues, blocks and silos, each taken as 1 to 64, silos as 1 to 16. A run stores no
+/// history, so that there is room for as many calls as a number can count.
+fn run_config(queues: u32, blocks: u32, silos: u32) -> Config
+    ensures { IsConfig result }
+{
+    Config {
+        queues: queues.clamp(1, 64) as usize,
+        blocks: blocks.clamp(1, 64) as usize,
+        silos: silos.clamp(1, 16) as u8,
+        limits: Limits::GREATEST,
+        history: u64::MAX,
+    }
+}
+
 #[cfg(test)]
 mod tests {
-    use crate::options::{EXAMPLE, Request, config, options};
+    use crate::options::{
+        RUN_EXAMPLE, Request, SIM_EXAMPLE, Task, options, run_config, sim_config,
+    };
+    use crate::silos::run_on_silos;
     use std::alloc::{AllocError, Global};
     use std::test::Fail;
-    use stream_script::{Counted, SimError, sim};
+    use stream_script::{Counted, sim};
 
     /// What the words ask for, or the status that they end with.
     fn asked(alloc: Global, words: &[&str]) -> Result<String, AllocError> {
@@ -136,25 +241,36 @@ mod tests {
             owned.push(String::from_str(alloc, word)?)?;
         }
         match options(alloc, owned.as_slice()) {
-            Ok(Request { file, config }) => {
-                let file = file.unwrap_or("-");
-                format!(in alloc; "{file} {} {}", config.queues, config.blocks)
-            }
+            Ok(Request { file, task }) => told(alloc, file.unwrap_or("-"), task),
             Err(error) => format!(in alloc; "status {}", error.exit_code()),
+        }
+    }
+
+    fn told(alloc: Global, file: &str, task: Task) -> Result<String, AllocError> {
+        match task {
+            Task::Simulate(config) => {
+                format!(in alloc; "sim {file} {} {}", config.queues, config.blocks)
+            }
+            Task::Run(config) => {
+                format!(in alloc;
+                    "run {file} {} {} {}",
+                    config.silos, config.queues, config.blocks
+                )
+            }
         }
     }
 
     #[test]
     fn words_ask_for_a_simulation(rt: HostRuntime) -> Result<(), Fail> {
         let cases: [(&[&str], &str); 16] = [
-            (&["streams"], "- 1 4"),
-            (&["streams", "sim"], "- 1 4"),
-            (&["streams", "sim", "a b"], "a b 1 4"),
-            (&["streams", "sim", "--queues", "64"], "- 64 4"),
-            (&["streams", "sim", "--blocks=64", "f"], "f 1 64"),
+            (&["streams"], "sim - 1 4"),
+            (&["streams", "sim"], "sim - 1 4"),
+            (&["streams", "sim", "a b"], "sim a b 1 4"),
+            (&["streams", "sim", "--queues", "64"], "sim - 64 4"),
+            (&["streams", "sim", "--blocks=64", "f"], "sim f 1 64"),
             (
                 &["streams", "sim", "f", "--queues", "2", "--blocks", "1"],
-                "f 2 1",
+                "sim f 2 1",
             ),
             (&["streams", "sim", "--queues", "0"], "status 2"),
             (&["streams", "sim", "--queues", "65"], "status 2"),
@@ -166,6 +282,30 @@ mod tests {
             (&["streams", "fly"], "status 2"),
             (&["streams", "--help"], "status 0"),
             (&["streams", "sim", "--help"], "status 0"),
+        ];
+        for (words, wanted) in cases {
+            assert_eq!(rt; asked(rt.alloc(), words)?.as_str(), wanted);
+        }
+        Ok(())
+    }
+
+    #[test]
+    fn words_ask_for_a_run(rt: HostRuntime) -> Result<(), Fail> {
+        let cases: [(&[&str], &str); 11] = [
+            (&["streams", "run"], "run - 1 1 4"),
+            (&["streams", "run", "run"], "run run 1 1 4"),
+            (&["streams", "run", "--silos", "16"], "run - 16 1 4"),
+            (
+                &["streams", "run", "--silos=3", "--queues=4", "f"],
+                "run f 3 4 4",
+            ),
+            (&["streams", "run", "--blocks", "1", "-"], "run - 1 1 1"),
+            (&["streams", "run", "--silos", "0"], "status 2"),
+            (&["streams", "run", "--silos", "17"], "status 2"),
+            (&["streams", "run", "--silos", "-1"], "status 2"),
+            (&["streams", "run", "--queues", "65"], "status 2"),
+            (&["streams", "run", "f", "g"], "status 2"),
+            (&["streams", "run", "--help"], "status 0"),
         ];
         for (words, wanted) in cases {
             assert_eq!(rt; asked(rt.alloc(), words)?.as_str(), wanted);
@@ -185,18 +325,34 @@ mod tests {
         Ok(lines)
     }
 
-    #[test]
-    fn the_example_of_the_help_holds(rt: HostRuntime) -> Result<(), Fail> {
-        let Some((script, replies)) = EXAMPLE.split_once("Each command") else {
+    /// The script of an example, and what it prints, which stands behind these words.
+    fn example(alloc: Global, text: &str, behind: &str) -> Result<[Vec<u8>; 2], Fail> {
+        let Some((script, printed)) = text.split_once(behind) else {
             return Err(Fail::from("no example"));
         };
-        let script = indented(rt.alloc(), script)?;
-        let replies = indented(rt.alloc(), replies)?;
+        Ok([indented(alloc, script)?, indented(alloc, printed)?])
+    }
+
+    #[test]
+    fn the_example_of_a_simulation_holds(rt: HostRuntime) -> Result<(), Fail> {
+        let [script, replies] = example(rt.alloc(), SIM_EXAMPLE, "Each command")?;
         let mut source = Counted::new(script.as_slice());
         let mut sink = Counted::new(Vec::new(rt.alloc()));
-        let outcome: Result<(), SimError> = sim(rt.alloc(), config(1, 4), &mut source, &mut sink);
+        let outcome = sim(rt.alloc(), sim_config(1, 4), &mut source, &mut sink);
         assert_eq!(rt; outcome, Ok(()));
         assert!(rt; sink.into_inner().as_slice() == replies.as_slice());
+        Ok(())
+    }
+
+    #[test]
+    fn the_example_of_a_run_holds(rt: HostRuntime) -> Result<(), Fail> {
+        let [script, printed] = example(rt.alloc(), RUN_EXAMPLE, "At the end")?;
+        let mut source = Counted::new(script.as_slice());
+        let mut text = Vec::new(rt.alloc());
+        let config = run_config(1, 4, 2);
+        let outcome = run_on_silos(&rt, rt.alloc(), &config, &mut source, &mut text);
+        assert!(rt; outcome.is_ok());
+        assert!(rt; text.as_slice() == printed.as_slice());
         Ok(())
     }
 }

@@ -1,20 +1,32 @@
 //! Runs the example scripts, and says of each whether it gives the replies that stand beside it.
 #![tactic(auto)]
 
-ghost use Rattle.std.specs.Prelude.{◌≤◌};
+ghost use Rattle.std.specs.Prelude.{◌≤◌, IfOk};
+ghost use Rattle.cluster_scripts.specs.Runs.{LeavesLegalTraces};
+ghost use Rattle.stream_cluster.specs.Clusters.{IsConfig};
 ghost use Rattle.stream_script.specs.Simulation.{IsSimConfig};
 
-use std::fs;
+use activation_directory::{DirectoryOp, DirectoryReply};
+use cluster_scripts::{Ran, run, run_text};
+use script_reader::{Script, read_lines};
+use shared_partition::Counting;
+use std::fs::{self, Files};
 use std::process::ExitCode;
-use stream_model::Limits;
-use stream_script::{Counted, SimConfig, SimError, sim};
+use std::rt::Runtime;
+use std::sync::{Arc, Wait};
+use std::thread::Threads;
+use stream_cluster::Config;
+use stream_model::{Limits, Op, Reply};
+use stream_script::{Counted, SimConfig, read_script, sim};
+use turnstile::{ProofHistory, StoredHistory};
 
 /// Status 0 where each example gives its replies.
 fn main(rt: HostRuntime) -> anyhow::Result<ExitCode> {
     let mut all = true;
-    all &= shows(&rt, "orders", config(1, 4))?;
-    all &= shows(&rt, "device_readings", config(1, 2))?;
-    all &= shows(&rt, "game_events", config(4, 4))?;
+    all &= simulates(&rt, "orders", sim_config(1, 4))?;
+    all &= simulates(&rt, "device_readings", sim_config(1, 2))?;
+    all &= simulates(&rt, "game_events", sim_config(4, 4))?;
+    all &= runs(&rt, "auctions", &run_config(2, 4, u64::MAX))?;
     Ok(if all {
         ExitCode::SUCCESS
     } else {
@@ -23,7 +35,7 @@ fn main(rt: HostRuntime) -> anyhow::Result<ExitCode> {
 }
 
 /// A simulation of so many queues, each with a cache of so many blocks.
-fn config(queues: usize, blocks: usize) -> SimConfig
+fn sim_config(queues: usize, blocks: usize) -> SimConfig
     requires some_queues { 1 ≤ queues }
     requires queues { queues ≤ 64 }
     requires some_blocks { 1 ≤ blocks }
@@ -37,22 +49,76 @@ fn config(queues: usize, blocks: usize) -> SimConfig
     }
 }
 
-/// Whether an example gives its replies, which is also printed.
-fn shows(rt: &HostRuntime, name: &str, config: SimConfig) -> anyhow::Result<bool>
+/// A cluster of so many silos and queues, the history of each of which has room for so many calls.
+fn run_config(silos: u8, queues: usize, history: u64) -> Config
+    requires some_silos { 1 ≤ silos }
+    requires silos { silos ≤ 16 }
+    requires some_queues { 1 ≤ queues }
+    requires queues { queues ≤ 64 }
+    requires some_history { 1 ≤ history }
+    ensures { IsConfig result }
+{
+    Config {
+        queues,
+        blocks: 4,
+        silos,
+        limits: Limits::GREATEST,
+        history,
+    }
+}
+
+/// Whether an example that is simulated gives its replies, which is also printed.
+fn simulates(rt: &HostRuntime, name: &str, config: SimConfig) -> anyhow::Result<bool>
     requires { IsSimConfig config }
 {
     let alloc = rt.alloc();
-    let script = fs::open(rt, format!(in alloc; "{name}.script")?)?;
-    let expected = fs::read(rt, format!(in alloc; "{name}.replies")?)?;
-    let mut source = Counted::new(script);
+    let mut source = Counted::new(fs::open(rt, format!(in alloc; "{name}.script")?)?);
     let mut sink = Counted::new(Vec::new(alloc));
-    let outcome: Result<(), SimError> = sim(alloc, config, &mut source, &mut sink);
-    let gives = outcome.is_ok() && sink.into_inner().as_slice() == expected.as_slice();
-    let verdict = if gives {
+    sim(alloc, config, &mut source, &mut sink)?;
+    shows(rt, name, sink.into_inner().as_slice())
+}
+
+/// Whether an example that is run on silos gives its replies, which is also printed.
+fn runs<R: Runtime + AllocGlobal + Threads + Wait + Copy + Send + 'static>(
+    rt: &R,
+    name: &str,
+    config: &Config,
+) -> anyhow::Result<bool>
+    requires { IsConfig config.now }
+{
+    let ran = run_example::<ProofHistory<Op, Reply>, R>(rt, name, config)?;
+    shows(rt, name, run_text(rt.alloc(), &ran)?.as_slice())
+}
+
+/// Runs an example on silos.
+fn run_example<
+    H: StoredHistory<Op, Reply> + Send + 'static,
+    R: Runtime + AllocGlobal + Threads + Wait + Copy + Send + 'static,
+>(rt: &R, name: &str, config: &Config) -> anyhow::Result<Ran<H>>
+    requires { IsConfig config.now }
+    ensures { IfOk result (λ ran. LeavesLegalTraces H.entries config.now ran.end) }
+{
+    let alloc = rt.alloc();
+    let mut source = Counted::new(fs::open(rt, format!(in alloc; "{name}.script")?)?);
+    let script = read_script(alloc, &mut source)?;
+    let Script::Lines(lines) = read_lines(alloc, &script, config.queues)? else {
+        anyhow::bail!("{name}: a line is faulty");
+    };
+    let gate = Arc::new(alloc, Counting)?;
+    Ok(run::<Counting, H, ProofHistory<DirectoryOp, DirectoryReply>, R>(
+        rt, alloc, config, gate, lines,
+    )?)
+}
+
+/// Whether this text is that of the example, which is also printed.
+fn shows<R: Files + Print + AllocGlobal>(rt: &R, name: &str, text: &[u8]) -> anyhow::Result<bool> {
+    let expected = fs::read(rt, format!(in rt.alloc(); "{name}.replies")?)?;
+    let same = text == expected.as_slice();
+    let verdict = if same {
         "as expected"
     } else {
         "NOT as expected"
     };
     println!(rt; "{name}: {verdict}")?;
-    Ok(gives)
+    Ok(same)
 }

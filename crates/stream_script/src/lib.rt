@@ -7,5 +7,5 @@ mod source_sink;
 
 pub use script_parser::{Command, EachOp, Fault, FaultKind, Mode, Parsed, parse_line};
 pub use script_printer::{drain_text, reply_text, report_text};
-pub use simulate::{SimConfig, SimError, sim};
+pub use simulate::{SimConfig, SimError, read_script, sim};
 pub use source_sink::{Counted, Failed, Sink, Source};

@@ -93,8 +93,12 @@ pub fn sim<R: Source, W: Sink>(
     }
 }
 
-/// Reads a script.
-fn read_script<R: Source>(alloc: Global, source: &mut R) -> Result<Vec<u8>, SimError>
+/// Reads a script to its end.
+///
+/// # Errors
+/// A read failed (`ReadFault`), the script has more than 4,194,304 bytes (a `ScriptFault` at line 0), or the call
+/// failed to allocate (`Memory`).
+pub fn read_script<R: Source>(alloc: Global, source: &mut R) -> Result<Vec<u8>, SimError>
     requires { R.failures source.old < 2 ^ 64 - 1 }
     ensures script { ReadsScript (R.remaining source.old) (R.remaining source.new) result }
     ensures counted { R.failures source.new ≡ (if is_read_fault result then suc (R.failures source.old) else R.failures source.old) }

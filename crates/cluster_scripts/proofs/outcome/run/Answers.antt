@@ -5,7 +5,8 @@ use Rattle.cluster_ending.specs.Gathering.{AreAt}
 use Rattle.stream_cluster.specs.Clusters.{HasFinished}
 use Rattle.stream_cluster.proofs.Standing.{callers-on}
 use Rattle.script_reader.specs.Scripts.{IsScript}
-use Rattle.cluster_scripts.specs.Runs.{RunsScript}
+use Rattle.cluster_scripts.specs.Runs.{LeavesLegalTraces, RunsScript}
+use Rattle.cluster_scripts.proofs.Histories.{run-legal}
 use Rattle.cluster_scripts.proofs.Reporting.{new-queues, run-ends}
 use Rattle.cluster_scripts.proofs.outcome.run.Goals as goal
 
@@ -25,11 +26,20 @@ finish-finished-requires-after_bounds g c κs within =
     subst (λ (callers : List (List QueuePass)). AllByRecursion (AreAt (places w.operator.lines)) callers) (sym {A = List (List QueuePass)} all)
     (callers-on c.in_ok-cluster.cluster.operator.lines w.operator.lines (now ∷ []) c.run_script-script.ensures.cluster.lines (at, tt))
 
-pub returns : goal.returns
-returns g c =
+pub returns-clause-script : goal.returns-clause-script
+returns-clause-script g c =
     let now = c.run_script-script.new.caller in
     let w = c.run_script-script.new.cluster in
     let all = c.push_reserved.ensures.items ∙ ap (λ (before : List (List QueuePass)). before ++ now ∷ []) c.in_ok-callers.ensures.items in
     let fin = subst (λ (callers : List (List QueuePass)). HasFinished g.H.StoredHistory.entries w callers c.in_ok-finished.field-0) all c.in_ok-finished.ensures in
     subst (λ ran. RunsScript g.H.StoredHistory.entries c.args.config.now c.args.lines.items ran) (sym c.conclude.ensures)
     (run-ends g.H.StoredHistory.entries c.args.config.now c.args.lines.items c.in_ok-cluster.cluster w c.in_ok-cluster.caller now c.in_ok-script.field-0.printed.items c.in_ok-finished.field-0 c.in_ok-script.field-0.end c.requires.config c.in_ok-cluster.ensures c.run_script-script.ensures.turnstiles c.in_ok-script.ensures.script fin)
+
+pub returns-clause-legal : goal.returns-clause-legal
+returns-clause-legal g c =
+    let now = c.run_script-script.new.caller in
+    let w = c.run_script-script.new.cluster in
+    let all = c.push_reserved.ensures.items ∙ ap (λ (before : List (List QueuePass)). before ++ now ∷ []) c.in_ok-callers.ensures.items in
+    let fin = subst (λ (callers : List (List QueuePass)). HasFinished g.H.StoredHistory.entries w callers c.in_ok-finished.field-0) all c.in_ok-finished.ensures in
+    subst (λ ran. LeavesLegalTraces g.H.StoredHistory.entries c.args.config.now ran.end) (sym c.conclude.ensures)
+    (run-legal g.H.StoredHistory.entries c.args.config.now c.in_ok-cluster.cluster w c.in_ok-cluster.caller now c.in_ok-finished.field-0 c.in_ok-script.field-0.end c.in_ok-cluster.ensures c.run_script-script.ensures.cluster.lines fin)

@@ -1,4 +1,4 @@
-use Rattle.std.proofs.Common.{refl, rules, sym, subst, ap, ◌∙◌}
+use Rattle.std.proofs.Common.{refl, rules, sym, subst}
 use Rattle.silo_loops.specs.Agents.{AgentView}
 use Rattle.silo_crew.specs.Silos.{IsAgentAt, IsFreshAgent}
 use Rattle.silo_crew.proofs.Going.{split-at, split-marked}

@@ -1,4 +1,4 @@
-use Rattle.std.proofs.Common.{refl, rules, sym, subst, ap, ◌∙◌}
+use Rattle.std.proofs.Common.{refl, sym, subst, ap, ◌∙◌}
 use Rattle.silo_loops.specs.Workers.{WorkerView}
 use Rattle.silo_crew.specs.Silos.{IsFreshWorker, IsWorkerAt}
 use Rattle.silo_crew.proofs.Going.{goes-refl, silent-made, silent-refl, silent-same, split-at, split-fresh, split-marked}

@@ -1,0 +1,4 @@
+pub mod Again
+pub mod Joining
+pub mod OpPieces
+pub mod Printable

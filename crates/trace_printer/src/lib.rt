@@ -1,0 +1,9 @@
+//! What was done at a queue as a script, which a simulation does again on one thread.
+//!
+//! [`queue_trace`] writes each call of a history as the line that asks for it, and its reply in a comment behind it.
+//! Simulated, the script gives just these replies at its queue.
+#![tactic(auto)]
+
+mod trace;
+
+pub use trace::queue_trace;
