@@ -19,11 +19,21 @@ use stream_ident::GrainId;
 ///
 /// A contract sees it as the grains that are placed, with their places, and the number of permits that
 /// were given, out of those that may be. Its room in memory is no part of it.
-#[derive(Debug, Drop)]
+#[derive(Debug)]
 pub struct Directory {
     placed: IndexMap<GrainId, Place>,
     given: u64,
     permits: u64,
+}
+
+impl Drop for Directory {
+    fn drop(self) {
+        let Self {
+            placed: _,
+            given: _,
+            permits: _,
+        } = self;
+    }
 }
 
 impl Model for Directory {

@@ -14,10 +14,18 @@ use turnstile::{Refusal, StoredHistory};
 /// A caller of each queue of a cluster, and the doorbell of its loops.
 ///
 /// A contract sees it as the passes, in the order of the queues.
-#[derive(Drop)]
 pub struct Caller<G: Gate, H: StoredHistory<Op, Reply>> {
     doorbell: Arc<Doorbell, Global>,
     queues: Vec<QueueCaller<G, H>>,
+}
+
+impl<G: Gate + Drop, H: StoredHistory<Op, Reply> + Drop> Drop for Caller<G, H> {
+    fn drop(self) {
+        let Self {
+            doorbell: _,
+            queues: _,
+        } = self;
+    }
 }
 
 impl<G: Gate, H: StoredHistory<Op, Reply>> Model for Caller<G, H> {

@@ -14,10 +14,18 @@ use stream_model::{Op, PlainPartition, Reply};
 use turnstile::{NoNumberLeft, Pass, Refusal, StoredHistory, Turnstile};
 
 /// A producer's pass at a queue, with its turnstile. A contract sees the pass.
-#[derive(Drop)]
 pub struct QueueCaller<G: Gate, H: StoredHistory<Op, Reply>> {
     turnstile: Arc<Turnstile<SharedPartition<G, H>>, Global>,
     pass: Pass<SharedPartition<G, H>, H, Op, Reply, PlainPartition>,
+}
+
+impl<G: Gate + Drop, H: StoredHistory<Op, Reply> + Drop> Drop for QueueCaller<G, H> {
+    fn drop(self) {
+        let Self {
+            turnstile: _,
+            pass: _,
+        } = self;
+    }
 }
 
 impl<G: Gate, H: StoredHistory<Op, Reply>> Model for QueueCaller<G, H> {

@@ -20,7 +20,6 @@ use stream_model::{Op, Reply};
 use turnstile::StoredHistory;
 
 /// What changes the silos of a cluster.
-#[derive(Drop)]
 pub struct Operator<
     G: Gate,
     H: StoredHistory<Op, Reply>,
@@ -34,6 +33,24 @@ pub struct Operator<
     directory: DirectoryLine<D>,
     live: Vec<u8>,
     assignment: Vec<u8>,
+}
+
+impl<
+    G: Gate + Drop,
+    H: StoredHistory<Op, Reply> + Drop,
+    D: StoredHistory<DirectoryOp, DirectoryReply> + Drop,
+> Drop for Operator<G, H, D> {
+    fn drop(self) {
+        let Self {
+            gate: _,
+            doorbell: _,
+            agents: _,
+            lines: _,
+            directory: _,
+            live: _,
+            assignment: _,
+        } = self;
+    }
 }
 
 impl<G: Gate, H: StoredHistory<Op, Reply>, D: StoredHistory<DirectoryOp, DirectoryReply>> Model

@@ -29,13 +29,25 @@ pub struct RunningTurn {
 /// A contract sees it as how often it was activated, whether it is active, the deliveries that wait, the
 /// oldest first, the turn that runs, and the subscriptions that something was offered for, by rising
 /// numbers. The room that these have in memory is no part of it.
-#[derive(Debug, Drop)]
+#[derive(Debug)]
 pub struct Activation {
     number: u64,
     is_active: bool,
     mailbox: Mailbox,
     running: Option<RunningTurn>,
     subs: Vec<usize>,
+}
+
+impl Drop for Activation {
+    fn drop(self) {
+        let Self {
+            number: _,
+            is_active: _,
+            mailbox: _,
+            running: _,
+            subs: _,
+        } = self;
+    }
 }
 
 impl Model for Activation {

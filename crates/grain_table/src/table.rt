@@ -23,11 +23,21 @@ use stream_ident::GrainId;
 /// A grain goes by its number, which is its place in the order of first activation and never changes. A
 /// contract sees the table as the list of the grains with their activations, in that order. The order of
 /// the names, the ready grains in it, and the room that all take in memory are no part of it.
-#[derive(Debug, Drop)]
+#[derive(Debug)]
 pub struct GrainTable {
     entries: Vec<(GrainId, Activation)>,
     ranking: Ranking,
     ready: LeastTree,
+}
+
+impl Drop for GrainTable {
+    fn drop(self) {
+        let Self {
+            entries: _,
+            ranking: _,
+            ready: _,
+        } = self;
+    }
 }
 
 impl Model for GrainTable {

@@ -18,11 +18,21 @@ const MAX_BATCH: usize = 64;
 /// A contract sees it as the events, the number of batches that it accepted, and how many events it may
 /// have. Its room in memory is no part of it. An event stays at its position: none is ever changed or
 /// taken out.
-#[derive(Debug, Drop)]
+#[derive(Debug)]
 pub struct PartitionQueue {
     events: Vec<Event>,
     batches: u64,
     limit: usize,
+}
+
+impl Drop for PartitionQueue {
+    fn drop(self) {
+        let Self {
+            events: _,
+            batches: _,
+            limit: _,
+        } = self;
+    }
 }
 
 impl Model for PartitionQueue {

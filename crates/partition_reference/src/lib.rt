@@ -42,9 +42,14 @@ use unsubscribing::unsubscribe;
 /// A partition that keeps the plain data and does each operation as the definition says it.
 ///
 /// A contract sees it as its plain data, which a legal history leads to.
-#[derive(Drop)]
 pub struct Partition {
     plain: PlainPartition,
+}
+
+impl Drop for Partition {
+    fn drop(self) {
+        let Self { plain: _ } = self;
+    }
 }
 
 impl Model for Partition {

@@ -18,13 +18,25 @@ use stream_ident::{GrainId, Name, Rule, StreamId, SubName, Token};
 /// A contract sees it as the registrations by name in the order in which they were made, the number of
 /// the last explicit one, the rules in the order in which they were added, and how many of each there may
 /// be. Its room in memory is no part of it.
-#[derive(Debug, Drop)]
+#[derive(Debug)]
 pub struct Registry {
     pub(crate) subscriptions: Subscriptions,
     pub(crate) rules: Rules,
     explicit: u32,
     pub(crate) most_names: usize,
     most_rules: usize,
+}
+
+impl Drop for Registry {
+    fn drop(self) {
+        let Self {
+            subscriptions: _,
+            rules: _,
+            explicit: _,
+            most_names: _,
+            most_rules: _,
+        } = self;
+    }
 }
 
 impl Model for Registry {

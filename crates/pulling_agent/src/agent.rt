@@ -44,11 +44,20 @@ pub enum Plan {
 /// agent that was replaced is refused. The other calls take no generation.
 ///
 /// A contract sees the agent as its generation, the silo that it runs on, and its cache.
-#[derive(Drop)]
 pub struct Agent {
     generation: u64,
     silo: u8,
     cache: QueueCache,
+}
+
+impl Drop for Agent {
+    fn drop(self) {
+        let Self {
+            generation: _,
+            silo: _,
+            cache: _,
+        } = self;
+    }
 }
 
 impl Model for Agent {

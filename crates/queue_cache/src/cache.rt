@@ -85,11 +85,20 @@ impl Block {
 /// It holds all its blocks from the start: those with events first, each full but the last, and then empty
 /// ones. Only `new` takes memory. A contract sees the cache as its events, the position of the first of
 /// them, and how many blocks it has.
-#[derive(Drop)]
 pub struct QueueCache {
     ring: HeapCircularBuffer<Block>,
     low: usize,
     len: usize,
+}
+
+impl Drop for QueueCache {
+    fn drop(self) {
+        let Self {
+            ring: _,
+            low: _,
+            len: _,
+        } = self;
+    }
 }
 
 impl Model for QueueCache {

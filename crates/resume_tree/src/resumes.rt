@@ -29,12 +29,23 @@ pub struct Leaf {
 /// The leaves of the subscriptions of a partition, by the number of their records, counted from 0.
 ///
 /// No name stands twice, and each resume is below `usize::MAX - 1`. A contract sees the list of the leaves.
-#[derive(Debug, Drop)]
+#[derive(Debug)]
 pub struct Resumes {
     leaves: Vec<Leaf>,
     ranking: Ranking,
     resumes: LeastTree,
     due: LeastTree,
+}
+
+impl Drop for Resumes {
+    fn drop(self) {
+        let Self {
+            leaves: _,
+            ranking: _,
+            resumes: _,
+            due: _,
+        } = self;
+    }
 }
 
 impl Model for Resumes {

@@ -17,12 +17,22 @@ use turnstile::{PassOf, Refusal, Replays, StoredHistory, Turnstile};
 /// The partition of a queue, with a gate that sees each operation before it is applied.
 ///
 /// A contract sees it as the plain partition. It is small, since a turnstile moves what it holds.
-#[derive(Drop)]
 pub struct SharedPartition<G, H> {
     partition: Box<Partition, Global>,
     gate: Arc<G, Global>,
     queue: usize,
     history: PhantomData<H>,
+}
+
+impl<G: Drop, H: Drop> Drop for SharedPartition<G, H> {
+    fn drop(self) {
+        let Self {
+            partition: _,
+            gate: _,
+            queue: _,
+            history: _,
+        } = self;
+    }
 }
 
 impl<G, H> Model for SharedPartition<G, H> {

@@ -27,7 +27,6 @@ use turnstile::StoredHistory;
 ///
 /// A contract sees its lines, the generation under which it holds each queue, as it last looked, how many
 /// rounds it has begun, and why it has ended.
-#[derive(Drop)]
 pub struct AgentLoop<G: Gate, H: StoredHistory<Op, Reply>> {
     doorbell: Arc<Doorbell, Global>,
     assigned: Arc<Assigned, Global>,
@@ -36,6 +35,20 @@ pub struct AgentLoop<G: Gate, H: StoredHistory<Op, Reply>> {
     visit: Visit,
     rounds: u64,
     over: Option<Over>,
+}
+
+impl<G: Gate + Drop, H: StoredHistory<Op, Reply> + Drop> Drop for AgentLoop<G, H> {
+    fn drop(self) {
+        let Self {
+            doorbell: _,
+            assigned: _,
+            lines: _,
+            held: _,
+            visit: _,
+            rounds: _,
+            over: _,
+        } = self;
+    }
 }
 
 impl<G: Gate, H: StoredHistory<Op, Reply>> Model for AgentLoop<G, H> {

@@ -14,10 +14,18 @@ use std::sync::{Arc, Wait};
 use turnstile::{NoNumberLeft, Pass, Refusal, StoredHistory, Turnstile};
 
 /// A loop's pass at the directory, with its turnstile. A contract sees the pass.
-#[derive(Drop)]
 pub struct DirectoryLine<D: StoredHistory<DirectoryOp, DirectoryReply>> {
     turnstile: Arc<Turnstile<SharedDirectory<D>>, Global>,
     pass: Pass<SharedDirectory<D>, D, DirectoryOp, DirectoryReply, Directory>,
+}
+
+impl<D: StoredHistory<DirectoryOp, DirectoryReply> + Drop> Drop for DirectoryLine<D> {
+    fn drop(self) {
+        let Self {
+            turnstile: _,
+            pass: _,
+        } = self;
+    }
 }
 
 impl<D: StoredHistory<DirectoryOp, DirectoryReply>> Model for DirectoryLine<D> {

@@ -20,7 +20,6 @@ use turnstile::{NoNumberLeft, Pass, Refusal, StoredHistory, Turnstile};
 /// made or last idle. No call of the pass is a producer's.
 ///
 /// A contract sees the pass and the mark.
-#[derive(Drop)]
 pub struct Line<G: Gate, H: StoredHistory<Op, Reply>> {
     turnstile: Arc<Turnstile<SharedPartition<G, H>>, Global>,
     pass: Pass<SharedPartition<G, H>, H, Op, Reply, PlainPartition>,
@@ -28,6 +27,18 @@ pub struct Line<G: Gate, H: StoredHistory<Op, Reply>> {
     // whether the pass has asked for a ready grain past the mark, and whether it has pulled
     looked: bool,
     pulled: bool,
+}
+
+impl<G: Gate + Drop, H: StoredHistory<Op, Reply> + Drop> Drop for Line<G, H> {
+    fn drop(self) {
+        let Self {
+            turnstile: _,
+            pass: _,
+            mark: _,
+            looked: _,
+            pulled: _,
+        } = self;
+    }
 }
 
 impl<G: Gate, H: StoredHistory<Op, Reply>> Model for Line<G, H> {

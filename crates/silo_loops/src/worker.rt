@@ -46,7 +46,6 @@ impl TurnRoom {
 ///
 /// A contract sees its silo, its lines, its pass at the directory, what it has in hand, how many rounds it has
 /// begun and why it has ended.
-#[derive(Drop)]
 pub struct WorkerLoop<
     G: Gate,
     H: StoredHistory<Op, Reply>,
@@ -61,6 +60,26 @@ pub struct WorkerLoop<
     walk: Walk,
     rounds: u64,
     over: Option<Over>,
+}
+
+impl<
+    G: Gate + Drop,
+    H: StoredHistory<Op, Reply> + Drop,
+    D: StoredHistory<DirectoryOp, DirectoryReply> + Drop,
+> Drop for WorkerLoop<G, H, D> {
+    fn drop(self) {
+        let Self {
+            silo: _,
+            gate: _,
+            doorbell: _,
+            lines: _,
+            directory: _,
+            events: _,
+            walk: _,
+            rounds: _,
+            over: _,
+        } = self;
+    }
 }
 
 impl<G: Gate, H: StoredHistory<Op, Reply>, D: StoredHistory<DirectoryOp, DirectoryReply>> Model

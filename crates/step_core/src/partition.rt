@@ -42,9 +42,14 @@ use subscription_table::SubscriptionTable;
 /// A partition.
 ///
 /// A contract sees it as the plain partition of the definitions.
-#[derive(Drop)]
 pub struct Partition {
     parts: Parts,
+}
+
+impl Drop for Partition {
+    fn drop(self) {
+        let Self { parts: _ } = self;
+    }
 }
 
 impl Model for Partition {

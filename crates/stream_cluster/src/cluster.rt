@@ -117,7 +117,6 @@ fn retired_by<G: Gate, H: StoredHistory<Op, Reply>, D: StoredHistory<DirectoryOp
 ///
 /// A contract sees what its operator holds, the loops of its silos as they were started, how those have ended that
 /// came back, whether the loops were given to whoever made it, and whether a change of silos was broken off.
-#[derive(Drop)]
 pub struct Cluster<
     G: Gate,
     H: StoredHistory<Op, Reply>,
@@ -131,6 +130,22 @@ pub struct Cluster<
     parked: bool,
     // whether a change of silos was broken off
     halted: bool,
+}
+
+impl<
+    G: Gate + Drop,
+    H: StoredHistory<Op, Reply> + Drop,
+    D: StoredHistory<DirectoryOp, DirectoryReply> + Drop,
+> Drop for Cluster<G, H, D> {
+    fn drop(self) {
+        let Self {
+            operator: _,
+            silos: _,
+            ends: _,
+            parked: _,
+            halted: _,
+        } = self;
+    }
 }
 
 impl<G: Gate, H: StoredHistory<Op, Reply>, D: StoredHistory<DirectoryOp, DirectoryReply>> Model

@@ -28,12 +28,23 @@ use stream_ident::SubName;
 /// changes. A contract sees the table as the registry, whose names have the numbers 0, 1, 2 and so on, and
 /// by number how far each subscription is. The tags of the streams, the tree of the resumes and the room
 /// that all take in memory are no part of it.
-#[derive(Debug, Drop)]
+#[derive(Debug)]
 pub struct SubscriptionTable {
     registry: Registry,
     states: Vec<SubState>,
     tags: Vec<u8>,
     resumes: Resumes,
+}
+
+impl Drop for SubscriptionTable {
+    fn drop(self) {
+        let Self {
+            registry: _,
+            states: _,
+            tags: _,
+            resumes: _,
+        } = self;
+    }
 }
 
 impl Model for SubscriptionTable {
