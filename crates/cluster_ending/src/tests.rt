@@ -20,12 +20,22 @@ type Plain = PlainHistory<Op, Reply>;
 type Shared = SharedPartition<Counting, Plain>;
 
 // The lines and two callers of two queues.
-#[derive(Drop)]
 struct Cluster {
     doorbell: Arc<Doorbell, Global>,
     lines: Vec<Line<Counting, Plain>>,
     first: Caller<Counting, Plain>,
     second: Caller<Counting, Plain>,
+}
+
+impl Drop for Cluster {
+    fn drop(self) {
+        let Self {
+            doorbell: _,
+            lines: _,
+            first: _,
+            second: _,
+        } = self;
+    }
 }
 
 // A turnstile over an empty partition, and its first pass.
@@ -163,7 +173,7 @@ fn calls_made<R: Abort>(rt: &R, ended: &Result<Finished<Plain>, AllocError>) -> 
     else {
         panic!(rt; "there are traces");
     };
-    assert_eq!(rt; traces.histories.len(), 2);
+    assert!(rt; traces.histories.len() == 2);
     (
         traces.histories[0].as_slice().len(),
         traces.histories[1].as_slice().len(),
@@ -184,7 +194,7 @@ fn a_report(rt: HostRuntime) {
     assert!(rt; reply == Reply::Subscribed { number: 1 });
     assert!(rt; ask(&rt, alloc, &mut cluster.second, 1, Op::Quiet) == Reply::IsQuiet);
     let ended = ended(&rt, alloc, cluster, LoopEnds::default());
-    assert_eq!(rt; calls_made(&rt, &ended), (1, 3));
+    assert!(rt; calls_made(&rt, &ended) == (1, 3));
     let Ok(Finished::Report { text, .. }) = &ended else {
         panic!(rt; "all queues are quiet");
     };
@@ -200,7 +210,7 @@ fn not_quiet(rt: HostRuntime) {
         ask(&rt, alloc, &mut cluster.second, 1, publish(&rt, alloc)) == Reply::Published { seq: 0 }
     );
     let ended = ended(&rt, alloc, cluster, LoopEnds::default());
-    assert_eq!(rt; calls_made(&rt, &ended), (1, 2));
+    assert!(rt; calls_made(&rt, &ended) == (1, 2));
     let Ok(Finished::NotQuiet { queue, why, .. }) = &ended else {
         panic!(rt; "a queue isn't quiet");
     };
@@ -216,8 +226,8 @@ fn a_full_history(rt: HostRuntime) {
     let mut ends = LoopEnds::default();
     ends.note(Some(Over::Rounds));
     let ended = ended(&rt, alloc, cluster, ends);
-    assert_eq!(rt; name_of(&ended), "limit");
-    assert_eq!(rt; calls_made(&rt, &ended), (1, 1));
+    assert!(rt; name_of(&ended) == "limit");
+    assert!(rt; calls_made(&rt, &ended) == (1, 1));
 }
 
 // What is answered where the loops of two queues have ended so, and an event isn't pulled.
@@ -237,19 +247,10 @@ fn ended_by<R: Wait + Abort>(rt: &R, alloc: Global, overs: &[Option<Over>]) -> &
 #[test]
 fn loops_that_ended(rt: HostRuntime) {
     let alloc = rt.alloc();
-    assert_eq!(rt; ended_by(&rt, alloc, &[None, None]), "not quiet");
-    assert_eq!(rt;
-        ended_by(&rt, alloc, &[None, Some(Over::Rounds)]),
-        "round limit"
-    );
-    assert_eq!(rt;
-        ended_by(&rt, alloc, &[Some(Over::Limit), Some(Over::Rounds)]),
-        "limit"
-    );
-    assert_eq!(rt;
-        ended_by(&rt, alloc, &[Some(Over::Memory), Some(Over::Limit)]),
-        "memory"
-    );
+    assert!(rt; ended_by(&rt, alloc, &[None, None]) == "not quiet");
+    assert!(rt; ended_by(&rt, alloc, &[None, Some(Over::Rounds)]) == "round limit");
+    assert!(rt; ended_by(&rt, alloc, &[Some(Over::Limit), Some(Over::Rounds)]) == "limit");
+    assert!(rt; ended_by(&rt, alloc, &[Some(Over::Memory), Some(Over::Limit)]) == "memory");
 }
 
 // How a cluster ends with its first caller alone.
@@ -297,7 +298,7 @@ fn a_caller_still_there(rt: HostRuntime) {
     } = opened(&rt, alloc, 100);
     drop(second.split(alloc).expect(&rt, "memory"));
     let ended = ended_with_first(&rt, alloc, doorbell, lines, first);
-    assert_eq!(rt; name_of(&ended), "in use");
+    assert!(rt; name_of(&ended) == "in use");
     drop(second);
 }
 

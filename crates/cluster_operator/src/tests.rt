@@ -46,11 +46,20 @@ const PLENTY: Room = Room {
 // An operator of some queues, and beside it a caller and a line of the directory.
 //
 // A contract sees the turnstiles.
-#[derive(Drop)]
 struct Cluster {
     operator: Operator<Counting, Plain, Asked>,
     directory: DirectoryLine<Asked>,
     caller: Caller<Counting, Plain>,
+}
+
+impl Drop for Cluster {
+    fn drop(self) {
+        let Self {
+            operator: _,
+            directory: _,
+            caller: _,
+        } = self;
+    }
 }
 
 impl Model for Cluster {
@@ -69,9 +78,14 @@ impl Model for Cluster {
 }
 
 // The loops of a silo by hand. A contract sees the turnstiles of their passes.
-#[derive(Drop)]
 struct Loops {
     loops: SiloLoops<Counting, Plain, Asked>,
+}
+
+impl Drop for Loops {
+    fn drop(self) {
+        let Self { loops: _ } = self;
+    }
 }
 
 impl Model for Loops {

@@ -104,6 +104,6 @@ pub fn insist<R: Wait + Abort, H: StoredHistory<Addition, u64>>(
     if answer != Err(Refusal::Memory) {
         return answer;
     }
-    assert_eq!(rt; pass.len(), seen);
+    assert!(rt; pass.len() == seen);
     turnstile.call(rt, alloc, pass, op)
 }

@@ -167,7 +167,7 @@ fn add_alike<R: Wait + Abort>(
 {
     let answer = insist(rt, alloc, one, pass, amount);
     assert!(rt; answer == insist(rt, alloc, other, twin, amount));
-    assert_eq!(rt; pass.len(), twin.len());
+    assert!(rt; pass.len() == twin.len());
 }
 
 // Adds the numbers of a range, one after another, in each of two turnstiles.
@@ -241,14 +241,14 @@ fn in_order<R: Abort>(rt: &R, history: &[Entry<Addition, u64>]) {
     let mut sum = 0u64;
     for entry in history {
         if entry.number == 0 {
-            assert_eq!(rt; entry.op.amount, first);
+            assert!(rt; entry.op.amount == first);
             first = first.wrapping_add(1);
         } else {
             assert!(rt; entry.number == 1 && entry.op.amount == second);
             second = second.wrapping_add(1);
         }
         sum = sum.wrapping_add(entry.op.amount);
-        assert_eq!(rt; entry.reply, sum);
+        assert!(rt; entry.reply == sum);
     }
     assert!(rt; first == 1000 && second == 1000);
 }

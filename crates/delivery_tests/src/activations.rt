@@ -135,12 +135,12 @@ fn ask<R: Abort>(
     for (sub, position) in deliveries {
         assert!(rt; *position <= 1000);
         let offered = offer(rt, alloc, activation, *sub, *position)?;
-        assert_eq!(rt; offered, Offered::Delivered);
+        assert!(rt; offered == Offered::Delivered);
     }
-    assert_eq!(rt; activation.waiting(), deliveries.len());
+    assert!(rt; activation.waiting() == deliveries.len());
     for (call, expected) in rows {
         let text = told(rt, alloc, activation, *call)?;
-        assert_eq!(rt; text.as_str(), *expected);
+        assert!(rt; text.as_str() == *expected);
     }
     Ok(())
 }
@@ -419,8 +419,8 @@ fn expect_turn<R: Abort>(rt: &R, begun: Begun, wanted: usize, rows: &[usize]) {
     let Begun::Turn { sub, positions } = begun else {
         panic!(rt; "no turn");
     };
-    assert_eq!(rt; sub, wanted);
-    assert_eq!(rt; positions.as_slice(), rows);
+    assert!(rt; sub == wanted);
+    assert!(rt; positions.as_slice() == rows);
 }
 
 // A grain that was never active, asked for once more where memory was refused.
@@ -435,8 +435,8 @@ fn made(alloc: Global) -> Result<Activation, AllocError> {
 fn compare<R: Abort>(rt: &R, one: &Activation, other: &Activation) {
     assert!(rt; one.number() == other.number() && one.is_active() == other.is_active());
     assert!(rt; one.waiting() == other.waiting() && one.front() == other.front());
-    assert_eq!(rt; one.subs(), other.subs());
-    assert_eq!(rt; one.running().is_some(), other.running().is_some());
+    assert!(rt; one.subs() == other.subs());
+    assert!(rt; one.running().is_some() == other.running().is_some());
 }
 
 // Offers a delivery. Where memory was refused, the grain is as one that was offered one delivery less,

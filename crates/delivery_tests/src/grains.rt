@@ -157,11 +157,11 @@ fn ask<R: Abort>(
     for key in keys {
         add(rt, alloc, table, grain(*key)?, 3)?;
     }
-    assert_eq!(rt; table.len(), keys.len());
+    assert!(rt; table.len() == keys.len());
     assert!(rt; table.is_empty() == keys.is_empty());
     for (call, expected) in rows {
         let text = told(rt, alloc, table, *call)?;
-        assert_eq!(rt; text.as_str(), *expected);
+        assert!(rt; text.as_str() == *expected);
     }
     Ok(())
 }
@@ -290,7 +290,7 @@ fn compare_after<R: Abort>(rt: &R, one: &GrainTable, twin: &GrainTable, grain: &
 
 // Two tables are alike.
 fn compare<R: Abort>(rt: &R, one: &GrainTable, twin: &GrainTable) -> Result<(), BadName> {
-    assert_eq!(rt; one.len(), twin.len());
+    assert!(rt; one.len() == twin.len());
     for number in 0..one.len() {
         compare_at(rt, one, twin, number);
     }
@@ -332,7 +332,7 @@ fn insist_offer<R: Abort>(
     if let Some(like) = like {
         compare(rt, table, like)?;
     }
-    assert_eq!(rt; offer(rt, alloc, table, 4, sub)?, Offered::Delivered);
+    assert!(rt; offer(rt, alloc, table, 4, sub)? == Offered::Delivered);
     Ok(())
 }
 

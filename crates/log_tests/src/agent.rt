@@ -47,7 +47,7 @@ fn pull(
     let plan = agent.plan_pull(max_events, queue.len(), least);
     if let Plan::Take { drops, count } = plan {
         agent.pull(drops, &queue[high..high + count]);
-        assert_eq!(rt; agent.cache().high(), high + count);
+        assert!(rt; agent.cache().high() == high + count);
     }
     plan
 }
@@ -69,9 +69,9 @@ fn one_block_waits_for_the_least_resume(rt: HostRuntime) -> Result<(), Fail> {
         (64, Plan::Take { drops: 1, count: 1 }),
         (64, Plan::Dry),
     ] {
-        assert_eq!(rt; pull(&rt, &mut agent, queue.as_slice(), 256, least), plan);
+        assert!(rt; pull(&rt, &mut agent, queue.as_slice(), 256, least) == plan);
     }
-    assert_eq!(rt; (agent.cache().low(), agent.cache().high()), (64, 65));
+    assert!(rt; (agent.cache().low(), agent.cache().high()) == (64, 65));
     Ok(())
 }
 
@@ -80,19 +80,18 @@ fn two_blocks_are_purged(rt: HostRuntime) -> Result<(), Fail> {
     let queue = events_of(rt.alloc(), 65)?;
     let mut agent = new_agent(&rt, rt.alloc(), 2)?;
     let plan = pull(&rt, &mut agent, queue.as_slice(), 256, 0);
-    assert_eq!(rt;
-        plan,
-        Plan::Take {
+    assert!(rt;
+        plan == Plan::Take {
             drops: 0,
             count: 65
         }
     );
-    assert_eq!(rt; pull(&rt, &mut agent, queue.as_slice(), 256, 0), Plan::Dry);
+    assert!(rt; pull(&rt, &mut agent, queue.as_slice(), 256, 0) == Plan::Dry);
     for (keep, least, low) in [(2, 65, 0), (1, 63, 0), (1, 65, 64), (0, 65, 64)] {
-        assert_eq!(rt; agent.purge(keep, least), low, "keep {keep}");
-        assert_eq!(rt; agent.cache().low(), low, "keep {keep}");
+        assert!(rt; agent.purge(keep, least) == low, "keep {keep}");
+        assert!(rt; agent.cache().low() == low, "keep {keep}");
     }
-    assert_eq!(rt; agent.cache().high(), 65);
+    assert!(rt; agent.cache().high() == 65);
     Ok(())
 }
 
@@ -121,7 +120,7 @@ fn a_pull_brings_1_to_256_events(rt: HostRuntime) -> Result<(), Fail> {
         (1000, 200, Plan::Dry),
     ] {
         let pulled = pull(&rt, &mut agent, queue.as_slice(), max_events, least);
-        assert_eq!(rt; pulled, plan, "at most {max_events}");
+        assert!(rt; pulled == plan, "at most {max_events}");
     }
     Ok(())
 }
@@ -131,21 +130,20 @@ fn an_agent_that_was_replaced_is_refused(rt: HostRuntime) -> Result<(), Fail> {
     let queue = events_of(rt.alloc(), 64)?;
     let mut agent = new_agent(&rt, rt.alloc(), 2)?;
     let plan = pull(&rt, &mut agent, queue.as_slice(), 64, 0);
-    assert_eq!(rt;
-        plan,
-        Plan::Take {
+    assert!(rt;
+        plan == Plan::Take {
             drops: 0,
             count: 64
         }
     );
-    assert_eq!(rt; agent.generation(), 0);
-    assert_eq!(rt; agent.check(0), Ok(()));
-    assert_eq!(rt; agent.take_over(3, 9), 1);
-    assert_eq!(rt; (agent.generation(), agent.silo()), (1, 3));
-    assert_eq!(rt; (agent.cache().low(), agent.cache().high()), (9, 9));
+    assert!(rt; agent.generation() == 0);
+    assert!(rt; agent.check(0) == Ok(()));
+    assert!(rt; agent.take_over(3, 9) == 1);
+    assert!(rt; (agent.generation(), agent.silo()) == (1, 3));
+    assert!(rt; (agent.cache().low(), agent.cache().high()) == (9, 9));
     let stale = StaleAgent { now: 1 };
-    assert_eq!(rt; agent.check(0), Err(stale));
-    assert_eq!(rt; agent.check(1), Ok(()));
-    assert_eq!(rt; agent.check(2), Err(stale));
+    assert!(rt; agent.check(0) == Err(stale));
+    assert!(rt; agent.check(1) == Ok(()));
+    assert!(rt; agent.check(2) == Err(stale));
     Ok(())
 }

@@ -79,17 +79,14 @@ fn events_fill_two_blocks(rt: HostRuntime) -> Result<(), Fail> {
     let mut events = [event(0)?; 128];
     number_from(5, &mut events)?;
     let mut cache = new_cache(rt.alloc(), 2, 5)?;
-    assert_eq!(rt;
-        (cache.room(), cache.block_count(), cache.blocks()),
-        (128, 0, 2)
-    );
+    assert!(rt; (cache.room(), cache.block_count(), cache.blocks()) == (128, 0, 2));
     let (first, rest) = events.as_slice().split_at(65);
     take(&rt, &mut cache, first);
-    assert_eq!(rt; (cache.low(), cache.high(), cache.room()), (5, 70, 63));
-    assert_eq!(rt; (cache.block_count(), cache.blocks()), (2, 2));
+    assert!(rt; (cache.low(), cache.high(), cache.room()) == (5, 70, 63));
+    assert!(rt; (cache.block_count(), cache.blocks()) == (2, 2));
     check_events(&rt, &cache, 0)?;
     take(&rt, &mut cache, rest);
-    assert_eq!(rt; (cache.high(), cache.room()), (133, 0));
+    assert!(rt; (cache.high(), cache.room()) == (133, 0));
     take(&rt, &mut cache, &[]);
     check_events(&rt, &cache, 0)
 }
@@ -107,11 +104,8 @@ fn blocks_turn(rt: HostRuntime) -> Result<(), Fail> {
         take(&rt, &mut cache, &events);
         check_events(&rt, &cache, 0)?;
     }
-    assert_eq!(rt; (cache.low(), cache.high()), (1344, 1500));
-    assert_eq!(rt;
-        (cache.room(), cache.block_count(), cache.blocks()),
-        (36, 3, 3)
-    );
+    assert!(rt; (cache.low(), cache.high()) == (1344, 1500));
+    assert!(rt; (cache.room(), cache.block_count(), cache.blocks()) == (36, 3, 3));
     Ok(())
 }
 
@@ -121,14 +115,11 @@ fn a_cache_is_reset(rt: HostRuntime) -> Result<(), Fail> {
     let mut events = [event(0)?; 100];
     take(&rt, &mut cache, &events);
     cache.reset(1000);
-    assert_eq!(rt; (cache.low(), cache.high()), (1000, 1000));
-    assert_eq!(rt;
-        (cache.room(), cache.block_count(), cache.blocks()),
-        (128, 0, 2)
-    );
+    assert!(rt; (cache.low(), cache.high()) == (1000, 1000));
+    assert!(rt; (cache.room(), cache.block_count(), cache.blocks()) == (128, 0, 2));
     number_from(20, &mut events)?;
     take(&rt, &mut cache, &events);
-    assert_eq!(rt; (cache.low(), cache.high(), cache.room()), (1000, 1100, 28));
+    assert!(rt; (cache.low(), cache.high(), cache.room()) == (1000, 1100, 28));
     check_events(&rt, &cache, usize::MAX - 979)
 }
 
@@ -139,8 +130,8 @@ fn the_only_block_goes(rt: HostRuntime) -> Result<(), Fail> {
     let mut events = [event(0)?; 64];
     take(&rt, &mut cache, &events);
     drop_front(&rt, &mut cache);
-    assert_eq!(rt; (cache.low(), cache.high()), (73, 73));
-    assert_eq!(rt; (cache.room(), cache.block_count()), (BLOCK_SIZE, 0));
+    assert!(rt; (cache.low(), cache.high()) == (73, 73));
+    assert!(rt; (cache.room(), cache.block_count()) == (BLOCK_SIZE, 0));
     number_from(73, &mut events)?;
     take(&rt, &mut cache, &events);
     check_events(&rt, &cache, 0)

@@ -19,9 +19,8 @@ fn places_are_those_of_the_digest(rt: HostRuntime) -> Result<(), Fail> {
     ] {
         let stream = StreamId::new(namespace, key)?;
         for (count, queue) in [1, 2, 3, 64].into_iter().zip(queues) {
-            assert_eq!(rt;
-                place(&stream, count),
-                Place { queue, tag },
+            assert!(rt;
+                place(&stream, count) == Place { queue, tag },
                 "among {count}"
             );
         }
@@ -44,9 +43,8 @@ fn places_are_those_of_sha256sum(rt: HostRuntime) -> Result<(), Fail> {
     ] {
         let stream = StreamId::new(namespace, key)?;
         for (count, queue) in [1, 7, 64].into_iter().zip(queues) {
-            assert_eq!(rt;
-                place(&stream, count),
-                Place { queue, tag },
+            assert!(rt;
+                place(&stream, count) == Place { queue, tag },
                 "among {count}"
             );
         }
@@ -62,7 +60,7 @@ fn a_hundred_streams_reach_each_of_seven_queues(rt: HostRuntime) -> Result<(), F
         assert!(rt; queue < 7);
         is_reached[queue] = true;
     }
-    assert_eq!(rt; is_reached, [true; 7]);
+    assert!(rt; is_reached == [true; 7]);
     Ok(())
 }
 
@@ -79,7 +77,7 @@ fn two_of_257_streams_have_equal_tags(rt: HostRuntime) -> Result<(), Fail> {
         }
         holders[tag] = Some(number);
     }
-    assert_eq!(rt; pair, Some((1, 2)));
+    assert!(rt; pair == Some((1, 2)));
     Ok(())
 }
 

@@ -26,9 +26,9 @@ fn batch_of(alloc: Global, count: u8) -> Result<Batch, AllocError> {
 
 /// The two queues show the same.
 fn compare(rt: &impl Abort, queue: &PartitionQueue, twin: &PartitionQueue) {
-    assert_eq!(rt; queue.len(), twin.len());
-    assert_eq!(rt; queue.batches(), twin.batches());
-    assert_eq!(rt; queue.between(0, queue.len()), twin.between(0, twin.len()));
+    assert!(rt; queue.len() == twin.len());
+    assert!(rt; queue.batches() == twin.batches());
+    assert!(rt; queue.between(0, queue.len()) == twin.between(0, twin.len()));
 }
 
 /// What became of a batch in a queue and in its twin. Where it fails to allocate the queue is as it was, and
@@ -53,7 +53,7 @@ fn told(
         Ok(told) => told,
         Err(AllocError) => twin.append(alloc, *stream, &batch)?,
     };
-    assert_eq!(rt; told, same);
+    assert!(rt; told == same);
     compare(rt, queue, twin);
     Ok(told)
 }
@@ -65,7 +65,7 @@ fn batches_are_counted_from_0(rt: HostRuntime) -> Result<(), Fail> {
     let mut queue = PartitionQueue::new(alloc, 66);
     let mut twin = PartitionQueue::new(alloc, 66);
     assert!(rt; queue.is_empty());
-    assert_eq!(rt; queue.token_at(0), Token { seq: 0, idx: 0 });
+    assert!(rt; queue.token_at(0) == Token { seq: 0, idx: 0 });
     for (count, became) in [
         (0, Appended::BadBatch),
         (65, Appended::BadBatch),
@@ -78,9 +78,9 @@ fn batches_are_counted_from_0(rt: HostRuntime) -> Result<(), Fail> {
         (0, Appended::BadBatch),
     ] {
         let told = told(&rt, alloc, (&mut queue, &mut twin), &stream, count)?;
-        assert_eq!(rt; told, became, "a batch of {count}");
+        assert!(rt; told == became, "a batch of {count}");
     }
-    assert_eq!(rt; (queue.len(), queue.batches()), (66, 2));
+    assert!(rt; (queue.len(), queue.batches()) == (66, 2));
     assert!(rt; !queue.is_empty());
     Ok(())
 }
@@ -94,7 +94,7 @@ fn tokens_are_counted_in_a_batch(rt: HostRuntime) -> Result<(), Fail> {
     for count in [1, 3, 2] {
         told(&rt, alloc, (&mut queue, &mut twin), &stream, count)?;
     }
-    assert_eq!(rt; queue.len(), 6);
+    assert!(rt; queue.len() == 6);
     for (position, seq, idx) in [
         (0, 0, 0),
         (1, 1, 0),
@@ -105,9 +105,8 @@ fn tokens_are_counted_in_a_batch(rt: HostRuntime) -> Result<(), Fail> {
         (6, 3, 0),
     ] {
         assert!(rt; position <= queue.len());
-        assert_eq!(rt;
-            queue.token_at(position),
-            Token { seq, idx },
+        assert!(rt;
+            queue.token_at(position) == Token { seq, idx },
             "at {position}"
         );
     }
@@ -123,13 +122,13 @@ fn events_are_read_by_position(rt: HostRuntime) -> Result<(), Fail> {
     let mut twin = PartitionQueue::new(alloc, 10);
     told(&rt, alloc, (&mut queue, &mut twin), &first, 2)?;
     told(&rt, alloc, (&mut queue, &mut twin), &second, 1)?;
-    assert_eq!(rt; queue.len(), 3);
+    assert!(rt; queue.len() == 3);
     let event = *queue.event_at(1);
     assert!(rt; event.stream == first);
-    assert_eq!(rt; event.token, Token { seq: 0, idx: 1 });
-    assert_eq!(rt; event.payload.as_bytes(), b"!".as_slice());
+    assert!(rt; event.token == Token { seq: 0, idx: 1 });
+    assert!(rt; event.payload.as_bytes() == b"!".as_slice());
     assert!(rt; queue.event_at(2).stream == second);
-    assert_eq!(rt; queue.between(1, 2), [event].as_slice());
-    assert_eq!(rt; queue.between(3, 3).len(), 0);
+    assert!(rt; queue.between(1, 2) == [event].as_slice());
+    assert!(rt; queue.between(3, 3).len() == 0);
     Ok(())
 }

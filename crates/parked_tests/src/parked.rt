@@ -59,11 +59,20 @@ pub enum Astray {
 /// A parked cluster, its caller, and the loops of its silos that weren't given back.
 ///
 /// A contract sees of how many silos it has the loops.
-#[derive(Drop)]
 pub struct Parked {
     cluster: Cluster<Counting, Calls, Asked>,
     caller: Caller<Counting, Calls>,
     crew: Vec<Loops>,
+}
+
+impl Drop for Parked {
+    fn drop(self) {
+        let Self {
+            cluster: _,
+            caller: _,
+            crew: _,
+        } = self;
+    }
 }
 
 impl Model for Parked {

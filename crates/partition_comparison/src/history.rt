@@ -71,12 +71,22 @@ fn compare_history(memory: Memory, like: Like, rounds: u64, tally: &mut Tally) -
 }
 
 /// A history that is made.
-#[derive(Drop)]
 struct History {
     memory: Memory,
     both: SideBySide,
     heard: Heard,
     draws: Draws,
+}
+
+impl Drop for History {
+    fn drop(self) {
+        let Self {
+            memory: _,
+            both: _,
+            heard: _,
+            draws: _,
+        } = self;
+    }
 }
 
 impl History {

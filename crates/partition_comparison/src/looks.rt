@@ -5,7 +5,7 @@ use stream_ident::{Event, SubName, Token};
 use stream_model::{PlainPartition, Subscription};
 
 /// What can be looked at of a partition.
-#[derive(Debug, PartialEq, Drop)]
+#[derive(Debug, PartialEq)]
 pub struct Looks {
     /// The generation and the silo of the agent.
     pub agent: (u64, u8),
@@ -19,6 +19,19 @@ pub struct Looks {
     pub subs: Vec<SubSummary>,
     /// What each of them has handled.
     pub handled: Vec<Vec<Event>>,
+}
+
+impl Drop for Looks {
+    fn drop(self) {
+        let Self {
+            agent: _,
+            low: _,
+            high: _,
+            pending: _,
+            subs: _,
+            handled: _,
+        } = self;
+    }
 }
 
 impl Looks {

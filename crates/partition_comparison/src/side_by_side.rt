@@ -15,12 +15,22 @@ use step_core::{DrainEnd, Limits, Op, Partition, Reply};
 /// A partition, its twin and the plain program, to which the same operations are done.
 ///
 /// The twin is given one operation after another, also where the partition is given several at once.
-#[derive(Drop)]
 pub struct SideBySide {
     place: Place,
     partition: Partition,
     twin: Partition,
     reference: partition_reference::Partition,
+}
+
+impl Drop for SideBySide {
+    fn drop(self) {
+        let Self {
+            place: _,
+            partition: _,
+            twin: _,
+            reference: _,
+        } = self;
+    }
 }
 
 impl SideBySide {

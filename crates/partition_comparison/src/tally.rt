@@ -6,7 +6,6 @@ use std::io;
 use step_core::{DrainEnd, Op, Reply};
 
 /// How often each operation had each reply, and which of them failed to allocate.
-#[derive(Drop)]
 pub struct Tally {
     /// The counts of the first operation's replies, then those of the next.
     replies: Vec<u64>,
@@ -14,6 +13,18 @@ pub struct Tally {
     wants: Vec<u64>,
     runs: u64,
     drains: u64,
+}
+
+impl Drop for Tally {
+    fn drop(self) {
+        let Self {
+            replies: _,
+            ends: _,
+            wants: _,
+            runs: _,
+            drains: _,
+        } = self;
+    }
 }
 
 impl Tally {

@@ -12,10 +12,10 @@ fn lines_have_their_numbers(rt: HostRuntime) -> Result<(), Fail> {
     let [first, second, third] = lines.as_slice() else {
         return Err(Fail::from("there are three lines"));
     };
-    assert_eq!(rt; first.number, 3);
+    assert!(rt; first.number == 3);
     assert!(rt; matches!(first.command, Command::Step { .. }));
-    assert_eq!(rt; second.number, 5);
-    assert_eq!(rt; third.number, 6);
+    assert!(rt; second.number == 5);
+    assert!(rt; third.number == 6);
     assert!(rt; matches!(third.command, Command::Down { silo: 3 }));
     Ok(())
 }
@@ -34,7 +34,7 @@ fn the_first_fault(rt: HostRuntime) -> Result<(), Fail> {
         let Script::Fault(fault) = read_lines(rt.alloc(), text, 2)? else {
             return Err(Fail::from("there is a fault"));
         };
-        assert_eq!(rt; fault, Fault { line, kind });
+        assert!(rt; fault == Fault { line, kind });
     }
     Ok(())
 }

@@ -165,8 +165,8 @@ fn a_line_may_be_any_byte(rt: HostRuntime) -> Result<(), Fail> {
         let mut script = Vec::from_slice(rt.alloc(), b"pub o/k \"a\"\n")?;
         script.push(byte)?;
         let (outcome, text) = simulate(rt.alloc(), &script);
-        assert_eq!(rt; outcome, fault_of(byte), "at byte {byte}");
-        assert_eq!(rt; text.as_slice(), &b"0 published 0\n"[..]);
+        assert!(rt; outcome == fault_of(byte), "at byte {byte}");
+        assert!(rt; text.as_slice() == &b"0 published 0\n"[..]);
     }
     Ok(())
 }

@@ -145,8 +145,8 @@ const SCRIPTS: &[(&[u8], Result<(), SimError>, &[u8])] = &[
 fn scripts_are_done_line_by_line(rt: HostRuntime) {
     for (script, outcome, replies) in SCRIPTS {
         let (ended, text) = simulate(rt.alloc(), script);
-        assert_eq!(rt; ended, *outcome);
-        assert_eq!(rt; text.as_slice(), *replies);
+        assert!(rt; ended == *outcome);
+        assert!(rt; text.as_slice() == *replies);
     }
 }
 
@@ -154,10 +154,10 @@ fn scripts_are_done_line_by_line(rt: HostRuntime) {
 fn a_script_that_is_too_long_is_not_begun(rt: HostRuntime) -> Result<(), Fail> {
     let script = vec![in rt.alloc(); b'#'; 4_194_305]?;
     let (outcome, text) = simulate(rt.alloc(), &script);
-    assert_eq!(rt; outcome, faulty(0, FaultKind::TooLong));
+    assert!(rt; outcome == faulty(0, FaultKind::TooLong));
     assert!(rt; text.is_empty());
     let (outcome, text) = simulate(rt.alloc(), &script[1..]);
-    assert_eq!(rt; outcome, Ok(()));
+    assert!(rt; outcome == Ok(()));
     assert!(rt; text.is_empty());
     Ok(())
 }
@@ -177,7 +177,7 @@ fn nothing_is_read_past_the_limit(rt: HostRuntime) -> Result<(), Fail> {
             kind: ErrorKind::BrokenPipe,
         };
         let (ended, failed, text) = simulate_over(rt.alloc(), &script, reads, SOUND);
-        assert_eq!(rt; (ended, failed, text.len()), (outcome, failures, 0));
+        assert!(rt; (ended, failed, text.len()) == (outcome, failures, 0));
     }
     Ok(())
 }
@@ -198,7 +198,7 @@ fn a_failed_read_is_told(rt: HostRuntime) {
                 kind: *kind,
             };
             let (ended, failed, text) = simulate_over(rt.alloc(), b"# no", reads, SOUND);
-            assert_eq!(rt; (ended, failed, text.len()), (*outcome, [*failures, 0], 0));
+            assert!(rt; (ended, failed, text.len()) == (*outcome, [*failures, 0], 0));
         }
     }
 }
@@ -272,8 +272,8 @@ fn a_failed_write_is_told(rt: HostRuntime) {
             kind: *kind,
         };
         let (ended, failed, text) = simulate_over(rt.alloc(), script, SOUND, writes);
-        assert_eq!(rt; (ended, failed), (*outcome, [0, *failures]));
-        assert_eq!(rt; text.as_slice(), *wanted);
+        assert!(rt; (ended, failed) == (*outcome, [0, *failures]));
+        assert!(rt; text.as_slice() == *wanted);
     }
 }
 
@@ -282,10 +282,10 @@ fn a_failed_write_is_told(rt: HostRuntime) {
 fn a_full_writer_has_failed(rt: HostRuntime) {
     let mut room = [0u8; 4];
     let mut sink = Counted::new(&mut room[..]);
-    assert_eq!(rt; sink.write(b"abc"), Ok(3));
-    assert_eq!(rt; sink.write(b"de"), Ok(1));
-    assert_eq!(rt; sink.write(b"e"), Err(Failed));
-    assert_eq!(rt; sink.failures(), 1);
+    assert!(rt; sink.write(b"abc") == Ok(3));
+    assert!(rt; sink.write(b"de") == Ok(1));
+    assert!(rt; sink.write(b"e") == Err(Failed));
+    assert!(rt; sink.failures() == 1);
 }
 
 /// A read of each byte, and one that finds the end.
@@ -303,7 +303,7 @@ fn each_read_that_fails_is_told(rt: HostRuntime) {
             (Ok(()), [0, 0], 124)
         };
         let (ended, failed, text) = simulate_over(rt.alloc(), DRAINED, reads, SOUND);
-        assert_eq!(rt; (ended, failed, text.len()), wanted, "at call {fails_at}");
+        assert!(rt; (ended, failed, text.len()) == wanted, "at call {fails_at}");
     }
 }
 
@@ -318,9 +318,9 @@ fn each_write_that_fails_is_told(rt: HostRuntime) {
                 kind,
             };
             let (ended, failed, text) = simulate_over(rt.alloc(), DRAINED, SOUND, writes);
-            assert_eq!(rt;
-                (ended, failed, text.len()),
-                (Err(SimError::WriteFault), [0, 1], fails_at as usize)
+            assert!(rt;
+                (ended, failed, text.len())
+                    == (Err(SimError::WriteFault), [0, 1], fails_at as usize)
             );
             assert!(rt; DRAINED_REPLIES.starts_with(&text), "at call {fails_at}");
         }

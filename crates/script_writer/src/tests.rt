@@ -108,9 +108,9 @@ const NAMELESS: [(Op, &[u8]); 12] = [
 fn operations_without_names(rt: HostRuntime) -> Result<(), Fail> {
     for (op, line) in NAMELESS {
         let written = line_of(rt.alloc(), &op)?;
-        assert_eq!(rt; written.as_slice(), line);
+        assert!(rt; written.as_slice() == line);
         let read = shown(rt.alloc(), &written)?;
-        assert_eq!(rt; read, wanted(rt.alloc(), &op)?);
+        assert!(rt; read == wanted(rt.alloc(), &op)?);
     }
     Ok(())
 }
@@ -177,9 +177,9 @@ fn subscribe(stream: StreamId, grain: GrainId, start: Start) -> Op {
 fn operations_with_names(rt: HostRuntime) -> Result<(), Fail> {
     for (op, line) in named()? {
         let written = line_of(rt.alloc(), &op)?;
-        assert_eq!(rt; written.as_slice(), line);
+        assert!(rt; written.as_slice() == line);
         let read = shown(rt.alloc(), &written)?;
-        assert_eq!(rt; read, wanted(rt.alloc(), &op)?);
+        assert!(rt; read == wanted(rt.alloc(), &op)?);
     }
     Ok(())
 }
@@ -207,9 +207,9 @@ fn publishes(rt: HostRuntime) -> Result<(), Fail> {
             payloads: Batch::of(payloads),
         };
         let written = line_of(rt.alloc(), &op)?;
-        assert_eq!(rt; written.as_slice(), line);
+        assert!(rt; written.as_slice() == line);
         let read = shown(rt.alloc(), &written)?;
-        assert_eq!(rt; read, wanted(rt.alloc(), &op)?);
+        assert!(rt; read == wanted(rt.alloc(), &op)?);
     }
     Ok(())
 }
@@ -218,6 +218,6 @@ fn publishes(rt: HostRuntime) -> Result<(), Fail> {
 fn a_line_stands_behind_what_was_there(rt: HostRuntime) -> Result<(), Fail> {
     let mut out = Vec::from_slice(rt.alloc(), b"quiet\n")?;
     write_op(QUEUE, &Op::Move { silo: 0 }, &mut out)?;
-    assert_eq!(rt; out.as_slice(), &b"quiet\nmove 3 0"[..]);
+    assert!(rt; out.as_slice() == &b"quiet\nmove 3 0"[..]);
     Ok(())
 }

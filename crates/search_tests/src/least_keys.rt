@@ -47,8 +47,8 @@ fn least_place(keys: &[Option<usize>]) -> Option<usize> {
 /// Each answer of a tree is that of plain loops over its keys.
 fn assert_agree(rt: &impl Abort, tree: &LeastTree, keys: &[Option<usize>], random: &mut Random) {
     let len = keys.len();
-    assert_eq!(rt; tree.len(), len);
-    assert_eq!(rt; tree.is_empty(), len == 0);
+    assert!(rt; tree.len() == len);
+    assert!(rt; tree.is_empty() == (len == 0));
     for place in 0..len {
         assert!(rt; tree.get(place) == keys[place], "at {place}");
     }
@@ -80,7 +80,7 @@ fn insert(
     if tree.insert(alloc, place, key).is_ok() {
         return Ok(());
     }
-    assert_eq!(rt; tree.len(), len);
+    assert!(rt; tree.len() == len);
     assert!(rt; tree.least() == least);
     assert!(rt; tree.first_at_most(0, 4) == first);
     tree.insert(alloc, place, key)

@@ -11,7 +11,7 @@ fn a_block_of_tags(rt: HostRuntime) {
     assert!(rt; find_tag(&tags, 1, 7) == Some(1));
     assert!(rt; find_tag(&tags, 64, 7) == None);
     assert!(rt; mask(&tags, 9) == 9223372036854775808);
-    assert_eq!(rt; count_tag(&tags, 7), 63);
+    assert!(rt; count_tag(&tags, 7) == 63);
 }
 
 #[test]
@@ -28,9 +28,8 @@ fn lists_as_plain_loops_have_it(rt: HostRuntime) {
     for length in 0..131 {
         let list = &tags[..length];
         for tag in 0..6 {
-            assert_eq!(rt;
-                count_tag(list, tag),
-                plain_count(list, tag),
+            assert!(rt;
+                count_tag(list, tag) == plain_count(list, tag),
                 "{tag} of {length}"
             );
             for from in 0..length + 2 {

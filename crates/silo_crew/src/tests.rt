@@ -35,13 +35,24 @@ const HISTORY: u64 = 1_000_000;
 // The lines of two queues and of the directory, from which those of loops are split, and a caller.
 //
 // A contract sees their turnstiles.
-#[derive(Drop)]
 struct Cluster {
     gate: Arc<Counting, Global>,
     doorbell: Arc<Doorbell, Global>,
     lines: Vec<Line<Counting, Plain>>,
     directory: DirectoryLine<Asked>,
     caller: Caller<Counting, Plain>,
+}
+
+impl Drop for Cluster {
+    fn drop(self) {
+        let Self {
+            gate: _,
+            doorbell: _,
+            lines: _,
+            directory: _,
+            caller: _,
+        } = self;
+    }
 }
 
 impl Model for Cluster {
@@ -60,9 +71,14 @@ impl Model for Cluster {
 }
 
 // The loops of a silo in threads. A contract sees the turnstiles of their passes.
-#[derive(Drop)]
 struct Running {
     silo: RunningSilo<Counting, Plain, Asked>,
+}
+
+impl Drop for Running {
+    fn drop(self) {
+        let Self { silo: _ } = self;
+    }
 }
 
 impl Model for Running {

@@ -32,7 +32,6 @@ pub enum Beside {
 }
 
 /// Some queues and two silos over them.
-#[derive(Drop)]
 pub struct Cluster {
     shared: Shared,
     queues: Vec<Queue>,
@@ -40,6 +39,17 @@ pub struct Cluster {
     other: Silo,
     ghost one_here: { one ≡ queues.items },
     ghost other_here: { other ≡ queues.items },
+}
+
+impl Drop for Cluster {
+    fn drop(self) {
+        let Self {
+            shared: _,
+            queues: _,
+            one: _,
+            other: _,
+        } = self;
+    }
 }
 
 impl Cluster {

@@ -25,11 +25,20 @@ type Shared = SharedPartition<Recorder, History>;
 /// A queue with a producer's pass, and a line from which those of loops are split.
 ///
 /// A contract sees which turnstile it is.
-#[derive(Drop)]
 pub struct Queue {
     turnstile: Arc<Turnstile<Shared>, Global>,
     pass: PassOf<Shared>,
     line: QueueLine,
+}
+
+impl Drop for Queue {
+    fn drop(self) {
+        let Self {
+            turnstile: _,
+            pass: _,
+            line: _,
+        } = self;
+    }
 }
 
 impl Model for Queue {

@@ -37,12 +37,22 @@ pub enum Loop {
 /// The loops of a silo: an agent and two workers.
 ///
 /// A contract sees the turnstiles of its lines, in the order of the queues.
-#[derive(Drop)]
 pub struct Silo {
     assigned: Arc<Assigned, Global>,
     agent: Agent,
     first: Worker,
     second: Worker,
+}
+
+impl Drop for Silo {
+    fn drop(self) {
+        let Self {
+            assigned: _,
+            agent: _,
+            first: _,
+            second: _,
+        } = self;
+    }
 }
 
 impl Model for Silo {
@@ -59,11 +69,20 @@ impl Model for Silo {
 }
 
 /// What the loops of all silos share.
-#[derive(Drop)]
 pub struct Shared {
     pub gate: Arc<Recorder, Global>,
     pub doorbell: Arc<Doorbell, Global>,
     pub directory: Directory,
+}
+
+impl Drop for Shared {
+    fn drop(self) {
+        let Self {
+            gate: _,
+            doorbell: _,
+            directory: _,
+        } = self;
+    }
 }
 
 impl Silo {

@@ -18,9 +18,14 @@ use turnstile::PlainHistory;
 pub type Calls = PlainHistory<Op, Reply>;
 
 /// A caller of a cluster. A contract sees the turnstiles of its passes.
-#[derive(Drop)]
 pub struct Producer<G: Gate> {
     caller: Caller<G, Calls>,
+}
+
+impl<G: Gate + Drop> Drop for Producer<G> {
+    fn drop(self) {
+        let Self { caller: _ } = self;
+    }
 }
 
 impl<G: Gate> Model for Producer<G> {

@@ -20,9 +20,14 @@ type Asked = PlainHistory<DirectoryOp, DirectoryReply>;
 pub type Ended = Result<Finished<Calls>, AllocError>;
 
 /// A cluster. A contract sees the turnstiles of its queues.
-#[derive(Drop)]
 pub struct Running<G: Gate> {
     cluster: Cluster<G, Calls, Asked>,
+}
+
+impl<G: Gate + Drop> Drop for Running<G> {
+    fn drop(self) {
+        let Self { cluster: _ } = self;
+    }
 }
 
 impl<G: Gate> Model for Running<G> {

@@ -82,11 +82,19 @@ pub(crate) fn implicit(rt: &impl Abort, kind: u8, key: u8) -> SubName {
 }
 
 /// A table that counts its explicit subscriptions.
-#[derive(Drop)]
 pub(crate) struct Counted {
     pub(crate) table: SubscriptionTable,
     explicit: u32,
     ghost counted: { table.registry.explicit ≡ explicit },
+}
+
+impl Drop for Counted {
+    fn drop(self) {
+        let Self {
+            table: _,
+            explicit: _,
+        } = self;
+    }
 }
 
 impl Counted {
@@ -161,10 +169,15 @@ pub(crate) fn are_below(numbers: &[usize], end: usize) -> bool
 }
 
 /// The log of a partition, and a cache that has all its events.
-#[derive(Drop)]
 pub(crate) struct Log {
     pub(crate) queue: PartitionQueue,
     pub(crate) cache: QueueCache,
+}
+
+impl Drop for Log {
+    fn drop(self) {
+        let Self { queue: _, cache: _ } = self;
+    }
 }
 
 impl Log {

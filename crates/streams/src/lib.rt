@@ -1,0 +1,36 @@
+//! Streams over silos in one process: all that a service needs, in one place.
+//!
+//! A [`Cluster`] has queues, and silos that are threads. A [`Caller`] publishes to streams and subscribes grains, from
+//! any thread. A [`Gate`] has the handler, which is called for each event of a turn. [`Cluster::finish`] ends a cluster
+//! and gives its report, and what is left of each partition.
+//!
+//! What each call promises stands in the crate that it comes from, and is proved there. Nothing here has code.
+#![tactic(auto)]
+
+pub use activation_directory::{DirectoryOp, DirectoryReply};
+pub use cluster_callers::Caller;
+pub use cluster_ending::{Finished, Traces};
+pub use queue_mapper::{Place, place};
+pub use script_producer::{Drained, drain};
+pub use shared_partition::{Counting, Gate};
+pub use step_core::{Partition, SubSummary};
+pub use stream_cluster::{Cluster, Config, Retired, SiloDown, SiloUp};
+pub use stream_ident::{
+    BadName, BadPayload, Batch, Event, GrainId, Name, Payload, StreamId, SubName, Token,
+};
+pub use stream_model::{Limits, Op, Pending, Reply, Start};
+pub use turnstile::{AskedHistory, ProofHistory, Refusal, StoredHistory};
+
+/// A cluster whose histories take no memory: only proofs see them. That is the one for a service that stays up.
+pub type UntracedCluster<G> = Cluster<
+    G,
+    ProofHistory<Op, Reply>,
+    ProofHistory<DirectoryOp, DirectoryReply>,
+>;
+
+/// A cluster that keeps what it was asked, so that the history of each queue can be read at its end.
+pub type TracedCluster<G> = Cluster<
+    G,
+    AskedHistory<Op, Reply>,
+    ProofHistory<DirectoryOp, DirectoryReply>,
+>;
