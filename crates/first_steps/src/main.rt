@@ -23,8 +23,8 @@ struct Desks;
 impl Gate for Desks {
     fn inside(&self, _queue: usize) {}
 
-    /// Is called for each event of a turn. The note is the subscription's own number, which is stored with the turn:
-    /// here the number of letters that were ordered so far.
+    /// Is called for each event of a turn. The note is a number of the subscription's own, which is stored with the
+    /// turn: here it counts the letters that were ordered.
     fn handle(&self, _sub: &SubName, event: &Event, note: u64) -> u64 {
         note.saturating_add(event.payload.as_bytes().len() as u64)
     }
@@ -38,10 +38,11 @@ fn main(rt: HostRuntime) -> Result<()> {
     let stream = StreamId::new(b"orders", b"ann")?;
     let grain = GrainId::new(b"desk", b"ann")?;
     let queue = place(&stream, caller.queues()).queue;
+    let start = Start::Latest;
     let subscribe = Op::Subscribe {
         stream,
         grain,
-        start: Start::Latest,
+        start,
     };
     ensure!(caller.call(&rt, alloc, queue, subscribe).is_ok());
     let payloads = Batch::of(vec![in alloc; Payload::new(b"tea")?, Payload::new(b"milk")?]?);
