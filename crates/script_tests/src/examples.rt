@@ -309,4 +309,37 @@ pub(crate) const EXAMPLES: &[&[Row]] = &[
         ("sub o/k g/y from 0.0", "miss 0.0 low 1.0 high 1.0"),
         ("sub o/k g/y from 1.0", "subscribed 2"),
     ],
+    // nothing to report
+    &[("report", "report")],
+    // o/1 and o/2 have the same tag, and each subscription handles its own events alone
+    &[
+        ("sub o/1 g/x latest", "subscribed 1"),
+        ("sub o/2 g/y latest", "subscribed 2"),
+        ("pub o/1 \"a\"", "published 0"),
+        ("pub o/2 \"b\"", "published 1"),
+        ("pub o/1 \"c\" \"d\"", "published 2"),
+        ("pub o/2 \"e\"", "published 3"),
+        ("drain", "drained 5"),
+        (
+            "report",
+            "report\n0:1 o/1 g/x 0.0 3\n  0.0 \"a\"\n  2.0 \"c\"\n  2.1 \"d\"\n0:2 o/2 g/y 0.0 2\n  1.0 \"b\"\n  3.0 \"e\"",
+        ),
+    ],
+    // the greatest note is kept with the turn
+    &[
+        ("sub o/k g/x latest", "subscribed 1"),
+        ("pub o/k \"a\" \"b\"", "published 0"),
+        ("pull 0 0 32", "pulled 2 low 0.0 high 1.0"),
+        ("deliver 0 0:1", "delivered 0.0"),
+        (
+            "begin 0 g/x",
+            "turn 1 sub 1 activation 1 event 0.0 \"a\" note 0",
+        ),
+        ("commit 0 g/x 1 1 18446744073709551615", "committed 1 0.0"),
+        ("deliver 0 0:1", "delivered 0.1"),
+        (
+            "begin 0 g/x",
+            "turn 2 sub 1 activation 1 event 0.1 \"b\" note 18446744073709551615",
+        ),
+    ],
 ];

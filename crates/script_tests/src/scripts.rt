@@ -94,6 +94,17 @@ fn gives(alloc: Global, rows: &[Row], blocks: usize, limits: Limits) -> Result<b
 const BATCH_OF_48: &str =
     "pub o/k \"t\" \"t\" \"t\" \"t\" \"t\" \"t\" \"t\" \"t\" \"t\" \"t\" \"t\" \"t\" \"t\" \"t\" \"t\" \"t\" \"t\" \"t\" \"t\" \"t\" \"t\" \"t\" \"t\" \"t\" \"t\" \"t\" \"t\" \"t\" \"t\" \"t\" \"t\" \"t\" \"t\" \"t\" \"t\" \"t\" \"t\" \"t\" \"t\" \"t\" \"t\" \"t\" \"t\" \"t\" \"t\" \"t\" \"t\" \"t\"";
 
+/// A batch of as many events as there may be, and one of one more.
+const BATCH_OF_64: &str =
+    "pub o/k \"t\" \"t\" \"t\" \"t\" \"t\" \"t\" \"t\" \"t\" \"t\" \"t\" \"t\" \"t\" \"t\" \"t\" \"t\" \"t\" \"t\" \"t\" \"t\" \"t\" \"t\" \"t\" \"t\" \"t\" \"t\" \"t\" \"t\" \"t\" \"t\" \"t\" \"t\" \"t\" \"t\" \"t\" \"t\" \"t\" \"t\" \"t\" \"t\" \"t\" \"t\" \"t\" \"t\" \"t\" \"t\" \"t\" \"t\" \"t\" \"t\" \"t\" \"t\" \"t\" \"t\" \"t\" \"t\" \"t\" \"t\" \"t\" \"t\" \"t\" \"t\" \"t\" \"t\" \"t\"";
+
+const BATCH_OF_65: &str =
+    "pub o/k \"t\" \"t\" \"t\" \"t\" \"t\" \"t\" \"t\" \"t\" \"t\" \"t\" \"t\" \"t\" \"t\" \"t\" \"t\" \"t\" \"t\" \"t\" \"t\" \"t\" \"t\" \"t\" \"t\" \"t\" \"t\" \"t\" \"t\" \"t\" \"t\" \"t\" \"t\" \"t\" \"t\" \"t\" \"t\" \"t\" \"t\" \"t\" \"t\" \"t\" \"t\" \"t\" \"t\" \"t\" \"t\" \"t\" \"t\" \"t\" \"t\" \"t\" \"t\" \"t\" \"t\" \"t\" \"t\" \"t\" \"t\" \"t\" \"t\" \"t\" \"t\" \"t\" \"t\" \"t\" \"t\"";
+
+/// An event of as many bytes as there may be.
+const LONGEST: &str =
+    "pub o/k \"xxxxxxxxxxxxxxxxxxxxxxxxxxxxxxxxxxxxxxxxxxxxxxxxxxxxxxxxxxxxxxxxxxxxxxxxxxxxxxxxxxxxxxxxxxxxxxxxxxxxxxxxxxxxxxxxxxxxxxxxxxxxxxxxxxxxxxxxxxxxxxxxxxxxxxxxxxxxxxxxxxxxxxxxxxxxxxxxxxxxxxxxxxxxxxxxxxxxxxxxxxxxxxxxxxxxxxxxxxxxxxxxxxxxxxxxxxxxxxxxxxxxxxxxxxxxxxxx\"";
+
 /// Examples in a cache of one block.
 const SMALL_CACHES: &[&[Row]] = &[
     // refusals come in their order
@@ -123,6 +134,22 @@ const SMALL_CACHES: &[&[Row]] = &[
         ("sub o/k g/x from 1.15", "miss 1.15 low 1.16 high 2.0"),
         ("sub o/k g/x from 1.16", "subscribed 1"),
         ("drain", "drained 32"),
+    ],
+    // the greatest token, batch and payload
+    &[
+        (
+            "sub o/k g/x from 18446744073709551615.4294967295",
+            "subscribed 1",
+        ),
+        (BATCH_OF_64, "published 0"),
+        (BATCH_OF_65, "bad-batch"),
+        ("pub o/k", "bad-batch"),
+        (LONGEST, "published 1"),
+        ("drain", "drained 0"),
+        (
+            "report",
+            "report\n0:1 o/k g/x 18446744073709551615.4294967295 0",
+        ),
     ],
 ];
 
