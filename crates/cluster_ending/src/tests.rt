@@ -20,22 +20,12 @@ type Plain = PlainHistory<Op, Reply>;
 type Shared = SharedPartition<Counting, Plain>;
 
 // The lines and two callers of two queues.
+#[derive(Drop)]
 struct Cluster {
     doorbell: Arc<Doorbell, Global>,
     lines: Vec<Line<Counting, Plain>>,
     first: Caller<Counting, Plain>,
     second: Caller<Counting, Plain>,
-}
-
-impl Drop for Cluster {
-    fn drop(self) {
-        let Self {
-            doorbell: _,
-            lines: _,
-            first: _,
-            second: _,
-        } = self;
-    }
 }
 
 // A turnstile over an empty partition, and its first pass.

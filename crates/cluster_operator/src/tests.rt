@@ -78,14 +78,9 @@ impl Model for Cluster {
 }
 
 // The loops of a silo by hand. A contract sees the turnstiles of their passes.
+#[derive(Drop)]
 struct Loops {
     loops: SiloLoops<Counting, Plain, Asked>,
-}
-
-impl Drop for Loops {
-    fn drop(self) {
-        let Self { loops: _ } = self;
-    }
 }
 
 impl Model for Loops {

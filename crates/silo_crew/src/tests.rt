@@ -71,14 +71,9 @@ impl Model for Cluster {
 }
 
 // The loops of a silo in threads. A contract sees the turnstiles of their passes.
+#[derive(Drop)]
 struct Running {
     silo: RunningSilo<Counting, Plain, Asked>,
-}
-
-impl Drop for Running {
-    fn drop(self) {
-        let Self { silo: _ } = self;
-    }
 }
 
 impl Model for Running {

@@ -145,6 +145,11 @@ at-goes config [] (m ∷ ms) on at = absurd on
 at-goes config (l ∷ ls) [] on at = absurd on
 at-goes config (l ∷ ls) (m ∷ ms) on at = ((at.0.0, on.0.turnstile ∙ at.0.1, at.0.2), at-goes config ls ms on.1 at.1)
 
+-- there are as many passes as lines at the same turnstiles
+as-many : (caller : List QueuePass) (lines : List LineView) → turnstiles caller ≡ places lines → length caller ≡ length lines
+as-many caller lines beside =
+    sym (length-map caller (λ (p : QueuePass). p.turnstile)) ∙ ap (λ ts. length ts) beside ∙ length-map lines (λ (l : LineView). l.pass.turnstile)
+
 -- what was opened is so while the operator's passes go on
 pub opened-on : (config : Config) (v w : OperatorView) (caller : List QueuePass) → HasOnlyGoneOn v w → IsOpened config v caller → IsOpened config w caller
 opened-on config v w caller only opened =
@@ -155,6 +160,7 @@ opened-on config v w caller only opened =
       balanced = subst (λ (xs : List ℕ). IsBalanced (replicate config.queues 0) xs w.assignment) (sym only.live)
           (subst (λ (xs : List ℕ). IsBalanced (replicate config.queues 0) v.live xs) (sym only.assignment) opened.balanced);
       beside = opened.beside ∙ sym (goes-places v.lines w.lines only.on.lines);
+      each = opened.each;
       unused = opened.unused;
     }
 
@@ -283,6 +289,7 @@ opened-whole config first lines d v e w caller same many at beside unused made e
       at = at-goes config e.lines w.lines on.lines (subst (λ (ls : List LineView). AreAtQueues config ls) (sym kept) at);
       balanced = subst (λ (xs : List ℕ). IsBalanced xs w.live w.assignment) all spread.balanced;
       beside = beside ∙ ap (λ (ls : List LineView). places ls) (sym kept) ∙ sym (goes-places e.lines w.lines on.lines);
+      each = as-many caller first beside ∙ many;
       unused = unused;
     }
 

@@ -192,13 +192,14 @@ abbrev pub AreAtQueues : Config → List LineView → Type 0
 AreAtQueues config lines = AllByRecursion (λ (l : LineView). IsAtQueue config l.pass) lines
 
 -- The operator of a new cluster and its caller: the first silos are to live, all queues are spread from silo 0 over them,
--- and the caller has made no call.
+-- and the caller has a pass at each queue and has made no call.
 pub record IsOpened (config : Config) (o : OperatorView) (caller : List QueuePass) : Type 0 where
   pub live : o.live ≡ range_with_len 0 config.silos
   pub queues : length o.lines ≡ config.queues
   pub at : AreAtQueues config o.lines
   pub balanced : IsBalanced (replicate config.queues 0) o.live o.assignment
   pub beside : turnstiles caller ≡ places o.lines
+  pub each : length caller ≡ config.queues
   pub unused : AllByRecursion IsUnused caller
 
 -- a new cluster and its caller: so it was opened, and the loops of the silos run
