@@ -2,6 +2,7 @@
 ghost use Rattle.std.specs.Prelude.{◌≡◌, ◌+◌, ◌-◌, ◌*◌, ◌%◌, ◌^◌, ◌<◌, ◌≤◌, [], ◌∷◌, ◌++◌, length, IfOk, drop, replicate, slice_set, slice_index_or, take};
 ghost use Rattle.circular_buffer.specs.Buffer.{buffer};
 ghost use Rattle.queue_mapper.specs.Place.{tag_of};
+ghost use Rattle.stream_ident.specs.Event.{no_event};
 ghost use Rattle.queue_cache.specs.Cache.{empty, high, room, event_at, with_events, without_front, block_count, block_events, tags_of};
 
 use circular_buffer::HeapCircularBuffer;
@@ -68,8 +69,8 @@ impl Block {
         ensures { self.new ≡ self.old ++ events.now }
     {
         let start = self.events.len();
-        write_tags(&mut self.tags, start, events);
         self.events.extend_from_slice(events).unwrap();
+        write_tags(&mut self.tags, &self.events, start);
     }
 
     /// Drops the events, and keeps their room.
@@ -165,7 +166,7 @@ impl QueueCache {
     }
 
     /// Takes events in at the end. It takes no memory: each event is copied once, into its place. Its tag
-    /// costs a digest of its stream.
+    /// costs a digest of its stream, where the event before it in the block is of another.
     pub fn take(&mut self, events: &[Event])
         requires room { length events.now ≤ room self.old }
         requires positions { self.old.low + (length self.old.events + length events.now) < 2 ^ 64 }
@@ -287,12 +288,30 @@ fn rotate(ring: &mut HeapCircularBuffer<Block>)
     ring.push_back(front);
 }
 
-/// Writes the tags of events from a place on.
-fn write_tags(tags: &mut [u8], start: usize, events: &[Event])
-    requires { start + length events.now ≤ length tags.old }
-    ensures { take (start + length events.now) tags.new ≡ take start tags.old ++ tags_of events.now }
+/// Writes the tags of the events from a place on, where those of the events before it are there.
+fn write_tags(tags: &mut [u8], events: &[Event], start: usize)
+    requires places { length events.now ≤ length tags.old }
+    requires start { start ≤ length events.now }
+    requires before { take start tags.old ≡ tags_of (take start events.now) }
+    ensures { take (length events.now) tags.new ≡ tags_of events.now }
 {
-    for (index, event) in events.iter().enumerate() {
-        tags[start + index] = tag(&event.stream);
+    for index in start..events.len() {
+        tags[index] = next_tag(tags, events, index);
+    }
+}
+
+/// The tag of the event at a place, where those of the events before it are there: an event of the same
+/// stream as the one before it has the same tag, and only another costs a digest.
+fn next_tag(tags: &[u8], events: &[Event], index: usize) -> u8
+    requires index { index < length events.now }
+    requires places { length events.now ≤ length tags.now }
+    requires before { take index tags.now ≡ tags_of (take index events.now) }
+    ensures { result ≡ tag_of (slice_index_or events.now index no_event).stream }
+{
+    let stream = &events[index].stream;
+    if index > 0 && events[index - 1].stream == *stream {
+        tags[index - 1]
+    } else {
+        tag(stream)
     }
 }

@@ -31,6 +31,20 @@ pub fn place(stream: &StreamId, queues: usize) -> Place
     }
 }
 
+/// The queue of a stream's place among this many queues. It takes no memory, and where there is one queue,
+/// no digest either.
+pub fn queue(stream: &StreamId, queues: usize) -> usize
+    requires { 1 ≤ queues }
+    ensures place { result ≡ (place_of stream.now queues).queue }
+    ensures queue { result < queues }
+{
+    if queues == 1 {
+        0
+    } else {
+        place(stream, queues).queue
+    }
+}
+
 /// The tag of a stream, which its places among all numbers of queues have. It takes no memory.
 pub fn tag(stream: &StreamId) -> u8
     ensures { result ≡ tag_of stream.now }

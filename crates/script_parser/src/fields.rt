@@ -7,7 +7,6 @@ ghost use Rattle.script_parser.specs.Reading.{Gives};
 
 use crate::command::{FaultKind, LineError};
 use crate::pieces::Piece;
-use queue_mapper::place;
 use std::alloc::Global;
 use stream_ident::{GrainId, Name, Payload, StreamId, SubName, Token, parse_number, split_once};
 
@@ -122,7 +121,7 @@ pub(crate) fn queue_of(stream: &StreamId, queues: usize) -> usize
     requires { 1 ≤ queues }
     ensures { result ≡ queue_of stream.now queues }
 {
-    place(stream, queues).queue
+    queue_mapper::queue(stream, queues)
 }
 
 /// A grain, `KIND/KEY`.

@@ -29,6 +29,7 @@ pub mod NewParts
 pub mod NumberLemmas
 pub mod NumberedOps
 pub mod NumberedReads
+pub mod OutcomeLemmas
 pub mod PendingOps
 pub mod PlanOps
 pub mod ProducerOps

@@ -55,6 +55,11 @@ abbrev pub replied : Result Told AllocError → Result Reply AllocError
 replied (Ok answer) = Ok (reply_of answer)
 replied (Err e) = Err e
 
+-- what comes of an operation that begins no turn
+abbrev pub outcome_of_told : Result Told AllocError → Result Outcome AllocError
+outcome_of_told (Ok answer) = Ok (outcome.Told answer)
+outcome_of_told (Err e) = Err e
+
 -- a turn has the events of the log at its positions
 abbrev pub reply_with : List Event → Outcome → Reply
 reply_with log (outcome.Told answer) = reply_of answer

@@ -18,6 +18,7 @@ mod pulling;
 mod reading;
 mod turns;
 
+pub use outcome::{NewTurn, Outcome, Told};
 pub use partition::Partition;
 pub use reading::SubSummary;
 pub use resume_tree::{Leaf, Resumes};

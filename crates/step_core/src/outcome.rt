@@ -2,15 +2,17 @@
 ghost use Rattle.std.specs.Prelude.{◌≡◌, ◌<◌, length};
 ghost use Rattle.std.specs.List.{AllByRecursion};
 ghost use Rattle.stream_ident.specs.Event.{events_at};
-ghost use Rattle.step_core.specs.Replied.{reply_of, reply_with, IsOfLog};
+ghost use Rattle.step_core.specs.Replied.{outcome_of_told, reply_of, reply_with, IsOfLog};
 
 use partition_queue::PartitionQueue;
+use std::alloc::AllocError;
 use stream_ident::{GrainId, Row, SubName, Token};
 use stream_model::{Events, Pending, Reply};
 
-/// What an operation comes to: a reply that isn't a turn, or a turn.
+/// What an operation comes to: a reply that isn't a turn, or a turn. A `Reply` has room for the events of a
+/// turn, and so takes some twenty times as much, which each function that passed it on would copy.
 #[derive(Drop)]
-pub(crate) enum Outcome {
+pub enum Outcome {
     /// A reply that isn't a turn.
     Told(Told),
     /// A turn runs.
@@ -19,17 +21,17 @@ pub(crate) enum Outcome {
 
 /// A turn that runs from now on.
 #[derive(Drop)]
-pub(crate) struct NewTurn {
+pub struct NewTurn {
     /// The subscription whose events it has.
-    pub(crate) sub: SubName,
+    pub sub: SubName,
     /// The activation of the grain.
-    pub(crate) activation: u64,
+    pub activation: u64,
     /// The number of the turn.
-    pub(crate) turn: u64,
-    /// The positions of its events, 1 to 16.
-    pub(crate) positions: Row<usize>,
+    pub turn: u64,
+    /// The positions of its events in the log, 1 to 16.
+    pub positions: Row<usize>,
     /// The note of the subscription's last commit.
-    pub(crate) note: u64,
+    pub note: u64,
 }
 
 impl Outcome {
@@ -51,6 +53,16 @@ impl Outcome {
     }
 }
 
+/// A reply that isn't a turn, as what an operation comes to.
+///
+/// The operations have this in common, so that the function that chooses among them needs no room for the
+/// outcome of each.
+pub(crate) fn outcome_of_told(answer: Result<Told, AllocError>) -> Result<Outcome, AllocError>
+    ensures { result ≡ outcome_of_told answer }
+{
+    Ok(Outcome::Told(answer?))
+}
+
 /// The events at the positions of a turn.
 fn events_of(queue: &PartitionQueue, positions: &Row<usize>) -> Events
     requires { AllByRecursion (λ position. position < length queue.now.events) positions.now }
@@ -64,10 +76,9 @@ fn events_of(queue: &PartitionQueue, positions: &Row<usize>) -> Events
     events
 }
 
-/// A reply that isn't a turn. It takes some 200 bytes, where a `Reply` has room for the events of a turn and
-/// takes thirty times as many, which each function that passed it on would copy.
+/// A reply that isn't a turn. It takes some 200 bytes.
 #[derive(Drop)]
-pub(crate) enum Told {
+pub enum Told {
     /// The batch was accepted.
     Published {
         /// Its number.

@@ -1,6 +1,7 @@
 //! The partition, and which module does each operation.
-ghost use Rattle.std.specs.Prelude.{◌≡◌, ◌≤◌, true, length, IfOk, OnErr, OnOk};
+ghost use Rattle.std.specs.Prelude.{◌≡◌, ◌<◌, ◌≤◌, true, length, slice_index_or, IfOk, OnErr, OnOk};
 ghost use Rattle.std.specs.Option.{option_map};
+ghost use Rattle.stream_ident.specs.Event.{no_event};
 ghost use Rattle.stream_ident.specs.Name.{grain_lt};
 ghost use Rattle.stream_ident.specs.Words.{keys_where, least, Performs};
 ghost use Rattle.stream_model.specs.Bounds.{AreLimits, IsWithinLimits};
@@ -21,7 +22,7 @@ use crate::delivering::deliver;
 use crate::draining::Served;
 use crate::looking::{all_waiting, due, least_running, least_waiting, pending, quiet, ready};
 use crate::moving::{move_queue, purge};
-use crate::outcome::Outcome;
+use crate::outcome::{Outcome, outcome_of_told};
 use crate::parts::Parts;
 use crate::publishing::{add_rule, publish, subscribe, unsubscribe};
 use crate::pulling::pull;
@@ -143,11 +144,12 @@ impl Partition {
         Ok(())
     }
 
-    /// Does one operation, as `step` does it, without the events of a turn.
+    /// Does one operation that is lent, as `step` does it, and gives no more than it came to: of a turn the
+    /// positions of its events in the log, where a `Reply` has the events.
     ///
     /// # Errors
     /// They are those of `step`.
-    pub(crate) fn advance(&mut self, alloc: Global, op: &Op) -> Result<Outcome, AllocError>
+    pub fn advance(&mut self, alloc: Global, op: &Op) -> Result<Outcome, AllocError>
         ensures performs { Performs self.old self.new (answered self.new.log result) (step self.old op.now) }
         ensures of_log { IfOk result (IsOfLog self.new.log) }
         ensures memory { OnErr result (may_allocate self.old op.now ≡ true) }
@@ -167,6 +169,14 @@ impl Partition {
         ensures reached { IsReached self.now }
     {
         self.parts.limits
+    }
+
+    /// The event at a position of the log.
+    pub fn event_at(&self, position: usize) -> &Event
+        requires { position < length self.now.log }
+        ensures { result.now ≡ slice_index_or self.now.log position no_event }
+    {
+        self.parts.queue.event_at(position)
     }
 
     /// The generation of the current pulling agent.
@@ -324,38 +334,34 @@ pub(crate) fn step(parts: &mut Parts, alloc: Global, op: &Op) -> Result<Outcome,
         Op::Publish {
             stream,
             ref payloads,
-        } => Ok(Outcome::Told(publish(parts, alloc, stream, payloads)?)),
+        } => outcome_of_told(publish(parts, alloc, stream, payloads)),
         Op::Subscribe {
             stream,
             grain,
             start,
-        } => Ok(Outcome::Told(subscribe(parts, alloc, stream, grain, start)?)),
-        Op::Unsubscribe { sub } => Ok(Outcome::Told(unsubscribe(parts, sub))),
-        Op::AddRule { kind, namespace } => {
-            Ok(Outcome::Told(add_rule(parts, alloc, kind, namespace)?))
-        }
-        Op::Pull { generation, max } => Ok(Outcome::Told(pull(parts, alloc, generation, max)?)),
-        Op::Deliver { generation, sub } => {
-            Ok(Outcome::Told(deliver(parts, alloc, generation, sub)?))
-        }
-        Op::Retry { generation, sub } => Ok(Outcome::Told(retry(parts, generation, sub))),
+        } => outcome_of_told(subscribe(parts, alloc, stream, grain, start)),
+        Op::Unsubscribe { sub } => outcome_of_told(Ok(unsubscribe(parts, sub))),
+        Op::AddRule { kind, namespace } => outcome_of_told(add_rule(parts, alloc, kind, namespace)),
+        Op::Pull { generation, max } => outcome_of_told(pull(parts, alloc, generation, max)),
+        Op::Deliver { generation, sub } => outcome_of_told(deliver(parts, alloc, generation, sub)),
+        Op::Retry { generation, sub } => outcome_of_told(Ok(retry(parts, generation, sub))),
         Op::Ack {
             generation,
             sub,
             token,
-        } => Ok(Outcome::Told(ack(parts, generation, sub, token))),
-        Op::Purge { generation, keep } => Ok(Outcome::Told(purge(parts, generation, keep))),
+        } => outcome_of_told(Ok(ack(parts, generation, sub, token))),
+        Op::Purge { generation, keep } => outcome_of_told(Ok(purge(parts, generation, keep))),
         Op::Begin { grain, max } => Ok(begin(parts, grain, max)),
         Op::Commit {
             grain,
             activation,
             turn,
             note,
-        } => Ok(Outcome::Told(commit(parts, alloc, grain, activation, turn, note)?)),
-        Op::Deactivate { grain } => Ok(Outcome::Told(deactivate(parts, grain))),
-        Op::Move { silo } => Ok(Outcome::Told(move_queue(parts, silo))),
-        Op::Ready { after } => Ok(Outcome::Told(ready(parts, after))),
-        Op::Due { after } => Ok(Outcome::Told(due(parts, after))),
-        Op::Quiet => Ok(Outcome::Told(quiet(parts))),
+        } => outcome_of_told(commit(parts, alloc, grain, activation, turn, note)),
+        Op::Deactivate { grain } => outcome_of_told(Ok(deactivate(parts, grain))),
+        Op::Move { silo } => outcome_of_told(Ok(move_queue(parts, silo))),
+        Op::Ready { after } => outcome_of_told(Ok(ready(parts, after))),
+        Op::Due { after } => outcome_of_told(Ok(due(parts, after))),
+        Op::Quiet => outcome_of_told(Ok(quiet(parts))),
     }
 }
