@@ -5,7 +5,7 @@ use anyhow::{Result, bail, ensure};
 use std::sync::Arc;
 use streams::{
     Batch, Config, Event, Finished, Gate, GrainId, Limits, Op, Payload, Start, StreamId, SubName,
-    Token, UntracedCluster, drain, place,
+    Token, UntracedCluster, drain,
 };
 
 const CONFIG: Config = Config {
@@ -37,7 +37,7 @@ fn main(rt: HostRuntime) -> Result<()> {
     let (cluster, mut caller) = UntracedCluster::new(&rt, alloc, &CONFIG, Arc::new(alloc, Desks)?)?;
     let stream = StreamId::new(b"orders", b"ann")?;
     let grain = GrainId::new(b"desk", b"ann")?;
-    let queue = place(&stream, caller.queues()).queue;
+    let queue = streams::queue(&stream, caller.queues());
     let start = Start::Latest;
     let subscribe = Op::Subscribe {
         stream,

@@ -10,7 +10,7 @@
 pub use activation_directory::{DirectoryOp, DirectoryReply};
 pub use cluster_callers::Caller;
 pub use cluster_ending::{Finished, Traces};
-pub use queue_mapper::{Place, place};
+pub use queue_mapper::queue;
 pub use script_producer::{Drained, drain};
 pub use shared_partition::{Counting, Gate};
 pub use step_core::{Partition, SubSummary};
