@@ -10,7 +10,7 @@ ghost use Rattle.stream_script.specs.Simulation.{IsSimConfig, Simulates, RunsLin
 
 use crate::source_sink::{Failed, Sink, Source, write_all};
 use script_parser::{Command, EachOp, Fault, FaultKind, Lines, Mode, Parsed, parse_line};
-use script_printer::{drain_line, reply_line, report_text};
+use script_printer::{drain_line, outcome_line, report_text};
 use std::alloc::{AllocError, Global};
 use step_core::Partition;
 use stream_model::{Limits, Op};
@@ -243,15 +243,16 @@ impl Simulator {
             (self.new.partitions.items, text.new.items) result }
     {
         text.clear();
-        match parse_line(alloc, line, number, self.config.queues, Mode::Sim)? {
+        let parsed = parse_line(alloc, line, number, self.config.queues, Mode::Sim)?;
+        match &parsed {
             Parsed::Skip => Ok(None),
-            Parsed::Fault(fault) => Ok(Some(fault)),
+            Parsed::Fault(fault) => Ok(Some(*fault)),
             Parsed::Command(Command::Step { queue, op }) => {
-                self.step(alloc, queue, op, text)?;
+                self.step(alloc, *queue, op, text)?;
                 Ok(None)
             }
             Parsed::Command(Command::Each(each)) => {
-                self.step_each(alloc, &each, text)?;
+                self.step_each(alloc, each, text)?;
                 Ok(None)
             }
             Parsed::Command(Command::Drain) => {
@@ -279,7 +280,7 @@ impl Simulator {
         ensures text { OnOk result ((self.new.partitions.items, text.new.items) ≡ stepped_each 0 self.old.partitions.items (op_of each.now)) }
     {
         for queue in 0..self.config.queues {
-            self.step(alloc, queue, each.op(), text)?;
+            self.step(alloc, queue, &each.op(), text)?;
         }
         Ok(())
     }
@@ -289,17 +290,18 @@ impl Simulator {
         &mut self,
         alloc: Global,
         queue: usize,
-        op: Op,
+        op: &Op,
         text: &mut Vec<u8>,
     ) -> Result<(), AllocError>
         requires { queue < self.old.config.queues }
         ensures config { self.new.config ≡ self.old.config }
         ensures text { OnOk result ((self.new.partitions.items, text.new.items) ≡
             behind text.old.items (stepped self.old.partitions.items queue
-            (step (slice_index_or self.old.partitions.items queue (empty self.old.config.blocks self.old.config.limits)) op))) }
+            (step (slice_index_or self.old.partitions.items queue (empty self.old.config.blocks self.old.config.limits)) op.now))) }
     {
-        let reply = self.partitions[queue].step(alloc, op)?;
-        reply_line(queue, &reply, text)
+        let partition = &mut self.partitions[queue];
+        let outcome = partition.advance(alloc, op)?;
+        outcome_line(queue, &outcome, partition, text)
     }
 
     /// Drains each queue, in order, and leaves the lines of how that ended.
