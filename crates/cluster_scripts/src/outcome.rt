@@ -48,12 +48,17 @@ pub enum RunEnd<H> {
 }
 
 /// What came of a run.
-#[derive(Drop)]
 pub struct Ran<H> {
     /// What the lines that are done print, in their order.
     pub printed: Vec<ScriptLine>,
     /// How it has ended.
     pub end: RunEnd<H>,
+}
+
+impl<H: Drop> Drop for Ran<H> {
+    fn drop(self) {
+        let Self { printed: _, end: _ } = self;
+    }
 }
 
 /// Starts a cluster, does the lines of a script in order as its one producer, waits until all queues are quiet, and
