@@ -47,6 +47,10 @@ fn places_are_those_of_sha256sum(rt: HostRuntime) -> Result<(), Fail> {
                 place(&stream, count) == Place { queue, tag },
                 "among {count}"
             );
+            assert!(rt;
+                queue_mapper::queue(&stream, count) == queue,
+                "among {count}"
+            );
         }
     }
     Ok(())
