@@ -8,3 +8,4 @@ use Rattle.stream_script.specs.Simulation.{IsSimConfig}
 abbrev pub IsTask : Task → Type 0
 IsTask (task.Simulate config) = IsSimConfig config
 IsTask (task.Run config) = IsConfig config
+IsTask (task.Trace config) = IsConfig config

@@ -10,7 +10,7 @@ ghost use Rattle.stream_console.specs.Tasks.{IsTask};
 
 use crate::fault::ProgramFault;
 use crate::options::{Request, Task, options};
-use crate::silos::run_on_silos;
+use crate::silos::{run_on_silos, trace_on_silos};
 use std::alloc::Global;
 use std::fs::{self, Files};
 use std::io::{self, Read};
@@ -70,5 +70,6 @@ fn perform_on<R: Print + Threads + Wait + Copy + Send + 'static, S: Read + Drop>
             Ok(())
         }
         Task::Run(config) => run_on_silos(rt, alloc, &config, &mut source, &mut writer),
+        Task::Trace(config) => trace_on_silos(rt, alloc, &config, &mut source, &mut writer),
     }
 }

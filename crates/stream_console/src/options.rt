@@ -72,6 +72,35 @@ Exit status: 0 done; 1 a line is faulty, and nothing is done; 2 the command line
 writing failed, or memory ran out; 4 a run met a limit (`limit reached`, `round limit`), or not all of it
 was handled (`not quiet`), and the report is missing."#;
 
+/// What help says below the options of a trace.
+const TRACE_EXAMPLE: &str =
+    r#"The script is run as `streams run` runs it, and its words are the same. What is printed is what was done
+at each queue, by producers and by the silos, as a script that `streams sim` does again on one thread.
+Behind each line stands its reply in a comment. Of the script
+
+    sub orders/17 clerk/17 latest
+    pub orders/17 "paid"
+
+the trace may begin so:
+
+    # queue 0
+    sub orders/17 clerk/17 latest
+    # 0 subscribed 1
+    pull 0 0 32
+    # 0 dry
+    pub orders/17 "paid"
+    # 0 published 0
+
+The lines of a queue stand together, behind a comment that names it, and are a script of their own: as
+`rule` and `quiet` act on each queue of a simulation, it is simulated with the same number of queues, and
+gives these replies at its queue.
+
+Exit status: as for `streams run`. A run that met a limit, or of which not all was handled, is printed too.
+A trace stores what was asked, at most 4,000,000 calls a queue."#;
+
+/// How many calls the history of a queue has room for in a trace.
+const TRACE_HISTORY: u64 = 4_000_000;
+
 /// What the command line asks for.
 #[derive(Drop)]
 pub struct Request<'a> {
@@ -88,6 +117,8 @@ pub enum Task {
     Simulate(SimConfig),
     /// It is run, on silos in threads.
     Run(Config),
+    /// It is run, and what was done at each queue is printed.
+    Trace(Config),
 }
 
 /// What the words ask for. Where there are none, they ask for a simulation with one queue and four blocks.
@@ -126,14 +157,14 @@ fn task_of(name: &str, given: &ArgMatches<'_>) -> Task
 {
     let queues = number(given, "queues", 1);
     let blocks = number(given, "blocks", 4);
-    if name == "run" {
-        Task::Run(run_config(queues, blocks, number(given, "silos", 1)))
-    } else {
-        Task::Simulate(sim_config(queues, blocks))
+    match name {
+        "run" => Task::Run(run_config(queues, blocks, number(given, "silos", 1))),
+        "trace" => Task::Trace(trace_config(queues, blocks, number(given, "silos", 1))),
+        _ => Task::Simulate(sim_config(queues, blocks)),
     }
 }
 
-/// The command with its two subcommands.
+/// The command with its three subcommands.
 fn command<'a>(alloc: Global) -> Result<Command<'a>, AllocError> {
     let sim = Command::new(alloc, "sim")
         .about("Does a script line by line, and prints the reply to each line")
@@ -148,13 +179,23 @@ fn command<'a>(alloc: Global) -> Result<Command<'a>, AllocError> {
         .arg(queues(alloc))?
         .arg(blocks(alloc))?
         .after_help(RUN_EXAMPLE);
+    let trace = Command::new(alloc, "trace")
+        .about(
+            "Runs a script on silos, and prints what was done at each queue as a script to simulate",
+        )
+        .arg(file(alloc))?
+        .arg(silos(alloc))?
+        .arg(queues(alloc))?
+        .arg(blocks(alloc))?
+        .after_help(TRACE_EXAMPLE);
     Command::new(alloc, "streams")
         .bin_name("streams")?
         .about("Streams of events for virtual actors: publishes, pulls, delivers and handles")
         .subcommand_required(true)
         .after_help(STATUSES)
         .subcommand(sim)?
-        .subcommand(run)
+        .subcommand(run)?
+        .subcommand(trace)
 }
 
 /// The script.
@@ -224,12 +265,24 @@ fn run_config(queues: u32, blocks: u32, silos: u32) -> Config
     }
 }
 
+/// The cluster of a run whose calls are stored.
+fn trace_config(queues: u32, blocks: u32, silos: u32) -> Config
+    ensures { IsConfig result }
+{
+    Config {
+        history: TRACE_HISTORY,
+        ..run_config(queues, blocks, silos)
+    }
+}
+
 #[cfg(test)]
 mod tests {
+    use crate::fault::ProgramFault;
     use crate::options::{
-        RUN_EXAMPLE, Request, SIM_EXAMPLE, Task, options, run_config, sim_config,
+        RUN_EXAMPLE, Request, SIM_EXAMPLE, Task, options, run_config, sim_config, trace_config,
     };
-    use crate::silos::run_on_silos;
+    use crate::silos::{run_on_silos, trace_on_silos};
+    use cluster_scripts::Unfinished;
     use std::alloc::{AllocError, Global};
     use std::test::Fail;
     use stream_script::{Counted, sim};
@@ -254,6 +307,12 @@ mod tests {
             Task::Run(config) => {
                 format!(in alloc;
                     "run {file} {} {} {}",
+                    config.silos, config.queues, config.blocks
+                )
+            }
+            Task::Trace(config) => {
+                format!(in alloc;
+                    "trace {file} {} {} {}",
                     config.silos, config.queues, config.blocks
                 )
             }
@@ -313,6 +372,30 @@ mod tests {
         Ok(())
     }
 
+    #[test]
+    fn words_ask_for_a_trace(rt: HostRuntime) -> Result<(), Fail> {
+        let cases: [(&[&str], &str); 4] = [
+            (&["streams", "trace"], "trace - 1 1 4"),
+            (
+                &[
+                    "streams",
+                    "trace",
+                    "f",
+                    "--silos=3",
+                    "--queues=2",
+                    "--blocks=1",
+                ],
+                "trace f 3 2 1",
+            ),
+            (&["streams", "trace", "--silos", "17"], "status 2"),
+            (&["streams", "trace", "--help"], "status 0"),
+        ];
+        for (words, wanted) in cases {
+            assert_eq!(rt; asked(rt.alloc(), words)?.as_str(), wanted);
+        }
+        Ok(())
+    }
+
     /// The lines that stand four spaces in.
     fn indented(alloc: Global, text: &str) -> Result<Vec<u8>, AllocError> {
         let mut lines = Vec::new(alloc);
@@ -353,6 +436,61 @@ mod tests {
         let outcome = run_on_silos(&rt, rt.alloc(), &config, &mut source, &mut text);
         assert!(rt; outcome.is_ok());
         assert!(rt; text.as_slice() == printed.as_slice());
+        Ok(())
+    }
+
+    /// The replies that the comments of a trace tell, for queue 0.
+    fn comments(alloc: Global, trace: &[u8]) -> Result<Vec<u8>, AllocError> {
+        let mut replies = Vec::new(alloc);
+        for line in trace.split(|byte| *byte == b'\n') {
+            if let Some(reply) = line.strip_prefix(b"# 0 ") {
+                replies.extend_from_slice(b"0 ")?;
+                replies.extend_from_slice(reply)?;
+                replies.push(b'\n')?;
+            }
+        }
+        Ok(replies)
+    }
+
+    /// What a simulation of one queue prints.
+    fn simulated(alloc: Global, script: &[u8]) -> Result<Vec<u8>, Fail> {
+        let mut source = Counted::new(script);
+        let mut sink = Counted::new(Vec::new(alloc));
+        match sim(alloc, sim_config(1, 4), &mut source, &mut sink) {
+            Ok(()) => Ok(sink.into_inner()),
+            Err(_) => Err(Fail::from("not simulated")),
+        }
+    }
+
+    #[test]
+    fn a_trace_is_simulated_with_the_same_replies(rt: HostRuntime) -> Result<(), Fail> {
+        let script =
+            b"rule log orders\nsub orders/17 clerk/17 latest\npub orders/17 \"a \\\"b\" \"\\\\\"\nup 2\ndown 0\npub orders/18 \"c\"\nunsub 0:1\n";
+        let mut source = Counted::new(script.as_slice());
+        let mut trace = Vec::new(rt.alloc());
+        let config = trace_config(1, 4, 2);
+        let outcome = trace_on_silos(&rt, rt.alloc(), &config, &mut source, &mut trace);
+        assert!(rt; outcome.is_ok());
+        let told = comments(rt.alloc(), trace.as_slice())?;
+        assert!(rt; told.as_slice().starts_with(b"0 "));
+        let again = simulated(rt.alloc(), trace.as_slice())?;
+        assert!(rt; again.as_slice() == told.as_slice());
+        Ok(())
+    }
+
+    #[test]
+    fn a_run_that_meets_a_limit_is_traced(rt: HostRuntime) -> Result<(), Fail> {
+        let script = b"pub orders/17 \"a\"\npub orders/17 \"b\"\npub orders/17 \"c\"\n";
+        let mut source = Counted::new(script.as_slice());
+        let mut trace = Vec::new(rt.alloc());
+        let mut config = trace_config(1, 4, 1);
+        config.limits.events = 2;
+        let outcome = trace_on_silos(&rt, rt.alloc(), &config, &mut source, &mut trace);
+        assert!(rt; matches!(outcome, Err(ProgramFault::Unfinished(Unfinished::Limit))));
+        let told = comments(rt.alloc(), trace.as_slice())?;
+        assert!(rt;
+            std::str::from_utf8(told.as_slice()).is_ok_and(|told| told.contains("0 queue-full"))
+        );
         Ok(())
     }
 }

@@ -1,4 +1,5 @@
-//! Runs the example scripts, and says of each whether it gives the replies that stand beside it.
+//! Runs the example scripts, and says of each whether it gives the replies that stand beside it, and of the one that is
+//! run on silos also whether its trace gives the same replies when it is simulated.
 #![tactic(auto)]
 
 ghost use Rattle.std.specs.Prelude.{◌≤◌, IfOk};
@@ -7,18 +8,21 @@ ghost use Rattle.stream_cluster.specs.Clusters.{IsConfig};
 ghost use Rattle.stream_script.specs.Simulation.{IsSimConfig};
 
 use activation_directory::{DirectoryOp, DirectoryReply};
-use cluster_scripts::{Ran, run, run_text};
+use cluster_scripts::{Ran, RunEnd, run, run_text};
 use script_reader::{Script, read_lines};
 use shared_partition::Counting;
+use std::alloc::{AllocError, Global};
 use std::fs::{self, Files};
 use std::process::ExitCode;
 use std::rt::Runtime;
 use std::sync::{Arc, Wait};
 use std::thread::Threads;
+use step_core::Partition;
 use stream_cluster::Config;
 use stream_model::{Limits, Op, Reply};
 use stream_script::{Counted, SimConfig, read_script, sim};
-use turnstile::{ProofHistory, StoredHistory};
+use trace_printer::queue_trace;
+use turnstile::{AskedHistory, ProofHistory, StoredHistory};
 
 /// Status 0 where each example gives its replies.
 fn main(rt: HostRuntime) -> anyhow::Result<ExitCode> {
@@ -27,6 +31,7 @@ fn main(rt: HostRuntime) -> anyhow::Result<ExitCode> {
     all &= simulates(&rt, "device_readings", sim_config(1, 2))?;
     all &= simulates(&rt, "game_events", sim_config(4, 4))?;
     all &= runs(&rt, "auctions", &run_config(2, 4, u64::MAX))?;
+    all &= repeats(&rt, "auctions", &run_config(2, 4, 100_000))?;
     Ok(if all {
         ExitCode::SUCCESS
     } else {
@@ -108,6 +113,66 @@ fn run_example<
     Ok(run::<Counting, H, ProofHistory<DirectoryOp, DirectoryReply>, R>(
         rt, alloc, config, gate, lines,
     )?)
+}
+
+/// Whether the trace of an example that is run on silos gives the replies in it when it is simulated, which is also
+/// printed.
+fn repeats<R: Runtime + AllocGlobal + Threads + Wait + Copy + Send + 'static>(
+    rt: &R,
+    name: &str,
+    config: &Config,
+) -> anyhow::Result<bool>
+    requires { IsConfig config.now }
+{
+    let alloc = rt.alloc();
+    let ran = run_example::<AskedHistory<Op, Reply>, R>(rt, name, config)?;
+    let RunEnd::Report { text: _, traces } = &ran.end else {
+        anyhow::bail!("{name}: the run has no report");
+    };
+    let mut same = true;
+    for (queue, history) in traces.histories.iter().enumerate() {
+        let mut partition = Partition::new(alloc, config.blocks, config.limits)?;
+        let trace = queue_trace(alloc, queue, &mut partition, history)?;
+        same &= is_repeated(alloc, queue, config, trace.as_slice())?;
+    }
+    let verdict = if same {
+        "its trace repeats it"
+    } else {
+        "its trace DOESN'T repeat it"
+    };
+    println!(rt; "{name}: {verdict}")?;
+    Ok(same)
+}
+
+/// Whether the trace of a queue, simulated, gives the replies that its comments tell.
+fn is_repeated(alloc: Global, queue: usize, config: &Config, trace: &[u8]) -> anyhow::Result<bool>
+    requires { IsConfig config.now }
+{
+    let mut source = Counted::new(trace);
+    let mut sink = Counted::new(Vec::new(alloc));
+    let again = SimConfig {
+        queues: config.queues,
+        blocks: config.blocks,
+        limits: config.limits,
+    };
+    sim(alloc, again, &mut source, &mut sink)?;
+    let prefix = format!(in alloc; "{queue} ")?;
+    let replied = lines_behind(alloc, sink.into_inner().as_slice(), prefix.as_bytes())?;
+    let comment = format!(in alloc; "# {queue} ")?;
+    let told = lines_behind(alloc, trace, comment.as_bytes())?;
+    Ok(!told.is_empty() && replied.as_slice() == told.as_slice())
+}
+
+/// What follows in the lines that begin so.
+fn lines_behind(alloc: Global, text: &[u8], beginning: &[u8]) -> Result<Vec<u8>, AllocError> {
+    let mut found = Vec::new(alloc);
+    for line in text.split(|byte| *byte == b'\n') {
+        if let Some(rest) = line.strip_prefix(beginning) {
+            found.extend_from_slice(rest)?;
+            found.push(b'\n')?;
+        }
+    }
+    Ok(found)
 }
 
 /// Whether this text is that of the example, which is also printed.
