@@ -11,6 +11,3 @@ mod queue_caller;
 
 pub use caller::Caller;
 pub use queue_caller::QueueCaller;
-
-#[cfg(test)]
-mod tests;

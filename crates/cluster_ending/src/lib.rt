@@ -17,6 +17,3 @@ pub use closing::{Closing, Traces, close};
 pub use ends::LoopEnds;
 pub use finishing::{Finished, finish};
 pub use gathering::gather;
-
-#[cfg(test)]
-mod tests;

@@ -1,4 +1,3 @@
 pub mod Changing
 pub mod Making
 pub mod Spreading
-pub mod Turnstiles

@@ -12,6 +12,3 @@ mod operator;
 
 pub use halt::Halt;
 pub use operator::{MOST_SILOS, Operator};
-
-#[cfg(test)]
-mod tests;

@@ -14,6 +14,3 @@ mod draining;
 pub use answer::Answer;
 pub use asking::{ask, ask_each};
 pub use draining::{Drained, MOST_LOOKS, drain};
-
-#[cfg(test)]
-mod tests;

@@ -4,6 +4,3 @@
 mod reading;
 
 pub use reading::{Script, read_lines};
-
-#[cfg(test)]
-mod tests;

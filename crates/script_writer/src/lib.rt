@@ -3,8 +3,6 @@
 
 mod fields;
 pub mod laws;
-#[cfg(test)]
-mod tests;
 mod write;
 
 pub use write::write_op;

@@ -13,6 +13,3 @@ mod running;
 pub use lines::{join_lines, split_lines};
 pub use loops::{SiloLoops, SiloTools};
 pub use running::{AgentPromise, RunningSilo, WorkerPromise};
-
-#[cfg(test)]
-mod tests;

@@ -1,0 +1,182 @@
+//! Queues with their lines and their callers: opened, called and closed.
+ghost use Rattle.std.specs.Prelude.{◌≡◌, [], ◌∷◌, ◌++◌, length, IfOk};
+ghost use Rattle.stream_model.specs.Bounds.{AreLimits};
+ghost use Rattle.turnstile.specs.Calls.{IsOf};
+ghost use Rattle.shared_partition.specs.Partitions.{BeganEmpty};
+ghost use Rattle.silo_loops.specs.Lines.{places};
+ghost use Rattle.cluster_callers.specs.Calls.{turnstiles};
+
+use cluster_callers::{Caller, QueueCaller};
+use shared_partition::{Counting, SharedPartition};
+use silo_loops::{Doorbell, Line};
+use std::alloc::{AllocError, Global};
+use std::process::Abort;
+use std::sync::{Arc, Wait};
+use stream_model::{Limits, Op, Reply};
+use turnstile::{Closed, PassOf, PlainHistory, Turnstile};
+
+/// How the calls of a queue are stored.
+pub type Calls = PlainHistory<Op, Reply>;
+
+/// A line at a queue.
+pub type QueueLine = Line<Counting, Calls>;
+
+/// A caller of one queue.
+pub type OneCaller = QueueCaller<Counting, Calls>;
+
+/// A caller of all queues.
+pub type Producer = Caller<Counting, Calls>;
+
+type Queue = SharedPartition<Counting, Calls>;
+
+// A turnstile over an empty partition whose cache has one block, and its first pass. The history has so many entries
+// at most.
+fn open_queue(
+    alloc: Global,
+    queue: usize,
+    limits: Limits,
+    history: u64,
+) -> Result<(Turnstile<Queue>, PassOf<Queue>), AllocError>
+    requires { AreLimits limits }
+    ensures { IfOk result (λ r. IsOf r.0 r.1 × BeganEmpty r.0.start × (r.1.seen ≡ [])) }
+{
+    let gate = Arc::new(alloc, Counting)?;
+    let shared = SharedPartition::new(alloc, gate, queue, 1, limits)?;
+    let (turnstile, pass) = Turnstile::new(alloc, shared, history)?;
+    Ok((turnstile, pass))
+}
+
+/// A line at a queue of its own.
+pub fn line(
+    alloc: Global,
+    queue: usize,
+    limits: Limits,
+    history: u64,
+) -> Result<QueueLine, AllocError>
+    requires { AreLimits limits }
+{
+    let (turnstile, pass) = open_queue(alloc, queue, limits, history)?;
+    Ok(Line::new(Arc::new(alloc, turnstile)?, pass))
+}
+
+// A caller at the queue of a line.
+fn beside(line: &mut QueueLine) -> Result<OneCaller, AllocError>
+    ensures { IfOk result (λ caller. caller.turnstile ≡ line.new.pass.turnstile) }
+{
+    let (turnstile, pass) = line.split()?.into_parts();
+    Ok(QueueCaller::new(turnstile, pass))
+}
+
+/// Lines of so many empty queues, and callers of them.
+pub fn open_all(
+    alloc: Global,
+    count: usize,
+    limits: Limits,
+    history: u64,
+) -> Result<(Vec<QueueLine>, Vec<OneCaller>), AllocError>
+    requires { AreLimits limits }
+    ensures beside { IfOk result (λ r. turnstiles r.1.items ≡ places r.0.items) }
+    ensures many { IfOk result (λ r. length r.0.items ≡ count) }
+{
+    let mut lines = Vec::with_capacity(alloc, count)?;
+    let mut callers = Vec::with_capacity(alloc, count)?;
+    for queue in 0..count {
+        let mut line = line(alloc, queue, limits, history)?;
+        callers.push_reserved(beside(&mut line)?);
+        lines.push_reserved(line);
+    }
+    Ok((lines, callers))
+}
+
+// A caller of a queue that nobody else calls.
+fn only_caller(alloc: Global, queue: usize, history: u64) -> Result<OneCaller, AllocError> {
+    let (turnstile, pass) = open_queue(alloc, queue, Limits::GREATEST, history)?;
+    Ok(QueueCaller::new(Arc::new(alloc, turnstile)?, pass))
+}
+
+/// A caller of two empty queues that nobody else calls, and its doorbell.
+pub fn open_two(
+    alloc: Global,
+    history: u64,
+) -> Result<(Arc<Doorbell, Global>, Producer), AllocError>
+    ensures { IfOk result (λ r. length r.1 ≡ 2) }
+{
+    let mut queues = Vec::with_capacity(alloc, 2)?;
+    queues.push_reserved(only_caller(alloc, 0, history)?);
+    queues.push_reserved(only_caller(alloc, 1, history)?);
+    let doorbell = Arc::new(alloc, Doorbell::new(0))?;
+    let shared = Arc::try_clone(&doorbell)?;
+    Ok((doorbell, Caller::new(shared, queues)))
+}
+
+/// The reply to a call at a queue, which isn't refused.
+pub fn ask<R: Wait + Abort>(
+    rt: &R,
+    alloc: Global,
+    caller: &mut Producer,
+    queue: usize,
+    op: Op,
+) -> Reply
+    ensures { turnstiles caller.new ≡ turnstiles caller.old }
+{
+    assert!(rt; queue < caller.queues());
+    caller.call(rt, alloc, queue, op).expect(rt, "a reply")
+}
+
+// Puts a value behind the others. A want of memory is answered by asking again.
+fn push<T, R: Abort>(rt: &R, values: &mut Vec<T>, value: T)
+    ensures { values.new.items ≡ values.old.items ++ value ∷ [] }
+{
+    if values.reserve(1).is_err() {
+        values.reserve(1).expect(rt, "memory");
+    }
+    values.push_reserved(value);
+}
+
+/// A vector of one value. A want of memory is answered by asking again.
+pub fn alone<T, R: Abort>(rt: &R, alloc: Global, value: T) -> Vec<T>
+    ensures { result.items ≡ value ∷ [] }
+{
+    let mut values = Vec::new(alloc);
+    push(rt, &mut values, value);
+    values
+}
+
+/// The history of a queue, all of whose passes are joined to this caller's.
+pub fn history_of<R: Abort>(rt: &R, alloc: Global, queue: OneCaller) -> Calls {
+    let (shared, pass) = queue.into_parts();
+    let turnstile = Arc::into_inner(shared).expect(rt, "nobody else has it");
+    let Closed::Traced(done) = turnstile.close(alone(rt, alloc, pass)) else {
+        panic!(rt; "no pass is missing");
+    };
+    done.history
+}
+
+// The history of a queue, all of whose passes are joined to these two.
+fn close_queue<R: Abort>(rt: &R, alloc: Global, line: QueueLine, caller: OneCaller) -> Calls
+    requires { caller.turnstile ≡ line.pass.turnstile }
+{
+    let (shared, pass) = line.into_parts();
+    let mut whole = QueueCaller::new(shared, pass);
+    whole.join(caller);
+    history_of(rt, alloc, whole)
+}
+
+/// The histories of all queues, to which all passes came back.
+pub fn close_all<R: Abort>(
+    rt: &R,
+    alloc: Global,
+    mut lines: Vec<QueueLine>,
+    mut callers: Vec<OneCaller>,
+) -> Vec<Calls>
+    requires { turnstiles callers.items ≡ places lines.items }
+{
+    let mut histories = Vec::new(alloc);
+    while !lines.is_empty() {
+        assert!(rt; !callers.is_empty());
+        let line = lines.remove(0);
+        let history = close_queue(rt, alloc, line, callers.remove(0));
+        push(rt, &mut histories, history);
+    }
+    histories
+}
