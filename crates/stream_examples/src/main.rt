@@ -3,11 +3,16 @@
 #![tactic(auto)]
 
 ghost use Rattle.std.specs.Prelude.{◌≤◌, IfOk};
-ghost use Rattle.cluster_scripts.specs.Runs.{LeavesLegalTraces};
+ghost use Rattle.stream_model.specs.Positions.{empty};
+ghost use Rattle.turnstile.specs.Asked.{asked_entries};
+ghost use Rattle.turnstile.specs.History.{IsLegal};
+ghost use Rattle.shared_partition.specs.Partitions.{after, replied};
+ghost use Rattle.cluster_scripts.specs.Runs.{AreLegal, LeavesLegalTraces};
 ghost use Rattle.stream_cluster.specs.Clusters.{IsConfig};
 ghost use Rattle.stream_script.specs.Simulation.{IsSimConfig};
 
 use activation_directory::{DirectoryOp, DirectoryReply};
+use cluster_ending::Traces;
 use cluster_scripts::{Ran, RunEnd, run, run_text};
 use script_reader::{Script, read_lines};
 use shared_partition::Counting;
@@ -124,17 +129,11 @@ fn repeats<R: Runtime + AllocGlobal + Threads + Wait + Copy + Send + 'static>(
 ) -> anyhow::Result<bool>
     requires { IsConfig config.now }
 {
-    let alloc = rt.alloc();
     let ran = run_example::<AskedHistory<Op, Reply>, R>(rt, name, config)?;
-    let RunEnd::Report { text: _, traces } = &ran.end else {
-        anyhow::bail!("{name}: the run has no report");
+    let same = match &ran.end {
+        RunEnd::Report { text: _, traces } => are_repeated(rt.alloc(), config, traces)?,
+        RunEnd::Unfinished { .. } => false,
     };
-    let mut same = true;
-    for (queue, history) in traces.histories.iter().enumerate() {
-        let mut partition = Partition::new(alloc, config.blocks, config.limits)?;
-        let trace = queue_trace(alloc, queue, &mut partition, history)?;
-        same &= is_repeated(alloc, queue, config, trace.as_slice())?;
-    }
     let verdict = if same {
         "its trace repeats it"
     } else {
@@ -144,8 +143,39 @@ fn repeats<R: Runtime + AllocGlobal + Threads + Wait + Copy + Send + 'static>(
     Ok(same)
 }
 
+/// Whether each queue's trace, simulated, gives the replies that its comments tell.
+fn are_repeated(
+    alloc: Global,
+    config: &Config,
+    traces: &Traces<AskedHistory<Op, Reply>>,
+) -> anyhow::Result<bool>
+    requires config { IsConfig config.now }
+    requires legal { AreLegal asked_entries config.now traces.now }
+{
+    let mut same = true;
+    for queue in 0..traces.histories.len() {
+        let trace = trace_of(alloc, config, queue, &traces.histories[queue])?;
+        same &= is_repeated(alloc, config, queue, trace.as_slice())?;
+    }
+    Ok(same)
+}
+
+/// The history of a queue as a script.
+fn trace_of(
+    alloc: Global,
+    config: &Config,
+    queue: usize,
+    history: &AskedHistory<Op, Reply>,
+) -> anyhow::Result<Vec<u8>>
+    requires config { IsConfig config.now }
+    requires legal { IsLegal replied after (empty config.now.blocks config.now.limits) (asked_entries history.now) }
+{
+    let mut partition = Partition::new(alloc, config.blocks, config.limits)?;
+    Ok(queue_trace(alloc, queue, &mut partition, history)?)
+}
+
 /// Whether the trace of a queue, simulated, gives the replies that its comments tell.
-fn is_repeated(alloc: Global, queue: usize, config: &Config, trace: &[u8]) -> anyhow::Result<bool>
+fn is_repeated(alloc: Global, config: &Config, queue: usize, trace: &[u8]) -> anyhow::Result<bool>
     requires { IsConfig config.now }
 {
     let mut source = Counted::new(trace);
