@@ -1,6 +1,6 @@
 -- What was written of histories, one behind another.
 use Rattle.std.proofs.Common.{◌≡◌, ℕ, zero, suc, ◌+◌, ◌<◌, ◌≤◌, List, [], ◌∷◌, ◌++◌, length, map, get_or, take, add-one, Option, Some, None, Result, Ok, Err, refl, sym, ap, ◌∙◌, subst, arith}
-use Rattle.std.proofs.KnownBytes.{Appends-nil, Appends-trans}
+use Rattle.std.proofs.KnownBytes.{Appends-trans}
 use Rattle.std.proofs.Math.Seq.{take-length}
 use Rattle.std.proofs.lemmas.List.{length-map}
 use Rattle.std.specs.Io.KnownBytes.{Appends}
@@ -61,9 +61,9 @@ pub written-more : {A : Type 0} (f : A → List (Entry Op Reply)) (old now new :
 written-more f old now new xs k d less is before more =
     let many : k < length (map f xs) = omega (arith, less, length-map xs f) in
     let next : traces_from 0 (take (suc k) (map f xs)) ≡ traces_from 0 (take k (map f xs)) ++ trace_text k (f d) =
-        traces-next 0 (map f xs) k (f d) many
-        ∙ ap (λ (q : ℕ). traces_from 0 (take k (map f xs)) ++ trace_text q (get_or (map f xs) k (f d))) (omega arith)
-        ∙ ap (λ (h : List (Entry Op Reply)). traces_from 0 (take k (map f xs)) ++ trace_text k h) (map-at f xs k d ∙ ap f (sym is)) in
+    traces-next 0 (map f xs) k (f d) many
+    ∙ ap (λ (q : ℕ). traces_from 0 (take k (map f xs)) ++ trace_text q (get_or (map f xs) k (f d))) (omega arith)
+    ∙ ap (λ (h : List (Entry Op Reply)). traces_from 0 (take k (map f xs)) ++ trace_text k h) (map-at f xs k d ∙ ap f (sym is)) in
     subst (λ (n : ℕ). Appends old new (traces_from 0 (take n (map f xs)))) (sym (add-one k))
     (subst (Appends old new) (sym next) (Appends-trans old now new (traces_from 0 (take k (map f xs))) (trace_text k (f d)) before more))
 
