@@ -8,7 +8,7 @@ use stream_ident::GrainId;
 
 /// What is asked of a directory. A grain is named by two bytes: its kind and its key.
 #[derive(Clone, Copy)]
-enum Call {
+pub enum Call {
     /// A silo enters a grain.
     Enter(&'static [u8; 2], u8),
     /// A permit for a grain is given back.
@@ -23,7 +23,8 @@ fn grain(rt: &impl Abort, name: &[u8; 2]) -> GrainId {
     GrainId::new(&name[..1], &name[1..]).expect(rt, "a grain")
 }
 
-fn op(rt: &impl Abort, call: Call) -> Op {
+/// The operation of a call.
+pub fn op(rt: &impl Abort, call: Call) -> Op {
     match call {
         Call::Enter(name, silo) => Op::Enter {
             grain: grain(rt, name),

@@ -5,11 +5,15 @@
 #[cfg(test)]
 mod balancer;
 #[cfg(test)]
+mod calls;
+#[cfg(test)]
 mod directory;
 #[cfg(test)]
 mod histories;
 #[cfg(test)]
 mod passes;
+#[cfg(test)]
+mod refusals;
 #[cfg(test)]
 mod shared;
 #[cfg(test)]

@@ -2,7 +2,8 @@ ghost use Rattle.std.specs.Prelude.{◌≡◌, IfOk};
 ghost use Rattle.turnstile.specs.Calls.{IsOf};
 ghost use Rattle.shared_partition.specs.Partitions.{BeganEmpty};
 
-use crate::passes::{alone, finished, pair};
+use crate::calls::{Call, SUB, operation};
+use crate::passes::{finished, pair};
 use shared_partition::{Gate, SharedPartition};
 use std::alloc::{AllocError, Global};
 use std::process::Abort;
@@ -11,13 +12,11 @@ use std::sync::{Arc, Wait};
 use std::test::Fail;
 use std::thread;
 use std::thread::{Threads, join};
-use step_core::{Limits, Op, Partition, Reply, Start};
-use stream_ident::{Batch, Event, GrainId, Payload, StreamId, SubName, Token};
-use turnstile::{Entry, PassOf, PlainHistory, Refusal, Turnstile};
+use step_core::{Limits, Op, Partition, Reply};
+use stream_ident::{Event, SubName, Token};
+use turnstile::{Entry, PassOf, PlainHistory, Turnstile};
 
 const QUEUE: usize = 5;
-
-const SUB: SubName = SubName::Explicit(1);
 
 // Counts the calls of its queue, and would lose some if two were inside at once.
 #[derive(Drop)]
@@ -61,32 +60,6 @@ fn opened(
     Ok((gate, turnstile, pass))
 }
 
-// The same, asked for once more where memory was refused.
-fn opened_at_last(
-    alloc: Global,
-) -> Result<(Arc<Entered, Global>, Turnstile<Shared>, PassOf<Shared>), AllocError>
-    ensures { IfOk result (λ r. IsOf r.1 r.2 × BeganEmpty r.1.start) }
-{
-    match opened(alloc) {
-        Ok(opened) => Ok(opened),
-        Err(AllocError) => opened(alloc),
-    }
-}
-
-// What is asked of the partition: one grain, one stream and the subscription of one to the other.
-#[derive(Clone, Copy)]
-enum Call {
-    Subscribe,
-    // A batch of one event.
-    Publish,
-    Pull,
-    Deliver,
-    Begin,
-    // A turn of an activation ends, and leaves a note.
-    Commit(u64, u64, u64),
-    Acknowledge(Token),
-}
-
 // What of a reply matters here.
 #[derive(Clone, Copy, PartialEq, Eq)]
 enum Told {
@@ -100,60 +73,6 @@ enum Told {
     Acked,
     // Something else.
     Other,
-}
-
-fn grain(rt: &impl Abort) -> GrainId {
-    GrainId::new(b"g", b"x").expect(rt, "a grain")
-}
-
-fn stream(rt: &impl Abort) -> StreamId {
-    StreamId::new(b"o", b"k").expect(rt, "a stream")
-}
-
-// A batch of one payload.
-fn batch(rt: &impl Abort, alloc: Global) -> Result<Batch, AllocError> {
-    let mut payloads = Vec::with_capacity(alloc, 1)?;
-    payloads.push_reserved(Payload::new(b"a").expect(rt, "a payload"));
-    Ok(Batch::of(payloads))
-}
-
-// The operation of a call.
-fn operation(rt: &impl Abort, alloc: Global, call: Call) -> Result<Op, AllocError> {
-    let generation = 0;
-    Ok(match call {
-        Call::Subscribe => Op::Subscribe {
-            stream: stream(rt),
-            grain: grain(rt),
-            start: Start::Latest,
-        },
-        Call::Publish => Op::Publish {
-            stream: stream(rt),
-            payloads: batch(rt, alloc)?,
-        },
-        Call::Pull => Op::Pull {
-            generation,
-            max: 32,
-        },
-        Call::Deliver => Op::Deliver {
-            generation,
-            sub: SUB,
-        },
-        Call::Begin => Op::Begin {
-            grain: grain(rt),
-            max: 16,
-        },
-        Call::Commit(activation, turn, note) => Op::Commit {
-            grain: grain(rt),
-            activation,
-            turn,
-            note,
-        },
-        Call::Acknowledge(token) => Op::Ack {
-            generation,
-            sub: SUB,
-            token,
-        },
-    })
 }
 
 fn summary(reply: &Reply) -> Told {
@@ -174,30 +93,6 @@ fn summary(reply: &Reply) -> Told {
     }
 }
 
-// The reply to a call, or none where memory was refused: then nothing is changed.
-fn attempt<R: Wait + Abort>(
-    rt: &R,
-    alloc: Global,
-    turnstile: &Turnstile<Shared>,
-    pass: &mut PassOf<Shared>,
-    call: Call,
-) -> Option<Reply>
-    requires { IsOf turnstile.now pass.old × BeganEmpty turnstile.now.start }
-    ensures { IsOf turnstile.now pass.new }
-{
-    let Ok(op) = operation(rt, alloc, call) else {
-        return None;
-    };
-    let seen = pass.len();
-    match SharedPartition::call(turnstile, rt, alloc, pass, op) {
-        Ok(reply) => Some(reply),
-        Err(refusal) => {
-            assert!(rt; refusal == Refusal::Memory && pass.len() == seen);
-            None
-        }
-    }
-}
-
 // What is told to a call, which isn't refused.
 fn ask<R: Wait + Abort>(
     rt: &R,
@@ -209,10 +104,9 @@ fn ask<R: Wait + Abort>(
     requires { IsOf turnstile.now pass.old × BeganEmpty turnstile.now.start }
     ensures { IsOf turnstile.now pass.new }
 {
-    match &attempt(rt, alloc, turnstile, pass, call) {
-        Some(reply) => summary(reply),
-        None => panic!(rt; "no reply"),
-    }
+    let op = operation(rt, alloc, call).expect(rt, "memory");
+    let answer = SharedPartition::call(turnstile, rt, alloc, pass, op);
+    summary(&answer.expect(rt, "a reply"))
 }
 
 // Publishes so many events, each in a batch of its own.
@@ -405,96 +299,5 @@ fn two_threads_of_callers(rt: HostRuntime) -> Result<(), Fail> {
     let passes = pair(alloc, first, second).expect(&rt, "memory");
     let done = finished(&rt, turnstile, passes);
     compare(&rt, alloc, &gate, done.history.as_slice());
-    Ok(())
-}
-
-// The reply to a call, which is made once more where memory was refused.
-fn insist<R: Wait + Abort>(
-    rt: &R,
-    alloc: Global,
-    turnstile: &Turnstile<Shared>,
-    pass: &mut PassOf<Shared>,
-    call: Call,
-) -> Option<Reply>
-    requires { IsOf turnstile.now pass.old × BeganEmpty turnstile.now.start }
-    ensures { IsOf turnstile.now pass.new }
-{
-    match attempt(rt, alloc, turnstile, pass, call) {
-        None => attempt(rt, alloc, turnstile, pass, call),
-        reply => reply,
-    }
-}
-
-// Makes a call at each of two turnstiles, which answer the same.
-fn ask_alike<R: Wait + Abort>(
-    rt: &R,
-    alloc: Global,
-    one: &Turnstile<Shared>,
-    pass: &mut PassOf<Shared>,
-    other: &Turnstile<Shared>,
-    twin: &mut PassOf<Shared>,
-    call: Call,
-)
-    requires one { IsOf one.now pass.old × BeganEmpty one.now.start }
-    requires other { IsOf other.now twin.old × BeganEmpty other.now.start }
-    ensures one { IsOf one.now pass.new }
-    ensures other { IsOf other.now twin.new }
-{
-    let reply = insist(rt, alloc, one, pass, call);
-    assert!(rt; reply.is_some() && reply == insist(rt, alloc, other, twin, call));
-    assert!(rt; pass.len() == twin.len());
-}
-
-// The calls by which one event is published and handled.
-const CALLS: [Call; 6] = [
-    Call::Subscribe,
-    Call::Publish,
-    Call::Pull,
-    Call::Deliver,
-    Call::Begin,
-    Call::Commit(1, 1, 1),
-];
-
-// Makes these calls at each of them.
-fn ask_all_alike<R: Wait + Abort>(
-    rt: &R,
-    alloc: Global,
-    one: &Turnstile<Shared>,
-    pass: &mut PassOf<Shared>,
-    other: &Turnstile<Shared>,
-    twin: &mut PassOf<Shared>,
-)
-    requires one { IsOf one.now pass.old × BeganEmpty one.now.start }
-    requires other { IsOf other.now twin.old × BeganEmpty other.now.start }
-    ensures one { IsOf one.now pass.new }
-    ensures other { IsOf other.now twin.new }
-{
-    for call in &CALLS {
-        ask_alike(rt, alloc, one, pass, other, twin, *call);
-    }
-}
-
-// Two histories of those calls are alike, and end with a commit.
-fn compare_histories<R: Abort>(rt: &R, history: &[Entry<Op, Reply>], twin: &[Entry<Op, Reply>]) {
-    assert!(rt; history.len() == 6 && twin.len() == 6);
-    for (entry, same) in history.iter().zip(twin) {
-        assert!(rt; entry.number == 0 && entry.reply == same.reply);
-    }
-    assert!(rt; matches!(history[5].reply, Reply::Committed { .. }));
-}
-
-// With any one allocation refused, of two turnstiles one is untouched, and they stay alike. Run it with
-// each allocation failing in turn.
-#[test]
-fn one_allocation_refused_in_a_call(rt: HostRuntime) -> Result<(), Fail> {
-    let alloc = rt.alloc();
-    let (_gate, one, mut pass) = opened_at_last(alloc)?;
-    let (_other_gate, other, mut twin) = opened_at_last(alloc)?;
-    ask_all_alike(&rt, alloc, &one, &mut pass, &other, &mut twin);
-    let pass = alone(alloc, pass).expect(&rt, "memory");
-    let done = finished(&rt, one, pass);
-    let twin = alone(alloc, twin).expect(&rt, "memory");
-    let twin = finished(&rt, other, twin);
-    compare_histories(&rt, done.history.as_slice(), twin.history.as_slice());
     Ok(())
 }
