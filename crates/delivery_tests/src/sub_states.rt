@@ -1,5 +1,3 @@
-ghost use Rattle.std.specs.Prelude.{◌≤◌, ◌<◌};
-
 use consumer_grain::SubState;
 use std::alloc::{AllocError, Global};
 use std::process::Abort;
@@ -33,10 +31,8 @@ fn commit<R: Abort>(
     first: usize,
     second: usize,
     note: u64,
-) -> Result<(), AllocError>
-    requires { second ≤ 1000 }
-{
-    assert!(rt; state.past() <= first && first < second);
+) -> Result<(), AllocError> {
+    assert!(rt; state.past() <= first && first < second && second <= 1000);
     let mut positions = Row::of(first);
     positions.push(second);
     state.commit(alloc, &positions, note)
@@ -49,10 +45,7 @@ fn apply<R: Abort>(
     call: Call,
 ) -> Result<(), AllocError> {
     match call {
-        Call::Commit(first, second, note) => {
-            assert!(rt; second <= 1000);
-            commit(rt, alloc, state, first, second, note)?;
-        }
+        Call::Commit(first, second, note) => return commit(rt, alloc, state, first, second, note),
         Call::Advance(position) => {
             assert!(rt; position <= 1000);
             state.advance(position);
@@ -68,53 +61,49 @@ fn apply<R: Abort>(
     Ok(())
 }
 
-// What is seen of a state.
-fn seen(alloc: Global, state: &SubState) -> Result<String, AllocError> {
+// Writes what is seen of a state.
+fn write_seen(text: &mut String, state: &SubState) -> Result<(), AllocError> {
     let is_open = if state.is_open() { "open" } else { "closed" };
-    let is_told = if state.is_unacknowledged() {
+    let Token { seq, idx } = state.start();
+    write!(
+        text,
+        "{is_open} from ({seq}, {idx}); {:?} ",
+        state.handled()
+    )?;
+    text.push_str(if state.is_unacknowledged() {
         "to tell"
     } else {
         "told"
-    };
-    format!(in alloc;
-        "{is_open} from {:?}; {:?} {is_told}, past {}; resume {}, cursor {}, note {}",
-        (state.start().seq, state.start().idx),
-        state.handled(),
-        state.past(),
-        state.resume(),
-        state.cursor(),
-        state.note()
+    })?;
+    let (past, resume) = (state.past(), state.resume());
+    let (cursor, note) = (state.cursor(), state.note());
+    write!(
+        text,
+        ", past {past}; resume {resume}, cursor {cursor}, note {note}"
     )
 }
 
-// Looks at a state, makes calls, and looks at it after each.
-fn ask<R: Abort>(
-    rt: &R,
-    alloc: Global,
-    state: &mut SubState,
-    rows: &[(Call, &str)],
-) -> Result<(), Fail> {
-    let new = "open from (4, 2); [] told, past 0; resume 10, cursor 10, note 0";
-    assert!(rt; seen(alloc, state)?.as_str() == new);
+// Whether this is seen of a state.
+fn is_seen(alloc: Global, state: &SubState, expected: &str) -> Result<bool, AllocError> {
+    let mut text = String::new(alloc);
+    write_seen(&mut text, state)?;
+    Ok(text.as_str() == expected)
+}
+
+const NEW: &str = "open from (4, 2); [] told, past 0; resume 10, cursor 10, note 0";
+
+// Looks at a new state that begins at position 10, makes calls, and looks at it after each.
+fn check<R: Abort>(rt: &R, alloc: Global, rows: &[(Call, &str)]) -> Result<(), AllocError> {
+    let mut state = SubState::new(alloc, START, 10);
+    assert!(rt; is_seen(alloc, &state, NEW)?);
     for (call, expected) in rows {
-        apply(rt, alloc, state, *call)?;
-        let text = seen(alloc, state)?;
-        assert!(rt; text.as_str() == *expected);
+        apply(rt, alloc, &mut state, *call)?;
+        assert!(rt; is_seen(alloc, &state, expected)?, "{expected}");
     }
     Ok(())
 }
 
-// The same of a new state that begins at position 10.
-fn check<R: Abort>(rt: &R, alloc: Global, rows: &[(Call, &str)]) -> Result<(), Fail> {
-    let mut state = SubState::new(alloc, START, 10);
-    ask(rt, alloc, &mut state, rows)
-}
-
-#[test]
-fn a_new_one_has_handled_nothing(rt: HostRuntime) -> Result<(), Fail> {
-    check(&rt, rt.alloc(), &[])
-}
-
+// A commit adds positions and keeps the note.
 const COMMITTED: [(Call, &str); 2] = [
     (
         Call::Commit(3, 9, 77),
@@ -126,11 +115,7 @@ const COMMITTED: [(Call, &str); 2] = [
     ),
 ];
 
-#[test]
-fn a_commit_adds_positions_and_keeps_the_note(rt: HostRuntime) -> Result<(), Fail> {
-    check(&rt, rt.alloc(), &COMMITTED)
-}
-
+// A rewound cursor is at the resume.
 const REWOUND: [(Call, &str); 2] = [
     (
         Call::Advance(14),
@@ -142,11 +127,7 @@ const REWOUND: [(Call, &str); 2] = [
     ),
 ];
 
-#[test]
-fn a_rewound_cursor_is_at_the_resume(rt: HostRuntime) -> Result<(), Fail> {
-    check(&rt, rt.alloc(), &REWOUND)
-}
-
+// The resume catches up with nothing outstanding.
 const CAUGHT_UP: [(Call, &str); 5] = [
     (
         Call::CatchUp(12, true),
@@ -170,11 +151,7 @@ const CAUGHT_UP: [(Call, &str); 5] = [
     ),
 ];
 
-#[test]
-fn the_resume_catches_up_with_nothing_outstanding(rt: HostRuntime) -> Result<(), Fail> {
-    check(&rt, rt.alloc(), &CAUGHT_UP)
-}
-
+// An acknowledgement never goes back.
 const ACKNOWLEDGED: [(Call, &str); 5] = [
     (
         Call::Advance(19),
@@ -198,11 +175,7 @@ const ACKNOWLEDGED: [(Call, &str); 5] = [
     ),
 ];
 
-#[test]
-fn an_acknowledgement_never_goes_back(rt: HostRuntime) -> Result<(), Fail> {
-    check(&rt, rt.alloc(), &ACKNOWLEDGED)
-}
-
+// A closed one keeps what it has.
 const CLOSED: [(Call, &str); 3] = [
     (
         Call::Commit(3, 9, 77),
@@ -218,17 +191,32 @@ const CLOSED: [(Call, &str); 3] = [
     ),
 ];
 
+const CASES: [&[(Call, &str)]; 6] = [
+    &[],
+    &COMMITTED,
+    &REWOUND,
+    &CAUGHT_UP,
+    &ACKNOWLEDGED,
+    &CLOSED,
+];
+
 #[test]
-fn a_closed_one_keeps_what_it_has(rt: HostRuntime) -> Result<(), Fail> {
-    check(&rt, rt.alloc(), &CLOSED)
+fn calls_change_what_is_seen(rt: HostRuntime) -> Result<(), Fail> {
+    for rows in CASES {
+        check(&rt, rt.alloc(), rows)?;
+    }
+    Ok(())
 }
 
-// What is seen of two states is equal.
-fn compare<R: Abort>(rt: &R, one: &SubState, other: &SubState) {
-    assert!(rt; one.note() == other.note() && one.past() == other.past());
-    assert!(rt; one.resume() == other.resume() && one.cursor() == other.cursor());
-    assert!(rt; one.start() == other.start() && one.is_open() == other.is_open());
-    assert!(rt; one.handled() == other.handled());
+// Whether what is seen of two states is equal.
+fn are_alike(one: &SubState, other: &SubState) -> bool {
+    one.note() == other.note()
+        && one.past() == other.past()
+        && one.resume() == other.resume()
+        && one.cursor() == other.cursor()
+        && one.start() == other.start()
+        && one.is_open() == other.is_open()
+        && one.handled() == other.handled()
 }
 
 // Commits to a state, and then to its twin. A refused commit leaves all as it was.
@@ -238,16 +226,16 @@ fn commit_both<R: Abort>(
     one: &mut SubState,
     twin: &mut SubState,
     first: usize,
-) -> Result<(), Fail> {
-    assert!(rt; first < 1000);
-    if commit(rt, alloc, one, first, first + 1, 9).is_err() {
-        compare(rt, one, twin);
-        commit(rt, alloc, one, first, first + 1, 9)?;
+) -> Result<(), AllocError> {
+    let second = first.saturating_add(1);
+    if commit(rt, alloc, one, first, second, 9).is_err() {
+        assert!(rt; are_alike(one, twin));
+        commit(rt, alloc, one, first, second, 9)?;
     }
-    if commit(rt, alloc, twin, first, first + 1, 9).is_err() {
-        commit(rt, alloc, twin, first, first + 1, 9)?;
+    if commit(rt, alloc, twin, first, second, 9).is_err() {
+        commit(rt, alloc, twin, first, second, 9)?;
     }
-    compare(rt, one, twin);
+    assert!(rt; are_alike(one, twin));
     Ok(())
 }
 
@@ -256,7 +244,7 @@ fn commit_all<R: Abort>(
     alloc: Global,
     one: &mut SubState,
     twin: &mut SubState,
-) -> Result<(), Fail> {
+) -> Result<(), AllocError> {
     for first in [0, 2, 5, 7, 20, 30, 40, 50] {
         commit_both(rt, alloc, one, twin, first)?;
     }
@@ -271,5 +259,6 @@ fn one_allocation_refused(rt: HostRuntime) -> Result<(), Fail> {
     let alloc = rt.alloc();
     let mut one = SubState::new(alloc, START, 0);
     let mut twin = SubState::new(alloc, START, 0);
-    commit_all(&rt, alloc, &mut one, &mut twin)
+    commit_all(&rt, alloc, &mut one, &mut twin)?;
+    Ok(())
 }

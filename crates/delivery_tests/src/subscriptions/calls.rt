@@ -1,176 +1,183 @@
-ghost use Rattle.std.specs.Prelude.{◌≤◌};
-
-use super::fixture::{Call, Counted, Log, are_below};
+use super::fixture::{Answer, Change, Counted, Log, are_below, implicit, registration};
+use consumer_grain::SubState;
+use pubsub_registry::{Added, Closing, Implied, RuleAdded};
 use std::alloc::{AllocError, Global};
 use std::process::Abort;
 use std::test::Fail;
 use stream_ident::{SubName, Token};
-use subscription_table::SubscriptionTable;
+use subscription_table::{Acked, Retried, Sought, SubscriptionTable};
 
-/// The name and the state of a subscription.
-fn state_text(
-    rt: &impl Abort,
-    alloc: Global,
-    table: &SubscriptionTable,
-    number: usize,
-) -> Result<String, AllocError> {
-    assert!(rt; number < table.len());
-    let (name, state) = (table.name(number), table.state(number));
-    let (cursor, resume, note) = (state.cursor(), state.resume(), state.note());
-    let Token { seq, idx } = state.start();
-    format!(in alloc; "{name:?} from {seq}.{idx}: cursor {cursor}, resume {resume}, note {note}")
+/// The name of a subscription: its number, or the kind of its rule and the key of its stream.
+#[derive(Clone, Copy)]
+enum Sub {
+    Explicit(u32),
+    Implicit(u8, u8),
 }
 
-/// What is due after an explicit subscription, below a position.
-fn due_text(
-    rt: &impl Abort,
-    alloc: Global,
-    table: &SubscriptionTable,
-    after: Option<u32>,
-    high: usize,
-) -> Result<String, AllocError> {
-    let due = match after {
+/// What is asked of a table, and what it has to answer. A subscription is named by its place.
+#[derive(Clone, Copy)]
+enum Call {
+    /// A call that may take memory.
+    Change(Change, Answer),
+    /// The subscription ends.
+    Close(usize, Closing),
+    /// The event at a position is delivered.
+    Advance(usize, usize),
+    /// Which event comes next, while deliveries are outstanding or not.
+    Next(usize, bool, Sought),
+    /// The cursor goes back to the resume.
+    Retry(usize, Retried),
+    /// The event with a token is acknowledged.
+    Ack(usize, u64, u32, Acked),
+    /// The cursors of three numbers go back.
+    Rewind([usize; 3]),
+    /// All cursors go back.
+    RewindAll,
+    /// Which place the explicit subscription with a number has.
+    Find(u32, Option<usize>),
+    /// The registration is that of the grain g/1 to the stream o/a.
+    Registered(usize),
+    /// The name, the batch of the start, the cursor, the resume and the note of a subscription.
+    At(usize, Sub, u64, usize, usize, u64),
+    /// The cursors of all three subscriptions.
+    Cursors([usize; 3]),
+    /// The slowest subscription and the least resume.
+    Slowest(Option<(Sub, usize)>),
+    /// Which explicit subscription is due after an explicit one, below a position.
+    Due(Option<u32>, usize, Option<u32>),
+    /// How many there are, and whether there is none or no room.
+    Size(usize, bool, bool),
+}
+
+fn name_of(rt: &impl Abort, sub: Sub) -> SubName {
+    match sub {
+        Sub::Explicit(number) => SubName::Explicit(number),
+        Sub::Implicit(kind, key) => implicit(rt, kind, key),
+    }
+}
+
+/// Whether a subscription has this start, cursor, resume and note.
+fn is_at(state: &SubState, seq: u64, cursor: usize, resume: usize, note: u64) -> bool {
+    state.start() == Token { seq, idx: 0 }
+        && state.cursor() == cursor
+        && state.resume() == resume
+        && state.note() == note
+}
+
+/// Whether all three cursors are these.
+fn has_cursors(table: &SubscriptionTable, cursors: &[usize; 3]) -> bool {
+    table.len() == 3
+        && table.state(0).cursor() == cursors[0]
+        && table.state(1).cursor() == cursors[1]
+        && table.state(2).cursor() == cursors[2]
+}
+
+/// Whether this is the slowest subscription with the least resume.
+fn is_slowest(rt: &impl Abort, table: &SubscriptionTable, slowest: Option<(Sub, usize)>) -> bool {
+    match slowest {
+        None => table.slowest().is_none() && table.least_resume().is_none(),
+        Some((sub, resume)) => {
+            table.slowest() == Some(name_of(rt, sub)) && table.least_resume() == Some(resume)
+        }
+    }
+}
+
+/// Which subscription is due after an explicit one, below a position.
+fn due_after(table: &SubscriptionTable, after: Option<u32>, high: usize) -> Option<usize> {
+    match after {
         None => table.due_after(None, high),
         Some(number) => table.due_after(Some(&SubName::Explicit(number)), high),
-    };
-    match due {
-        None => "none".to_string(alloc),
-        Some(number) => {
-            assert!(rt; number < table.len());
-            format!(in alloc; "{:?}", table.name(number))
+    }
+}
+
+/// Whether the explicit subscription with a number is at a place, or neither is there.
+fn is_named(table: &SubscriptionTable, place: Option<usize>, number: Option<u32>) -> bool {
+    match (place, number) {
+        (None, None) => true,
+        (Some(place), Some(number)) => {
+            place < table.len() && *table.name(place) == SubName::Explicit(number)
         }
+        _ => false,
     }
 }
 
-/// The cursors of all subscriptions.
-fn cursors(
-    rt: &impl Abort,
-    alloc: Global,
-    table: &SubscriptionTable,
-) -> Result<Vec<usize>, AllocError> {
-    let mut cursors = Vec::new(alloc);
-    for number in 0..table.len() {
-        assert!(rt; number < table.len());
-        cursors.push(table.state(number).cursor())?;
-    }
-    Ok(cursors)
-}
-
-/// What is seen of a table.
-fn seen(
-    rt: &impl Abort,
-    alloc: Global,
-    table: &SubscriptionTable,
-    call: Call,
-) -> Result<String, AllocError> {
+/// Whether this is seen of a table.
+fn is_seen(rt: &impl Abort, table: &SubscriptionTable, call: Call) -> bool {
     match call {
-        Call::Find(number) => format!(in alloc; "{:?}", table.find(&SubName::Explicit(number))),
+        Call::Find(number, place) => table.find(&SubName::Explicit(number)) == place,
         Call::Registered(number) => {
-            assert!(rt; number < table.len());
-            format!(in alloc; "{:?}", table.registration(number))
+            number < table.len() && *table.registration(number) == registration(rt, b'a')
         }
-        Call::At(number) => state_text(rt, alloc, table, number),
-        Call::Cursors => format!(in alloc; "{:?}", cursors(rt, alloc, table)?.as_slice()),
-        Call::Slowest => {
-            format!(in alloc; "{:?} at {:?}", table.slowest(), table.least_resume())
+        Call::At(number, sub, seq, cursor, resume, note) => {
+            number < table.len()
+                && *table.name(number) == name_of(rt, sub)
+                && is_at(table.state(number), seq, cursor, resume, note)
         }
-        Call::Due(after, high) => due_text(rt, alloc, table, after, high),
-        _ => {
-            let (len, is_empty, is_full) = (table.len(), table.is_empty(), table.is_full());
-            format!(in alloc; "{len} there, empty {is_empty}, full {is_full}")
+        Call::Cursors(cursors) => has_cursors(table, &cursors),
+        Call::Slowest(slowest) => is_slowest(rt, table, slowest),
+        Call::Due(after, high, number) => is_named(table, due_after(table, after, high), number),
+        Call::Size(len, is_empty, is_full) => {
+            table.len() == len && table.is_empty() == is_empty && table.is_full() == is_full
         }
+        _ => false,
     }
 }
 
-/// Moves a subscription, and gives the text of the reply.
-fn moved(
-    rt: &impl Abort,
-    alloc: Global,
-    counted: &mut Counted,
-    log: &Log,
-    number: usize,
-    call: Call,
-) -> Result<String, AllocError> {
-    assert!(rt; number < counted.table.len());
+/// Whether a subscription answers so beside a log.
+fn answers(counted: &mut Counted, log: &Log, number: usize, call: Call) -> bool {
+    if counted.table.len() <= number || 1000 < log.queue.len() || 1000 <= log.cache.high() {
+        return false;
+    }
     match call {
-        Call::Close(_) => {
-            let closing = counted.table.close(number);
-            format!(in alloc; "{closing:?}")
+        Call::Close(_, answer) => counted.table.close(number) == answer,
+        Call::Retry(_, answer) => counted.table.retry(number) == answer,
+        Call::Next(_, outstanding, answer) => {
+            log.cache.low() <= counted.table.state(number).cursor()
+                && counted.table.next_event(number, &log.cache, outstanding) == answer
         }
-        Call::Advance(_, position) => {
-            assert!(rt; position < 1000);
+        Call::Ack(_, seq, idx, answer) => {
+            are_below(counted.table.state(number).handled(), log.queue.len())
+                && counted.table.ack(number, &log.queue, &Token { seq, idx }) == answer
+        }
+        _ => false,
+    }
+}
+
+/// Moves cursors.
+fn move_cursors(rt: &impl Abort, counted: &mut Counted, call: Call) {
+    match call {
+        Call::Advance(number, position) => {
+            assert!(rt; number < counted.table.len() && position < 1000);
             counted.table.advance(number, position);
-            Ok(String::new(alloc))
         }
-        Call::Next(_, outstanding) => {
-            assert!(rt; log.cache.low() <= counted.table.state(number).cursor());
-            assert!(rt; log.cache.high() < 1000);
-            let sought = counted.table.next_event(number, &log.cache, outstanding);
-            format!(in alloc; "{sought:?}")
+        Call::Rewind(numbers) => {
+            assert!(rt; are_below(&numbers, counted.table.len()));
+            counted.table.rewind(&numbers);
         }
-        Call::Retry(_) => {
-            let retried = counted.table.retry(number);
-            format!(in alloc; "{retried:?}")
-        }
-        Call::Ack(_, seq, idx) => {
-            assert!(rt; log.queue.len() <= 1000);
-            assert!(rt; are_below(counted.table.state(number).handled(), log.queue.len()));
-            let acked = counted.table.ack(number, &log.queue, &Token { seq, idx });
-            format!(in alloc; "{acked:?}")
-        }
-        _ => panic!(rt; "nothing moves"),
+        _ => counted.table.rewind_all(),
     }
 }
 
-/// The cursors of these numbers go back.
-fn rewind(rt: &impl Abort, counted: &mut Counted, numbers: &[usize]) {
-    assert!(rt; are_below(numbers, counted.table.len()));
-    counted.table.rewind(numbers);
-}
-
-/// The text of the reply to a call.
-fn told(
+/// Whether a call is answered so.
+fn is_so(
     rt: &impl Abort,
     alloc: Global,
     counted: &mut Counted,
     log: &Log,
     call: Call,
-) -> Result<String, AllocError> {
+) -> Result<bool, AllocError> {
     match call {
-        Call::Subscribe(..) | Call::Imply(..) | Call::AddRule(..) | Call::Commit(..) => {
-            let answer = counted.change(rt, alloc, log, call)?;
-            format!(in alloc; "{answer:?}")
+        Call::Change(change, answer) => Ok(counted.change(rt, alloc, log, change)? == answer),
+        Call::Close(number, _)
+        | Call::Next(number, _, _)
+        | Call::Retry(number, _)
+        | Call::Ack(number, _, _, _) => Ok(answers(counted, log, number, call)),
+        Call::Advance(..) | Call::Rewind(..) | Call::RewindAll => {
+            move_cursors(rt, counted, call);
+            Ok(true)
         }
-        Call::Close(number)
-        | Call::Advance(number, _)
-        | Call::Next(number, _)
-        | Call::Retry(number)
-        | Call::Ack(number, _, _) => moved(rt, alloc, counted, log, number, call),
-        Call::Rewind(numbers) => {
-            rewind(rt, counted, &numbers);
-            Ok(String::new(alloc))
-        }
-        Call::RewindAll => {
-            counted.table.rewind_all();
-            Ok(String::new(alloc))
-        }
-        _ => seen(rt, alloc, &counted.table, call),
+        _ => Ok(is_seen(rt, &counted.table, call)),
     }
-}
-
-/// Asks a table beside a log. The replies have to read so.
-fn ask(
-    rt: &impl Abort,
-    alloc: Global,
-    counted: &mut Counted,
-    log: &Log,
-    rows: &[(Call, &str)],
-) -> Result<(), Fail> {
-    for (call, expected) in rows {
-        let text = told(rt, alloc, counted, log, *call)?;
-        assert!(rt; text.as_str() == *expected);
-    }
-    Ok(())
 }
 
 /// Asks a new table of up to so many subscriptions and one rule, beside a log of these batches.
@@ -179,305 +186,300 @@ fn check(
     alloc: Global,
     batches: &[(u8, u8)],
     most_names: usize,
-    rows: &[(Call, &str)],
-) -> Result<(), Fail>
-    requires { most_names ≤ 10000 }
-{
+    calls: &[Call],
+) -> Result<(), AllocError> {
+    assert!(rt; most_names <= 10000);
     let log = Log::of(rt, alloc, batches);
     let mut counted = Counted::new(alloc, most_names, 1);
-    ask(rt, alloc, &mut counted, &log, rows)
+    for (index, call) in calls.iter().enumerate() {
+        assert!(rt;
+            is_so(rt, alloc, &mut counted, &log, *call)?,
+            "call {index}"
+        );
+    }
+    Ok(())
 }
 
-const NUMBERED: [(Call, &str); 8] = [
-    (Call::Subscribe(b'a', 10), "Explicit(Added { number: 1 })"),
-    (Call::Subscribe(b'a', 11), "Explicit(Added { number: 2 })"),
-    (Call::Subscribe(b'a', 12), "Explicit(Added { number: 3 })"),
-    (Call::Size, "3 there, empty false, full true"),
-    (Call::Find(2), "Some(1)"),
-    (Call::Find(4), "None"),
-    (
-        Call::At(1),
-        "Explicit(2) from 0.0: cursor 11, resume 11, note 0",
+/// Subscriptions go by number.
+const NUMBERED: [Call; 8] = [
+    Call::Change(
+        Change::Subscribe(b'a', 10),
+        Answer::Explicit(Added::Added { number: 1 }),
     ),
-    (Call::Subscribe(b'b', 13), "Explicit(TooMany)"),
-];
-
-#[test]
-fn subscriptions_go_by_number(rt: HostRuntime) -> Result<(), Fail> {
-    check(&rt, rt.alloc(), &[], 3, &NUMBERED)
-}
-
-const REGISTERED: [(Call, &str); 6] = [
-    (Call::Subscribe(b'a', 10), "Explicit(Added { number: 1 })"),
-    (Call::Subscribe(b'a', 11), "Explicit(Added { number: 2 })"),
-    (Call::Subscribe(b'a', 12), "Explicit(Added { number: 3 })"),
-    (Call::Size, "3 there, empty false, full true"),
-    (
-        Call::Registered(1),
-        "Registration { stream: StreamId { namespace: o, key: a }, grain: GrainId { kind: g, key: 1 }, start: Token { seq: 0, idx: 0 }, is_open: true }",
+    Call::Change(
+        Change::Subscribe(b'a', 11),
+        Answer::Explicit(Added::Added { number: 2 }),
     ),
-    (
-        Call::At(1),
-        "Explicit(2) from 0.0: cursor 11, resume 11, note 0",
+    Call::Change(
+        Change::Subscribe(b'a', 12),
+        Answer::Explicit(Added::Added { number: 3 }),
+    ),
+    Call::Size(3, false, true),
+    Call::Find(2, Some(1)),
+    Call::Find(4, None),
+    Call::At(1, Sub::Explicit(2), 0, 11, 11, 0),
+    Call::Change(
+        Change::Subscribe(b'b', 13),
+        Answer::Explicit(Added::TooMany),
     ),
 ];
 
-#[test]
-fn registrations_are_those_of_the_calls(rt: HostRuntime) -> Result<(), Fail> {
-    check(&rt, rt.alloc(), &[], 3, &REGISTERED)
-}
-
-const RULES: [(Call, &str); 4] = [
-    (Call::Size, "0 there, empty true, full false"),
-    (Call::AddRule(b'k', 1), "Rule(Added)"),
-    (Call::AddRule(b'k', 1), "Rule(RuleThere)"),
-    (Call::AddRule(b'm', 1), "Rule(TooMany)"),
+/// Registrations are those of the calls.
+const REGISTERED: [Call; 6] = [
+    Call::Change(
+        Change::Subscribe(b'a', 10),
+        Answer::Explicit(Added::Added { number: 1 }),
+    ),
+    Call::Change(
+        Change::Subscribe(b'a', 11),
+        Answer::Explicit(Added::Added { number: 2 }),
+    ),
+    Call::Change(
+        Change::Subscribe(b'a', 12),
+        Answer::Explicit(Added::Added { number: 3 }),
+    ),
+    Call::Size(3, false, true),
+    Call::Registered(1),
+    Call::At(1, Sub::Explicit(2), 0, 11, 11, 0),
 ];
 
-#[test]
-fn rules_are_kept_once(rt: HostRuntime) -> Result<(), Fail> {
-    check(&rt, rt.alloc(), &[], 3, &RULES)
-}
-
-const ALL_OR_NONE: [(Call, &str); 9] = [
-    (Call::Subscribe(b'a', 8), "Explicit(Added { number: 1 })"),
-    (Call::AddRule(b'k', 1), "Rule(Added)"),
-    (Call::Imply(0, 3, 5), "Implicit(TooMany)"),
-    (Call::Size, "1 there, empty false, full false"),
-    (Call::Imply(0, 2, 5), "Implicit(Implied)"),
-    (Call::Size, "2 there, empty false, full true"),
-    (
-        Call::At(1),
-        "Implicit { kind: k, stream: StreamId { namespace: o, key: b } } from 1.0: cursor 5, resume 5, note 0",
-    ),
-    (
-        Call::Slowest,
-        "Some(Implicit { kind: k, stream: StreamId { namespace: o, key: b } }) at Some(5)",
-    ),
-    (Call::Close(1), "Implicit"),
+/// Rules are kept once.
+const RULES: [Call; 4] = [
+    Call::Size(0, true, false),
+    Call::Change(Change::AddRule(b'k', 1), Answer::Rule(RuleAdded::Added)),
+    Call::Change(Change::AddRule(b'k', 1), Answer::Rule(RuleAdded::RuleThere)),
+    Call::Change(Change::AddRule(b'm', 1), Answer::Rule(RuleAdded::TooMany)),
 ];
 
-#[test]
-fn rules_make_all_or_none(rt: HostRuntime) -> Result<(), Fail> {
-    check(
-        &rt,
-        rt.alloc(),
+/// Rules make all or none.
+const ALL_OR_NONE: [Call; 9] = [
+    Call::Change(
+        Change::Subscribe(b'a', 8),
+        Answer::Explicit(Added::Added { number: 1 }),
+    ),
+    Call::Change(Change::AddRule(b'k', 1), Answer::Rule(RuleAdded::Added)),
+    Call::Change(Change::Imply(0, 3, 5), Answer::Implicit(Implied::TooMany)),
+    Call::Size(1, false, false),
+    Call::Change(Change::Imply(0, 2, 5), Answer::Implicit(Implied::Implied)),
+    Call::Size(2, false, true),
+    Call::At(1, Sub::Implicit(b'k', b'b'), 1, 5, 5, 0),
+    Call::Slowest(Some((Sub::Implicit(b'k', b'b'), 5))),
+    Call::Close(1, Closing::Implicit),
+];
+
+/// Closed ones hold nothing back.
+const CLOSED: [Call; 12] = [
+    Call::Change(
+        Change::Subscribe(b'a', 7),
+        Answer::Explicit(Added::Added { number: 1 }),
+    ),
+    Call::Change(
+        Change::Subscribe(b'a', 4),
+        Answer::Explicit(Added::Added { number: 2 }),
+    ),
+    Call::Change(
+        Change::Subscribe(b'a', 6),
+        Answer::Explicit(Added::Added { number: 3 }),
+    ),
+    Call::Slowest(Some((Sub::Explicit(2), 4))),
+    Call::Close(1, Closing::Done),
+    Call::Close(1, Closing::Closed),
+    Call::Slowest(Some((Sub::Explicit(3), 6))),
+    Call::Due(None, 7, Some(3)),
+    Call::Close(0, Closing::Done),
+    Call::Close(2, Closing::Done),
+    Call::Slowest(None),
+    Call::Due(None, usize::MAX, None),
+];
+
+/// Ties go to the least name.
+const TIES: [Call; 9] = [
+    Call::Change(
+        Change::Subscribe(b'a', 4),
+        Answer::Explicit(Added::Added { number: 1 }),
+    ),
+    Call::Change(
+        Change::Subscribe(b'a', 2),
+        Answer::Explicit(Added::Added { number: 2 }),
+    ),
+    Call::Change(
+        Change::Subscribe(b'a', 2),
+        Answer::Explicit(Added::Added { number: 3 }),
+    ),
+    Call::Slowest(Some((Sub::Explicit(2), 2))),
+    Call::Change(Change::Commit(1, 3, 9), Answer::Committed),
+    Call::Ack(1, 3, 0, Acked::Acked),
+    Call::Slowest(Some((Sub::Explicit(3), 2))),
+    Call::Close(2, Closing::Done),
+    Call::Slowest(Some((Sub::Explicit(1), 4))),
+];
+
+/// Handled events are due until acknowledged.
+const HANDLED: [Call; 15] = [
+    Call::Change(
+        Change::Subscribe(b'a', 0),
+        Answer::Explicit(Added::Added { number: 1 }),
+    ),
+    Call::Change(
+        Change::Subscribe(b'a', 0),
+        Answer::Explicit(Added::Added { number: 2 }),
+    ),
+    Call::Change(
+        Change::Subscribe(b'a', 0),
+        Answer::Explicit(Added::Added { number: 3 }),
+    ),
+    Call::Due(None, 0, None),
+    Call::Change(Change::Commit(1, 2, 9), Answer::Committed),
+    Call::At(1, Sub::Explicit(2), 0, 0, 0, 9),
+    Call::Due(None, 0, Some(2)),
+    Call::Due(Some(2), 1, Some(3)),
+    Call::Ack(1, 1, 0, Acked::NotHandled),
+    Call::At(1, Sub::Explicit(2), 0, 0, 0, 9),
+    Call::Ack(1, 2, 0, Acked::Acked),
+    Call::At(1, Sub::Explicit(2), 0, 3, 3, 9),
+    Call::Due(None, 0, None),
+    Call::Close(1, Closing::Done),
+    Call::Ack(1, 2, 0, Acked::Closed),
+];
+
+/// Events are sought to the end.
+const SOUGHT: [Call; 14] = [
+    Call::Change(
+        Change::Subscribe(b'a', 0),
+        Answer::Explicit(Added::Added { number: 1 }),
+    ),
+    Call::Change(
+        Change::Subscribe(b'a', 3),
+        Answer::Explicit(Added::Added { number: 2 }),
+    ),
+    Call::Change(
+        Change::Subscribe(b'a', 3),
+        Answer::Explicit(Added::Added { number: 3 }),
+    ),
+    Call::Next(0, false, Sought::Next { position: 1 }),
+    Call::Advance(0, 1),
+    Call::At(0, Sub::Explicit(1), 0, 2, 0, 0),
+    Call::Next(0, true, Sought::Nothing),
+    Call::Slowest(Some((Sub::Explicit(1), 0))),
+    Call::At(0, Sub::Explicit(1), 0, 3, 0, 0),
+    Call::Next(0, false, Sought::Nothing),
+    Call::Slowest(Some((Sub::Explicit(1), 3))),
+    Call::At(0, Sub::Explicit(1), 0, 3, 3, 0),
+    Call::Close(0, Closing::Done),
+    Call::Next(0, false, Sought::Closed),
+];
+
+/// Handled events are found by token.
+const FOUND: [Call; 21] = [
+    Call::Change(
+        Change::Subscribe(b'a', 0),
+        Answer::Explicit(Added::Added { number: 1 }),
+    ),
+    Call::Change(
+        Change::Subscribe(b'a', 0),
+        Answer::Explicit(Added::Added { number: 2 }),
+    ),
+    Call::Change(
+        Change::Subscribe(b'a', 0),
+        Answer::Explicit(Added::Added { number: 3 }),
+    ),
+    Call::Change(Change::Commit(0, 0, 9), Answer::Committed),
+    Call::Change(Change::Commit(0, 2, 9), Answer::Committed),
+    Call::Change(Change::Commit(0, 3, 9), Answer::Committed),
+    Call::Change(Change::Commit(0, 5, 9), Answer::Committed),
+    Call::Ack(0, 0, 1, Acked::NotHandled),
+    Call::At(0, Sub::Explicit(1), 0, 0, 0, 9),
+    Call::Ack(0, 1, 0, Acked::Acked),
+    Call::At(0, Sub::Explicit(1), 0, 3, 3, 9),
+    Call::Ack(0, 0, 0, Acked::Acked),
+    Call::At(0, Sub::Explicit(1), 0, 3, 3, 9),
+    Call::Ack(0, 2, 1, Acked::NotHandled),
+    Call::At(0, Sub::Explicit(1), 0, 3, 3, 9),
+    Call::Ack(0, 2, 2, Acked::Acked),
+    Call::At(0, Sub::Explicit(1), 0, 6, 6, 9),
+    Call::Ack(0, 2, 0, Acked::Acked),
+    Call::At(0, Sub::Explicit(1), 0, 6, 6, 9),
+    Call::Ack(0, 3, 0, Acked::NotHandled),
+    Call::At(0, Sub::Explicit(1), 0, 6, 6, 9),
+];
+
+/// Retried cursors go back.
+const RETRIED: [Call; 11] = [
+    Call::Change(
+        Change::Subscribe(b'a', 1),
+        Answer::Explicit(Added::Added { number: 1 }),
+    ),
+    Call::Change(
+        Change::Subscribe(b'a', 2),
+        Answer::Explicit(Added::Added { number: 2 }),
+    ),
+    Call::Change(
+        Change::Subscribe(b'a', 3),
+        Answer::Explicit(Added::Added { number: 3 }),
+    ),
+    Call::Advance(0, 8),
+    Call::Advance(1, 8),
+    Call::Advance(2, 8),
+    Call::Close(2, Closing::Done),
+    Call::Cursors([9, 9, 9]),
+    Call::Retry(1, Retried::Rewound),
+    Call::Retry(2, Retried::Closed),
+    Call::Cursors([9, 2, 9]),
+];
+
+/// Open cursors are rewound.
+const REWOUND: [Call; 13] = [
+    Call::Change(
+        Change::Subscribe(b'a', 1),
+        Answer::Explicit(Added::Added { number: 1 }),
+    ),
+    Call::Change(
+        Change::Subscribe(b'a', 2),
+        Answer::Explicit(Added::Added { number: 2 }),
+    ),
+    Call::Change(
+        Change::Subscribe(b'a', 3),
+        Answer::Explicit(Added::Added { number: 3 }),
+    ),
+    Call::Advance(0, 8),
+    Call::Advance(1, 8),
+    Call::Advance(2, 8),
+    Call::Close(2, Closing::Done),
+    Call::Rewind([2, 1, 1]),
+    Call::Cursors([9, 2, 9]),
+    Call::Advance(1, 8),
+    Call::RewindAll,
+    Call::Cursors([1, 2, 9]),
+    Call::Slowest(Some((Sub::Explicit(1), 1))),
+];
+
+/// The batches of a log, how many subscriptions a new table may have, and what is asked of it.
+const CASES: [(&[(u8, u8)], usize, &[Call]); 11] = [
+    (&[], 3, &NUMBERED),
+    (&[], 3, &REGISTERED),
+    (&[], 3, &RULES),
+    (
         &[(b'a', 1), (b'b', 1), (b'c', 1), (b'b', 1)],
         2,
         &ALL_OR_NONE,
-    )
-}
-
-const CLOSED: [(Call, &str); 12] = [
-    (Call::Subscribe(b'a', 7), "Explicit(Added { number: 1 })"),
-    (Call::Subscribe(b'a', 4), "Explicit(Added { number: 2 })"),
-    (Call::Subscribe(b'a', 6), "Explicit(Added { number: 3 })"),
-    (Call::Slowest, "Some(Explicit(2)) at Some(4)"),
-    (Call::Close(1), "Done"),
-    (Call::Close(1), "Closed"),
-    (Call::Slowest, "Some(Explicit(3)) at Some(6)"),
-    (Call::Due(None, 7), "Explicit(3)"),
-    (Call::Close(0), "Done"),
-    (Call::Close(2), "Done"),
-    (Call::Slowest, "None at None"),
-    (Call::Due(None, usize::MAX), "none"),
-];
-
-#[test]
-fn closed_ones_hold_nothing_back(rt: HostRuntime) -> Result<(), Fail> {
-    check(&rt, rt.alloc(), &[], 3, &CLOSED)
-}
-
-const TIES: [(Call, &str); 9] = [
-    (Call::Subscribe(b'a', 4), "Explicit(Added { number: 1 })"),
-    (Call::Subscribe(b'a', 2), "Explicit(Added { number: 2 })"),
-    (Call::Subscribe(b'a', 2), "Explicit(Added { number: 3 })"),
-    (Call::Slowest, "Some(Explicit(2)) at Some(2)"),
-    (Call::Commit(1, 3, 9), "Committed"),
-    (Call::Ack(1, 3, 0), "Acked"),
-    (Call::Slowest, "Some(Explicit(3)) at Some(2)"),
-    (Call::Close(2), "Done"),
-    (Call::Slowest, "Some(Explicit(1)) at Some(4)"),
-];
-
-#[test]
-fn ties_go_to_the_least_name(rt: HostRuntime) -> Result<(), Fail> {
-    check(
-        &rt,
-        rt.alloc(),
+    ),
+    (&[], 3, &CLOSED),
+    (
         &[(b'a', 1), (b'a', 1), (b'a', 1), (b'a', 1), (b'a', 1)],
         3,
         &TIES,
-    )
-}
-
-const HANDLED: [(Call, &str); 15] = [
-    (Call::Subscribe(b'a', 0), "Explicit(Added { number: 1 })"),
-    (Call::Subscribe(b'a', 0), "Explicit(Added { number: 2 })"),
-    (Call::Subscribe(b'a', 0), "Explicit(Added { number: 3 })"),
-    (Call::Due(None, 0), "none"),
-    (Call::Commit(1, 2, 9), "Committed"),
-    (
-        Call::At(1),
-        "Explicit(2) from 0.0: cursor 0, resume 0, note 9",
     ),
-    (Call::Due(None, 0), "Explicit(2)"),
-    (Call::Due(Some(2), 1), "Explicit(3)"),
-    (Call::Ack(1, 1, 0), "NotHandled"),
-    (
-        Call::At(1),
-        "Explicit(2) from 0.0: cursor 0, resume 0, note 9",
-    ),
-    (Call::Ack(1, 2, 0), "Acked"),
-    (
-        Call::At(1),
-        "Explicit(2) from 0.0: cursor 3, resume 3, note 9",
-    ),
-    (Call::Due(None, 0), "none"),
-    (Call::Close(1), "Done"),
-    (Call::Ack(1, 2, 0), "Closed"),
+    (&[(b'a', 1), (b'b', 1), (b'a', 1), (b'b', 1)], 3, &HANDLED),
+    (&[(b'b', 1), (b'a', 1), (b'b', 1)], 3, &SOUGHT),
+    (&[(b'a', 2), (b'a', 1), (b'a', 3)], 3, &FOUND),
+    (&[], 3, &RETRIED),
+    (&[], 3, &REWOUND),
 ];
 
 #[test]
-fn handled_events_are_due_until_acknowledged(rt: HostRuntime) -> Result<(), Fail> {
-    check(
-        &rt,
-        rt.alloc(),
-        &[(b'a', 1), (b'b', 1), (b'a', 1), (b'b', 1)],
-        3,
-        &HANDLED,
-    )
-}
-
-const SOUGHT: [(Call, &str); 14] = [
-    (Call::Subscribe(b'a', 0), "Explicit(Added { number: 1 })"),
-    (Call::Subscribe(b'a', 3), "Explicit(Added { number: 2 })"),
-    (Call::Subscribe(b'a', 3), "Explicit(Added { number: 3 })"),
-    (Call::Next(0, false), "Next { position: 1 }"),
-    (Call::Advance(0, 1), ""),
-    (
-        Call::At(0),
-        "Explicit(1) from 0.0: cursor 2, resume 0, note 0",
-    ),
-    (Call::Next(0, true), "Nothing"),
-    (Call::Slowest, "Some(Explicit(1)) at Some(0)"),
-    (
-        Call::At(0),
-        "Explicit(1) from 0.0: cursor 3, resume 0, note 0",
-    ),
-    (Call::Next(0, false), "Nothing"),
-    (Call::Slowest, "Some(Explicit(1)) at Some(3)"),
-    (
-        Call::At(0),
-        "Explicit(1) from 0.0: cursor 3, resume 3, note 0",
-    ),
-    (Call::Close(0), "Done"),
-    (Call::Next(0, false), "Closed"),
-];
-
-#[test]
-fn events_are_sought_to_the_end(rt: HostRuntime) -> Result<(), Fail> {
-    check(
-        &rt,
-        rt.alloc(),
-        &[(b'b', 1), (b'a', 1), (b'b', 1)],
-        3,
-        &SOUGHT,
-    )
-}
-
-const FOUND: [(Call, &str); 21] = [
-    (Call::Subscribe(b'a', 0), "Explicit(Added { number: 1 })"),
-    (Call::Subscribe(b'a', 0), "Explicit(Added { number: 2 })"),
-    (Call::Subscribe(b'a', 0), "Explicit(Added { number: 3 })"),
-    (Call::Commit(0, 0, 9), "Committed"),
-    (Call::Commit(0, 2, 9), "Committed"),
-    (Call::Commit(0, 3, 9), "Committed"),
-    (Call::Commit(0, 5, 9), "Committed"),
-    (Call::Ack(0, 0, 1), "NotHandled"),
-    (
-        Call::At(0),
-        "Explicit(1) from 0.0: cursor 0, resume 0, note 9",
-    ),
-    (Call::Ack(0, 1, 0), "Acked"),
-    (
-        Call::At(0),
-        "Explicit(1) from 0.0: cursor 3, resume 3, note 9",
-    ),
-    (Call::Ack(0, 0, 0), "Acked"),
-    (
-        Call::At(0),
-        "Explicit(1) from 0.0: cursor 3, resume 3, note 9",
-    ),
-    (Call::Ack(0, 2, 1), "NotHandled"),
-    (
-        Call::At(0),
-        "Explicit(1) from 0.0: cursor 3, resume 3, note 9",
-    ),
-    (Call::Ack(0, 2, 2), "Acked"),
-    (
-        Call::At(0),
-        "Explicit(1) from 0.0: cursor 6, resume 6, note 9",
-    ),
-    (Call::Ack(0, 2, 0), "Acked"),
-    (
-        Call::At(0),
-        "Explicit(1) from 0.0: cursor 6, resume 6, note 9",
-    ),
-    (Call::Ack(0, 3, 0), "NotHandled"),
-    (
-        Call::At(0),
-        "Explicit(1) from 0.0: cursor 6, resume 6, note 9",
-    ),
-];
-
-#[test]
-fn handled_events_are_found_by_token(rt: HostRuntime) -> Result<(), Fail> {
-    check(
-        &rt,
-        rt.alloc(),
-        &[(b'a', 2), (b'a', 1), (b'a', 3)],
-        3,
-        &FOUND,
-    )
-}
-
-const RETRIED: [(Call, &str); 11] = [
-    (Call::Subscribe(b'a', 1), "Explicit(Added { number: 1 })"),
-    (Call::Subscribe(b'a', 2), "Explicit(Added { number: 2 })"),
-    (Call::Subscribe(b'a', 3), "Explicit(Added { number: 3 })"),
-    (Call::Advance(0, 8), ""),
-    (Call::Advance(1, 8), ""),
-    (Call::Advance(2, 8), ""),
-    (Call::Close(2), "Done"),
-    (Call::Cursors, "[9, 9, 9]"),
-    (Call::Retry(1), "Rewound"),
-    (Call::Retry(2), "Closed"),
-    (Call::Cursors, "[9, 2, 9]"),
-];
-
-#[test]
-fn retried_cursors_go_back(rt: HostRuntime) -> Result<(), Fail> {
-    check(&rt, rt.alloc(), &[], 3, &RETRIED)
-}
-
-const REWOUND: [(Call, &str); 13] = [
-    (Call::Subscribe(b'a', 1), "Explicit(Added { number: 1 })"),
-    (Call::Subscribe(b'a', 2), "Explicit(Added { number: 2 })"),
-    (Call::Subscribe(b'a', 3), "Explicit(Added { number: 3 })"),
-    (Call::Advance(0, 8), ""),
-    (Call::Advance(1, 8), ""),
-    (Call::Advance(2, 8), ""),
-    (Call::Close(2), "Done"),
-    (Call::Rewind([2, 1, 1]), ""),
-    (Call::Cursors, "[9, 2, 9]"),
-    (Call::Advance(1, 8), ""),
-    (Call::RewindAll, ""),
-    (Call::Cursors, "[1, 2, 9]"),
-    (Call::Slowest, "Some(Explicit(1)) at Some(1)"),
-];
-
-#[test]
-fn open_cursors_are_rewound(rt: HostRuntime) -> Result<(), Fail> {
-    check(&rt, rt.alloc(), &[], 3, &REWOUND)
+fn tables_are_asked(rt: HostRuntime) -> Result<(), Fail> {
+    for (batches, most_names, calls) in &CASES {
+        check(&rt, rt.alloc(), batches, *most_names, calls)?;
+    }
+    Ok(())
 }

@@ -2,7 +2,7 @@
 ghost use Rattle.std.specs.Prelude.{◌≡◌, ◌<◌, ◌≤◌, ◌↔◌, All, IsTrue};
 
 use partition_queue::PartitionQueue;
-use pubsub_registry::{Added, Implied, RuleAdded};
+use pubsub_registry::{Added, Implied, Registration, RuleAdded};
 use queue_cache::QueueCache;
 use std::alloc::{AllocError, Global};
 use std::process::Abort;
@@ -11,49 +11,21 @@ use subscription_table::SubscriptionTable;
 
 const START: Token = Token { seq: 0, idx: 0 };
 
-/// What is asked of a table. A subscription is named by its number, which is its place.
+/// A call that may take memory.
 #[derive(Clone, Copy)]
-pub(crate) enum Call {
+pub(crate) enum Change {
     /// The grain g/1 subscribes to the stream o/KEY, whose events are sought from a position on.
     Subscribe(u8, usize),
     /// The rules make subscriptions of the events between two positions, sought from a third on.
     Imply(usize, usize, usize),
     /// The grains of a kind shall consume the streams of the namespace o, from a batch on.
     AddRule(u8, u64),
-    /// The event at a position is handled, with a note.
+    /// The event at a position is handled by the subscription at a place, with a note.
     Commit(usize, usize, u64),
-    /// The subscription ends.
-    Close(usize),
-    /// The event at a position is delivered.
-    Advance(usize, usize),
-    /// Which event comes next, while deliveries are outstanding or not.
-    Next(usize, bool),
-    /// The cursor goes back to the resume.
-    Retry(usize),
-    /// The event with a token is acknowledged.
-    Ack(usize, u64, u32),
-    /// The cursors of three numbers go back.
-    Rewind([usize; 3]),
-    /// All cursors go back.
-    RewindAll,
-    /// Which place the explicit subscription with a number has.
-    Find(u32),
-    /// The registration of a subscription.
-    Registered(usize),
-    /// The name and the state of a subscription.
-    At(usize),
-    /// The cursors of all subscriptions.
-    Cursors,
-    /// The slowest subscription and the least resume.
-    Slowest,
-    /// What is due after an explicit subscription, below a position.
-    Due(Option<u32>, usize),
-    /// How many there are.
-    Size,
 }
 
 /// The reply to a call that may take memory.
-#[derive(Clone, Copy, Debug, PartialEq, Eq)]
+#[derive(Clone, Copy, PartialEq, Eq)]
 pub(crate) enum Answer {
     Explicit(Added),
     Implicit(Implied),
@@ -78,6 +50,24 @@ pub(crate) fn implicit(rt: &impl Abort, kind: u8, key: u8) -> SubName {
     SubName::Implicit {
         kind: name(rt, kind),
         stream: stream(rt, key),
+    }
+}
+
+/// The grain g/1.
+fn grain(rt: &impl Abort) -> GrainId {
+    GrainId {
+        kind: name(rt, b'g'),
+        key: name(rt, b'1'),
+    }
+}
+
+/// The registration of an explicit subscription that is open.
+pub(crate) fn registration(rt: &impl Abort, key: u8) -> Registration {
+    Registration {
+        stream: stream(rt, key),
+        grain: grain(rt),
+        start: START,
+        is_open: true,
     }
 }
 
@@ -117,15 +107,40 @@ impl Counted {
     ) -> Result<Added, AllocError> {
         assert!(rt; self.explicit < 1000 && position < 1000);
         let stream = stream(rt, key);
-        let grain = GrainId {
-            kind: name(rt, b'g'),
-            key: name(rt, b'1'),
-        };
-        let added = self.table.subscribe(alloc, stream, grain, START, position)?;
+        let added = self
+            .table
+            .subscribe(alloc, stream, grain(rt), START, position)?;
         if let Added::Added { number } = added {
             self.explicit = number;
         }
         Ok(added)
+    }
+
+    fn imply(
+        &mut self,
+        rt: &impl Abort,
+        alloc: Global,
+        log: &Log,
+        from: usize,
+        to: usize,
+        position: usize,
+    ) -> Result<Implied, AllocError> {
+        assert!(rt; from <= to && to <= log.queue.len() && to <= 256 && position < 1000);
+        self.table
+            .imply(alloc, log.queue.between(from, to), position)
+    }
+
+    fn commit(
+        &mut self,
+        rt: &impl Abort,
+        alloc: Global,
+        number: usize,
+        position: usize,
+        note: u64,
+    ) -> Result<(), AllocError> {
+        assert!(rt; number < self.table.len() && position < 1000);
+        assert!(rt; self.table.state(number).past() <= position);
+        self.table.commit(alloc, number, &Row::of(position), note)
     }
 
     /// Makes a call that may take memory.
@@ -134,30 +149,25 @@ impl Counted {
         rt: &impl Abort,
         alloc: Global,
         log: &Log,
-        call: Call,
+        change: Change,
     ) -> Result<Answer, AllocError> {
-        match call {
-            Call::Subscribe(key, position) => {
-                Ok(Answer::Explicit(self.subscribe(rt, alloc, key, position)?))
+        let answer = match change {
+            Change::Subscribe(key, position) => {
+                Answer::Explicit(self.subscribe(rt, alloc, key, position)?)
             }
-            Call::Imply(from, to, position) => {
-                assert!(rt; from <= to && to <= log.queue.len() && to <= 256 && position < 1000);
-                let events = log.queue.between(from, to);
-                Ok(Answer::Implicit(self.table.imply(alloc, events, position)?))
+            Change::Imply(from, to, position) => {
+                Answer::Implicit(self.imply(rt, alloc, log, from, to, position)?)
             }
-            Call::AddRule(kind, seq) => {
+            Change::AddRule(kind, seq) => {
                 let (kind, namespace) = (name(rt, kind), name(rt, b'o'));
-                Ok(Answer::Rule(self.table.add_rule(alloc, kind, namespace, seq)?))
+                Answer::Rule(self.table.add_rule(alloc, kind, namespace, seq)?)
             }
-            Call::Commit(number, position, note) => {
-                assert!(rt; number < self.table.len());
-                assert!(rt; self.table.state(number).past() <= position && position < 1000);
-                let positions = Row::of(position);
-                self.table.commit(alloc, number, &positions, note)?;
-                Ok(Answer::Committed)
+            Change::Commit(number, position, note) => {
+                self.commit(rt, alloc, number, position, note)?;
+                Answer::Committed
             }
-            _ => panic!(rt; "no memory is taken"),
-        }
+        };
+        Ok(answer)
     }
 }
 

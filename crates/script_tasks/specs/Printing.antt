@@ -1,0 +1,113 @@
+-- What a run of a script on silos writes, from the bytes of the script alone.
+use Rattle.std.specs.Prelude.{◌≡◌, ℕ, List, [], map, Option, Some, None, Result, Ok, Err, length, nat_lt, ⊤, if◌then◌else◌}
+use Rattle.std.specs.Io.KnownBytes.{Appends, Keeps}
+use Rattle.std.specs.List.{AllByRecursion}
+use Rattle.stream_model.specs.declared.op.Op.{Op}
+use Rattle.stream_model.specs.declared.reply.Reply.{Reply}
+use Rattle.stream_model.specs.Positions.{empty}
+use Rattle.turnstile.specs.declared.history.Entry.{Entry}
+use Rattle.turnstile.specs.declared.asked.AskedHistory.{AskedHistory}
+use Rattle.turnstile.specs.Asked.{asked_entries}
+use Rattle.turnstile.specs.History.{IsLegal}
+use Rattle.shared_partition.specs.Partitions.{after, replied}
+use Rattle.script_laws.specs.declared.line.Line.{Line}
+use Rattle.script_laws.specs.ScriptReport.{script_text}
+use Rattle.script_parser.specs.declared.command.Fault.{Fault}
+use Rattle.script_parser.specs.Lines.{lines_of}
+use Rattle.script_reader.specs.Scripts.{lines_after}
+use Rattle.trace_printer.specs.Traces.{traces_from}
+use Rattle.cluster_ending.specs.declared.closing.Traces.{Traces}
+use Rattle.stream_cluster.specs.declared.config.Config.{Config}
+use Rattle.cluster_scripts.specs.declared.outcome.Ran.{Ran}
+use Rattle.cluster_scripts.specs.declared.outcome.RunEnd.{RunEnd}
+use Rattle.cluster_scripts.specs.declared.outcome.RunEnd.TheVariants as ends
+use Rattle.cluster_scripts.specs.Runs.{RunsScript, TellScript}
+use Rattle.script_tasks.specs.declared.fault.ProgramFault.{ProgramFault}
+use Rattle.script_tasks.specs.declared.fault.ProgramFault.TheVariants as fault
+use Rattle.stream_script.specs.declared.simulate.SimError.{SimError}
+use Rattle.stream_script.specs.declared.simulate.SimError.TheVariants as error
+use Rattle.stream_script.specs.Simulation.{too_long}
+
+-- the commands of a script that is to be run on so many queues, with the numbers of their lines, or its fault
+abbrev pub commands_of : ℕ → List ℕ → Result (List Line) Fault
+commands_of queues script =
+    if nat_lt 4194304 (length script) then Err too_long else lines_after queues 0 (lines_of script)
+
+-- What was written, by how the run ended. Where it ended well, it is the text of the script, whatever the silos did: that
+-- leaves open only which lines were refused because their start token was gone. Where the script can't be read or is
+-- faulty, or memory ran out, nothing was written.
+abbrev pub PrintsRun : Config → List ℕ → Option (List ℕ) → Option (List ℕ) → Result Unit ProgramFault → Type 0
+PrintsRun config script old new (Ok done) =
+    (lines : List Line) × (missed : List ℕ) × (commands_of config.queues script ≡ Ok lines)
+    × Appends old new (script_text config.queues missed config.silos lines)
+PrintsRun config script old new (Err (fault.Script (error.ScriptFault found))) =
+    (commands_of config.queues script ≡ Err found) × Keeps old new
+PrintsRun config script old new (Err (fault.Script error.ReadFault)) = Keeps old new
+PrintsRun config script old new (Err (fault.Script error.Memory)) = Keeps old new
+PrintsRun config script old new (Err (fault.Script error.WriteFault)) = ⊤
+PrintsRun config script old new (Err (fault.Unfinished why)) = (lines : List Line) × (commands_of config.queues script ≡ Ok lines)
+PrintsRun config script old new (Err (fault.CommandLine error)) = ⊥
+
+-- the history is legal from the empty partition of the configuration, and so is each of these
+abbrev pub IsLegalAt : Config → List (Entry Op Reply) → Type 0
+IsLegalAt config history = IsLegal replied after (empty config.blocks config.limits) history
+
+abbrev pub AreLegalAt : Config → List (List (Entry Op Reply)) → Type 0
+AreLegalAt config histories = AllByRecursion (IsLegalAt config) histories
+
+-- What a trace has written, by how the run ended: the histories of all queues, in which producers asked and were told
+-- what the script tells. Where the run has no report, it wrote the histories as far as they went, or nothing.
+abbrev pub PrintsTrace : Config → List ℕ → Option (List ℕ) → Option (List ℕ) → Result Unit ProgramFault → Type 0
+PrintsTrace config script old new (Ok done) =
+    (lines : List Line) × (missed : List ℕ) × (histories : List (List (Entry Op Reply))) × (commands_of config.queues script ≡ Ok lines)
+    × (length histories ≡ config.queues) × AreLegalAt config histories × TellScript missed lines histories
+    × Appends old new (traces_from 0 histories)
+PrintsTrace config script old new (Err (fault.Script (error.ScriptFault found))) =
+    (commands_of config.queues script ≡ Err found) × Keeps old new
+PrintsTrace config script old new (Err (fault.Script error.ReadFault)) = Keeps old new
+PrintsTrace config script old new (Err (fault.Script error.Memory)) = ⊤
+PrintsTrace config script old new (Err (fault.Script error.WriteFault)) = ⊤
+PrintsTrace config script old new (Err (fault.Unfinished why)) =
+    (lines : List Line) × (histories : List (List (Entry Op Reply))) × (commands_of config.queues script ≡ Ok lines)
+    × AreLegalAt config histories × Appends old new (traces_from 0 histories)
+PrintsTrace config script old new (Err (fault.CommandLine error)) = ⊥
+
+module _ {H : Type 0} (entries : H → List (Entry Op Reply)) where
+  -- What came of a script that was to be run: its run, or why there is none.
+  abbrev pub RunsSource : Config → List ℕ → Result (Ran H) ProgramFault → Type 0
+  RunsSource config script (Ok ran) =
+      (lines : List Line) × (commands_of config.queues script ≡ Ok lines) × RunsScript entries config lines ran
+  RunsSource config script (Err (fault.Script (error.ScriptFault found))) = commands_of config.queues script ≡ Err found
+  RunsSource config script (Err (fault.Script error.ReadFault)) = ⊤
+  RunsSource config script (Err (fault.Script error.Memory)) = ⊤
+  RunsSource config script (Err _) = ⊥
+
+-- all of a text was written
+abbrev pub WritesText : Option (List ℕ) → Option (List ℕ) → List ℕ → Result Unit SimError → Type 0
+WritesText old new text (Ok done) = Appends old new text
+WritesText old new text (Err error.WriteFault) = ⊤
+WritesText old new text (Err _) = ⊥
+
+-- all of a text was written that is made while it is written
+abbrev pub WritesTraces : Option (List ℕ) → Option (List ℕ) → List ℕ → Result Unit SimError → Type 0
+WritesTraces old new text (Ok done) = Appends old new text
+WritesTraces old new text (Err error.WriteFault) = ⊤
+WritesTraces old new text (Err error.Memory) = ⊤
+WritesTraces old new text (Err _) = ⊥
+
+-- the histories of all queues as they are written
+abbrev pub traces_text : Traces (AskedHistory Op Reply) → List ℕ
+traces_text traces = traces_from 0 (map asked_entries traces.histories.items)
+
+-- so are those of a run without a report, of which nothing is written where passes are missing
+abbrev pub text_left : Option (Traces (AskedHistory Op Reply)) → List ℕ
+text_left (Some traces) = traces_text traces
+text_left None = []
+
+-- What a run has left was written. It ended as the run did.
+abbrev pub WritesEnd : Option (List ℕ) → Option (List ℕ) → RunEnd (AskedHistory Op Reply) → Result Unit ProgramFault → Type 0
+WritesEnd old new (ends.Report text traces) (Ok done) = Appends old new (traces_text traces)
+WritesEnd old new (ends.Unfinished why left) (Err (fault.Unfinished told)) = (told ≡ why) × Appends old new (text_left left)
+WritesEnd old new end (Err (fault.Script error.WriteFault)) = ⊤
+WritesEnd old new end (Err (fault.Script error.Memory)) = ⊤
+WritesEnd old new end _ = ⊥

@@ -1,0 +1,30 @@
+-- How the program ends.
+use Rattle.std.specs.Prelude.{◌≡◌, ◌≢◌, ◌⊎◌, ℕ}
+use Rattle.std.specs.declared.process.ExitCode.{ExitCode}
+use Rattle.std.specs.Process.{exit_status}
+use Rattle.clap.specs.declared.error.Error.{Error}
+use Rattle.clap.specs.declared.error.kind.ErrorKind.TheVariants as kind
+use Rattle.clap.specs.Values.{kind_of}
+use Rattle.script_tasks.specs.declared.fault.ProgramFault.{ProgramFault}
+use Rattle.script_tasks.specs.declared.fault.ProgramFault.TheVariants as fault
+use Rattle.stream_script.specs.declared.simulate.SimError.TheVariants as error
+
+-- the exit status of a fault, where it isn't help that was asked for
+abbrev pub status_of : ProgramFault → ℕ
+status_of (fault.Script (error.ScriptFault found)) = 1
+status_of (fault.CommandLine wrong) = 2
+status_of (fault.Script error.ReadFault) = 3
+status_of (fault.Script error.WriteFault) = 3
+status_of (fault.Script error.Memory) = 3
+status_of (fault.Unfinished why) = 4
+
+-- what a mistake in the words ends with, and a request for help: that ends with 3 where help can't be printed
+pub record EndsWords (wrong : Error) (status : ℕ) : Type 0 where
+  pub mistake : kind_of wrong ≢ kind.DisplayHelp → kind_of wrong ≢ kind.DisplayVersion → status ≡ 2
+  pub request : (kind_of wrong ≡ kind.DisplayHelp) ⊎ (kind_of wrong ≡ kind.DisplayVersion) → (status ≡ 0) ⊎ (status ≡ 3)
+
+-- what the program ends with that met a fault
+abbrev pub EndsWith : ProgramFault → ExitCode → Type 0
+EndsWith (fault.CommandLine wrong) code = EndsWords wrong (exit_status code)
+EndsWith (fault.Script wrong) code = exit_status code ≡ status_of (fault.Script wrong)
+EndsWith (fault.Unfinished why) code = exit_status code ≡ status_of (fault.Unfinished why)

@@ -1,0 +1,276 @@
+//! The command line.
+ghost use Rattle.std.specs.Prelude.{IfOk};
+ghost use Rattle.stream_cluster.specs.Clusters.{IsConfig};
+ghost use Rattle.script_tasks.specs.Tasks.{IsTask};
+ghost use Rattle.stream_script.specs.Simulation.{IsSimConfig};
+
+use clap::{Arg, ArgMatches, Command, value_parser};
+use std::alloc::{AllocError, Global};
+use stream_cluster::Config;
+use stream_model::Limits;
+use stream_script::SimConfig;
+
+/// What help says below the subcommands.
+const STATUSES: &str =
+    r#"Without a subcommand a script is simulated. `streams sim --help` and `streams run --help` show an example.
+
+Exit status: 0 done; 1 a line is faulty; 2 the command line is faulty; 3 reading or writing failed, or
+memory ran out; 4 a run met a limit, or not all of it was handled."#;
+
+/// What help says below the options of a simulation: an example, and how the program ends.
+pub const SIM_EXAMPLE: &str =
+    r#"A script has one command a line. In this one the grain clerk/17 subscribes to the stream orders/17,
+a batch of two events is published to it, and all that is then left to do is done:
+
+    sub orders/17 clerk/17 latest
+    pub orders/17 "paid" "shipped"
+    drain
+    report
+
+Each command is answered by a line that begins with the number of its queue, and the report tells
+what each subscription has handled:
+
+    0 subscribed 1
+    0 published 0
+    0 drained 2
+    report
+    0:1 orders/17 clerk/17 0.0 2
+      0.0 "paid"
+      0.1 "shipped"
+
+Lines that are empty or begin with # are passed over. More commands stand in docs/SCRIPT.md, and more
+scripts in examples/.
+
+Exit status: 0 done; 1 a line is faulty, and the replies to the lines before it are printed; 2 the
+command line is faulty; 3 reading or writing failed, or memory ran out."#;
+
+/// What help says below the options of a run: an example, and how the program ends.
+pub const RUN_EXAMPLE: &str =
+    r#"A script that is run has what producers do and how silos come and go: pub, sub, unsub, rule, drain,
+up and down. What is between, the silos do in threads. In this one silo 0 leaves in the middle, and the
+last line names a subscription that there isn't:
+
+    sub orders/17 clerk/17 latest
+    pub orders/17 "paid"
+    down 0
+    pub orders/17 "shipped"
+    unsub 0:7
+
+At the end it is waited until all is handled. Then the lines that were refused are named by their
+numbers, and the report tells what each subscription has handled:
+
+    refused 5
+    report
+    0:1 orders/17 clerk/17 0.0 2
+      0.0 "paid"
+      1.0 "shipped"
+
+This needs --silos 2, since the last silo can't leave. Lines that are empty or begin with # are passed
+over, but counted. More of this stands in docs/SCRIPT.md, and another script in examples/auctions.script.
+
+Exit status: 0 done; 1 a line is faulty, and nothing is done; 2 the command line is faulty; 3 reading or
+writing failed, or memory ran out; 4 a run met a limit (`limit reached`, `round limit`), or not all of it
+was handled (`not quiet`), and the report is missing."#;
+
+/// What help says below the options of a trace.
+const TRACE_EXAMPLE: &str =
+    r#"The script is run as `streams run` runs it, and its words are the same. What is printed is what was done
+at each queue, by producers and by the silos, as a script that `streams sim` does again on one thread.
+Behind each line stands its reply in a comment. Of the script
+
+    sub orders/17 clerk/17 latest
+    pub orders/17 "paid"
+
+the trace may begin so:
+
+    # queue 0
+    sub orders/17 clerk/17 latest
+    # 0 subscribed 1
+    pull 0 0 32
+    # 0 dry
+    pub orders/17 "paid"
+    # 0 published 0
+
+The lines of a queue stand together, behind a comment that names it, and are a script of their own: as
+`rule` and `quiet` act on each queue of a simulation, it is simulated with the same number of queues, and
+gives these replies at its queue.
+
+Exit status: as for `streams run`. A run that met a limit, or of which not all was handled, is printed too.
+A trace stores what was asked, at most 4,000,000 calls a queue."#;
+
+/// How many calls the history of a queue has room for in a trace.
+const TRACE_HISTORY: u64 = 4_000_000;
+
+/// What the command line asks for.
+#[derive(Drop)]
+pub struct Request<'a> {
+    /// The file of the script, or none where it is on standard input.
+    pub file: Option<&'a str>,
+    /// What is done with the script.
+    pub task: Task,
+}
+
+/// What is done with a script.
+#[derive(Clone, Copy, Debug, PartialEq, Eq)]
+pub enum Task {
+    /// It is simulated, on one thread.
+    Simulate(SimConfig),
+    /// It is run, on silos in threads.
+    Run(Config),
+    /// It is run, and what was done at each queue is printed.
+    Trace(Config),
+}
+
+/// What the words ask for. Where there are none, they ask for a simulation with one queue and four blocks.
+///
+/// # Errors
+/// A word isn't understood, help is asked for, or the call failed to allocate.
+pub fn parse_options<'a>(alloc: Global, words: &'a [String]) -> Result<Request<'a>, clap::Error>
+    ensures { IfOk result (λ request. IsTask request.task) }
+{
+    if words.len() <= 1 {
+        return Ok(usual());
+    }
+    let matches = command(alloc)?.try_get_matches_from(words)?;
+    let Some((name, given)) = matches.subcommand() else {
+        return Ok(usual());
+    };
+    Ok(Request {
+        file: given.get_str("file"),
+        task: task_of(name, given),
+    })
+}
+
+/// What is done where nothing is asked for.
+fn usual<'a>() -> Request<'a>
+    ensures { IsTask result.task }
+{
+    Request {
+        file: None,
+        task: Task::Simulate(sim_config(1, 4)),
+    }
+}
+
+/// What the words of a subcommand ask for.
+fn task_of(name: &str, given: &ArgMatches<'_>) -> Task
+    ensures { IsTask result }
+{
+    let queues = number(given, "queues", 1);
+    let blocks = number(given, "blocks", 4);
+    match name {
+        "run" => Task::Run(run_config(queues, blocks, number(given, "silos", 1))),
+        "trace" => Task::Trace(trace_config(queues, blocks, number(given, "silos", 1))),
+        _ => Task::Simulate(sim_config(queues, blocks)),
+    }
+}
+
+/// The command with its three subcommands.
+fn command<'a>(alloc: Global) -> Result<Command<'a>, AllocError> {
+    let sim = Command::new(alloc, "sim")
+        .about("Does a script line by line, and prints the reply to each line")
+        .arg(file(alloc))?
+        .arg(queues(alloc))?
+        .arg(blocks(alloc))?
+        .after_help(SIM_EXAMPLE);
+    let run = Command::new(alloc, "run")
+        .about("Runs a script on silos in threads, and prints what each subscription has handled")
+        .arg(file(alloc))?
+        .arg(silos(alloc))?
+        .arg(queues(alloc))?
+        .arg(blocks(alloc))?
+        .after_help(RUN_EXAMPLE);
+    let trace = Command::new(alloc, "trace")
+        .about(
+            "Runs a script on silos, and prints what was done at each queue as a script to simulate",
+        )
+        .arg(file(alloc))?
+        .arg(silos(alloc))?
+        .arg(queues(alloc))?
+        .arg(blocks(alloc))?
+        .after_help(TRACE_EXAMPLE);
+    Command::new(alloc, "streams")
+        .bin_name("streams")?
+        .about("Streams of events for virtual actors: publishes, pulls, delivers and handles")
+        .subcommand_required(true)
+        .after_help(STATUSES)
+        .subcommand(sim)?
+        .subcommand(run)?
+        .subcommand(trace)
+}
+
+/// The script.
+fn file<'a>(alloc: Global) -> Arg<'a> {
+    Arg::new(alloc, "file")
+        .value_name("FILE")
+        .help("The script; without it standard input is read")
+}
+
+/// How many silos.
+fn silos<'a>(alloc: Global) -> Arg<'a> {
+    Arg::new(alloc, "silos")
+        .long("silos")
+        .value_name("N")
+        .help("How many silos there are at the start, 1 to 16")
+        .value_parser(value_parser!(u32).range(1..=16))
+        .default_value("1")
+}
+
+/// How many queues.
+fn queues<'a>(alloc: Global) -> Arg<'a> {
+    Arg::new(alloc, "queues")
+        .long("queues")
+        .value_name("N")
+        .help("How many queues the streams share, 1 to 64")
+        .value_parser(value_parser!(u32).range(1..=64))
+        .default_value("1")
+}
+
+/// How many blocks.
+fn blocks<'a>(alloc: Global) -> Arg<'a> {
+    Arg::new(alloc, "blocks")
+        .long("blocks")
+        .value_name("N")
+        .help("How many blocks of 64 events each queue's cache has, 1 to 64")
+        .value_parser(value_parser!(u32).range(1..=64))
+        .default_value("4")
+}
+
+/// A number of the matches, which the parser has found to be in its range.
+fn number(matches: &ArgMatches<'_>, id: &str, usual: u32) -> u32 {
+    matches.get_one::<u32>(id).unwrap_or(usual)
+}
+
+/// The simulation with this many queues and blocks, each taken as 1 to 64.
+pub fn sim_config(queues: u32, blocks: u32) -> SimConfig
+    ensures { IsSimConfig result }
+{
+    SimConfig {
+        queues: queues.clamp(1, 64) as usize,
+        blocks: blocks.clamp(1, 64) as usize,
+        limits: Limits::GREATEST,
+    }
+}
+
+/// The cluster with this many queues, blocks and silos, each taken as 1 to 64, silos as 1 to 16. A run stores no
+/// history, so that there is room for as many calls as a number can count.
+pub fn run_config(queues: u32, blocks: u32, silos: u32) -> Config
+    ensures { IsConfig result }
+{
+    Config {
+        queues: queues.clamp(1, 64) as usize,
+        blocks: blocks.clamp(1, 64) as usize,
+        silos: silos.clamp(1, 16) as u8,
+        limits: Limits::GREATEST,
+        history: u64::MAX,
+    }
+}
+
+/// The cluster of a run whose calls are stored.
+pub fn trace_config(queues: u32, blocks: u32, silos: u32) -> Config
+    ensures { IsConfig result }
+{
+    Config {
+        history: TRACE_HISTORY,
+        ..run_config(queues, blocks, silos)
+    }
+}

@@ -1,0 +1,116 @@
+//! What the command line asks for is done.
+ghost use Rattle.std.specs.Prelude.{◌-◌, ◌^◌, ◌<◌, IfSome};
+ghost use Rattle.stream_script.specs.Simulation.{IsSimConfig, simulation};
+ghost use Rattle.script_tasks.specs.Tasks.{IsTask, PrintsSimulation, PrintsTask};
+
+use crate::fault::ProgramFault;
+use crate::options::{Request, Task, parse_options};
+use crate::silos::{run_on_silos, trace_on_silos};
+use std::alloc::Global;
+use std::fs::{self, Files};
+use std::io::{self, Read, Write};
+use std::process::ExitCode;
+use std::rt::Runtime;
+use std::sync::Wait;
+use std::thread::Threads;
+use stream_script::{Counted, SimConfig, SimError, Source, sim};
+
+/// Does what the command line asks for, and gives the exit status of the program: 0 done, 1 a faulty script, 2 a faulty
+/// command line, 3 a read or write fault or a failure to allocate, 4 a run without a report. What stops the program is
+/// printed on standard error, once.
+pub fn perform<R: Runtime + AllocGlobal + Threads + Wait + Copy + Send + 'static>(
+    rt: &R,
+) -> ExitCode {
+    match perform_words(rt) {
+        Ok(()) => ExitCode::SUCCESS,
+        Err(fault) => fault.report(rt),
+    }
+}
+
+/// Does what the command line asks for.
+fn perform_words<R: Runtime + AllocGlobal + Threads + Wait + Copy + Send + 'static>(
+    rt: &R,
+) -> Result<(), ProgramFault> {
+    let alloc = rt.alloc();
+    let words = std::env::args(rt)?.collect::<Vec<String>>(alloc)?;
+    let Request { file, task } = parse_options(alloc, words.as_slice())?;
+    match file {
+        None => perform_task(rt, alloc, task, rt.reader(), io::writer(rt)),
+        Some(path) => perform_task(rt, alloc, task, open(rt, path)?, io::writer(rt)),
+    }
+}
+
+/// Opens the file of a script.
+///
+/// # Errors
+/// `ReadFault` where the file can't be opened, and `Memory` where the call failed to allocate.
+fn open<R: Files>(rt: &R, path: &str) -> Result<R::File, SimError> {
+    fs::open(rt, path).map_err(|error| match error.kind() {
+        io::ErrorKind::OutOfMemory => SimError::Memory,
+        _ => SimError::ReadFault,
+    })
+}
+
+/// Does a task on a script. The text goes out through a buffer, which is flushed at the end.
+///
+/// # Errors
+/// They are those of [`sim`] or [`run_on_silos`], by the task.
+pub fn perform_task<T: Threads + Wait + Copy + Send + 'static, R: Read + Drop, W: Write + Drop>(
+    rt: &T,
+    alloc: Global,
+    task: Task,
+    script: R,
+    sink: W,
+) -> Result<(), ProgramFault>
+    requires { IsTask task }
+{
+    let mut source = Counted::new(script);
+    let writer = io::BufWriter::new(alloc, sink)?;
+    let (_writer, ended) = write_task(rt, alloc, task, &mut source, writer);
+    ended
+}
+
+/// Does a task on a script, writes what it prints, and gives the sink back.
+///
+/// # Errors
+/// They are those of [`perform_task`].
+fn write_task<T: Threads + Wait + Copy + Send + 'static, R: Source, W: Write>(
+    rt: &T,
+    alloc: Global,
+    task: Task,
+    source: &mut R,
+    mut sink: W,
+) -> (W, Result<(), ProgramFault>)
+    requires task { IsTask task }
+    requires count { R.failures source.old < 2 ^ 64 - 1 }
+    // What was written, where the source's bytes are known.
+    ensures { IfSome (R.remaining source.old) (λ input.
+        PrintsTask task input (W.contents sink) (W.contents result.0) result.1) }
+{
+    let ended = match task {
+        Task::Simulate(config) => return simulate(alloc, config, source, sink),
+        Task::Run(config) => run_on_silos(rt, alloc, &config, source, &mut sink),
+        Task::Trace(config) => trace_on_silos(rt, alloc, &config, source, &mut sink),
+    };
+    (sink, ended)
+}
+
+/// Simulates a script, writes the replies to its lines, and gives the sink back.
+fn simulate<R: Source, W: Write>(
+    alloc: Global,
+    config: SimConfig,
+    source: &mut R,
+    sink: W,
+) -> (W, Result<(), ProgramFault>)
+    requires config { IsSimConfig config }
+    requires count { R.failures source.old < 2 ^ 64 - 1 }
+    // What was written, where the source's bytes are known.
+    ensures { IfSome (R.remaining source.old) (λ input.
+        PrintsSimulation (simulation config input) (W.contents sink) (W.contents result.0) result.1) }
+{
+    let mut counted = Counted::new(sink);
+    match sim(alloc, config, source, &mut counted) {
+        Ok(()) => (counted.into_inner(), Ok(())),
+        Err(error) => (counted.into_inner(), Err(ProgramFault::Script(error))),
+    }
+}

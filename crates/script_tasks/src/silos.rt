@@ -1,0 +1,179 @@
+//! A script that is run on silos.
+ghost use Rattle.std.specs.Prelude.{◌-◌, ◌^◌, ◌<◌, IfOk, IfSome};
+ghost use Rattle.turnstile.specs.Asked.{asked_entries};
+ghost use Rattle.trace_printer.specs.Traces.{trace_text};
+ghost use Rattle.stream_cluster.specs.Clusters.{IsConfig};
+ghost use Rattle.cluster_scripts.specs.Runs.{AreLegal, LeavesLegalTraces};
+ghost use Rattle.script_tasks.specs.Printing.{IsLegalAt, PrintsRun, PrintsTrace, RunsSource, WritesEnd, WritesText, WritesTraces, text_left, traces_text};
+
+use crate::fault::ProgramFault;
+use activation_directory::{DirectoryOp, DirectoryReply};
+use cluster_ending::Traces;
+use cluster_scripts::{Ran, RunEnd, run, run_text};
+use script_reader::{Script, read_lines};
+use shared_partition::Counting;
+use std::alloc::Global;
+use std::io::Write;
+use std::sync::{Arc, Wait};
+use std::thread::Threads;
+use step_core::Partition;
+use stream_cluster::Config;
+use stream_model::{Op, Reply};
+use stream_script::{SimError, Source, read_script};
+use trace_printer::queue_trace;
+use turnstile::{AskedHistory, ProofHistory, StoredHistory};
+
+/// Runs a script on silos, and writes what the run prints. All of the script is read before a thread is started, and
+/// no thread is left when the text is written.
+///
+/// # Errors
+/// The first of these: a read failed, the script is too long, a line is faulty, the run failed to allocate, a write
+/// failed, the run has no report.
+pub fn run_on_silos<T: Threads + Wait + Copy + Send + 'static, R: Source, W: Write>(
+    rt: &T,
+    alloc: Global,
+    config: &Config,
+    source: &mut R,
+    sink: &mut W,
+) -> Result<(), ProgramFault>
+    requires config { IsConfig config.now }
+    requires count { R.failures source.old < 2 ^ 64 - 1 }
+    // What was written, where the source's bytes are known.
+    ensures { IfSome (R.remaining source.old) (λ input.
+        PrintsRun config.now input (W.contents sink.old) (W.contents sink.new) result) }
+{
+    let ran = run_source::<ProofHistory<Op, Reply>, T, R>(rt, alloc, config, source)?;
+    write_text(&run_text(alloc, &ran)?, sink)?;
+    match ran.end {
+        RunEnd::Report { .. } => Ok(()),
+        RunEnd::Unfinished { why, .. } => Err(ProgramFault::Unfinished(why)),
+    }
+}
+
+/// Runs a script on silos, and writes what was done at each queue as a script that can be simulated, queue by queue.
+/// The rest is as for [`run_on_silos`]. A run without a report is written too, as far as it went.
+///
+/// # Errors
+/// They are those of [`run_on_silos`].
+pub fn trace_on_silos<T: Threads + Wait + Copy + Send + 'static, R: Source, W: Write>(
+    rt: &T,
+    alloc: Global,
+    config: &Config,
+    source: &mut R,
+    sink: &mut W,
+) -> Result<(), ProgramFault>
+    requires config { IsConfig config.now }
+    requires count { R.failures source.old < 2 ^ 64 - 1 }
+    // What was written, where the source's bytes are known.
+    ensures { IfSome (R.remaining source.old) (λ input.
+        PrintsTrace config.now input (W.contents sink.old) (W.contents sink.new) result) }
+{
+    let ran = run_source::<AskedHistory<Op, Reply>, T, R>(rt, alloc, config, source)?;
+    write_end(alloc, config, &ran.end, sink)
+}
+
+/// Reads a script and runs it on silos.
+fn run_source<
+    H: StoredHistory<Op, Reply> + Send + 'static,
+    T: Threads + Wait + Copy + Send + 'static,
+    R: Source,
+>(rt: &T, alloc: Global, config: &Config, source: &mut R) -> Result<Ran<H>, ProgramFault>
+    requires config { IsConfig config.now }
+    requires count { R.failures source.old < 2 ^ 64 - 1 }
+    ensures source { IfSome (R.remaining source.old) (λ input. RunsSource H.entries config.now input result) }
+    ensures legal { IfOk result (λ ran. LeavesLegalTraces H.entries config.now ran.end) }
+{
+    let script = read_script(alloc, source)?;
+    let lines = match read_lines(alloc, &script, config.queues)? {
+        Script::Lines(lines) => lines,
+        Script::Fault(fault) => return Err(ProgramFault::Script(SimError::ScriptFault(fault))),
+    };
+    let gate = Arc::new(alloc, Counting)?;
+    Ok(run::<Counting, H, ProofHistory<DirectoryOp, DirectoryReply>, T>(
+        rt, alloc, config, gate, lines,
+    )?)
+}
+
+/// Writes what a run has left, as far as all passes came back.
+fn write_end<W: Write>(
+    alloc: Global,
+    config: &Config,
+    end: &RunEnd<AskedHistory<Op, Reply>>,
+    sink: &mut W,
+) -> Result<(), ProgramFault>
+    requires config { IsConfig config.now }
+    requires legal { LeavesLegalTraces asked_entries config.now end.now }
+    ensures { WritesEnd (W.contents sink.old) (W.contents sink.new) end.now result }
+{
+    match end {
+        RunEnd::Report { text: _, traces } => Ok(write_traces(alloc, config, traces, sink)?),
+        RunEnd::Unfinished { why, traces } => {
+            write_left(alloc, config, traces, sink)?;
+            Err(ProgramFault::Unfinished(*why))
+        }
+    }
+}
+
+/// Writes the histories of a run without a report, if all passes came back.
+fn write_left<W: Write>(
+    alloc: Global,
+    config: &Config,
+    left: &Option<Traces<AskedHistory<Op, Reply>>>,
+    sink: &mut W,
+) -> Result<(), SimError>
+    requires config { IsConfig config.now }
+    requires legal { IfSome left.now (λ traces. AreLegal asked_entries config.now traces) }
+    ensures { WritesTraces (W.contents sink.old) (W.contents sink.new) (text_left left.now) result }
+{
+    match left {
+        Some(traces) => write_traces(alloc, config, traces, sink),
+        None => Ok(()),
+    }
+}
+
+/// Writes the histories of all queues, one behind another.
+fn write_traces<W: Write>(
+    alloc: Global,
+    config: &Config,
+    traces: &Traces<AskedHistory<Op, Reply>>,
+    sink: &mut W,
+) -> Result<(), SimError>
+    requires config { IsConfig config.now }
+    requires legal { AreLegal asked_entries config.now traces.now }
+    ensures { WritesTraces (W.contents sink.old) (W.contents sink.new) (traces_text traces.now) result }
+{
+    for queue in 0..traces.histories.len() {
+        write_trace(alloc, config, queue, &traces.histories[queue], sink)?;
+    }
+    Ok(())
+}
+
+/// Writes the history of a queue.
+fn write_trace<W: Write>(
+    alloc: Global,
+    config: &Config,
+    queue: usize,
+    history: &AskedHistory<Op, Reply>,
+    sink: &mut W,
+) -> Result<(), SimError>
+    requires config { IsConfig config.now }
+    requires legal { IsLegalAt config.now (asked_entries history.now) }
+    ensures { WritesTraces (W.contents sink.old) (W.contents sink.new) (trace_text queue (asked_entries history.now)) result }
+{
+    let mut partition = Partition::new(alloc, config.blocks, config.limits)?;
+    let text = queue_trace(alloc, queue, &mut partition, history)?;
+    write_text(&text, sink)
+}
+
+/// Writes a text, and hands it on.
+fn write_text<W: Write>(text: &[u8], sink: &mut W) -> Result<(), SimError>
+    ensures { WritesText (W.contents sink.old) (W.contents sink.new) text.now result }
+{
+    if let Err(_) = sink.write_all(text) {
+        return Err(SimError::WriteFault);
+    }
+    match sink.flush() {
+        Ok(()) => Ok(()),
+        Err(_) => Err(SimError::WriteFault),
+    }
+}

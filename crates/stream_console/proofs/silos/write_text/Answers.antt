@@ -1,5 +1,0 @@
-use Rattle.std.proofs.KnownBytes.{Appends-kept}
-use Rattle.stream_console.proofs.silos.write_text.Goals as goal
-
-pub returns-in-Ok : goal.returns-in-Ok
-returns-in-Ok g c = Appends-kept _ _ _ _ c.in_default.ensures.bytes c.flush.ensures.bytes
