@@ -180,10 +180,21 @@ fn runs_without_a_report_are_told_once(rt: HostRuntime) -> Result<(), Fail> {
 
 /// Words, whether standard output is closed, what is printed on standard error or none where it is the text of the
 /// mistake itself, what is printed, and the status.
-const WORDS: [(&str, bool, Option<&str>, Prints, u8); 3] = [
+const WORDS: [(&str, bool, Option<&str>, Prints, u8); 4] = [
     ("fly", false, None, TOLD_ONCE, 2),
     (
         "--help",
+        false,
+        None,
+        Prints {
+            told: 0,
+            other: 0,
+            shown: 1,
+        },
+        0,
+    ),
+    (
+        "--version",
         false,
         None,
         Prints {
