@@ -18,13 +18,9 @@ use Rattle.stream_model.specs.Positions.{sub_at}
 use Rattle.stream_model.specs.Step.{IsReached}
 use Rattle.stream_laws.proofs.Drained.{drain-ends}
 use Rattle.step_core.specs.declared.draining.Served.{Served}
-use Rattle.step_core.specs.DrainPhases.{Ends}
+use Rattle.step_core.specs.DrainPhases.{Ends, after_deliveries}
 use Rattle.step_core.specs.Serving.{served_of}
 use Rattle.step_core.proofs.DrainReplies.{rounds_up_to}
-
--- what is done for a subscription after its deliveries
-abbrev pub after_deliveries : SubName → PlainPartition → Progress
-after_deliveries s q = and_then (acknowledge s q (last_handled q (sub_at q s))) (deliver_once_more s)
 
 -- a subscription that has a record is delivered to from its cursor on
 serve-found : (p : PlainPartition) (s : SubName) (served : Served) (most : ℕ) (found : Option Subscription) → Some served ≡ option_map served_of found → most ≡ p.high - served.cursor

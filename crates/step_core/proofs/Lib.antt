@@ -40,6 +40,7 @@ pub mod RecordOps
 pub mod RetryOps
 pub mod RuleOps
 pub mod RunLemmas
+pub mod SettledOps
 pub mod Shared
 pub mod SortedOnce
 pub mod StartOps

@@ -33,3 +33,13 @@ told-fails {Q = Q} r came is failed so = subst (λ x. OnErr x Q) (sym is) (told-
 pub both-fail : (P Q : Type 0) (r : Result Told AllocError) → OnErr r P → OnErr r Q → OnErr r (P × Q)
 both-fail P Q (Ok told) first second = tt
 both-fail P Q (Err e) first second = (first, second)
+
+-- a failure means less
+pub fails : {P Q : Type 0} (r : Result Told AllocError) → OnErr r P → (P → Q) → OnErr r Q
+fails (Ok told) failed so = tt
+fails (Err e) failed so = so failed
+
+-- the operation is the one that was asked for
+pub performs-as : (old new : PlainPartition) (r : Result Told AllocError) (said wanted : PlainPartition × Reply)
+    → Performs old new (replied r) said → said ≡ wanted → Performs old new (replied r) wanted
+performs-as old new r said wanted performs same = subst (λ x. Performs old new (replied r) x) same performs

@@ -7,8 +7,10 @@ use Rattle.step_core.specs.declared.draining.Stop.TheVariants as stop
 use Rattle.stream_model.specs.declared.reply.Reply.{Reply}
 use Rattle.stream_model.specs.declared.reply.Reply.TheVariants as reply
 use Rattle.stream_model.specs.Draining as draining
-use Rattle.stream_model.specs.Draining.{AtTooMany, AtSpent, Astray, Progress, after_deliver, ask}
+use Rattle.stream_model.specs.Draining.{AtTooMany, AtSpent, Astray, Progress, acknowledge, after_deliver, and_then, ask, deliver_once_more, last_handled}
+use Rattle.stream_ident.specs.declared.ident.SubName.{SubName}
 use Rattle.stream_ident.specs.Words.{IsPrefixOf}
+use Rattle.stream_model.specs.Positions.{sub_at}
 use Rattle.stream_model.specs.History.{Entry}
 use Rattle.stream_model.specs.Step.{step, Leads}
 
@@ -63,3 +65,7 @@ is_acknowledged _ = false
 abbrev pub is_nothing : Reply → Bool
 is_nothing reply.Nothing = true
 is_nothing _ = false
+
+-- what is done for a subscription after its deliveries
+abbrev pub after_deliveries : SubName → PlainPartition → Progress
+after_deliveries s q = and_then (acknowledge s q (last_handled q (sub_at q s))) (deliver_once_more s)

@@ -2,6 +2,7 @@ pub mod Assembly
 pub mod Deliverables
 pub mod DrainPhases
 pub mod Handing
+pub mod Kinds
 pub mod Known
 pub mod Numbers
 pub mod PlainOf

@@ -13,15 +13,15 @@ use stream_ident::{SubName, Token};
 use subscription_table::{Acked, Retried};
 
 /// The agent sets a subscription's cursor back to its resume. It takes no memory.
-pub(crate) fn retry(parts: &mut Parts, generation: u64, sub: SubName) -> Told
+pub(crate) fn retry(parts: &mut Parts, generation: u64, sub: &SubName) -> Told
     requires { Agrees parts.old }
     ensures assembled { IsAssembled parts.new }
-    ensures performs { (plain_of parts.new, reply_of result) ≡ retry (plain_of parts.old) generation sub }
+    ensures performs { (plain_of parts.new, reply_of result) ≡ retry (plain_of parts.old) generation sub.now }
 {
     if let Err(StaleAgent { now }) = parts.agent.check(generation) {
         return Told::StaleAgent { now };
     }
-    let Some(number) = parts.subs.find(&sub) else {
+    let Some(number) = parts.subs.find(sub) else {
         return Told::NoSuch;
     };
     told_of_retry(parts.subs.retry(number))
@@ -29,15 +29,15 @@ pub(crate) fn retry(parts: &mut Parts, generation: u64, sub: SubName) -> Told
 
 /// The agent learns that a subscription has handled an event and all that it was owed before. It takes no
 /// memory.
-pub(crate) fn ack(parts: &mut Parts, generation: u64, sub: SubName, token: Token) -> Told
+pub(crate) fn ack(parts: &mut Parts, generation: u64, sub: &SubName, token: Token) -> Told
     requires { Agrees parts.old }
     ensures assembled { IsAssembled parts.new }
-    ensures performs { (plain_of parts.new, reply_of result) ≡ ack (plain_of parts.old) generation sub token }
+    ensures performs { (plain_of parts.new, reply_of result) ≡ ack (plain_of parts.old) generation sub.now token }
 {
     if let Err(StaleAgent { now }) = parts.agent.check(generation) {
         return Told::StaleAgent { now };
     }
-    let Some(number) = parts.subs.find(&sub) else {
+    let Some(number) = parts.subs.find(sub) else {
         return Told::NoSuch;
     };
     told_of_ack(parts.subs.ack(number, &parts.queue, &token))

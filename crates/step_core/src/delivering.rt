@@ -33,18 +33,18 @@ pub(crate) fn deliver(
     parts: &mut Parts,
     alloc: Global,
     generation: u64,
-    sub: SubName,
+    sub: &SubName,
 ) -> Result<Told, AllocError>
     requires { Agrees parts.old }
     ensures assembled { IsAssembled parts.new }
-    ensures performs { Performs (plain_of parts.old) (plain_of parts.new) (replied result) (deliver (plain_of parts.old) generation sub) }
-    ensures memory { OnErr result (takes_memory (deliver (plain_of parts.old) generation sub).1 ≡ true) }
-    ensures first { OnErr result (is_untouched (sub_at (plain_of parts.old) sub) ≡ true) }
+    ensures performs { Performs (plain_of parts.old) (plain_of parts.new) (replied result) (deliver (plain_of parts.old) generation sub.now) }
+    ensures memory { OnErr result (takes_memory (deliver (plain_of parts.old) generation sub.now).1 ≡ true) }
+    ensures first { OnErr result (is_untouched (sub_at (plain_of parts.old) sub.now) ≡ true) }
 {
     if let Err(StaleAgent { now }) = parts.agent.check(generation) {
         return Ok(Told::StaleAgent { now });
     }
-    let Some(number) = parts.subs.find(&sub) else {
+    let Some(number) = parts.subs.find(sub) else {
         return Ok(Told::NoSuch);
     };
     let grain = parts.grains.find(&parts.subs.registration(number).grain);

@@ -8,7 +8,7 @@ ghost use Rattle.stream_ident.specs.Words.{keys_where, least};
 ghost use Rattle.stream_model.specs.Looks.{is_running};
 ghost use Rattle.stream_model.specs.Positions.{sub_at};
 ghost use Rattle.step_core.specs.declared.draining.Stop.TheVariants.{Memory};
-ghost use Rattle.step_core.specs.DrainPhases.{Asks, Follows, deliver_told, is_acknowledged, is_committed, is_nothing, pull_told};
+ghost use Rattle.step_core.specs.DrainPhases.{Asks, Follows, after_deliveries, deliver_told, is_acknowledged, is_committed, is_nothing, pull_told};
 ghost use Rattle.step_core.specs.Replied.{reply_with};
 
 use crate::outcome::{Outcome, Told};
@@ -155,15 +155,29 @@ fn serve_each(partition: &mut Partition, alloc: Global, names: &[SubName]) -> Re
 }
 
 /// Serves a subscription: all that the cache has for it is delivered and handled, the last of it is
-/// acknowledged, and one more delivery finds nothing.
+/// acknowledged, and one more delivery finds nothing. Where that would change nothing, it isn't done.
 fn serve(partition: &mut Partition, alloc: Global, sub: &SubName) -> Result<(), Stop>
     ensures { Follows partition.old partition.new result (serve sub.now partition.old (sub_at partition.old sub.now)) }
 {
+    if partition.is_settled(sub) {
+        return Ok(());
+    }
     let Some(served) = partition.served(sub) else {
         return Err(Stop::Astray);
     };
     let most = partition.high().saturating_sub(served.cursor);
     deliver_all(partition, alloc, sub, &served.grain, most)?;
+    settle(partition, alloc, sub)
+}
+
+/// Goes on after the deliveries of a subscription: the last of what it has handled is acknowledged, and one more delivery
+/// finds nothing. Where that would change nothing, it isn't done.
+fn settle(partition: &mut Partition, alloc: Global, sub: &SubName) -> Result<(), Stop>
+    ensures { Follows partition.old partition.new result (after_deliveries sub.now partition.old) }
+{
+    if partition.is_settled(sub) {
+        return Ok(());
+    }
     acknowledge(partition, alloc, sub)?;
     deliver_once_more(partition, alloc, sub)
 }

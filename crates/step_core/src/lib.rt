@@ -16,6 +16,7 @@ mod parts;
 mod publishing;
 mod pulling;
 mod reading;
+mod stepping;
 mod turns;
 
 pub use outcome::{NewTurn, Outcome, Told};

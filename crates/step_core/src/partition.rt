@@ -1,4 +1,4 @@
-//! The partition, and which module does each operation.
+//! The partition.
 ghost use Rattle.std.specs.Prelude.{◌≡◌, ◌<◌, ◌≤◌, true, length, slice_index_or, IfOk, OnErr, OnOk};
 ghost use Rattle.std.specs.Option.{option_map};
 ghost use Rattle.stream_ident.specs.Event.{no_event};
@@ -13,23 +13,17 @@ ghost use Rattle.stream_model.specs.Step.{step, IsReached};
 ghost use Rattle.step_core.specs.Reads.{handled_of, summaries_in_order};
 ghost use Rattle.step_core.specs.Replied.{answered, IsOfLog};
 ghost use Rattle.step_core.specs.Run.{Does, StopsBefore};
-ghost use Rattle.step_core.specs.Serving.{served_of};
-ghost use Rattle.step_core.specs.Assembly.{Agrees, IsAssembled};
-ghost use Rattle.step_core.specs.PlainOf.{plain_of};
+ghost use Rattle.step_core.specs.Serving.{is_settled_in, served_of};
 
-use crate::acknowledging::{ack, retry};
-use crate::delivering::deliver;
 use crate::draining::Served;
-use crate::looking::{all_waiting, due, least_running, least_waiting, pending, quiet, ready};
-use crate::moving::{move_queue, purge};
-use crate::outcome::{Outcome, outcome_of_told};
+use crate::looking::{all_waiting, least_running, least_waiting, pending};
+use crate::outcome::Outcome;
 use crate::parts::Parts;
-use crate::publishing::{add_rule, publish, subscribe, unsubscribe};
-use crate::pulling::pull;
 use crate::reading::{
-    SubSummary, handled, high_token, last_handled, low_token, open_names, served, summaries,
+    SubSummary, handled, high_token, is_settled, last_handled, low_token, open_names, served,
+    summaries,
 };
-use crate::turns::{begin, commit, deactivate};
+use crate::stepping::step;
 use grain_table::GrainTable;
 use partition_queue::PartitionQueue;
 use pulling_agent::Agent;
@@ -246,6 +240,14 @@ impl Partition {
         served(&self.parts, sub)
     }
 
+    /// Whether a drain that serves a subscription changes nothing, in a partition that a legal history leads to.
+    pub(crate) fn is_settled(&self, sub: &SubName) -> bool
+        ensures settled { result ≡ is_settled_in self.now.high (sub_at self.now sub.now) }
+        ensures reached { IsReached self.now }
+    {
+        is_settled(&self.parts, sub)
+    }
+
     /// The token of the last event that a subscription has handled.
     pub(crate) fn last_handled(&self, sub: &SubName) -> Option<Token>
         ensures { result ≡ last_handled self.now (sub_at self.now sub.now) }
@@ -319,49 +321,5 @@ impl fmt::Debug for Partition {
             .field("subs", &self.parts.subs.len())
             .field("grains", &self.parts.grains.len())
             .finish_non_exhaustive()
-    }
-}
-
-/// Does one operation on the parts of a partition.
-pub(crate) fn step(parts: &mut Parts, alloc: Global, op: &Op) -> Result<Outcome, AllocError>
-    requires { Agrees parts.old }
-    ensures assembled { IsAssembled parts.new }
-    ensures performs { Performs (plain_of parts.old) (plain_of parts.new) (answered parts.new.queue.events result) (step (plain_of parts.old) op.now) }
-    ensures of_log { IfOk result (IsOfLog parts.new.queue.events) }
-    ensures memory { OnErr result (may_allocate (plain_of parts.old) op.now ≡ true) }
-{
-    match *op {
-        Op::Publish {
-            stream,
-            ref payloads,
-        } => outcome_of_told(publish(parts, alloc, stream, payloads)),
-        Op::Subscribe {
-            stream,
-            grain,
-            start,
-        } => outcome_of_told(subscribe(parts, alloc, stream, grain, start)),
-        Op::Unsubscribe { sub } => outcome_of_told(Ok(unsubscribe(parts, sub))),
-        Op::AddRule { kind, namespace } => outcome_of_told(add_rule(parts, alloc, kind, namespace)),
-        Op::Pull { generation, max } => outcome_of_told(pull(parts, alloc, generation, max)),
-        Op::Deliver { generation, sub } => outcome_of_told(deliver(parts, alloc, generation, sub)),
-        Op::Retry { generation, sub } => outcome_of_told(Ok(retry(parts, generation, sub))),
-        Op::Ack {
-            generation,
-            sub,
-            token,
-        } => outcome_of_told(Ok(ack(parts, generation, sub, token))),
-        Op::Purge { generation, keep } => outcome_of_told(Ok(purge(parts, generation, keep))),
-        Op::Begin { grain, max } => Ok(begin(parts, grain, max)),
-        Op::Commit {
-            grain,
-            activation,
-            turn,
-            note,
-        } => outcome_of_told(commit(parts, alloc, grain, activation, turn, note)),
-        Op::Deactivate { grain } => outcome_of_told(Ok(deactivate(parts, grain))),
-        Op::Move { silo } => outcome_of_told(Ok(move_queue(parts, silo))),
-        Op::Ready { after } => outcome_of_told(Ok(ready(parts, after))),
-        Op::Due { after } => outcome_of_told(Ok(due(parts, after))),
-        Op::Quiet => outcome_of_told(Ok(quiet(parts))),
     }
 }

@@ -128,12 +128,12 @@ pub(crate) fn subscribe(
 }
 
 /// The grain of an explicit subscription unsubscribes. It takes no memory.
-pub(crate) fn unsubscribe(parts: &mut Parts, sub: SubName) -> Told
+pub(crate) fn unsubscribe(parts: &mut Parts, sub: &SubName) -> Told
     requires { Agrees parts.old }
     ensures assembled { IsAssembled parts.new }
-    ensures performs { (plain_of parts.new, reply_of result) ≡ unsubscribe (plain_of parts.old) sub }
+    ensures performs { (plain_of parts.new, reply_of result) ≡ unsubscribe (plain_of parts.old) sub.now }
 {
-    let Some(number) = parts.subs.find(&sub) else {
+    let Some(number) = parts.subs.find(sub) else {
         return Told::NoSuch;
     };
     let grain = parts.subs.registration(number).grain;

@@ -9,11 +9,12 @@ ghost use Rattle.subscription_table.specs.Table.{name_at, no_entry, state_at};
 ghost use Rattle.step_core.specs.Assembly.{Agrees};
 ghost use Rattle.step_core.specs.PlainOf.{plain_of};
 ghost use Rattle.step_core.specs.Reads.{handled_of, summary_of};
-ghost use Rattle.step_core.specs.Serving.{served_of};
+ghost use Rattle.step_core.specs.Serving.{is_settled_in, is_settled_state, served_of};
 ghost use Rattle.step_core.specs.View.{sub_of, subs_of};
 
 use crate::draining::Served;
 use crate::parts::Parts;
+use consumer_grain::SubState;
 use partition_queue::PartitionQueue;
 use std::alloc::{AllocError, Global};
 use stream_ident::{Event, GrainId, StreamId, SubName, Token};
@@ -134,6 +135,28 @@ pub(crate) fn served(parts: &Parts, sub: &SubName) -> Option<Served>
         grain: subs.registration(number).grain,
         cursor: subs.state(number).cursor(),
     })
+}
+
+/// Whether a drain that serves a subscription changes nothing.
+pub(crate) fn is_settled(parts: &Parts, sub: &SubName) -> bool
+    requires { Agrees parts.now }
+    ensures { result ≡ is_settled_in (plain_of parts.now).high (sub_at (plain_of parts.now) sub.now) }
+{
+    match parts.subs.find(sub) {
+        Some(number) => is_settled_state(parts.subs.state(number), parts.agent.cache().high()),
+        None => false,
+    }
+}
+
+/// Whether a subscription is open, with all that it has handled acknowledged, and goes on from its resume, at or past
+/// the end of the cache.
+fn is_settled_state(state: &SubState, high: usize) -> bool
+    ensures { result ≡ is_settled_state high state.now }
+{
+    state.is_open()
+        && high <= state.cursor()
+        && state.resume() == state.cursor()
+        && !state.is_unacknowledged()
 }
 
 /// The token of the last event that a subscription has handled.

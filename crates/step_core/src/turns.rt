@@ -24,13 +24,13 @@ use stream_ident::{GrainId, Row};
 use subscription_table::SubscriptionTable;
 
 /// A worker begins a turn of a grain. It takes no memory.
-pub(crate) fn begin(parts: &mut Parts, grain: GrainId, max: u32) -> Outcome
+pub(crate) fn begin(parts: &mut Parts, grain: &GrainId, max: u32) -> Outcome
     requires { Agrees parts.old }
     ensures assembled { IsAssembled parts.new }
-    ensures performs { (plain_of parts.new, reply_with parts.new.queue.events result) ≡ begin (plain_of parts.old) grain max }
+    ensures performs { (plain_of parts.new, reply_with parts.new.queue.events result) ≡ begin (plain_of parts.old) grain.now max }
     ensures of_log { IsOfLog parts.new.queue.events result }
 {
-    let Some(number) = parts.grains.find(&grain) else {
+    let Some(number) = parts.grains.find(grain) else {
         return Outcome::Told(Told::Empty);
     };
     let activation = parts.grains.at(number).number();
@@ -104,17 +104,17 @@ fn next_turn(parts: &Parts) -> Option<u64>
 pub(crate) fn commit(
     parts: &mut Parts,
     alloc: Global,
-    grain: GrainId,
+    grain: &GrainId,
     activation: u64,
     turn: u64,
     note: u64,
 ) -> Result<Told, AllocError>
     requires { Agrees parts.old }
     ensures assembled { IsAssembled parts.new }
-    ensures performs { Performs (plain_of parts.old) (plain_of parts.new) (replied result) (commit (plain_of parts.old) grain activation turn note) }
-    ensures memory { OnErr result (takes_memory (commit (plain_of parts.old) grain activation turn note).1 ≡ true) }
+    ensures performs { Performs (plain_of parts.old) (plain_of parts.new) (replied result) (commit (plain_of parts.old) grain.now activation turn note) }
+    ensures memory { OnErr result (takes_memory (commit (plain_of parts.old) grain.now activation turn note).1 ≡ true) }
 {
-    let Some(number) = parts.grains.find(&grain) else {
+    let Some(number) = parts.grains.find(grain) else {
         return Ok(Told::Stale);
     };
     let Some(run) = parts.grains.at(number).current_turn(activation, turn) else {
@@ -164,12 +164,12 @@ fn last_position(positions: &Row<usize>) -> usize
 /// A grain leaves memory: what waits and what runs is lost, and the cursors of its open subscriptions go
 /// back to their resumes. It takes no memory, and looks only at the subscriptions that something was offered
 /// for: the cursors of the others are at their resumes.
-pub(crate) fn deactivate(parts: &mut Parts, grain: GrainId) -> Told
+pub(crate) fn deactivate(parts: &mut Parts, grain: &GrainId) -> Told
     requires { Agrees parts.old }
     ensures assembled { IsAssembled parts.new }
-    ensures performs { (plain_of parts.new, reply_of result) ≡ deactivate (plain_of parts.old) grain }
+    ensures performs { (plain_of parts.new, reply_of result) ≡ deactivate (plain_of parts.old) grain.now }
 {
-    let Some(number) = parts.grains.find(&grain) else {
+    let Some(number) = parts.grains.find(grain) else {
         return Told::NotActive;
     };
     if !parts.grains.at(number).is_active() {

@@ -36,7 +36,7 @@ IsSettled p r = p.high ≤ r.resume
 
 -- ---- Ack
 
-ack-first : (p : PlainPartition) (s : SubName) (r : Subscription) (token : Token) (position : ℕ) (rest : List ℕ) → sub_at p s ≡ Some r → r.is_open ≡ true → handled_at p r token ≡ position ∷ rest
+pub ack-first : (p : PlainPartition) (s : SubName) (r : Subscription) (token : Token) (position : ℕ) (rest : List ℕ) → sub_at p s ≡ Some r → r.is_open ≡ true → handled_at p r token ≡ position ∷ rest
     → step p (Ack p.generation s token) ≡ (with_sub p s (acknowledged r position), reply.Acked)
 unfolding step ack ack_of ack_position
 ack-first p s r token position rest found is_open first =

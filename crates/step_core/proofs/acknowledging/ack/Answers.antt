@@ -8,11 +8,11 @@ use Rattle.step_core.proofs.RetryOps.{ack-nothing, ack-performs, ack-replaced, a
 use Rattle.step_core.proofs.acknowledging.ack.Goals as goal
 
 pub returns-in-Err-clause-performs : goal.returns-in-Err-clause-performs
-returns-in-Err-clause-performs c = ack-replaced c.args.parts.now c.args.generation c.args.sub c.args.token c.in-Err.field-0 c.in-Err.ensures
+returns-in-Err-clause-performs c = ack-replaced c.args.parts.now c.args.generation c.args.sub.now c.args.token c.in-Err.field-0 c.in-Err.ensures
 
 pub returns-in_default-find-clause-performs : goal.returns-in_default-find-clause-performs
 returns-in_default-find-clause-performs c =
-    ack-nothing c.args.parts.now c.args.generation c.args.sub c.args.token c.in_default.field-0 c.in_default.ensures c.requires.records c.in_default-find.ensures.number
+    ack-nothing c.args.parts.now c.args.generation c.args.sub.now c.args.token c.in_default.field-0 c.in_default.ensures c.requires.records c.in_default-find.ensures.number
 
 pub ack-requires-clause-handled : goal.ack-requires-clause-handled
 ack-requires-clause-handled c = handled-in c.args.parts.now c.in-Some.number c.requires.within c.requires.records c.in-Some.ensures.within
@@ -27,4 +27,4 @@ pub returns-clause-performs : goal.returns-clause-performs
 returns-clause-performs c =
     let parts = c.args.parts.now in
     ap {B = PlainPartition × Reply} (λ told. (plain_of (record parts { subs = c.ack.new.self }), told)) c.told_of_ack.ensures
-    ∙ ack-performs parts c.args.generation c.args.sub c.args.token c.in_default.field-0 c.in_default.ensures c.in-Some.number c.ack.new.self c.ack.result c.requires.records c.in-Some.ensures.number c.ack.ensures
+    ∙ ack-performs parts c.args.generation c.args.sub.now c.args.token c.in_default.field-0 c.in_default.ensures c.in-Some.number c.ack.new.self c.ack.result c.requires.records c.in-Some.ensures.number c.ack.ensures

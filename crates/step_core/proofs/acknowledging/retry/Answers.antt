@@ -8,11 +8,11 @@ use Rattle.step_core.proofs.RetryOps.{retry-nothing, retry-performs, retry-repla
 use Rattle.step_core.proofs.acknowledging.retry.Goals as goal
 
 pub returns-in-Err-clause-performs : goal.returns-in-Err-clause-performs
-returns-in-Err-clause-performs c = retry-replaced c.args.parts.now c.args.generation c.args.sub c.in-Err.field-0 c.in-Err.ensures
+returns-in-Err-clause-performs c = retry-replaced c.args.parts.now c.args.generation c.args.sub.now c.in-Err.field-0 c.in-Err.ensures
 
 pub returns-in_default-find-clause-performs : goal.returns-in_default-find-clause-performs
 returns-in_default-find-clause-performs c =
-    retry-nothing c.args.parts.now c.args.generation c.args.sub c.in_default.field-0 c.in_default.ensures c.requires.records c.in_default-find.ensures.number
+    retry-nothing c.args.parts.now c.args.generation c.args.sub.now c.in_default.field-0 c.in_default.ensures c.requires.records c.in_default-find.ensures.number
 
 pub returns-clause-assembled : goal.returns-clause-assembled
 returns-clause-assembled c =
@@ -24,4 +24,4 @@ pub returns-clause-performs : goal.returns-clause-performs
 returns-clause-performs c =
     let parts = c.args.parts.now in
     ap {B = PlainPartition × Reply} (λ told. (plain_of (record parts { subs = c.retry.new.self }), told)) c.told_of_retry.ensures
-    ∙ retry-performs parts c.args.generation c.args.sub c.in_default.field-0 c.in_default.ensures c.in-Some.number c.retry.new.self c.retry.result c.requires.records c.in-Some.ensures.number c.retry.ensures
+    ∙ retry-performs parts c.args.generation c.args.sub.now c.in_default.field-0 c.in_default.ensures c.in-Some.number c.retry.new.self c.retry.result c.requires.records c.in-Some.ensures.number c.retry.ensures

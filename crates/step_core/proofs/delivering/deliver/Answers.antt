@@ -24,13 +24,13 @@ pub returns-in-Err-clause-performs : goal.returns-in-Err-clause-performs
 returns-in-Err-clause-performs c =
     let parts = c.args.parts.now in
     let stale = check-stale parts.agent c.args.generation c.in-Err.field-0 c.in-Err.ensures in
-    ap {B = Answer} (λ now. (plain_of parts, reply.StaleAgent now)) stale.now ∙ deliver-stale (plain_of parts) c.args.generation c.args.sub (ap not stale.other)
+    ap {B = Answer} (λ now. (plain_of parts, reply.StaleAgent now)) stale.now ∙ deliver-stale (plain_of parts) c.args.generation c.args.sub.now (ap not stale.other)
 
 pub returns-in_default-find-clause-performs : goal.returns-in_default-find-clause-performs
 returns-in_default-find-clause-performs c =
     let parts = c.args.parts.now in
-    deliver-unknown (plain_of parts) c.args.generation c.args.sub (ap not (check-current parts.agent c.args.generation c.in_default.field-0 c.in_default.ensures))
-    (no-record parts c.args.sub (sym c.requires.records.long) (sym c.in_default-find.ensures.number))
+    deliver-unknown (plain_of parts) c.args.generation c.args.sub.now (ap not (check-current parts.agent c.args.generation c.in_default.field-0 c.in_default.ensures))
+    (no-record parts c.args.sub.now (sym c.requires.records.long) (sym c.in_default-find.ensures.number))
 
 -- the number of the grain, as it was found
 found : (parts : Parts) (number : ℕ) (registration : Registration) (grain : Option ℕ) → registration ≡ registration_at parts.subs number → grain ≡ number_of parts.grains registration.grain → number_of parts.grains (record_of parts number).grain ≡ grain
@@ -81,7 +81,7 @@ returns-in-Next-clause-performs c =
     let current = check-current parts.agent c.args.generation c.in_default.field-0 c.in_default.ensures in
     let sought : Searched parts c.next_event.new.self c.in-Some.number c.is_outstanding-outstanding.result (sought.Next c.in-Next.position) =
     searched-is parts c.next_event.new.self c.in-Some.number c.cache.result.now c.is_outstanding-outstanding.result (sought.Next c.in-Next.position) c.cache.ensures c.in-Next.ensures.sought in
-    let todo = todo-is parts c.next_event.new.self c.in-Some.number c.args.generation c.in-Next.position c.args.sub c.is_outstanding-outstanding.result current (sym c.in-Some.ensures.number) sought in
+    let todo = todo-is parts c.next_event.new.self c.in-Some.number c.args.generation c.in-Next.position c.args.sub.now c.is_outstanding-outstanding.result current (sym c.in-Some.ensures.number) sought in
     todo-performs parts c.next_event.new.self (plain_of c.hand_over.new.parts) (replied c.hand_over.result) _ _ sought.0 todo c.hand_over.ensures.performs
 
 pub returns-in-Next-clause-memory : goal.returns-in-Next-clause-memory
@@ -90,7 +90,7 @@ returns-in-Next-clause-memory c =
     let current = check-current parts.agent c.args.generation c.in_default.field-0 c.in_default.ensures in
     let sought : Searched parts c.next_event.new.self c.in-Some.number c.is_outstanding-outstanding.result (sought.Next c.in-Next.position) =
     searched-is parts c.next_event.new.self c.in-Some.number c.cache.result.now c.is_outstanding-outstanding.result (sought.Next c.in-Next.position) c.cache.ensures c.in-Next.ensures.sought in
-    let todo = todo-is parts c.next_event.new.self c.in-Some.number c.args.generation c.in-Next.position c.args.sub c.is_outstanding-outstanding.result current (sym c.in-Some.ensures.number) sought in
+    let todo = todo-is parts c.next_event.new.self c.in-Some.number c.args.generation c.in-Next.position c.args.sub.now c.is_outstanding-outstanding.result current (sym c.in-Some.ensures.number) sought in
     subst (λ (done : Answer). OnErr c.hand_over.result (takes_memory done.1 ≡ true)) todo c.hand_over.ensures.memory
 
 pub returns-in-Next-clause-first : goal.returns-in-Next-clause-first
@@ -100,7 +100,7 @@ returns-in-Next-clause-first c =
     let sought : Searched parts c.next_event.new.self c.in-Some.number c.is_outstanding-outstanding.result (sought.Next c.in-Next.position) =
     searched-is parts c.next_event.new.self c.in-Some.number c.cache.result.now c.is_outstanding-outstanding.result (sought.Next c.in-Next.position) c.cache.ensures c.in-Next.ensures.sought in
     subst (λ (r : Option Subscription). OnErr c.hand_over.result (is_untouched r ≡ true))
-    (record-there parts c.next_event.new.self c.in-Some.number c.in-Next.position c.args.sub c.is_outstanding-outstanding.result stands (sym c.in-Some.ensures.number) sought) c.hand_over.ensures.first
+    (record-there parts c.next_event.new.self c.in-Some.number c.in-Next.position c.args.sub.now c.is_outstanding-outstanding.result stands (sym c.in-Some.ensures.number) sought) c.hand_over.ensures.first
 
 pub returns-in-Nothing-clause-assembled : goal.returns-in-Nothing-clause-assembled
 returns-in-Nothing-clause-assembled c =
@@ -118,7 +118,7 @@ returns-in-Nothing-clause-performs c =
     let current = check-current parts.agent c.args.generation c.in_default.field-0 c.in_default.ensures in
     let sought : Searched parts c.next_event.new.self c.in-Some.number c.is_outstanding-outstanding.result sought.Nothing =
     searched-is parts c.next_event.new.self c.in-Some.number c.cache.result.now c.is_outstanding-outstanding.result sought.Nothing c.cache.ensures c.in-Nothing.ensures.sought in
-    nothing-performs parts c.next_event.new.self c.in-Some.number c.args.generation c.args.sub c.is_outstanding-outstanding.result stands current (sym c.in-Some.ensures.number) c.is_outstanding-outstanding.ensures sought
+    nothing-performs parts c.next_event.new.self c.in-Some.number c.args.generation c.args.sub.now c.is_outstanding-outstanding.result stands current (sym c.in-Some.ensures.number) c.is_outstanding-outstanding.ensures sought
 
 pub returns-in-Closed-clause-assembled : goal.returns-in-Closed-clause-assembled
 returns-in-Closed-clause-assembled c =
@@ -135,4 +135,4 @@ returns-in-Closed-clause-performs c =
     let current = check-current parts.agent c.args.generation c.in_default.field-0 c.in_default.ensures in
     let sought : Searched parts c.next_event.new.self c.in-Some.number c.is_outstanding-outstanding.result sought.Closed =
     searched-is parts c.next_event.new.self c.in-Some.number c.cache.result.now c.is_outstanding-outstanding.result sought.Closed c.cache.ensures c.in-Closed.ensures.sought in
-    closed-performs parts c.next_event.new.self c.in-Some.number c.args.generation c.args.sub c.is_outstanding-outstanding.result stands current (sym c.in-Some.ensures.number) sought
+    closed-performs parts c.next_event.new.self c.in-Some.number c.args.generation c.args.sub.now c.is_outstanding-outstanding.result stands current (sym c.in-Some.ensures.number) sought

@@ -1,11 +1,15 @@
 use Rattle.std.proofs.Common.{◌-◌, Some, ap, sym, subst, ◌∙◌}
 use Rattle.std.proofs.lemmas.Result.{err_from_is_err_and}
-use Rattle.stream_model.specs.Draining.{Astray, acknowledge, deliver_once_more, last_handled, serve, deliver_up_to}
-use Rattle.step_core.specs.DrainPhases.{Ends, halted, meant}
+use Rattle.stream_model.specs.Draining.{Astray, serve, deliver_up_to}
+use Rattle.step_core.specs.DrainPhases.{Ends, after_deliveries, halted, meant}
 use Rattle.stream_model.specs.Positions.{sub_at}
-use Rattle.step_core.proofs.DrainRounds.{after_deliveries, serve-known, serve-unknown}
+use Rattle.step_core.proofs.DrainRounds.{serve-known, serve-unknown}
 use Rattle.step_core.proofs.DrainSteps.{ends-done, ends-halted, ends-then}
+use Rattle.step_core.proofs.SettledOps.{serves-settled}
 use Rattle.step_core.proofs.draining.serve.Goals as goal
+
+pub returns-then-is_settled : goal.returns-then-is_settled
+returns-then-is_settled c = serves-settled c.args.partition.now c.args.sub.now c.is_settled.ensures.reached (sym c.is_settled.ensures.settled ∙ c.if-is_settled.true)
 
 pub returns-in_default : goal.returns-in_default
 returns-in_default c =
@@ -26,21 +30,6 @@ returns-in_err-deliver_all c =
     rw (e.1, e.2) (subst (Ends p new (halted why)) whole
     (ends-halted p new why (deliver_up_to most s served.grain p) (after_deliveries s) c.in_err-deliver_all.ensures))
 
-pub returns-in_err-acknowledge : goal.returns-in_err-acknowledge
-returns-in_err-acknowledge c =
-    let e = err_from_is_err_and c.from_residual-in_err-acknowledge.result c.from_residual-in_err-acknowledge.ensures.1 in
-    let why = c.in_err-acknowledge.field-0.0 in
-    let p = c.args.partition.now in
-    let s = c.args.sub.now in
-    let served = c.in-Some.served in
-    let most = c.saturating_sub-most.result in
-    let whole = serve-known p s served most (sym c.in-Some.is ∙ c.served.ensures) (c.saturating_sub-most.ensures ∙ ap (λ high. high - served.cursor) c.high.ensures) in
-    let mid = c.deliver_all.new.partition in
-    let new = c.acknowledge.new.partition in
-    rw (e.1, e.2) (subst (Ends p new (halted why)) whole
-    (ends-then p mid new (halted why) (deliver_up_to most s served.grain p) (after_deliveries s) c.in_ok-deliver_all.ensures
-    (ends-halted mid new why (acknowledge s mid (last_handled mid (sub_at mid s))) (deliver_once_more s) c.in_err-acknowledge.ensures)))
-
 pub returns : goal.returns
 returns c =
     let p = c.args.partition.now in
@@ -49,9 +38,7 @@ returns c =
     let most = c.saturating_sub-most.result in
     let whole = serve-known p s served most (sym c.in-Some.is ∙ c.served.ensures) (c.saturating_sub-most.ensures ∙ ap (λ high. high - served.cursor) c.high.ensures) in
     let mid = c.deliver_all.new.partition in
-    let after = c.acknowledge.new.partition in
-    let new = c.deliver_once_more.new.partition in
-    let end = meant c.deliver_once_more.result in
+    let new = c.settle.new.partition in
+    let end = meant c.settle.result in
     subst (Ends p new end) whole
-    (ends-then p mid new end (deliver_up_to most s served.grain p) (after_deliveries s) c.in_ok-deliver_all.ensures
-    (ends-then mid after new end (acknowledge s mid (last_handled mid (sub_at mid s))) (deliver_once_more s) c.in_ok-acknowledge.ensures c.deliver_once_more.ensures))
+    (ends-then p mid new end (deliver_up_to most s served.grain p) (after_deliveries s) c.in_ok-deliver_all.ensures c.settle.ensures)

@@ -16,15 +16,15 @@ use Rattle.step_core.proofs.publishing.unsubscribe.Goals as goal
 
 pub returns-in_default-clause-performs : goal.returns-in_default-clause-performs
 returns-in_default-clause-performs c =
-    unsubscribe-unknown (plain_of c.args.parts.now) c.args.sub (no-record c.args.parts.now c.args.sub (sym c.requires.records.long) (sym c.in_default.ensures.number))
+    unsubscribe-unknown (plain_of c.args.parts.now) c.args.sub.now (no-record c.args.parts.now c.args.sub.now (sym c.requires.records.long) (sym c.in_default.ensures.number))
 
 pub returns-in-Done-clause-assembled : goal.returns-in-Done-clause-assembled
 returns-in-Done-clause-assembled c =
     let parts = c.args.parts.now in
-    let closed = closed-assembled parts c.in-Some.number c.args.sub c.requires.records c.in-Some.ensures.number c.close.new.self close_told.Done c.requires.assembled c.in-Done.ensures in
+    let closed = closed-assembled parts c.in-Some.number c.args.sub.now c.requires.records c.in-Some.ensures.number c.close.new.self close_told.Done c.requires.assembled c.in-Done.ensures in
     subst (λ (grains : List (GrainId × PlainActivation)). IsAssembled (record parts { subs = c.close.new.self; grains = grains })) (sym c.forget.ensures)
     (forgotten-assembled (record parts { subs = c.close.new.self }) c.registration.result.now.grain c.in-Some.number closed
-    (closed-after parts c.in-Some.number c.args.sub c.requires.records c.in-Some.ensures.number c.close.new.self c.in-Done.ensures))
+    (closed-after parts c.in-Some.number c.args.sub.now c.requires.records c.in-Some.ensures.number c.close.new.self c.in-Done.ensures))
 
 pub returns-in-Done-clause-performs : goal.returns-in-Done-clause-performs
 returns-in-Done-clause-performs c =
@@ -34,28 +34,28 @@ returns-in-Done-clause-performs c =
     let handled = c.handled-handled.ensures.handled ∙ ap (λ (state : PlainState). state.handled) c.state.ensures in
     ap {B = PlainPartition × Reply} (λ gs. (plain_of (record parts { subs = c.close.new.self; grains = gs }), reply.Unsubscribed (length c.handled-handled.result.now))) grains
     ∙ ap {B = PlainPartition × Reply} (λ (positions : List ℕ). (plain_of (record parts { subs = c.close.new.self; grains = left_grains parts number }), reply.Unsubscribed (length positions))) handled
-    ∙ closed-performs parts number c.args.sub c.requires.records c.in-Some.ensures.number c.close.new.self close_told.Done c.requires c.requires.unique c.in-Done.ensures
+    ∙ closed-performs parts number c.args.sub.now c.requires.records c.in-Some.ensures.number c.close.new.self close_told.Done c.requires c.requires.unique c.in-Done.ensures
 
 pub returns-in-NoSuch-clause-assembled : goal.returns-in-NoSuch-clause-assembled
 returns-in-NoSuch-clause-assembled c =
-    closed-assembled c.args.parts.now c.in-Some.number c.args.sub c.requires.records c.in-Some.ensures.number c.close.new.self close_told.NoSuch c.requires.assembled c.in-NoSuch.ensures
+    closed-assembled c.args.parts.now c.in-Some.number c.args.sub.now c.requires.records c.in-Some.ensures.number c.close.new.self close_told.NoSuch c.requires.assembled c.in-NoSuch.ensures
 
 pub returns-in-NoSuch-clause-performs : goal.returns-in-NoSuch-clause-performs
 returns-in-NoSuch-clause-performs c =
-    closed-performs c.args.parts.now c.in-Some.number c.args.sub c.requires.records c.in-Some.ensures.number c.close.new.self close_told.NoSuch c.requires c.requires.unique c.in-NoSuch.ensures
+    closed-performs c.args.parts.now c.in-Some.number c.args.sub.now c.requires.records c.in-Some.ensures.number c.close.new.self close_told.NoSuch c.requires c.requires.unique c.in-NoSuch.ensures
 
 pub returns-in-Implicit-clause-assembled : goal.returns-in-Implicit-clause-assembled
 returns-in-Implicit-clause-assembled c =
-    closed-assembled c.args.parts.now c.in-Some.number c.args.sub c.requires.records c.in-Some.ensures.number c.close.new.self close_told.Implicit c.requires.assembled c.in-Implicit.ensures
+    closed-assembled c.args.parts.now c.in-Some.number c.args.sub.now c.requires.records c.in-Some.ensures.number c.close.new.self close_told.Implicit c.requires.assembled c.in-Implicit.ensures
 
 pub returns-in-Implicit-clause-performs : goal.returns-in-Implicit-clause-performs
 returns-in-Implicit-clause-performs c =
-    closed-performs c.args.parts.now c.in-Some.number c.args.sub c.requires.records c.in-Some.ensures.number c.close.new.self close_told.Implicit c.requires c.requires.unique c.in-Implicit.ensures
+    closed-performs c.args.parts.now c.in-Some.number c.args.sub.now c.requires.records c.in-Some.ensures.number c.close.new.self close_told.Implicit c.requires c.requires.unique c.in-Implicit.ensures
 
 pub returns-in-Closed-clause-assembled : goal.returns-in-Closed-clause-assembled
 returns-in-Closed-clause-assembled c =
-    closed-assembled c.args.parts.now c.in-Some.number c.args.sub c.requires.records c.in-Some.ensures.number c.close.new.self close_told.Closed c.requires.assembled c.in-Closed.ensures
+    closed-assembled c.args.parts.now c.in-Some.number c.args.sub.now c.requires.records c.in-Some.ensures.number c.close.new.self close_told.Closed c.requires.assembled c.in-Closed.ensures
 
 pub returns-in-Closed-clause-performs : goal.returns-in-Closed-clause-performs
 returns-in-Closed-clause-performs c =
-    closed-performs c.args.parts.now c.in-Some.number c.args.sub c.requires.records c.in-Some.ensures.number c.close.new.self close_told.Closed c.requires c.requires.unique c.in-Closed.ensures
+    closed-performs c.args.parts.now c.in-Some.number c.args.sub.now c.requires.records c.in-Some.ensures.number c.close.new.self close_told.Closed c.requires c.requires.unique c.in-Closed.ensures

@@ -14,14 +14,14 @@ use Rattle.step_core.proofs.TurnOps.{begin-none}
 use Rattle.step_core.proofs.turns.begin.Goals as goal
 
 pub returns-in_default-clause-performs : goal.returns-in_default-clause-performs
-returns-in_default-clause-performs c = sym (begin-none c.args.parts.now c.args.grain c.args.max (sym c.find.ensures.number ∙ c.in_default.is))
+returns-in_default-clause-performs c = sym (begin-none c.args.parts.now c.args.grain.now c.args.max (sym c.find.ensures.number ∙ c.in_default.is))
 
 pub outcome_of_begun-requires-clause-begun : goal.outcome_of_begun-requires-clause-begun
 outcome_of_begun-requires-clause-begun c =
     let parts = c.args.parts.now in
     let i = c.in-Some.number in
     let below = known-at parts i c.requires.assembled c.in-Some.ensures.within in
-    begin-within parts c.args.grain i c.past_of_front-past.result c.args.max c.next_turn-turn.result c.begin-begun.new.self c.begin-begun.result c.requires.within (sym c.find.ensures.number ∙ c.in-Some.is) below c.begin-begun.ensures.begun
+    begin-within parts c.args.grain.now i c.past_of_front-past.result c.args.max c.next_turn-turn.result c.begin-begun.new.self c.begin-begun.result c.requires.within (sym c.find.ensures.number ∙ c.in-Some.is) below c.begin-begun.ensures.begun
 
 pub returns-clause-assembled : goal.returns-clause-assembled
 returns-clause-assembled c =
@@ -33,9 +33,9 @@ returns-clause-performs c =
     let parts = c.args.parts.now in
     let i = c.in-Some.number in
     let below = known-at parts i c.requires.assembled c.in-Some.ensures.within in
-    let does = begin-told parts c.args.grain i c.args.max c.past_of_front-past.result c.next_turn-turn.result c.begin-begun.new.self c.begin-begun.result (distinct-of-unique parts.subs.registry.names c.requires.unique) (sym c.requires.records.long) (sym c.find.ensures.number ∙ c.in-Some.is) below c.past_of_front-past.ensures c.next_turn-turn.ensures c.begin-begun.ensures.grains c.begin-begun.ensures.begun in
+    let does = begin-told parts c.args.grain.now i c.args.max c.past_of_front-past.result c.next_turn-turn.result c.begin-begun.new.self c.begin-begun.result (distinct-of-unique parts.subs.registry.names c.requires.unique) (sym c.requires.records.long) (sym c.find.ensures.number ∙ c.in-Some.is) below c.past_of_front-past.ensures c.next_turn-turn.ensures c.begin-begun.ensures.grains c.begin-begun.ensures.begun in
     let begun = with_grains parts c.begin-begun.new.self in
     let told = c.begin-begun.result in
     let activation = (activation_at parts.grains i).number in
-    pair-is c.outcome_of_begun.new.parts (reply_with c.outcome_of_begun.new.parts.queue.events c.outcome_of_begun.result) (after_begun begun told) (of_begun begun activation told) (begin (plain_of parts) c.args.grain c.args.max) c.outcome_of_begun.ensures.parts
+    pair-is c.outcome_of_begun.new.parts (reply_with c.outcome_of_begun.new.parts.queue.events c.outcome_of_begun.result) (after_begun begun told) (of_begun begun activation told) (begin (plain_of parts) c.args.grain.now c.args.max) c.outcome_of_begun.ensures.parts
     (c.outcome_of_begun.ensures.reply ∙ ap (λ n. of_begun begun n told) (c.number-activation.ensures ∙ ap (λ (a : PlainActivation). a.number) c.at.ensures.activation)) does

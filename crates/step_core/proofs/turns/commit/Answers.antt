@@ -13,7 +13,7 @@ use Rattle.step_core.proofs.turns.commit.Goals as goal
 
 pub returns-in_default-clause-performs : goal.returns-in_default-clause-performs
 returns-in_default-clause-performs c =
-    sym (commit-none c.args.parts.now c.args.grain c.args.activation c.args.turn c.args.note (sym c.find.ensures.number ∙ c.in_default.is))
+    sym (commit-none c.args.parts.now c.args.grain.now c.args.activation c.args.turn c.args.note (sym c.find.ensures.number ∙ c.in_default.is))
 
 pub returns-in_default-current_turn-clause-performs : goal.returns-in_default-current_turn-clause-performs
 returns-in_default-current_turn-clause-performs c =
@@ -21,7 +21,7 @@ returns-in_default-current_turn-clause-performs c =
     let i = c.in-Some.number in
     let below = known-at parts i c.requires.assembled c.in-Some.ensures.within in
     let none = ap (λ (a : PlainActivation). current_turn a c.args.activation c.args.turn) (sym c.at.ensures.activation) ∙ sym c.in_default-current_turn.ensures in
-    sym (commit-stale parts c.args.grain i c.args.activation c.args.turn c.args.note (distinct-of-unique parts.subs.registry.names c.requires.unique) (sym c.requires.records.long) (sym c.find.ensures.number ∙ c.in-Some.is) below none)
+    sym (commit-stale parts c.args.grain.now i c.args.activation c.args.turn c.args.note (distinct-of-unique parts.subs.registry.names c.requires.unique) (sym c.requires.records.long) (sym c.find.ensures.number ∙ c.in-Some.is) below none)
 
 pub handle-requires-clause-positions : goal.handle-requires-clause-positions
 handle-requires-clause-positions c =
@@ -31,7 +31,7 @@ handle-requires-clause-positions c =
     let run = c.in-Some-current_turn.run'.now in
     let is_current = ap (λ (a : PlainActivation). current_turn a c.args.activation c.args.turn) (sym c.at.ensures.activation) ∙ sym c.in-Some-current_turn.ensures in
     let runs = is-running a.running run a.number c.args.activation c.args.turn is_current in
-    running-within parts c.args.grain i run c.requires.within (sym c.find.ensures.number ∙ c.in-Some.is) runs.0
+    running-within parts c.args.grain.now i run c.requires.within (sym c.find.ensures.number ∙ c.in-Some.is) runs.0
 
 pub handle-requires-clause-rising : goal.handle-requires-clause-rising
 handle-requires-clause-rising c =
@@ -42,7 +42,7 @@ handle-requires-clause-rising c =
     let below = known-at parts i c.requires.assembled c.in-Some.ensures.within in
     let is_current = ap (λ (a : PlainActivation). current_turn a c.args.activation c.args.turn) (sym c.at.ensures.activation) ∙ sym c.in-Some-current_turn.ensures in
     let runs = is-running a.running run a.number c.args.activation c.args.turn is_current in
-    running-rises parts c.args.grain i run c.requires.reached (distinct-of-unique parts.subs.registry.names c.requires.unique) (sym c.requires.records.long) (sym c.find.ensures.number ∙ c.in-Some.is) (running-below (length parts.subs.registry.names) a.running run below.running runs.0) runs.0
+    running-rises parts c.args.grain.now i run c.requires.reached (distinct-of-unique parts.subs.registry.names c.requires.unique) (sym c.requires.records.long) (sym c.find.ensures.number ∙ c.in-Some.is) (running-below (length parts.subs.registry.names) a.running run below.running runs.0) runs.0
 
 pub returns-in_err-told-clause-assembled : goal.returns-in_err-told-clause-assembled
 returns-in_err-told-clause-assembled c =
@@ -55,13 +55,13 @@ returns-in_err-told-clause-memory c =
     let below = known-at parts i c.requires.assembled c.in-Some.ensures.within in
     let is_current = ap (λ (a : PlainActivation). current_turn a c.args.activation c.args.turn) (sym c.at.ensures.activation) ∙ sym c.in-Some-current_turn.ensures in
     on-error c.from_residual.result
-    (commit-takes parts c.args.grain i c.args.activation c.args.turn c.args.note c.in-Some-current_turn.run'.now (distinct-of-unique parts.subs.registry.names c.requires.unique) (sym c.requires.records.long) (sym c.find.ensures.number ∙ c.in-Some.is) below is_current c.in_err-told.ensures.memory)
+    (commit-takes parts c.args.grain.now i c.args.activation c.args.turn c.args.note c.in-Some-current_turn.run'.now (distinct-of-unique parts.subs.registry.names c.requires.unique) (sym c.requires.records.long) (sym c.find.ensures.number ∙ c.in-Some.is) below is_current c.in_err-told.ensures.memory)
 
 pub returns-clause-assembled : goal.returns-clause-assembled
 returns-clause-assembled c =
     let parts = c.args.parts.now in
     let is_current = ap (λ (a : PlainActivation). current_turn a c.args.activation c.args.turn) (sym c.at.ensures.activation) ∙ sym c.in-Some-current_turn.ensures in
-    commit-assembled parts c.args.grain c.in-Some.number c.args.activation c.args.turn c.args.note c.in-Some-current_turn.run'.now c.handle.new.subs c.end_turn.new.self (reply_of c.in_ok-told.told) c.requires.assembled c.requires.reached
+    commit-assembled parts c.args.grain.now c.in-Some.number c.args.activation c.args.turn c.args.note c.in-Some-current_turn.run'.now c.handle.new.subs c.end_turn.new.self (reply_of c.in_ok-told.told) c.requires.assembled c.requires.reached
     (distinct-of-unique parts.subs.registry.names c.requires.unique) (sym c.requires.records.long) (sym c.find.ensures.number ∙ c.in-Some.is) is_current c.in_ok-told.ensures.performs c.end_turn.ensures
 
 pub returns-clause-performs : goal.returns-clause-performs
@@ -70,4 +70,4 @@ returns-clause-performs c =
     let i = c.in-Some.number in
     let below = known-at parts i c.requires.assembled c.in-Some.ensures.within in
     let is_current = ap (λ (a : PlainActivation). current_turn a c.args.activation c.args.turn) (sym c.at.ensures.activation) ∙ sym c.in-Some-current_turn.ensures in
-    commit-told parts c.args.grain i c.args.activation c.args.turn c.args.note c.in-Some-current_turn.run'.now c.handle.new.subs c.end_turn.new.self (reply_of c.in_ok-told.told) (distinct-of-unique parts.subs.registry.names c.requires.unique) (sym c.requires.records.long) (sym c.find.ensures.number ∙ c.in-Some.is) below is_current c.in_ok-told.ensures.performs c.end_turn.ensures
+    commit-told parts c.args.grain.now i c.args.activation c.args.turn c.args.note c.in-Some-current_turn.run'.now c.handle.new.subs c.end_turn.new.self (reply_of c.in_ok-told.told) (distinct-of-unique parts.subs.registry.names c.requires.unique) (sym c.requires.records.long) (sym c.find.ensures.number ∙ c.in-Some.is) below is_current c.in_ok-told.ensures.performs c.end_turn.ensures

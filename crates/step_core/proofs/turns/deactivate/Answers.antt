@@ -10,12 +10,12 @@ use Rattle.step_core.proofs.LeaveOps.{deactivate-assembled, deactivate-told}
 use Rattle.step_core.proofs.turns.deactivate.Goals as goal
 
 pub returns-in_default-clause-performs : goal.returns-in_default-clause-performs
-returns-in_default-clause-performs c = deactivate-idle (plain_of c.args.parts.now) c.args.grain new_grain (grain-new c.args.parts.now c.args.grain (sym c.find.ensures.number ∙ c.in_default.is)) refl
+returns-in_default-clause-performs c = deactivate-idle (plain_of c.args.parts.now) c.args.grain.now new_grain (grain-new c.args.parts.now c.args.grain.now (sym c.find.ensures.number ∙ c.in_default.is)) refl
 
 pub returns-then-not-is_active-clause-performs : goal.returns-then-not-is_active-clause-performs
 returns-then-not-is_active-clause-performs c =
     let idle = ap (λ (a : PlainActivation). a.active) (sym c.at.ensures.activation) ∙ sym c.is_active.ensures ∙ c.if-not-is_active.true in
-    deactivate-idle (plain_of c.args.parts.now) c.args.grain _ (grain-found c.args.parts.now c.args.grain c.in-Some.number no_grain (sym c.find.ensures.number ∙ c.in-Some.is)) idle
+    deactivate-idle (plain_of c.args.parts.now) c.args.grain.now _ (grain-found c.args.parts.now c.args.grain.now c.in-Some.number no_grain (sym c.find.ensures.number ∙ c.in-Some.is)) idle
 
 pub returns-clause-assembled : goal.returns-clause-assembled
 returns-clause-assembled c =
@@ -30,5 +30,5 @@ returns-clause-performs c =
     let active = ap (λ (a : PlainActivation). a.active) (sym c.at.ensures.activation) ∙ sym c.is_active.ensures ∙ c.if-not-is_active.false in
     let subs = c.subs.ensures.subs ∙ ap (λ (a : PlainActivation). a.subs) c.at-2.ensures.activation in
     let rewound : AreRewound (activation_at parts.grains c.in-Some.number).subs parts.subs c.rewind.new.self = subst (λ (numbers : List ℕ). AreRewound numbers parts.subs c.rewind.new.self) subs c.rewind.ensures in
-    deactivate-told parts c.args.grain c.in-Some.number c.rewind.new.self c.deactivate-lost.new.self c.deactivate-lost.result (sym c.requires.records.long) c.requires.assembled c.requires.distinct (sym c.find.ensures.number ∙ c.in-Some.is) active rewound
+    deactivate-told parts c.args.grain.now c.in-Some.number c.rewind.new.self c.deactivate-lost.new.self c.deactivate-lost.result (sym c.requires.records.long) c.requires.assembled c.requires.distinct (sym c.find.ensures.number ∙ c.in-Some.is) active rewound
     c.deactivate-lost.ensures.grains c.deactivate-lost.ensures.lost
