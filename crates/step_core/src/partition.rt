@@ -31,7 +31,7 @@ use crate::reading::{
 };
 use crate::turns::{begin, commit, deactivate};
 use grain_table::GrainTable;
-use partition_queue::PartitionQueue;
+use partition_queue::{Excerpt, PartitionQueue};
 use pulling_agent::Agent;
 use std::alloc::{AllocError, Global};
 use std::fmt;
@@ -45,11 +45,15 @@ use subscription_table::SubscriptionTable;
 /// A contract sees it as the plain partition of the definitions.
 pub struct Partition {
     parts: Parts,
+    excerpt: Excerpt,
 }
 
 impl Drop for Partition {
     fn drop(self) {
-        let Self { parts: _ } = self;
+        let Self {
+            parts: _,
+            excerpt: _,
+        } = self;
     }
 }
 
@@ -87,6 +91,7 @@ impl Partition {
                 turns: 0,
                 limits,
             },
+            excerpt: Excerpt::new(alloc)?,
         })
     }
 
@@ -154,7 +159,7 @@ impl Partition {
         ensures of_log { IfOk result (IsOfLog self.new.log) }
         ensures memory { OnErr result (may_allocate self.old op.now ≡ true) }
     {
-        let outcome = step(&mut self.parts, alloc, op);
+        let outcome = step(&mut self.parts, &mut self.excerpt, alloc, op);
         // A table promises with its length that no number is given twice, and that its rows agree. That is
         // asked here, once for all operations: each starts from parts that `Agrees` speaks of.
         let _lengths = (self.parts.subs.len(), self.parts.grains.len());
@@ -172,9 +177,9 @@ impl Partition {
     }
 
     /// The event at a position of the log.
-    pub fn event_at(&self, position: usize) -> &Event
+    pub fn event_at(&self, position: usize) -> Event
         requires { position < length self.now.log }
-        ensures { result.now ≡ slice_index_or self.now.log position no_event }
+        ensures { result ≡ slice_index_or self.now.log position no_event }
     {
         self.parts.queue.event_at(position)
     }
@@ -323,7 +328,12 @@ impl fmt::Debug for Partition {
 }
 
 /// Does one operation on the parts of a partition.
-pub(crate) fn step(parts: &mut Parts, alloc: Global, op: &Op) -> Result<Outcome, AllocError>
+pub(crate) fn step(
+    parts: &mut Parts,
+    excerpt: &mut Excerpt,
+    alloc: Global,
+    op: &Op,
+) -> Result<Outcome, AllocError>
     requires { Agrees parts.old }
     ensures assembled { IsAssembled parts.new }
     ensures performs { Performs (plain_of parts.old) (plain_of parts.new) (answered parts.new.queue.events result) (step (plain_of parts.old) op.now) }
@@ -342,7 +352,9 @@ pub(crate) fn step(parts: &mut Parts, alloc: Global, op: &Op) -> Result<Outcome,
         } => outcome_of_told(subscribe(parts, alloc, stream, grain, start)),
         Op::Unsubscribe { sub } => outcome_of_told(Ok(unsubscribe(parts, sub))),
         Op::AddRule { kind, namespace } => outcome_of_told(add_rule(parts, alloc, kind, namespace)),
-        Op::Pull { generation, max } => outcome_of_told(pull(parts, alloc, generation, max)),
+        Op::Pull { generation, max } => {
+            outcome_of_told(pull(parts, excerpt, alloc, generation, max))
+        }
         Op::Deliver { generation, sub } => outcome_of_told(deliver(parts, alloc, generation, sub)),
         Op::Retry { generation, sub } => outcome_of_told(Ok(retry(parts, generation, sub))),
         Op::Ack {
