@@ -1,9 +1,9 @@
 //! What no clause says: that a call succeeds, and what want of memory leaves.
-use partition_queue::{Appended, PartitionQueue};
+use partition_queue::{Appended, Excerpt, PartitionQueue};
 use std::alloc::{AllocError, Global};
 use std::process::Abort;
 use std::test::Fail;
-use stream_ident::{Batch, Payload, StreamId, Token};
+use stream_ident::{Batch, Event, Payload, StreamId, Token};
 
 /// Payloads of one byte each, as many as are asked for.
 fn payloads(alloc: Global, count: u8) -> Result<Vec<Payload>, AllocError> {
@@ -28,7 +28,9 @@ fn batch_of(alloc: Global, count: u8) -> Result<Batch, AllocError> {
 fn compare(rt: &impl Abort, queue: &PartitionQueue, twin: &PartitionQueue) {
     assert!(rt; queue.len() == twin.len());
     assert!(rt; queue.batches() == twin.batches());
-    assert!(rt; queue.between(0, queue.len()) == twin.between(0, twin.len()));
+    for position in 0..queue.len() {
+        assert!(rt; queue.event_at(position) == twin.event_at(position));
+    }
 }
 
 /// What became of a batch in a queue and in its twin. Where it fails to allocate the queue is as it was, and
@@ -120,15 +122,51 @@ fn events_are_read_by_position(rt: HostRuntime) -> Result<(), Fail> {
     let second = StreamId::new(b"o", b"2")?;
     let mut queue = PartitionQueue::new(alloc, 10);
     let mut twin = PartitionQueue::new(alloc, 10);
-    told(&rt, alloc, (&mut queue, &mut twin), &first, 2)?;
-    told(&rt, alloc, (&mut queue, &mut twin), &second, 1)?;
-    assert!(rt; queue.len() == 3);
-    let event = *queue.event_at(1);
-    assert!(rt; event.stream == first);
-    assert!(rt; event.token == Token { seq: 0, idx: 1 });
-    assert!(rt; event.payload.as_bytes() == b"!".as_slice());
-    assert!(rt; queue.event_at(2).stream == second);
-    assert!(rt; queue.between(1, 2) == [event].as_slice());
-    assert!(rt; queue.between(3, 3).len() == 0);
+    for (stream, count) in [(&first, 2), (&second, 3), (&first, 1)] {
+        told(&rt, alloc, (&mut queue, &mut twin), stream, count)?;
+    }
+    assert!(rt; queue.len() == 6);
+    for (position, stream, seq, idx, text) in [
+        (0, &first, 0, 0, b" "),
+        (1, &first, 0, 1, b"!"),
+        (2, &second, 1, 0, b" "),
+        (4, &second, 1, 2, b"\""),
+        (5, &first, 2, 0, b" "),
+    ] {
+        let event = Event {
+            stream: *stream,
+            token: Token { seq, idx },
+            payload: Payload::new(text)?,
+        };
+        assert!(rt; position < queue.len());
+        assert!(rt; queue.event_at(position) == event, "at {position}");
+    }
+    Ok(())
+}
+
+/// An excerpt. One want of memory is answered by asking again.
+fn new_excerpt(alloc: Global) -> Result<Excerpt, AllocError> {
+    if let Ok(excerpt) = Excerpt::new(alloc) {
+        return Ok(excerpt);
+    }
+    Excerpt::new(alloc)
+}
+
+#[test]
+fn events_are_read_from_one_position_to_another(rt: HostRuntime) -> Result<(), Fail> {
+    let alloc = rt.alloc();
+    let stream = StreamId::new(b"o", b"1")?;
+    let mut queue = PartitionQueue::new(alloc, 10);
+    let mut twin = PartitionQueue::new(alloc, 10);
+    told(&rt, alloc, (&mut queue, &mut twin), &stream, 4)?;
+    assert!(rt; queue.len() == 4);
+    let mut excerpt = new_excerpt(alloc)?;
+    for (from, to) in [(0, 4), (1, 3), (2, 2)] {
+        queue.read(from, to, &mut excerpt);
+        assert!(rt; excerpt.as_slice().len() == to - from);
+        for (index, event) in excerpt.as_slice().iter().enumerate() {
+            assert!(rt; *event == queue.event_at(from + index), "from {from}");
+        }
+    }
     Ok(())
 }

@@ -1,28 +1,17 @@
--- The events of a batch, and the tokens of a log.
-use Rattle.std.proofs.Common.{◌≡◌, ◌∙◌, ap, sym, refl, ℕ, zero, suc, ◌+◌, ◌-◌, ◌<◌, ◌≤◌, inl, inr, true, List, [], ◌∷◌, ◌++◌, length, get_or, drop, append_assoc, append-nil, length-append, arith}
-use Rattle.std.proofs.lemmas.Bool.{cases_lt}
+-- The tokens of a log, and the events that are read of it.
+use Rattle.std.proofs.Common.{◌≡◌, ◌∙◌, ap, sym, refl, ℕ, suc, ◌+◌, ◌-◌, ◌<◌, ◌≤◌, inl, inr, true, List, [], ◌∷◌, ◌++◌, length, get_or, drop, take, length-append, arith}
+use Rattle.std.proofs.lemmas.Bool.{cases_lt, le-ltb, ne_eqb}
 use Rattle.std.proofs.lemmas.Bool.Decides.{nat_tests}
-use Rattle.std.proofs.lemmas.List.{drop_all, drop_more, get_or_append_left, get_or-append_right}
+use Rattle.std.proofs.lemmas.List.{get_or_append_left, get_or-append_right, get_or-drop, length-drop, length-take, take_more}
 use Rattle.stream_ident.specs.declared.event.Event.{Event}
 use Rattle.stream_ident.specs.declared.ident.StreamId.{StreamId}
 use Rattle.stream_ident.specs.declared.token.Token.{Token}
 use Rattle.stream_ident.specs.Event.{events_of, no_event}
 use Rattle.stream_ident.specs.Token.{token_lt}
 use Rattle.stream_ident.proofs.EventLemmas.{length-events_of, events_of-token}
-use Rattle.partition_queue.specs.Queue.{PlainQueue, IsLog, TokensRise}
-
--- one more event of a batch is written
-pub one_more : (stream : StreamId) (seq idx : ℕ) (payloads : List (List ℕ)) (payload : List ℕ) (done written all : List Event) → idx < length payloads → payload ≡ get_or payloads idx payload → done ++ events_of stream seq idx (drop idx payloads) ≡ all → written ≡ done ++ record { stream = stream; token = record { seq = seq; idx = idx }; payload = payload } ∷ [] → written ++ events_of stream seq (idx + 1) (drop (idx + 1) payloads) ≡ all
-one_more stream seq idx payloads payload done written all within is was now =
-    let next : idx + 1 ≡ suc idx = omega arith in
-    let front : drop idx payloads ≡ payload ∷ drop (idx + 1) payloads = drop_more payloads idx payload within ∙ ap (λ p. p ∷ drop (idx + 1) payloads) (sym is) in
-    rw (now, append_assoc, next) (rw (front, next) at was)
-
--- each event of a batch is written
-pub all_written : (stream : StreamId) (seq idx : ℕ) (payloads : List (List ℕ)) (done all : List Event) → length payloads ≤ idx → done ++ events_of stream seq idx (drop idx payloads) ≡ all → done ≡ all
-all_written stream seq idx payloads done all end was =
-    let none : drop idx payloads ≡ [] = drop_all idx payloads end in
-    sym (append-nil done) ∙ rw none at was
+use Rattle.partition_queue.specs.declared.appended.Appended.{Appended}
+use Rattle.partition_queue.specs.declared.appended.Appended.TheVariants.{Accepted}
+use Rattle.partition_queue.specs.Queue.{PlainQueue, IsLog, TokensRise, append, between, event_at}
 
 before_by_seq : (a b : Token) → a.seq < b.seq → token_lt a b ≡ true
 before_by_seq a b less = grind (arith, nat_tests)
@@ -77,3 +66,24 @@ log_with q stream payloads events is log some fits =
           };
     }
     )
+
+-- a batch that fits is accepted
+pub accepts : (q : PlainQueue) (stream : StreamId) (payloads : List (List ℕ)) → 0 < length payloads → length payloads ≤ 64 → length q.events + length payloads ≤ q.limit
+    → ◌≡◌ {A = PlainQueue × Appended} (record { events = q.events ++ events_of stream q.batches 0 payloads; batches = q.batches + 1; limit = q.limit }, Accepted q.batches) (append q stream payloads)
+accepts q stream payloads some few fits =
+    let next : q.batches + 1 ≡ suc q.batches = omega arith in
+    rw (ne_eqb (length payloads) 0 (λ e. omega arith), le-ltb 64 (length payloads) few, le-ltb q.limit (length q.events + length payloads) fits, next) refl
+
+-- one more event is read
+pub read_more : (q : PlainQueue) (from position : ℕ) (read now : List Event) (event : Event) → from ≤ position → position < length q.events → read ≡ between q from position → event ≡ event_at q position → now ≡ read ++ event ∷ [] → now ≡ between q from (position + 1)
+read_more q from position read now event order within was is push =
+    let next : (position + 1) - from ≡ (position - from) + 1 = omega arith in
+    let at : from + (position - from) ≡ position = omega arith in
+    let left = length-drop from q.events in
+    let more : take ((position - from) + 1) (drop from q.events) ≡ take (position - from) (drop from q.events) ++ get_or (drop from q.events) (position - from) no_event ∷ [] =
+    take_more (drop from q.events) (position - from) no_event (omega (arith, left)) in
+    let here : get_or (drop from q.events) (position - from) no_event ≡ event_at q position = get_or-drop from q.events (position - from) no_event ∙ ap (λ n. get_or q.events n no_event) at in
+    push ∙ ((λ i. was i ++ (is ∙ sym here) i ∷ []) ∙ (sym more ∙ ap (λ n. take n (drop from q.events)) (sym next)))
+
+pub length-between : (q : PlainQueue) (from to : ℕ) → to ≤ length q.events → length (between q from to) ≡ to - from
+length-between q from to within = omega (arith, length-take (to - from) (drop from q.events), length-drop from q.events)

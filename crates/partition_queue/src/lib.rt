@@ -5,7 +5,11 @@
 #![tactic(auto)]
 
 mod appended;
+mod entry;
+mod excerpt;
 mod queue;
+mod streams;
 
 pub use appended::Appended;
+pub use excerpt::Excerpt;
 pub use queue::PartitionQueue;

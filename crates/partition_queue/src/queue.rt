@@ -1,10 +1,16 @@
 //! The queue of a partition.
-ghost use Rattle.std.specs.Prelude.{◌≡◌, ◌+◌, ◌-◌, ◌<◌, ◌≤◌, ◌↔◌, ◌++◌, [], true, length, IsTrue, OnErr, vec_len, vec_capacity};
-ghost use Rattle.stream_ident.specs.Event.{events_of};
+ghost use Rattle.std.specs.Prelude.{◌≡◌, ◌+◌, ◌-◌, ◌*◌, ◌<◌, ◌≤◌, ◌↔◌, ◌++◌, [], true, length, IsTrue, OnErr, vec_len, vec_capacity};
+ghost use Rattle.std.specs.List.{AllByRecursion, concat};
+ghost use Rattle.stream_ident.specs.Alphabet.{IsPayload};
+ghost use Rattle.partition_queue.specs.Log.{entries_of};
 ghost use Rattle.partition_queue.specs.Queue.{append, between, empty, event_at, takes_memory, token_at, TokensRise};
 ghost use Rattle.stream_ident.specs.Words.{Performs};
 
 use crate::appended::Appended;
+use crate::entry::{Entry, event_of};
+use crate::excerpt::Excerpt;
+use crate::streams::number_of;
+use indexmap::IndexSet;
 use std::alloc::{AllocError, Global};
 use std::marker::Model;
 use stream_ident::{Batch, Event, Payload, StreamId, Token};
@@ -12,15 +18,22 @@ use stream_ident::{Batch, Event, Payload, StreamId, Token};
 /// The most payloads of a batch.
 const MAX_BATCH: usize = 64;
 
+/// The most bytes of a payload.
+const MAX_PAYLOAD: usize = 256;
+
 /// The log of a partition: the events of the batches that it accepted, in order, at the positions 0, 1, 2
 /// and so on.
 ///
 /// A contract sees it as the events, the number of batches that it accepted, and how many events it may
 /// have. Its room in memory is no part of it. An event stays at its position: none is ever changed or
 /// taken out.
+///
+/// It keeps each stream once, all payloads in one row of bytes, and 16 bytes more for each event.
 #[derive(Debug)]
 pub struct PartitionQueue {
-    events: Vec<Event>,
+    streams: IndexSet<StreamId>,
+    bytes: Vec<u8>,
+    entries: Vec<Entry>,
     batches: u64,
     limit: usize,
 }
@@ -28,7 +41,9 @@ pub struct PartitionQueue {
 impl Drop for PartitionQueue {
     fn drop(self) {
         let Self {
-            events: _,
+            streams: _,
+            bytes: _,
+            entries: _,
             batches: _,
             limit: _,
         } = self;
@@ -36,13 +51,14 @@ impl Drop for PartitionQueue {
 }
 
 impl Model for PartitionQueue {
+    ghost use Rattle.partition_queue.specs.Log.{events_in, IsKept};
     ghost use Rattle.partition_queue.specs.Queue.{PlainQueue, IsLog};
 
     ghost Value = { PlainQueue };
 
-    ghost view = { λ q. record { events = q.events.items; batches = q.batches; limit = q.limit } };
+    ghost view = { λ q. record { events = events_in q.streams.keys q.bytes.items q.entries.items; batches = q.batches; limit = q.limit } };
 
-    ghost invariant = { λ q. IsLog (record { events = q.events.items; batches = q.batches; limit = q.limit }) };
+    ghost invariant = { λ q. IsLog (record { events = events_in q.streams.keys q.bytes.items q.entries.items; batches = q.batches; limit = q.limit }) × IsKept q.streams.keys q.bytes.items q.entries.items };
 }
 
 impl PartitionQueue {
@@ -52,7 +68,9 @@ impl PartitionQueue {
         ensures { result ≡ empty limit }
     {
         PartitionQueue {
-            events: Vec::new(alloc),
+            streams: IndexSet::new(alloc),
+            bytes: Vec::new(alloc),
+            entries: Vec::new(alloc),
             batches: 0,
             limit,
         }
@@ -61,8 +79,8 @@ impl PartitionQueue {
     /// Puts the events of a batch at the end, all or none of them, and gives the number of the batch, or
     /// why it was refused. A batch has 1 to 64 payloads. A refusal changes nothing and takes no memory.
     ///
-    /// Each event is written once, into its place. When the room is used up the queue moves into a larger
-    /// one, which copies every event.
+    /// The stream is looked up once, and each payload is written once, into its place. Where the room is used
+    /// up the queue moves into a larger one, which copies all that it keeps.
     ///
     /// # Errors
     /// The call failed to allocate, and nothing has changed. That can happen only at a batch that would be
@@ -83,9 +101,18 @@ impl PartitionQueue {
         if payloads.len() > self.limit - self.len() {
             return Ok(Appended::QueueFull);
         }
-        self.events.reserve(payloads.len())?;
+        self.entries.reserve(payloads.len())?;
+        self.bytes.reserve(MAX_PAYLOAD * payloads.len())?;
+        // The stream comes last: what is reserved before it is no change.
+        let stream = number_of(&mut self.streams, stream)?;
         let seq = self.batches;
-        push_events(&mut self.events, &stream, seq, payloads);
+        push_events(
+            &mut self.entries,
+            &mut self.bytes,
+            stream,
+            seq as u32,
+            payloads,
+        );
         self.batches = seq + 1;
         Ok(Appended::Accepted { seq })
     }
@@ -96,14 +123,14 @@ impl PartitionQueue {
         ensures limit { result ≤ self.now.limit }
         ensures rising { TokensRise self.now }
     {
-        self.events.len()
+        self.entries.len()
     }
 
     /// Whether there are no events.
     pub fn is_empty(&self) -> bool
         ensures { IsTrue result ↔ (self.now.events ≡ []) }
     {
-        self.events.is_empty()
+        self.entries.is_empty()
     }
 
     /// How many batches were accepted: the number of the next one.
@@ -114,12 +141,12 @@ impl PartitionQueue {
         self.batches
     }
 
-    /// The event at a position.
-    pub fn event_at(&self, position: usize) -> &Event
+    /// The event at a position. It is put together of what the log keeps of it.
+    pub fn event_at(&self, position: usize) -> Event
         requires { position < length self.now.events }
-        ensures { result.now ≡ event_at self.now position }
+        ensures { result ≡ event_at self.now position }
     {
-        &self.events[position]
+        event_of(&self.streams, &self.bytes, &self.entries[position])
     }
 
     /// The token of the event at a position, and at the end the token that the next event gets.
@@ -127,8 +154,8 @@ impl PartitionQueue {
         requires { position ≤ length self.now.events }
         ensures { result ≡ token_at self.now position }
     {
-        match self.events.get(position) {
-            Some(event) => event.token,
+        match self.entries.get(position) {
+            Some(entry) => entry.token(),
             None => Token {
                 seq: self.batches,
                 idx: 0,
@@ -136,31 +163,47 @@ impl PartitionQueue {
         }
     }
 
-    /// The events from one position up to another, that at `to` left out.
-    pub fn between(&self, from: usize, to: usize) -> &[Event]
+    /// Reads the events from one position up to another, that at `to` left out, in place of those that the
+    /// excerpt had. It takes no memory.
+    pub fn read(&self, from: usize, to: usize, excerpt: &mut Excerpt)
         requires order { from ≤ to }
         requires end { to ≤ length self.now.events }
-        ensures events { result.now ≡ between self.now from to }
-        ensures count { length result.now ≡ to - from }
+        requires few { to - from ≤ 256 }
+        ensures events { excerpt.new ≡ between self.now from to }
+        ensures count { length excerpt.new ≡ to - from }
     {
-        &self.events[from..to]
+        excerpt.clear();
+        for position in from..to {
+            excerpt.push(self.event_at(position));
+        }
     }
 }
 
 /// Writes the events of a batch into room that is there.
-fn push_events(events: &mut Vec<Event>, stream: &StreamId, seq: u64, payloads: &[Payload])
+fn push_events(
+    entries: &mut Vec<Entry>,
+    bytes: &mut Vec<u8>,
+    stream: u32,
+    seq: u32,
+    payloads: &[Payload],
+)
     requires few { length payloads.now ≤ 64 }
-    requires room { vec_len events.old + length payloads.now ≤ vec_capacity events.old }
-    ensures { events.new.items ≡ events.old.items ++ events_of stream.now seq 0 payloads.now }
+    requires starts { length bytes.old.items ≤ 256000000 }
+    requires room { vec_len entries.old + length payloads.now ≤ vec_capacity entries.old }
+    requires bytes { vec_len bytes.old + 256 * length payloads.now ≤ vec_capacity bytes.old }
+    ensures entries { entries.new.items ≡ entries.old.items ++ entries_of stream seq 0 (length bytes.old.items) payloads.now }
+    ensures bytes { bytes.new.items ≡ bytes.old.items ++ concat payloads.now }
+    ensures payloads { AllByRecursion IsPayload payloads.now }
 {
     for (idx, payload) in payloads.iter().enumerate() {
-        events.push_reserved(Event {
-            stream: *stream,
-            token: Token {
-                seq,
-                idx: idx as u32,
-            },
-            payload: *payload,
+        let text = payload.as_bytes();
+        entries.push_reserved(Entry {
+            stream,
+            seq,
+            start: bytes.len() as u32,
+            len: text.len() as u16,
+            idx: idx as u16,
         });
+        bytes.extend_from_slice(text).unwrap();
     }
 }

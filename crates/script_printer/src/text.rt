@@ -193,7 +193,7 @@ fn push_events_at(
     ensures { Writes out.old.items out.new.items result (flat_map event_text (events_at partition.now.log positions.now)) }
 {
     for position in positions {
-        push_event(partition.event_at(*position), out)?;
+        push_event(&partition.event_at(*position), out)?;
     }
     Ok(())
 }

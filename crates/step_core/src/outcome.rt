@@ -69,9 +69,9 @@ fn events_of(queue: &PartitionQueue, positions: &Row<usize>) -> Events
     ensures { result ≡ events_at queue.now.events positions.now }
 {
     let positions = positions.as_slice();
-    let mut events = Row::of(*queue.event_at(positions[0]));
+    let mut events = Row::of(queue.event_at(positions[0]));
     for position in &positions[1..] {
-        events.push(*queue.event_at(*position));
+        events.push(queue.event_at(*position));
     }
     events
 }

@@ -25,7 +25,7 @@ use crate::reading::{
 };
 use crate::stepping::step;
 use grain_table::GrainTable;
-use partition_queue::PartitionQueue;
+use partition_queue::{Excerpt, PartitionQueue};
 use pulling_agent::Agent;
 use std::alloc::{AllocError, Global};
 use std::fmt;
@@ -39,11 +39,15 @@ use subscription_table::SubscriptionTable;
 /// A contract sees it as the plain partition of the definitions.
 pub struct Partition {
     parts: Parts,
+    excerpt: Excerpt,
 }
 
 impl Drop for Partition {
     fn drop(self) {
-        let Self { parts: _ } = self;
+        let Self {
+            parts: _,
+            excerpt: _,
+        } = self;
     }
 }
 
@@ -81,6 +85,7 @@ impl Partition {
                 turns: 0,
                 limits,
             },
+            excerpt: Excerpt::new(alloc)?,
         })
     }
 
@@ -148,7 +153,7 @@ impl Partition {
         ensures of_log { IfOk result (IsOfLog self.new.log) }
         ensures memory { OnErr result (may_allocate self.old op.now ≡ true) }
     {
-        let outcome = step(&mut self.parts, alloc, op);
+        let outcome = step(&mut self.parts, &mut self.excerpt, alloc, op);
         // A table promises with its length that no number is given twice, and that its rows agree. That is
         // asked here, once for all operations: each starts from parts that `Agrees` speaks of.
         let _lengths = (self.parts.subs.len(), self.parts.grains.len());
@@ -166,9 +171,9 @@ impl Partition {
     }
 
     /// The event at a position of the log.
-    pub fn event_at(&self, position: usize) -> &Event
+    pub fn event_at(&self, position: usize) -> Event
         requires { position < length self.now.log }
-        ensures { result.now ≡ slice_index_or self.now.log position no_event }
+        ensures { result ≡ slice_index_or self.now.log position no_event }
     {
         self.parts.queue.event_at(position)
     }

@@ -8,25 +8,28 @@ ghost use Rattle.pulling_agent.specs.Agent.{IsTakeable};
 ghost use Rattle.queue_cache.specs.Cache.{high, room};
 ghost use Rattle.step_core.specs.Assembly.{Agrees, IsAssembled};
 ghost use Rattle.step_core.specs.PlainOf.{plain_of};
-ghost use Rattle.step_core.specs.Taking.{filled, taken};
+ghost use Rattle.step_core.specs.Taking.{ahead, filled, taken};
 ghost use Rattle.step_core.specs.Replied.{replied, reply_of};
 ghost use Rattle.stream_model.specs.declared.reply.Reply.TheVariants.{Pulled};
 
 use crate::outcome::Told;
 use crate::parts::Parts;
 use crate::reading::least_resume;
+use partition_queue::Excerpt;
 use pubsub_registry::Implied;
 use pulling_agent::{Plan, StaleAgent};
 use std::alloc::{AllocError, Global};
-use stream_ident::SubName;
+use stream_ident::{Event, SubName};
 
-/// The agent takes events from the queue into its cache, and the rules make subscriptions of them.
+/// The agent takes events from the queue into its cache, and the rules make subscriptions of them. On their
+/// way the events stand in an excerpt of the log, so that they need no further memory.
 ///
 /// # Errors
 /// The call failed to allocate, and nothing has changed. That can happen only where the events would be taken
 /// and the rules would make a subscription.
 pub(crate) fn pull(
     parts: &mut Parts,
+    excerpt: &mut Excerpt,
     alloc: Global,
     generation: u64,
     max: u32,
@@ -45,7 +48,7 @@ pub(crate) fn pull(
     match parts.agent.plan_pull(max as usize, len, least) {
         Plan::Dry => Ok(Told::Dry),
         Plan::Pressed => Ok(Told::Pressed { by: slowest(parts) }),
-        Plan::Take { drops, count } => take(parts, alloc, drops, count),
+        Plan::Take { drops, count } => take(parts, excerpt, alloc, drops, count),
     }
 }
 
@@ -61,7 +64,13 @@ fn slowest(parts: &Parts) -> SubName
 /// # Errors
 /// The call failed to allocate, and nothing has changed. That can happen only where the events would be
 /// taken and the rules would make a subscription.
-fn take(parts: &mut Parts, alloc: Global, drops: usize, count: usize) -> Result<Told, AllocError>
+fn take(
+    parts: &mut Parts,
+    excerpt: &mut Excerpt,
+    alloc: Global,
+    drops: usize,
+    count: usize,
+) -> Result<Told, AllocError>
     requires agrees { Agrees parts.old }
     requires takeable { IsTakeable parts.old.agent (length parts.old.queue.events) (slowest (plain_of parts.old)) drops count }
     ensures assembled { IsAssembled parts.new }
@@ -70,25 +79,26 @@ fn take(parts: &mut Parts, alloc: Global, drops: usize, count: usize) -> Result<
     ensures makes { OnErr result (length (plain_of parts.old).subs < length (taken (plain_of parts.old) drops count).0.subs) }
 {
     let high = parts.agent.cache().high();
-    let events = parts.queue.between(high, high + count);
+    parts.queue.read(high, high + count, excerpt);
+    let events = excerpt.as_slice();
     // The rules come first: they may find too many subscriptions, or no memory.
     match parts.subs.imply(alloc, events, high)? {
         Implied::TooMany => Ok(Told::TooMany),
-        Implied::Implied => Ok(fill(parts, drops, count)),
+        Implied::Implied => Ok(fill(parts, drops, count, events)),
     }
 }
 
-/// Drops blocks of the cache, and takes the next events into it.
-fn fill(parts: &mut Parts, drops: usize, count: usize) -> Told
+/// Drops blocks of the cache, and takes so many events into it, which are the next of the queue.
+fn fill(parts: &mut Parts, drops: usize, count: usize, events: &[Event]) -> Told
     requires blocks { 64 * drops ≤ length parts.old.agent.cache.events }
     requires room { count ≤ room parts.old.agent.cache + 64 * drops }
     requires there { high parts.old.agent.cache + count ≤ length parts.old.queue.events }
     requires few { length parts.old.queue.events ≤ 1000000 }
+    requires events { events.now ≡ ahead parts.old count }
+    requires counted { length events.now ≡ count }
     ensures parts { parts.new ≡ filled parts.old drops count }
     ensures reply { reply_of result ≡ Pulled count (token_at (plain_of parts.new) parts.new.agent.cache.low) (token_at (plain_of parts.new) (high parts.new.agent.cache)) }
 {
-    let high = parts.agent.cache().high();
-    let events = parts.queue.between(high, high + count);
     parts.agent.pull(drops, events);
     let cache = parts.agent.cache();
     Told::Pulled {

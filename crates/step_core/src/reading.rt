@@ -195,7 +195,7 @@ fn events_at(
 {
     let mut events = Vec::with_capacity(alloc, positions.len())?;
     for position in positions {
-        events.push(*queue.event_at(*position))?;
+        events.push(queue.event_at(*position))?;
     }
     Ok(events)
 }

@@ -21,6 +21,7 @@ use crate::parts::Parts;
 use crate::publishing::{add_rule, publish, subscribe, unsubscribe};
 use crate::pulling::pull;
 use crate::turns::{begin, commit, deactivate};
+use partition_queue::Excerpt;
 use std::alloc::{AllocError, Global};
 use stream_model::Op;
 
@@ -36,7 +37,12 @@ enum Kind {
 }
 
 /// Does one operation on the parts of a partition.
-pub(crate) fn step(parts: &mut Parts, alloc: Global, op: &Op) -> Result<Outcome, AllocError>
+pub(crate) fn step(
+    parts: &mut Parts,
+    excerpt: &mut Excerpt,
+    alloc: Global,
+    op: &Op,
+) -> Result<Outcome, AllocError>
     requires { Agrees parts.old }
     ensures assembled { IsAssembled parts.new }
     ensures performs { Performs (plain_of parts.old) (plain_of parts.new) (answered parts.new.queue.events result) (step (plain_of parts.old) op.now) }
@@ -45,7 +51,7 @@ pub(crate) fn step(parts: &mut Parts, alloc: Global, op: &Op) -> Result<Outcome,
 {
     match kind_of(op) {
         Kind::Beginning => begin_turn(parts, op),
-        Kind::Allocating => outcome_of_told(allocate(parts, alloc, op)),
+        Kind::Allocating => outcome_of_told(allocate(parts, excerpt, alloc, op)),
         Kind::Free => outcome_of_told(Ok(tell(parts, op))),
     }
 }
@@ -93,7 +99,12 @@ fn begin_turn(parts: &mut Parts, op: &Op) -> Result<Outcome, AllocError>
 ///
 /// # Errors
 /// They are those of the operation.
-fn allocate(parts: &mut Parts, alloc: Global, op: &Op) -> Result<Told, AllocError>
+fn allocate(
+    parts: &mut Parts,
+    excerpt: &mut Excerpt,
+    alloc: Global,
+    op: &Op,
+) -> Result<Told, AllocError>
     requires agrees { Agrees parts.old }
     requires kind { kind_of op.now ≡ Allocating }
     ensures assembled { IsAssembled parts.new }
@@ -108,7 +119,7 @@ fn allocate(parts: &mut Parts, alloc: Global, op: &Op) -> Result<Told, AllocErro
             start,
         } => subscribe(parts, alloc, *stream, *grain, *start),
         Op::AddRule { kind, namespace } => add_rule(parts, alloc, *kind, *namespace),
-        Op::Pull { generation, max } => pull(parts, alloc, *generation, *max),
+        Op::Pull { generation, max } => pull(parts, excerpt, alloc, *generation, *max),
         Op::Deliver { generation, sub } => deliver(parts, alloc, *generation, sub),
         Op::Commit {
             grain,

@@ -1,7 +1,7 @@
 //! A table with what is asked of it.
 ghost use Rattle.std.specs.Prelude.{◌≡◌, ◌<◌, ◌≤◌, ◌↔◌, All, IsTrue};
 
-use partition_queue::PartitionQueue;
+use partition_queue::{Excerpt, PartitionQueue};
 use pubsub_registry::{Added, Implied, Registration, RuleAdded};
 use queue_cache::QueueCache;
 use std::alloc::{AllocError, Global};
@@ -125,9 +125,9 @@ impl Counted {
         to: usize,
         position: usize,
     ) -> Result<Implied, AllocError> {
-        assert!(rt; from <= to && to <= log.queue.len() && to <= 256 && position < 1000);
-        self.table
-            .imply(alloc, log.queue.between(from, to), position)
+        let events = log.events.as_slice();
+        assert!(rt; from <= to && to <= events.len() && to <= 256 && position < 1000);
+        self.table.imply(alloc, &events[from..to], position)
     }
 
     fn commit(
@@ -178,15 +178,20 @@ pub(crate) fn are_below(numbers: &[usize], end: usize) -> bool
     numbers.iter().all(|number| *number < end)
 }
 
-/// The log of a partition, and a cache that has all its events.
+/// The log of a partition, its events, and a cache that has them all.
 pub(crate) struct Log {
     pub(crate) queue: PartitionQueue,
+    events: Excerpt,
     pub(crate) cache: QueueCache,
 }
 
 impl Drop for Log {
     fn drop(self) {
-        let Self { queue: _, cache: _ } = self;
+        let Self {
+            queue: _,
+            events: _,
+            cache: _,
+        } = self;
     }
 }
 
@@ -202,9 +207,18 @@ impl Log {
             Ok(cache) => cache,
             Err(_) => QueueCache::new(alloc, 4, 0).expect(rt, "memory"),
         };
+        let mut events = match Excerpt::new(alloc) {
+            Ok(events) => events,
+            Err(_) => Excerpt::new(alloc).expect(rt, "memory"),
+        };
         assert!(rt; queue.len() <= 256);
-        cache.take(queue.between(0, queue.len()));
-        Log { queue, cache }
+        queue.read(0, queue.len(), &mut events);
+        cache.take(events.as_slice());
+        Log {
+            queue,
+            events,
+            cache,
+        }
     }
 }
 

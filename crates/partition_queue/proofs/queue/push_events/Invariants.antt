@@ -1,11 +1,17 @@
-use Rattle.std.proofs.Common.{◌≡◌, ◌+◌, ◌-◌, ◌≤◌, ◌++◌, length, drop, vec_len, vec_capacity}
-use Rattle.stream_ident.specs.Event.{events_of}
+use Rattle.std.proofs.Common.{◌≡◌, ◌+◌, ◌-◌, ◌*◌, ◌≤◌, ◌++◌, length, drop, take, vec_len, vec_capacity}
+use Rattle.std.specs.List.{AllByRecursion, concat}
+use Rattle.stream_ident.specs.Alphabet.{IsPayload}
+use Rattle.partition_queue.specs.Log.{entries_of}
 use Rattle.partition_queue.proofs.queue.push_events.Given as goal
 
--- with the events of the payloads that are left the log is whole, and there is room for them
+-- with the entries and the bytes of the payloads that are left the log is whole, and there is room for them
 abbrev pub invariant-loop-idx : goal.invariant-loop-idx
 invariant-loop-idx l =
     record {
-      whole : l.events.items ++ events_of l.stream l.seq l.idx (drop l.idx l.payloads) ≡ l.fn.events.items ++ events_of l.stream l.seq 0 l.payloads;
-      room : vec_len l.events + (length l.payloads - l.idx) ≤ vec_capacity l.events;
+      entries : l.entries.items ++ entries_of l.stream l.seq l.idx (length l.bytes.items) (drop l.idx l.payloads) ≡ l.fn.entries.items ++ entries_of l.stream l.seq 0 (length l.fn.bytes.items) l.payloads;
+      bytes : l.bytes.items ++ concat (drop l.idx l.payloads) ≡ l.fn.bytes.items ++ concat l.payloads;
+      payloads : AllByRecursion IsPayload (take l.idx l.payloads);
+      room : vec_len l.entries + (length l.payloads - l.idx) ≤ vec_capacity l.entries;
+      bytes_room : vec_len l.bytes + 256 * (length l.payloads - l.idx) ≤ vec_capacity l.bytes;
+      starts : length l.bytes.items ≤ 256000000 + 256 * l.idx;
     }

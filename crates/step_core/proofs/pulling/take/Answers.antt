@@ -11,54 +11,54 @@ pub returns-in_err-imply-clause-memory : goal.returns-in_err-imply-clause-memory
 returns-in_err-imply-clause-memory c =
     let parts = c.args.parts.now in
     let top : c.high-high.result ≡ high parts.agent.cache = c.high-high.ensures ∙ ap high c.cache.ensures in
-    let seen : c.between-events.result.now ≡ ahead parts c.args.count = c.between-events.ensures.events ∙ ap (λ from. between parts.queue from (from + c.args.count)) top in
+    let seen : c.as_slice-events.result.now ≡ ahead parts c.args.count = c.as_slice-events.ensures ∙ c.read.ensures.events ∙ ap (λ from. between parts.queue from (from + c.args.count)) top in
     take-memory parts c.args.drops c.args.count c.from_residual.result c.requires.agrees.assembled (sym c.requires.agrees.records.long)
-    (makes-more parts.subs (ahead parts c.args.count) c.between-events.result.now c.high-high.result seen c.in_err-imply.ensures.memory).0
+    (makes-more parts.subs (ahead parts c.args.count) c.as_slice-events.result.now c.high-high.result seen c.in_err-imply.ensures.memory).0
 
 pub returns-in_err-imply-clause-makes : goal.returns-in_err-imply-clause-makes
 returns-in_err-imply-clause-makes c =
     let parts = c.args.parts.now in
     let top : c.high-high.result ≡ high parts.agent.cache = c.high-high.ensures ∙ ap high c.cache.ensures in
-    let seen : c.between-events.result.now ≡ ahead parts c.args.count = c.between-events.ensures.events ∙ ap (λ from. between parts.queue from (from + c.args.count)) top in
-    let more = makes-more parts.subs (ahead parts c.args.count) c.between-events.result.now c.high-high.result seen c.in_err-imply.ensures.memory in
+    let seen : c.as_slice-events.result.now ≡ ahead parts c.args.count = c.as_slice-events.ensures ∙ c.read.ensures.events ∙ ap (λ from. between parts.queue from (from + c.args.count)) top in
+    let more = makes-more parts.subs (ahead parts c.args.count) c.as_slice-events.result.now c.high-high.result seen c.in_err-imply.ensures.memory in
     take-makes parts c.args.drops c.args.count c.from_residual.result c.requires.agrees.assembled (sym c.requires.agrees.records.long) more.0 more.1
 
 pub returns-in-TooMany-clause-assembled : goal.returns-in-TooMany-clause-assembled
 returns-in-TooMany-clause-assembled c =
     let parts = c.args.parts.now in
     let top : c.high-high.result ≡ high parts.agent.cache = c.high-high.ensures ∙ ap high c.cache.ensures in
-    let seen : c.between-events.result.now ≡ ahead parts c.args.count = c.between-events.ensures.events ∙ ap (λ from. between parts.queue from (from + c.args.count)) top in
+    let seen : c.as_slice-events.result.now ≡ ahead parts c.args.count = c.as_slice-events.ensures ∙ c.read.ensures.events ∙ ap (λ from. between parts.queue from (from + c.args.count)) top in
     let makes : MakesIs parts.subs c.imply.new.self (ahead parts c.args.count) (high parts.agent.cache) implied_told.TooMany =
     subst (MakesIs parts.subs c.imply.new.self (ahead parts c.args.count) (high parts.agent.cache)) c.in-TooMany.is
-    (makes-is parts.subs c.imply.new.self (ahead parts c.args.count) c.between-events.result.now (high parts.agent.cache) c.high-high.result c.in_ok-imply.field-0 seen top c.in_ok-imply.ensures.performs) in
+    (makes-is parts.subs c.imply.new.self (ahead parts c.args.count) c.as_slice-events.result.now (high parts.agent.cache) c.high-high.result c.in_ok-imply.field-0 seen top c.in_ok-imply.ensures.performs) in
     many-assembled parts c.imply.new.self c.args.count c.requires.agrees.assembled makes
 
 pub returns-in-TooMany-clause-performs : goal.returns-in-TooMany-clause-performs
 returns-in-TooMany-clause-performs c =
     let parts = c.args.parts.now in
     let top : c.high-high.result ≡ high parts.agent.cache = c.high-high.ensures ∙ ap high c.cache.ensures in
-    let seen : c.between-events.result.now ≡ ahead parts c.args.count = c.between-events.ensures.events ∙ ap (λ from. between parts.queue from (from + c.args.count)) top in
+    let seen : c.as_slice-events.result.now ≡ ahead parts c.args.count = c.as_slice-events.ensures ∙ c.read.ensures.events ∙ ap (λ from. between parts.queue from (from + c.args.count)) top in
     let makes : MakesIs parts.subs c.imply.new.self (ahead parts c.args.count) (high parts.agent.cache) implied_told.TooMany =
     subst (MakesIs parts.subs c.imply.new.self (ahead parts c.args.count) (high parts.agent.cache)) c.in-TooMany.is
-    (makes-is parts.subs c.imply.new.self (ahead parts c.args.count) c.between-events.result.now (high parts.agent.cache) c.high-high.result c.in_ok-imply.field-0 seen top c.in_ok-imply.ensures.performs) in
+    (makes-is parts.subs c.imply.new.self (ahead parts c.args.count) c.as_slice-events.result.now (high parts.agent.cache) c.high-high.result c.in_ok-imply.field-0 seen top c.in_ok-imply.ensures.performs) in
     many-performs parts c.imply.new.self c.args.drops c.args.count c.requires.agrees.assembled (sym c.requires.agrees.records.long) makes
 
 pub returns-in-Implied-clause-assembled : goal.returns-in-Implied-clause-assembled
 returns-in-Implied-clause-assembled c =
     let parts = c.args.parts.now in
     let top : c.high-high.result ≡ high parts.agent.cache = c.high-high.ensures ∙ ap high c.cache.ensures in
-    let seen : c.between-events.result.now ≡ ahead parts c.args.count = c.between-events.ensures.events ∙ ap (λ from. between parts.queue from (from + c.args.count)) top in
+    let seen : c.as_slice-events.result.now ≡ ahead parts c.args.count = c.as_slice-events.ensures ∙ c.read.ensures.events ∙ ap (λ from. between parts.queue from (from + c.args.count)) top in
     let makes : MakesIs parts.subs c.imply.new.self (ahead parts c.args.count) (high parts.agent.cache) implied_told.Implied =
     subst (MakesIs parts.subs c.imply.new.self (ahead parts c.args.count) (high parts.agent.cache)) c.in-Implied.is
-    (makes-is parts.subs c.imply.new.self (ahead parts c.args.count) c.between-events.result.now (high parts.agent.cache) c.high-high.result c.in_ok-imply.field-0 seen top c.in_ok-imply.ensures.performs) in
+    (makes-is parts.subs c.imply.new.self (ahead parts c.args.count) c.as_slice-events.result.now (high parts.agent.cache) c.high-high.result c.in_ok-imply.field-0 seen top c.in_ok-imply.ensures.performs) in
     take-assembled parts c.fill.new.parts c.imply.new.self c.args.drops c.args.count c.requires.agrees.assembled (sym c.requires.agrees.records.long) (c.requires.takeable.blocks, c.requires.takeable.there) makes c.fill.ensures.parts
 
 pub returns-in-Implied-clause-performs : goal.returns-in-Implied-clause-performs
 returns-in-Implied-clause-performs c =
     let parts = c.args.parts.now in
     let top : c.high-high.result ≡ high parts.agent.cache = c.high-high.ensures ∙ ap high c.cache.ensures in
-    let seen : c.between-events.result.now ≡ ahead parts c.args.count = c.between-events.ensures.events ∙ ap (λ from. between parts.queue from (from + c.args.count)) top in
+    let seen : c.as_slice-events.result.now ≡ ahead parts c.args.count = c.as_slice-events.ensures ∙ c.read.ensures.events ∙ ap (λ from. between parts.queue from (from + c.args.count)) top in
     let makes : MakesIs parts.subs c.imply.new.self (ahead parts c.args.count) (high parts.agent.cache) implied_told.Implied =
     subst (MakesIs parts.subs c.imply.new.self (ahead parts c.args.count) (high parts.agent.cache)) c.in-Implied.is
-    (makes-is parts.subs c.imply.new.self (ahead parts c.args.count) c.between-events.result.now (high parts.agent.cache) c.high-high.result c.in_ok-imply.field-0 seen top c.in_ok-imply.ensures.performs) in
+    (makes-is parts.subs c.imply.new.self (ahead parts c.args.count) c.as_slice-events.result.now (high parts.agent.cache) c.high-high.result c.in_ok-imply.field-0 seen top c.in_ok-imply.ensures.performs) in
     take-performs parts c.fill.new.parts c.imply.new.self c.args.drops c.args.count (reply_of c.fill.result) c.requires.agrees.assembled (sym c.requires.agrees.records.long) (c.requires.takeable.blocks, c.requires.takeable.there) makes c.fill.ensures.parts c.fill.ensures.reply

@@ -1,4 +1,4 @@
-use Rattle.std.proofs.Common.{◌≡◌, List, [], ◌∷◌, ◌++◌, ◌<◌, reverse, length, refl, sym, ap, ◌∙◌, append_assoc, subst, arith, length-append, inl, inr, true}
+use Rattle.std.proofs.Common.{◌≡◌, List, [], ◌∷◌, ◌++◌, ◌<◌, reverse, length, sym, ap, ◌∙◌, append_assoc, subst, arith, length-append, inr, true}
 use Rattle.std.proofs.lemmas.Bool.{eqb-false}
 use Rattle.std.proofs.lemmas.List.{reverse-append}
 use Rattle.stream_model.specs.declared.op.Op.{Op}
