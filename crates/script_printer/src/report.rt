@@ -1,7 +1,8 @@
 //! The report: what each subscription has handled.
-ghost use Rattle.std.specs.Prelude.{◌≡◌, ◌++◌, OnOk, OnErr};
+ghost use Rattle.std.specs.Prelude.{◌≡◌, ◌<◌, ◌++◌, length, OnOk, OnErr};
 ghost use Rattle.std.specs.Fmt.{decimal};
-ghost use Rattle.std.specs.List.{flat_map};
+ghost use Rattle.std.specs.List.{AllByRecursion, flat_map};
+ghost use Rattle.stream_ident.specs.Event.{events_at};
 ghost use Rattle.script_printer.specs.Report.{queue_report, report_of, summary_text, binding_text, open_text, closed_text, handled_line};
 ghost use Rattle.script_parser.specs.Spelling.{sub_text};
 ghost use Rattle.script_printer.specs.Writing.{Writes};
@@ -55,11 +56,10 @@ fn push_queue(
     ensures { Writes out.old.items out.new.items result (queue_report queue partition.now) }
 {
     let subs = partition.subs(alloc)?;
-    push_subs(alloc, queue, partition, &subs, out)
+    push_subs(queue, partition, &subs, out)
 }
 
 fn push_subs(
-    alloc: Global,
     queue: usize,
     partition: &Partition,
     subs: &[SubSummary],
@@ -68,13 +68,12 @@ fn push_subs(
     ensures { Writes out.old.items out.new.items result (flat_map (summary_text queue partition.now) subs.now) }
 {
     for sub in subs {
-        push_sub(alloc, queue, partition, sub, out)?;
+        push_sub(queue, partition, sub, out)?;
     }
     Ok(())
 }
 
 fn push_sub(
-    alloc: Global,
     queue: usize,
     partition: &Partition,
     sub: &SubSummary,
@@ -85,8 +84,8 @@ fn push_sub(
     if !sub.is_open {
         return push_closed(queue, &sub.name, out);
     }
-    let events = partition.handled(alloc, &sub.name)?;
-    push_open(queue, sub, &events, out)
+    let positions = partition.handled_positions(&sub.name);
+    push_open(queue, sub, partition, positions, out)
 }
 
 /// Appends the line of a subscription that was unsubscribed.
@@ -109,15 +108,17 @@ fn push_sub_name(queue: usize, name: &SubName, out: &mut Vec<u8>) -> Result<(), 
 fn push_open(
     queue: usize,
     sub: &SubSummary,
-    events: &[Event],
+    partition: &Partition,
+    positions: &[usize],
     out: &mut Vec<u8>,
 ) -> Result<(), AllocError>
-    ensures { Writes out.old.items out.new.items result (open_text queue sub.now events.now) }
+    requires { AllByRecursion (λ position. position < length partition.now.log) positions.now }
+    ensures { Writes out.old.items out.new.items result (open_text queue sub.now (events_at partition.now.log positions.now)) }
 {
     push_binding(queue, sub, out)?;
-    push_count(b" ", events.len() as u64, out)?;
+    push_count(b" ", positions.len() as u64, out)?;
     push_text(b"\n", out)?;
-    push_handled_lines(events, out)
+    push_handled_lines(positions, partition, out)
 }
 
 /// Appends a subscription, its stream, its grain and its start.
@@ -130,11 +131,17 @@ fn push_binding(queue: usize, sub: &SubSummary, out: &mut Vec<u8>) -> Result<(),
     push_placed(b" ", sub.start, out)
 }
 
-fn push_handled_lines(events: &[Event], out: &mut Vec<u8>) -> Result<(), AllocError>
-    ensures { Writes out.old.items out.new.items result (flat_map handled_line events.now) }
+/// Appends the lines of the events at these positions, of which one at a time is read from the log.
+fn push_handled_lines(
+    positions: &[usize],
+    partition: &Partition,
+    out: &mut Vec<u8>,
+) -> Result<(), AllocError>
+    requires { AllByRecursion (λ position. position < length partition.now.log) positions.now }
+    ensures { Writes out.old.items out.new.items result (flat_map handled_line (events_at partition.now.log positions.now)) }
 {
-    for event in events {
-        push_handled_line(event, out)?;
+    for position in positions {
+        push_handled_line(&partition.event_at(*position), out)?;
     }
     Ok(())
 }

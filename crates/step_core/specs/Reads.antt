@@ -1,5 +1,5 @@
 -- What a partition tells of itself.
-use Rattle.std.specs.Prelude.{Bool, List, [], Option, Some, None, map}
+use Rattle.std.specs.Prelude.{ℕ, Bool, List, [], Option, Some, None, map}
 use Rattle.stream_ident.specs.declared.event.Event.{Event}
 use Rattle.stream_ident.specs.declared.ident.SubName.{SubName}
 use Rattle.stream_ident.specs.SubName.{sub_lt}
@@ -24,6 +24,14 @@ is_named_before a b = sub_lt a.name b.name
 -- the summaries from the least name to the greatest
 abbrev pub summaries_in_order : PlainPartition → List SubSummary
 summaries_in_order p = in_order is_named_before (summaries_of p)
+
+abbrev pub positions_by : Option Subscription → List ℕ
+positions_by None = []
+positions_by (Some r) = r.handled
+
+-- the positions of the events that a subscription has handled, none where it has no record
+abbrev pub handled_positions : PlainPartition → SubName → List ℕ
+handled_positions p s = positions_by (sub_at p s)
 
 abbrev pub handled_by : PlainPartition → Option Subscription → List Event
 handled_by p None = []

@@ -1,6 +1,5 @@
 //! A drain of a partition: operations, one after another, until nothing is left to do.
-ghost use Rattle.std.specs.Prelude.{◌≡◌, List, None, OnErr};
-ghost use Rattle.stream_ident.specs.declared.event.Event.{Event};
+ghost use Rattle.std.specs.Prelude.{◌≡◌, None, OnErr};
 ghost use Rattle.stream_model.specs.declared.op.Op.TheVariants.{Commit, Deliver, Pull};
 ghost use Rattle.stream_model.specs.Draining.{acknowledge, after_begin, after_commit, ask, deliver_once_more, drain_all, drain_round, empty_mailboxes, last_handled, next_note, serve, serve_each, take_turn, DrainsTo, deliver_up_to};
 ghost use Rattle.stream_ident.specs.Name.{grain_lt};
@@ -9,13 +8,13 @@ ghost use Rattle.stream_model.specs.Looks.{is_running};
 ghost use Rattle.stream_model.specs.Positions.{sub_at};
 ghost use Rattle.step_core.specs.declared.draining.Stop.TheVariants.{Memory};
 ghost use Rattle.step_core.specs.DrainPhases.{Asks, Follows, after_deliveries, deliver_told, is_acknowledged, is_committed, is_nothing, pull_told};
-ghost use Rattle.step_core.specs.Replied.{reply_with};
+ghost use Rattle.step_core.specs.Replied.{reply_of, reply_with};
 
 use crate::outcome::{Outcome, Told};
 use crate::partition::Partition;
 use std::alloc::{AllocError, Global};
 use stream_ident::{GrainId, SubName};
-use stream_model::{DrainEnd, Op};
+use stream_model::DrainEnd;
 
 /// The most events of a pull.
 const PULL_MAX: u32 = 32;
@@ -101,20 +100,20 @@ fn drain_all(partition: &mut Partition, alloc: Global) -> Result<(), Stop>
 fn pull_next(partition: &mut Partition, alloc: Global) -> Result<bool, Stop>
     ensures { Asks partition.old partition.new result (Pull partition.old.generation 32) pull_told }
 {
-    let generation = partition.generation();
-    let max = PULL_MAX;
-    let outcome = partition.advance(alloc, &Op::Pull { generation, max })?;
-    is_pulled(&outcome)
+    match partition.pull(alloc, PULL_MAX) {
+        Ok(told) => is_pulled(told),
+        Err(wanting) => Err(Stop::Memory(wanting)),
+    }
 }
 
 /// Whether the reply of an operation says that events went into the cache, or that the queue had none.
-fn is_pulled(outcome: &Outcome) -> Result<bool, Stop>
-    ensures { (log : List Event) → result ≡ pull_told (reply_with log outcome.now) }
+fn is_pulled(told: Told) -> Result<bool, Stop>
+    ensures { result ≡ pull_told (reply_of told) }
 {
-    match outcome {
-        Outcome::Told(Told::Pulled { .. }) => Ok(true),
-        Outcome::Told(Told::Dry) => Ok(false),
-        Outcome::Told(Told::TooMany) => Err(Stop::TooMany),
+    match told {
+        Told::Pulled { .. } => Ok(true),
+        Told::Dry => Ok(false),
+        Told::TooMany => Err(Stop::TooMany),
         _ => Err(Stop::Astray),
     }
 }
@@ -178,7 +177,7 @@ fn settle(partition: &mut Partition, alloc: Global, sub: &SubName) -> Result<(),
     if partition.is_settled(sub) {
         return Ok(());
     }
-    acknowledge(partition, alloc, sub)?;
+    acknowledge(partition, sub)?;
     deliver_once_more(partition, alloc, sub)
 }
 
@@ -208,20 +207,20 @@ fn deliver_all(
 fn deliver_next(partition: &mut Partition, alloc: Global, sub: &SubName) -> Result<bool, Stop>
     ensures { Asks partition.old partition.new result (Deliver partition.old.generation sub.now) deliver_told }
 {
-    let generation = partition.generation();
-    let sub = *sub;
-    let outcome = partition.advance(alloc, &Op::Deliver { generation, sub })?;
-    is_delivered(&outcome)
+    match partition.deliver(alloc, sub) {
+        Ok(told) => is_delivered(told),
+        Err(wanting) => Err(Stop::Memory(wanting)),
+    }
 }
 
 /// Whether the reply of an operation says that an event went into the mailbox, or that there was none.
-fn is_delivered(outcome: &Outcome) -> Result<bool, Stop>
-    ensures { (log : List Event) → result ≡ deliver_told (reply_with log outcome.now) }
+fn is_delivered(told: Told) -> Result<bool, Stop>
+    ensures { result ≡ deliver_told (reply_of told) }
 {
-    match outcome {
-        Outcome::Told(Told::Delivered { .. }) => Ok(true),
-        Outcome::Told(Told::Nothing) => Ok(false),
-        Outcome::Told(Told::Spent) => Err(Stop::Spent),
+    match told {
+        Told::Delivered { .. } => Ok(true),
+        Told::Nothing => Ok(false),
+        Told::Spent => Err(Stop::Spent),
         _ => Err(Stop::Astray),
     }
 }
@@ -230,11 +229,7 @@ fn is_delivered(outcome: &Outcome) -> Result<bool, Stop>
 fn take_turn(partition: &mut Partition, alloc: Global, grain: &GrainId) -> Result<(), Stop>
     ensures { Follows partition.old partition.new result (take_turn grain.now partition.old) }
 {
-    let begin = Op::Begin {
-        grain: *grain,
-        max: 1,
-    };
-    let outcome = partition.advance(alloc, &begin)?;
+    let outcome = partition.begin(grain, 1);
     follow_begin(partition, alloc, grain, &outcome)
 }
 
@@ -276,69 +271,66 @@ fn end_turn(
 ) -> Result<(), Stop>
     ensures { Follows partition.old partition.new result (ask partition.old (Commit grain.now activation turn note) after_commit) }
 {
-    let commit = Op::Commit {
-        grain: *grain,
-        activation,
-        turn,
-        note,
-    };
-    let outcome = partition.advance(alloc, &commit)?;
-    if !is_committed(&outcome) {
-        return Err(Stop::Astray);
+    match partition.commit(alloc, grain, activation, turn, note) {
+        Ok(told) => {
+            if is_committed(told) {
+                Ok(())
+            } else {
+                Err(Stop::Astray)
+            }
+        }
+        Err(wanting) => Err(Stop::Memory(wanting)),
     }
-    Ok(())
 }
 
 /// Whether the reply of an operation says that the events of a turn are handled.
-fn is_committed(outcome: &Outcome) -> bool
-    ensures { (log : List Event) → result ≡ is_committed (reply_with log outcome.now) }
+fn is_committed(told: Told) -> bool
+    ensures { result ≡ is_committed (reply_of told) }
 {
-    matches!(outcome, Outcome::Told(Told::Committed { .. }))
+    matches!(told, Told::Committed { .. })
 }
 
 /// Acknowledges the last event that a subscription has handled, where there is one.
-fn acknowledge(partition: &mut Partition, alloc: Global, sub: &SubName) -> Result<(), Stop>
+fn acknowledge(partition: &mut Partition, sub: &SubName) -> Result<(), Stop>
     ensures { Follows partition.old partition.new result
         (acknowledge sub.now partition.old (last_handled partition.old (sub_at partition.old sub.now))) }
 {
     let Some(token) = partition.last_handled(sub) else {
         return Ok(());
     };
-    let ack = Op::Ack {
-        generation: partition.generation(),
-        sub: *sub,
-        token,
-    };
-    let outcome = partition.advance(alloc, &ack)?;
-    if !is_acknowledged(&outcome) {
+    let told = partition.ack(sub, token);
+    if !is_acknowledged(told) {
         return Err(Stop::Astray);
     }
     Ok(())
 }
 
 /// Whether the reply of an operation says that the resume stands past an event.
-fn is_acknowledged(outcome: &Outcome) -> bool
-    ensures { (log : List Event) → result ≡ is_acknowledged (reply_with log outcome.now) }
+fn is_acknowledged(told: Told) -> bool
+    ensures { result ≡ is_acknowledged (reply_of told) }
 {
-    matches!(outcome, Outcome::Told(Told::Acked))
+    matches!(told, Told::Acked)
 }
 
 /// Delivers to a subscription for which the cache has nothing more, so that its resume follows.
 fn deliver_once_more(partition: &mut Partition, alloc: Global, sub: &SubName) -> Result<(), Stop>
     ensures { Follows partition.old partition.new result (deliver_once_more sub.now partition.old) }
 {
-    let generation = partition.generation();
-    let sub = *sub;
-    let outcome = partition.advance(alloc, &Op::Deliver { generation, sub })?;
-    if !is_nothing(&outcome) {
-        return Err(Stop::Astray);
+    match partition.deliver(alloc, sub) {
+        Ok(told) => {
+            if is_nothing(told) {
+                Ok(())
+            } else {
+                Err(Stop::Astray)
+            }
+        }
+        Err(wanting) => Err(Stop::Memory(wanting)),
     }
-    Ok(())
 }
 
 /// Whether the reply of an operation says that the cache has no further event.
-fn is_nothing(outcome: &Outcome) -> bool
-    ensures { (log : List Event) → result ≡ is_nothing (reply_with log outcome.now) }
+fn is_nothing(told: Told) -> bool
+    ensures { result ≡ is_nothing (reply_of told) }
 {
-    matches!(outcome, Outcome::Told(Told::Nothing))
+    matches!(told, Told::Nothing)
 }

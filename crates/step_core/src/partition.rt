@@ -1,5 +1,6 @@
 //! The partition.
 ghost use Rattle.std.specs.Prelude.{◌≡◌, ◌<◌, ◌≤◌, true, length, slice_index_or, IfOk, OnErr, OnOk};
+ghost use Rattle.std.specs.List.{AllByRecursion};
 ghost use Rattle.std.specs.Option.{option_map};
 ghost use Rattle.stream_ident.specs.Event.{no_event};
 ghost use Rattle.stream_ident.specs.Name.{grain_lt};
@@ -10,18 +11,20 @@ ghost use Rattle.stream_model.specs.Looks.{is_running, pending_in};
 ghost use Rattle.stream_model.specs.Positions.{empty, high_token, low_token, sub_at};
 ghost use Rattle.stream_model.specs.Memory.{may_allocate};
 ghost use Rattle.stream_model.specs.Step.{step, IsReached};
-ghost use Rattle.step_core.specs.Reads.{handled_of, summaries_in_order};
+ghost use Rattle.step_core.specs.Reads.{handled_of, handled_positions, summaries_in_order};
 ghost use Rattle.step_core.specs.Replied.{answered, IsOfLog};
 ghost use Rattle.step_core.specs.Run.{Does, StopsBefore};
 ghost use Rattle.step_core.specs.Serving.{is_settled_in, served_of};
+
+mod asking;
 
 use crate::draining::Served;
 use crate::looking::{all_waiting, least_running, least_waiting, pending};
 use crate::outcome::Outcome;
 use crate::parts::Parts;
 use crate::reading::{
-    SubSummary, handled, high_token, is_settled, last_handled, low_token, open_names, served,
-    summaries,
+    SubSummary, handled, handled_positions, high_token, is_settled, last_handled, low_token,
+    open_names, served, summaries,
 };
 use crate::stepping::step;
 use grain_table::GrainTable;
@@ -178,13 +181,6 @@ impl Partition {
         self.parts.queue.event_at(position)
     }
 
-    /// The generation of the current pulling agent.
-    pub(crate) fn generation(&self) -> u64
-        ensures { result ≡ self.now.generation }
-    {
-        self.parts.agent.generation()
-    }
-
     /// One past the last position that the cache has.
     pub(crate) fn high(&self) -> usize
         ensures { result ≡ self.now.high }
@@ -301,6 +297,15 @@ impl Partition {
         let mut subs = summaries(&self.parts.subs, alloc)?;
         subs.sort_by_key(|summary| summary.name)?;
         Ok(subs)
+    }
+
+    /// The positions in the log of the events that a subscription has handled, in the order in which it handled
+    /// them, and none where it has no record. [`event_at`](Partition::event_at) gives the event of each.
+    pub fn handled_positions(&self, sub: &SubName) -> &[usize]
+        ensures positions { result.now ≡ handled_positions self.now sub.now }
+        ensures within { AllByRecursion (λ position. position < length self.now.log) result.now }
+    {
+        handled_positions(&self.parts, sub)
     }
 
     /// The events that a subscription has handled, in the order in which it handled them, and none where it

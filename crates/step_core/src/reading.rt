@@ -1,5 +1,6 @@
 //! What can be read of a partition.
 ghost use Rattle.std.specs.Prelude.{◌≡◌, ◌<◌, length, get_or, map, All, IfOk};
+ghost use Rattle.std.specs.List.{AllByRecursion};
 ghost use Rattle.std.specs.Option.{option_map};
 ghost use Rattle.stream_ident.specs.SubName.{sub_lt};
 ghost use Rattle.stream_ident.specs.Words.{keys_where};
@@ -8,7 +9,7 @@ ghost use Rattle.stream_model.specs.Positions.{events_at, high_token, is_spent, 
 ghost use Rattle.subscription_table.specs.Table.{name_at, no_entry, state_at};
 ghost use Rattle.step_core.specs.Assembly.{Agrees};
 ghost use Rattle.step_core.specs.PlainOf.{plain_of};
-ghost use Rattle.step_core.specs.Reads.{handled_of, summary_of};
+ghost use Rattle.step_core.specs.Reads.{handled_of, handled_positions, summary_of};
 ghost use Rattle.step_core.specs.Serving.{is_settled_in, is_settled_state, served_of};
 ghost use Rattle.step_core.specs.View.{sub_of, subs_of};
 
@@ -171,6 +172,18 @@ pub(crate) fn last_handled(parts: &Parts, sub: &SubName) -> Option<Token>
         return None;
     }
     Some(parts.queue.token_at(state.past().saturating_sub(1)))
+}
+
+/// The positions of the events that a subscription has handled, none where it has no record.
+pub(crate) fn handled_positions<'a>(parts: &'a Parts, sub: &SubName) -> &'a [usize]
+    requires { Agrees parts.now }
+    ensures positions { result.now ≡ handled_positions (plain_of parts.now) sub.now }
+    ensures within { AllByRecursion (λ position. position < length parts.now.queue.events) result.now }
+{
+    match parts.subs.find(sub) {
+        Some(number) => parts.subs.state(number).handled(),
+        None => &[],
+    }
 }
 
 /// The events that a subscription has handled, none where it has no record.

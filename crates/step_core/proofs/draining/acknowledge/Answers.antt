@@ -3,7 +3,7 @@ use Rattle.stream_model.specs.declared.op.Op.TheVariants.{Ack}
 use Rattle.stream_model.specs.Draining.{Astray, acknowledge, after_ack}
 use Rattle.stream_model.specs.Step.{step}
 use Rattle.step_core.specs.DrainPhases.{Ends}
-use Rattle.step_core.specs.Replied.{reply_with}
+use Rattle.step_core.specs.Replied.{reply_of}
 use Rattle.step_core.proofs.DrainReplies.{ack-where}
 use Rattle.step_core.proofs.DrainSteps.{ends-done, ends-last}
 use Rattle.step_core.proofs.draining.acknowledge.Goals as goal
@@ -16,24 +16,24 @@ pub returns-then-not-is_acknowledged : goal.returns-then-not-is_acknowledged
 unfolding acknowledge
 returns-then-not-is_acknowledged c =
     let p = c.args.partition.now in
-    let new = c.advance.new.self in
-    let answer = reply_with new.log c.in_ok-outcome.outcome in
+    let new = c.ack-told.new.self in
+    let answer = reply_of c.ack-told.result in
     let s = c.args.sub.now in
     let token = c.in-Some.token in
-    let acked : (new, answer) ≡ step p (Ack p.generation s token) = subst (λ generation. (new, answer) ≡ step p (Ack generation s token)) c.generation.ensures c.in_ok-outcome.ensures.performs in
+    let acked : (new, answer) ≡ step p (Ack p.generation s token) = c.ack-told.ensures in
     subst (λ found. Ends p new (Some (Some Astray)) (acknowledge s p found)) (sym c.in-Some.is ∙ c.last_handled.ensures)
     (ends-last p new (Some Astray) (Ack p.generation s token) answer after_ack acked
-    (ack-where new answer false (sym (c.is_acknowledged.ensures new.log) ∙ c.if-not-is_acknowledged.true)))
+    (ack-where new answer false (sym c.is_acknowledged.ensures ∙ c.if-not-is_acknowledged.true)))
 
 pub returns : goal.returns
 unfolding acknowledge
 returns c =
     let p = c.args.partition.now in
-    let new = c.advance.new.self in
-    let answer = reply_with new.log c.in_ok-outcome.outcome in
+    let new = c.ack-told.new.self in
+    let answer = reply_of c.ack-told.result in
     let s = c.args.sub.now in
     let token = c.in-Some.token in
-    let acked : (new, answer) ≡ step p (Ack p.generation s token) = subst (λ generation. (new, answer) ≡ step p (Ack generation s token)) c.generation.ensures c.in_ok-outcome.ensures.performs in
+    let acked : (new, answer) ≡ step p (Ack p.generation s token) = c.ack-told.ensures in
     subst (λ found. Ends p new (Some None) (acknowledge s p found)) (sym c.in-Some.is ∙ c.last_handled.ensures)
     (ends-last p new None (Ack p.generation s token) answer after_ack acked
-    (ack-where new answer true (sym (c.is_acknowledged.ensures new.log) ∙ c.if-not-is_acknowledged.false)))
+    (ack-where new answer true (sym c.is_acknowledged.ensures ∙ c.if-not-is_acknowledged.false)))

@@ -8,5 +8,5 @@ use Rattle.step_core.proofs.draining.take_turn.Goals as goal
 pub returns : goal.returns
 unfolding take_turn
 returns c =
-    ends-ask c.args.partition.now c.advance.new.self c.follow_begin.new.partition (meant c.follow_begin.result) (Begin c.args.grain.now 1) (reply_with c.advance.new.self.log c.in_ok-outcome.outcome) (after_begin c.args.grain.now)
-    c.in_ok-outcome.ensures.performs c.follow_begin.ensures
+    ends-ask c.args.partition.now c.begin-outcome.new.self c.follow_begin.new.partition (meant c.follow_begin.result) (Begin c.args.grain.now 1) (reply_with c.begin-outcome.new.self.log c.begin-outcome.result) (after_begin c.args.grain.now)
+    c.begin-outcome.ensures c.follow_begin.ensures

@@ -1,7 +1,6 @@
 use Rattle.std.proofs.Common.{◌∙◌, sym, ap}
-use Rattle.queue_cache.specs.Cache.{high}
 use Rattle.step_core.specs.PlainOf.{plain_of}
-use Rattle.step_core.specs.Serving.{is_settled_in, is_settled_state}
+use Rattle.step_core.specs.Serving.{is_settled_in}
 use Rattle.step_core.proofs.ReadLemmas.{found-none, found-sub}
 use Rattle.step_core.proofs.reading.is_settled.Goals as goal
 

@@ -1,0 +1,23 @@
+use Rattle.std.proofs.Common.{◌∙◌, ap, sym, subst, ◌<◌, length}
+use Rattle.std.specs.List.{AllByRecursion}
+use Rattle.step_core.specs.Reads.{positions_by}
+use Rattle.step_core.proofs.ReadLemmas.{found-none, found-sub, handled-within}
+use Rattle.step_core.proofs.reading.handled_positions.Goals as goal
+
+pub returns-in-Some-clause-positions : goal.returns-in-Some-clause-positions
+returns-in-Some-clause-positions c =
+    let parts = c.args.parts.now in
+    c.handled.ensures.handled ∙ ap (λ s. s.handled) c.state.ensures
+    ∙ sym (ap positions_by (found-sub parts c.args.sub.now c.in-Some.number c.requires.records (sym c.find.ensures.number ∙ c.in-Some.is)))
+
+pub returns-in-Some-clause-within : goal.returns-in-Some-clause-within
+returns-in-Some-clause-within c =
+    let parts = c.args.parts.now in
+    let own = c.handled.ensures.handled ∙ ap (λ s. s.handled) c.state.ensures in
+    subst (AllByRecursion (λ position. position < length parts.queue.events)) (sym own)
+    (handled-within parts c.args.sub.now c.in-Some.number c.requires.within c.requires.records (sym c.find.ensures.number ∙ c.in-Some.is))
+
+pub returns-in-None-clause-positions : goal.returns-in-None-clause-positions
+returns-in-None-clause-positions c =
+    let parts = c.args.parts.now in
+    sym (ap positions_by (found-none parts c.args.sub.now c.requires.records (sym c.find.ensures.number ∙ c.in-None.is)))

@@ -1,0 +1,143 @@
+//! What a drain asks of a partition: operations of its current agent and of a worker. They are those of `Partition::step`,
+//! without the `Op` that asks for them and the `Reply` that is made of what they come to.
+ghost use Rattle.std.specs.Prelude.{◌≡◌};
+ghost use Rattle.stream_ident.specs.Words.{Performs};
+ghost use Rattle.stream_model.specs.declared.op.Op.TheVariants.{Ack, Begin, Commit, Deliver, Pull};
+ghost use Rattle.stream_model.specs.Step.{step};
+ghost use Rattle.step_core.specs.Assembly.{Agrees, IsAssembled};
+ghost use Rattle.step_core.specs.PlainOf.{plain_of};
+ghost use Rattle.step_core.specs.Replied.{replied, reply_of, reply_with};
+
+use crate::acknowledging::ack;
+use crate::delivering::deliver;
+use crate::outcome::{Outcome, Told};
+use crate::partition::Partition;
+use crate::parts::Parts;
+use crate::pulling::pull;
+use crate::turns::{begin, commit};
+use partition_queue::Excerpt;
+use std::alloc::{AllocError, Global};
+use stream_ident::{GrainId, SubName, Token};
+
+impl Partition {
+    /// The agent pulls events into the cache.
+    ///
+    /// # Errors
+    /// The call failed to allocate, and nothing has changed.
+    pub(crate) fn pull(&mut self, alloc: Global, max: u32) -> Result<Told, AllocError>
+        ensures { Performs self.old self.new (replied result) (step self.old (Pull self.old.generation max)) }
+    {
+        let told = pull_now(&mut self.parts, &mut self.excerpt, alloc, max);
+        let _lengths = (self.parts.subs.len(), self.parts.grains.len());
+        told
+    }
+
+    /// The agent hands a subscription its next event.
+    ///
+    /// # Errors
+    /// The call failed to allocate, and nothing has changed.
+    pub(crate) fn deliver(&mut self, alloc: Global, sub: &SubName) -> Result<Told, AllocError>
+        ensures { Performs self.old self.new (replied result) (step self.old (Deliver self.old.generation sub.now)) }
+    {
+        let told = deliver_now(&mut self.parts, alloc, sub);
+        let _lengths = (self.parts.subs.len(), self.parts.grains.len());
+        told
+    }
+
+    /// The agent learns that a subscription has handled an event and all that it was owed before.
+    pub(crate) fn ack(&mut self, sub: &SubName, token: Token) -> Told
+        ensures { (self.new, reply_of result) ≡ step self.old (Ack self.old.generation sub.now token) }
+    {
+        let told = ack_now(&mut self.parts, sub, token);
+        let _lengths = (self.parts.subs.len(), self.parts.grains.len());
+        told
+    }
+
+    /// A worker begins a turn of a grain.
+    pub(crate) fn begin(&mut self, grain: &GrainId, max: u32) -> Outcome
+        ensures { (self.new, reply_with self.new.log result) ≡ step self.old (Begin grain.now max) }
+    {
+        let outcome = begin_now(&mut self.parts, grain, max);
+        let _lengths = (self.parts.subs.len(), self.parts.grains.len());
+        outcome
+    }
+
+    /// A worker ends the turn that runs for a grain.
+    ///
+    /// # Errors
+    /// The call failed to allocate, and nothing has changed.
+    pub(crate) fn commit(
+        &mut self,
+        alloc: Global,
+        grain: &GrainId,
+        activation: u64,
+        turn: u64,
+        note: u64,
+    ) -> Result<Told, AllocError>
+        ensures { Performs self.old self.new (replied result) (step self.old (Commit grain.now activation turn note)) }
+    {
+        let told = commit_now(&mut self.parts, alloc, grain, activation, turn, note);
+        let _lengths = (self.parts.subs.len(), self.parts.grains.len());
+        told
+    }
+}
+
+/// The current agent pulls.
+fn pull_now(
+    parts: &mut Parts,
+    excerpt: &mut Excerpt,
+    alloc: Global,
+    max: u32,
+) -> Result<Told, AllocError>
+    requires { Agrees parts.old }
+    ensures assembled { IsAssembled parts.new }
+    ensures performs { Performs (plain_of parts.old) (plain_of parts.new) (replied result) (step (plain_of parts.old) (Pull parts.old.agent.generation max)) }
+{
+    let generation = parts.agent.generation();
+    pull(parts, excerpt, alloc, generation, max)
+}
+
+/// The current agent delivers.
+fn deliver_now(parts: &mut Parts, alloc: Global, sub: &SubName) -> Result<Told, AllocError>
+    requires { Agrees parts.old }
+    ensures assembled { IsAssembled parts.new }
+    ensures performs { Performs (plain_of parts.old) (plain_of parts.new) (replied result) (step (plain_of parts.old) (Deliver parts.old.agent.generation sub.now)) }
+{
+    let generation = parts.agent.generation();
+    deliver(parts, alloc, generation, sub)
+}
+
+/// The current agent acknowledges.
+fn ack_now(parts: &mut Parts, sub: &SubName, token: Token) -> Told
+    requires { Agrees parts.old }
+    ensures assembled { IsAssembled parts.new }
+    ensures performs { (plain_of parts.new, reply_of result) ≡ step (plain_of parts.old) (Ack parts.old.agent.generation sub.now token) }
+{
+    let generation = parts.agent.generation();
+    ack(parts, generation, sub, token)
+}
+
+/// A worker begins a turn.
+fn begin_now(parts: &mut Parts, grain: &GrainId, max: u32) -> Outcome
+    requires { Agrees parts.old }
+    ensures assembled { IsAssembled parts.new }
+    ensures performs { (plain_of parts.new, reply_with parts.new.queue.events result) ≡ step (plain_of parts.old) (Begin grain.now max) }
+{
+    begin(parts, grain, max)
+}
+
+/// A worker ends a turn.
+fn commit_now(
+    parts: &mut Parts,
+    alloc: Global,
+    grain: &GrainId,
+    activation: u64,
+    turn: u64,
+    note: u64,
+) -> Result<Told, AllocError>
+    requires { Agrees parts.old }
+    ensures assembled { IsAssembled parts.new }
+    ensures performs { Performs (plain_of parts.old) (plain_of parts.new) (replied result) (step (plain_of parts.old) (Commit grain.now activation turn note)) }
+{
+    commit(parts, alloc, grain, activation, turn, note)
+}
