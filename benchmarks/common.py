@@ -13,6 +13,8 @@ BATCH = 64
 PIPELINE = 256
 # How many events a producer has sent at most that aren't acknowledged.
 WINDOW = 4 * PIPELINE
+# After how many seconds without a byte a client gives up.
+PATIENCE = 60
 
 
 @dataclass(frozen=True)
@@ -53,6 +55,7 @@ def connect(port):
         try:
             link = socket.create_connection(("127.0.0.1", port))
             link.setsockopt(socket.IPPROTO_TCP, socket.TCP_NODELAY, 1)
+            link.settimeout(PATIENCE)
             return link
         except ConnectionRefusedError:
             time.sleep(0.05)

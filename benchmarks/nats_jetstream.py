@@ -102,6 +102,7 @@ def producer_of(port, load):
 
 
 DELIVERED = re.compile(rb"MSG s\.(\d+) 1 (\S+) \d+\r\n")
+ANSWERED = re.compile(rb"MSG _A 2 +0\r\n")
 
 
 def consumer_of(port, load):
@@ -117,7 +118,7 @@ def consumer_of(port, load):
         def handle():
             link.sendall(b"".join(pulls))
             counts = [0] * load.consumers
-            rest, open_acks, handled = b"", load.consumers, 0
+            rest, open_acks = b"", load.consumers
             while open_acks:
                 rest += link.recv(1 << 20)
                 told, end = [], 0
@@ -132,11 +133,9 @@ def consumer_of(port, load):
                     told.append(b"PUB %b 4\r\n+ACK\r\n" % found[2])
                     if counts[number] % PIPELINE == 0:
                         told.append(pulls[number])
-                handled += len(told)
-                answered = rest.count(b"MSG _A 2 0\r\n")
-                if answered:
-                    open_acks -= answered
-                    end = max(end, rest.rindex(b"MSG _A 2 0\r\n") + 1)
+                for found in ANSWERED.finditer(rest):
+                    open_acks -= 1
+                    end = max(end, found.end())
                 if b"PING\r\n" in rest[:end]:
                     told.append(b"PONG\r\n")
                 rest = rest[end:]
