@@ -1,4 +1,4 @@
-"""What both servers are measured with."""
+"""What both servers are measured with: a load, a server of its own for each run, and two clients."""
 import multiprocessing
 import os
 import shutil
@@ -8,10 +8,10 @@ import tempfile
 import time
 from dataclasses import dataclass
 
-# A publish of the library carries 64 events, which is the most it may. A client sends 256 events at a time.
+# A publish of the library carries 64 events, which is the most it may. A client of a server sends 256 at a time.
 BATCH = 64
 PIPELINE = 256
-# How many events a producer has sent at most that aren't acknowledged.
+# How many events of a producer are on their way to a server at most.
 WINDOW = 4 * PIPELINE
 # After how many seconds without a byte a client gives up.
 PATIENCE = 60
@@ -34,10 +34,24 @@ class Load:
     def events(self):
         return self.consumers * self.each
 
-    def batches(self):
-        """The streams of the batches, in the order in which these are published."""
+    def publish(self, batches, send, answers):
+        """Sends the batches of the streams in turn, where each stream has one, and waits for the answers to all.
+
+        `send` sends bytes, and `answers` waits for some and says how many came.
+        """
+        waiting, held = 0, []
         for _ in range(self.rounds):
-            yield from range(self.consumers)
+            for batch in batches:
+                held.append(batch)
+                if len(held) * BATCH == PIPELINE:
+                    send(b"".join(held))
+                    held, waiting = [], waiting + PIPELINE
+                while waiting > WINDOW - PIPELINE:
+                    waiting -= answers()
+        send(b"".join(held))
+        waiting += len(held) * BATCH
+        while waiting > 0:
+            waiting -= answers()
 
 
 @dataclass(frozen=True)
@@ -62,6 +76,14 @@ def connect(port):
     raise RuntimeError(f"nothing listens on port {port}")
 
 
+def receive(link):
+    """Some bytes, at least one."""
+    told = link.recv(1 << 20)
+    if not told:
+        raise ConnectionError("the server has closed the connection")
+    return told
+
+
 def free_port():
     """A port that nobody listens on."""
     with socket.socket() as it:
@@ -70,14 +92,13 @@ def free_port():
 
 
 class Server:
-    """A server in a process of its own, with a folder of its own that goes with it."""
+    """A server in a process of its own, with a folder that goes when it goes."""
 
-    def __init__(self, words):
+    def __init__(self, words_of):
         self.port = free_port()
         self.folder = tempfile.mkdtemp(prefix="streams-compare-")
-        self.process = subprocess.Popen(
-            words(self.port, self.folder), stdout=subprocess.DEVNULL, stderr=subprocess.DEVNULL
-        )
+        words = words_of(self.port, self.folder)
+        self.process = subprocess.Popen(words, stdout=subprocess.DEVNULL, stderr=subprocess.DEVNULL)
 
     def __enter__(self):
         return self
@@ -88,40 +109,51 @@ class Server:
         shutil.rmtree(self.folder, ignore_errors=True)
 
     def processor(self):
-        """The processor time that it took so far, in seconds."""
+        """The processor time that it has taken, in seconds."""
         with open(f"/proc/{self.process.pid}/stat") as it:
             fields = it.read().rsplit(")", 1)[1].split()
         return (int(fields[11]) + int(fields[12])) / os.sysconf("SC_CLK_TCK")
 
 
-def in_process(work, pipe):
-    """Says that it is ready, waits for the word to go, works, and tells the processor time that it took."""
-    with work() as step:
-        pipe.send("ready")
-        pipe.recv()
-        before = time.process_time()
-        step()
-        pipe.send(time.process_time() - before)
+class Client:
+    """A client in a process of its own. `prepare` does what isn't measured, and gives the function that is."""
 
-
-def measure(server, producer, consumer):
-    """A run of two clients, each in a process of its own: from the first publish to the last acknowledgement."""
-    fork = multiprocessing.get_context("fork")
-    clients = []
-    for work in (consumer, producer):
-        ours, theirs = fork.Pipe()
-        process = fork.Process(target=in_process, args=(work, theirs))
-        process.start()
+    def __init__(self, prepare, port, load):
+        fork = multiprocessing.get_context("fork")
+        self.pipe, theirs = fork.Pipe()
+        self.process = fork.Process(target=Client.work, args=(theirs, prepare, port, load), daemon=True)
+        self.process.start()
         theirs.close()
-        ours.recv()
-        clients.append((process, ours))
+        # It is ready.
+        self.pipe.recv()
+
+    @staticmethod
+    def work(pipe, prepare, port, load):
+        with connect(port) as link:
+            step = prepare(link, load)
+            pipe.send("ready")
+            pipe.recv()
+            before = time.process_time()
+            step()
+            pipe.send(time.process_time() - before)
+
+    def go(self):
+        self.pipe.send("go")
+
+    def end(self):
+        """Waits until it is done, and gives the processor time that it took."""
+        spent = self.pipe.recv()
+        self.process.join()
+        return spent
+
+
+def measure(server, produce, consume, load):
+    """A run of a producer and a consumer, from the first publish to the last acknowledgement."""
+    consumer = Client(consume, server.port, load)
+    producer = Client(produce, server.port, load)
     before, start = server.processor(), time.monotonic()
-    for _, pipe in clients:
-        pipe.send("go")
-    (eating, ate), (feeding, fed) = clients
-    eaten = ate.recv()
+    consumer.go()
+    producer.go()
+    clients = consumer.end()
     seconds, spent = time.monotonic() - start, server.processor() - before
-    fedded = fed.recv()
-    for process in (eating, feeding):
-        process.join()
-    return Run(seconds, spent, eaten + fedded)
+    return Run(seconds, spent, clients + producer.end())

@@ -1,20 +1,13 @@
-"""Redis Streams: a stream, a consumer group and a consumer for each consumer of the load."""
+"""Redis Streams: a stream, a group and a consumer for each consumer of a load."""
 import re
-from contextlib import contextmanager
 
-from common import PIPELINE, BATCH, WINDOW, Server, connect, measure
+from common import BATCH, PIPELINE, Server, connect, measure, receive
 
-NAMES = {False: "Redis, in memory", True: "Redis, append-only file"}
+NAMES = {False: "Redis, in memory", True: "Redis, file"}
 
-
-def words_of(keeps):
-    """The command of the server, which keeps its data in a file or doesn't."""
-
-    def words(port, folder):
-        kept = ["--appendonly", "yes", "--appendfsync", "everysec"] if keeps else ["--appendonly", "no"]
-        return ["redis-server", "--bind", "127.0.0.1", "--port", str(port), "--dir", folder, "--save", "", *kept]
-
-    return words
+KEY = re.compile(rb"\*2\r\n\$\d+\r\n(s:\d+)\r\n")
+IDENTIFIER = re.compile(rb"\$\d+\r\n\d+-\d+\r\n")
+ACKNOWLEDGED = re.compile(rb"(?::\d+\r\n)*")
 
 
 def command(*words):
@@ -26,114 +19,88 @@ def command(*words):
     return told
 
 
-def ask(link, told, count):
-    """Sends commands, and waits for so many lines of replies."""
-    link.sendall(told)
-    lines = b""
-    while lines.count(b"\n") < count:
-        lines += link.recv(1 << 20)
-    if lines.startswith(b"-"):
-        raise RuntimeError(lines.decode())
-    return lines
-
-
-def key(number):
-    return b"s:%d" % number
-
-
-def producer_of(port, load):
-    @contextmanager
-    def producer():
-        link = connect(port)
-        payload = b"e" * load.payload
-        batches = [command("XADD", key(number), "*", "d", payload) * BATCH for number in range(load.consumers)]
-
-        def publish():
-            waiting, held = 0, []
-            for number in load.batches():
-                held.append(batches[number])
-                if len(held) * BATCH < PIPELINE:
-                    continue
-                link.sendall(b"".join(held))
-                held, waiting = [], waiting + 2 * PIPELINE
-                # The reply to each is two lines: the length of the identifier, and itself.
-                while waiting > 2 * (WINDOW - PIPELINE):
-                    waiting -= link.recv(1 << 20).count(b"\n")
-            link.sendall(b"".join(held))
-            waiting += 2 * BATCH * len(held)
-            while waiting:
-                waiting -= link.recv(1 << 20).count(b"\n")
-
-        yield publish
-        link.close()
-
-    return producer
-
-
-KEY = re.compile(rb"\*2\r\n\$\d+\r\n(s:\d+)\r\n")
-IDENTIFIER = re.compile(rb"\$\d+\r\n\d+-\d+\r\n")
-ACKNOWLEDGED = re.compile(rb"(?::\d+\r\n)*")
 PING, PONG = command("PING"), b"+PONG\r\n"
 
 
+def keys_of(load):
+    return [b"s:%d" % number for number in range(load.consumers)]
+
+
+def words_of(keeps):
+    """The command of the server, which keeps its data in a file that is written through each second, or doesn't."""
+
+    def words(port, folder):
+        kept = ["--appendonly", "yes", "--appendfsync", "everysec"] if keeps else ["--appendonly", "no"]
+        return ["redis-server", "--bind", "127.0.0.1", "--port", str(port), "--dir", folder, "--save", "", *kept]
+
+    return words
+
+
+def talk(link, commands):
+    """The replies to commands. The reply to a PING behind them says where they end."""
+    link.sendall(commands + PING)
+    replies = bytearray()
+    while not replies.endswith(PONG):
+        replies += receive(link)
+    return bytes(replies[: -len(PONG)])
+
+
+def produce(link, load):
+    payload = b"e" * load.payload
+    batches = [command("XADD", key, "*", "d", payload) * BATCH for key in keys_of(load)]
+    halves = 0
+
+    def answers():
+        # The reply to each XADD has two lines: the length of the identifier, and itself.
+        nonlocal halves
+        halves += receive(link).count(b"\n")
+        whole, halves = divmod(halves, 2)
+        return whole
+
+    return lambda: load.publish(batches, link.sendall, answers)
+
+
 def acknowledgements(reply):
-    """The commands that acknowledge the events of a reply, and how many these are."""
+    """The commands that acknowledge the events of a reply, and how many events these are."""
     commands, count = [], 0
     parts = KEY.split(reply)
-    for number in range(1, len(parts), 2):
-        own = IDENTIFIER.findall(parts[number + 1])
+    for key, events in zip(parts[1::2], parts[2::2]):
+        own = IDENTIFIER.findall(events)
         count += len(own)
-        head = b"*%d\r\n$4\r\nXACK\r\n$%d\r\n%b\r\n$1\r\ng\r\n" % (len(own) + 3, len(parts[number]), parts[number])
-        commands.append(head + b"".join(own))
+        commands.append(b"*%d\r\n$4\r\nXACK\r\n$%d\r\n%b\r\n$1\r\ng\r\n" % (len(own) + 3, len(key), key))
+        commands += own
     return b"".join(commands), count
 
 
-def consumer_of(port, load):
-    @contextmanager
-    def consumer():
-        link = connect(port)
-        keys = [key(number) for number in range(load.consumers)]
-        news = [b">"] * load.consumers
-        read = command("XREADGROUP", "GROUP", "g", "c", "COUNT", PIPELINE, "BLOCK", 10_000, "STREAMS", *keys, *news)
+def consume(link, load):
+    keys = keys_of(load)
+    new = [b">"] * len(keys)
+    read = command("XREADGROUP", "GROUP", "g", "c", "COUNT", PIPELINE, "BLOCK", 10_000, "STREAMS", *keys, *new)
 
-        def talk(told):
-            link.sendall(told + PING)
-            parts = [link.recv(1 << 20)]
-            while not (parts[-1] if len(parts[-1]) >= 7 else b"".join(parts)).endswith(PONG):
-                parts.append(link.recv(1 << 20))
-            reply = b"".join(parts)
+    def handle():
+        handled = acknowledged = 0
+        acks = b""
+        while acknowledged < load.events:
+            reply = talk(link, acks + (read if handled < load.events else b""))
             acked = ACKNOWLEDGED.match(reply).group()
-            return reply[len(acked) :], sum(int(it) for it in acked.replace(b":", b"").split())
+            acknowledged += sum(int(number) for number in acked.replace(b":", b"").split())
+            acks, count = acknowledgements(reply[len(acked) :])
+            handled += count
+        if not handled == acknowledged == load.events:
+            raise RuntimeError("not each event was acknowledged once")
 
-        def handle():
-            handled = acknowledged = 0
-            acks = b""
-            while handled < load.events:
-                reply, acked = talk(acks + read)
-                acknowledged += acked
-                acks, count = acknowledgements(reply)
-                handled += count
-            acknowledged += talk(acks)[1]
-            if not handled == acknowledged == load.events:
-                raise RuntimeError("not each event was acknowledged once")
-
-        yield handle
-        link.close()
-
-    return consumer
+    return handle
 
 
-def run(load, keeps=False):
+def run(load, keeps):
     """A run on a new server."""
-    with Server(words_of(keeps)) as server:
-        link = connect(server.port)
-        made = b"".join(
-            command("XGROUP", "CREATE", key(number), "g", "$", "MKSTREAM") for number in range(load.consumers)
-        )
-        ask(link, made, load.consumers)
-        done = measure(server, producer_of(server.port, load), consumer_of(server.port, load))
-        lengths = ask(link, b"".join(command("XLEN", key(number)) for number in range(load.consumers)), load.consumers)
-        if lengths != b":%d\r\n" % load.each * load.consumers:
+    with Server(words_of(keeps)) as server, connect(server.port) as link:
+        keys = keys_of(load)
+        made = talk(link, b"".join(command("XGROUP", "CREATE", key, "g", "$", "MKSTREAM") for key in keys))
+        if made != b"+OK\r\n" * len(keys):
+            raise RuntimeError("a group isn't made")
+        done = measure(server, produce, consume, load)
+        lengths = talk(link, b"".join(command("XLEN", key) for key in keys))
+        if lengths != b":%d\r\n" % load.each * len(keys):
             raise RuntimeError("a stream has another length")
-        link.close()
         return done
