@@ -9,6 +9,7 @@ NAMES = {False: "JetStream, in memory", True: "JetStream, file"}
 LONG = 300_000_000_000
 
 DELIVERED = re.compile(rb"MSG s\.(\d+) 1 (\S+) \d+\r\n")
+PING = b"PING\r\n"
 ANSWERED = re.compile(rb"MSG _A 2 +0\r\n")
 
 
@@ -37,6 +38,10 @@ def ask(link, subject, body=None):
     told = b""
     while True:
         told += receive(link)
+        # The server asks now and then whether somebody is there.
+        if PING in told:
+            told = told.replace(PING, b"")
+            link.sendall(b"PONG\r\n")
         head, _, rest = told.partition(b"\r\n")
         if rest and len(rest) == int(head.split()[-1]) + 2:
             break
