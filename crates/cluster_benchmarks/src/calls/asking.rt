@@ -1,0 +1,50 @@
+//! What is asked over and over, and what of a reply counts.
+use anyhow::Result;
+use std::alloc::{AllocError, Global};
+use stream_ident::{Batch, Payload, StreamId};
+use stream_model::{Op, Reply};
+
+/// What is asked over and over, of a partition that is empty at first.
+#[derive(Clone, Copy)]
+pub enum Asking {
+    /// A batch of one event is published. The log keeps it.
+    Publish(StreamId, Payload),
+    /// Whether everything is handled. It is, and nothing changes: no operation takes less time.
+    Quiet,
+}
+
+/// All that is measured.
+pub fn askings() -> Result<[Asking; 2]> {
+    let publish = Asking::Publish(StreamId::new(b"orders", b"ann")?, Payload::new(b"one box")?);
+    Ok([publish, Asking::Quiet])
+}
+
+impl Asking {
+    pub fn name(&self) -> &'static str {
+        match self {
+            Asking::Publish(..) => "Publish",
+            Asking::Quiet => "Quiet",
+        }
+    }
+
+    /// The operation.
+    pub fn operation(&self, alloc: Global) -> Result<Op, AllocError> {
+        Ok(match *self {
+            Asking::Publish(stream, payload) => Op::Publish {
+                stream,
+                payloads: Batch::of(vec![in alloc; payload]?),
+            },
+            Asking::Quiet => Op::Quiet,
+        })
+    }
+}
+
+/// A number for a reply, where what was asked for is done: the number of the batch and one more, or one. So the sum of
+/// all replies is the same in whatever order they come.
+pub fn number(reply: &Reply) -> Option<u64> {
+    match reply {
+        Reply::Published { seq } => Some(seq.wrapping_add(1)),
+        Reply::IsQuiet => Some(1),
+        _ => None,
+    }
+}

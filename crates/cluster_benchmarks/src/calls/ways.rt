@@ -1,0 +1,117 @@
+//! The ways to the same replies: a partition alone, and shared ones.
+use crate::calls::asking::{Asking, number};
+use crate::calls::seat::Seat;
+use anyhow::{Result, bail, ensure};
+use std::alloc::Global;
+use std::rt::Clock;
+use std::sync::Wait;
+use std::thread::{Threads, map_vec};
+use std::time::Instant;
+use step_core::Partition;
+use stream_model::{Limits, Op, Reply};
+use turnstile::StoredHistory;
+
+/// What was told to so many calls, and how long they took.
+#[derive(Clone, Copy)]
+pub struct Told {
+    pub calls: usize,
+    /// The sum of the numbers of all replies.
+    pub sum: u64,
+    pub seconds: f64,
+}
+
+/// Whether as many calls were told the same.
+pub fn agree(one: Told, other: Told) -> bool {
+    one.calls == other.calls && one.sum == other.sum
+}
+
+/// A partition that nobody shares does all.
+pub fn alone<C: Clock>(clock: &C, alloc: Global, asking: &Asking, calls: usize) -> Result<Told> {
+    let mut partition = Partition::new(alloc, 4, Limits::GREATEST)?;
+    let start = Instant::now(clock)?;
+    let sum = apply_all(alloc, &mut partition, asking, calls)?;
+    let seconds = start.elapsed(clock)?.as_secs_f64();
+    Ok(Told {
+        calls,
+        sum,
+        seconds,
+    })
+}
+
+/// The sum of the numbers of so many replies of a partition.
+fn apply_all(
+    alloc: Global,
+    partition: &mut Partition,
+    asking: &Asking,
+    calls: usize,
+) -> Result<u64> {
+    let mut sum = 0u64;
+    for _ in 0..calls {
+        let op = asking.operation(alloc)?;
+        let Some(number) = number(&partition.apply(alloc, &op)?) else {
+            bail!("what was asked for isn't done");
+        };
+        sum = sum.wrapping_add(number);
+    }
+    Ok(sum)
+}
+
+/// So many threads make the calls at a shared partition, each as many as the others, and then all of them are in its
+/// history.
+pub fn shared<H: StoredHistory<Op, Reply> + Send, R: Clock + Threads + Wait + Sync>(
+    rt: &R,
+    alloc: Global,
+    threads: usize,
+    asking: &Asking,
+    calls: usize,
+) -> Result<Told> {
+    let mut first = Seat::<H>::open(alloc)?;
+    let seats = first.split_off(alloc, threads)?;
+    let each = calls.checked_div(threads).unwrap_or(0);
+    let start = Instant::now(rt)?;
+    let sum = ask_in_threads(rt, alloc, seats, asking, each)?;
+    let seconds = start.elapsed(rt)?.as_secs_f64();
+    ensure!(
+        first.count(rt, alloc) == calls as u64,
+        "not each call is in the history"
+    );
+    Ok(Told {
+        calls,
+        sum,
+        seconds,
+    })
+}
+
+/// Each pass makes so many calls, in a thread of its own.
+fn ask_in_threads<H: StoredHistory<Op, Reply> + Send, R: Threads + Wait + Sync>(
+    rt: &R,
+    alloc: Global,
+    seats: Vec<Seat<H>>,
+    asking: &Asking,
+    calls: usize,
+) -> Result<u64> {
+    let sums = map_vec(
+        rt,
+        seats,
+        &|seat: Seat<H>| { ask_all(rt, alloc, seat, asking, calls) },
+    )?;
+    let mut all = 0u64;
+    for sum in &sums {
+        let Some(sum) = sum else {
+            bail!("a shared call isn't done");
+        };
+        all = all.wrapping_add(*sum);
+    }
+    Ok(all)
+}
+
+/// The sum of the numbers of the replies to so many calls of a pass.
+fn ask_all<H: StoredHistory<Op, Reply>, R: Wait>(
+    rt: &R,
+    alloc: Global,
+    mut seat: Seat<H>,
+    asking: &Asking,
+    calls: usize,
+) -> Option<u64> {
+    seat.ask_all(rt, alloc, asking, calls)
+}

@@ -1,0 +1,105 @@
+//! Measures how long a cluster takes from the first publish until each event is handled and its turn committed.
+mod load;
+mod producing;
+mod tally;
+
+use crate::setting::config_of;
+use crate::throughput::load::{FEW, Load, load_of};
+use crate::throughput::producing::{publish_all, subscribe_all};
+use crate::throughput::tally::{Tally, wait_until};
+use anyhow::{Result, bail, ensure};
+use std::alloc::Global;
+use std::rt::Clock;
+use std::sync::{Arc, Wait};
+use std::thread::Threads;
+use std::time::Instant;
+use streams::{Drained, Finished, UntracedCluster, drain};
+
+/// How many blocks of 64 events the cache of a queue has: as many as it may.
+const BLOCKS: usize = 64;
+
+/// Prints how many events were handled, and in how many seconds.
+pub fn time<R: Print + Clock + Threads + Wait + Copy + Send + 'static>(
+    rt: &R,
+    alloc: Global,
+    words: &[String],
+) -> Result<()> {
+    let load = load_of(words);
+    let ran = go(rt, alloc, &load)?;
+    ensure!(agree(&load, &ran), "not each event is handled once");
+    let (events, seconds) = (load.events(), ran.seconds);
+    println!(rt; "{events} events in {seconds:.6} seconds")?;
+    Ok(())
+}
+
+/// Sees that each event is handled once, and that a difference is told.
+pub fn check<R: Print + Clock + Threads + Wait + Copy + Send + 'static>(
+    rt: &R,
+    alloc: Global,
+) -> Result<()> {
+    let ran = go(rt, alloc, &FEW)?;
+    ensure!(agree(&FEW, &ran), "not each event is handled once");
+    let fewer = Ran {
+        handled: ran.handled.saturating_sub(1),
+        ..ran
+    };
+    let more = Ran {
+        lines: ran.lines.saturating_add(1),
+        ..ran
+    };
+    let is_told = !agree(&FEW, &fewer) && !agree(&FEW, &more);
+    ensure!(is_told, "another number was taken for the same");
+    println!(rt; "each event that was published is handled once")?;
+    Ok(())
+}
+
+/// What came of a run.
+#[derive(Clone, Copy)]
+struct Ran {
+    /// The seconds from the first publish until all queues were quiet.
+    seconds: f64,
+    /// How often the handler was called.
+    handled: u64,
+    /// How many lines the report has.
+    lines: usize,
+}
+
+/// Whether the handler was called once for each event, and the report has a line for itself, one for each consumer and
+/// one for each event.
+fn agree(load: &Load, ran: &Ran) -> bool {
+    let lines = load.events().saturating_add(load.consumers);
+    ran.handled == load.events() as u64 && ran.lines == lines.saturating_add(1)
+}
+
+/// Starts a cluster, publishes all to it, and ends it when each event is handled.
+fn go<R: Clock + Threads + Wait + Copy + Send + 'static>(
+    rt: &R,
+    alloc: Global,
+    load: &Load,
+) -> Result<Ran> {
+    let config = config_of(load.silos, load.queues, BLOCKS);
+    let tally = Arc::new(alloc, Tally::new())?;
+    let gate = Arc::try_clone(&tally)?;
+    let (cluster, mut caller) = UntracedCluster::new(rt, alloc, &config, gate)?;
+    let streams = subscribe_all(rt, alloc, &mut caller, load.consumers)?;
+    let payload = load.payload(alloc)?;
+    let start = Instant::now(rt)?;
+    publish_all(rt, alloc, &mut caller, &streams, payload, load.rounds)?;
+    wait_until(rt, &tally, load.events() as u64)?;
+    let drained = drain(rt, alloc, &mut caller)?;
+    let seconds = start.elapsed(rt)?.as_secs_f64();
+    ensure!(drained == Drained::Quiet, "the queues don't get quiet");
+    let Finished::Report { text, .. } = cluster.finish(rt, alloc, vec![in alloc; caller]?)? else {
+        bail!("there is no report")
+    };
+    Ok(Ran {
+        seconds,
+        handled: tally.handled(),
+        lines: lines_of(&text),
+    })
+}
+
+/// How many lines a text has.
+fn lines_of(text: &[u8]) -> usize {
+    text.iter().filter(|byte| **byte == b'\n').count()
+}
