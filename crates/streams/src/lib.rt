@@ -7,11 +7,19 @@
 //! What each call promises stands in the crate that it comes from, and is proved there. Nothing here has code.
 #![tactic(auto)]
 
+mod answers;
+mod service;
+
 pub use activation_directory::{DirectoryOp, DirectoryReply};
+pub use answers::{
+    CallError, CloseError, Closed, PublishError, SettleError, SiloError, SubscribeError,
+    Subscription, UnsubscribeError,
+};
 pub use cluster_callers::Caller;
 pub use cluster_ending::{Finished, Traces};
 pub use queue_mapper::queue;
 pub use script_producer::{Drained, drain};
+pub use service::{Host, Service};
 pub use shared_partition::{Counting, Gate};
 pub use step_core::{Partition, SubSummary};
 pub use stream_cluster::{Cluster, Config, Retired, SiloDown, SiloUp};
@@ -34,3 +42,9 @@ pub type TracedCluster<G> = Cluster<
     AskedHistory<Op, Reply>,
     ProofHistory<DirectoryOp, DirectoryReply>,
 >;
+
+/// A caller of an [`UntracedCluster`].
+pub type UntracedCaller<G> = Caller<G, ProofHistory<Op, Reply>>;
+
+/// A caller of a [`TracedCluster`].
+pub type TracedCaller<G> = Caller<G, AskedHistory<Op, Reply>>;
