@@ -1,5 +1,6 @@
 -- What a contract sees of a service, and what each of its calls does.
 use Rattle.std.specs.Prelude.{◌≡◌, ◌⊎◌, ℕ, zero, suc, ◌≤◌, Bool, false, ◌||◌, List, [], ◌∷◌, length, Option, Result, Ok, Err}
+use Rattle.std.specs.List.{AllZip}
 use Rattle.std.specs.declared.alloc.AllocError.{AllocError}
 use Rattle.stream_ident.specs.declared.ident.GrainId.{GrainId}
 use Rattle.stream_ident.specs.declared.ident.StreamId.{StreamId}
@@ -18,7 +19,7 @@ use Rattle.cluster_callers.specs.Calls.{CallerCalls, turnstiles}
 use Rattle.cluster_ending.specs.declared.finishing.Finished.{Finished}
 use Rattle.script_producer.specs.declared.draining.Drained.{Drained}
 use Rattle.script_producer.specs.declared.draining.Drained.TheVariants as drained
-use Rattle.script_producer.specs.Telling.{LooksQuiet}
+use Rattle.script_producer.specs.Telling.{HasGoneOn, LooksQuiet}
 use Rattle.stream_cluster.specs.declared.cluster.SiloDown.{SiloDown}
 use Rattle.stream_cluster.specs.declared.cluster.SiloUp.{SiloUp}
 use Rattle.stream_cluster.specs.declared.config.Config.{Config}
@@ -103,11 +104,13 @@ TellsRule (suc more) queue op new s result t =
 abbrev pub AddsRule : ServiceView → List ℕ → List ℕ → Result Bool CallError → ServiceView → Type 0
 AddsRule s kind namespace result t = TellsRule (length s.caller) 0 (op.AddRule kind namespace) false s result t
 
--- the queues were looked at until all were quiet in one look, or until that was given up
+-- The queues were looked at until all were quiet in one look, or until that was given up. Each pass has seen as much as
+-- before, and more.
 pub record Settles (s : ServiceView) (result : Result Unit SettleError) (t : ServiceView) : Type 0 where
   pub end : Result Drained AllocError
   pub is : result ≡ read.settled end
   pub quiet : end ≡ Ok drained.Quiet → LooksQuiet s.caller t.caller
+  pub on : AllZip HasGoneOn s.caller t.caller
   pub cluster : t.cluster ≡ s.cluster
 
 -- no silo has this number, and nothing was done

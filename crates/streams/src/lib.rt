@@ -1,10 +1,13 @@
 //! Streams over silos in one process: all that a service needs, in one place.
 //!
-//! A [`Cluster`] has queues, and silos that are threads. A [`Caller`] publishes to streams and subscribes grains, from
-//! any thread. A [`Gate`] has the handler, which is called for each event of a turn. [`Cluster::finish`] ends a cluster
-//! and gives its report, and what is left of each partition.
+//! A [`Service`] has queues, and silos that are threads: it publishes to streams, subscribes grains, and is closed with a
+//! report and what is left of each partition. A [`Gate`] has the handler, which is called for each event of a turn.
 //!
-//! What each call promises stands in the crate that it comes from, and is proved there. Nothing here has code.
+//! A service is a [`Cluster`] with its first [`Caller`]. Whoever publishes from several threads takes these two, and
+//! splits the caller; [`Cluster::finish`] then ends the cluster.
+//!
+//! What a call of a service promises is proved here: what it asks, at which queue, and how its answer is read from the
+//! reply. What the others promise stands in the crate that each comes from, and is proved there.
 #![tactic(auto)]
 
 mod answers;
