@@ -1,11 +1,10 @@
 //! A desk that sums up what a customer orders, on a cluster of two silos.
 #![tactic(auto)]
 
-use anyhow::{Result, bail, ensure};
+use anyhow::Result;
 use std::sync::Arc;
 use streams::{
-    Batch, Config, Event, Finished, Gate, GrainId, Limits, Op, Payload, Start, StreamId, SubName,
-    Token, UntracedCluster, drain,
+    Config, Event, Gate, GrainId, Limits, Payload, Service, Start, StreamId, SubName, Token,
 };
 
 const CONFIG: Config = Config {
@@ -33,25 +32,13 @@ impl Gate for Desks {
 }
 
 fn main(rt: HostRuntime) -> Result<()> {
-    let alloc = rt.alloc();
-    let (cluster, mut caller) = UntracedCluster::new(&rt, alloc, &CONFIG, Arc::new(alloc, Desks)?)?;
+    let mut service = Service::open(rt, &CONFIG, Arc::new(rt.alloc(), Desks)?)?;
     let stream = StreamId::new(b"orders", b"ann")?;
-    let grain = GrainId::new(b"desk", b"ann")?;
-    let queue = streams::queue(&stream, caller.queues());
-    let start = Start::Latest;
-    let subscribe = Op::Subscribe {
-        stream,
-        grain,
-        start,
-    };
-    ensure!(caller.call(&rt, alloc, queue, subscribe).is_ok());
-    let payloads = Batch::of(vec![in alloc; Payload::new(b"tea")?, Payload::new(b"milk")?]?);
-    let publish = Op::Publish { stream, payloads };
-    ensure!(caller.call(&rt, alloc, queue, publish).is_ok());
-    drain(&rt, alloc, &mut caller)?;
-    let Finished::Report { text, .. } = cluster.finish(&rt, alloc, vec![in alloc; caller]?)? else {
-        bail!("there is no report")
-    };
-    print!(rt; "{}", str::from_utf8(&text)?)?;
+    let desk = GrainId::new(b"desk", b"ann")?;
+    service.subscribe(stream, desk, Start::Latest)?;
+    service.publish(stream, &[Payload::new(b"tea")?, Payload::new(b"milk")?])?;
+    service.settle()?;
+    let closed = service.close()?;
+    print!(rt; "{}", str::from_utf8(&closed.report)?)?;
     Ok(())
 }

@@ -1,0 +1,97 @@
+//! The handler: monitors that keep the highest reading of each device, and an archive that is slow.
+use anyhow::Result;
+use std::alloc::Global;
+use std::rt::Clock;
+use std::sync::atomic::{AtomicBool, AtomicU64, Ordering};
+use std::thread;
+use std::time::Duration;
+use streams::{Event, Gate, Name, SubName, Token};
+
+// How often the archive looks at most whether it may go on, once in a millisecond.
+const MOST_LOOKS: u32 = 60_000;
+
+/// What all monitors and the archive share. The workers of all silos call it from their threads.
+#[derive(Drop)]
+pub struct Monitors<C> {
+    clock: C,
+    // the highest reading of each device, in tenths of a degree
+    highest: Vec<AtomicU64>,
+    archive_goes_on: AtomicBool,
+}
+
+impl<C: Clock + Copy> Monitors<C> {
+    /// Monitors of so many devices, none of which has sent a reading.
+    pub fn new(clock: C, alloc: Global, devices: usize) -> Result<Monitors<C>> {
+        let mut highest = Vec::with_capacity(alloc, devices)?;
+        for _ in 0..devices {
+            highest.push(AtomicU64::new(0))?;
+        }
+        Ok(Monitors {
+            clock,
+            highest,
+            archive_goes_on: AtomicBool::new(false),
+        })
+    }
+
+    /// The archive goes on with its work.
+    pub fn let_archive_go_on(&self) {
+        self.archive_goes_on.store(true, Ordering::SeqCst);
+    }
+
+    /// The highest reading of a device that was handled, in tenths of a degree, and 0 where there is none.
+    pub fn highest(&self, device: usize) -> u64 {
+        self.highest
+            .get(device)
+            .map_or(0, |highest| highest.load(Ordering::SeqCst))
+    }
+
+    // A monitor notes the reading of its device. It may see a reading twice, so it keeps the highest, and counts
+    // nothing.
+    fn note(&self, event: &Event) {
+        let Some(device) = number_of(&event.stream.key) else {
+            return;
+        };
+        let Some(tenths) = reading_of(event) else {
+            return;
+        };
+        if let Some(highest) = self.highest.get(device) {
+            highest.fetch_max(tenths, Ordering::SeqCst);
+        }
+    }
+
+    // The archive waits for its disk.
+    fn store(&self) {
+        for _ in 0..MOST_LOOKS {
+            if self.archive_goes_on.load(Ordering::SeqCst) {
+                break;
+            }
+            thread::sleep(&self.clock, Duration::from_millis(1));
+        }
+    }
+}
+
+impl<C: Clock + Copy + Send + Sync> Gate for Monitors<C> {
+    fn inside(&self, _queue: usize) {}
+
+    /// The note counts the readings of a subscription.
+    fn handle(&self, sub: &SubName, event: &Event, note: u64) -> u64 {
+        match sub {
+            SubName::Implicit { .. } => self.note(event),
+            SubName::Explicit(_) => self.store(),
+        }
+        note.saturating_add(1)
+    }
+
+    fn done(&self, _sub: &SubName, _token: Token) {}
+}
+
+/// The number of the device with this name: 17 of `d0017`.
+pub fn number_of(device: &Name) -> Option<usize> {
+    let text = str::from_utf8(device.as_bytes()).ok()?;
+    text.strip_prefix('d')?.parse().ok()
+}
+
+/// The reading of an event, in tenths of a degree.
+pub fn reading_of(event: &Event) -> Option<u64> {
+    str::from_utf8(event.payload.as_bytes()).ok()?.parse().ok()
+}

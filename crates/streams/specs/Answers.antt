@@ -1,0 +1,108 @@
+-- How what the calls of a service answer is read from the replies of a queue and of a cluster.
+use Rattle.std.specs.Prelude.{ℕ, Bool, true, false, Option, Some, None, Result, Ok, Err}
+use Rattle.std.specs.declared.alloc.AllocError.{AllocError}
+use Rattle.stream_ident.specs.declared.ident.SubName.{SubName}
+use Rattle.stream_ident.specs.declared.ident.SubName.TheVariants.{Explicit}
+use Rattle.stream_model.specs.declared.reply.Pending.{Pending}
+use Rattle.stream_model.specs.declared.reply.Reply.{Reply}
+use Rattle.stream_model.specs.declared.reply.Reply.TheVariants as reply
+use Rattle.turnstile.specs.declared.turnstile.Refusal.{Refusal}
+use Rattle.turnstile.specs.declared.turnstile.Refusal.TheVariants.{HistoryFull, Memory}
+use Rattle.cluster_ending.specs.declared.finishing.Finished.{Finished}
+use Rattle.cluster_ending.specs.declared.finishing.Finished.TheVariants as finished
+use Rattle.script_producer.specs.declared.draining.Drained.{Drained}
+use Rattle.script_producer.specs.declared.draining.Drained.TheVariants as drained
+use Rattle.stream_cluster.specs.declared.cluster.SiloDown.{SiloDown}
+use Rattle.stream_cluster.specs.declared.cluster.SiloDown.TheVariants as down
+use Rattle.stream_cluster.specs.declared.cluster.SiloUp.{SiloUp}
+use Rattle.stream_cluster.specs.declared.cluster.SiloUp.TheVariants as up
+use Rattle.streams.specs.declared.answers.CallError.{CallError}
+use Rattle.streams.specs.declared.answers.CallError.TheVariants as call
+use Rattle.streams.specs.declared.answers.CloseError.{CloseError}
+use Rattle.streams.specs.declared.answers.CloseError.TheVariants as close
+use Rattle.streams.specs.declared.answers.Closed.{Closed}
+use Rattle.streams.specs.declared.answers.PublishError.{PublishError}
+use Rattle.streams.specs.declared.answers.PublishError.TheVariants as publish
+use Rattle.streams.specs.declared.answers.SettleError.{SettleError}
+use Rattle.streams.specs.declared.answers.SettleError.TheVariants as settle
+use Rattle.streams.specs.declared.answers.SiloError.{SiloError}
+use Rattle.streams.specs.declared.answers.SiloError.TheVariants as silo
+use Rattle.streams.specs.declared.answers.SubscribeError.{SubscribeError}
+use Rattle.streams.specs.declared.answers.SubscribeError.TheVariants as subscribe
+use Rattle.streams.specs.declared.answers.Subscription.{Subscription}
+use Rattle.streams.specs.declared.answers.UnsubscribeError.{UnsubscribeError}
+use Rattle.streams.specs.declared.answers.UnsubscribeError.TheVariants as unsubscribe
+
+-- the name of a subscription at its queue
+abbrev pub name_of : Subscription → SubName
+name_of s = Explicit s.number
+
+-- the number of a batch; the other reply to a publish says that the queue is full
+abbrev pub published : Result Reply Refusal → Result ℕ PublishError
+published (Ok (reply.Published seq)) = Ok seq
+published (Ok reply.BadBatch) = Err publish.BadBatch
+published (Ok other) = Err publish.Limit
+published (Err HistoryFull) = Err publish.Limit
+published (Err Memory) = Err publish.Memory
+
+-- a subscription at a queue; the other reply to a subscribe says that there are too many
+abbrev pub subscribed : ℕ → Result Reply Refusal → Result Subscription SubscribeError
+subscribed queue (Ok (reply.Subscribed number)) = Ok (record { queue = queue; number = number })
+subscribed queue (Ok (reply.Miss requested low high)) = Err (subscribe.Miss low high)
+subscribed queue (Ok other) = Err subscribe.Limit
+subscribed queue (Err HistoryFull) = Err subscribe.Limit
+subscribed queue (Err Memory) = Err subscribe.Memory
+
+-- how many events a subscription has handled; the other reply to the unsubscribe of an explicit one says that there is
+-- none
+abbrev pub unsubscribed : Result Reply Refusal → Result ℕ UnsubscribeError
+unsubscribed (Ok (reply.Unsubscribed handled)) = Ok handled
+unsubscribed (Ok reply.Closed) = Err unsubscribe.Closed
+unsubscribed (Ok other) = Err unsubscribe.NoSuch
+unsubscribed (Err HistoryFull) = Err unsubscribe.Limit
+unsubscribed (Err Memory) = Err unsubscribe.Memory
+
+-- whether a rule is new at a queue; the other reply to a rule says that there are too many
+abbrev pub rule_added : Result Reply Refusal → Result Bool CallError
+rule_added (Ok (reply.RuleAdded from)) = Ok true
+rule_added (Ok reply.RuleThere) = Ok false
+rule_added (Ok other) = Err call.Limit
+rule_added (Err HistoryFull) = Err call.Limit
+rule_added (Err Memory) = Err call.Memory
+
+-- what is left to do at a queue; the other reply to a look says that it is quiet
+abbrev pub pending_of : Result Reply Refusal → Result (Option Pending) CallError
+pending_of (Ok (reply.NotQuiet why)) = Ok (Some why)
+pending_of (Ok other) = Ok None
+pending_of (Err HistoryFull) = Err call.Limit
+pending_of (Err Memory) = Err call.Memory
+
+abbrev pub settled : Result Drained AllocError → Result Unit SettleError
+settled (Ok drained.Quiet) = Ok tt
+settled (Ok drained.NotQuiet) = Err settle.NotQuiet
+settled (Ok drained.Limit) = Err settle.Limit
+settled (Err e) = Err settle.Memory
+
+abbrev pub came : Result SiloUp AllocError → Result Unit SiloError
+came (Ok up.Up) = Ok tt
+came (Ok up.Already) = Err silo.Already
+came (Ok up.Limit) = Err silo.Limit
+came (Ok up.Halted) = Err silo.Halted
+came (Err e) = Err silo.Memory
+
+abbrev pub went : Result SiloDown AllocError → Result Unit SiloError
+went (Ok down.Down) = Ok tt
+went (Ok down.NotLive) = Err silo.NotLive
+went (Ok down.LastSilo) = Err silo.LastSilo
+went (Ok down.Limit) = Err silo.Limit
+went (Ok down.Halted) = Err silo.Halted
+went (Err e) = Err silo.Memory
+
+-- what is left of a service whose cluster has ended so
+abbrev pub closing : {H : Type 0} → Finished H → Result Closed CloseError
+closing (finished.Report text traces) = Ok (record { report = text; partitions = traces.partitions })
+closing (finished.NotQuiet queue why traces) = Err (close.NotQuiet queue why)
+closing (finished.RoundLimit traces) = Err close.Limit
+closing (finished.Limit traces) = Err close.Limit
+closing (finished.NotAll queue missing) = Err close.NotAll
+closing finished.InUse = Err close.NotAll

@@ -1,0 +1,297 @@
+//! What the calls of a service answer, and how that is read from the replies of a queue and of a cluster.
+ghost use Rattle.std.specs.Prelude.{◌≡◌};
+ghost use Rattle.streams.specs.Answers as read;
+
+use cluster_ending::{Finished, Traces};
+use script_producer::Drained;
+use std::alloc::AllocError;
+use step_core::Partition;
+use stream_cluster::{SiloDown, SiloUp};
+use stream_ident::{SubName, Token};
+use stream_model::{Pending, Reply};
+use thiserror::Error;
+use turnstile::Refusal;
+
+/// A subscription that a grain made.
+#[derive(Clone, Copy, Debug, PartialEq, Eq)]
+pub struct Subscription {
+    /// The queue of its stream.
+    pub queue: usize,
+    /// Its number at that queue.
+    pub number: u32,
+}
+
+impl Subscription {
+    /// Its name at its queue.
+    pub fn name(&self) -> SubName
+        ensures { result ≡ read.name_of self.now }
+    {
+        SubName::Explicit(self.number)
+    }
+}
+
+/// What is left of a service that was closed.
+#[derive(Drop)]
+pub struct Closed {
+    /// The report: a line for each subscription, and one for each event that it has handled.
+    pub report: Vec<u8>,
+    /// The partition of each queue.
+    pub partitions: Vec<Partition>,
+}
+
+/// Why a queue doesn't answer a call.
+#[derive(Clone, Copy, Debug, PartialEq, Eq, Error)]
+pub enum CallError {
+    /// There is no such queue.
+    #[error("there is no such queue")]
+    NoQueue,
+    /// The queue has as many rules as it may have, or its history is full.
+    #[error("a limit of the queue is reached")]
+    Limit,
+    /// The call failed to allocate.
+    #[error("no memory")]
+    Memory,
+}
+
+/// Why a batch isn't published.
+#[derive(Clone, Copy, Debug, PartialEq, Eq, Error)]
+pub enum PublishError {
+    /// The batch has no payload, or more than 64.
+    #[error("a batch has 1 to 64 payloads")]
+    BadBatch,
+    /// The queue has as many events as it may have, or its history is full.
+    #[error("a limit of the queue is reached")]
+    Limit,
+    /// The call failed to allocate.
+    #[error("no memory")]
+    Memory,
+}
+
+/// Why a subscription isn't made.
+#[derive(Clone, Copy, Debug, PartialEq, Eq, Error)]
+pub enum SubscribeError {
+    /// The start token is below that of the first event that the cache keeps.
+    #[error("the cache keeps no event before {}.{}", low.seq, low.idx)]
+    Miss {
+        /// The token of the first event that the cache keeps.
+        low: Token,
+        /// The token after the last event that the cache has.
+        high: Token,
+    },
+    /// The queue has as many subscriptions as it may have, or its history is full.
+    #[error("a limit of the queue is reached")]
+    Limit,
+    /// The call failed to allocate.
+    #[error("no memory")]
+    Memory,
+}
+
+/// Why a subscription isn't ended.
+#[derive(Clone, Copy, Debug, PartialEq, Eq, Error)]
+pub enum UnsubscribeError {
+    /// There is no such subscription.
+    #[error("there is no such subscription")]
+    NoSuch,
+    /// The subscription has ended already.
+    #[error("the subscription has ended already")]
+    Closed,
+    /// The history of the queue is full.
+    #[error("a limit of the queue is reached")]
+    Limit,
+    /// The call failed to allocate.
+    #[error("no memory")]
+    Memory,
+}
+
+/// Why a service doesn't settle.
+#[derive(Clone, Copy, Debug, PartialEq, Eq, Error)]
+pub enum SettleError {
+    /// Not all queues got quiet: a loop has ended, or there were 100,000 looks at the queues.
+    #[error("not all queues get quiet")]
+    NotQuiet,
+    /// The history of a queue is full.
+    #[error("a limit of a queue is reached")]
+    Limit,
+    /// The call failed to allocate.
+    #[error("no memory")]
+    Memory,
+}
+
+/// Why a silo doesn't come or go.
+#[derive(Clone, Copy, Debug, PartialEq, Eq, Error)]
+pub enum SiloError {
+    /// Silos are numbered from 0 to 15.
+    #[error("silos are numbered from 0 to 15")]
+    NoSilo,
+    /// A silo that was to come lives already.
+    #[error("the silo lives already")]
+    Already,
+    /// A silo that was to go doesn't live.
+    #[error("the silo doesn't live")]
+    NotLive,
+    /// No other silo lives than the one that was to go.
+    #[error("no other silo lives")]
+    LastSilo,
+    /// The history of a queue or of the directory is full, or a queue has moved as often as it may. The cluster's
+    /// silos don't change any more.
+    #[error("a limit of a queue is reached")]
+    Limit,
+    /// The cluster's silos don't change any more.
+    #[error("the silos don't change any more")]
+    Halted,
+    /// The call failed to allocate, or a thread can't be made. The cluster's silos don't change any more.
+    #[error("no memory")]
+    Memory,
+}
+
+/// Why a service is closed without a report.
+#[derive(Clone, Copy, Debug, PartialEq, Eq, Error)]
+pub enum CloseError {
+    /// Something is left to do at a queue.
+    #[error("queue {queue} isn't quiet: {why:?}")]
+    NotQuiet {
+        /// The first such queue.
+        queue: usize,
+        /// What is left to do there.
+        why: Pending,
+    },
+    /// A loop has come to a limit, or has made as many rounds as it may, or the history of a queue is full.
+    #[error("a limit of a queue or of a loop is reached")]
+    Limit,
+    /// A caller that was split off has not come back.
+    #[error("a caller has not come back")]
+    NotAll,
+    /// The call failed to allocate, or a loop had.
+    #[error("no memory")]
+    Memory,
+}
+
+// The number of a batch, by the reply to its publish.
+pub(crate) fn published(reply: Result<Reply, Refusal>) -> Result<u64, PublishError>
+    ensures { result ≡ read.published reply }
+{
+    match reply {
+        Ok(Reply::Published { seq }) => Ok(seq),
+        Ok(Reply::BadBatch) => Err(PublishError::BadBatch),
+        Ok(_) | Err(Refusal::HistoryFull) => Err(PublishError::Limit),
+        Err(Refusal::Memory) => Err(PublishError::Memory),
+    }
+}
+
+// The subscription at a queue, by the reply to its subscribe.
+pub(crate) fn subscribed(
+    queue: usize,
+    reply: Result<Reply, Refusal>,
+) -> Result<Subscription, SubscribeError>
+    ensures { result ≡ read.subscribed queue reply }
+{
+    match reply {
+        Ok(Reply::Subscribed { number }) => Ok(Subscription { queue, number }),
+        Ok(Reply::Miss { low, high, .. }) => Err(SubscribeError::Miss { low, high }),
+        Ok(_) | Err(Refusal::HistoryFull) => Err(SubscribeError::Limit),
+        Err(Refusal::Memory) => Err(SubscribeError::Memory),
+    }
+}
+
+// How many events a subscription has handled, by the reply to its unsubscribe.
+pub(crate) fn unsubscribed(reply: Result<Reply, Refusal>) -> Result<usize, UnsubscribeError>
+    ensures { result ≡ read.unsubscribed reply }
+{
+    match reply {
+        Ok(Reply::Unsubscribed { handled }) => Ok(handled),
+        Ok(Reply::Closed) => Err(UnsubscribeError::Closed),
+        Ok(_) => Err(UnsubscribeError::NoSuch),
+        Err(Refusal::HistoryFull) => Err(UnsubscribeError::Limit),
+        Err(Refusal::Memory) => Err(UnsubscribeError::Memory),
+    }
+}
+
+// Whether a rule is new at a queue, by the reply to it.
+pub(crate) fn rule_added(reply: Result<Reply, Refusal>) -> Result<bool, CallError>
+    ensures { result ≡ read.rule_added reply }
+{
+    match reply {
+        Ok(Reply::RuleAdded { .. }) => Ok(true),
+        Ok(Reply::RuleThere) => Ok(false),
+        Ok(_) | Err(Refusal::HistoryFull) => Err(CallError::Limit),
+        Err(Refusal::Memory) => Err(CallError::Memory),
+    }
+}
+
+// What is left to do at a queue, by the reply to a look.
+pub(crate) fn pending_of(reply: Result<Reply, Refusal>) -> Result<Option<Pending>, CallError>
+    ensures { result ≡ read.pending_of reply }
+{
+    match reply {
+        Ok(Reply::NotQuiet(why)) => Ok(Some(why)),
+        Ok(_) => Ok(None),
+        Err(Refusal::HistoryFull) => Err(CallError::Limit),
+        Err(Refusal::Memory) => Err(CallError::Memory),
+    }
+}
+
+// Whether all queues got quiet, by how a drain has ended.
+pub(crate) fn settled(drained: Result<Drained, AllocError>) -> Result<(), SettleError>
+    ensures { result ≡ read.settled drained }
+{
+    match drained {
+        Ok(Drained::Quiet) => Ok(()),
+        Ok(Drained::NotQuiet) => Err(SettleError::NotQuiet),
+        Ok(Drained::Limit) => Err(SettleError::Limit),
+        Err(_) => Err(SettleError::Memory),
+    }
+}
+
+// Whether a silo has come.
+pub(crate) fn came(answer: Result<SiloUp, AllocError>) -> Result<(), SiloError>
+    ensures { result ≡ read.came answer }
+{
+    match answer {
+        Ok(SiloUp::Up) => Ok(()),
+        Ok(SiloUp::Already) => Err(SiloError::Already),
+        Ok(SiloUp::Limit) => Err(SiloError::Limit),
+        Ok(SiloUp::Halted) => Err(SiloError::Halted),
+        Err(_) => Err(SiloError::Memory),
+    }
+}
+
+// Whether a silo has gone.
+pub(crate) fn went(answer: Result<SiloDown, AllocError>) -> Result<(), SiloError>
+    ensures { result ≡ read.went answer }
+{
+    match answer {
+        Ok(SiloDown::Down) => Ok(()),
+        Ok(SiloDown::NotLive) => Err(SiloError::NotLive),
+        Ok(SiloDown::LastSilo) => Err(SiloError::LastSilo),
+        Ok(SiloDown::Limit) => Err(SiloError::Limit),
+        Ok(SiloDown::Halted) => Err(SiloError::Halted),
+        Err(_) => Err(SiloError::Memory),
+    }
+}
+
+// What is left of a service, by how its cluster has ended.
+pub(crate) fn closing<H: Drop>(finished: Finished<H>) -> Result<Closed, CloseError>
+    ensures { result ≡ read.closing finished }
+{
+    match finished {
+        Finished::Report { text, traces } => Ok(partitions_with(text, traces)),
+        Finished::NotQuiet {
+            queue,
+            why,
+            traces: _traces,
+        } => Err(CloseError::NotQuiet { queue, why }),
+        Finished::RoundLimit { .. } | Finished::Limit { .. } => Err(CloseError::Limit),
+        Finished::NotAll { .. } | Finished::InUse => Err(CloseError::NotAll),
+    }
+}
+
+// The report and the partitions; the histories are let go.
+fn partitions_with<H: Drop>(report: Vec<u8>, traces: Traces<H>) -> Closed
+    ensures { result ≡ record { report = report; partitions = traces.partitions } }
+{
+    let Traces {
+        histories: _histories,
+        partitions,
+    } = traces;
+    Closed { report, partitions }
+}

@@ -1,0 +1,235 @@
+//! A cluster with its first caller, as a service uses it.
+ghost use Rattle.std.specs.Prelude.{◌≡◌, ◌<◌, ◌≤◌, length, IfOk};
+ghost use Rattle.stream_cluster.specs.Clusters.{IsConfig};
+ghost use Rattle.streams.specs.Services.{AddsRule, AsksPending, Calls, ChangesDown, ChangesUp, Closes, IsNewService, Publishes, Settles, Subscribes, Unsubscribes, queue_of};
+
+use crate::answers::{
+    CallError, CloseError, Closed, PublishError, SettleError, SiloError, SubscribeError,
+    Subscription, UnsubscribeError, came, closing, pending_of, published, rule_added, settled,
+    subscribed, unsubscribed, went,
+};
+use crate::{UntracedCaller, UntracedCluster};
+use queue_mapper::queue;
+use script_producer::drain;
+use shared_partition::Gate;
+use std::alloc::{AllocError, Global};
+use std::marker::Model;
+use std::rt::Runtime;
+use std::sync::{Arc, Wait};
+use std::thread::Threads;
+use stream_cluster::Config;
+use stream_ident::{Batch, GrainId, Name, Payload, StreamId};
+use stream_model::{Op, Pending, Reply, Start};
+use turnstile::Refusal;
+
+/// A runtime that allocates, starts threads and waits for them in any thread, as the one that `main` has.
+pub trait Host: Runtime + AllocGlobal + Threads + Wait + Copy + Send + Sync + 'static {}
+
+impl<R: Runtime + AllocGlobal + Threads + Wait + Copy + Send + Sync + 'static> Host for R {}
+
+/// A cluster with its first caller, on a runtime: what a service asks of its streams, each by one call.
+///
+/// A contract sees the cluster and the caller.
+pub struct Service<R: Host, G: Gate> {
+    rt: R,
+    cluster: UntracedCluster<G>,
+    caller: UntracedCaller<G>,
+}
+
+impl<R: Host, G: Gate> Drop for Service<R, G> {
+    fn drop(self) {
+        let Self {
+            rt: _,
+            cluster: _,
+            caller: _,
+        } = self;
+    }
+}
+
+impl<R: Host, G: Gate> Model for Service<R, G> {
+    ghost use Rattle.streams.specs.Services.{IsService, ServiceView};
+
+    ghost Value = { ServiceView };
+
+    ghost view = { λ s. record { cluster = s.cluster; caller = s.caller } };
+
+    ghost invariant = { λ s. IsService (record { cluster = s.cluster; caller = s.caller }) };
+}
+
+impl<R: Host, G: Gate + 'static> Service<R, G> {
+    /// Starts a cluster whose events this gate handles.
+    ///
+    /// # Errors
+    /// The call failed to allocate, or a thread can't be made.
+    pub fn open(rt: R, config: &Config, gate: Arc<G, Global>) -> Result<Service<R, G>, AllocError>
+        requires { IsConfig config.now }
+        ensures { IfOk result (IsNewService config.now) }
+    {
+        let (cluster, caller) = UntracedCluster::new(&rt, rt.alloc(), config, gate)?;
+        Ok(Service {
+            rt,
+            cluster,
+            caller,
+        })
+    }
+
+    /// How many queues there are.
+    pub fn queues(&self) -> usize
+        ensures count { result ≡ length self.now.caller }
+        ensures some { 1 ≤ result }
+    {
+        self.caller.queues()
+    }
+
+    /// The queue of a stream.
+    pub fn queue_of(&self, stream: &StreamId) -> usize
+        ensures place { result ≡ queue_of self.now stream.now }
+        ensures queue { result < length self.now.caller }
+    {
+        queue(stream, self.caller.queues())
+    }
+
+    /// Publishes a batch of 1 to 64 payloads to a stream, and gives its number.
+    ///
+    /// # Errors
+    /// They are those of [`PublishError`]. Nothing was published.
+    pub fn publish(&mut self, stream: StreamId, payloads: &[Payload]) -> Result<u64, PublishError>
+        ensures { Publishes self.old stream payloads.now result self.new }
+    {
+        let Ok(payloads) = Vec::from_slice(self.rt.alloc(), payloads) else {
+            return Err(PublishError::Memory);
+        };
+        let payloads = Batch::of(payloads);
+        published(self.ask(self.queue_of(&stream), Op::Publish { stream, payloads }))
+    }
+
+    /// Subscribes a grain to a stream.
+    ///
+    /// # Errors
+    /// They are those of [`SubscribeError`]. No subscription was made.
+    pub fn subscribe(
+        &mut self,
+        stream: StreamId,
+        grain: GrainId,
+        start: Start,
+    ) -> Result<Subscription, SubscribeError>
+        ensures { Subscribes self.old stream grain start result self.new }
+    {
+        let queue = self.queue_of(&stream);
+        let op = Op::Subscribe {
+            stream,
+            grain,
+            start,
+        };
+        subscribed(queue, self.ask(queue, op))
+    }
+
+    /// Ends a subscription, and gives how many events it has handled. It handles none after this.
+    ///
+    /// # Errors
+    /// They are those of [`UnsubscribeError`]. Nothing has changed.
+    pub fn unsubscribe(&mut self, subscription: &Subscription) -> Result<usize, UnsubscribeError>
+        ensures { Unsubscribes self.old subscription.now result self.new }
+    {
+        let queue = subscription.queue;
+        if queue >= self.queues() {
+            return Err(UnsubscribeError::NoSuch);
+        }
+        let sub = subscription.name();
+        unsubscribed(self.ask(queue, Op::Unsubscribe { sub }))
+    }
+
+    /// From now on the grains of a kind consume the streams of a namespace, each the stream with its key. Each queue is
+    /// told so, and the result is whether one of them didn't have the rule yet.
+    ///
+    /// # Errors
+    /// A queue refused the rule. The queues before it have it.
+    pub fn add_rule(&mut self, kind: Name, namespace: Name) -> Result<bool, CallError>
+        ensures { AddsRule self.old kind namespace result self.new }
+    {
+        let mut is_new = false;
+        for queue in 0..self.queues() {
+            is_new |= rule_added(self.ask(queue, Op::AddRule { kind, namespace }))?;
+        }
+        Ok(is_new)
+    }
+
+    /// What is left to do at a queue, or none where everything is pulled, delivered and handled.
+    ///
+    /// # Errors
+    /// They are those of [`CallError`].
+    pub fn pending(&mut self, queue: usize) -> Result<Option<Pending>, CallError>
+        ensures { AsksPending self.old queue result self.new }
+    {
+        if queue >= self.queues() {
+            return Err(CallError::NoQueue);
+        }
+        pending_of(self.ask(queue, Op::Quiet))
+    }
+
+    /// Waits until everything is pulled, delivered and handled at all queues.
+    ///
+    /// # Errors
+    /// They are those of [`SettleError`].
+    pub fn settle(&mut self) -> Result<(), SettleError>
+        ensures { Settles self.old result self.new }
+    {
+        settled(drain(&self.rt, self.rt.alloc(), &mut self.caller))
+    }
+
+    /// A silo comes: its loops are started, and the queues are spread over all silos that live.
+    ///
+    /// # Errors
+    /// They are those of [`SiloError`].
+    pub fn silo_up(&mut self, silo: u8) -> Result<(), SiloError>
+        ensures { ChangesUp self.old silo result self.new }
+    {
+        if silo >= 16 {
+            return Err(SiloError::NoSilo);
+        }
+        came(self.cluster.silo_up(&self.rt, self.rt.alloc(), silo))
+    }
+
+    /// A silo goes: its loops are stopped, its grains are deactivated, and the queues are spread over the silos that
+    /// live. What waits or runs there is handled elsewhere.
+    ///
+    /// # Errors
+    /// They are those of [`SiloError`].
+    pub fn silo_down(&mut self, silo: u8) -> Result<(), SiloError>
+        ensures { ChangesDown self.old silo result self.new }
+    {
+        if silo >= 16 {
+            return Err(SiloError::NoSilo);
+        }
+        went(self.cluster.silo_down(&self.rt, self.rt.alloc(), silo))
+    }
+
+    /// Stops all silos, and gives the report and what is left of each partition.
+    ///
+    /// # Errors
+    /// They are those of [`CloseError`]. All silos have stopped, and what was left of the partitions is lost.
+    pub fn close(self) -> Result<Closed, CloseError>
+        ensures { Closes self result }
+    {
+        let Service {
+            rt,
+            cluster,
+            caller,
+        } = self;
+        let Ok(callers) = vec![in rt.alloc(); caller] else {
+            return Err(CloseError::Memory);
+        };
+        match cluster.finish(&rt, rt.alloc(), callers) {
+            Ok(finished) => closing(finished),
+            Err(_) => Err(CloseError::Memory),
+        }
+    }
+
+    // One call at a queue.
+    fn ask(&mut self, queue: usize, op: Op) -> Result<Reply, Refusal>
+        requires { queue < length self.old.caller }
+        ensures { Calls self.old queue op result self.new }
+    {
+        self.caller.call(&self.rt, self.rt.alloc(), queue, op)
+    }
+}
