@@ -27,7 +27,8 @@ pub trait Host: Runtime + AllocGlobal + Threads + Wait + Copy + Send + Sync + 's
 
 impl<R: Runtime + AllocGlobal + Threads + Wait + Copy + Send + Sync + 'static> Host for R {}
 
-/// A cluster with its first caller, on a runtime: what a service asks of its streams, each by one call.
+/// A cluster with its first caller, on a runtime: what a service asks of its streams, with an answer of its own for each
+/// call.
 ///
 /// A contract sees the cluster and the caller.
 pub struct Service<R: Host, G: Gate> {
