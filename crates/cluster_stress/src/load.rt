@@ -10,13 +10,15 @@ use std::alloc::Global;
 use std::process::Abort;
 use std::snapshot::Snapshot;
 use std::sync::{Arc, Barrier, Wait};
-use std::test::Fail;
 use std::thread;
 use std::thread::{Promise, PromisedHandle, Threads};
 use stream_cluster::{SiloDown, SiloUp};
 use turnstile::ProofHistory;
 
-/// How often the silos go and come.
+/// How many clusters each test runs, one after another. A test has a minute, on a machine that has other work too.
+const CLUSTERS: usize = 10;
+
+/// How often the silos of a cluster go and come.
 const ROUNDS: usize = 2;
 
 // How often a silo goes or comes in a round: all but one go, and come again.
@@ -66,18 +68,19 @@ fn go_and_come<R: Threads + Wait + Abort + Copy + Send + 'static>(
     }
 }
 
-// The silos go and come in each round.
+// The silos go and come in each round. The rounds are numbered from this number on.
 fn change_silos<R: Threads + Wait + Abort + Copy + Send + 'static>(
     rt: &R,
     alloc: Global,
     rounds: &Barrier,
     running: &mut Silos,
+    from: usize,
 )
     ensures { running.new ≡ running.old }
 {
     for round in 0..ROUNDS {
         let _ = rounds.wait(rt);
-        go_and_come(rt, alloc, running, round);
+        go_and_come(rt, alloc, running, from.wrapping_add(round));
     }
 }
 
@@ -170,6 +173,7 @@ fn publish_beside<R: Threads + Wait + Abort + Copy + Send + 'static>(
     alloc: Global,
     running: &mut Silos,
     producer: Producer,
+    from: usize,
 ) -> (Producer, Producer)
     requires { producer ≡ running.old }
     ensures running { running.new ≡ running.old }
@@ -182,7 +186,7 @@ fn publish_beside<R: Threads + Wait + Abort + Copy + Send + 'static>(
     let third = spawn_beside(rt, alloc, &rounds, &mut producer, 2);
     let fourth = spawn_beside(rt, alloc, &rounds, &mut producer, 3);
     let first = spawn(rt, alloc, &rounds, producer, 0);
-    change_silos(rt, alloc, &rounds, running);
+    change_silos(rt, alloc, &rounds, running, from);
     let mut first = first.join(rt);
     let mut second = second.join(rt);
     first.join(rt, third.join(rt));
@@ -223,22 +227,49 @@ fn run<R: Threads + Wait + Abort + Copy + Send + 'static>(
     rt: &R,
     alloc: Global,
     gate: Arc<Counting, Global>,
+    from: usize,
 ) {
     let started = start(rt, alloc, QUEUES, SILOS, ROOM, gate);
     let (mut running, mut producer) = started.expect(rt, "memory");
     subscribe_all(rt, alloc, &mut producer);
-    let (mut first, second) = publish_beside(rt, alloc, &mut running, producer);
+    let (mut first, second) = publish_beside(rt, alloc, &mut running, producer, from);
     assert!(rt; first.is_quiet(rt, alloc));
     let (ended, one, other) = running.finish(rt, alloc, first, second);
     check(rt, alloc, ended, one, other);
 }
 
-// Sixteen silos go and come under four producers in threads. Nothing that they were told was published is lost.
+// Sixteen silos go and come under four producers in threads, in one cluster after another. Nothing that the producers
+// were told was published is lost, and nothing is left of a cluster.
+fn run_each<R: Threads + Wait + Abort + Copy + Send + 'static>(rt: &R, alloc: Global, from: usize) {
+    let gate = Arc::new(alloc, Counting).expect(rt, "memory");
+    for _ in 0..CLUSTERS {
+        let shared = Arc::try_clone(&gate).expect(rt, "it is shared a few times");
+        run(rt, alloc, shared, from);
+        assert!(rt; Arc::strong_count(&gate) == 1);
+    }
+}
+
 #[test]
-fn silos_under_load(rt: HostRuntime) -> Result<(), Fail> {
-    let alloc = rt.alloc();
-    let gate = Arc::new(alloc, Counting)?;
-    run(&rt, alloc, Arc::try_clone(&gate)?);
-    assert!(rt; Arc::strong_count(&gate) == 1);
-    Ok(())
+fn silos_from_0_stay(rt: HostRuntime) {
+    run_each(&rt, rt.alloc(), 0);
+}
+
+#[test]
+fn silos_from_3_stay(rt: HostRuntime) {
+    run_each(&rt, rt.alloc(), 3);
+}
+
+#[test]
+fn silos_from_6_stay(rt: HostRuntime) {
+    run_each(&rt, rt.alloc(), 6);
+}
+
+#[test]
+fn silos_from_9_stay(rt: HostRuntime) {
+    run_each(&rt, rt.alloc(), 9);
+}
+
+#[test]
+fn silos_from_12_stay(rt: HostRuntime) {
+    run_each(&rt, rt.alloc(), 12);
 }
