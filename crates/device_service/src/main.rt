@@ -38,7 +38,10 @@ fn wait_for_the_archive<R: Host>(
     send_round(rt, service, 0, 0, DEVICES)?;
     println!(rt; "{DEVICES} devices have sent a reading")?;
     service.settle_others(slow)?;
-    ensure!(!service.is_quiet(slow)?, "the archive is faster than it can be");
+    ensure!(
+        !service.is_quiet(slow)?,
+        "the archive is faster than it can be"
+    );
     println!(rt; "the archive is slow: queue {slow} is behind, and all others are quiet")?;
     monitors.let_archive_go_on();
     service.settle()?;
@@ -106,7 +109,11 @@ fn print_alarms<R: Host>(rt: &R, monitors: &Monitors<R>) -> Result<()> {
     for device in 0..DEVICES {
         let highest = monitors.highest(device);
         if highest > LIMIT {
-            println!(rt; "alarm: device {device} has {}.{}", highest / 10, highest % 10)?;
+            println!(rt;
+                "alarm: device {device} has {}.{}",
+                highest / 10,
+                highest % 10
+            )?;
         }
     }
     Ok(())
