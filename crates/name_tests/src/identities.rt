@@ -139,6 +139,34 @@ fn subscriptions_have_explicit_ones_first(rt: HostRuntime) -> Result<(), Fail> {
     Ok(())
 }
 
+/// Keys of streams, batches and payloads of events in their order: the stream counts first, then the token, then the
+/// payload.
+const EVENTS: [(&[u8], u64, &[u8]); 4] = [
+    (b"6", 9, b"z"),
+    (b"7", 1, b"z"),
+    (b"7", 2, b"a"),
+    (b"7", 2, b"b"),
+];
+
+fn event_of((key, seq, payload): (&[u8], u64, &[u8])) -> Result<Event, Fail> {
+    Ok(Event {
+        stream: StreamId::new(b"orders", key)?,
+        token: Token { seq, idx: 0 },
+        payload: Payload::new(payload)?,
+    })
+}
+
+#[test]
+fn events_are_ordered_by_stream_and_token(rt: HostRuntime) -> Result<(), Fail> {
+    for (i, first) in EVENTS.iter().enumerate() {
+        for (j, second) in EVENTS.iter().enumerate() {
+            let (first, second) = (event_of(*first)?, event_of(*second)?);
+            assert!(rt; first.cmp(&second) == i.cmp(&j), "{i} and {j}");
+        }
+    }
+    Ok(())
+}
+
 const TOKENS: &[(&str, Result<Token, BadToken>)] = &[
     ("7.2", Ok(Token { seq: 7, idx: 2 })),
     (

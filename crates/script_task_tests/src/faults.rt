@@ -180,10 +180,21 @@ fn runs_without_a_report_are_told_once(rt: HostRuntime) -> Result<(), Fail> {
 
 /// Words, whether standard output is closed, what is printed on standard error or none where it is the text of the
 /// mistake itself, what is printed, and the status.
-const WORDS: [(&str, bool, Option<&str>, Prints, u8); 3] = [
+const WORDS: [(&str, bool, Option<&str>, Prints, u8); 4] = [
     ("fly", false, None, TOLD_ONCE, 2),
     (
         "--help",
+        false,
+        None,
+        Prints {
+            told: 0,
+            other: 0,
+            shown: 1,
+        },
+        0,
+    ),
+    (
+        "--version",
         false,
         None,
         Prints {
@@ -224,7 +235,11 @@ fn words_that_ask_for_no_task_are_told_once(rt: HostRuntime) -> Result<(), Fail>
     for (word, is_closed, text, prints, status) in WORDS {
         let fault = fault_of(alloc, word)?;
         let own = format!(in alloc; "{fault}")?;
-        let (printed, code) = reported(alloc, &fault, text.unwrap_or(own.as_str()), is_closed)?;
+        let text = match text {
+            Some(text) => text,
+            None => own.as_str(),
+        };
+        let (printed, code) = reported(alloc, &fault, text, is_closed)?;
         let wanted = format!(in alloc; "ExitCode(unix_exit_status({status}))")?;
         assert!(rt;
             printed == prints && code.as_str() == wanted.as_str(),

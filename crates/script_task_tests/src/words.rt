@@ -5,7 +5,7 @@ use std::test::Fail;
 
 /// Command lines, and what they ask for: the task, the file or a dash, silos where there are any, queues and blocks. Of
 /// those that ask for no task it is the status that they end with.
-const COMMAND_LINES: [(&[&str], &str); 31] = [
+const COMMAND_LINES: [(&[&str], &str); 33] = [
     (&["streams"], "sim - 1 4"),
     (&["streams", "sim"], "sim - 1 4"),
     (&["streams", "sim", "a b"], "sim a b 1 4"),
@@ -24,7 +24,9 @@ const COMMAND_LINES: [(&[&str], &str); 31] = [
     (&["streams", "sim", "--silos", "2"], "status 2"),
     (&["streams", "fly"], "status 2"),
     (&["streams", "--help"], "status 0"),
+    (&["streams", "--version"], "status 0"),
     (&["streams", "sim", "--help"], "status 0"),
+    (&["streams", "sim", "--version"], "status 2"),
     (&["streams", "run"], "run - 1 1 4"),
     (&["streams", "run", "run"], "run run 1 1 4"),
     (&["streams", "run", "--silos", "16"], "run - 16 1 4"),

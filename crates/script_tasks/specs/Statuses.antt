@@ -9,7 +9,7 @@ use Rattle.script_tasks.specs.declared.fault.ProgramFault.{ProgramFault}
 use Rattle.script_tasks.specs.declared.fault.ProgramFault.TheVariants as fault
 use Rattle.stream_script.specs.declared.simulate.SimError.TheVariants as error
 
--- the exit status of a fault, where it isn't help that was asked for
+-- the exit status of a fault, where it isn't help or the version that was asked for
 abbrev pub status_of : ProgramFault → ℕ
 status_of (fault.Script (error.ScriptFault found)) = 1
 status_of (fault.CommandLine wrong) = 2
@@ -18,7 +18,7 @@ status_of (fault.Script error.WriteFault) = 3
 status_of (fault.Script error.Memory) = 3
 status_of (fault.Unfinished why) = 4
 
--- what a mistake in the words ends with, and a request for help: that ends with 3 where help can't be printed
+-- what a mistake in the words ends with, and a request for help or the version: that ends with 3 where it can't be printed
 pub record EndsWords (wrong : Error) (status : ℕ) : Type 0 where
   pub mistake : kind_of wrong ≢ kind.DisplayHelp → kind_of wrong ≢ kind.DisplayVersion → status ≡ 2
   pub request : (kind_of wrong ≡ kind.DisplayHelp) ⊎ (kind_of wrong ≡ kind.DisplayVersion) → (status ≡ 0) ⊎ (status ≡ 3)

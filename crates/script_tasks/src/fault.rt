@@ -13,7 +13,7 @@ use thiserror::Error;
 /// What stops the program.
 #[derive(Debug, Drop, Error)]
 pub enum ProgramFault {
-    /// The command line is faulty, or asks for help.
+    /// The command line is faulty, or asks for help or for the version.
     #[error("{0}")]
     CommandLine(clap::Error),
     /// The script can't be read or is faulty, its text can't be written, or memory ran out.
@@ -34,7 +34,7 @@ fn reason(why: &Unfinished) -> &'static str {
 }
 
 impl ProgramFault {
-    /// Prints the fault on standard error, or help on standard output, and gives the exit status.
+    /// Prints the fault on standard error, or help or the version on standard output, and gives the exit status.
     pub fn report<R: Print + Eprint>(&self, rt: &R) -> ExitCode
         ensures { EndsWith self.now result }
     {
@@ -53,7 +53,7 @@ impl ProgramFault {
         ExitCode::from(self.status())
     }
 
-    /// The exit status, where it isn't help that was asked for: 1 a faulty script, 2 a faulty command line, 3 a read or
+    /// The exit status, where it isn't help or the version that was asked for: 1 a faulty script, 2 a faulty command line, 3 a read or
     /// write fault or a failure to allocate, 4 a run without a report.
     pub fn status(&self) -> u8
         ensures { result ≡ status_of self.now }
@@ -68,7 +68,8 @@ impl ProgramFault {
     }
 }
 
-/// Prints what is wrong with the words on standard error, or help on standard output, and gives the exit status.
+/// Prints what is wrong with the words on standard error, or help or the version on standard output, and gives the exit
+/// status.
 fn report_words<R: Print + Eprint>(error: &clap::Error, rt: &R) -> ExitCode
     ensures { EndsWords error.now (exit_status result) }
 {

@@ -10,6 +10,9 @@ use stream_cluster::Config;
 use stream_model::Limits;
 use stream_script::SimConfig;
 
+/// What `streams --version` says behind the name.
+const VERSION: &str = "0.1.0";
+
 /// What help says below the subcommands.
 const STATUSES: &str =
     r#"Without a subcommand a script is simulated. `streams sim --help` and `streams run --help` show an example.
@@ -124,7 +127,7 @@ pub enum Task {
 /// What the words ask for. Where there are none, they ask for a simulation with one queue and four blocks.
 ///
 /// # Errors
-/// A word isn't understood, help is asked for, or the call failed to allocate.
+/// A word isn't understood, help or the version is asked for, or the call failed to allocate.
 pub fn parse_options<'a>(alloc: Global, words: &'a [String]) -> Result<Request<'a>, clap::Error>
     ensures { IfOk result (λ request. IsTask request.task) }
 {
@@ -190,6 +193,7 @@ fn command<'a>(alloc: Global) -> Result<Command<'a>, AllocError> {
         .after_help(TRACE_EXAMPLE);
     Command::new(alloc, "streams")
         .bin_name("streams")?
+        .version(VERSION)
         .about("Streams of events for virtual actors: publishes, pulls, delivers and handles")
         .subcommand_required(true)
         .after_help(STATUSES)

@@ -35,6 +35,7 @@ fn main(rt: HostRuntime) -> anyhow::Result<ExitCode> {
     all &= simulates(&rt, "orders", sim_config(1, 4))?;
     all &= simulates(&rt, "device_readings", sim_config(1, 2))?;
     all &= simulates(&rt, "game_events", sim_config(4, 4))?;
+    all &= differs(&rt, "device_readings", sim_config(1, 4))?;
     all &= runs(&rt, "auctions", &run_config(2, 4, u64::MAX))?;
     all &= repeats(&rt, "auctions", &run_config(2, 4, 100_000))?;
     Ok(if all {
@@ -81,11 +82,34 @@ fn run_config(silos: u8, queues: usize, history: u64) -> Config
 fn simulates(rt: &HostRuntime, name: &str, config: SimConfig) -> anyhow::Result<bool>
     requires { IsSimConfig config }
 {
+    let text = simulated(rt, name, config)?;
+    shows(rt, name, text.as_slice())
+}
+
+/// Whether it is seen that an example gives other replies, since its cache is another one; that is also printed.
+fn differs(rt: &HostRuntime, name: &str, config: SimConfig) -> anyhow::Result<bool>
+    requires { IsSimConfig config }
+{
+    let text = simulated(rt, name, config)?;
+    let is_seen = !is_expected(rt, name, text.as_slice())?;
+    let verdict = if is_seen {
+        "a difference is seen"
+    } else {
+        "a difference is NOT seen"
+    };
+    println!(rt; "{name}, with another cache: {verdict}")?;
+    Ok(is_seen)
+}
+
+/// What a simulation of an example prints.
+fn simulated(rt: &HostRuntime, name: &str, config: SimConfig) -> anyhow::Result<Vec<u8>>
+    requires { IsSimConfig config }
+{
     let alloc = rt.alloc();
     let mut source = Counted::new(fs::open(rt, format!(in alloc; "{name}.script")?)?);
     let mut sink = Counted::new(Vec::new(alloc));
     sim(alloc, config, &mut source, &mut sink)?;
-    shows(rt, name, sink.into_inner().as_slice())
+    Ok(sink.into_inner())
 }
 
 /// Whether an example that is run on silos gives its replies, which is also printed.
@@ -155,7 +179,7 @@ fn are_repeated(
     let mut same = true;
     for queue in 0..traces.histories.len() {
         let trace = trace_of(alloc, config, queue, &traces.histories[queue])?;
-        same &= is_repeated(alloc, config, queue, trace.as_slice())?;
+        same &= is_repeated_alone(alloc, config, queue, trace)?;
     }
     Ok(same)
 }
@@ -172,6 +196,21 @@ fn trace_of(
 {
     let mut partition = Partition::new(alloc, config.blocks, config.limits)?;
     Ok(queue_trace(alloc, queue, &mut partition, history)?)
+}
+
+/// Whether the trace of a queue, simulated, gives the replies that its comments tell, and doesn't where a comment is added.
+fn is_repeated_alone(
+    alloc: Global,
+    config: &Config,
+    queue: usize,
+    mut trace: Vec<u8>,
+) -> anyhow::Result<bool>
+    requires { IsConfig config.now }
+{
+    let same = is_repeated(alloc, config, queue, trace.as_slice())?;
+    let comment = format!(in alloc; "# {queue} quiet\n")?;
+    trace.extend_from_slice(comment.as_bytes())?;
+    Ok(same && !is_repeated(alloc, config, queue, trace.as_slice())?)
 }
 
 /// Whether the trace of a queue, simulated, gives the replies that its comments tell.
@@ -207,8 +246,7 @@ fn lines_behind(alloc: Global, text: &[u8], beginning: &[u8]) -> Result<Vec<u8>,
 
 /// Whether this text is that of the example, which is also printed.
 fn shows<R: Files + Print + AllocGlobal>(rt: &R, name: &str, text: &[u8]) -> anyhow::Result<bool> {
-    let expected = fs::read(rt, format!(in rt.alloc(); "{name}.replies")?)?;
-    let same = text == expected.as_slice();
+    let same = is_expected(rt, name, text)?;
     let verdict = if same {
         "as expected"
     } else {
@@ -216,4 +254,10 @@ fn shows<R: Files + Print + AllocGlobal>(rt: &R, name: &str, text: &[u8]) -> any
     };
     println!(rt; "{name}: {verdict}")?;
     Ok(same)
+}
+
+/// Whether this text is that of the example.
+fn is_expected<R: Files + AllocGlobal>(rt: &R, name: &str, text: &[u8]) -> anyhow::Result<bool> {
+    let expected = fs::read(rt, format!(in rt.alloc(); "{name}.replies")?)?;
+    Ok(text == expected.as_slice())
 }

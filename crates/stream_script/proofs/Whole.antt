@@ -1,15 +1,15 @@
 -- What reading a script and doing it says of the source's bytes.
-use Rattle.std.proofs.Common.{◌≡◌, ℕ, ◌<◌, ◌≤◌, List, [], ◌++◌, length, Option, None, Some, Result, Ok, Err, refl, sym, ap, ◌∙◌, subst}
+use Rattle.std.proofs.Common.{◌≡◌, ℕ, suc, ◌<◌, ◌≤◌, List, [], ◌++◌, length, replicate, arith, Option, None, Some, Result, Ok, Err, refl, sym, ap, ◌∙◌, subst}
 use Rattle.std.specs.Prelude.{IfSome}
 use Rattle.std.specs.Io.KnownBytes.{Consumes, IsAtEnd, Keeps}
 use Rattle.std.proofs.KnownBytes.{Appends-nil, Appends-kept}
 use Rattle.std.proofs.lemmas.Bool.{le-ltb, lt-ltb}
-use Rattle.std.proofs.lemmas.List.{append-nil}
+use Rattle.std.proofs.lemmas.List.{append-nil, length-replicate}
 use Rattle.script_parser.specs.declared.command.Fault.{Fault}
 use Rattle.stream_script.specs.declared.simulate.SimConfig.{SimConfig}
 use Rattle.stream_script.specs.declared.simulate.SimError.{SimError}
 use Rattle.stream_script.specs.declared.simulate.SimError.TheVariants as error
-use Rattle.stream_script.specs.Simulation.{Outcome, Simulates, Finishes, ReadsScript, simulation, run_script, too_long}
+use Rattle.stream_script.specs.Simulation.{Outcome, Simulates, SimulatesSome, Finishes, ReadsScript, simulation, run_script, too_long}
 
 short_simulation : (config : SimConfig) (script : List ℕ) → length script ≤ 4194304 → simulation config script ≡ run_script config script
 unfolding simulation
@@ -50,3 +50,23 @@ pub script_refused : (remaining left old new : Option (List ℕ)) (config : SimC
 script_refused remaining left old new config e passed fault result given same read kept ends =
     let long : ReadsScript remaining left (Err (error.ScriptFault fault)) = subst (λ (x : SimError). ReadsScript remaining left (Err x)) same read in
     refused_input remaining old new config result long.1 kept (subst (λ (f : Fault). Finishes (Some f) result) (given ∙ long.0) ends)
+
+-- what was read was done
+pub some_done : (old new : Option (List ℕ)) (config : SimConfig) (script done : List ℕ) (result : Result Unit SimError)
+    → length script ≤ 4194304 → done ≡ script → Simulates old new (run_script config done) result → SimulatesSome old new config result
+some_done old new config script done result short same ran =
+    let whole : run_script config done ≡ simulation config script = ap (run_script config) same ∙ sym (short_simulation config script short) in
+    (script, subst (λ (outcome : Outcome). Simulates old new outcome result) whole ran)
+
+longer : (n : ℕ) → (input : List ℕ) × (n < length input)
+longer n = (replicate (suc n) 0, omega (arith, length-replicate {A = ℕ} (suc n) 0))
+
+-- a script is too long, and nothing was written
+pub some_refused : (old new : Option (List ℕ)) (remaining left : Option (List ℕ)) (config : SimConfig) (e : SimError) (passed fault : Fault) (result : Result Unit SimError)
+    → passed ≡ fault → e ≡ error.ScriptFault fault → ReadsScript remaining left (Err e) → Keeps old new → Finishes (Some passed) result
+    → SimulatesSome old new config result
+some_refused old new remaining left config e passed fault result given same read kept ends =
+    let long : ReadsScript remaining left (Err (error.ScriptFault fault)) = subst (λ (x : SimError). ReadsScript remaining left (Err x)) same read in
+    let finished : Finishes (Some too_long) result = subst (λ (f : Fault). Finishes (Some f) result) (given ∙ long.0) ends in
+    let input = longer 4194304 in
+    (input.0, subst (λ (outcome : Outcome). Simulates old new outcome result) (sym (long_simulation config input.0 input.1)) (refused old new result kept finished))

@@ -129,6 +129,10 @@ Simulates old new outcome (Err error.WriteFault) = AppendsFront old new outcome.
 Simulates old new outcome (Err error.Memory) = AppendsFront old new outcome.text
 Simulates old new outcome (Err error.ReadFault) = Appends old new []
 
+-- There is an input whose simulation was written. Which one it is can be told where the bytes of the source are known.
+abbrev pub SimulatesSome : Option (List ℕ) → Option (List ℕ) → SimConfig → Result Unit SimError → Type 0
+SimulatesSome old new config result = (input : List ℕ) × Simulates old new (simulation config input) result
+
 -- the same of the lines alone, which end by themselves or at a fault
 abbrev pub RunsLines : Option (List ℕ) → Option (List ℕ) → Outcome → Result (Option Fault) SimError → Type 0
 RunsLines old new outcome (Ok fault) = Appends old new outcome.text × (outcome.fault ≡ fault)

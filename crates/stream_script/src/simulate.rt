@@ -6,7 +6,7 @@ ghost use Rattle.stream_model.specs.Positions.{empty};
 ghost use Rattle.stream_model.specs.Step.{step};
 ghost use Rattle.script_parser.specs.Lines.{lines_of};
 ghost use Rattle.script_parser.specs.Forms.{op_of};
-ghost use Rattle.stream_script.specs.Simulation.{IsSimConfig, Simulates, RunsLines, Finishes, ReadsScript, ReadsSome, simulation, run_script, is_read_fault, is_write_fault, behind, stepped, stepped_each, drained, drained_each, run_line, RunsLine};
+ghost use Rattle.stream_script.specs.Simulation.{IsSimConfig, Simulates, SimulatesSome, RunsLines, Finishes, ReadsScript, ReadsSome, simulation, run_script, is_read_fault, is_write_fault, behind, stepped, stepped_each, drained, drained_each, run_line, RunsLine};
 
 use crate::source_sink::{Failed, Sink, Source, write_all};
 use script_parser::{Command, EachOp, Fault, FaultKind, Lines, Mode, Parsed, parse_line};
@@ -80,6 +80,8 @@ pub fn sim<R: Source, W: Sink>(
     // What was written, where the source's bytes are known.
     ensures written { IfSome (R.remaining source.old) (λ input.
         Simulates (W.contents sink.old) (W.contents sink.new) (simulation config input) result) }
+    // What was written is the simulation of some input, whatever is known of the source's bytes.
+    ensures of_some_input { SimulatesSome (W.contents sink.old) (W.contents sink.new) config result }
     // After Ok all was read.
     ensures read { OnOk result (IsAtEnd (R.remaining source.new)) }
     // A read fault comes only where the source counted a failed call, and a write fault only where the sink did.
