@@ -1,5 +1,6 @@
 //! The examples in the help do what it says of them.
-use script_tasks::{RUN_EXAMPLE, SIM_EXAMPLE, Task, perform_task, run_config, sim_config};
+use crate::tasks::{Doing, task_of};
+use script_tasks::{RUN_EXAMPLE, SIM_EXAMPLE, perform_task};
 use std::alloc::{AllocError, Global};
 use std::test::Fail;
 
@@ -15,28 +16,22 @@ fn indented(alloc: Global, text: &str) -> Result<Vec<u8>, AllocError> {
     Ok(lines)
 }
 
-/// Examples, the words that stand behind their scripts, and their tasks.
-fn examples() -> [(&'static str, &'static str, Task); 2] {
-    [
-        (
-            SIM_EXAMPLE,
-            "Each command",
-            Task::Simulate(sim_config(1, 4)),
-        ),
-        (RUN_EXAMPLE, "At the end", Task::Run(run_config(1, 4, 2))),
-    ]
-}
+/// Examples, the words that stand behind their scripts, and what is done with these.
+const EXAMPLES: [(&str, &str, Doing); 2] = [
+    (SIM_EXAMPLE, "Each command", Doing::Simulating),
+    (RUN_EXAMPLE, "At the end", Doing::RunningOnTwoSilos),
+];
 
 #[test]
 fn the_examples_hold(rt: HostRuntime) -> Result<(), Fail> {
     let alloc = rt.alloc();
-    for (text, behind, task) in examples() {
+    for (text, behind, doing) in EXAMPLES {
         let Some((script, printed)) = text.split_once(behind) else {
             return Err(Fail::from("no example"));
         };
         let (script, printed) = (indented(alloc, script)?, indented(alloc, printed)?);
         let mut text = Vec::new(alloc);
-        let outcome = perform_task(&rt, alloc, task, script.as_slice(), &mut text);
+        let outcome = perform_task(&rt, alloc, task_of(doing), script.as_slice(), &mut text);
         assert!(rt; outcome.is_ok());
         assert!(rt; text.as_slice() == printed.as_slice());
     }

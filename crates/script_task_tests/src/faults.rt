@@ -235,7 +235,11 @@ fn words_that_ask_for_no_task_are_told_once(rt: HostRuntime) -> Result<(), Fail>
     for (word, is_closed, text, prints, status) in WORDS {
         let fault = fault_of(alloc, word)?;
         let own = format!(in alloc; "{fault}")?;
-        let (printed, code) = reported(alloc, &fault, text.unwrap_or(own.as_str()), is_closed)?;
+        let text = match text {
+            Some(text) => text,
+            None => own.as_str(),
+        };
+        let (printed, code) = reported(alloc, &fault, text, is_closed)?;
         let wanted = format!(in alloc; "ExitCode(unix_exit_status({status}))")?;
         assert!(rt;
             printed == prints && code.as_str() == wanted.as_str(),

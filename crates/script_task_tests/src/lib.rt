@@ -10,6 +10,8 @@ mod faults;
 #[cfg(test)]
 mod outputs;
 #[cfg(test)]
+mod tasks;
+#[cfg(test)]
 mod traces;
 #[cfg(test)]
 mod words;

@@ -1,5 +1,6 @@
 //! What comes of an output that is closed, and how often an output is written and flushed.
-use script_tasks::{ProgramFault, Task, perform_task, run_config, sim_config, trace_config};
+use crate::tasks::{Doing, task_of};
+use script_tasks::{ProgramFault, perform_task, sim_config};
 use std::io::{self, ErrorKind, Write};
 use std::test::Fail;
 use stream_script::{Counted, Fault, FaultKind, SimError, sim};
@@ -45,36 +46,30 @@ impl Write for Output {
 /// A script that is simulated and run.
 const SCRIPT: &[u8] = b"sub orders/17 clerk/17 latest\npub orders/17 \"a\"\ndrain\n";
 
-/// Tasks, the most bytes that a write takes, how many calls don't fail, and whether the task ends well. A simulation of
-/// the script prints 41 bytes and a run of it 46, so that 8 bytes at once take six writes. The last call is the flush.
-fn cases() -> [(Task, usize, u32, bool); 15] {
-    let (simulate, run) = (
-        Task::Simulate(sim_config(1, 4)),
-        Task::Run(run_config(1, 4, 1)),
-    );
-    let trace = Task::Trace(trace_config(1, 4, 1));
-    [
-        (simulate, 4096, 0, false),
-        (simulate, 4096, 1, false),
-        (simulate, 4096, 2, true),
-        (simulate, 8, 3, false),
-        (simulate, 8, 5, false),
-        (simulate, 8, 6, false),
-        (run, 4096, 0, false),
-        (run, 4096, 1, false),
-        (run, 4096, 2, true),
-        (run, 8, 3, false),
-        (run, 8, 5, false),
-        (run, 8, 6, false),
-        (trace, 4096, 0, false),
-        (trace, 4096, 1, false),
-        (trace, 4096, 2, true),
-    ]
-}
+/// What is done with the script, the most bytes that a write takes, how many calls don't fail, and whether it ends well.
+/// A simulation of the script prints 41 bytes and a run of it 46, so that 8 bytes at once take six writes. The last call
+/// is the flush.
+const CASES: [(Doing, usize, u32, bool); 15] = [
+    (Doing::Simulating, 4096, 0, false),
+    (Doing::Simulating, 4096, 1, false),
+    (Doing::Simulating, 4096, 2, true),
+    (Doing::Simulating, 8, 3, false),
+    (Doing::Simulating, 8, 5, false),
+    (Doing::Simulating, 8, 6, false),
+    (Doing::RunningOnOneSilo, 4096, 0, false),
+    (Doing::RunningOnOneSilo, 4096, 1, false),
+    (Doing::RunningOnOneSilo, 4096, 2, true),
+    (Doing::RunningOnOneSilo, 8, 3, false),
+    (Doing::RunningOnOneSilo, 8, 5, false),
+    (Doing::RunningOnOneSilo, 8, 6, false),
+    (Doing::Tracing, 4096, 0, false),
+    (Doing::Tracing, 4096, 1, false),
+    (Doing::Tracing, 4096, 2, true),
+];
 
 #[test]
 fn a_closed_output_is_a_write_fault(rt: HostRuntime) -> Result<(), Fail> {
-    for (task, most, open, is_done) in cases() {
+    for (doing, most, open, is_done) in CASES {
         let mut output = Output {
             open,
             most,
@@ -82,7 +77,7 @@ fn a_closed_output_is_a_write_fault(rt: HostRuntime) -> Result<(), Fail> {
             flushes: 0,
             text: Vec::new(rt.alloc()),
         };
-        let so = match perform_task(&rt, rt.alloc(), task, SCRIPT, &mut output) {
+        let so = match perform_task(&rt, rt.alloc(), task_of(doing), SCRIPT, &mut output) {
             Ok(()) => is_done,
             Err(fault) => !is_done && is_write_fault(&fault),
         };
