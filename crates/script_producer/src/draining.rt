@@ -13,11 +13,15 @@ use shared_partition::Gate;
 use std::alloc::{AllocError, Global};
 use std::sync::Wait;
 use std::sync::atomic::AtomicBool;
+use std::thread;
 use stream_model::{Op, Reply};
 use turnstile::{Refusal, StoredHistory};
 
 /// How often a drain looks at the queues before it gives up.
 pub const MOST_LOOKS: u32 = 100_000;
+
+/// How often a drain yields before a look, at most.
+const MOST_YIELDS: u32 = 5_000;
 
 /// How a drain has ended.
 #[derive(Clone, Copy, Debug, PartialEq, Eq)]
@@ -30,7 +34,8 @@ pub enum Drained {
     Limit,
 }
 
-/// Looks at the queues until all are quiet, and waits at the doorbell between two looks.
+/// Looks at the queues until all are quiet, and waits at the doorbell between two looks. The longer it lasts, the more
+/// it leaves the silos to do before it looks again, so that it doesn't give up while they work off what was published.
 ///
 /// # Errors
 /// A call failed to allocate.
@@ -45,7 +50,8 @@ pub fn drain<G: Gate, H: StoredHistory<Op, Reply>, R: Wait>(
     ensures turnstiles { turnstiles caller.new ≡ turnstiles caller.old }
 {
     let never = AtomicBool::new(false);
-    for _ in 0..MOST_LOOKS {
+    for look in 0..MOST_LOOKS {
+        rest(look);
         let rung = caller.doorbell().now(rt);
         match ask_quiet(rt, alloc, caller) {
             Ok(Quiet::All) => return Ok(Drained::Quiet),
@@ -59,4 +65,11 @@ pub fn drain<G: Gate, H: StoredHistory<Op, Reply>, R: Wait>(
         caller.doorbell().wait_past(rt, rung, &never);
     }
     Ok(Drained::NotQuiet)
+}
+
+/// Yields to other threads, once more before each look than before the one that came before it.
+fn rest(look: u32) {
+    for _ in 0..look.min(MOST_YIELDS) {
+        thread::yield_now();
+    }
 }
