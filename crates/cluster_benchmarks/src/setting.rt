@@ -14,5 +14,7 @@ pub fn config_of(silos: u8, queues: usize, blocks: usize) -> Config
         silos: silos.clamp(1, 16),
         limits: Limits::GREATEST,
         history: u64::MAX,
+        rounds: u64::MAX,
+        looks: 100_000,
     }
 }

@@ -86,7 +86,7 @@ fn go<R: Clock + Threads + Wait + Copy + Send + 'static>(
     let start = Instant::now(rt)?;
     publish_all(rt, alloc, &mut caller, &streams, payload, load.rounds)?;
     wait_until(rt, &tally, load.events() as u64)?;
-    let drained = drain(rt, alloc, &mut caller)?;
+    let drained = drain(rt, alloc, &mut caller, 100_000)?;
     let seconds = start.elapsed(rt)?.as_secs_f64();
     ensure!(drained == Drained::Quiet, "the queues don't get quiet");
     let Finished::Report { text, .. } = cluster.finish(rt, alloc, vec![in alloc; caller]?)? else {

@@ -206,7 +206,9 @@ impl<G: Gate, H: StoredHistory<Op, Reply>, D: StoredHistory<DirectoryOp, Directo
     }
 
     // What the loops of a silo go by.
-    fn tools(&self, silo: u8) -> Result<SiloTools<G>, AllocError> {
+    fn tools(&self, silo: u8, rounds: u64) -> Result<SiloTools<G>, AllocError>
+        ensures { IfOk result (λ tools. tools.rounds ≡ rounds) }
+    {
         let Some(agent) = self.agents.get(silo as usize) else {
             return Err(AllocError);
         };
@@ -214,20 +216,26 @@ impl<G: Gate, H: StoredHistory<Op, Reply>, D: StoredHistory<DirectoryOp, Directo
             gate: Arc::try_clone(&self.gate)?,
             doorbell: Arc::try_clone(&self.doorbell)?,
             assigned: Arc::try_clone(agent)?,
+            rounds,
         })
     }
 
-    /// The loops of a silo, which have done nothing yet.
+    /// The loops of a silo, which have done nothing yet, and may begin so many rounds each.
     ///
     /// # Errors
     /// The call failed to allocate. Each pass that was split off is joined back.
-    pub fn make_loops(&mut self, alloc: Global, silo: u8) -> Result<SiloLoops<G, H, D>, AllocError>
+    pub fn make_loops(
+        &mut self,
+        alloc: Global,
+        silo: u8,
+        rounds: u64,
+    ) -> Result<SiloLoops<G, H, D>, AllocError>
         ensures only { HasOnlyGoneOn self.old self.new }
         ensures silent { IsSilent self.old.directory self.new.directory }
-        ensures fresh { IfOk result (λ loops. IsFresh silo loops) }
+        ensures fresh { IfOk result (λ loops. IsFresh rounds silo loops) }
         ensures at { IfOk result (λ loops. IsSiloAt self.new.lines self.new.directory loops) }
     {
-        let tools = self.tools(silo)?;
+        let tools = self.tools(silo, rounds)?;
         SiloLoops::new(alloc, silo, &tools, &mut self.lines, &mut self.directory)
     }
 

@@ -110,6 +110,7 @@ impl Cluster {
             gate: Arc::try_clone(&self.gate)?,
             doorbell: Arc::try_clone(&self.doorbell)?,
             assigned: Arc::new(alloc, assigned)?,
+            rounds: 1_000_000,
         })
     }
 

@@ -161,7 +161,7 @@ impl Cluster {
         ensures same { self.new ≡ self.old }
         ensures at { IfOk result (λ loops. loops ≡ self.old) }
     {
-        let loops = self.operator.make_loops(alloc, silo)?;
+        let loops = self.operator.make_loops(alloc, silo, 1_000_000)?;
         Ok(Loops { loops })
     }
 

@@ -69,7 +69,7 @@ fn end_a_loop<R: Wait + Abort>(
     assigned.assign(0, 0);
     let mut lines = Vec::with_capacity(alloc, 1)?;
     lines.push_reserved(line(alloc, 2, Limits::GREATEST, 0)?);
-    let Ok(mut agent) = AgentLoop::new(alloc, doorbell, assigned, lines) else {
+    let Ok(mut agent) = AgentLoop::new(alloc, doorbell, assigned, lines, 100) else {
         return Err(AllocError);
     };
     assert!(rt; agent.advance(rt, alloc) == Advance::Over(Over::Limit));
@@ -160,7 +160,7 @@ fn full_histories(rt: HostRuntime) -> Result<(), Fail> {
     assert!(rt; ruled(&rt, alloc, &mut caller)? == Answer::Limit);
     let event = publish(&rt, alloc, 1);
     assert!(rt; asked(&rt, alloc, &mut caller, 0, event)? == Answer::Limit);
-    assert!(rt; drain(&rt, alloc, &mut caller)? == Drained::Limit);
+    assert!(rt; drain(&rt, alloc, &mut caller, 100)? == Drained::Limit);
     Ok(())
 }
 
@@ -169,11 +169,11 @@ fn full_histories(rt: HostRuntime) -> Result<(), Fail> {
 fn drains(rt: HostRuntime) -> Result<(), Fail> {
     let alloc = rt.alloc();
     let (doorbell, mut caller) = open_two(alloc, 100)?;
-    assert!(rt; drain(&rt, alloc, &mut caller)? == Drained::Quiet);
+    assert!(rt; drain(&rt, alloc, &mut caller, 100)? == Drained::Quiet);
     end_a_loop(&rt, alloc, doorbell)?;
-    assert!(rt; drain(&rt, alloc, &mut caller)? == Drained::Quiet);
+    assert!(rt; drain(&rt, alloc, &mut caller, 100)? == Drained::Quiet);
     let event = publish(&rt, alloc, 1);
     assert!(rt; asked(&rt, alloc, &mut caller, 1, event)? == Answer::Taken);
-    assert!(rt; drain(&rt, alloc, &mut caller)? == Drained::NotQuiet);
+    assert!(rt; drain(&rt, alloc, &mut caller, 100)? == Drained::NotQuiet);
     Ok(())
 }

@@ -95,7 +95,7 @@ pub(crate) fn do_line<
         Command::Step { queue, op } => unless_limit(ask(rt, alloc, caller, queue, op)),
         Command::Each(each) => unless_limit(ask_each(rt, alloc, caller, &each)),
         Command::Drain => {
-            wait_until_quiet(rt, alloc, caller)?;
+            wait_until_quiet(rt, alloc, caller, cluster.looks())?;
             Ok(Answer::Taken)
         }
         Command::Up { silo } => up(rt, alloc, cluster, silo),
@@ -120,13 +120,14 @@ pub(crate) fn wait_until_quiet<G: Gate, H: StoredHistory<Op, Reply>, R: Wait>(
     rt: &R,
     alloc: Global,
     caller: &mut Caller<G, H>,
+    looks: u32,
 ) -> Result<(), Stop>
     ensures told { Tells caller.old command.Drain answer.Taken caller.new }
     ensures quiet { OnOk result (LooksQuiet caller.old caller.new) }
     ensures on { AllZip HasGoneOn caller.old caller.new }
     ensures turnstiles { turnstiles caller.new ≡ turnstiles caller.old }
 {
-    match drain(rt, alloc, caller) {
+    match drain(rt, alloc, caller, looks) {
         Ok(Drained::Quiet) => Ok(()),
         Ok(Drained::NotQuiet) => Err(Stop::NotQuiet),
         Ok(Drained::Limit) => Err(Stop::Limit),

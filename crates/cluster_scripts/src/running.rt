@@ -28,7 +28,7 @@ pub enum ScriptEnd {
     /// A limit is reached: of a partition's events, subscriptions or rules, or of a history. The line that met it may
     /// be done in part.
     Limit,
-    /// Not all queues got quiet: a loop has ended, or the queues were looked at 100,000 times.
+    /// Not all queues got quiet: a loop has ended, or the queues were looked at as often as they may be.
     NotQuiet,
     /// The cluster's silos don't change any more, or it is parked. Nothing was done.
     Halted,
@@ -110,7 +110,7 @@ fn do_lines<
         let answer = do_line(rt, alloc, cluster, caller, command)?;
         note(printed, answer, number)?;
     }
-    wait_until_quiet(rt, alloc, caller)
+    wait_until_quiet(rt, alloc, caller, cluster.looks())
 }
 
 // Adds what a line prints that was answered so.

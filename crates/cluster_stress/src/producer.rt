@@ -214,6 +214,7 @@ impl Producer {
     pub fn is_quiet<R: Wait + Abort>(&mut self, rt: &R, alloc: Global) -> bool
         ensures { self.new ≡ self.old }
     {
-        drain(rt, alloc, &mut self.caller).expect(rt, "it takes no memory") == Drained::Quiet
+        drain(rt, alloc, &mut self.caller, 100_000).expect(rt, "it takes no memory")
+            == Drained::Quiet
     }
 }

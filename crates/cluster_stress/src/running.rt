@@ -66,6 +66,8 @@ pub fn start<
         silos,
         limits: Limits::GREATEST,
         history: 1_000_000_000,
+        rounds: 1_000_000,
+        looks: 100_000,
     };
     let told = Vec::with_capacity(alloc, room)?;
     let (cluster, caller) = Cluster::new(rt, alloc, &config, gate)?;

@@ -5,7 +5,7 @@ use std::rt::Clock;
 use std::sync::atomic::{AtomicBool, AtomicU64, Ordering};
 use std::thread;
 use std::time::Duration;
-use streams::{Event, Gate, Name, SubName, Token};
+use streams::{Event, Gate, Name, SubName};
 
 // How often the archive looks at most whether it may go on, once in a millisecond.
 const MOST_LOOKS: u32 = 60_000;
@@ -71,8 +71,6 @@ impl<C: Clock + Copy> Monitors<C> {
 }
 
 impl<C: Clock + Copy + Send + Sync> Gate for Monitors<C> {
-    fn inside(&self, _queue: usize) {}
-
     /// The note counts the readings of a subscription.
     fn handle(&self, sub: &SubName, event: &Event, note: u64) -> u64 {
         match sub {
@@ -81,8 +79,6 @@ impl<C: Clock + Copy + Send + Sync> Gate for Monitors<C> {
         }
         note.saturating_add(1)
     }
-
-    fn done(&self, _sub: &SubName, _token: Token) {}
 }
 
 /// The number of the device with this name: 17 of `d0017`.

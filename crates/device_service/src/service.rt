@@ -5,18 +5,7 @@ use std::alloc::Global;
 use std::sync::Arc;
 use std::thread;
 use std::time::Duration;
-use streams::{
-    CallError, Closed, Config, GrainId, Host, Limits, Name, Payload, Service, Start, StreamId,
-};
-
-// Sixteen queues over four silos. A cache has one block of 64 readings, so that a slow consumer is felt soon.
-const CONFIG: Config = Config {
-    queues: 16,
-    blocks: 1,
-    silos: 4,
-    limits: Limits::GREATEST,
-    history: 1_000_000_000,
-};
+use streams::{CallError, Closed, Config, GrainId, Host, Name, Payload, Service, Start, StreamId};
 
 // How often a queue is looked at before it is given up, once in a millisecond.
 const MOST_LOOKS: u32 = 60_000;
@@ -29,10 +18,15 @@ pub struct DeviceService<R: Host> {
 }
 
 impl<R: Host> DeviceService<R> {
-    /// A service whose readings these monitors handle. A rule makes a subscription of each device that sends a
+    /// A service on sixteen queues and four silos, whose readings these monitors handle. A rule makes a subscription of each device that sends a
     /// reading: that of the monitor with its name.
     pub fn open(rt: R, monitors: Arc<Monitors<R>, Global>) -> Result<DeviceService<R>> {
-        let mut service = Service::open(rt, &CONFIG, monitors)?;
+        // A cache has one block of 64 readings, so that a slow consumer is felt soon.
+        let config = Config {
+            blocks: 1,
+            ..Config::new(16, 4)
+        };
+        let mut service = Service::open(rt, &config, monitors)?;
         service.add_rule(Name::new(b"monitor")?, Name::new(b"readings")?)?;
         Ok(DeviceService { rt, service })
     }

@@ -3,36 +3,23 @@
 
 use anyhow::Result;
 use std::sync::Arc;
-use streams::{
-    Config, Event, Gate, GrainId, Limits, Payload, Service, Start, StreamId, SubName, Token,
-};
-
-const CONFIG: Config = Config {
-    queues: 4,
-    blocks: 4,
-    silos: 2,
-    limits: Limits::GREATEST,
-    history: 1_000_000,
-};
+use streams::{Config, Event, Gate, GrainId, Payload, Service, Start, StreamId, SubName};
 
 /// The handler of all desks.
 #[derive(Drop)]
 struct Desks;
 
 impl Gate for Desks {
-    fn inside(&self, _queue: usize) {}
-
     /// Is called for each event of a turn. The note is a number of the subscription's own, which is stored with the
     /// turn: here it counts the letters that were ordered.
     fn handle(&self, _sub: &SubName, event: &Event, note: u64) -> u64 {
         note.saturating_add(event.payload.as_bytes().len() as u64)
     }
-
-    fn done(&self, _sub: &SubName, _token: Token) {}
 }
 
 fn main(rt: HostRuntime) -> Result<()> {
-    let mut service = Service::open(rt, &CONFIG, Arc::new(rt.alloc(), Desks)?)?;
+    let config = Config::new(4, 2);
+    let mut service = Service::open(rt, &config, Arc::new(rt.alloc(), Desks)?)?;
     let stream = StreamId::new(b"orders", b"ann")?;
     let desk = GrainId::new(b"desk", b"ann")?;
     service.subscribe(stream, desk, Start::Latest)?;

@@ -2,7 +2,7 @@
 use anyhow::Result;
 use std::alloc::Global;
 use std::sync::atomic::{AtomicU64, Ordering};
-use streams::{Event, Gate, Name, SubName, Token};
+use streams::{Event, Gate, Name, SubName};
 
 /// What a customer has to pay.
 #[derive(Drop)]
@@ -55,8 +55,6 @@ impl Accounts {
 }
 
 impl Gate for Accounts {
-    fn inside(&self, _queue: usize) {}
-
     /// The note of a subscription is the sum of the orders that it has handled. It is stored with each turn, so that
     /// each order is in it once, whatever happens to silos.
     ///
@@ -68,8 +66,6 @@ impl Gate for Accounts {
         self.note(&event.stream.key, sum);
         sum
     }
-
-    fn done(&self, _sub: &SubName, _token: Token) {}
 }
 
 /// The price of an order in cents: the number before its first space.

@@ -4,16 +4,8 @@ use anyhow::Result;
 use std::alloc::Global;
 use std::sync::Arc;
 use streams::{
-    Closed, Config, GrainId, Host, Limits, Payload, PublishError, Service, SiloError, Start,
-    StreamId, SubscribeError, Subscription, Token, UnsubscribeError,
-};
-
-const CONFIG: Config = Config {
-    queues: 4,
-    blocks: 4,
-    silos: 2,
-    limits: Limits::GREATEST,
-    history: 1_000_000,
+    Closed, Config, GrainId, Host, Payload, PublishError, Service, SiloError, Start, StreamId,
+    SubscribeError, Subscription, Token, UnsubscribeError,
 };
 
 /// The desk of a customer: the subscription of a grain to the stream of the customer's orders.
@@ -34,9 +26,9 @@ pub struct OrderService<R: Host> {
 }
 
 impl<R: Host> OrderService<R> {
-    /// A service on two silos, whose orders these accounts handle.
+    /// A service on four queues and two silos, whose orders these accounts handle.
     pub fn open(rt: R, accounts: Arc<Accounts, Global>) -> Result<OrderService<R>> {
-        let service = Service::open(rt, &CONFIG, accounts)?;
+        let service = Service::open(rt, &Config::new(4, 2), accounts)?;
         Ok(OrderService { rt, service })
     }
 

@@ -138,6 +138,8 @@ impl Parked {
             silos,
             limits: Limits::GREATEST,
             history,
+            rounds: 1_000_000,
+            looks: 100_000,
         };
         let gate = Arc::new(alloc, Counting)?;
         let (cluster, caller, crew) = Cluster::parked(rt, alloc, &config, gate)?;

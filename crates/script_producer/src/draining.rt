@@ -17,9 +17,6 @@ use std::thread;
 use stream_model::{Op, Reply};
 use turnstile::{Refusal, StoredHistory};
 
-/// How often a drain looks at the queues before it gives up.
-pub const MOST_LOOKS: u32 = 100_000;
-
 /// How often a drain yields before a look, at most.
 const MOST_YIELDS: u32 = 5_000;
 
@@ -28,13 +25,13 @@ const MOST_YIELDS: u32 = 5_000;
 pub enum Drained {
     /// In one look at all queues each was quiet.
     Quiet,
-    /// Not all queues got quiet: a loop has ended, or there were 100,000 looks.
+    /// Not all queues got quiet: a loop has ended, or there were as many looks as there may be.
     NotQuiet,
     /// The history of a queue is full.
     Limit,
 }
 
-/// Looks at the queues until all are quiet, and waits at the doorbell between two looks. The longer it lasts, the more
+/// Looks at the queues until all are quiet, so often at most, and waits at the doorbell between two looks. The longer it lasts, the more
 /// it leaves the silos to do before it looks again, so that it doesn't give up while they work off what was published.
 ///
 /// # Errors
@@ -43,6 +40,7 @@ pub fn drain<G: Gate, H: StoredHistory<Op, Reply>, R: Wait>(
     rt: &R,
     alloc: Global,
     caller: &mut Caller<G, H>,
+    looks: u32,
 ) -> Result<Drained, AllocError>
     ensures told { Tells caller.old command.Drain answer.Taken caller.new }
     ensures quiet { IfOk result (λ end. end ≡ drained.Quiet → LooksQuiet caller.old caller.new) }
@@ -50,7 +48,7 @@ pub fn drain<G: Gate, H: StoredHistory<Op, Reply>, R: Wait>(
     ensures turnstiles { turnstiles caller.new ≡ turnstiles caller.old }
 {
     let never = AtomicBool::new(false);
-    for look in 0..MOST_LOOKS {
+    for look in 0..looks {
         rest(look);
         let rung = caller.doorbell().now(rt);
         match ask_quiet(rt, alloc, caller) {

@@ -13,4 +13,4 @@ mod draining;
 
 pub use answer::Answer;
 pub use asking::{ask, ask_each};
-pub use draining::{Drained, MOST_LOOKS, drain};
+pub use draining::{Drained, drain};

@@ -64,6 +64,8 @@ pub fn ran<R: Threads + Wait + Abort + Copy + Send + 'static>(
             ..Limits::GREATEST
         },
         history: place.history,
+        rounds: 1_000_000,
+        looks: 100_000,
     };
     let gate = Arc::new(alloc, Counting).expect(rt, "memory");
     run::<Counting, Calls, Asked, R>(rt, alloc, &config, gate, lines).expect(rt, "memory")

@@ -1,8 +1,10 @@
 //! The tests of the program `streams` through the public calls of `script_tasks`: what the words of a command line ask
-//! for, the examples in its help, traces that are simulated again, the text and the status of each fault, and what comes
-//! of an output that is closed.
+//! for, the examples in its help, runs that meet a limit, traces that are simulated again, the text and the status of each
+//! fault, and what comes of an output that is closed.
 #![tactic(auto)]
 
+#[cfg(test)]
+mod ends;
 #[cfg(test)]
 mod examples;
 #[cfg(test)]

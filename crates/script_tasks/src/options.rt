@@ -104,6 +104,12 @@ A trace stores what was asked, at most 4,000,000 calls a queue."#;
 /// How many calls the history of a queue has room for in a trace.
 const TRACE_HISTORY: u64 = 4_000_000;
 
+/// How many rounds a loop of a silo may begin in a run.
+const MOST_ROUNDS: u64 = 1_000_000;
+
+/// How often a drain of a run looks at the queues.
+const MOST_LOOKS: u32 = 100_000;
+
 /// What the command line asks for.
 #[derive(Drop)]
 pub struct Request<'a> {
@@ -266,6 +272,8 @@ pub fn run_config(queues: u32, blocks: u32, silos: u32) -> Config
         silos: silos.clamp(1, 16) as u8,
         limits: Limits::GREATEST,
         history: u64::MAX,
+        rounds: MOST_ROUNDS,
+        looks: MOST_LOOKS,
     }
 }
 

@@ -6,17 +6,21 @@ use stream_ident::{Event, SubName, Token};
 /// What a program does beside the operations of its partitions.
 ///
 /// [`SharedPartition::call`](crate::SharedPartition::call) calls `inside` and nothing else; `handle` and `done`
-/// are for whoever runs turns. No contract says when one of them is called, or how often.
+/// are for whoever runs turns. No contract says when one of them is called, or how often. A gate has to have a handler;
+/// the two others do nothing where it doesn't say what they do.
 pub trait Gate: Send + Sync + Drop {
     /// Is called in the turn of each call, before its operation is applied to the partition of this queue. All
     /// other calls of that partition wait until it returns.
-    fn inside(&self, queue: usize);
+    fn inside(&self, _queue: usize) {}
 
     /// Handles an event, and gives the note that follows. It is to run while no turn is held.
+    ///
+    /// The number of an explicit subscription is unique in its queue, which is that of the event's stream. The note is
+    /// the subscription's own: 0 at first, and then what the handler gave for the event before, as it was committed.
     fn handle(&self, sub: &SubName, event: &Event, note: u64) -> u64;
 
     /// Is to be called once after each commit, with the token of the last event of its turn.
-    fn done(&self, sub: &SubName, token: Token);
+    fn done(&self, _sub: &SubName, _token: Token) {}
 }
 
 /// A gate that counts the events of each subscription in its notes, and does nothing else.

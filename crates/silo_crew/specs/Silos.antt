@@ -58,16 +58,16 @@ pub record SiloView : Type 0 where
   pub first : WorkerView
   pub second : WorkerView
 
--- the loop has done nothing yet: nothing is new, nothing in hand
-abbrev pub IsFreshAgent : AgentView → Type 0
-IsFreshAgent a = AllByRecursion IsMarked a.lines × (a.rounds ≡ 0) × (a.over ≡ None)
+-- the loop has done nothing yet: nothing is new, nothing in hand, and it may begin so many rounds
+abbrev pub IsFreshAgent : ℕ → AgentView → Type 0
+IsFreshAgent rounds a = AllByRecursion IsMarked a.lines × (a.rounds ≡ rounds) × (a.over ≡ None)
 
-abbrev pub IsFreshWorker : ℕ → WorkerView → Type 0
-IsFreshWorker silo w = (w.silo ≡ silo) × AllByRecursion IsMarked w.lines × (w.work ≡ Nothing) × (w.rounds ≡ 0) × (w.over ≡ None)
+abbrev pub IsFreshWorker : ℕ → ℕ → WorkerView → Type 0
+IsFreshWorker rounds silo w = (w.silo ≡ silo) × AllByRecursion IsMarked w.lines × (w.work ≡ Nothing) × (w.rounds ≡ rounds) × (w.over ≡ None)
 
 -- so have the three loops of the silo
-abbrev pub IsFresh : ℕ → SiloView → Type 0
-IsFresh silo s = (s.silo ≡ silo) × IsFreshAgent s.agent × IsFreshWorker silo s.first × IsFreshWorker silo s.second
+abbrev pub IsFresh : ℕ → ℕ → SiloView → Type 0
+IsFresh rounds silo s = (s.silo ≡ silo) × IsFreshAgent rounds s.agent × IsFreshWorker rounds silo s.first × IsFreshWorker rounds silo s.second
 
 -- the agent's passes are of the turnstiles of these lines
 abbrev pub IsAgentAt : List LineView → AgentView → Type 0

@@ -13,7 +13,8 @@ use std::sync::Arc;
 use stream_model::{Op, Reply};
 use turnstile::StoredHistory;
 
-/// What the loops of a silo go by: the gate, the doorbell, and the queues that are assigned to its agent.
+/// What the loops of a silo go by: the gate, the doorbell, the queues that are assigned to its agent, and how many rounds
+/// each of them may begin.
 #[derive(Drop)]
 pub struct SiloTools<G> {
     /// What handles the events.
@@ -22,6 +23,8 @@ pub struct SiloTools<G> {
     pub doorbell: Arc<Doorbell, Global>,
     /// The queues of the agent.
     pub assigned: Arc<Assigned, Global>,
+    /// How many rounds each loop may begin.
+    pub rounds: u64,
 }
 
 impl<G: Drop> SiloTools<G> {
@@ -34,6 +37,7 @@ impl<G: Drop> SiloTools<G> {
             gate: Arc::try_clone(&self.gate)?,
             doorbell: Arc::try_clone(&self.doorbell)?,
             assigned: Arc::try_clone(&self.assigned)?,
+            rounds: self.rounds,
         })
     }
 }
@@ -69,14 +73,15 @@ impl<G: Gate, H: StoredHistory<Op, Reply>, D: StoredHistory<DirectoryOp, Directo
 // An agent with passes that are split off.
 fn make_agent<G: Gate, H: StoredHistory<Op, Reply>>(
     alloc: Global,
+    rounds: u64,
     tools: SiloTools<G>,
     lines: &mut Vec<Line<G, H>>,
 ) -> Result<AgentLoop<G, H>, AllocError>
     ensures go_on { GoOn lines.old.items lines.new.items }
-    ensures fresh { IfOk result (λ agent. IsFreshAgent agent × IsAgentAt lines.new.items agent) }
+    ensures fresh { IfOk result (λ agent. IsFreshAgent rounds agent × IsAgentAt lines.new.items agent) }
 {
     let own = split_lines(alloc, lines)?;
-    match AgentLoop::new(alloc, tools.doorbell, tools.assigned, own) {
+    match AgentLoop::new(alloc, tools.doorbell, tools.assigned, own, rounds) {
         Ok(agent) => Ok(agent),
         Err(own) => {
             join_lines(lines, own);
@@ -89,6 +94,7 @@ fn make_agent<G: Gate, H: StoredHistory<Op, Reply>>(
 fn make_worker<G: Gate, H: StoredHistory<Op, Reply>, D: StoredHistory<DirectoryOp, DirectoryReply>>(
     alloc: Global,
     silo: u8,
+    rounds: u64,
     tools: SiloTools<G>,
     lines: &mut Vec<Line<G, H>>,
     directory: &mut DirectoryLine<D>,
@@ -96,12 +102,12 @@ fn make_worker<G: Gate, H: StoredHistory<Op, Reply>, D: StoredHistory<DirectoryO
     requires some { 0 < length lines.old.items }
     ensures go_on { GoOn lines.old.items lines.new.items }
     ensures directory { IsSilent directory.old directory.new }
-    ensures fresh { IfOk result (λ worker. IsFreshWorker silo worker × IsWorkerAt lines.new.items directory.new worker) }
+    ensures fresh { IfOk result (λ worker. IsFreshWorker rounds silo worker × IsWorkerAt lines.new.items directory.new worker) }
 {
     let room = TurnRoom::new(alloc)?;
     let own = split_lines(alloc, lines)?;
     match directory.split() {
-        Ok(line) => Ok(WorkerLoop::new(silo, tools.gate, tools.doorbell, own, line, room)),
+        Ok(line) => Ok(WorkerLoop::new(silo, tools.gate, tools.doorbell, own, line, room, rounds)),
         Err(error) => {
             join_lines(lines, own);
             Err(error)
@@ -146,6 +152,7 @@ fn make_workers<
 >(
     alloc: Global,
     silo: u8,
+    rounds: u64,
     tools: &SiloTools<G>,
     lines: &mut Vec<Line<G, H>>,
     directory: &mut DirectoryLine<D>,
@@ -153,13 +160,13 @@ fn make_workers<
     requires some { 0 < length lines.old.items }
     ensures go_on { GoOn lines.old.items lines.new.items }
     ensures directory { IsSilent directory.old directory.new }
-    ensures first { IfOk result (λ r. IsFreshWorker silo r.0 × IsWorkerAt lines.new.items directory.new r.0) }
-    ensures second { IfOk result (λ r. IsFreshWorker silo r.1 × IsWorkerAt lines.new.items directory.new r.1) }
+    ensures first { IfOk result (λ r. IsFreshWorker rounds silo r.0 × IsWorkerAt lines.new.items directory.new r.0) }
+    ensures second { IfOk result (λ r. IsFreshWorker rounds silo r.1 × IsWorkerAt lines.new.items directory.new r.1) }
 {
     let first_tools = tools.try_clone()?;
     let second_tools = tools.try_clone()?;
-    let first = make_worker(alloc, silo, first_tools, lines, directory)?;
-    match make_worker(alloc, silo, second_tools, lines, directory) {
+    let first = make_worker(alloc, silo, rounds, first_tools, lines, directory)?;
+    match make_worker(alloc, silo, rounds, second_tools, lines, directory) {
         Ok(second) => Ok((first, second)),
         Err(error) => {
             join_worker(lines, directory, first);
@@ -188,12 +195,13 @@ impl<G: Gate, H: StoredHistory<Op, Reply>, D: StoredHistory<DirectoryOp, Directo
         requires some { 0 < length lines.old.items }
         ensures go_on { GoOn lines.old.items lines.new.items }
         ensures directory { IsSilent directory.old directory.new }
-        ensures fresh { IfOk result (λ loops. IsFresh silo loops) }
+        ensures fresh { IfOk result (λ loops. IsFresh tools.now.rounds silo loops) }
         ensures at { IfOk result (λ loops. IsSiloAt lines.new.items directory.new loops) }
     {
+        let rounds = tools.rounds;
         let agent_tools = tools.try_clone()?;
-        let (first, second) = make_workers(alloc, silo, tools, lines, directory)?;
-        match make_agent(alloc, agent_tools, lines) {
+        let (first, second) = make_workers(alloc, silo, rounds, tools, lines, directory)?;
+        match make_agent(alloc, rounds, agent_tools, lines) {
             Ok(agent) => Ok(SiloLoops {
                 silo,
                 agent,

@@ -1,6 +1,6 @@
 use crate::cluster::Cluster;
-use crate::silo::Loop;
-use silo_loops::{Advance, MOST_ROUNDS, Over};
+use crate::silo::{Loop, MOST_ROUNDS};
+use silo_loops::{Advance, Over};
 use std::alloc::Global;
 use std::process::Abort;
 use std::sync::Wait;
@@ -32,7 +32,7 @@ fn use_up<R: Wait + Abort>(rt: &R, alloc: Global, cluster: &mut Cluster) {
     assert!(rt; cluster.has_ended() && cluster.rung(rt) == rung.wrapping_add(1));
 }
 
-// A loop makes a million rounds at most.
+// A loop makes so many rounds at most as it may.
 #[test]
 fn no_round_is_left(rt: HostRuntime) -> Result<(), Fail> {
     let alloc = rt.alloc();

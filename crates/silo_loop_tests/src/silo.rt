@@ -26,6 +26,9 @@ type Agent = AgentLoop<Recorder, History>;
 
 type Worker = WorkerLoop<Recorder, History, Asked>;
 
+/// How many rounds each loop may begin.
+pub const MOST_ROUNDS: u64 = 1_000_000;
+
 /// A loop of a silo.
 #[derive(Clone, Copy)]
 pub enum Loop {
@@ -160,9 +163,9 @@ impl Silo {
     /// How many rounds each loop has begun.
     pub fn rounds(&self) -> [u64; 3] {
         [
-            self.agent.rounds(),
-            self.first.rounds(),
-            self.second.rounds(),
+            MOST_ROUNDS.wrapping_sub(self.agent.rounds()),
+            MOST_ROUNDS.wrapping_sub(self.first.rounds()),
+            MOST_ROUNDS.wrapping_sub(self.second.rounds()),
         ]
     }
 
@@ -243,7 +246,7 @@ fn new_agent<R: Abort>(
     let doorbell = Arc::try_clone(&shared.doorbell).expect(rt, "memory");
     let assigned = Arc::try_clone(assigned).expect(rt, "memory");
     let lines = split_all(rt, alloc, queues);
-    match AgentLoop::new(alloc, doorbell, assigned, lines) {
+    match AgentLoop::new(alloc, doorbell, assigned, lines, MOST_ROUNDS) {
         Ok(agent) => agent,
         Err(_lines) => panic!(rt; "memory"),
     }
@@ -265,7 +268,7 @@ fn new_worker<R: Abort>(
     let room = TurnRoom::new(alloc).expect(rt, "memory");
     let lines = split_all(rt, alloc, queues);
     assert!(rt; !lines.is_empty());
-    WorkerLoop::new(silo, gate, doorbell, lines, directory, room)
+    WorkerLoop::new(silo, gate, doorbell, lines, directory, room, MOST_ROUNDS)
 }
 
 // A line of each queue.

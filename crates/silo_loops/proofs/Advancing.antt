@@ -18,7 +18,7 @@ use Rattle.silo_loops.specs.Walks.{Fits, IsAt, work_in}
 use Rattle.silo_loops.specs.Agents.{AgentAdvancesFrom, AgentCalls, AgentView, HasSamePlaces, OnesPulled, agent_at}
 use Rattle.silo_loops.specs.Answers.{advance_of}
 use Rattle.silo_loops.specs.Lines.{CallsAt, DirectoryPass, HasLooked, LineView, QueuePass, places, rested}
-use Rattle.silo_loops.specs.Workers.{HasCounted, IsBeside, most_rounds, worker_at, WorkerAdvancesFrom, WorkerAsks, WorkerCalls, WorkerRanOut, WorkerSteps, WorkerView, WorkerWorks}
+use Rattle.silo_loops.specs.Workers.{HasCounted, IsBeside, worker_at, WorkerAdvancesFrom, WorkerAsks, WorkerCalls, WorkerRanOut, WorkerSteps, WorkerView, WorkerWorks}
 
 -- a call leaves each line at its turnstile
 places-called : (lines : List LineView) (at : ℕ) (op : Op) (result : Result Reply Refusal) (new : List LineView) → CallsAt lines at op result new → places new ≡ places lines
@@ -95,17 +95,17 @@ module _ (silo : ℕ) (lines mid : List LineView) (d : DirectoryPass) (walk betw
       ap (λ ls. worker_at silo ls d between events rounds None) same ∙ ap (λ (w : Walk). worker_at silo lines d w events rounds None) is
       ∙ ap (λ o. worker_at silo lines d walk events rounds o) (sym none)
 
-  pub round-begun : (u : WorkerView) (over : Option Over) (answer : Advance) → mid ≡ lines → counted ≡ rounds + 1 → counted ≤ most_rounds → between ≡ record walk { changed = between.changed } → was ≡ None
+  pub round-begun : (u : WorkerView) (over : Option Over) (answer : Advance) → mid ≡ lines → counted + 1 ≡ rounds → between ≡ record walk { changed = between.changed } → was ≡ None
       → answer ≡ advance_of over → u.over ≡ over → u.rounds ≡ counted → WorkerSteps (worker_at silo mid d between events rounds None) u over
       → WorkerAdvancesFrom None answer (worker_at silo lines d walk events rounds was) u
-  round-begun u over answer same more most is none says ended now steps =
+  round-begun u over answer same more is none says ended now steps =
       subst (λ a. WorkerAdvancesFrom None a (worker_at silo lines d walk events rounds was) u) (sym says)
       (goes-on (worker_at silo lines d walk events rounds was) u over (subst (λ v. WorkerSteps v u over) (between-at same is none) steps) ended
-      (omega (arith, now, more), omega (arith, now, more), omega (arith, now, most)))
+      (omega (arith, now, more), omega (arith, now, more)))
 
-  pub round-idle : (fresh : Option Over) → All HasLooked lines → mid ≡ map rested lines → counted ≡ rounds → rounds ≤ most_rounds → walk.step ≡ step.Rest → between ≡ record walk { changed = between.changed } → was ≡ None → fresh ≡ was
+  pub round-idle : (fresh : Option Over) → All HasLooked lines → mid ≡ map rested lines → counted ≡ rounds → walk.step ≡ step.Rest → between ≡ record walk { changed = between.changed } → was ≡ None → fresh ≡ was
       → WorkerAdvancesFrom None advance.Idle (worker_at silo lines d walk events rounds was) (worker_at silo mid d between events counted fresh)
-  round-idle fresh looked same count most rest is none kept = (
+  round-idle fresh looked same count rest is none kept = (
     (
       kept ∙ none,
       record {
@@ -116,10 +116,10 @@ module _ (silo : ℕ) (lines mid : List LineView) (d : DirectoryPass) (walk betw
         silo = refl;
       },
     ),
-    (omega (arith, count), omega (arith, count), omega (arith, count, most)),
+    (omega (arith, count), omega (arith, count)),
   )
 
-  pub round-none : (answer : Advance) → mid ≡ lines → counted ≡ rounds → rounds ≡ most_rounds → walk.step ≡ step.Rest → between ≡ record walk { changed = between.changed } → was ≡ None → answer ≡ advance_of (Some over.Rounds)
+  pub round-none : (answer : Advance) → mid ≡ lines → counted ≡ rounds → rounds ≡ 0 → walk.step ≡ step.Rest → between ≡ record walk { changed = between.changed } → was ≡ None → answer ≡ advance_of (Some over.Rounds)
       → WorkerAdvancesFrom None answer (worker_at silo lines d walk events rounds was) (worker_at silo mid d between events counted (Some over.Rounds))
   round-none answer same count most rest is none says =
       subst (λ a. WorkerAdvancesFrom None a (worker_at silo lines d walk events rounds was) (worker_at silo mid d between events counted (Some over.Rounds))) (sym says) (
@@ -133,7 +133,7 @@ module _ (silo : ℕ) (lines mid : List LineView) (d : DirectoryPass) (walk betw
                 ap (λ s. work_in walk.at s events) rest,
               )),
         ),
-        (omega (arith, count), omega (arith, count), omega (arith, count, most)),
+        (omega (arith, count), omega (arith, count)),
       )
 
   pub between-is-at : mid ≡ lines → between ≡ record walk { changed = between.changed } → IsAt walk lines d → IsAt between mid d
@@ -150,19 +150,19 @@ pub beside-after : (u v w : WorkerView) → IsBeside u v → IsBeside v w → Is
 beside-after u v w a b = record { lines = b.lines ∙ a.lines; directory = b.directory ∙ a.directory }
 
 -- the rounds of an agent
-pub agent-round : (lines new : List LineView) (was held : List (Option ℕ)) (rounds counted : ℕ) (before over : Option Over) (answer : Advance) → before ≡ None → counted ≡ rounds + 1 → counted ≤ most_rounds → answer ≡ advance_of over
+pub agent-round : (lines new : List LineView) (was held : List (Option ℕ)) (rounds counted : ℕ) (before over : Option Over) (answer : Advance) → before ≡ None → counted + 1 ≡ rounds → answer ≡ advance_of over
     → AgentCalls (agent_at lines was rounds None) (agent_at new held counted over) → AgentAdvancesFrom None answer (agent_at lines was rounds before) (agent_at new held counted over)
-agent-round lines new was held rounds counted before over answer none more most says calls =
+agent-round lines new was held rounds counted before over answer none more says calls =
     subst (λ a. AgentAdvancesFrom None a (agent_at lines was rounds before) (agent_at new held counted over)) (sym says)
     (agent-goes-on (agent_at lines was rounds before) (agent_at new held counted over) over
-    (subst (λ o. AgentCalls (agent_at lines was rounds o) (agent_at new held counted over)) (sym none) calls) refl (omega (arith, more), omega (arith, more), most))
+    (subst (λ o. AgentCalls (agent_at lines was rounds o) (agent_at new held counted over)) (sym none) calls) refl (omega (arith, more), omega (arith, more)))
 
-pub agent-asks : (lines new : List LineView) (was held : List (Option ℕ)) (rounds : ℕ) (before over : Option Over) (answer : Advance) → before ≡ None → rounds ≤ most_rounds → answer ≡ advance_of over
+pub agent-asks : (lines new : List LineView) (was held : List (Option ℕ)) (rounds : ℕ) (before over : Option Over) (answer : Advance) → before ≡ None → answer ≡ advance_of over
     → AgentCalls (agent_at lines was rounds None) (agent_at new held rounds over) → AgentAdvancesFrom None answer (agent_at lines was rounds before) (agent_at new held rounds over)
-agent-asks lines new was held rounds before over answer none most says calls =
+agent-asks lines new was held rounds before over answer none says calls =
     subst (λ a. AgentAdvancesFrom None a (agent_at lines was rounds before) (agent_at new held rounds over)) (sym says)
     (agent-goes-on (agent_at lines was rounds before) (agent_at new held rounds over) over
-    (subst (λ o. AgentCalls (agent_at lines was rounds o) (agent_at new held rounds over)) (sym none) calls) refl (omega arith, omega arith, most))
+    (subst (λ o. AgentCalls (agent_at lines was rounds o) (agent_at new held rounds over)) (sym none) calls) refl (omega arith, omega arith))
 
 pub agent-rests : (lines new : List LineView) (was held : List (Option ℕ)) (rounds counted : ℕ) (before : Option Over) (answer : Advance) → before ≡ None → HasCounted rounds counted → answer ≡ advance.Idle → new ≡ map rested lines → OnesPulled lines held
     → AgentAdvancesFrom None answer (agent_at lines was rounds before) (agent_at new held counted before)
@@ -170,19 +170,19 @@ agent-rests lines new was held rounds counted before answer none count says same
     subst (λ a. AgentAdvancesFrom None a (agent_at lines was rounds before) (agent_at new held counted before)) (sym says)
     ((none, record { pulled = pulled; lines = same }), count)
 
-pub agent-ran-out : (lines : List LineView) (was held : List (Option ℕ)) (rounds : ℕ) (before : Option Over) (answer : Advance) → before ≡ None → rounds ≡ most_rounds → answer ≡ advance_of (Some over.Rounds)
+pub agent-ran-out : (lines : List LineView) (was held : List (Option ℕ)) (rounds : ℕ) (before : Option Over) (answer : Advance) → before ≡ None → rounds ≡ 0 → answer ≡ advance_of (Some over.Rounds)
     → AgentAdvancesFrom None answer (agent_at lines was rounds before) (agent_at lines held rounds (Some over.Rounds))
-agent-ran-out lines was held rounds before answer none most says =
+agent-ran-out lines was held rounds before answer none left says =
     subst (λ a. AgentAdvancesFrom None a (agent_at lines was rounds before) (agent_at lines held rounds (Some over.Rounds))) (sym says)
-    ((refl, inr (record { ended = refl; most = most })), (omega arith, omega arith, omega (arith, most)))
+    ((refl, inr (record { ended = refl; none = left })), (omega arith, omega arith))
 
 -- where no queue is held, each that is was pulled
 pub none-pulled : (lines : List LineView) (held : List (Option ℕ)) → length held ≡ length lines → ((at : ℕ) → at < length held → slice_get held at ≡ Some None) → OnesPulled lines held
 none-pulled lines held same none at line generation within holds = absurd (none-some generation (ap (λ o. unwrap_or o None) (sym (none at (omega (arith, same))) ∙ holds)))
 
-pub step-taken : (silo : ℕ) (lines : List LineView) (d : DirectoryPass) (walk : Walk) (events : List Event) (rounds : ℕ) (was : Option Over) (u : WorkerView) (over : Option Over) (answer : Advance) → rounds ≤ most_rounds → was ≡ None
+pub step-taken : (silo : ℕ) (lines : List LineView) (d : DirectoryPass) (walk : Walk) (events : List Event) (rounds : ℕ) (was : Option Over) (u : WorkerView) (over : Option Over) (answer : Advance) → was ≡ None
     → answer ≡ advance_of over → u.over ≡ over → u.rounds ≡ rounds → WorkerSteps (worker_at silo lines d walk events rounds None) u over → WorkerAdvancesFrom None answer (worker_at silo lines d walk events rounds was) u
-step-taken silo lines d walk events rounds was u over answer most none says ended now steps =
+step-taken silo lines d walk events rounds was u over answer none says ended now steps =
     subst (λ a. WorkerAdvancesFrom None a (worker_at silo lines d walk events rounds was) u) (sym says)
     (goes-on (worker_at silo lines d walk events rounds was) u over (subst (λ o. WorkerSteps (worker_at silo lines d walk events rounds o) u over) (sym none) steps) ended
-    (omega (arith, now), omega (arith, now), omega (arith, now, most)))
+    (omega (arith, now), omega (arith, now)))

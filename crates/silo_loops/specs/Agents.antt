@@ -10,10 +10,10 @@ use Rattle.silo_loops.specs.declared.advance.Over as why
 use Rattle.silo_loops.specs.declared.advance.Over.TheVariants as over
 use Rattle.silo_loops.specs.Answers.{end_of}
 use Rattle.silo_loops.specs.Lines.{CallsAt, HasPulled, LineView, places, rested}
-use Rattle.silo_loops.specs.Workers.{HasCounted, most_rounds}
+use Rattle.silo_loops.specs.Workers.{HasCounted}
 
--- an agent: its lines in queue order, the generation under which it holds each queue, where it does, how many rounds
--- it has begun, and why it has ended
+-- an agent: its lines in queue order, the generation under which it holds each queue, where it does, how many
+-- more rounds it may begin, and why it has ended
 pub record AgentView : Type 0 where
   pub lines : List LineView
   pub held : List (Option ℕ)
@@ -53,10 +53,10 @@ pub record AgentRests (v w : AgentView) : Type 0 where
   pub pulled : OnesPulled v.lines w.held
   pub lines : w.lines ≡ map rested v.lines
 
--- it has made as many rounds as it may; what it holds it may have asked anew
+-- no round is left; what it holds it may have asked anew
 pub record AgentRanOut (v w : AgentView) : Type 0 where
   pub ended : w ≡ record v { held = w.held; over = Some over.Rounds }
-  pub most : v.rounds ≡ most_rounds
+  pub none : v.rounds ≡ 0
 
 -- what a step may do, where the loop hasn't ended: it has no work but calls
 abbrev pub AgentGoesOn : Advance → AgentView → AgentView → Type 0

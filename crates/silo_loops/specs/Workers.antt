@@ -22,8 +22,8 @@ use Rattle.silo_loops.specs.Lines.{CallsAt, DirectoryPass, HasLooked, LineView, 
 use Rattle.silo_loops.specs.Passes.{CallsBy}
 use Rattle.silo_loops.specs.Walks.{HasCommitted, Keeps, Nothing, Runs, Telling, Turning, Work, work_in}
 
--- a worker: its silo, its lines in queue order, its pass at the directory, what it has in hand, how many rounds it
--- has begun, and why it has ended
+-- a worker: its silo, its lines in queue order, its pass at the directory, what it has in hand, how many more
+-- rounds it may begin, and why it has ended
 pub record WorkerView : Type 0 where
   pub silo : ℕ
   pub lines : List LineView
@@ -31,10 +31,6 @@ pub record WorkerView : Type 0 where
   pub work : Work
   pub rounds : ℕ
   pub over : Option why.Over
-
--- the rounds that a loop may make
-abbrev pub most_rounds : ℕ
-most_rounds = 1000000
 
 -- What a worker may ask of a queue: which grain is ready; a turn of a grain whose permit it keeps; the end of the
 -- turn that it began.
@@ -116,13 +112,13 @@ pub record WorkerRests (v w : WorkerView) : Type 0 where
   pub directory : w.directory ≡ v.directory
   pub silo : w.silo ≡ v.silo
 
--- it has made as many rounds as it may
+-- no round is left
 abbrev pub WorkerRanOut : WorkerView → WorkerView → Type 0
-WorkerRanOut v w = (w ≡ record v { over = Some over.Rounds }) × (v.rounds ≡ most_rounds) × (v.work ≡ Nothing)
+WorkerRanOut v w = (w ≡ record v { over = Some over.Rounds }) × (v.rounds ≡ 0) × (v.work ≡ Nothing)
 
 -- at most one round more was begun
 abbrev pub HasCounted : ℕ → ℕ → Type 0
-HasCounted rounds counted = (rounds ≤ counted) × (counted ≤ rounds + 1) × (counted ≤ most_rounds)
+HasCounted rounds left = (left ≤ rounds) × (rounds ≤ left + 1)
 
 -- What a step may do, where the loop hasn't ended. Did: one call, which doesn't end it, or a piece of work in hand.
 -- Idle: each queue was looked at. Over: a call that ends it, or no round is left.
@@ -151,9 +147,9 @@ WorkerSteps v w (Some end) = WorkerCalls v w ⊎ WorkerAsks v w
 
 -- how a round begins, or doesn't
 abbrev pub Starts : Start → List LineView → List LineView → ℕ → ℕ → Type 0
-Starts start.Begun lines new rounds counted = (new ≡ lines) × (counted ≡ rounds + 1) × (counted ≤ most_rounds)
-Starts start.Idle lines new rounds counted = All HasLooked lines × (new ≡ map rested lines) × (counted ≡ rounds)
-Starts start.RanOut lines new rounds counted = (new ≡ lines) × (counted ≡ rounds) × (rounds ≡ most_rounds)
+Starts start.Begun lines new rounds left = (new ≡ lines) × (left + 1 ≡ rounds)
+Starts start.Idle lines new rounds left = All HasLooked lines × (new ≡ map rested lines) × (left ≡ rounds)
+Starts start.RanOut lines new rounds left = (new ≡ lines) × (left ≡ rounds) × (rounds ≡ 0)
 
 -- the same turnstiles
 pub record IsBeside (v w : WorkerView) : Type 0 where

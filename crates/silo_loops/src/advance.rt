@@ -6,9 +6,6 @@ use crate::doorbell::Doorbell;
 use std::sync::Wait;
 use turnstile::Refusal;
 
-/// The most rounds that a loop makes.
-pub const MOST_ROUNDS: u64 = 1_000_000;
-
 /// What a step of a loop did.
 #[derive(Clone, Copy, Debug, PartialEq, Eq)]
 pub enum Advance {

@@ -4,9 +4,8 @@ ghost use Rattle.silo_loops.specs.declared.advance.Advance.TheVariants.{Idle};
 ghost use Rattle.silo_loops.specs.Agents.{AgentAdvances, AgentAdvancesFrom, AgentCalls, HasSamePlaces, OnesPulled, agent_at};
 ghost use Rattle.silo_loops.specs.Answers.{advance_of};
 ghost use Rattle.silo_loops.specs.Lines.{HasPulled, rested};
-ghost use Rattle.silo_loops.specs.Workers.{most_rounds};
 
-use crate::advance::{Advance, MOST_ROUNDS, Over, told};
+use crate::advance::{Advance, Over, told};
 use crate::agent_walk::Visit;
 use crate::assigned::Assigned;
 use crate::doorbell::Doorbell;
@@ -25,8 +24,8 @@ use turnstile::StoredHistory;
 /// twice with nothing changed. It names the generation that it was told; where that is stale, it goes on with
 /// the next queue.
 ///
-/// A contract sees its lines, the generation under which it holds each queue, as it last looked, how many
-/// rounds it has begun, and why it has ended.
+/// A contract sees its lines, the generation under which it holds each queue, as it last looked, how many more
+/// rounds it may begin, and why it has ended.
 pub struct AgentLoop<G: Gate, H: StoredHistory<Op, Reply>> {
     doorbell: Arc<Doorbell, Global>,
     assigned: Arc<Assigned, Global>,
@@ -54,13 +53,12 @@ impl<G: Gate + Drop, H: StoredHistory<Op, Reply> + Drop> Drop for AgentLoop<G, H
 impl<G: Gate, H: StoredHistory<Op, Reply>> Model for AgentLoop<G, H> {
     ghost use Rattle.std.specs.Prelude.{◌≡◌, ◌≤◌, length};
     ghost use Rattle.silo_loops.specs.Agents.{AgentView};
-    ghost use Rattle.silo_loops.specs.Workers.{most_rounds};
 
     ghost Value = { AgentView };
 
     ghost view = { λ a. record { lines = a.lines.items; held = a.held.items; rounds = a.rounds; over = a.over } };
 
-    ghost invariant = { λ a. (length a.held.items ≡ length a.lines.items) × (a.rounds ≤ most_rounds) };
+    ghost invariant = { λ a. length a.held.items ≡ length a.lines.items };
 }
 
 // The generation under which the agent holds the queue at which it is, or else the next queue that it holds.
@@ -174,17 +172,15 @@ fn begin_round<G: Gate, H: StoredHistory<Op, Reply>, R: Wait>(
     over: &mut Option<Over>,
 ) -> Advance
     requires held { length held.old.items ≡ length lines.old.items }
-    requires rounds { rounds.old ≤ most_rounds }
     requires goes_on { over.old ≡ None }
     ensures held { length held.new.items ≡ length lines.new.items }
-    ensures rounds { rounds.new ≤ most_rounds }
     ensures advances { (was : List (Option ℕ)) → AgentAdvancesFrom None result (agent_at lines.old.items was rounds.old over.old) (agent_at lines.new.items held.new.items rounds.new over.new) }
 {
-    if *rounds >= MOST_ROUNDS {
+    if *rounds == 0 {
         *over = Some(Over::Rounds);
         return told(rt, doorbell, *over);
     }
-    *rounds += 1;
+    *rounds -= 1;
     visit.begin();
     match next_held(assigned, held, visit) {
         Some(generation) => take_step(rt, alloc, doorbell, lines, visit, generation, over),
@@ -205,10 +201,8 @@ fn end_round<G: Gate, H: StoredHistory<Op, Reply>, R: Wait>(
     over: &mut Option<Over>,
 ) -> Advance
     requires held { length held.old.items ≡ length lines.old.items }
-    requires rounds { rounds.old ≤ most_rounds }
     requires goes_on { over.old ≡ None }
     ensures held { length held.new.items ≡ length lines.new.items }
-    ensures rounds { rounds.new ≤ most_rounds }
     ensures advances { (was : List (Option ℕ)) → AgentAdvancesFrom None result (agent_at lines.old.items was rounds.old over.old) (agent_at lines.new.items held.new.items rounds.new over.new) }
 {
     if is_done(lines, held, visit) {
@@ -247,10 +241,8 @@ fn go_on<G: Gate, H: StoredHistory<Op, Reply>, R: Wait>(
     over: &mut Option<Over>,
 ) -> Advance
     requires held { length held.old.items ≡ length lines.old.items }
-    requires rounds { rounds.old ≤ most_rounds }
     requires goes_on { over.old ≡ None }
     ensures held { length held.new.items ≡ length lines.new.items }
-    ensures rounds { rounds.new ≤ most_rounds }
     ensures advances { AgentAdvancesFrom None result (agent_at lines.old.items held.old.items rounds.old over.old) (agent_at lines.new.items held.new.items rounds.new over.new) }
 {
     match next_held(assigned, held, visit) {
@@ -274,9 +266,7 @@ fn advance_parts<G: Gate, H: StoredHistory<Op, Reply>, R: Wait>(
     over: &mut Option<Over>,
 ) -> Advance
     requires held { length held.old.items ≡ length lines.old.items }
-    requires rounds { rounds.old ≤ most_rounds }
     ensures held { length held.new.items ≡ length lines.new.items }
-    ensures rounds { rounds.new ≤ most_rounds }
     ensures advances { AgentAdvances result (agent_at lines.old.items held.old.items rounds.old over.old) (agent_at lines.new.items held.new.items rounds.new over.new) }
 {
     match *over {
@@ -288,8 +278,8 @@ fn advance_parts<G: Gate, H: StoredHistory<Op, Reply>, R: Wait>(
 }
 
 impl<G: Gate, H: StoredHistory<Op, Reply>> AgentLoop<G, H> {
-    /// An agent that has done nothing yet, with a line for each queue, in their order. What is assigned to it
-    /// others may change at any time.
+    /// An agent that has done nothing yet, with a line for each queue, in their order, and so many rounds that it may
+    /// begin. What is assigned to it others may change at any time.
     ///
     /// # Errors
     /// The call failed to allocate. The lines are handed back.
@@ -298,8 +288,9 @@ impl<G: Gate, H: StoredHistory<Op, Reply>> AgentLoop<G, H> {
         doorbell: Arc<Doorbell, Global>,
         assigned: Arc<Assigned, Global>,
         lines: Vec<Line<G, H>>,
+        rounds: u64,
     ) -> Result<AgentLoop<G, H>, Vec<Line<G, H>>>
-        ensures made { IfOk result (λ agent. agent ≡ record { lines = lines.items; held = replicate (length lines.items) None; rounds = 0; over = None }) }
+        ensures made { IfOk result (λ agent. agent ≡ record { lines = lines.items; held = replicate (length lines.items) None; rounds = rounds; over = None }) }
         ensures back { IfErr result (λ back. back ≡ lines) }
     {
         let queues = lines.len();
@@ -312,7 +303,7 @@ impl<G: Gate, H: StoredHistory<Op, Reply>> AgentLoop<G, H> {
             lines,
             held,
             visit: Visit::new(queues),
-            rounds: 0,
+            rounds,
             over: None,
         })
     }
@@ -339,7 +330,7 @@ impl<G: Gate, H: StoredHistory<Op, Reply>> AgentLoop<G, H> {
         )
     }
 
-    /// How many rounds it has begun.
+    /// How many more rounds it may begin.
     pub fn rounds(&self) -> u64
         ensures { result ≡ self.now.rounds }
     {

@@ -20,7 +20,7 @@ mod worker;
 mod worker_steps;
 mod worker_walk;
 
-pub use advance::{Advance, MOST_ROUNDS, Over};
+pub use advance::{Advance, Over};
 pub use agent::AgentLoop;
 pub use assigned::Assigned;
 pub use directory_line::DirectoryLine;

@@ -4,9 +4,9 @@ ghost use Rattle.silo_loops.specs.declared.worker_walk.Step.TheVariants as step;
 ghost use Rattle.silo_loops.specs.Answers.{advance_of};
 ghost use Rattle.silo_loops.specs.Lines.{HasLooked};
 ghost use Rattle.silo_loops.specs.Walks.{IsAt, Nothing};
-ghost use Rattle.silo_loops.specs.Workers.{IsBeside, Starts, WorkerAdvances, WorkerAdvancesFrom, WorkerSteps, most_rounds, worker_at};
+ghost use Rattle.silo_loops.specs.Workers.{IsBeside, Starts, WorkerAdvances, WorkerAdvancesFrom, WorkerSteps, worker_at};
 
-use crate::advance::{Advance, MOST_ROUNDS, Over, told};
+use crate::advance::{Advance, Over, told};
 use crate::directory_line::DirectoryLine;
 use crate::doorbell::Doorbell;
 use crate::line::{Line, rest_all};
@@ -44,8 +44,8 @@ impl TurnRoom {
 /// Ready, Enter, Begin, the gate's handler for each event, Commit, the gate's `done`, Leave. A grain whose
 /// permit another has, or that is placed on another silo, is passed over.
 ///
-/// A contract sees its silo, its lines, its pass at the directory, what it has in hand, how many rounds it has
-/// begun and why it has ended.
+/// A contract sees its silo, its lines, its pass at the directory, what it has in hand, how many more rounds it may
+/// begin, and why it has ended.
 pub struct WorkerLoop<
     G: Gate,
     H: StoredHistory<Op, Reply>,
@@ -86,13 +86,13 @@ impl<G: Gate, H: StoredHistory<Op, Reply>, D: StoredHistory<DirectoryOp, Directo
     for WorkerLoop<G, H, D> {
     ghost use Rattle.std.specs.Prelude.{◌≤◌, vec_capacity};
     ghost use Rattle.silo_loops.specs.Walks.{IsAt};
-    ghost use Rattle.silo_loops.specs.Workers.{WorkerView, most_rounds, worker_at};
+    ghost use Rattle.silo_loops.specs.Workers.{WorkerView, worker_at};
 
     ghost Value = { WorkerView };
 
     ghost view = { λ w. worker_at w.silo w.lines.items w.directory w.walk w.events.items w.rounds w.over };
 
-    ghost invariant = { λ w. IsAt w.walk w.lines.items w.directory × (16 ≤ vec_capacity w.events) × (w.rounds ≤ most_rounds) };
+    ghost invariant = { λ w. IsAt w.walk w.lines.items w.directory × (16 ≤ vec_capacity w.events) };
 }
 
 // How a round begins, or doesn't.
@@ -109,7 +109,6 @@ fn start_round<G: Gate, H: StoredHistory<Op, Reply>>(
     walk: &mut Walk,
     rounds: &mut u64,
 ) -> Start
-    requires { rounds.old ≤ most_rounds }
     ensures starts { Starts result lines.old.items lines.new.items rounds.old rounds.new }
     ensures walk { walk.new ≡ record walk.old { changed = walk.new.changed } }
 {
@@ -118,10 +117,10 @@ fn start_round<G: Gate, H: StoredHistory<Op, Reply>>(
         walk.changed = true;
         return Start::Idle;
     }
-    if *rounds >= MOST_ROUNDS {
+    if *rounds == 0 {
         return Start::RanOut;
     }
-    *rounds += 1;
+    *rounds -= 1;
     walk.changed = false;
     Start::Begun
 }
@@ -250,11 +249,9 @@ fn begin_round<
     requires at { IsAt walk.old lines.old.items directory.old }
     requires rest { walk.old.step ≡ step.Rest }
     requires room { 16 ≤ vec_capacity events.old }
-    requires rounds { rounds.old ≤ most_rounds }
     requires goes_on { over.old ≡ None }
     ensures at { IsAt walk.new lines.new.items directory.new }
     ensures room { vec_capacity events.new ≡ vec_capacity events.old }
-    ensures rounds { rounds.new ≤ most_rounds }
     ensures advances { WorkerAdvancesFrom None result (worker_at silo lines.old.items directory.old walk.old events.old.items rounds.old over.old) (worker_at silo lines.new.items directory.new walk.new events.new.items rounds.new over.new) }
 {
     match start_round(lines, walk, rounds) {
@@ -290,11 +287,9 @@ fn go_on<
 ) -> Advance
     requires at { IsAt walk.old lines.old.items directory.old }
     requires room { 16 ≤ vec_capacity events.old }
-    requires rounds { rounds.old ≤ most_rounds }
     requires goes_on { over.old ≡ None }
     ensures at { IsAt walk.new lines.new.items directory.new }
     ensures room { vec_capacity events.new ≡ vec_capacity events.old }
-    ensures rounds { rounds.new ≤ most_rounds }
     ensures advances { WorkerAdvancesFrom None result (worker_at silo lines.old.items directory.old walk.old events.old.items rounds.old over.old) (worker_at silo lines.new.items directory.new walk.new events.new.items rounds.new over.new) }
 {
     match walk.step {
@@ -328,10 +323,8 @@ fn advance_parts<
 ) -> Advance
     requires at { IsAt walk.old lines.old.items directory.old }
     requires room { 16 ≤ vec_capacity events.old }
-    requires rounds { rounds.old ≤ most_rounds }
     ensures at { IsAt walk.new lines.new.items directory.new }
     ensures room { vec_capacity events.new ≡ vec_capacity events.old }
-    ensures rounds { rounds.new ≤ most_rounds }
     ensures advances { WorkerAdvances result (worker_at silo lines.old.items directory.old walk.old events.old.items rounds.old over.old) (worker_at silo lines.new.items directory.new walk.new events.new.items rounds.new over.new) }
 {
     match *over {
@@ -347,7 +340,8 @@ impl<
     H: StoredHistory<Op, Reply>,
     D: StoredHistory<DirectoryOp, DirectoryReply>,
 > WorkerLoop<G, H, D> {
-    /// A worker of this silo that has done nothing yet, with a line for each queue, in their order.
+    /// A worker of this silo that has done nothing yet, with a line for each queue, in their order, and so many rounds
+    /// that it may begin.
     pub fn new(
         silo: u8,
         gate: Arc<G, Global>,
@@ -355,9 +349,10 @@ impl<
         lines: Vec<Line<G, H>>,
         directory: DirectoryLine<D>,
         room: TurnRoom,
+        rounds: u64,
     ) -> WorkerLoop<G, H, D>
         requires { 0 < length lines.items }
-        ensures { result ≡ record { silo = silo; lines = lines.items; directory = directory; work = Nothing; rounds = 0; over = None } }
+        ensures { result ≡ record { silo = silo; lines = lines.items; directory = directory; work = Nothing; rounds = rounds; over = None } }
     {
         WorkerLoop {
             silo,
@@ -367,7 +362,7 @@ impl<
             directory,
             events: room.events,
             walk: Walk::new(),
-            rounds: 0,
+            rounds,
             over: None,
         }
     }
@@ -396,7 +391,7 @@ impl<
         )
     }
 
-    /// How many rounds it has begun.
+    /// How many more rounds it may begin.
     pub fn rounds(&self) -> u64
         ensures { result ≡ self.now.rounds }
     {

@@ -235,7 +235,7 @@ pub not-fixed : (v : ClusterView) → v.is_parked ≡ false → v.is_halted ≡ 
 not-fixed v parked halted = ap (λ b. b || v.is_halted) parked ∙ halted
 
 -- a cluster whose silos don't change any more
-pub cluster-halted : (v : ClusterView) (ends : LoopEnds) (o : OperatorView) (ss : List SiloView) → v.is_parked ≡ false → RunsOn o ss → IsCluster (record { operator = o; silos = ss; ends = ends; is_parked = v.is_parked; is_halted = true })
+pub cluster-halted : (v : ClusterView) (ends : LoopEnds) (o : OperatorView) (ss : List SiloView) → v.is_parked ≡ false → RunsOn o ss → IsCluster (record { operator = o; silos = ss; ends = ends; is_parked = v.is_parked; is_halted = true; rounds = v.rounds; looks = v.looks })
 cluster-halted v ends o ss free runs =
     record {
       at = runs;
@@ -245,7 +245,7 @@ cluster-halted v ends o ss free runs =
 
 -- a cluster of which a silo went
 pub cluster-gone : (v : ClusterView) (ends : LoopEnds) (o : OperatorView) (ss : List SiloView) (place : ℕ) → v.is_parked ≡ false → v.is_halted ≡ false → IsCluster v → ss ≡ remove v.silos place → OperatorGoesOn v.operator o → o.live ≡ remove v.operator.live place
-    → IsCluster (record { operator = o; silos = ss; ends = ends; is_parked = v.is_parked; is_halted = v.is_halted })
+    → IsCluster (record { operator = o; silos = ss; ends = ends; is_parked = v.is_parked; is_halted = v.is_halted; rounds = v.rounds; looks = v.looks })
 cluster-gone v ends o ss place free goes kept left on live =
     record {
       at = subst (λ (xs : List SiloView). RunsOn o xs) (sym left) (sits-on v.operator o (remove v.silos place) on (all-remove (IsSiloAt v.operator.lines v.operator.directory) v.silos place kept.at));
@@ -255,7 +255,7 @@ cluster-gone v ends o ss place free goes kept left on live =
 
 -- a cluster to which a silo came
 pub cluster-came : (v : ClusterView) (ends : LoopEnds) (o : OperatorView) (ss : List SiloView) (silo : ℕ) (s : SiloView) → v.is_parked ≡ false → v.is_halted ≡ false → IsCluster v → ss ≡ v.silos ++ s ∷ [] → s.silo ≡ silo → RunsOn o ss → o.live ≡ v.operator.live ++ silo ∷ []
-    → IsCluster (record { operator = o; silos = ss; ends = ends; is_parked = v.is_parked; is_halted = v.is_halted })
+    → IsCluster (record { operator = o; silos = ss; ends = ends; is_parked = v.is_parked; is_halted = v.is_halted; rounds = v.rounds; looks = v.looks })
 cluster-came v ends o ss silo s free goes kept more named runs live =
     record {
       at = runs;
@@ -301,12 +301,12 @@ place-within ss live place silo loops stood =
     let same = ap (λ (xs : List ℕ). length xs) loops in
     omega (arith, within, long, same)
 
-pub down-done : (v w : ClusterView) (place silo gone : ℕ) → is_fixed v ≡ false → MayGo v silo → slice_get v.operator.live place ≡ Some silo → gone ≡ silo → OperatorGoesOn v.operator w.operator → HasLeft gone place v.operator w.operator → w.is_parked ≡ v.is_parked → w.is_halted ≡ false → HasNoted v w
+pub down-done : (v w : ClusterView) (place silo gone : ℕ) → is_fixed v ≡ false → MayGo v silo → slice_get v.operator.live place ≡ Some silo → gone ≡ silo → OperatorGoesOn v.operator w.operator → HasLeft gone place v.operator w.operator → (w.is_parked ≡ v.is_parked) × (w.rounds ≡ v.rounds) × (w.looks ≡ v.looks) → w.is_halted ≡ false → HasNoted v w
     → AnswersDown v silo (Ok down.Down) w
 down-done v w place silo gone fixed may stood named on left same goes noted =
     (fixed, may, record { on = on; place = place; stood = stood; left = subst (λ k. HasLeft k place v.operator w.operator) named left; same = same; goes_on = goes }, noted)
 
-pub up-done : (v w : ClusterView) (silo : ℕ) (s : SiloView) → is_fixed v ≡ false → (Contains v.operator.live silo → ⊥) → OperatorGoesOn v.operator w.operator → w.operator.live ≡ v.operator.live ++ silo ∷ [] → w.silos ≡ v.silos ++ s ∷ [] → IsFresh silo s → HasSpread v.operator w.operator → w.is_parked ≡ v.is_parked → w.is_halted ≡ false
+pub up-done : (v w : ClusterView) (silo : ℕ) (s : SiloView) → is_fixed v ≡ false → (Contains v.operator.live silo → ⊥) → OperatorGoesOn v.operator w.operator → w.operator.live ≡ v.operator.live ++ silo ∷ [] → w.silos ≡ v.silos ++ s ∷ [] → IsFresh v.rounds silo s → HasSpread v.operator w.operator → (w.is_parked ≡ v.is_parked) × (w.rounds ≡ v.rounds) × (w.looks ≡ v.looks) → w.is_halted ≡ false
     → AnswersUp v silo (Ok up.Up) w
 up-done v w silo s fixed absent on live more fresh spread same goes = (fixed, absent, record { on = on; live = live; started = (s, more, fresh); spread = spread; same = same; goes_on = goes })
 
@@ -330,11 +330,11 @@ finished-whole entries c Ended callers lines ends (Ok answer) on ended finished 
 finished-whole entries c Ended callers lines ends (Err e) on ended finished begun producers = tt
 
 -- one silo more whose loops were made, and have done nothing
-pub made-more : (v w : OperatorView) (ss : List SiloView) (s : SiloView) (n : ℕ) → HasOnlyGoneOn v w → AreStarted n ss → AreFresh ss → RunsOn v ss → IsFresh n s → IsSiloAt w.lines w.directory s
-    → AreStarted (n + 1) (ss ++ s ∷ []) × AreFresh (ss ++ s ∷ []) × RunsOn w (ss ++ s ∷ [])
-made-more v w ss s n only started fresh runs new at =
+pub made-more : (rounds : ℕ) (v w : OperatorView) (ss : List SiloView) (s : SiloView) (n : ℕ) → HasOnlyGoneOn v w → AreStarted n ss → AreFresh rounds ss → RunsOn v ss → IsFresh rounds n s → IsSiloAt w.lines w.directory s
+    → AreStarted (n + 1) (ss ++ s ∷ []) × AreFresh rounds (ss ++ s ∷ []) × RunsOn w (ss ++ s ∷ [])
+made-more rounds v w ss s n only started fresh runs new at =
     let more = started-more v w ss s n only started runs new.0 at in
-    (more.0, all-push (λ (x : SiloView). IsFresh x.silo x) ss s fresh (subst (λ k. IsFresh k s) (sym new.0) new), more.1)
+    (more.0, all-push (λ (x : SiloView). IsFresh rounds x.silo x) ss s fresh (subst (λ k. IsFresh rounds k s) (sym new.0) new), more.1)
 
 -- one silo more of which it was noted how its loops have ended
 pub noted-push : (ends : LoopEnds) (ss : List SiloView) (s : SiloView) → all_noted ends (ss ++ s ∷ []) ≡ noted (all_noted ends ss) s
@@ -342,7 +342,7 @@ noted-push ends [] s = refl
 noted-push ends (x ∷ ss) s = noted-push (noted ends x) ss s
 
 -- a parked cluster stays one, whose loops are elsewhere
-pub parked-stays : (v : ClusterView) (ends : LoopEnds) (o : OperatorView) (halted : Bool) → v.is_parked ≡ true → IsCluster v → IsCluster (record { operator = o; silos = v.silos; ends = ends; is_parked = v.is_parked; is_halted = halted })
+pub parked-stays : (v : ClusterView) (ends : LoopEnds) (o : OperatorView) (halted : Bool) → v.is_parked ≡ true → IsCluster v → IsCluster (record { operator = o; silos = v.silos; ends = ends; is_parked = v.is_parked; is_halted = halted; rounds = v.rounds; looks = v.looks })
 parked-stays v ends o halted parked kept =
     record {
       at = subst (λ (ss : List SiloView). RunsOn o ss) (sym (kept.parked parked)) tt;
@@ -362,7 +362,7 @@ pub last-stays : (v : ClusterView) (loops : SiloView) (many : ℕ) → v.is_halt
 last-stays v loops many free lives count one = only-one v.operator.live loops.silo (lives free) (sym count ∙ one)
 
 pub retire-done : (v w : ClusterView) (loops : SiloView) (place silo gone : ℕ) → v.is_halted ≡ false → (length v.operator.live ≡ 1 → ⊥) → slice_get v.operator.live place ≡ Some silo → silo ≡ loops.silo → gone ≡ loops.silo → OperatorGoesOn v.operator w.operator
-    → HasLeft gone place v.operator w.operator → w.is_parked ≡ v.is_parked → w.is_halted ≡ false → w.ends ≡ noted v.ends loops → IsRetired v loops w
+    → HasLeft gone place v.operator w.operator → (w.is_parked ≡ v.is_parked) × (w.rounds ≡ v.rounds) × (w.looks ≡ v.looks) → w.is_halted ≡ false → w.ends ≡ noted v.ends loops → IsRetired v loops w
 retire-done v w loops place silo gone free other stood silo_is named on left same goes ends =
     let here = subst (λ k. slice_get v.operator.live place ≡ Some k) silo_is stood in (
       free,

@@ -49,13 +49,16 @@ abbrev pub IsAtQueue : Config → QueuePass → Type 0
 IsAtQueue config p = (t : Origin PlainPartition) × (p.turnstile ≡ Some t) × (t.start ≡ opening config)
 
 -- A cluster: what its operator holds, the silos whose loops run, as they were started, how those have ended that came
--- back, whether the loops were given to whoever made it, and whether a change of silos was broken off.
+-- back, whether the loops were given to whoever made it, whether a change of silos was broken off, how many rounds each
+-- loop may begin, and how often a drain looks at the queues.
 pub record ClusterView : Type 0 where
   pub operator : OperatorView
   pub silos : List SiloView
   pub ends : LoopEnds
   pub is_parked : Bool
   pub is_halted : Bool
+  pub rounds : ℕ
+  pub looks : ℕ
 
 -- no silo comes or goes by itself
 abbrev pub is_fixed : ClusterView → Bool
@@ -74,8 +77,8 @@ abbrev pub AreStarted : ℕ → List SiloView → Type 0
 AreStarted many silos = map (λ (s : SiloView). s.silo) silos ≡ range_with_len 0 many
 
 -- the loops of each silo have done nothing yet
-abbrev pub AreFresh : List SiloView → Type 0
-AreFresh silos = AllByRecursion (λ (s : SiloView). IsFresh s.silo s) silos
+abbrev pub AreFresh : ℕ → List SiloView → Type 0
+AreFresh rounds silos = AllByRecursion (λ (s : SiloView). IsFresh rounds s.silo s) silos
 
 -- what every cluster keeps
 pub record IsCluster (c : ClusterView) : Type 0 where
@@ -104,16 +107,16 @@ EndsBy ends (s ∷ ss) new = (back : SiloView) × IsSameSilo s back × EndsBy (n
 -- calls were refused on the way: what was answered stands, and no silo comes or goes any more
 pub record HasHalted (v w : ClusterView) : Type 0 where
   pub on : OperatorGoesOn v.operator w.operator
-  pub same : w.is_parked ≡ v.is_parked
+  pub same : (w.is_parked ≡ v.is_parked) × (w.rounds ≡ v.rounds) × (w.looks ≡ v.looks)
   pub halted : w.is_halted ≡ true
 
 -- a silo came: its loops, which had done nothing, were started, and the queues are spread anew
 pub record IsUp (v : ClusterView) (silo : ℕ) (w : ClusterView) : Type 0 where
   pub on : OperatorGoesOn v.operator w.operator
   pub live : w.operator.live ≡ v.operator.live ++ silo ∷ []
-  pub started : (s : SiloView) × (w.silos ≡ v.silos ++ s ∷ []) × IsFresh silo s
+  pub started : (s : SiloView) × (w.silos ≡ v.silos ++ s ∷ []) × IsFresh v.rounds silo s
   pub spread : HasSpread v.operator w.operator
-  pub same : w.is_parked ≡ v.is_parked
+  pub same : (w.is_parked ≡ v.is_parked) × (w.rounds ≡ v.rounds) × (w.looks ≡ v.looks)
   pub goes_on : w.is_halted ≡ false
 
 -- what `silo_up` answers, by the silos that live
@@ -151,7 +154,7 @@ pub record IsDown (v : ClusterView) (silo : ℕ) (w : ClusterView) : Type 0 wher
   pub place : ℕ
   pub stood : slice_get v.operator.live place ≡ Some silo
   pub left : HasLeft silo place v.operator w.operator
-  pub same : w.is_parked ≡ v.is_parked
+  pub same : (w.is_parked ≡ v.is_parked) × (w.rounds ≡ v.rounds) × (w.looks ≡ v.looks)
   pub goes_on : w.is_halted ≡ false
 
 -- the silo lives, and another one too
@@ -208,6 +211,8 @@ pub record IsNew (config : Config) (c : ClusterView) (caller : List QueuePass) :
   pub loops : RunLoops c
   pub goes_on : is_fixed c ≡ false
   pub none : c.ends ≡ none_ended
+  pub rounds : c.rounds ≡ config.rounds
+  pub looks : c.looks ≡ config.looks
 
 -- A new parked cluster, its caller, and the loops of its silos: so it was opened, and the loops are those of the silos
 -- that live, in their order, at the cluster's turnstiles. They have done nothing yet.
@@ -216,8 +221,10 @@ pub record IsNewParked (config : Config) (c : ClusterView) (caller : List QueueP
   pub parked : c.is_parked ≡ true
   pub goes_on : c.is_halted ≡ false
   pub none : c.ends ≡ none_ended
+  pub rounds : c.rounds ≡ config.rounds
+  pub looks : c.looks ≡ config.looks
   pub silos : map (λ (s : SiloView). s.silo) loops ≡ c.operator.live
-  pub fresh : AreFresh loops
+  pub fresh : AreFresh config.rounds loops
   pub at : RunsOn c.operator loops
 
 -- How a cluster has ended: its loops came back, of which Ended says how they have ended, and its own passes, as they

@@ -27,11 +27,12 @@ pub(crate) fn start_silo<
     alloc: Global,
     operator: &mut Operator<G, H, D>,
     silo: u8,
+    rounds: u64,
 ) -> Result<RunningSilo<G, H, D>, AllocError>
     ensures only { HasOnlyGoneOn operator.old operator.new }
-    ensures started { IfOk result (λ running. IsFresh silo running × IsSiloAt operator.new.lines operator.new.directory running) }
+    ensures started { IfOk result (λ running. IsFresh rounds silo running × IsSiloAt operator.new.lines operator.new.directory running) }
 {
-    let loops = operator.make_loops(alloc, silo)?;
+    let loops = operator.make_loops(alloc, silo, rounds)?;
     match RunningSilo::start(rt, alloc, operator.doorbell(), loops) {
         Ok(running) => Ok(running),
         Err(back) => {
@@ -53,17 +54,18 @@ pub(crate) fn bring_up<
     operator: &mut Operator<G, H, D>,
     silos: &mut Vec<RunningSilo<G, H, D>>,
     silo: u8,
+    rounds: u64,
 ) -> Result<(), Halt>
     requires absent { ¬ Contains operator.old.live silo }
     requires at { RunsOn operator.old silos.old.items }
     ensures at { RunsOn operator.new silos.new.items }
     ensures on { OperatorGoesOn operator.old operator.new }
     ensures live { OnOk result (operator.new.live ≡ operator.old.live ++ silo ∷ []) }
-    ensures started { OnOk result ((s : SiloView) × (silos.new.items ≡ silos.old.items ++ s ∷ []) × IsFresh silo s) }
+    ensures started { OnOk result ((s : SiloView) × (silos.new.items ≡ silos.old.items ++ s ∷ []) × IsFresh rounds silo s) }
     ensures spread { OnOk result (HasSpread operator.old operator.new) }
 {
     silos.reserve(1)?;
-    silos.push_reserved(start_silo(rt, alloc, operator, silo)?);
+    silos.push_reserved(start_silo(rt, alloc, operator, silo, rounds)?);
     operator.enlist(silo)?;
     operator.spread(rt, alloc)
 }
@@ -106,13 +108,14 @@ pub(crate) fn start_all<
     alloc: Global,
     operator: &mut Operator<G, H, D>,
     silos: u8,
+    rounds: u64,
 ) -> Result<Vec<RunningSilo<G, H, D>>, AllocError>
     ensures only { HasOnlyGoneOn operator.old operator.new }
     ensures started { IfOk result (λ running. AreStarted silos running.items × RunsOn operator.new running.items) }
 {
     let mut running = Vec::with_capacity(alloc, usize::from(silos))?;
     for silo in 0..silos {
-        match start_silo(rt, alloc, operator, silo) {
+        match start_silo(rt, alloc, operator, silo, rounds) {
             Ok(started) => running.push_reserved(started),
             Err(AllocError) => {
                 let _ends = stop_all(rt, operator, running, LoopEnds::default());
@@ -172,13 +175,14 @@ pub(crate) fn make_all<
     alloc: Global,
     operator: &mut Operator<G, H, D>,
     silos: u8,
+    rounds: u64,
 ) -> Result<Vec<SiloLoops<G, H, D>>, AllocError>
     ensures only { HasOnlyGoneOn operator.old operator.new }
-    ensures made { IfOk result (λ made. AreStarted silos made.items × AreFresh made.items × RunsOn operator.new made.items) }
+    ensures made { IfOk result (λ made. AreStarted silos made.items × AreFresh rounds made.items × RunsOn operator.new made.items) }
 {
     let mut made = Vec::with_capacity(alloc, usize::from(silos))?;
     for silo in 0..silos {
-        match operator.make_loops(alloc, silo) {
+        match operator.make_loops(alloc, silo, rounds) {
             Ok(loops) => made.push_reserved(loops),
             Err(AllocError) => {
                 let _ends = take_all_back(operator, made, LoopEnds::default());

@@ -116,7 +116,8 @@ fn retired_by<G: Gate, H: StoredHistory<Op, Reply>, D: StoredHistory<DirectoryOp
 /// answer `Halted`.
 ///
 /// A contract sees what its operator holds, the loops of its silos as they were started, how those have ended that
-/// came back, whether the loops were given to whoever made it, and whether a change of silos was broken off.
+/// came back, whether the loops were given to whoever made it, whether a change of silos was broken off, how many
+/// rounds each loop may begin, and how often a drain looks at the queues.
 pub struct Cluster<
     G: Gate,
     H: StoredHistory<Op, Reply>,
@@ -130,6 +131,10 @@ pub struct Cluster<
     parked: bool,
     // whether a change of silos was broken off
     halted: bool,
+    // how many rounds each loop may begin
+    rounds: u64,
+    // how often a drain looks at the queues before it gives up
+    looks: u32,
 }
 
 impl<
@@ -144,6 +149,8 @@ impl<
             ends: _,
             parked: _,
             halted: _,
+            rounds: _,
+            looks: _,
         } = self;
     }
 }
@@ -154,9 +161,9 @@ impl<G: Gate, H: StoredHistory<Op, Reply>, D: StoredHistory<DirectoryOp, Directo
 
     ghost Value = { ClusterView };
 
-    ghost view = { λ c. record { operator = c.operator; silos = c.silos.items; ends = c.ends; is_parked = c.parked; is_halted = c.halted } };
+    ghost view = { λ c. record { operator = c.operator; silos = c.silos.items; ends = c.ends; is_parked = c.parked; is_halted = c.halted; rounds = c.rounds; looks = c.looks } };
 
-    ghost invariant = { λ c. IsCluster (record { operator = c.operator; silos = c.silos.items; ends = c.ends; is_parked = c.parked; is_halted = c.halted }) };
+    ghost invariant = { λ c. IsCluster (record { operator = c.operator; silos = c.silos.items; ends = c.ends; is_parked = c.parked; is_halted = c.halted; rounds = c.rounds; looks = c.looks }) };
 }
 
 impl<
@@ -179,13 +186,15 @@ impl<
         ensures { IfOk result (λ made. IsNew config.now made.0 made.1) }
     {
         let (mut operator, caller) = open(rt, alloc, config, gate)?;
-        let silos = start_all(rt, alloc, &mut operator, config.silos)?;
+        let silos = start_all(rt, alloc, &mut operator, config.silos, config.rounds)?;
         let cluster = Cluster {
             operator,
             silos,
             ends: LoopEnds::default(),
             parked: false,
             halted: false,
+            rounds: config.rounds,
+            looks: config.looks,
         };
         Ok((cluster, caller))
     }
@@ -212,7 +221,14 @@ impl<
             Some(_) => return Ok(SiloUp::Already),
             None => {}
         }
-        match bring_up(rt, alloc, &mut self.operator, &mut self.silos, silo) {
+        match bring_up(
+            rt,
+            alloc,
+            &mut self.operator,
+            &mut self.silos,
+            silo,
+            self.rounds,
+        ) {
             Ok(()) => Ok(SiloUp::Up),
             Err(halt) => {
                 self.halted = true;
@@ -227,6 +243,13 @@ impl<G: Gate, H: StoredHistory<Op, Reply>, D: StoredHistory<DirectoryOp, Directo
     H,
     D,
 > {
+    /// How often a drain looks at the queues before it gives up.
+    pub fn looks(&self) -> u32
+        ensures { result ≡ self.now.looks }
+    {
+        self.looks
+    }
+
     /// Whether its silos don't change any more by [`silo_up`](Cluster::silo_up) and
     /// [`silo_down`](Cluster::silo_down): it is parked, or a change of silos was broken off.
     pub fn is_fixed(&self) -> bool
@@ -294,6 +317,8 @@ impl<G: Gate, H: StoredHistory<Op, Reply>, D: StoredHistory<DirectoryOp, Directo
             ends,
             parked: _,
             halted: _,
+            rounds: _,
+            looks: _,
         } = self;
         let ends = stop_all(rt, &mut operator, silos, ends);
         let (doorbell, lines) = operator.into_lines();
@@ -315,13 +340,15 @@ impl<G: Gate, H: StoredHistory<Op, Reply>, D: StoredHistory<DirectoryOp, Directo
         ensures { IfOk result (λ made. IsNewParked config.now made.0 made.1 made.2.items) }
     {
         let (mut operator, caller) = open(rt, alloc, config, gate)?;
-        let loops = make_all(alloc, &mut operator, config.silos)?;
+        let loops = make_all(alloc, &mut operator, config.silos, config.rounds)?;
         let cluster = Cluster {
             operator,
             silos: Vec::new(alloc),
             ends: LoopEnds::default(),
             parked: true,
             halted: false,
+            rounds: config.rounds,
+            looks: config.looks,
         };
         Ok((cluster, caller, loops))
     }
@@ -390,6 +417,8 @@ impl<G: Gate, H: StoredHistory<Op, Reply>, D: StoredHistory<DirectoryOp, Directo
             ends,
             parked: _,
             halted: _,
+            rounds: _,
+            looks: _,
         } = self;
         let ends = take_all_back(&mut operator, loops, ends);
         let (doorbell, lines) = operator.into_lines();

@@ -1,4 +1,7 @@
 //! What a cluster is made of.
+ghost use Rattle.std.specs.Prelude.{◌≡◌, ◌≤◌};
+ghost use Rattle.stream_cluster.specs.Clusters.{IsConfig};
+
 use stream_model::Limits;
 
 /// How many queues and silos a cluster begins with, and its limits.
@@ -14,4 +17,32 @@ pub struct Config {
     pub limits: Limits,
     /// How many calls the history of each queue may have, and that of the directory: at least 1.
     pub history: u64,
+    /// How many rounds each loop of a silo may begin before it ends for good. A loop that found nothing to do begins one
+    /// after the doorbell was rung, which is so several times for each event.
+    pub rounds: u64,
+    /// How often a drain looks at the queues before it gives up.
+    pub looks: u32,
+}
+
+impl Config {
+    /// A configuration for a service that stays up: so many queues and silos, caches of four blocks, and the greatest
+    /// limits. Its histories and its loops end at no number that is ever reached. Each queue still has room for
+    /// 1,000,000 events in all.
+    pub fn new(queues: usize, silos: u8) -> Config
+        requires queues { (1 ≤ queues) × (queues ≤ 64) }
+        requires silos { (1 ≤ silos) × (silos ≤ 16) }
+        ensures config { IsConfig result }
+        ensures queues { result.queues ≡ queues }
+        ensures silos { result.silos ≡ silos }
+    {
+        Config {
+            queues,
+            blocks: 4,
+            silos,
+            limits: Limits::GREATEST,
+            history: u64::MAX,
+            rounds: u64::MAX,
+            looks: 100_000,
+        }
+    }
 }

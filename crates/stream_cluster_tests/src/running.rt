@@ -61,6 +61,8 @@ pub fn start<G: Gate + 'static, R: Threads + Wait + Abort + Copy + Send + 'stati
         silos,
         limits: Limits::GREATEST,
         history,
+        rounds: 1_000_000,
+        looks: 100_000,
     };
     let (cluster, caller) = Cluster::new(rt, alloc, &config, gate)?;
     Ok((Running { cluster }, Producer::new(caller)))

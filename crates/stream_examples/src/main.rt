@@ -75,6 +75,8 @@ fn run_config(silos: u8, queues: usize, history: u64) -> Config
         silos,
         limits: Limits::GREATEST,
         history,
+        rounds: 1_000_000,
+        looks: 100_000,
     }
 }
 

@@ -106,7 +106,7 @@ pub enum UnsubscribeError {
 /// Why a service doesn't settle.
 #[derive(Clone, Copy, Debug, PartialEq, Eq, Error)]
 pub enum SettleError {
-    /// Not all queues got quiet: a loop has ended, or there were 100,000 looks at the queues.
+    /// Not all queues got quiet: a loop has ended, or there were as many looks at the queues as `Config::looks` says.
     #[error("not all queues get quiet")]
     NotQuiet,
     /// The history of a queue is full.

@@ -175,7 +175,8 @@ impl<R: Host, G: Gate + 'static> Service<R, G> {
     pub fn settle(&mut self) -> Result<(), SettleError>
         ensures { Settles self.old result self.new }
     {
-        settled(drain(&self.rt, self.rt.alloc(), &mut self.caller))
+        let looks = self.cluster.looks();
+        settled(drain(&self.rt, self.rt.alloc(), &mut self.caller, looks))
     }
 
     /// A silo comes: its loops are started, and the queues are spread over all silos that live.

@@ -4,7 +4,7 @@ use std::rt::Clock;
 use std::sync::atomic::{AtomicU64, Ordering};
 use std::thread;
 use std::time::Duration;
-use streams::{Event, Gate, SubName, Token};
+use streams::{Event, Gate, SubName};
 
 /// How many milliseconds a thread sleeps between two looks at a count.
 const NAP: u64 = 1;
@@ -33,14 +33,10 @@ impl Tally {
 }
 
 impl Gate for Tally {
-    fn inside(&self, _queue: usize) {}
-
     fn handle(&self, _sub: &SubName, _event: &Event, note: u64) -> u64 {
         self.handled.fetch_add(1, Ordering::SeqCst);
         note.saturating_add(1)
     }
-
-    fn done(&self, _sub: &SubName, _token: Token) {}
 }
 
 /// Sleeps until so many events are handled, so as to take no turn at a queue meanwhile.

@@ -7,7 +7,7 @@ use Rattle.silo_crew.proofs.loops.make_agent.Goals as goal
 pub returns-in-Ok-clause-fresh : goal.returns-in-Ok-clause-fresh
 returns-in-Ok-clause-fresh g c =
     let split = c.in_ok-own.ensures.new in
-    subst (λ (a : AgentView). IsFreshAgent a × IsAgentAt c.split_lines.new.lines.items a) (sym c.in-Ok.ensures.made)
+    subst (λ (a : AgentView). IsFreshAgent c.args.rounds a × IsAgentAt c.split_lines.new.lines.items a) (sym c.in-Ok.ensures.made)
     ((split-marked _ _ split, refl, refl), split-at _ _ _ split c.split_lines.ensures.go_on)
 
 pub join_lines-requires-after_bounds : goal.join_lines-requires-after_bounds

@@ -18,7 +18,7 @@ returns-in-Ok-clause-fresh g c =
     let split = c.in_ok-own.ensures.new in
     let directory = ap (λ w. w.turnstile) c.in-Ok.ensures.new.0 in
     let kept = c.split.ensures.turnstile in
-    subst (λ (w : WorkerView). IsFreshWorker c.args.silo w × IsWorkerAt c.split_lines.new.lines.items c.split.new.self w) (sym c.new-in-Ok.ensures)
+    subst (λ (w : WorkerView). IsFreshWorker c.args.rounds c.args.silo w × IsWorkerAt c.split_lines.new.lines.items c.split.new.self w) (sym c.new-in-Ok.ensures)
     ((refl, split-marked _ _ split, refl, refl, refl), (split-at _ _ _ split c.split_lines.ensures.go_on, directory ∙ sym kept))
 
 pub returns-in_err-room-clause-directory : goal.returns-in_err-room-clause-directory

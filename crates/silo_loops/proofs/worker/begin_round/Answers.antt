@@ -11,7 +11,7 @@ take_step-requires-clause-at g c =
 pub returns-in-Begun-clause-advances : goal.returns-in-Begun-clause-advances
 returns-in-Begun-clause-advances g c =
     round-begun c.args.silo c.args.lines.now.items c.start_round.new.lines.items c.args.directory.now c.args.walk.now c.start_round.new.walk c.args.events.now.items c.args.rounds.now c.start_round.new.rounds c.args.over.now _ _ _
-    c.in-Begun.ensures.starts.0 c.in-Begun.ensures.starts.1 c.in-Begun.ensures.starts.2 c.start_round.ensures.walk c.requires.goes_on c.take_step.ensures.answer refl refl
+    c.in-Begun.ensures.starts.0 c.in-Begun.ensures.starts.1 c.start_round.ensures.walk c.requires.goes_on c.take_step.ensures.answer refl refl
     (c.take_step.ensures.steps c.args.rounds.now c.start_round.new.rounds)
 
 pub returns-in-Idle-clause-at : goal.returns-in-Idle-clause-at
@@ -21,7 +21,7 @@ returns-in-Idle-clause-at g c =
 pub returns-in-Idle-clause-advances : goal.returns-in-Idle-clause-advances
 returns-in-Idle-clause-advances g c =
     round-idle c.args.silo c.args.lines.now.items c.start_round.new.lines.items c.args.directory.now c.args.walk.now c.start_round.new.walk c.args.events.now.items c.args.rounds.now c.start_round.new.rounds c.args.over.now _
-    c.in-Idle.ensures.starts.0 c.in-Idle.ensures.starts.1 c.in-Idle.ensures.starts.2 c.requires.rounds c.requires.rest c.start_round.ensures.walk c.requires.goes_on refl
+    c.in-Idle.ensures.starts.0 c.in-Idle.ensures.starts.1 c.in-Idle.ensures.starts.2 c.requires.rest c.start_round.ensures.walk c.requires.goes_on refl
 
 pub returns-in-RanOut-clause-at : goal.returns-in-RanOut-clause-at
 returns-in-RanOut-clause-at g c =

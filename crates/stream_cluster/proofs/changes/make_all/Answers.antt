@@ -16,7 +16,7 @@ loop-silo-init g c =
       only = only-refl c.args.operator.now;
       many = ap (λ (ss : List SiloView). length ss) none;
       started = ap (λ (ss : List SiloView). map (λ (s : SiloView). s.silo) ss) none;
-      fresh = subst (λ (ss : List SiloView). AreFresh ss) (sym none) tt;
+      fresh = subst (λ (ss : List SiloView). AreFresh c.args.rounds ss) (sym none) tt;
       runs = subst (λ (ss : List SiloView). RunsOn c.args.operator.now ss) (sym none) tt;
       room = c.in_ok-made.ensures.exact ∙ c.from.ensures;
     }
@@ -30,12 +30,12 @@ returns-in-Err-clause-only g c =
 
 pub loop-silo-preserved : goal.loop-silo-preserved
 loop-silo-preserved g c =
-    let more = made-more c.loop-silo.operator c.make_loops.new.self c.loop-silo.made.items c.in-Ok.loops c.loop-silo.silo c.make_loops.ensures.only c.loop-silo.invariant.started c.loop-silo.invariant.fresh c.loop-silo.invariant.runs c.in-Ok.ensures.fresh c.in-Ok.ensures.at in
+    let more = made-more c.args.rounds c.loop-silo.operator c.make_loops.new.self c.loop-silo.made.items c.in-Ok.loops c.loop-silo.silo c.make_loops.ensures.only c.loop-silo.invariant.started c.loop-silo.invariant.fresh c.loop-silo.invariant.runs c.in-Ok.ensures.fresh c.in-Ok.ensures.at in
     record {
       only = only-trans c.args.operator.now c.loop-silo.operator c.make_loops.new.self c.loop-silo.invariant.only c.make_loops.ensures.only;
       many = ap (λ (ss : List SiloView). length ss) c.push_reserved.ensures.items ∙ length_push c.loop-silo.made.items c.in-Ok.loops ∙ ap (λ n. n + 1) c.loop-silo.invariant.many;
       started = subst (λ (ss : List SiloView). AreStarted (c.loop-silo.silo + 1) ss) (sym c.push_reserved.ensures.items) more.0;
-      fresh = subst (λ (ss : List SiloView). AreFresh ss) (sym c.push_reserved.ensures.items) more.1;
+      fresh = subst (λ (ss : List SiloView). AreFresh c.args.rounds ss) (sym c.push_reserved.ensures.items) more.1;
       runs = subst (λ (ss : List SiloView). RunsOn c.make_loops.new.self ss) (sym c.push_reserved.ensures.items) more.2;
       room = c.push_reserved.ensures.capacity ∙ c.loop-silo.invariant.room;
     }

@@ -9,7 +9,7 @@ invariant-loop-silo g l =
       only : HasOnlyGoneOn l.fn.operator l.operator;
       many : length l.made.items ≡ l.silo;
       started : AreStarted l.silo l.made.items;
-      fresh : AreFresh l.made.items;
+      fresh : AreFresh l.fn.rounds l.made.items;
       runs : RunsOn l.operator l.made.items;
       room : vec_capacity l.made ≡ l.fn.silos;
     }

@@ -12,12 +12,12 @@ leave-requires-clause-at g c κs within = subst (λ (v : ClusterView). IsSiloAt 
 
 pub invariant_of-self : goal.invariant_of-self
 invariant_of-self g c =
-    let v : ClusterView = record { operator = c.self.inside.operator; silos = c.self.inside.silos.items; ends = c.self.inside.ends; is_parked = c.self.inside.parked; is_halted = c.self.inside.halted } in
+    let v : ClusterView = record { operator = c.self.inside.operator; silos = c.self.inside.silos.items; ends = c.self.inside.ends; is_parked = c.self.inside.parked; is_halted = c.self.inside.halted; rounds = c.self.inside.rounds; looks = c.self.inside.looks } in
     parked-stays v c.note_ends-self-inside.result c.leave.new.operator v.is_halted (ap (λ (u : ClusterView). u.is_parked) c.self.view_is ∙ c.requires.parked) c.self.invariant
 
 pub invariant_of-self-in-Err : goal.invariant_of-self-in-Err
 invariant_of-self-in-Err g c =
-    let v : ClusterView = record { operator = c.self.inside.operator; silos = c.self.inside.silos.items; ends = c.self.inside.ends; is_parked = c.self.inside.parked; is_halted = c.self.inside.halted } in
+    let v : ClusterView = record { operator = c.self.inside.operator; silos = c.self.inside.silos.items; ends = c.self.inside.ends; is_parked = c.self.inside.parked; is_halted = c.self.inside.halted; rounds = c.self.inside.rounds; looks = c.self.inside.looks } in
     parked-stays v c.note_ends-self-inside.result c.leave.new.operator true (ap (λ (u : ClusterView). u.is_parked) c.self.view_is ∙ c.requires.parked) c.self.invariant
 
 pub returns-then-live_count-eq1 : goal.returns-then-live_count-eq1
@@ -28,18 +28,18 @@ returns-then-live_count-eq1 g c =
 
 pub returns-in-Ok : goal.returns-in-Ok
 returns-in-Ok g c =
-    let v : ClusterView = record { operator = c.self.inside.operator; silos = c.self.inside.silos.items; ends = c.self.inside.ends; is_parked = c.self.inside.parked; is_halted = c.self.inside.halted } in
-    let w : ClusterView = record { operator = c.leave.new.operator; silos = c.self.inside.silos.items; ends = c.note_ends-self-inside.result; is_parked = c.self.inside.parked; is_halted = c.self.inside.halted } in
+    let v : ClusterView = record { operator = c.self.inside.operator; silos = c.self.inside.silos.items; ends = c.self.inside.ends; is_parked = c.self.inside.parked; is_halted = c.self.inside.halted; rounds = c.self.inside.rounds; looks = c.self.inside.looks } in
+    let w : ClusterView = record { operator = c.leave.new.operator; silos = c.self.inside.silos.items; ends = c.note_ends-self-inside.result; is_parked = c.self.inside.parked; is_halted = c.self.inside.halted; rounds = c.self.inside.rounds; looks = c.self.inside.looks } in
     let named : c.loops.inside.silo ≡ c.args.loops.silo = ap (λ (s : SiloView). s.silo) c.loops.view_is in
     subst (λ (u : ClusterView). IsRetired u c.args.loops w) c.self.view_is
-    (retire-done v w c.args.loops c.in-Some.place c.loops.inside.silo c.args.loops.silo c.if-self.false (λ one. c.if-live_count-eq1.false (c.live_count.ensures ∙ one)) c.in-Some.ensures named refl c.leave.ensures.on c.in-Ok.ensures.left refl c.if-self.false
+    (retire-done v w c.args.loops c.in-Some.place c.loops.inside.silo c.args.loops.silo c.if-self.false (λ one. c.if-live_count-eq1.false (c.live_count.ensures ∙ one)) c.in-Some.ensures named refl c.leave.ensures.on c.in-Ok.ensures.left (refl, refl, refl) c.if-self.false
     c.note_ends-self-inside.ensures)
 
 pub returns-in-Err : goal.returns-in-Err
 returns-in-Err g c =
-    let v : ClusterView = record { operator = c.self.inside.operator; silos = c.self.inside.silos.items; ends = c.self.inside.ends; is_parked = c.self.inside.parked; is_halted = c.self.inside.halted } in
-    let w : ClusterView = record { operator = c.leave.new.operator; silos = c.self.inside.silos.items; ends = c.note_ends-self-inside.result; is_parked = c.self.inside.parked; is_halted = true } in
+    let v : ClusterView = record { operator = c.self.inside.operator; silos = c.self.inside.silos.items; ends = c.self.inside.ends; is_parked = c.self.inside.parked; is_halted = c.self.inside.halted; rounds = c.self.inside.rounds; looks = c.self.inside.looks } in
+    let w : ClusterView = record { operator = c.leave.new.operator; silos = c.self.inside.silos.items; ends = c.note_ends-self-inside.result; is_parked = c.self.inside.parked; is_halted = true; rounds = c.self.inside.rounds; looks = c.self.inside.looks } in
     let named : c.loops.inside.silo ≡ c.args.loops.silo = ap (λ (s : SiloView). s.silo) c.loops.view_is in
     let may = may-go v c.in-Some.place c.args.loops.silo (c.in-Some.ensures ∙ ap (λ (k : ℕ). Some k) named) (λ one. c.if-live_count-eq1.false (c.live_count.ensures ∙ one)) in
     subst (λ (u : ClusterView). AnswersRetire u c.args.loops c.retired_by.result w) c.self.view_is
-    (halted-retire v w c.args.loops c.in-Err.halt c.retired_by.result c.retired_by.ensures (c.if-self.false, may, record { on = c.leave.ensures.on; same = refl; halted = refl }, c.note_ends-self-inside.ensures))
+    (halted-retire v w c.args.loops c.in-Err.halt c.retired_by.result c.retired_by.ensures (c.if-self.false, may, record { on = c.leave.ensures.on; same = (refl, refl, refl); halted = refl }, c.note_ends-self-inside.ensures))
