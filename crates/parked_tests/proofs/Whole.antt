@@ -57,12 +57,12 @@ whole-down v w caller crew later at s within is left goes gone whole =
     let same : gone.place ≡ at = one-place v.operator.live gone.place at s.silo (subst (λ (xs : List ℕ). HasNoDoubles xs) (whole.live goes) whole.once) gone.stood here in
     let live : silos_of later ≡ w.operator.live =
     ap (λ (xs : List SiloView). silos_of xs) left ∙ map-remove crew at ∙ ap (λ (xs : List ℕ). remove xs at) (whole.live goes) ∙ ap (λ k. remove v.operator.live k) (sym same) ∙ sym gone.left.live in
-    whole-left v w caller crew later at within left gone.on gone.same (λ free. live) whole
+    whole-left v w caller crew later at within left gone.on gone.same.0 (λ free. live) whole
 
 -- a change was broken off
 whole-halted : (v w : ClusterView) (caller : List QueuePass) (crew later : List SiloView) (at : ℕ) → at < length crew → later ≡ remove crew at → HasHalted v w → IsWhole v caller crew → IsWhole w caller later
 whole-halted v w caller crew later at within left halted whole =
-    whole-left v w caller crew later at within left halted.on halted.same (λ free. let differ : true ≡ false = sym halted.halted ∙ free in absurd (cc (differ))) whole
+    whole-left v w caller crew later at within left halted.on halted.same.0 (λ free. let differ : true ≡ false = sym halted.halted ∙ free in absurd (cc (differ))) whole
 
 -- the loops that were taken out came again, where they had been
 whole-back : (v w : ClusterView) (caller : List QueuePass) (crew left later : List SiloView) (at : ℕ) (s back : SiloView) → at < length crew → s ≡ get_or crew at s → left ≡ remove crew at → back ≡ s → later ≡ insert left at back → w ≡ v → IsWhole v caller crew → IsWhole w caller later
