@@ -3,8 +3,8 @@ ghost use Rattle.std.specs.Prelude.{◌≡◌};
 ghost use Rattle.partition_queue.specs.Log.{event_of, IsEntry};
 ghost use Rattle.stream_ident.specs.Alphabet.{IsPayload};
 
-use indexmap::IndexSet;
-use stream_ident::{Event, Payload, StreamId, Token};
+use crate::streams::Streams;
+use stream_ident::{Event, Payload, Token};
 
 /// What the log keeps of an event: the number of its stream, its token, and where its payload lies. It
 /// takes 16 bytes.
@@ -37,13 +37,13 @@ impl Entry {
 }
 
 /// The event of an entry, of these streams and bytes.
-pub(crate) fn event_of(streams: &IndexSet<StreamId>, bytes: &[u8], entry: &Entry) -> Event
-    requires { IsEntry streams.now.keys bytes.now entry.now }
-    ensures { result ≡ event_of streams.now.keys bytes.now entry.now }
+pub(crate) fn event_of(streams: &Streams, bytes: &[u8], entry: &Entry) -> Event
+    requires { IsEntry streams.now bytes.now entry.now }
+    ensures { result ≡ event_of streams.now bytes.now entry.now }
 {
     let start = entry.start as usize;
     Event {
-        stream: *streams.get_index(entry.stream as usize).unwrap(),
+        stream: streams.get(entry.stream),
         token: entry.token(),
         payload: payload_of(&bytes[start..start + entry.len as usize]),
     }

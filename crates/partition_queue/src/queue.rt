@@ -4,13 +4,13 @@ ghost use Rattle.std.specs.List.{AllByRecursion, concat};
 ghost use Rattle.stream_ident.specs.Alphabet.{IsPayload};
 ghost use Rattle.partition_queue.specs.Log.{entries_of};
 ghost use Rattle.partition_queue.specs.Queue.{append, between, empty, event_at, takes_memory, token_at, TokensRise};
+ghost use Rattle.queue_mapper.specs.Place.{tag_of};
 ghost use Rattle.stream_ident.specs.Words.{Performs};
 
 use crate::appended::Appended;
 use crate::entry::{Entry, event_of};
 use crate::excerpt::Excerpt;
-use crate::streams::number_of;
-use indexmap::IndexSet;
+use crate::streams::Streams;
 use std::alloc::{AllocError, Global};
 use std::marker::Model;
 use stream_ident::{Batch, Event, Payload, StreamId, Token};
@@ -28,10 +28,11 @@ const MAX_PAYLOAD: usize = 256;
 /// have. Its room in memory is no part of it. An event stays at its position: none is ever changed or
 /// taken out.
 ///
-/// It keeps each stream once, all payloads in one row of bytes, and 16 bytes more for each event.
+/// It keeps each stream once, with its tag, all payloads in one row of bytes, and 16 bytes more for each
+/// event.
 #[derive(Debug)]
 pub struct PartitionQueue {
-    streams: IndexSet<StreamId>,
+    streams: Streams,
     bytes: Vec<u8>,
     entries: Vec<Entry>,
     batches: u64,
@@ -56,9 +57,9 @@ impl Model for PartitionQueue {
 
     ghost Value = { PlainQueue };
 
-    ghost view = { λ q. record { events = events_in q.streams.keys q.bytes.items q.entries.items; batches = q.batches; limit = q.limit } };
+    ghost view = { λ q. record { events = events_in q.streams q.bytes.items q.entries.items; batches = q.batches; limit = q.limit } };
 
-    ghost invariant = { λ q. IsLog (record { events = events_in q.streams.keys q.bytes.items q.entries.items; batches = q.batches; limit = q.limit }) × IsKept q.streams.keys q.bytes.items q.entries.items };
+    ghost invariant = { λ q. IsLog (record { events = events_in q.streams q.bytes.items q.entries.items; batches = q.batches; limit = q.limit }) × IsKept q.streams q.bytes.items q.entries.items };
 }
 
 impl PartitionQueue {
@@ -68,7 +69,7 @@ impl PartitionQueue {
         ensures { result ≡ empty limit }
     {
         PartitionQueue {
-            streams: IndexSet::new(alloc),
+            streams: Streams::new(alloc),
             bytes: Vec::new(alloc),
             entries: Vec::new(alloc),
             batches: 0,
@@ -104,7 +105,7 @@ impl PartitionQueue {
         self.entries.reserve(payloads.len())?;
         self.bytes.reserve(MAX_PAYLOAD * payloads.len())?;
         // The stream comes last: what is reserved before it is no change.
-        let stream = number_of(&mut self.streams, stream)?;
+        let stream = self.streams.number_of(stream)?;
         let seq = self.batches;
         push_events(
             &mut self.entries,
@@ -163,8 +164,8 @@ impl PartitionQueue {
         }
     }
 
-    /// Reads the events from one position up to another, that at `to` left out, in place of those that the
-    /// excerpt had. It takes no memory.
+    /// Reads the events from one position up to another, that at `to` left out, and the tags of their streams,
+    /// in place of those that the excerpt had. It takes no memory, and hashes nothing.
     pub fn read(&self, from: usize, to: usize, excerpt: &mut Excerpt)
         requires order { from ≤ to }
         requires end { to ≤ length self.now.events }
@@ -174,8 +175,16 @@ impl PartitionQueue {
     {
         excerpt.clear();
         for position in from..to {
-            excerpt.push(self.event_at(position));
+            excerpt.push(self.event_at(position), self.tag_at(position));
         }
+    }
+
+    /// The tag of the stream of the event at a position.
+    fn tag_at(&self, position: usize) -> u8
+        requires { position < length self.now.events }
+        ensures { result ≡ tag_of (event_at self.now position).stream }
+    {
+        self.streams.tag(self.entries[position].stream)
     }
 }
 

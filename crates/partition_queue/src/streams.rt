@@ -1,25 +1,85 @@
-//! The streams of a log, each once.
-ghost use Rattle.std.specs.Prelude.{◌≡◌, ◌<◌, ◌≤◌, length, get_or, IfOk, OnOk, OnErr};
+//! The streams of a log, each once, and beside each its tag.
+ghost use Rattle.std.specs.Prelude.{◌≡◌, ◌<◌, ◌≤◌, [], length, get_or, map, IfOk, OnOk, OnErr};
+ghost use Rattle.queue_mapper.specs.Place.{tag_of};
 ghost use Rattle.partition_queue.specs.Log.{no_stream, Grows};
 
 use indexmap::IndexSet;
-use std::alloc::AllocError;
+use queue_mapper::tag;
+use std::alloc::{AllocError, Global};
+use std::marker::Model;
 use stream_ident::StreamId;
 
-/// The number of a stream, which is added behind the others where it isn't there.
+/// Streams, each once, under the numbers 0, 1, 2 and so on, and beside each its tag, which costs a digest
+/// where the stream is added, and nothing after that.
 ///
-/// # Errors
-/// The call failed to allocate, and the streams are as they were.
-pub(crate) fn number_of(
-    streams: &mut IndexSet<StreamId>,
-    stream: StreamId,
-) -> Result<u32, AllocError>
-    requires { length streams.old.keys < 1000000 }
-    ensures within { IfOk result (λ number. number < length streams.new.keys) }
-    ensures stored { IfOk result (λ number. get_or streams.new.keys number no_stream ≡ stream) }
-    ensures grows { OnOk result (Grows streams.old.keys streams.new.keys) }
-    ensures err { OnErr result (streams.new.keys ≡ streams.old.keys) }
-{
-    let (number, _) = streams.insert_full(stream)?;
-    Ok(number as u32)
+/// A contract sees it as the list of the streams.
+#[derive(Debug)]
+pub(crate) struct Streams {
+    names: IndexSet<StreamId>,
+    tags: Vec<u8>,
+}
+
+impl Drop for Streams {
+    fn drop(self) {
+        let Self { names: _, tags: _ } = self;
+    }
+}
+
+impl Model for Streams {
+    ghost use Rattle.std.specs.Prelude.{◌≡◌, List, map};
+    ghost use Rattle.queue_mapper.specs.Place.{tag_of};
+    ghost use Rattle.stream_ident.specs.declared.ident.StreamId.{StreamId};
+
+    ghost Value = { List StreamId };
+
+    ghost view = { λ s. s.names.keys };
+
+    ghost invariant = { λ s. s.tags.items ≡ map tag_of s.names.keys };
+}
+
+impl Streams {
+    /// No streams. It takes no memory.
+    pub(crate) fn new(alloc: Global) -> Streams
+        ensures { result ≡ [] }
+    {
+        Streams {
+            names: IndexSet::new(alloc),
+            tags: Vec::new(alloc),
+        }
+    }
+
+    /// The number of a stream, which is added behind the others where it isn't there.
+    ///
+    /// # Errors
+    /// The call failed to allocate, and the streams are as they were.
+    pub(crate) fn number_of(&mut self, stream: StreamId) -> Result<u32, AllocError>
+        requires { length self.old < 1000000 }
+        ensures within { IfOk result (λ number. number < length self.new) }
+        ensures stored { IfOk result (λ number. get_or self.new number no_stream ≡ stream) }
+        ensures grows { OnOk result (Grows self.old self.new) }
+        ensures err { OnErr result (self.new ≡ self.old) }
+    {
+        self.tags.reserve(1)?;
+        let (number, added) = self.names.insert_full(stream)?;
+        if added {
+            self.tags.push_reserved(tag(&stream));
+        }
+        Ok(number as u32)
+    }
+
+    /// The stream of a number.
+    pub(crate) fn get(&self, number: u32) -> StreamId
+        requires { number < length self.now }
+        ensures { result ≡ get_or self.now number no_stream }
+    {
+        *self.names.get_index(number as usize).unwrap()
+    }
+
+    /// The tag of the stream of a number.
+    pub(crate) fn tag(&self, number: u32) -> u8
+        requires { number < length self.now }
+        ensures { result ≡ tag_of (get_or self.now number no_stream) }
+    {
+        self.tags[number as usize]
+    }
 }

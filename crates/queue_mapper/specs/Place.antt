@@ -1,7 +1,8 @@
 -- The place of a stream: the queue and the tag that SHA-256 gives.
-use Rattle.std.specs.Prelude.{ℕ, ◌%◌, List, ◌∷◌, ◌++◌, take, slice_index}
+use Rattle.std.specs.Prelude.{ℕ, ◌%◌, List, ◌∷◌, ◌++◌, map, take, slice_index}
 use Rattle.std.specs.Int.{from_be_bytes, w64}
 use Rattle.sha2.specs.Sha256.{sha256}
+use Rattle.stream_ident.specs.declared.event.Event.{Event}
 use Rattle.stream_ident.specs.declared.ident.StreamId.{StreamId}
 use Rattle.queue_mapper.specs.declared.target.Place.{Place}
 
@@ -19,3 +20,7 @@ place_of stream queues = place_in (sha256 (message_of stream)) queues
 -- the tag of a stream, whichever the number of queues
 abbrev pub tag_of : StreamId → ℕ
 tag_of stream = (place_of stream 1).tag
+
+-- the tag of each event's stream
+abbrev pub tags_of : List Event → List ℕ
+tags_of events = map (λ event. tag_of event.stream) events

@@ -11,4 +11,4 @@ returns-in-Some c =
     let entry = c.in-Some.entry.now in
     let within : c.args.position < length inside.entries.items = search rules in
     let found : entry ≡ get_or inside.entries.items c.args.position entry = search rules in
-    c.token.ensures ∙ (ap token_of found ∙ (token_in inside.streams.keys inside.bytes.items inside.entries.items c.args.position entry (batch_token inside.batches) within ∙ ap (λ q. token_at q c.args.position) c.self.view_is))
+    c.token.ensures ∙ (ap token_of found ∙ (token_in inside.streams inside.bytes.items inside.entries.items c.args.position entry (batch_token inside.batches) within ∙ ap (λ q. token_at q c.args.position) c.self.view_is))
