@@ -9,8 +9,7 @@ use Rattle.stream_ident.specs.declared.ident.StreamId.{StreamId}
 use Rattle.stream_ident.specs.declared.token.Token.{Token}
 use Rattle.stream_ident.specs.Event.{is_owed, no_event}
 use Rattle.stream_ident.specs.Words.{first_at}
-use Rattle.queue_mapper.specs.Place.{tag_of}
-use Rattle.queue_cache.specs.Cache.{tags_of}
+use Rattle.queue_mapper.specs.Place.{tag_of, tags_of}
 use Rattle.tag_scan.specs.Tags.{IsAbsentBetween}
 use Rattle.stream_ident.specs.Name.{same_stream}
 use Rattle.stream_ident.proofs.FirstLemmas.{first_at-nowhere, first_at-there}

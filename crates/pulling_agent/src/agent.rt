@@ -1,6 +1,7 @@
 //! The agent.
 ghost use Rattle.std.specs.Prelude.{◌≡◌, ◌+◌, ◌-◌, ◌*◌, ◌^◌, ◌<◌, ◌≤◌, length, max, IfOk};
 ghost use Rattle.queue_cache.specs.Cache.{high, room};
+ghost use Rattle.queue_mapper.specs.Place.{tags_of};
 ghost use Rattle.pulling_agent.specs.Agent.{check, drops, empty, free_blocks, plan_pull, pulled, purge, take_over, without_blocks, MayTake};
 ghost use Rattle.stream_ident.specs.Blocks.{pull_size};
 
@@ -148,15 +149,17 @@ impl Agent {
         }
     }
 
-    /// Drops blocks and takes events in behind those of the cache, as a plan said. It takes no memory.
-    pub fn pull(&mut self, drops: usize, events: &[Event])
+    /// Drops blocks and takes events in behind those of the cache, with the tags of their streams, as a plan
+    /// said. It takes no memory.
+    pub fn pull(&mut self, drops: usize, events: &[Event], tags: &[u8])
+        requires tags { tags.now ≡ tags_of events.now }
         requires blocks { 64 * drops ≤ length self.old.cache.events }
         requires room { length events.now ≤ room self.old.cache + 64 * drops }
         requires positions { high self.old.cache + length events.now < 2 ^ 64 }
         ensures { self.new ≡ pulled self.old drops events.now }
     {
         drop_blocks(&mut self.cache, drops);
-        self.cache.take(events);
+        self.cache.take(events, tags);
     }
 
     /// Drops the blocks beyond the `keep` last ones, a part of a block counted as one, of those that lie

@@ -2,6 +2,7 @@
 use Rattle.std.proofs.Common.{append_assoc, ◌≡◌, ℕ, zero, suc, ◌+◌, ◌-◌, ◌*◌, ◌/◌, ◌%◌, ◌^◌, ◌<◌, ◌≤◌, List, [], ◌∷◌, ◌++◌, length, get_or, set, take, drop, replicate, refl, sym, ◌∙◌, ap, arith, length-append, length-drop, length-take}
 use Rattle.std.proofs.lemmas.List.{take-append-drop, drop_all, take_all, take-append-le, drop-append-le, drop-drop, length-replicate, nil_from_length, get_or-take, get_or-drop, set_at, drop_more, replicate_more}
 use Rattle.stream_ident.specs.declared.event.Event.{Event}
+use Rattle.queue_cache.specs.Cache.{PlainCache, with_events}
 use Rattle.queue_cache.specs.Ring.{joined, pieces, plain_of, IsRing}
 
 pub length-pieces : (n : ℕ) (events : List Event) → length (pieces n events) ≡ n
@@ -148,3 +149,15 @@ set-emptied blocks index within =
     ∙ set_at (replicate index []) (get_or blocks index []) (drop (index + 1) blocks) [] index (length-replicate index [])
     ∙ sym (append_assoc (replicate index []) ([] ∷ []) (drop (index + 1) blocks))
     ∙ ap (λ front. front ++ drop (index + 1) blocks) (replicate_more index [])
+
+-- a part of the events, and then those behind it
+pub with_behind : (c : PlainCache) (events : List Event) (from count : ℕ) → with_events (with_events c (take count (drop from events))) (drop (from + count) events) ≡ with_events c (drop from events)
+with_behind c events from count =
+    let behind : drop (from + count) events ≡ drop count (drop from events) = ap (λ n. drop n events) (omega arith) ∙ sym (drop-drop count from events) in
+    ap (λ all. record c { events = all })
+    (append_assoc c.events (take count (drop from events)) (drop (from + count) events)
+    ∙ ap (λ all. c.events ++ all) (ap (λ rest. take count (drop from events) ++ rest) behind ∙ take-append-drop count (drop from events)))
+
+pub length-part : (c : PlainCache) (events : List Event) (from count : ℕ) → from + count ≤ length events → length (with_events c (take count (drop from events))).events ≡ length c.events + count
+length-part c events from count within =
+    omega (arith, within, length-append c.events (take count (drop from events)), length-take count (drop from events), length-drop from events)

@@ -1,7 +1,7 @@
 -- What holds of the fields of a block.
 use Rattle.std.specs.Prelude.{◌≡◌, ℕ, ◌≤◌, List, length, take}
 use Rattle.stream_ident.specs.declared.event.Event.{Event}
-use Rattle.queue_cache.specs.Cache.{tags_of}
+use Rattle.queue_mapper.specs.Place.{tags_of}
 
 -- no more events than a block has places, room for as many, and their tags in their places
 pub record IsBlock (events : List Event) (len room : ℕ) (tags : List ℕ) : Type 0 where

@@ -1,8 +1,7 @@
 -- The cache of a queue as plain data.
-use Rattle.std.specs.Prelude.{ℕ, ◌+◌, ◌-◌, ◌*◌, ◌/◌, List, [], ◌++◌, length, get_or, map, take, drop}
+use Rattle.std.specs.Prelude.{ℕ, ◌+◌, ◌-◌, ◌*◌, ◌/◌, List, [], ◌++◌, length, get_or, take, drop}
 use Rattle.stream_ident.specs.declared.event.Event.{Event}
 use Rattle.stream_ident.specs.Event.{no_event}
-use Rattle.queue_mapper.specs.Place.{tag_of}
 
 -- the events that it keeps, the position of the first of them, and how many blocks of 64 it has room for
 pub record PlainCache : Type 0 where
@@ -40,7 +39,3 @@ block_count c = (length c.events + 63) / 64
 -- the events of a block
 abbrev pub block_events : PlainCache → ℕ → List Event
 block_events c index = take 64 (drop (64 * index) c.events)
-
--- the tag of each event's stream
-abbrev pub tags_of : List Event → List ℕ
-tags_of events = map (λ event. tag_of event.stream) events

@@ -1,12 +1,10 @@
 //! Caches: rings of blocks, each with some events and beside them their tags.
 ghost use Rattle.std.specs.Prelude.{◌≡◌, ◌+◌, ◌-◌, ◌*◌, ◌%◌, ◌^◌, ◌<◌, ◌≤◌, [], ◌∷◌, ◌++◌, length, IfOk, drop, replicate, slice_set, slice_index_or, take};
 ghost use Rattle.circular_buffer.specs.Buffer.{buffer};
-ghost use Rattle.queue_mapper.specs.Place.{tag_of};
-ghost use Rattle.stream_ident.specs.Event.{no_event};
-ghost use Rattle.queue_cache.specs.Cache.{empty, high, room, event_at, with_events, without_front, block_count, block_events, tags_of};
+ghost use Rattle.queue_mapper.specs.Place.{tags_of};
+ghost use Rattle.queue_cache.specs.Cache.{empty, high, room, event_at, with_events, without_front, block_count, block_events};
 
 use circular_buffer::HeapCircularBuffer;
-use queue_mapper::tag;
 use std::alloc::{AllocError, Global};
 use std::marker::Model;
 use stream_ident::Event;
@@ -63,14 +61,15 @@ impl Block {
         })
     }
 
-    /// Takes events in at the end. It takes no memory.
-    fn extend(&mut self, events: &[Event])
-        requires { length self.old + length events.now ≤ 64 }
+    /// Takes events in at the end, with the tags of their streams. It takes no memory.
+    fn extend(&mut self, events: &[Event], tags: &[u8])
+        requires room { length self.old + length events.now ≤ 64 }
+        requires tags { tags.now ≡ tags_of events.now }
         ensures { self.new ≡ self.old ++ events.now }
     {
         let start = self.events.len();
         self.events.extend_from_slice(events).unwrap();
-        write_tags(&mut self.tags, &self.events, start);
+        self.tags[start..start + tags.len()].copy_from_slice(tags);
     }
 
     /// Drops the events, and keeps their room.
@@ -165,18 +164,20 @@ impl QueueCache {
         self.len.div_ceil(BLOCK_SIZE)
     }
 
-    /// Takes events in at the end. It takes no memory: each event is copied once, into its place. Its tag
-    /// costs a digest of its stream, where the event before it in the block is of another.
-    pub fn take(&mut self, events: &[Event])
+    /// Takes events in at the end, with the tags of their streams. It takes no memory: each event is copied
+    /// once, into its place, and so is its tag.
+    pub fn take(&mut self, events: &[Event], tags: &[u8])
+        requires tags { tags.now ≡ tags_of events.now }
         requires room { length events.now ≤ room self.old }
         requires positions { self.old.low + (length self.old.events + length events.now) < 2 ^ 64 }
         ensures { self.new ≡ with_events self.old events.now }
     {
-        let mut rest = events;
-        while !rest.is_empty() {
-            let count = rest.len().min(self.room_in_block());
-            self.fill(&rest[..count]);
-            rest = &rest[count..];
+        let mut done = 0;
+        while done < events.len() {
+            let count = self.room_in_block().min(events.len() - done);
+            let end = done + count;
+            self.fill(&events[done..end], &tags[done..end]);
+            done = end;
         }
     }
 
@@ -226,14 +227,15 @@ impl QueueCache {
     }
 
     /// Takes events in that fit into the block that the next one goes to.
-    fn fill(&mut self, events: &[Event])
+    fn fill(&mut self, events: &[Event], tags: &[u8])
+        requires tags { tags.now ≡ tags_of events.now }
         requires block { length events.now ≤ 64 - length self.old.events % 64 }
         requires some { 0 < length events.now }
         requires room { length events.now ≤ room self.old }
         requires positions { self.old.low + (length self.old.events + length events.now) < 2 ^ 64 }
         ensures { self.new ≡ with_events self.old events.now }
     {
-        extend_block(&mut self.ring, self.len / BLOCK_SIZE, events);
+        extend_block(&mut self.ring, self.len / BLOCK_SIZE, events, tags);
         self.len += events.len();
     }
 }
@@ -250,13 +252,14 @@ fn empty_ring(alloc: Global, blocks: usize) -> Result<HeapCircularBuffer<Block>,
 }
 
 /// Takes events in at the end of a block.
-fn extend_block(ring: &mut HeapCircularBuffer<Block>, index: usize, events: &[Event])
+fn extend_block(ring: &mut HeapCircularBuffer<Block>, index: usize, events: &[Event], tags: &[u8])
     requires index { index < length ring.old.items }
+    requires tags { tags.now ≡ tags_of events.now }
     requires room { length (slice_index_or ring.old.items index []) + length events.now ≤ 64 }
     ensures { ring.new ≡ buffer (slice_set ring.old.items index (slice_index_or ring.old.items index [] ++ events.now)) ring.old.capacity }
 {
     let block = ring.get_mut(index).unwrap();
-    block.extend(events);
+    block.extend(events, tags);
 }
 
 /// Empties a block.
@@ -286,32 +289,4 @@ fn rotate(ring: &mut HeapCircularBuffer<Block>)
     let mut front = ring.pop_front().unwrap();
     front.clear();
     ring.push_back(front);
-}
-
-/// Writes the tags of the events from a place on, where those of the events before it are there.
-fn write_tags(tags: &mut [u8], events: &[Event], start: usize)
-    requires places { length events.now ≤ length tags.old }
-    requires start { start ≤ length events.now }
-    requires before { take start tags.old ≡ tags_of (take start events.now) }
-    ensures { take (length events.now) tags.new ≡ tags_of events.now }
-{
-    for index in start..events.len() {
-        tags[index] = next_tag(tags, events, index);
-    }
-}
-
-/// The tag of the event at a place, where those of the events before it are there: an event of the same
-/// stream as the one before it has the same tag, and only another costs a digest.
-fn next_tag(tags: &[u8], events: &[Event], index: usize) -> u8
-    requires index { index < length events.now }
-    requires places { length events.now ≤ length tags.now }
-    requires before { take index tags.now ≡ tags_of (take index events.now) }
-    ensures { result ≡ tag_of (slice_index_or events.now index no_event).stream }
-{
-    let stream = &events[index].stream;
-    if index > 0 && events[index - 1].stream == *stream {
-        tags[index - 1]
-    } else {
-        tag(stream)
-    }
 }
