@@ -6,6 +6,7 @@ ghost use Rattle.stream_model.specs.Step.{takes_memory};
 ghost use Rattle.stream_ident.specs.Words.{Performs};
 ghost use Rattle.pulling_agent.specs.Agent.{IsTakeable};
 ghost use Rattle.queue_cache.specs.Cache.{high, room};
+ghost use Rattle.queue_mapper.specs.Place.{tags_of};
 ghost use Rattle.step_core.specs.Assembly.{Agrees, IsAssembled};
 ghost use Rattle.step_core.specs.PlainOf.{plain_of};
 ghost use Rattle.step_core.specs.Taking.{ahead, filled, taken};
@@ -84,22 +85,24 @@ fn take(
     // The rules come first: they may find too many subscriptions, or no memory.
     match parts.subs.imply(alloc, events, high)? {
         Implied::TooMany => Ok(Told::TooMany),
-        Implied::Implied => Ok(fill(parts, drops, count, events)),
+        Implied::Implied => Ok(fill(parts, drops, count, events, excerpt.tags())),
     }
 }
 
-/// Drops blocks of the cache, and takes so many events into it, which are the next of the queue.
-fn fill(parts: &mut Parts, drops: usize, count: usize, events: &[Event]) -> Told
+/// Drops blocks of the cache, and takes so many events into it, which are the next of the queue, with the
+/// tags of their streams.
+fn fill(parts: &mut Parts, drops: usize, count: usize, events: &[Event], tags: &[u8]) -> Told
     requires blocks { 64 * drops ≤ length parts.old.agent.cache.events }
     requires room { count ≤ room parts.old.agent.cache + 64 * drops }
     requires there { high parts.old.agent.cache + count ≤ length parts.old.queue.events }
     requires few { length parts.old.queue.events ≤ 1000000 }
     requires events { events.now ≡ ahead parts.old count }
     requires counted { length events.now ≡ count }
+    requires tags { tags.now ≡ tags_of events.now }
     ensures parts { parts.new ≡ filled parts.old drops count }
     ensures reply { reply_of result ≡ Pulled count (token_at (plain_of parts.new) parts.new.agent.cache.low) (token_at (plain_of parts.new) (high parts.new.agent.cache)) }
 {
-    parts.agent.pull(drops, events);
+    parts.agent.pull(drops, events, tags);
     let cache = parts.agent.cache();
     Told::Pulled {
         count,
