@@ -61,7 +61,7 @@ fn push(rt: &impl Abort, cache: &mut QueueCache, event: Event) {
         cache.drop_front();
     }
     assert!(rt; 0 < cache.room() && cache.high() < 1_000_000);
-    cache.take([event].as_slice());
+    cache.take([event].as_slice(), [tag(&event.stream)].as_slice());
 }
 
 /// Events of these streams, in no order.

@@ -213,7 +213,7 @@ impl Log {
         };
         assert!(rt; queue.len() <= 256);
         queue.read(0, queue.len(), &mut events);
-        cache.take(events.as_slice());
+        cache.take(events.as_slice(), events.tags());
         Log {
             queue,
             events,
