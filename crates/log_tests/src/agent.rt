@@ -1,3 +1,4 @@
+use crate::tagging::tags_of;
 use pulling_agent::{Agent, Plan, StaleAgent};
 use std::alloc::{AllocError, Global};
 use std::process::Abort;
@@ -37,19 +38,22 @@ fn new_agent(rt: &impl Abort, alloc: Global, blocks: usize) -> Result<Agent, All
 /// Pulls as planned, and gives the plan.
 fn pull(
     rt: &impl Abort,
+    alloc: Global,
     agent: &mut Agent,
     queue: &[Event],
     max_events: usize,
     least: usize,
-) -> Plan {
+) -> Result<Plan, AllocError> {
     let high = agent.cache().high();
     assert!(rt; high <= queue.len() && queue.len() <= 1000);
     let plan = agent.plan_pull(max_events, queue.len(), least);
     if let Plan::Take { drops, count } = plan {
-        agent.pull(drops, &queue[high..high + count]);
+        let events = &queue[high..high + count];
+        let tags = tags_of(alloc, events)?;
+        agent.pull(drops, events, tags.as_slice());
         assert!(rt; agent.cache().high() == high + count);
     }
-    plan
+    Ok(plan)
 }
 
 #[test]
@@ -69,7 +73,7 @@ fn one_block_waits_for_the_least_resume(rt: HostRuntime) -> Result<(), Fail> {
         (64, Plan::Take { drops: 1, count: 1 }),
         (64, Plan::Dry),
     ] {
-        assert!(rt; pull(&rt, &mut agent, queue.as_slice(), 256, least) == plan);
+        assert!(rt; pull(&rt, rt.alloc(), &mut agent, queue.as_slice(), 256, least)? == plan);
     }
     assert!(rt; (agent.cache().low(), agent.cache().high()) == (64, 65));
     Ok(())
@@ -79,14 +83,14 @@ fn one_block_waits_for_the_least_resume(rt: HostRuntime) -> Result<(), Fail> {
 fn two_blocks_are_purged(rt: HostRuntime) -> Result<(), Fail> {
     let queue = events_of(rt.alloc(), 65)?;
     let mut agent = new_agent(&rt, rt.alloc(), 2)?;
-    let plan = pull(&rt, &mut agent, queue.as_slice(), 256, 0);
+    let plan = pull(&rt, rt.alloc(), &mut agent, queue.as_slice(), 256, 0)?;
     assert!(rt;
         plan == Plan::Take {
             drops: 0,
             count: 65
         }
     );
-    assert!(rt; pull(&rt, &mut agent, queue.as_slice(), 256, 0) == Plan::Dry);
+    assert!(rt; pull(&rt, rt.alloc(), &mut agent, queue.as_slice(), 256, 0)? == Plan::Dry);
     for (keep, least, low) in [(2, 65, 0), (1, 63, 0), (1, 65, 64), (0, 65, 64)] {
         assert!(rt; agent.purge(keep, least) == low, "keep {keep}");
         assert!(rt; agent.cache().low() == low, "keep {keep}");
@@ -119,7 +123,14 @@ fn a_pull_brings_1_to_256_events(rt: HostRuntime) -> Result<(), Fail> {
         ),
         (1000, 200, Plan::Dry),
     ] {
-        let pulled = pull(&rt, &mut agent, queue.as_slice(), max_events, least);
+        let pulled = pull(
+            &rt,
+            rt.alloc(),
+            &mut agent,
+            queue.as_slice(),
+            max_events,
+            least,
+        )?;
         assert!(rt; pulled == plan, "at most {max_events}");
     }
     Ok(())
@@ -129,7 +140,7 @@ fn a_pull_brings_1_to_256_events(rt: HostRuntime) -> Result<(), Fail> {
 fn an_agent_that_was_replaced_is_refused(rt: HostRuntime) -> Result<(), Fail> {
     let queue = events_of(rt.alloc(), 64)?;
     let mut agent = new_agent(&rt, rt.alloc(), 2)?;
-    let plan = pull(&rt, &mut agent, queue.as_slice(), 64, 0);
+    let plan = pull(&rt, rt.alloc(), &mut agent, queue.as_slice(), 64, 0)?;
     assert!(rt;
         plan == Plan::Take {
             drops: 0,

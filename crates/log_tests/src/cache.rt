@@ -1,6 +1,7 @@
 ghost use Rattle.std.specs.Prelude.{◌≡◌, ◌≤◌, IfOk};
 ghost use Rattle.queue_cache.specs.Cache.{empty};
 
+use crate::tagging::tags_of;
 use queue_cache::{BLOCK_SIZE, QueueCache};
 use queue_mapper::tag;
 use std::alloc::{AllocError, Global};
@@ -42,10 +43,17 @@ fn number_from(first: usize, events: &mut [Event]) -> Result<(), Fail> {
 }
 
 /// Takes events in, where there is room.
-fn take(rt: &impl Abort, cache: &mut QueueCache, events: &[Event]) {
+fn take(
+    rt: &impl Abort,
+    alloc: Global,
+    cache: &mut QueueCache,
+    events: &[Event],
+) -> Result<(), AllocError> {
     assert!(rt; events.len() <= cache.room());
     assert!(rt; cache.high() < 1_000_000 && events.len() < 1_000_000);
-    cache.take(events);
+    let tags = tags_of(alloc, events)?;
+    cache.take(events, tags.as_slice());
+    Ok(())
 }
 
 /// Drops the first block, where it is full.
@@ -81,13 +89,13 @@ fn events_fill_two_blocks(rt: HostRuntime) -> Result<(), Fail> {
     let mut cache = new_cache(rt.alloc(), 2, 5)?;
     assert!(rt; (cache.room(), cache.block_count(), cache.blocks()) == (128, 0, 2));
     let (first, rest) = events.as_slice().split_at(65);
-    take(&rt, &mut cache, first);
+    take(&rt, rt.alloc(), &mut cache, first)?;
     assert!(rt; (cache.low(), cache.high(), cache.room()) == (5, 70, 63));
     assert!(rt; (cache.block_count(), cache.blocks()) == (2, 2));
     check_events(&rt, &cache, 0)?;
-    take(&rt, &mut cache, rest);
+    take(&rt, rt.alloc(), &mut cache, rest)?;
     assert!(rt; (cache.high(), cache.room()) == (133, 0));
-    take(&rt, &mut cache, &[]);
+    take(&rt, rt.alloc(), &mut cache, &[])?;
     check_events(&rt, &cache, 0)
 }
 
@@ -101,7 +109,7 @@ fn blocks_turn(rt: HostRuntime) -> Result<(), Fail> {
             drop_front(&rt, &mut cache);
         }
         number_from(cache.high(), &mut events)?;
-        take(&rt, &mut cache, &events);
+        take(&rt, rt.alloc(), &mut cache, &events)?;
         check_events(&rt, &cache, 0)?;
     }
     assert!(rt; (cache.low(), cache.high()) == (1344, 1500));
@@ -113,12 +121,12 @@ fn blocks_turn(rt: HostRuntime) -> Result<(), Fail> {
 fn a_cache_is_reset(rt: HostRuntime) -> Result<(), Fail> {
     let mut cache = new_cache(rt.alloc(), 2, 0)?;
     let mut events = [event(0)?; 100];
-    take(&rt, &mut cache, &events);
+    take(&rt, rt.alloc(), &mut cache, &events)?;
     cache.reset(1000);
     assert!(rt; (cache.low(), cache.high()) == (1000, 1000));
     assert!(rt; (cache.room(), cache.block_count(), cache.blocks()) == (128, 0, 2));
     number_from(20, &mut events)?;
-    take(&rt, &mut cache, &events);
+    take(&rt, rt.alloc(), &mut cache, &events)?;
     assert!(rt; (cache.low(), cache.high(), cache.room()) == (1000, 1100, 28));
     check_events(&rt, &cache, usize::MAX - 979)
 }
@@ -128,11 +136,11 @@ fn a_cache_is_reset(rt: HostRuntime) -> Result<(), Fail> {
 fn the_only_block_goes(rt: HostRuntime) -> Result<(), Fail> {
     let mut cache = new_cache(rt.alloc(), 1, 9)?;
     let mut events = [event(0)?; 64];
-    take(&rt, &mut cache, &events);
+    take(&rt, rt.alloc(), &mut cache, &events)?;
     drop_front(&rt, &mut cache);
     assert!(rt; (cache.low(), cache.high()) == (73, 73));
     assert!(rt; (cache.room(), cache.block_count()) == (BLOCK_SIZE, 0));
     number_from(73, &mut events)?;
-    take(&rt, &mut cache, &events);
+    take(&rt, rt.alloc(), &mut cache, &events)?;
     check_events(&rt, &cache, 0)
 }

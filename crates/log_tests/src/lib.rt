@@ -10,3 +10,5 @@ mod cache;
 mod mapper;
 #[cfg(test)]
 mod queue_log;
+#[cfg(test)]
+mod tagging;

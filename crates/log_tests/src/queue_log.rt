@@ -1,5 +1,6 @@
 //! What no clause says: that a call succeeds, and what want of memory leaves.
 use partition_queue::{Appended, Excerpt, PartitionQueue};
+use queue_mapper::tag;
 use std::alloc::{AllocError, Global};
 use std::process::Abort;
 use std::test::Fail;
@@ -166,6 +167,7 @@ fn events_are_read_from_one_position_to_another(rt: HostRuntime) -> Result<(), F
         assert!(rt; excerpt.as_slice().len() == to - from);
         for (index, event) in excerpt.as_slice().iter().enumerate() {
             assert!(rt; *event == queue.event_at(from + index), "from {from}");
+            assert!(rt; excerpt.tags()[index] == tag(&event.stream), "from {from}");
         }
     }
     Ok(())
