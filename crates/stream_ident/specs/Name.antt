@@ -1,5 +1,5 @@
 -- Names, payloads and ids as results of their constructors, and the tests on names.
-use Rattle.std.specs.Prelude.{ℕ, Bool, ◌&&◌, ◌||◌, List, Option, Some, None, Result, Ok, Err, nat_eq}
+use Rattle.std.specs.Prelude.{ℕ, Bool, ◌&&◌, ◌||◌, List, ◌∷◌, ◌++◌, Option, Some, None, Result, Ok, Err, nat_eq}
 use Rattle.std.specs.Ordering.{nat_cmp, is_lt}
 use Rattle.std.specs.Cmp.Lexicographic.{pointwise, slice_cmp}
 use Rattle.stream_ident.specs.Alphabet.{wrong_in_name, wrong_in_payload}
@@ -71,3 +71,10 @@ same_grain a b = same_name a.kind b.kind && same_name a.key b.key
 
 abbrev pub grain_lt : GrainId → GrainId → Bool
 grain_lt a b = name_lt a.kind b.kind || (same_name a.kind b.kind && name_lt a.key b.key)
+
+-- the texts of streams and grains: two names joined by a slash
+abbrev pub stream_text : StreamId → List ℕ
+stream_text stream = stream.namespace ++ 47 ∷ stream.key
+
+abbrev pub grain_text : GrainId → List ℕ
+grain_text grain = grain.kind ++ 47 ∷ grain.key

@@ -6,10 +6,10 @@ ghost use Rattle.std.specs.Cmp.Lexicographic.{pointwise, slice_cmp, nat_list_eq_
 ghost use Rattle.std.specs.Cmp.{partial_equiv_from_equiv};
 ghost use Rattle.std.specs.Cmp.Rules.{hashing};
 ghost use Rattle.std.proofs.Common.{rules};
-ghost use Rattle.stream_ident.specs.Name.{field_of};
+ghost use Rattle.stream_ident.specs.Name.{field_of, stream_text, grain_text};
 ghost use Rattle.stream_ident.specs.Alphabet.{is_name_byte, IsName, wrong_in_name};
 
-use crate::text::padded;
+use crate::text::{ascii_text, padded};
 use std::cmp::Ordering;
 use std::fmt;
 use std::hash::{Hash, Hasher};
@@ -76,6 +76,13 @@ impl Name {
         ensures name { IsName self.now }
     {
         &self.bytes[..self.len as usize]
+    }
+
+    /// The name as text.
+    pub fn as_str(&self) -> &str
+        ensures { result.now ≡ self.now }
+    {
+        ascii_text(self.as_bytes())
     }
 
     /// Whether this name comes before another, by their bytes: a name comes before those that it begins.
@@ -164,10 +171,16 @@ impl Hash for Name {
 
 impl fmt::Debug for Name {
     fn fmt<W: fmt::Write>(&self, f: &mut fmt::Formatter<W>) -> fmt::Result {
-        for byte in self.as_bytes() {
-            f.write_char(char::from(*byte))?;
-        }
-        Ok(())
+        f.write_str(self.as_str())
+    }
+}
+
+/// A name prints as it is.
+impl fmt::Display for Name {
+    ghost output = { λ name. Some name };
+
+    fn fmt<W: fmt::Write>(&self, f: &mut fmt::Formatter<W>) -> fmt::Result {
+        f.write_str(self.as_str())
     }
 }
 
@@ -244,6 +257,28 @@ impl GrainId {
         ensures { result ≡ grain_lt self.now other.now }
     {
         self < other
+    }
+}
+
+/// A stream prints as `namespace/key`, as scripts write it.
+impl fmt::Display for StreamId {
+    ghost output = { λ stream. Some (stream_text stream) };
+
+    fn fmt<W: fmt::Write>(&self, f: &mut fmt::Formatter<W>) -> fmt::Result {
+        let namespace = self.namespace;
+        let key = self.key;
+        write!(f, "{namespace}/{key}")
+    }
+}
+
+/// A grain prints as `kind/key`, as scripts write it.
+impl fmt::Display for GrainId {
+    ghost output = { λ grain. Some (grain_text grain) };
+
+    fn fmt<W: fmt::Write>(&self, f: &mut fmt::Formatter<W>) -> fmt::Result {
+        let kind = self.kind;
+        let key = self.key;
+        write!(f, "{kind}/{key}")
     }
 }
 

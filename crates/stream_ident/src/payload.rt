@@ -8,7 +8,7 @@ ghost use Rattle.std.specs.Cmp.Rules.{hashing};
 ghost use Rattle.std.proofs.Common.{rules};
 ghost use Rattle.stream_ident.specs.Alphabet.{IsPayload, wrong_in_payload, is_printable};
 
-use crate::text::padded;
+use crate::text::{ascii_text, padded};
 use std::alloc::{AllocError, Global};
 use std::cmp::Ordering;
 use std::fmt;
@@ -76,6 +76,13 @@ impl Payload {
         ensures payload { IsPayload self.now }
     {
         &self.bytes[..self.len as usize]
+    }
+
+    /// The payload as text.
+    pub fn as_str(&self) -> &str
+        ensures { result.now ≡ self.now }
+    {
+        ascii_text(self.as_bytes())
     }
 }
 
@@ -154,10 +161,16 @@ impl Hash for Payload {
 
 impl fmt::Debug for Payload {
     fn fmt<W: fmt::Write>(&self, f: &mut fmt::Formatter<W>) -> fmt::Result {
-        for byte in self.as_bytes() {
-            f.write_char(char::from(*byte))?;
-        }
-        Ok(())
+        f.write_str(self.as_str())
+    }
+}
+
+/// A payload prints as it is.
+impl fmt::Display for Payload {
+    ghost output = { λ payload. Some payload };
+
+    fn fmt<W: fmt::Write>(&self, f: &mut fmt::Formatter<W>) -> fmt::Result {
+        f.write_str(self.as_str())
     }
 }
 

@@ -1,7 +1,7 @@
 //! Texts as bytes: their parts, the numbers that they write, and rows of a fixed length for short ones.
 ghost use Rattle.std.specs.Prelude.{◌≡◌, ◌<◌, ◌==◌, ◌-◌, ◌≤◌, ◌++◌, length, position, IfSome, replicate};
 ghost use Rattle.std.specs.Option.{option_map};
-ghost use Rattle.std.specs.Str.{all_ascii_digits};
+ghost use Rattle.std.specs.Str.{all_ascii_digits, IsAscii};
 ghost use Rattle.stream_ident.specs.Text.{split_once};
 ghost use Rattle.stream_ident.specs.Number.{is_numeral, number_of};
 
@@ -57,4 +57,15 @@ pub fn padded<const N: usize>(text: &[u8]) -> [u8; N]
     let mut row = [0; N];
     row[..text.len()].copy_from_slice(text);
     row
+}
+
+/// The text that ASCII bytes are.
+pub fn ascii_text(bytes: &[u8]) -> &str
+    requires { IsAscii bytes.now }
+    ensures { result.now ≡ bytes.now }
+{
+    let Ok(text) = str::from_utf8(bytes) else {
+        unreachable!();
+    };
+    text
 }

@@ -1,10 +1,11 @@
 //! Sequence tokens.
-ghost use Rattle.std.specs.Prelude.{◌≡◌, ◌≢◌, ℕ, ◌^◌, ◌<◌, IfOk, OnErr};
+ghost use Rattle.std.specs.Prelude.{◌≡◌, ◌≢◌, ℕ, ◌^◌, ◌<◌, Some, IfOk, OnErr};
 ghost use Rattle.stream_ident.specs.declared.token.Token.{Token};
 ghost use Rattle.stream_ident.specs.Number.{number_of};
 ghost use Rattle.stream_ident.specs.Token.{token_text, IsToken, narrowed, token_lt, token_of, token_or};
 
 use crate::text::{parse_number, split_once};
+use std::fmt;
 use thiserror::Error;
 
 /// The place of an event in its partition: the number of its batch, and its index in that batch.
@@ -52,5 +53,16 @@ impl Token {
         let idx = parse_number(idx).ok_or(BadToken)?;
         let idx = u32::try_from(idx).map_err(|_| BadToken)?;
         Ok(Token { seq, idx })
+    }
+}
+
+/// A token prints as `seq.idx`, the text that `parse` reads.
+impl fmt::Display for Token {
+    ghost output = { λ token. Some (token_text token) };
+
+    fn fmt<W: fmt::Write>(&self, f: &mut fmt::Formatter<W>) -> fmt::Result {
+        let seq = self.seq;
+        let idx = self.idx;
+        write!(f, "{seq}.{idx}")
     }
 }

@@ -1,0 +1,6 @@
+use Rattle.std.proofs.Common.{rules, ◌≡◌, ◌<◌}
+use Rattle.std.proofs.lemmas.Str.{IsUtf8-from_ascii}
+use Rattle.stream_ident.proofs.text.ascii_text.Goals as goal
+
+pub unreachable-requires : goal.unreachable-requires
+unreachable-requires c = c.in_default.ensures.cases.0 (IsUtf8-from_ascii _ c.requires)
