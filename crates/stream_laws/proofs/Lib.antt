@@ -53,6 +53,7 @@ pub mod LogLemmas
 pub mod LowerBound
 pub mod MarkLemmas
 pub mod Marks
+pub mod NearSteps
 pub mod NewRecords
 pub mod OneChanged
 pub mod OpenResumes
