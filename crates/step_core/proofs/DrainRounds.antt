@@ -1,6 +1,6 @@
 -- The phases of a round of a drain, and what a drain is where no turn runs.
-use Rattle.std.proofs.Common.{◌≡◌, ◌∙◌, ap, sym, refl, subst, ℕ, ◌+◌, ◌-◌, ◌<◌, ◌≤◌, List, ◌∷◌, Option, Some, None, Ok, Err, length, drop, get_or}
-use Rattle.std.proofs.lemmas.List.{drop_all, drop_more}
+use Rattle.std.proofs.Common.{◌≡◌, ◌∙◌, ap, sym, refl, subst, ℕ, ◌-◌, List, [], ◌∷◌, ◌++◌, Option, Some, None, Ok, Err, length}
+use Rattle.std.proofs.lemmas.List.{append_assoc}
 use Rattle.std.specs.declared.alloc.AllocError.{AllocError}
 use Rattle.std.specs.Option.{option_map}
 use Rattle.stream_ident.specs.declared.ident.GrainId.{GrainId}
@@ -12,13 +12,15 @@ use Rattle.stream_model.specs.declared.drain_end.DrainEnd.TheVariants as ending
 use Rattle.stream_model.specs.declared.plain.PlainPartition.{PlainPartition}
 use Rattle.stream_model.specs.declared.plain.Subscription.{Subscription}
 use Rattle.stream_model.specs.Draining as draining
-use Rattle.stream_model.specs.Draining.{Astray, DrainsTo, Progress, acknowledge, and_then, commits, deliver_all, deliver_once_more, done, drain, drain_all, drain_end, drain_where, last_handled, serve, serve_each, stopped, deliver_up_to}
+use Rattle.stream_model.specs.Draining.{Astray, DrainsTo, Progress, acknowledge, and_then, commits, deliver_all, deliver_once_more, done, drain, drain_all, drain_end, drain_where, last_handled, serve, stopped, deliver_up_to}
 use Rattle.stream_model.specs.Looks.{is_running}
 use Rattle.stream_model.specs.Positions.{sub_at}
-use Rattle.stream_model.specs.Step.{IsReached}
+use Rattle.stream_model.specs.History.{Entry}
+use Rattle.stream_model.specs.Step.{IsReached, Leads}
+use Rattle.stream_ident.specs.Words.{IsPrefixOf}
 use Rattle.stream_laws.proofs.Drained.{drain-ends}
 use Rattle.step_core.specs.declared.draining.Served.{Served}
-use Rattle.step_core.specs.DrainPhases.{Ends, after_deliveries}
+use Rattle.step_core.specs.DrainPhases.{BreaksOff, Ends, after_deliveries}
 use Rattle.step_core.specs.Serving.{served_of}
 use Rattle.step_core.proofs.DrainReplies.{rounds_up_to}
 
@@ -45,16 +47,6 @@ serve-none p s (Some r) none = absurd (cc)
 pub serve-unknown : (p : PlainPartition) (s : SubName) → None ≡ option_map served_of (sub_at p s) → stopped Astray p ≡ serve s p (sub_at p s)
 serve-unknown p s none = serve-none p s (sub_at p s) none
 
--- the names from a place on
-pub serve_each-more : (p : PlainPartition) (names : List SubName) (i : ℕ) (s : SubName) → i < length names → s ≡ get_or names i s → and_then (serve s p (sub_at p s)) (serve_each (drop (i + 1) names)) ≡ serve_each (drop i names) p
-unfolding serve_each
-serve_each-more p names i s within is =
-    ap (λ names. serve_each names p) (sym (drop_more names i s within ∙ ap (λ first. first ∷ drop (i + 1) names) (sym is)))
-
-pub serve_each-end : (p : PlainPartition) (names : List SubName) (i : ℕ) → length names ≤ i → done p ≡ serve_each (drop i names) p
-unfolding serve_each
-serve_each-end p names i past = ap (λ names. serve_each names p) (sym (drop_all i names past))
-
 pub drain_all-rounds : (p : PlainPartition) (n : ℕ) → n ≡ length p.log - p.high → rounds_up_to n p ≡ drain_all p
 unfolding drain_all
 drain_all-rounds p n is = ap (λ n. rounds_up_to n p) is
@@ -78,7 +70,13 @@ drains-ended p new stop end free ends is_end =
 pub drains-wanting : (p new : PlainPartition) (wanting : AllocError) → None ≡ least_running p → Ends p new None (drain_all p) → DrainsTo p new (Err wanting)
 unfolding drain
 drains-wanting p new wanting free ends =
-    let Says : Option GrainId → Type 0 = λ running. Ends p new None (drain_where p running).0 in subst Says free ends
+    let Says : Option GrainId → Type 0 = λ running. (entries : List Entry) × IsPrefixOf entries (drain_where p running).0.entries × Leads p entries new in
+    subst Says free (ends.done, (ends.failed ∷ ends.front.0, sym (append_assoc ends.done (ends.failed ∷ []) ends.front.0) ∙ ends.front.1), ends.leads)
+
+pub drains-in-part : (p new : PlainPartition) → None ≡ least_running p → Ends p new None (drain_all p) → BreaksOff p new (drain p).0.entries
+unfolding drain
+drains-in-part p new free ends =
+    let Says : Option GrainId → Type 0 = λ running. BreaksOff p new (drain_where p running).0.entries in subst Says free ends
 
 astray-none : (p new : PlainPartition) → None ≡ least_running p → Ends p new (Some (Some Astray)) (drain_all p) → (drain p).1 ≡ None
 unfolding drain

@@ -8,6 +8,7 @@ use Rattle.stream_model.specs.Draining as draining
 use Rattle.stream_model.specs.Draining.{AtTooMany, AtSpent, Astray, Progress, and_then, ask, done, go_on, joined, stopped}
 use Rattle.stream_ident.specs.Words.{IsPrefixOf}
 use Rattle.stream_model.specs.History.{Entry}
+use Rattle.stream_model.specs.Memory.{may_allocate}
 use Rattle.stream_model.specs.Step.{step, Leads}
 use Rattle.stream_model.proofs.Reaching.{leads-append}
 use Rattle.step_core.specs.declared.draining.Stop.{Stop}
@@ -25,7 +26,14 @@ front-behind first entries whole front = (front.0, append_assoc first entries fr
 ends-behind : (old mid new : PlainPartition) (first : List Entry) (end : Option (Option draining.Stop)) (m : Progress) → Leads old first mid → Ends mid new end m → Ends old new end (joined first m)
 ends-behind old mid new first (Some why) m leads ends = (ends.0, ends.1, leads-append old mid new first m.entries leads ends.2)
 ends-behind old mid new first None m leads ends =
-    (first ++ ends.0, front-behind first ends.0 m.entries ends.1, leads-append old mid new first ends.0 leads ends.2)
+    record {
+      done = first ++ ends.done;
+      failed = ends.failed;
+      front = subst (λ entries. IsPrefixOf entries (first ++ m.entries)) (sym (append_assoc first ends.done (ends.failed ∷ [])))
+          (front-behind first (ends.done ++ ends.failed ∷ []) m.entries ends.front);
+      leads = leads-append old mid new first ends.done leads ends.leads;
+      allocates = ends.allocates;
+    }
 
 -- with all of the first done the next follows
 go_on-next : (entries : List Entry) (p q : PlainPartition) (end : Option draining.Stop) (next : PlainPartition → Progress) → q ≡ p → None ≡ end → joined entries (next q) ≡ go_on entries p end next
@@ -51,7 +59,14 @@ front-go_on front entries p None next is = front-longer front entries (next p).e
 front-go_on front entries p (Some why) next is = is
 
 ends-wanting : (old new : PlainPartition) (m : Progress) (next : PlainPartition → Progress) → Ends old new None m → Ends old new None (and_then m next)
-ends-wanting old new m next first = (first.0, front-go_on first.0 m.entries m.now m.stop next first.1, first.2)
+ends-wanting old new m next first =
+    record {
+      done = first.done;
+      failed = first.failed;
+      front = front-go_on (first.done ++ first.failed ∷ []) m.entries m.now m.stop next first.front;
+      leads = first.leads;
+      allocates = first.allocates;
+    }
 
 -- a phase that stopped is the last
 pub ends-halted : (old new : PlainPartition) (why : Stop) (m : Progress) (next : PlainPartition → Progress) → Ends old new (halted why) m → Ends old new (halted why) (and_then m next)
@@ -60,9 +75,16 @@ ends-halted old new stop.Spent m next first = ends-stopped old new AtSpent m nex
 ends-halted old new stop.Astray m next first = ends-stopped old new Astray m next first
 ends-halted old new (stop.Memory wanting) m next first = ends-wanting old new m next first
 
--- memory is wanting before the first operation
-pub ends-unchanged : (old new : PlainPartition) (m : Progress) → new ≡ old → Ends old new None m
-ends-unchanged old new m unchanged = ([], (m.entries, refl), unchanged)
+-- the first operation failed to allocate
+pub ends-unchanged : (old new : PlainPartition) (op : Op) (next : PlainPartition → Reply → Progress) → new ≡ old → may_allocate old op ≡ true → Ends old new None (ask old op next)
+ends-unchanged old new op next unchanged allocates =
+    record {
+      done = [];
+      failed = record { op = op; reply = (step old op).1 };
+      front = ((next (step old op).0 (step old op).1).entries, refl);
+      leads = unchanged;
+      allocates = subst (λ p. may_allocate p op ≡ true) (sym unchanged) allocates;
+    }
 
 -- nothing more is done
 pub ends-done : (p : PlainPartition) (m : Progress) (end : Option draining.Stop) → record { entries = []; now = p; stop = end } ≡ m → Ends p p (Some end) m
@@ -112,7 +134,7 @@ asked-halted old new stop.Spent op told more next is_told asked =
     ends-last old new (Some AtSpent) op asked.0 next asked.1 (ap (λ t. by_told t more new) (sym asked.2) ∙ is_told new asked.0)
 asked-halted old new stop.Astray op told more next is_told asked =
     ends-last old new (Some Astray) op asked.0 next asked.1 (ap (λ t. by_told t more new) (sym asked.2) ∙ is_told new asked.0)
-asked-halted old new (stop.Memory wanting) op told more next is_told unchanged = ends-unchanged old new (ask old op next) unchanged
+asked-halted old new (stop.Memory wanting) op told more next is_told failed = ends-unchanged old new op next failed.0 failed.1
 
 -- memory is wanting, which no reply says
 abbrev pub is_wanting : Result Bool Stop → Bool

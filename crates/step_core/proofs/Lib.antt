@@ -12,8 +12,10 @@ pub mod DrainLoops
 pub mod DrainReplies
 pub mod DrainRounds
 pub mod DrainSteps
+pub mod DueNames
 pub mod GrainOps
 pub mod HandOps
+pub mod KeptNames
 pub mod KnownMore
 pub mod KnownOps
 pub mod KnownTurns
@@ -38,6 +40,7 @@ pub mod PullOps
 pub mod ReadLemmas
 pub mod RecordOps
 pub mod RetryOps
+pub mod RisingNames
 pub mod RuleOps
 pub mod RunLemmas
 pub mod SettledOps

@@ -10,7 +10,6 @@ use Rattle.std.specs.List.Sorted.{IsSortedBy, IsSortedByKeyClosure, IsStableBy, 
 use Rattle.std.specs.Ordering.{is_lt}
 use Rattle.stream_ident.proofs.NameOrders.{sub_less_at}
 use Rattle.stream_ident.specs.declared.ident.SubName.{SubName}
-use Rattle.stream_ident.specs.SubName.{sub_lt}
 use Rattle.stream_ident.specs.contracts.ident.SubNameOrd.TheImpl as name_order
 use Rattle.stream_ident.specs.contracts.ident.SubNameOrd.TheImpl.Laws.{total-law}
 use Rattle.stream_model.specs.Draining.{in_order}
@@ -41,16 +40,3 @@ in_name_order {g = g} {f = f} xs ys up same gives =
     sorted-stable is_named_before named_order xs ys
     (subst (λ lt. IsSortedBy lt ys) named_before (up name keyed))
     (subst (λ lt. IsStableBy lt xs ys) named_before (same name keyed))
-
-abbrev is_lesser_name : SubName → SubName → Bool
-is_lesser_name a b = is_lt (name_order.ghosts.cmp a b)
-
-name_lesser : is_lesser_name ≡ sub_lt
-name_lesser = λ i a b. sub_less_at a b i
-
--- what a stable sort of names gives
-pub in_order-of-names : (xs ys : List SubName) → IsSortedBy is_lesser_name ys → IsStableBy is_lesser_name xs ys → ys ≡ in_order sub_lt xs
-in_order-of-names xs ys up same =
-    let name : SubName → SubName = λ s. s in
-    sorted-stable sub_lt (subst IsStrictWeakOrder name_lesser (ranks_by total-law name)) xs ys
-    (subst (λ lt. IsSortedBy lt ys) name_lesser up) (subst (λ lt. IsStableBy lt xs ys) name_lesser same)

@@ -1,5 +1,5 @@
 -- What a phase of a drain owes, and what it reads of a reply.
-use Rattle.std.specs.Prelude.{◌≡◌, Bool, true, false, List, Option, Some, None, Result, Ok, Err}
+use Rattle.std.specs.Prelude.{◌≡◌, Bool, true, false, List, [], ◌∷◌, ◌++◌, Option, Some, None, Result, Ok, Err}
 use Rattle.stream_model.specs.declared.op.Op.{Op}
 use Rattle.stream_model.specs.declared.plain.PlainPartition.{PlainPartition}
 use Rattle.step_core.specs.declared.draining.Stop.{Stop}
@@ -12,9 +12,10 @@ use Rattle.stream_ident.specs.declared.ident.SubName.{SubName}
 use Rattle.stream_ident.specs.Words.{IsPrefixOf}
 use Rattle.stream_model.specs.Positions.{sub_at}
 use Rattle.stream_model.specs.History.{Entry}
+use Rattle.stream_model.specs.Memory.{may_allocate}
 use Rattle.stream_model.specs.Step.{step, Leads}
 
--- how a phase ended that was not all done: with a stop, or None where memory was wanting
+-- how a phase ended that was not all done: with a stop, or None where an operation failed to allocate
 abbrev pub halted : Stop → Option (Option draining.Stop)
 halted stop.TooMany = Some (Some AtTooMany)
 halted stop.Spent = Some (Some AtSpent)
@@ -26,18 +27,26 @@ abbrev pub meant : {T : Type 0} → Result T Stop → Option (Option draining.St
 meant (Ok done) = Some None
 meant (Err why) = halted why
 
--- it ended as the progress says, or the first of its operations are done, and no other
+-- The first of these operations are done, and no other: the next one may allocate, and failed to.
+pub record BreaksOff (old new : PlainPartition) (entries : List Entry) : Type 0 where
+  pub done : List Entry
+  pub failed : Entry
+  pub front : IsPrefixOf (done ++ failed ∷ []) entries
+  pub leads : Leads old done new
+  pub allocates : may_allocate new failed.op ≡ true
+
+-- it ended as the progress says, or it broke off
 abbrev pub Ends : PlainPartition → PlainPartition → Option (Option draining.Stop) → Progress → Type 0
 Ends old new (Some end) m = (new ≡ m.now) × (end ≡ m.stop) × Leads old m.entries new
-Ends old new None m = (entries : List Entry) × IsPrefixOf entries m.entries × Leads old entries new
+Ends old new None m = BreaksOff old new m.entries
 
 -- what a phase owes
 abbrev pub Follows : {T : Type 0} → PlainPartition → PlainPartition → Result T Stop → Progress → Type 0
 Follows old new result m = Ends old new (meant result) m
 
--- an operation was done, and its reply says how to go on; or memory was wanting and nothing has changed
+-- an operation was done, and its reply says how to go on; or it failed to allocate, and nothing has changed
 abbrev pub Asks : PlainPartition → PlainPartition → Result Bool Stop → Op → (Reply → Result Bool Stop) → Type 0
-Asks old new (Err (stop.Memory wanting)) op told = new ≡ old
+Asks old new (Err (stop.Memory wanting)) op told = (new ≡ old) × (may_allocate old op ≡ true)
 Asks old new result op told = (answer : Reply) × ((new, answer) ≡ step old op) × (told answer ≡ result)
 
 -- whether an event went into the mailbox

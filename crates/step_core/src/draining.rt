@@ -1,13 +1,13 @@
 //! A drain of a partition: operations, one after another, until nothing is left to do.
 ghost use Rattle.std.specs.Prelude.{◌≡◌, None, OnErr};
 ghost use Rattle.stream_model.specs.declared.op.Op.TheVariants.{Commit, Deliver, Pull};
-ghost use Rattle.stream_model.specs.Draining.{acknowledge, after_begin, after_commit, ask, deliver_once_more, drain_all, drain_round, empty_mailboxes, last_handled, next_note, serve, serve_each, take_turn, DrainsTo, deliver_up_to};
+ghost use Rattle.stream_model.specs.Draining.{acknowledge, after_begin, after_commit, ask, deliver_once_more, drain, drain_all, drain_round, empty_mailboxes, last_handled, next_note, open_names, serve, serve_each, take_turn, DrainsTo, deliver_up_to};
 ghost use Rattle.stream_ident.specs.Name.{grain_lt};
 ghost use Rattle.stream_ident.specs.Words.{keys_where, least};
 ghost use Rattle.stream_model.specs.Looks.{is_running};
 ghost use Rattle.stream_model.specs.Positions.{sub_at};
 ghost use Rattle.step_core.specs.declared.draining.Stop.TheVariants.{Memory};
-ghost use Rattle.step_core.specs.DrainPhases.{Asks, Follows, after_deliveries, deliver_told, is_acknowledged, is_committed, is_nothing, pull_told};
+ghost use Rattle.step_core.specs.DrainPhases.{Asks, BreaksOff, Follows, after_deliveries, deliver_told, is_acknowledged, is_committed, is_nothing, pull_told};
 ghost use Rattle.step_core.specs.Replied.{reply_of, reply_with};
 
 use crate::outcome::{Outcome, Told};
@@ -56,11 +56,13 @@ impl Partition {
     ///
     /// # Errors
     /// The call failed to allocate, which it never does where a turn runs. The first of the operations are
-    /// done, and no other; a turn that was begun may run then, and the next drain is stuck until it is
-    /// committed or its grain deactivated.
+    /// done, and no other: it was the next one that failed, and so one that `step` may fail to allocate for
+    /// and never one that is refused. A turn that was begun may run then, and the next drain is stuck until
+    /// it is committed or its grain deactivated.
     pub fn drain(&mut self, alloc: Global) -> Result<DrainEnd, AllocError>
         ensures drains { DrainsTo self.old self.new result }
-        ensures memory { OnErr result (least grain_lt (keys_where is_running self.old.grains) ≡ None) }
+        ensures memory { OnErr result (BreaksOff self.old self.new (drain self.old).0.entries) }
+        ensures idle { OnErr result (least grain_lt (keys_where is_running self.old.grains) ≡ None) }
     {
         if let Some(grain) = self.least_running() {
             return Ok(DrainEnd::Stuck { grain });
@@ -123,8 +125,7 @@ fn drain_round(partition: &mut Partition, alloc: Global) -> Result<(), Stop>
     ensures { Follows partition.old partition.new result (drain_round partition.old) }
 {
     empty_mailboxes(partition, alloc)?;
-    let names = partition.open_names(alloc)?;
-    serve_each(partition, alloc, names.as_slice())
+    serve_each(partition, alloc)
 }
 
 /// While something waits, a turn of the least grain for which it does.
@@ -143,24 +144,23 @@ fn empty_mailboxes(partition: &mut Partition, alloc: Global) -> Result<(), Stop>
     }
 }
 
-/// Serves each of these subscriptions.
-fn serve_each(partition: &mut Partition, alloc: Global, names: &[SubName]) -> Result<(), Stop>
-    ensures { Follows partition.old partition.new result (serve_each names.now partition.old) }
+/// Serves each open subscription that is due, in the order of names. To serve another one would change nothing.
+fn serve_each(partition: &mut Partition, alloc: Global) -> Result<(), Stop>
+    ensures { Follows partition.old partition.new result (serve_each (open_names partition.old) partition.old) }
 {
-    for name in names {
-        serve(partition, alloc, name)?;
+    let mut last = None;
+    while let Some(sub) = partition.next_due(last.as_ref()) {
+        serve(partition, alloc, &sub)?;
+        last = Some(sub);
     }
     Ok(())
 }
 
 /// Serves a subscription: all that the cache has for it is delivered and handled, the last of it is
-/// acknowledged, and one more delivery finds nothing. Where that would change nothing, it isn't done.
+/// acknowledged, and one more delivery finds nothing.
 fn serve(partition: &mut Partition, alloc: Global, sub: &SubName) -> Result<(), Stop>
     ensures { Follows partition.old partition.new result (serve sub.now partition.old (sub_at partition.old sub.now)) }
 {
-    if partition.is_settled(sub) {
-        return Ok(());
-    }
     let Some(served) = partition.served(sub) else {
         return Err(Stop::Astray);
     };

@@ -1,6 +1,7 @@
 //! What is asked without changing anything.
 ghost use Rattle.std.specs.Prelude.{◌≡◌, ◌<◌, ◌≤◌, ◌&&◌, None, Some, is_some, length, pred, true, if◌then◌else◌};
 ghost use Rattle.std.specs.List.{AllByRecursion};
+ghost use Rattle.std.specs.Option.{option_copied};
 ghost use Rattle.stream_ident.specs.Name.{grain_lt};
 ghost use Rattle.stream_ident.specs.SubName.{sub_lt};
 ghost use Rattle.stream_ident.specs.Words.{keys_where, least, lesser, past};
@@ -13,6 +14,7 @@ ghost use Rattle.step_core.specs.Assembly.{Agrees};
 ghost use Rattle.step_core.specs.Deliverables.{is_deliverable};
 ghost use Rattle.step_core.specs.PlainOf.{plain_of};
 ghost use Rattle.step_core.specs.Replied.{reply_of};
+ghost use Rattle.step_core.specs.Serving.{next_due};
 
 use crate::outcome::Told;
 use crate::parts::Parts;
@@ -51,6 +53,23 @@ pub(crate) fn due(parts: &Parts, after: Option<SubName>) -> Told
         },
         None => Told::NoneDue,
     }
+}
+
+/// The least name of a due subscription that is greater than the given one. It costs the logarithm of how many
+/// subscriptions there are.
+pub(crate) fn next_due(parts: &Parts, after: Option<&SubName>) -> Option<SubName>
+    requires { Agrees parts.now }
+    ensures { result ≡ next_due (plain_of parts.now) (option_copied after.entry) }
+{
+    let high = parts.agent.cache().high();
+    let number = parts.subs.due_after(after, high)?;
+    let name = parts.subs.name(number);
+    // Past the greatest name the table begins again at the least.
+    let is_past = match after {
+        Some(last) => last.is_before(name),
+        None => true,
+    };
+    is_past.then_some(*name)
 }
 
 /// The token of the last event that a subscription has handled, where that isn't acknowledged.

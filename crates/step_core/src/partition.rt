@@ -1,12 +1,12 @@
 //! The partition.
 ghost use Rattle.std.specs.Prelude.{◌≡◌, ◌<◌, ◌≤◌, true, length, slice_index_or, IfOk, OnErr, OnOk};
 ghost use Rattle.std.specs.List.{AllByRecursion};
-ghost use Rattle.std.specs.Option.{option_map};
+ghost use Rattle.std.specs.Option.{option_copied, option_map};
 ghost use Rattle.stream_ident.specs.Event.{no_event};
 ghost use Rattle.stream_ident.specs.Name.{grain_lt};
 ghost use Rattle.stream_ident.specs.Words.{keys_where, least, Performs};
 ghost use Rattle.stream_model.specs.Bounds.{AreLimits, IsWithinLimits};
-ghost use Rattle.stream_model.specs.Draining.{all_waiting, last_handled, least_waiting, open_names};
+ghost use Rattle.stream_model.specs.Draining.{all_waiting, last_handled, least_waiting};
 ghost use Rattle.stream_model.specs.Looks.{is_running, pending_in};
 ghost use Rattle.stream_model.specs.Positions.{empty, high_token, low_token, sub_at};
 ghost use Rattle.stream_model.specs.Memory.{may_allocate};
@@ -14,17 +14,17 @@ ghost use Rattle.stream_model.specs.Step.{step, IsReached};
 ghost use Rattle.step_core.specs.Reads.{handled_of, handled_positions, summaries_in_order};
 ghost use Rattle.step_core.specs.Replied.{answered, IsOfLog};
 ghost use Rattle.step_core.specs.Run.{Does, StopsBefore};
-ghost use Rattle.step_core.specs.Serving.{is_settled_in, served_of};
+ghost use Rattle.step_core.specs.Serving.{is_settled_in, next_due, served_of};
 
 mod asking;
 
 use crate::draining::Served;
-use crate::looking::{all_waiting, least_running, least_waiting, pending};
+use crate::looking::{all_waiting, least_running, least_waiting, next_due, pending};
 use crate::outcome::Outcome;
 use crate::parts::Parts;
 use crate::reading::{
     SubSummary, handled, handled_positions, high_token, is_settled, last_handled, low_token,
-    open_names, served, summaries,
+    served, summaries,
 };
 use crate::stepping::step;
 use grain_table::GrainTable;
@@ -224,14 +224,13 @@ impl Partition {
         all_waiting(&self.parts)
     }
 
-    /// The names of the open subscriptions, from the least to the greatest.
-    ///
-    /// # Errors
-    /// The call failed to allocate.
-    pub(crate) fn open_names(&self, alloc: Global) -> Result<Vec<SubName>, AllocError>
-        ensures { IfOk result (λ names. names.items ≡ open_names self.now) }
+    /// The least name of a due subscription that is greater than the given one, in a partition that a legal history
+    /// leads to.
+    pub(crate) fn next_due(&self, after: Option<&SubName>) -> Option<SubName>
+        ensures next { result ≡ next_due self.now (option_copied after.entry) }
+        ensures reached { IsReached self.now }
     {
-        open_names(&self.parts.subs, alloc)
+        next_due(&self.parts, after)
     }
 
     /// The grain and the cursor of a subscription.

@@ -2,9 +2,7 @@
 ghost use Rattle.std.specs.Prelude.{◌≡◌, ◌<◌, length, get_or, map, All, IfOk};
 ghost use Rattle.std.specs.List.{AllByRecursion};
 ghost use Rattle.std.specs.Option.{option_map};
-ghost use Rattle.stream_ident.specs.SubName.{sub_lt};
-ghost use Rattle.stream_ident.specs.Words.{keys_where};
-ghost use Rattle.stream_model.specs.Draining.{in_order, last_handled};
+ghost use Rattle.stream_model.specs.Draining.{last_handled};
 ghost use Rattle.stream_model.specs.Positions.{events_at, high_token, is_spent, low_token, slowest, sub_at};
 ghost use Rattle.subscription_table.specs.Table.{name_at, no_entry, state_at};
 ghost use Rattle.step_core.specs.Assembly.{Agrees};
@@ -98,31 +96,6 @@ pub(crate) fn summaries(
         summaries.push(summary_of(subs, number, name))?;
     }
     Ok(summaries)
-}
-
-/// The names of the open subscriptions, in the order in which they were made.
-fn names_of_open(subs: &SubscriptionTable, alloc: Global) -> Result<Vec<SubName>, AllocError>
-    ensures { IfOk result (λ names. names.items ≡ keys_where (λ r. r.is_open) (subs_of subs.now.registry.names subs.now.states)) }
-{
-    let mut names = Vec::new(alloc);
-    for number in 0..subs.len() {
-        if subs.state(number).is_open() {
-            names.push(*subs.name(number))?;
-        }
-    }
-    Ok(names)
-}
-
-/// The names of the open subscriptions, from the least to the greatest.
-pub(crate) fn open_names(
-    subs: &SubscriptionTable,
-    alloc: Global,
-) -> Result<Vec<SubName>, AllocError>
-    ensures { IfOk result (λ names. names.items ≡ in_order sub_lt (keys_where (λ r. r.is_open) (subs_of subs.now.registry.names subs.now.states))) }
-{
-    let mut names = names_of_open(subs, alloc)?;
-    names.sort()?;
-    Ok(names)
 }
 
 /// The grain and the cursor of a subscription.

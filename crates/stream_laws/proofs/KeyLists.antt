@@ -23,7 +23,7 @@ pub least-none : {A : Type 0} (lt : A → A → Bool) (xs : List A) → least lt
 least-none lt [] is = refl
 least-none lt (x ∷ xs) is = absurd (cc)
 
-All-insert : {A : Type 0} (P : A → Type 0) (lt : A → A → Bool) (x : A) (xs : List A) → P x → AllByRecursion P xs → AllByRecursion P (insert_in_order lt x xs)
+pub All-insert : {A : Type 0} (P : A → Type 0) (lt : A → A → Bool) (x : A) (xs : List A) → P x → AllByRecursion P xs → AllByRecursion P (insert_in_order lt x xs)
 All-insert P lt x [] here all = (here, tt)
 All-insert P lt x (y ∷ ys) here all =
     cond_both (lt y x) (y ∷ insert_in_order lt x ys) (x ∷ y ∷ ys) (AllByRecursion P) (λ _. (all.0, All-insert P lt x ys here all.1)) (λ _. (here, all))

@@ -1,8 +1,9 @@
 //! What a drain asks of a partition: operations of its current agent and of a worker. They are those of `Partition::step`,
 //! without the `Op` that asks for them and the `Reply` that is made of what they come to.
-ghost use Rattle.std.specs.Prelude.{◌≡◌};
+ghost use Rattle.std.specs.Prelude.{◌≡◌, true, OnErr};
 ghost use Rattle.stream_ident.specs.Words.{Performs};
 ghost use Rattle.stream_model.specs.declared.op.Op.TheVariants.{Ack, Begin, Commit, Deliver, Pull};
+ghost use Rattle.stream_model.specs.Memory.{may_allocate};
 ghost use Rattle.stream_model.specs.Step.{step};
 ghost use Rattle.step_core.specs.Assembly.{Agrees, IsAssembled};
 ghost use Rattle.step_core.specs.PlainOf.{plain_of};
@@ -23,9 +24,10 @@ impl Partition {
     /// The agent pulls events into the cache.
     ///
     /// # Errors
-    /// The call failed to allocate, and nothing has changed.
+    /// The call failed to allocate, as `step` may, and nothing has changed.
     pub(crate) fn pull(&mut self, alloc: Global, max: u32) -> Result<Told, AllocError>
-        ensures { Performs self.old self.new (replied result) (step self.old (Pull self.old.generation max)) }
+        ensures memory { OnErr result (may_allocate self.old (Pull self.old.generation max) ≡ true) }
+        ensures performs { Performs self.old self.new (replied result) (step self.old (Pull self.old.generation max)) }
     {
         let told = pull_now(&mut self.parts, &mut self.excerpt, alloc, max);
         let _lengths = (self.parts.subs.len(), self.parts.grains.len());
@@ -35,9 +37,10 @@ impl Partition {
     /// The agent hands a subscription its next event.
     ///
     /// # Errors
-    /// The call failed to allocate, and nothing has changed.
+    /// The call failed to allocate, as `step` may, and nothing has changed.
     pub(crate) fn deliver(&mut self, alloc: Global, sub: &SubName) -> Result<Told, AllocError>
-        ensures { Performs self.old self.new (replied result) (step self.old (Deliver self.old.generation sub.now)) }
+        ensures memory { OnErr result (may_allocate self.old (Deliver self.old.generation sub.now) ≡ true) }
+        ensures performs { Performs self.old self.new (replied result) (step self.old (Deliver self.old.generation sub.now)) }
     {
         let told = deliver_now(&mut self.parts, alloc, sub);
         let _lengths = (self.parts.subs.len(), self.parts.grains.len());
@@ -65,7 +68,7 @@ impl Partition {
     /// A worker ends the turn that runs for a grain.
     ///
     /// # Errors
-    /// The call failed to allocate, and nothing has changed.
+    /// The call failed to allocate, as `step` may, and nothing has changed.
     pub(crate) fn commit(
         &mut self,
         alloc: Global,
@@ -74,7 +77,8 @@ impl Partition {
         turn: u64,
         note: u64,
     ) -> Result<Told, AllocError>
-        ensures { Performs self.old self.new (replied result) (step self.old (Commit grain.now activation turn note)) }
+        ensures memory { OnErr result (may_allocate self.old (Commit grain.now activation turn note) ≡ true) }
+        ensures performs { Performs self.old self.new (replied result) (step self.old (Commit grain.now activation turn note)) }
     {
         let told = commit_now(&mut self.parts, alloc, grain, activation, turn, note);
         let _lengths = (self.parts.subs.len(), self.parts.grains.len());
@@ -92,6 +96,7 @@ fn pull_now(
     requires { Agrees parts.old }
     ensures assembled { IsAssembled parts.new }
     ensures performs { Performs (plain_of parts.old) (plain_of parts.new) (replied result) (step (plain_of parts.old) (Pull parts.old.agent.generation max)) }
+    ensures memory { OnErr result (may_allocate (plain_of parts.old) (Pull parts.old.agent.generation max) ≡ true) }
 {
     let generation = parts.agent.generation();
     pull(parts, excerpt, alloc, generation, max)
@@ -102,6 +107,7 @@ fn deliver_now(parts: &mut Parts, alloc: Global, sub: &SubName) -> Result<Told, 
     requires { Agrees parts.old }
     ensures assembled { IsAssembled parts.new }
     ensures performs { Performs (plain_of parts.old) (plain_of parts.new) (replied result) (step (plain_of parts.old) (Deliver parts.old.agent.generation sub.now)) }
+    ensures memory { OnErr result (may_allocate (plain_of parts.old) (Deliver parts.old.agent.generation sub.now) ≡ true) }
 {
     let generation = parts.agent.generation();
     deliver(parts, alloc, generation, sub)
@@ -138,6 +144,7 @@ fn commit_now(
     requires { Agrees parts.old }
     ensures assembled { IsAssembled parts.new }
     ensures performs { Performs (plain_of parts.old) (plain_of parts.new) (replied result) (step (plain_of parts.old) (Commit grain.now activation turn note)) }
+    ensures memory { OnErr result (may_allocate (plain_of parts.old) (Commit grain.now activation turn note) ≡ true) }
 {
     commit(parts, alloc, grain, activation, turn, note)
 }

@@ -3,7 +3,7 @@ use Rattle.stream_model.specs.declared.op.Op.TheVariants.{Deliver}
 use Rattle.stream_model.specs.Draining.{Astray, after_last_deliver, deliver_once_more}
 use Rattle.step_core.specs.Replied.{reply_of}
 use Rattle.step_core.proofs.DrainReplies.{last-where}
-use Rattle.step_core.proofs.DrainSteps.{ends-last}
+use Rattle.step_core.proofs.DrainSteps.{ends-last, ends-unchanged}
 use Rattle.step_core.proofs.draining.deliver_once_more.Goals as goal
 
 pub returns-then-is_nothing : goal.returns-then-is_nothing
@@ -12,7 +12,7 @@ returns-then-is_nothing c =
     let p = c.args.partition.now in
     let new = c.deliver.new.self in
     let answer = reply_of c.in-Ok.told in
-    ends-last p new None (Deliver p.generation c.args.sub.now) answer after_last_deliver c.in-Ok.ensures
+    ends-last p new None (Deliver p.generation c.args.sub.now) answer after_last_deliver c.in-Ok.ensures.performs
     (last-where new answer true (sym c.is_nothing.ensures ∙ c.if-is_nothing.true))
 
 pub returns-else-is_nothing : goal.returns-else-is_nothing
@@ -21,5 +21,11 @@ returns-else-is_nothing c =
     let p = c.args.partition.now in
     let new = c.deliver.new.self in
     let answer = reply_of c.in-Ok.told in
-    ends-last p new (Some Astray) (Deliver p.generation c.args.sub.now) answer after_last_deliver c.in-Ok.ensures
+    ends-last p new (Some Astray) (Deliver p.generation c.args.sub.now) answer after_last_deliver c.in-Ok.ensures.performs
     (last-where new answer false (sym c.is_nothing.ensures ∙ c.if-is_nothing.false))
+
+pub returns-in-Err : goal.returns-in-Err
+unfolding deliver_once_more
+returns-in-Err c =
+    let p = c.args.partition.now in
+    ends-unchanged p c.deliver.new.self (Deliver p.generation c.args.sub.now) after_last_deliver c.in-Err.ensures.performs c.in-Err.ensures.memory

@@ -5,11 +5,7 @@ use Rattle.step_core.specs.DrainPhases.{Ends, after_deliveries, halted, meant}
 use Rattle.stream_model.specs.Positions.{sub_at}
 use Rattle.step_core.proofs.DrainRounds.{serve-known, serve-unknown}
 use Rattle.step_core.proofs.DrainSteps.{ends-done, ends-halted, ends-then}
-use Rattle.step_core.proofs.SettledOps.{serves-settled}
 use Rattle.step_core.proofs.draining.serve.Goals as goal
-
-pub returns-then-is_settled : goal.returns-then-is_settled
-returns-then-is_settled c = serves-settled c.args.partition.now c.args.sub.now c.is_settled.ensures.reached (sym c.is_settled.ensures.settled ∙ c.if-is_settled.true)
 
 pub returns-in_default : goal.returns-in_default
 returns-in_default c =

@@ -3,7 +3,7 @@ use Rattle.stream_model.specs.declared.drain_end.DrainEnd.TheVariants as ending
 use Rattle.stream_model.specs.Draining.{AtSpent, AtTooMany, Astray, commits, drain_all}
 use Rattle.stream_laws.proofs.DrainTurns.{turns-since}
 use Rattle.step_core.specs.DrainPhases.{Ends, halted}
-use Rattle.step_core.proofs.DrainRounds.{drains-ended, drains-stuck, drains-wanting, least_running, never-astray}
+use Rattle.step_core.proofs.DrainRounds.{drains-ended, drains-in-part, drains-stuck, drains-wanting, least_running, never-astray}
 use Rattle.step_core.proofs.partition.Partition.drain.Goals as goal
 
 pub returns-in-Some-clause-drains : goal.returns-in-Some-clause-drains
@@ -57,4 +57,12 @@ returns-in-Err-Memory-clause-drains c =
     drains-wanting p new c.in-Err-Memory.wanting free ends
 
 pub returns-in-Err-Memory-clause-memory : goal.returns-in-Err-Memory-clause-memory
-returns-in-Err-Memory-clause-memory c = sym (sym c.in_default.is ∙ c.least_running.ensures)
+returns-in-Err-Memory-clause-memory c =
+    let p = c.args.self.now in
+    let new = c.drain_all.new.partition in
+    let free : None ≡ least_running p = sym c.in_default.is ∙ c.least_running.ensures in
+    let ends : Ends p new None (drain_all p) = subst (λ why. Ends p new (halted why) (drain_all p)) c.in-Err-Memory.field-0-is c.in-Err-Memory.ensures in
+    drains-in-part p new free ends
+
+pub returns-in-Err-Memory-clause-idle : goal.returns-in-Err-Memory-clause-idle
+returns-in-Err-Memory-clause-idle c = sym (sym c.in_default.is ∙ c.least_running.ensures)

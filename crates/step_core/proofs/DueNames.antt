@@ -1,0 +1,242 @@
+-- What a drain serves: the open subscriptions that are due, in the order of their names. The others are settled.
+use Rattle.std.proofs.Common.{◌≡◌, ◌∙◌, ap, sym, refl, subst, ℕ, suc, ◌+◌, ◌<◌, ◌≤◌, ◌==◌, ◌&&◌, ◌||◌, not, nat_le, nat_lt, Bool, true, false, List, [], ◌∷◌, ◌++◌, filter, length, map, Option, Some, None, if◌then◌else◌, arith}
+use Rattle.std.proofs.lemmas.Bool.{and_from, and_parts, both_ways, cond_both, eq-eqb, false_from_ne_true, le-leb, ltb-false}
+use Rattle.std.proofs.lemmas.List.{length-append}
+use Rattle.std.specs.Bool.{then_some}
+use Rattle.std.specs.List.{AllByRecursion, list_any}
+use Rattle.stream_ident.proofs.NameOrders.{sub_order}
+use Rattle.stream_ident.proofs.SameValues.{sub_equality}
+use Rattle.stream_ident.proofs.WordLemmas.{or_else-parts}
+use Rattle.stream_ident.specs.declared.ident.SubName.{SubName}
+use Rattle.stream_ident.specs.SubName.{same_sub, sub_lt}
+use Rattle.stream_ident.specs.Words.{above, is_above, keys_where, least, next_after, or_else, past}
+use Rattle.stream_laws.proofs.DrainServe.{IsOpenAt}
+use Rattle.stream_laws.proofs.Invariant.{SubFits, running_of, waiting_of}
+use Rattle.stream_laws.proofs.KeyLists.{All-in_order, All-keys_where, any-in_order, any-keys_where, each-entry}
+use Rattle.stream_laws.proofs.NearSteps.{near-legal}
+use Rattle.stream_laws.proofs.Unique.{AreUnique}
+use Rattle.stream_laws.proofs.UniqueSteps.{steady-legal}
+use Rattle.stream_model.proofs.EachOf.{All-weaken}
+use Rattle.stream_model.specs.declared.plain.PlainPartition.{PlainPartition}
+use Rattle.stream_model.specs.declared.plain.Subscription.{Subscription}
+use Rattle.stream_model.specs.Draining as draining
+use Rattle.stream_model.specs.Draining.{open_names, serve, serve_each}
+use Rattle.stream_model.specs.Looks.{is_due}
+use Rattle.stream_model.specs.Positions.{is_unacknowledged, sub_at}
+use Rattle.stream_model.specs.Step.{IsReached}
+use Rattle.step_core.specs.declared.draining.Stop.{Stop}
+use Rattle.step_core.specs.DrainPhases.{Ends, halted}
+use Rattle.step_core.specs.Serving.{is_settled_in, next_due}
+use Rattle.step_core.proofs.DrainLoops.{Suffices}
+use Rattle.step_core.proofs.DrainSteps.{ends-halted, ends-then}
+use Rattle.step_core.proofs.KeptNames.{open_keys, served-keeps}
+use Rattle.step_core.proofs.RisingNames.{AreRising, IsSplit, above-filter, apart-keys, least-past, none-past, not-passed, rising-in_order, split-at}
+use Rattle.step_core.proofs.SettledOps.{serves-settled}
+use Rattle.step_core.proofs.Shared.{history-of}
+
+-- ---- the next that is due
+
+dues : PlainPartition → List SubName
+dues p = keys_where (is_due p) p.subs
+
+-- where the search that begins again finds nothing, none is due past the given one
+pub due-none-past : (after : Option SubName) (xs : List SubName) → next_after sub_lt after xs ≡ None → least sub_lt (above sub_lt after xs) ≡ None
+due-none-past after xs none = (or_else-parts (least sub_lt (above sub_lt after xs)) (least sub_lt xs) none).0
+
+by-least : (after : Option SubName) (xs : List SubName) (d : SubName) (P : Option SubName → Type 0) → next_after sub_lt after xs ≡ Some d → (least sub_lt (above sub_lt after xs) ≡ Some d → P (Some d)) → (least sub_lt (above sub_lt after xs) ≡ None → least sub_lt xs ≡ Some d → P None) → P (least sub_lt (above sub_lt after xs))
+by-least after xs d P is past wrapped =
+    (elim (least sub_lt (above sub_lt after xs)) as (λ (o : Option SubName). least sub_lt (above sub_lt after xs) ≡ o → or_else o (least sub_lt xs) ≡ Some d → P o) [
+      | None ↦ λ none again. wrapped none again
+      | Some e ↦ λ found same. let here : e ≡ d = cc in subst (λ (x : SubName). least sub_lt (above sub_lt after xs) ≡ Some x → P (Some x)) (sym here) past found
+    ]) refl is
+
+-- where it finds one past the given one, that is the next
+due-past : (after : Option SubName) (xs : List SubName) (d : SubName) → next_after sub_lt after xs ≡ Some d → is_above sub_lt after d ≡ true → Some d ≡ least sub_lt (above sub_lt after xs)
+due-past after xs d is past =
+    by-least after xs d (λ (o : Option SubName). Some d ≡ o) is (λ _. refl)
+    (λ none again.
+    let among = (least-past sub_lt same_sub sub_order sub_equality None d xs again).1 in
+    absurd (both_ways (is_above sub_lt after d) (none-past sub_lt same_sub sub_order sub_equality after d xs among none) past))
+
+-- and where it finds another, none is
+due-wrapped : (after : Option SubName) (xs : List SubName) (d : SubName) → next_after sub_lt after xs ≡ Some d → is_above sub_lt after d ≡ false → None ≡ least sub_lt (above sub_lt after xs)
+due-wrapped after xs d is wrapped =
+    by-least after xs d (λ (o : Option SubName). None ≡ o) is
+    (λ found. absurd (both_ways (is_above sub_lt after d) wrapped (least-past sub_lt same_sub sub_order sub_equality after d xs found).0)) (λ _ _. refl)
+
+-- so the test of what is found decides
+pub due-by : (after : Option SubName) (xs : List SubName) (d : SubName) → next_after sub_lt after xs ≡ Some d → (b : Bool) → b ≡ is_above sub_lt after d → then_some b d ≡ least sub_lt (above sub_lt after xs)
+due-by after xs d is true past = due-past after xs d is (sym past)
+due-by after xs d is false wrapped = due-wrapped after xs d is (sym wrapped)
+
+-- ---- open names
+
+unique-of : (p : PlainPartition) → IsReached p → AreUnique same_sub p.subs
+unique-of p reached = (steady-legal reached.blocks reached.limits reached.history p reached.stands).subs
+
+open-names : (p : PlainPartition) → IsReached p → AllByRecursion (IsOpenAt p) (open_names p)
+open-names p reached =
+    All-in_order (IsOpenAt p) sub_lt (open_keys p)
+    (All-keys_where (IsOpenAt p) (λ (r : Subscription). r.is_open) p.subs
+    (each-entry same_sub sub_equality (λ (s : SubName) (r : Subscription). r.is_open ≡ true → IsOpenAt p s) p.subs (unique-of p reached) (λ s r found is_open. record { record_of = r; found = found; is_open = is_open })))
+
+rising-names : (p : PlainPartition) → IsReached p → AreRising sub_lt same_sub sub_order sub_equality (open_names p)
+rising-names p reached =
+    rising-in_order sub_lt same_sub sub_order sub_equality (open_keys p) (apart-keys sub_lt same_sub sub_order sub_equality (λ (r : Subscription). r.is_open) p.subs (unique-of p reached))
+
+-- what is due is open
+any-weaker : (test : SubName → Bool) (passes weaker : Subscription → Bool) → ((r : Subscription) → passes r ≡ true → weaker r ≡ true) → (subs : List (SubName × Subscription)) → list_any test (keys_where passes subs) ≡ true → list_any test (keys_where weaker subs) ≡ true
+any-weaker test passes weaker implies [] found = absurd (cc)
+any-weaker test passes weaker implies (entry ∷ subs) found = by (passes entry.1) (weaker entry.1) (implies entry.1) found (any-weaker test passes weaker implies subs)
+  where
+    or-later : (a b c : Bool) → (b ≡ true → c ≡ true) → (a || b) ≡ true → (a || c) ≡ true
+    or-later true b c later is = refl
+    or-later false b c later is = later is
+
+    or-any : (a c : Bool) → c ≡ true → (a || c) ≡ true
+    or-any true c is = refl
+    or-any false c is = is
+
+    by : (b w : Bool) → (b ≡ true → w ≡ true) → list_any test (map (λ (e : SubName × Subscription). e.0) (if b then entry ∷ filter (λ (e : SubName × Subscription). passes e.1) subs else filter (λ (e : SubName × Subscription). passes e.1) subs)) ≡ true
+        → (list_any test (keys_where passes subs) ≡ true → list_any test (keys_where weaker subs) ≡ true)
+        → list_any test (map (λ (e : SubName × Subscription). e.0) (if w then entry ∷ filter (λ (e : SubName × Subscription). weaker e.1) subs else filter (λ (e : SubName × Subscription). weaker e.1) subs)) ≡ true
+    by true true implies found later = or-later (test entry.0) (list_any test (keys_where passes subs)) (list_any test (keys_where weaker subs)) later found
+    by true false implies found later = let wrong = implies refl in absurd (cc)
+    by false true implies found later = or-any (test entry.0) (list_any test (keys_where weaker subs)) (later found)
+    by false false implies found later = later found
+
+due-among-open : (p : PlainPartition) (d : SubName) → list_any (same_sub d) (keys_where (is_due p) p.subs) ≡ true → list_any (same_sub d) (open_names p) ≡ true
+due-among-open p d due =
+    any-in_order (same_sub d) sub_lt (open_keys p)
+    ∙ any-weaker (same_sub d) (is_due p) (λ (r : Subscription). r.is_open) (λ r is. (and_parts r.is_open (is_unacknowledged r || nat_lt r.resume p.high) is).0) p.subs due
+
+-- ---- an open subscription that isn't due is settled
+
+or-none : (a b : Bool) → (a || b) ≡ false → (a ≡ false) × (b ≡ false)
+or-none true b none = absurd (cc)
+or-none false b none = (refl, none)
+
+not-due : (p : PlainPartition) (r : Subscription) → r.is_open ≡ true → is_due p r ≡ false → (is_unacknowledged r ≡ false) × (p.high ≤ r.resume)
+not-due p r is_open undue =
+    let tests = or-none (is_unacknowledged r) (nat_lt r.resume p.high) (ap (λ b. b && (is_unacknowledged r || nat_lt r.resume p.high)) (sym is_open) ∙ undue) in
+    (tests.0, ltb-false r.resume p.high tests.1)
+
+pub settled-undue : (p : PlainPartition) (s : SubName) (r : Subscription) → IsReached p → sub_at p s ≡ Some r → r.is_open ≡ true → is_due p r ≡ false → is_settled_in p.high (sub_at p s) ≡ true
+settled-undue p s r reached found is_open undue =
+    let history = history-of p reached in
+    let served = (history.fits.subs s r found).served is_open in
+    let near = near-legal reached.blocks reached.limits reached.history p reached.stands s r found is_open in
+    let facts = not-due p r is_open undue in
+    let order = served.resume_cursor in
+    let level : r.resume ≡ r.cursor = omega (arith, near, facts.1, order) in
+    let seen : p.high ≤ r.cursor = omega (arith, facts.1, order) in
+    ap (is_settled_in p.high) found ∙ rw (is_open, le-leb p.high r.cursor seen, eq-eqb r.resume r.cursor level, facts.0) refl
+
+abbrev Settled : PlainPartition → SubName → Type 0
+Settled p s = is_settled_in p.high (sub_at p s) ≡ true
+
+-- what isn't among those that are due
+settled-outside : (p : PlainPartition) (s : SubName) → IsReached p → IsOpenAt p s → (list_any (same_sub s) (keys_where (is_due p) p.subs) ≡ true → false ≡ true) → Settled p s
+settled-outside p s reached opened outside =
+    settled-undue p s opened.record_of reached opened.found opened.is_open
+    (false_from_ne_true (is_due p opened.record_of) (λ due. let wrong = outside (any-keys_where same_sub (is_due p) s opened.record_of p.subs opened.found due) in absurd (cc)))
+
+-- ---- to serve the settled ones changes nothing
+
+pub ends-behind-settled : (p new : PlainPartition) (end : Option (Option draining.Stop)) (front rest : List SubName) → IsReached p → AllByRecursion (Settled p) front → Ends p new end (serve_each rest p) → Ends p new end (serve_each (front ++ rest) p)
+unfolding serve_each
+ends-behind-settled p new end [] rest reached settled ends = ends
+ends-behind-settled p new end (s ∷ front) rest reached settled ends =
+    ends-then p p new end (serve s p (sub_at p s)) (serve_each (front ++ rest)) (serves-settled p s reached settled.0) (ends-behind-settled p new end front rest reached settled.1 ends)
+
+ends-settled : (p : PlainPartition) (names : List SubName) → IsReached p → AllByRecursion (Settled p) names → Ends p p (Some None) (serve_each names p)
+unfolding serve_each
+ends-settled p [] reached settled = (refl, refl, refl)
+ends-settled p (s ∷ names) reached settled =
+    ends-then p p p (Some None) (serve s p (sub_at p s)) (serve_each names) (serves-settled p s reached settled.0) (ends-settled p names reached settled.1)
+
+-- ---- the loop
+
+-- the names of the open subscriptions are as they were, and once those past the last one are served, all are
+pub record GoesOn (start here : PlainPartition) (last : Option SubName) : Type 0 where
+  pub names : open_names here ≡ open_names start
+  pub rest : Suffices start here (serve_each (above sub_lt last (open_names start)) here) (serve_each (open_names start) start)
+
+pub goes-on-first : (p : PlainPartition) → GoesOn p p None
+goes-on-first p = record { names = refl; rest = λ new end ends. ends }
+
+-- the names past the last one: settled ones, then the next that is due, then those past it
+record IsNext (p : PlainPartition) (names : List SubName) (last : Option SubName) (d : SubName) : Type 0 where
+  pub front : List SubName
+  pub settled : AllByRecursion (Settled p) front
+  pub is : front ++ d ∷ above sub_lt (Some d) names ≡ above sub_lt last names
+
+next-of : (p : PlainPartition) (last : Option SubName) (d : SubName) → IsReached p → Some d ≡ next_due p last → IsNext p (open_names p) last d
+next-of p last d reached next =
+    let is = sym next in
+    let past = least-past sub_lt same_sub sub_order sub_equality last d (keys_where (is_due p) p.subs) is in
+    let split : IsSplit sub_lt same_sub sub_order sub_equality (IsOpenAt p) (is_above sub_lt last) d (open_names p) =
+    split-at sub_lt same_sub sub_order sub_equality (IsOpenAt p) (is_above sub_lt last) (onward last) d past.0 (open_names p) (open-names p reached) (rising-names p reached) (due-among-open p d past.1) in
+    record {
+      front = split.front;
+      settled = All-weaken (λ (s : SubName). IsOpenAt p s × ((is_above sub_lt last s ≡ true) × (sub_lt s d ≡ true))) (Settled p)
+          (λ s facts. settled-outside p s reached facts.0
+          (λ due. let no : sub_lt s d ≡ false = not-passed sub_lt same_sub sub_order sub_equality last s d (keys_where (is_due p) p.subs) due facts.1.0 is in sym no ∙ facts.1.1)) split.front split.each;
+      is = split.is ∙ sym (above-filter sub_lt last (open_names p));
+    }
+  where
+    onward : (last : Option SubName) (x y : SubName) → sub_lt x y ≡ true → is_above sub_lt last x ≡ true → is_above sub_lt last y ≡ true
+    onward None x y less past = refl
+    onward (Some a) x y less past = sub_order.chain a x y past less
+
+-- one name in front of others
+ends-first : (here mid new : PlainPartition) (end : Option (Option draining.Stop)) (d : SubName) (names : List SubName) → Ends here mid (Some None) (serve d here (sub_at here d)) → Ends mid new end (serve_each names mid) → Ends here new end (serve_each (d ∷ names) here)
+unfolding serve_each
+ends-first here mid new end d names served ends = ends-then here mid new end (serve d here (sub_at here d)) (serve_each names) served ends
+
+ends-at-first : (here new : PlainPartition) (d : SubName) (names : List SubName) (why : Stop) → Ends here new (halted why) (serve d here (sub_at here d)) → Ends here new (halted why) (serve_each (d ∷ names) here)
+unfolding serve_each
+ends-at-first here new d names why stopped = ends-halted here new why (serve d here (sub_at here d)) (serve_each names) stopped
+
+-- one more is served
+pub goes-on : (start here mid : PlainPartition) (last : Option SubName) (d : SubName) → IsReached here → GoesOn start here last → Some d ≡ next_due here last → Ends here mid (Some None) (serve d here (sub_at here d)) → GoesOn start mid (Some d)
+goes-on start here mid last d reached before next served =
+    let at = subst (λ (names : List SubName). IsNext here names last d) before.names (next-of here last d reached next) in
+    record {
+      names = served-keeps here mid d served ∙ before.names;
+      rest = λ new end ends. before.rest new end
+          (subst (λ (names : List SubName). Ends here new end (serve_each names here)) at.is
+          (ends-behind-settled here new end at.front (d ∷ above sub_lt (Some d) (open_names start)) reached at.settled
+          (ends-first here mid new end d (above sub_lt (Some d) (open_names start)) served ends)));
+    }
+
+-- one is not served in full
+pub goes-on-halted : (start here new : PlainPartition) (last : Option SubName) (d : SubName) (why : Stop) → IsReached here → GoesOn start here last → Some d ≡ next_due here last → Ends here new (halted why) (serve d here (sub_at here d)) → Ends start new (halted why) (serve_each (open_names start) start)
+goes-on-halted start here new last d why reached before next stopped =
+    let at = subst (λ (names : List SubName). IsNext here names last d) before.names (next-of here last d reached next) in
+    before.rest new (halted why)
+    (subst (λ (names : List SubName). Ends here new (halted why) (serve_each names here)) at.is
+    (ends-behind-settled here new (halted why) at.front (d ∷ above sub_lt (Some d) (open_names start)) reached at.settled
+    (ends-at-first here new d (above sub_lt (Some d) (open_names start)) why stopped)))
+
+-- no further one is due
+pub goes-on-done : (start here : PlainPartition) (last : Option SubName) → IsReached here → GoesOn start here last → None ≡ next_due here last → Ends start here (Some None) (serve_each (open_names start) start)
+goes-on-done start here last reached before none =
+    before.rest here (Some None) (ends-settled here (above sub_lt last (open_names start)) reached
+    (subst (AllByRecursion (Settled here)) (sym (above-filter sub_lt last (open_names start)))
+    (each (open_names start) (subst (AllByRecursion (IsOpenAt here)) before.names (open-names here reached)))))
+  where
+    each : (names : List SubName) → AllByRecursion (IsOpenAt here) names → AllByRecursion (Settled here) (filter (is_above sub_lt last) names)
+    each [] opened = tt
+    each (s ∷ names) opened =
+        let rest = each names opened.1 in
+        cond_both (is_above sub_lt last s) (s ∷ filter (is_above sub_lt last) names) (filter (is_above sub_lt last) names) (AllByRecursion (Settled here))
+        (λ past. (settled-outside here s reached opened.0 (λ due. sym (none-past sub_lt same_sub sub_order sub_equality last s (keys_where (is_due here) here.subs) due (sym none)) ∙ past), rest))
+        (λ _. rest)
+
+-- fewer names are left once one more is served
+pub fewer-left : (start here : PlainPartition) (last : Option SubName) (d : SubName) → IsReached here → GoesOn start here last → Some d ≡ next_due here last → length (above sub_lt (Some d) (open_names start)) < length (above sub_lt last (open_names start))
+fewer-left start here last d reached before next =
+    let at = subst (λ (names : List SubName). IsNext here names last d) before.names (next-of here last d reached next) in
+    let whole : length (at.front ++ d ∷ above sub_lt (Some d) (open_names start)) ≡ length (above sub_lt last (open_names start)) = ap length at.is in
+    omega (arith, whole, length-append at.front (d ∷ above sub_lt (Some d) (open_names start)))
