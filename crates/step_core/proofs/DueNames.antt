@@ -1,18 +1,20 @@
 -- What a drain serves: the open subscriptions that are due, in the order of their names. The others are settled.
-use Rattle.std.proofs.Common.{◌≡◌, ◌∙◌, ap, sym, refl, subst, ℕ, suc, ◌+◌, ◌<◌, ◌≤◌, ◌==◌, ◌&&◌, ◌||◌, not, nat_le, nat_lt, Bool, true, false, List, [], ◌∷◌, ◌++◌, filter, length, map, Option, Some, None, if◌then◌else◌, arith}
-use Rattle.std.proofs.lemmas.Bool.{and_from, and_parts, both_ways, cond_both, eq-eqb, false_from_ne_true, le-leb, ltb-false}
+use Rattle.std.proofs.Common.{◌≡◌, ◌∙◌, ap, sym, refl, subst, ℕ, ◌<◌, ◌≤◌, ◌&&◌, ◌||◌, nat_lt, Bool, true, false, List, [], ◌∷◌, ◌++◌, filter, length, map, Option, Some, None, if◌then◌else◌, arith}
+use Rattle.std.proofs.lemmas.Bool.{and_parts, both_ways, cond_both, eq-eqb, false_from_ne_true, le-leb, lt-ltb, ltb-false}
 use Rattle.std.proofs.lemmas.List.{length-append}
 use Rattle.std.specs.Bool.{then_some}
+use Rattle.std.specs.Prelude.{is_some}
 use Rattle.std.specs.List.{AllByRecursion, list_any}
+use Rattle.std.specs.Option.{option_map}
 use Rattle.stream_ident.proofs.NameOrders.{sub_order}
 use Rattle.stream_ident.proofs.SameValues.{sub_equality}
 use Rattle.stream_ident.proofs.WordLemmas.{or_else-parts}
 use Rattle.stream_ident.specs.declared.ident.SubName.{SubName}
 use Rattle.stream_ident.specs.SubName.{same_sub, sub_lt}
 use Rattle.stream_ident.specs.Words.{above, is_above, keys_where, least, next_after, or_else, past}
+use Rattle.stream_laws.proofs.DrainDeliver.{next-bounds}
 use Rattle.stream_laws.proofs.DrainServe.{IsOpenAt}
-use Rattle.stream_laws.proofs.Invariant.{SubFits, running_of, waiting_of}
-use Rattle.stream_laws.proofs.KeyLists.{All-in_order, All-keys_where, any-in_order, any-keys_where, each-entry}
+use Rattle.stream_laws.proofs.KeyLists.{All-in_order, All-keys_where, any-in_order, any-keys_where, each-entry, keys_where-empty}
 use Rattle.stream_laws.proofs.NearSteps.{near-legal}
 use Rattle.stream_laws.proofs.Unique.{AreUnique}
 use Rattle.stream_laws.proofs.UniqueSteps.{steady-legal}
@@ -22,15 +24,16 @@ use Rattle.stream_model.specs.declared.plain.Subscription.{Subscription}
 use Rattle.stream_model.specs.Draining as draining
 use Rattle.stream_model.specs.Draining.{open_names, serve, serve_each}
 use Rattle.stream_model.specs.Looks.{is_due}
-use Rattle.stream_model.specs.Positions.{is_unacknowledged, sub_at}
+use Rattle.stream_model.specs.Positions.{is_unacknowledged, next_position, sub_at}
 use Rattle.stream_model.specs.Step.{IsReached}
 use Rattle.step_core.specs.declared.draining.Stop.{Stop}
+use Rattle.step_core.specs.Deliverables.{is_deliverable}
 use Rattle.step_core.specs.DrainPhases.{Ends, halted}
 use Rattle.step_core.specs.Serving.{is_settled_in, next_due}
 use Rattle.step_core.proofs.DrainLoops.{Suffices}
 use Rattle.step_core.proofs.DrainSteps.{ends-halted, ends-then}
 use Rattle.step_core.proofs.KeptNames.{open_keys, served-keeps}
-use Rattle.step_core.proofs.RisingNames.{AreRising, IsSplit, above-filter, apart-keys, least-past, none-past, not-passed, rising-in_order, split-at}
+use Rattle.step_core.proofs.RisingNames.{AreRising, IsSplit, above-filter, apart-keys, least-is, least-past, none-past, not-passed, rising-in_order, split-at}
 use Rattle.step_core.proofs.SettledOps.{serves-settled}
 use Rattle.step_core.proofs.Shared.{history-of}
 
@@ -65,9 +68,9 @@ due-wrapped after xs d is wrapped =
     (λ found. absurd (both_ways (is_above sub_lt after d) wrapped (least-past sub_lt same_sub sub_order sub_equality after d xs found).0)) (λ _ _. refl)
 
 -- so the test of what is found decides
-pub due-by : (after : Option SubName) (xs : List SubName) (d : SubName) → next_after sub_lt after xs ≡ Some d → (b : Bool) → b ≡ is_above sub_lt after d → then_some b d ≡ least sub_lt (above sub_lt after xs)
-due-by after xs d is true past = due-past after xs d is (sym past)
-due-by after xs d is false wrapped = due-wrapped after xs d is (sym wrapped)
+pub due-by : (name : ℕ → SubName) (after : Option SubName) (xs : List SubName) (number : ℕ) → next_after sub_lt after xs ≡ Some (name number) → (b : Bool) → b ≡ is_above sub_lt after (name number) → option_map name (then_some b number) ≡ least sub_lt (above sub_lt after xs)
+due-by name after xs number is true past = due-past after xs (name number) is (sym past)
+due-by name after xs number is false wrapped = due-wrapped after xs (name number) is (sym wrapped)
 
 -- ---- open names
 
@@ -109,6 +112,56 @@ due-among-open : (p : PlainPartition) (d : SubName) → list_any (same_sub d) (k
 due-among-open p d due =
     any-in_order (same_sub d) sub_lt (open_keys p)
     ∙ any-weaker (same_sub d) (is_due p) (λ (r : Subscription). r.is_open) (λ r is. (and_parts r.is_open (is_unacknowledged r || nat_lt r.resume p.high) is).0) p.subs due
+
+-- ---- what can be delivered
+
+-- what has a next event is due
+deliverable-due : (p : PlainPartition) (s : SubName) (r : Subscription) → IsReached p → sub_at p s ≡ Some r → is_deliverable p r ≡ true → is_due p r ≡ true
+deliverable-due p s r reached found is =
+    let parts = and_parts r.is_open (is_some (next_position p r)) is in
+    let history = history-of p reached in
+    let served = (history.fits.subs s r found).served parts.0 in
+    let seen = next-within p r (next_position p r) refl parts.1 in
+    let below : nat_lt r.resume p.high ≡ true = lt-ltb r.resume p.high (omega (arith, seen, served.resume_cursor)) in
+    rw (parts.0, below) (or-last (is_unacknowledged r))
+  where
+    or-last : (b : Bool) → (b || true) ≡ true
+    or-last true = refl
+    or-last false = refl
+
+    next-within : (p : PlainPartition) (r : Subscription) (next : Option ℕ) → next_position p r ≡ next → is_some next ≡ true → r.cursor < p.high
+    next-within p r None is some = absurd (cc)
+    next-within p r (Some position) is some = let bounds = next-bounds p r position is in omega (arith, bounds.0, bounds.1)
+
+-- each subscription that has a next event is past the last one
+abbrev pub ArePast : PlainPartition → Option SubName → Type 0
+ArePast p last = (s : SubName) (r : Subscription) → sub_at p s ≡ Some r → is_deliverable p r ≡ true → is_above sub_lt last s ≡ true
+
+among-dues : (p : PlainPartition) (s : SubName) (r : Subscription) → IsReached p → sub_at p s ≡ Some r → is_deliverable p r ≡ true → list_any (same_sub s) (keys_where (is_due p) p.subs) ≡ true
+among-dues p s r reached found is = any-keys_where same_sub (is_due p) s r p.subs found (deliverable-due p s r reached found is)
+
+pub past-more : (p : PlainPartition) (last : Option SubName) (d : SubName) (r : Subscription) → IsReached p → ArePast p last → Some d ≡ next_due p last → sub_at p d ≡ Some r → is_deliverable p r ≡ false → ArePast p (Some d)
+past-more p last d r reached before next found nothing s q at is =
+    let not_below : sub_lt s d ≡ false = not-passed sub_lt same_sub sub_order sub_equality last s d (keys_where (is_due p) p.subs) (among-dues p s q reached at is) (before s q at is) (sym next) in
+    (elim (same_sub s d) as (λ b. same_sub s d ≡ b → sub_lt d s ≡ true) [
+      | true ↦ λ here.
+          let same : q ≡ r = (let facts = sym at ∙ ap (sub_at p) (sub_equality.equal s d here) ∙ found in cc) in
+          absurd (both_ways (is_deliverable p r) nothing (ap (is_deliverable p) (sym same) ∙ is))
+      | false ↦ λ other. sub_order.rest s d not_below other
+    ]) refl
+
+pub least-found : (p : PlainPartition) (last : Option SubName) (d : SubName) (r : Subscription) → IsReached p → ArePast p last → Some d ≡ next_due p last → sub_at p d ≡ Some r → is_deliverable p r ≡ true → Some d ≡ least sub_lt (keys_where (is_deliverable p) p.subs)
+least-found p last d r reached before next found is =
+    least-is sub_lt same_sub sub_order sub_equality d (keys_where (is_deliverable p) p.subs) (any-keys_where same_sub (is_deliverable p) d r p.subs found is)
+    (All-keys_where (λ (s : SubName). sub_lt s d ≡ false) (is_deliverable p) p.subs
+    (each-entry same_sub sub_equality (λ (s : SubName) (q : Subscription). is_deliverable p q ≡ true → sub_lt s d ≡ false) p.subs (unique-of p reached)
+    (λ s q at has. not-passed sub_lt same_sub sub_order sub_equality last s d (keys_where (is_due p) p.subs) (among-dues p s q reached at has) (before s q at has) (sym next))))
+
+pub least-nowhere : (p : PlainPartition) (last : Option SubName) → IsReached p → ArePast p last → None ≡ next_due p last → None ≡ least sub_lt (keys_where (is_deliverable p) p.subs)
+least-nowhere p last reached before none =
+    ap (least sub_lt) (sym (keys_where-empty (is_deliverable p) p.subs
+    (each-entry same_sub sub_equality (λ (s : SubName) (r : Subscription). is_deliverable p r ≡ false) p.subs (unique-of p reached)
+    (λ s r at. false_from_ne_true (is_deliverable p r) (λ has. both_ways (is_above sub_lt last s) (none-past sub_lt same_sub sub_order sub_equality last s (keys_where (is_due p) p.subs) (among-dues p s r reached at has) (sym none)) (before s r at has))))))
 
 -- ---- an open subscription that isn't due is settled
 
@@ -234,9 +287,13 @@ goes-on-done start here last reached before none =
         (λ past. (settled-outside here s reached opened.0 (λ due. sym (none-past sub_lt same_sub sub_order sub_equality last s (keys_where (is_due here) here.subs) due (sym none)) ∙ past), rest))
         (λ _. rest)
 
--- fewer names are left once one more is served
+-- fewer names are past the next that is due
+pub fewer-past : (p : PlainPartition) (last : Option SubName) (d : SubName) → IsReached p → Some d ≡ next_due p last → length (above sub_lt (Some d) (open_names p)) < length (above sub_lt last (open_names p))
+fewer-past p last d reached next =
+    let at = next-of p last d reached next in
+    let whole : length (at.front ++ d ∷ above sub_lt (Some d) (open_names p)) ≡ length (above sub_lt last (open_names p)) = ap length at.is in
+    omega (arith, whole, length-append at.front (d ∷ above sub_lt (Some d) (open_names p)))
+
 pub fewer-left : (start here : PlainPartition) (last : Option SubName) (d : SubName) → IsReached here → GoesOn start here last → Some d ≡ next_due here last → length (above sub_lt (Some d) (open_names start)) < length (above sub_lt last (open_names start))
 fewer-left start here last d reached before next =
-    let at = subst (λ (names : List SubName). IsNext here names last d) before.names (next-of here last d reached next) in
-    let whole : length (at.front ++ d ∷ above sub_lt (Some d) (open_names start)) ≡ length (above sub_lt last (open_names start)) = ap length at.is in
-    omega (arith, whole, length-append at.front (d ∷ above sub_lt (Some d) (open_names start)))
+    subst (λ (names : List SubName). length (above sub_lt (Some d) names) < length (above sub_lt last names)) before.names (fewer-past here last d reached next)

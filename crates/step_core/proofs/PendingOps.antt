@@ -1,19 +1,14 @@
 -- What is left to do, by the numbers of grains and of records.
-use Rattle.std.proofs.Common.{◌≡◌, ◌∙◌, ap, sym, refl, ℕ, zero, suc, ◌+◌, ◌-◌, ◌<◌, ◌≤◌, Bool, true, false, ◌&&◌, List, [], ◌∷◌, length, map, drop, take, get_or, Option, Some, None, arith}
+use Rattle.std.proofs.Common.{◌≡◌, ◌∙◌, ap, sym, refl, ℕ, zero, suc, ◌+◌, ◌<◌, ◌≤◌, Bool, true, false, ◌&&◌, List, [], ◌∷◌, length, map, take, arith}
 use Rattle.std.specs.Prelude.{is_some}
 use Rattle.std.specs.List.{flat_map}
 use Rattle.std.proofs.lemmas.List.{length-append, length-map, take_all}
 use Rattle.stream_ident.specs.declared.ident.GrainId.{GrainId}
 use Rattle.stream_ident.specs.declared.ident.SubName.{SubName}
-use Rattle.stream_ident.specs.SubName.{sub_lt}
-use Rattle.stream_ident.specs.Words.{lesser}
 use Rattle.stream_model.specs.declared.plain.Grain.{Grain}
-use Rattle.stream_model.specs.declared.plain.Subscription.{Subscription}
 use Rattle.stream_model.specs.Draining.{all_waiting}
-use Rattle.stream_model.specs.Least.{least_key}
 use Rattle.stream_model.specs.Positions.{next_position}
 use Rattle.stream_model.specs.Step.{IsReached}
-use Rattle.stream_model.proofs.LeastKey.{least_key-end, least_key-not, least_key-there, of-all}
 use Rattle.queue_cache.specs.Cache.{PlainCache}
 use Rattle.cache_cursor.specs.Cursor.{next_in}
 use Rattle.consumer_grain.specs.Activations.{PlainActivation}
@@ -21,19 +16,17 @@ use Rattle.consumer_grain.specs.Subscriptions.{PlainState}
 use Rattle.grain_table.specs.Changes.{activation_at}
 use Rattle.grain_table.specs.Grains.{PlainGrains}
 use Rattle.pubsub_registry.specs.declared.registration.Registration.{Registration}
-use Rattle.subscription_table.specs.Table as table
 use Rattle.subscription_table.specs.Table.{no_entry, no_state, registration_at, state_at}
 use Rattle.step_core.specs.Assembly.{HasEvents}
 use Rattle.step_core.specs.Deliverables.{is_deliverable}
 use Rattle.step_core.specs.Numbers.{AreDistinct}
 use Rattle.step_core.specs.declared.parts.Parts.{Parts}
 use Rattle.step_core.specs.PlainOf.{plain_of}
-use Rattle.step_core.specs.View.{delivery_of, grains_of, name_at, sub_of}
+use Rattle.step_core.specs.View.{delivery_of, grains_of, name_at}
 use Rattle.step_core.proofs.DeliverOps.{next-is}
 use Rattle.step_core.proofs.NamesOps.{record-of-number}
 use Rattle.step_core.proofs.RecordOps.{record_at}
 use Rattle.step_core.proofs.Shared.{history-of}
-use Rattle.step_core.proofs.ViewLemmas.{record-at, records-length}
 
 -- ---- what can be delivered
 
@@ -67,33 +60,6 @@ next-told parts i told cache registration state has cursor is_cache is_registrat
         ≡ (b && is_some (next_position (plain_of parts) (record_at parts i no_entry no_state)))
     by false cursor = refl
     by true cursor = ap is_some (sym (next-is parts (record_at parts i no_entry no_state) has (cursor refl)))
-
--- the least name among the records from a number on
-abbrev pub least_from : Parts → ℕ → Option SubName
-least_from parts n = least_key sub_lt None (is_deliverable (plain_of parts)) (drop n (plain_of parts).subs)
-
-pub least-end : (parts : Parts) (n : ℕ) → length parts.subs.registry.names ≡ length parts.subs.states → length parts.subs.registry.names ≤ n → None ≡ least_from parts n
-least-end parts n lengths past =
-    least_key-end sub_lt None (is_deliverable (plain_of parts)) (plain_of parts).subs n (omega (arith, past, records-length parts.subs.registry.names parts.subs.states lengths))
-
-abbrev entry_at : Parts → ℕ → SubName × Subscription
-entry_at parts i = sub_of (get_or parts.subs.registry.names i no_entry) (get_or parts.subs.states i no_state)
-
-pub least-there : (parts : Parts) (n : ℕ) (found : Option SubName) → length parts.subs.registry.names ≡ length parts.subs.states → 0 < n → n - 1 < length parts.subs.registry.names
-    → is_deliverable (plain_of parts) (record_at parts (n - 1) no_entry no_state) ≡ true → found ≡ least_from parts n → Some (lesser sub_lt (table.name_at parts.subs (n - 1)) found) ≡ least_from parts (n - 1)
-least-there parts n found lengths some within is was =
-    least_key-there sub_lt None (is_deliverable (plain_of parts)) (plain_of parts).subs n (entry_at parts (n - 1)) found some
-    (omega (arith, within, records-length parts.subs.registry.names parts.subs.states lengths))
-    (sym (record-at parts.subs.registry.names parts.subs.states (n - 1) (entry_at parts (n - 1)) no_entry no_state lengths within))
-    (of-all _ _ is) was
-
-pub least-not : (parts : Parts) (n : ℕ) (found : Option SubName) → length parts.subs.registry.names ≡ length parts.subs.states → 0 < n → n - 1 < length parts.subs.registry.names
-    → is_deliverable (plain_of parts) (record_at parts (n - 1) no_entry no_state) ≡ false → found ≡ least_from parts n → found ≡ least_from parts (n - 1)
-least-not parts n found lengths some within is was =
-    least_key-not sub_lt None (is_deliverable (plain_of parts)) (plain_of parts).subs n (entry_at parts (n - 1)) found some
-    (omega (arith, within, records-length parts.subs.registry.names parts.subs.states lengths))
-    (sym (record-at parts.subs.registry.names parts.subs.states (n - 1) (entry_at parts (n - 1)) no_entry no_state lengths within))
-    (of-all _ _ is) was
 
 -- ---- how much waits
 

@@ -1,5 +1,5 @@
 -- Names that rise: those past a name are those up to the next one, then that one, then those past it.
-use Rattle.std.proofs.Common.{◌≡◌, ◌∙◌, ap, sym, refl, subst, Bool, true, false, ◌||◌, List, [], ◌∷◌, ◌++◌, filter, map, Option, Some, None, cond, if◌then◌else◌}
+use Rattle.std.proofs.Common.{◌≡◌, ◌∙◌, ap, sym, refl, subst, Bool, true, false, ◌||◌, List, [], ◌∷◌, ◌++◌, filter, map, Option, Some, None, if◌then◌else◌}
 use Rattle.std.proofs.lemmas.Bool.{both_ways, cond_both, false_from_ne_true}
 use Rattle.std.specs.List.{AllByRecursion, list_any}
 use Rattle.std.specs.Prelude.{⊤}
@@ -186,6 +186,24 @@ module _ {X : Type 0} (lt same : X → X → Bool) (order : IsOrder lt same) (eq
   least-past after y xs is =
       least-of (λ (z : X). (is_above lt after z ≡ true) × (list_any (same z) xs ≡ true)) lt (above lt after xs) y
       (subst (AllByRecursion (λ (z : X). (is_above lt after z ≡ true) × (list_any (same z) xs ≡ true))) (sym (above-filter lt after xs)) (among-past after xs xs (λ z there. there))) is
+
+  -- one that is among them, and that none is less than, is the least
+  pub least-is : (x : X) (xs : List X) → list_any (same x) xs ≡ true → AllByRecursion (λ (y : X). lt y x ≡ false) xs → Some x ≡ least lt xs
+  least-is x xs found under =
+      (elim (least lt xs) as (λ (o : Option X). least lt xs ≡ o → Some x ≡ o) [
+        | None ↦ λ none. absurd (both_ways (list_any (same x) xs) (ap (list_any (same x)) (least-none lt xs none)) found)
+        | Some y ↦ λ is.
+            let not_above : lt y x ≡ false = least-of (λ (z : X). lt z x ≡ false) lt xs y under is in
+            let not_below : lt x y ≡ false = of-any (λ (z : X). lt z y ≡ false) x xs (least-below xs y is) found in
+            ap {B = Option X} Some (alike x y not_below not_above)
+      ]) refl
+    where
+      alike : (x y : X) → lt x y ≡ false → lt y x ≡ false → x ≡ y
+      alike x y not_below not_above =
+          (elim (same x y) as (λ b. same x y ≡ b → x ≡ y) [
+            | true ↦ λ here. equality.equal x y here
+            | false ↦ λ other. absurd (both_ways (lt y x) not_above (order.rest x y not_below other))
+          ]) refl
 
 -- the keys of entries among which no key stands twice are apart
 absent-key : {K V : Type 0} (same : K → K → Bool) (passes : V → Bool) (k : K) (entries : List (K × V)) → value_at same k entries ≡ None → list_any (same k) (keys_where passes entries) ≡ false

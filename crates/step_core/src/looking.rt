@@ -1,18 +1,19 @@
 //! What is asked without changing anything.
-ghost use Rattle.std.specs.Prelude.{◌≡◌, ◌<◌, ◌≤◌, ◌&&◌, None, Some, is_some, length, pred, true, if◌then◌else◌};
+ghost use Rattle.std.specs.Prelude.{◌≡◌, ◌<◌, None, Some, IfSome, length, pred, if◌then◌else◌};
 ghost use Rattle.std.specs.List.{AllByRecursion};
-ghost use Rattle.std.specs.Option.{option_copied};
+ghost use Rattle.std.specs.Option.{option_copied, option_map};
 ghost use Rattle.stream_ident.specs.Name.{grain_lt};
 ghost use Rattle.stream_ident.specs.SubName.{sub_lt};
-ghost use Rattle.stream_ident.specs.Words.{keys_where, least, lesser, past};
+ghost use Rattle.stream_ident.specs.Words.{keys_where, least, past};
 ghost use Rattle.stream_model.specs.Draining.{all_waiting, least_waiting};
 ghost use Rattle.stream_model.specs.Looks.{due, is_running, pending_in, quiet, ready};
-ghost use Rattle.cache_cursor.specs.Cursor.{next_in};
 ghost use Rattle.consumer_grain.specs.Subscriptions.{is_unacknowledged};
 ghost use Rattle.partition_queue.specs.Queue.{token_at};
+ghost use Rattle.subscription_table.specs.Table.{name_at};
 ghost use Rattle.step_core.specs.Assembly.{Agrees};
 ghost use Rattle.step_core.specs.Deliverables.{is_deliverable};
 ghost use Rattle.step_core.specs.PlainOf.{plain_of};
+ghost use Rattle.step_core.specs.Records.{record_of};
 ghost use Rattle.step_core.specs.Replied.{reply_of};
 ghost use Rattle.step_core.specs.Serving.{next_due};
 
@@ -21,9 +22,6 @@ use crate::parts::Parts;
 use cache_cursor::next;
 use consumer_grain::SubState;
 use partition_queue::PartitionQueue;
-use pubsub_registry::Registration;
-use queue_cache::QueueCache;
-use queue_mapper::tag;
 use stream_ident::{GrainId, SubName, Token};
 use stream_model::Pending;
 
@@ -55,21 +53,31 @@ pub(crate) fn due(parts: &Parts, after: Option<SubName>) -> Told
     }
 }
 
+/// The number of the due subscription with the least name that is greater than the given one. It costs the logarithm of
+/// how many subscriptions there are.
+fn next_due_number(parts: &Parts, after: Option<&SubName>) -> Option<usize>
+    requires { Agrees parts.now }
+    ensures number { option_map (name_at parts.now.subs) result ≡ next_due (plain_of parts.now) (option_copied after.entry) }
+    ensures within { IfSome result (λ number. number < length parts.now.subs.registry.names) }
+{
+    let high = parts.agent.cache().high();
+    let number = parts.subs.due_after(after, high)?;
+    // Past the greatest name the table begins again at the least.
+    let is_past = match after {
+        Some(last) => last.is_before(parts.subs.name(number)),
+        None => true,
+    };
+    is_past.then_some(number)
+}
+
 /// The least name of a due subscription that is greater than the given one. It costs the logarithm of how many
 /// subscriptions there are.
 pub(crate) fn next_due(parts: &Parts, after: Option<&SubName>) -> Option<SubName>
     requires { Agrees parts.now }
     ensures { result ≡ next_due (plain_of parts.now) (option_copied after.entry) }
 {
-    let high = parts.agent.cache().high();
-    let number = parts.subs.due_after(after, high)?;
-    let name = parts.subs.name(number);
-    // Past the greatest name the table begins again at the least.
-    let is_past = match after {
-        Some(last) => last.is_before(name),
-        None => true,
-    };
-    is_past.then_some(*name)
+    let number = next_due_number(parts, after)?;
+    Some(*parts.subs.name(number))
 }
 
 /// The token of the last event that a subscription has handled, where that isn't acknowledged.
@@ -143,43 +151,42 @@ pub(crate) fn all_waiting(parts: &Parts) -> u128
     count
 }
 
-/// The least name of an open subscription that has a next event in the cache. It looks at each
-/// subscription once.
+/// The least name of an open subscription that has a next event in the cache. It looks at those that are due, up to the
+/// first that has one: only what is due can have one.
 fn least_deliverable(parts: &Parts) -> Option<SubName>
     requires { Agrees parts.now }
     ensures { result ≡ least sub_lt (keys_where (is_deliverable (plain_of parts.now)) (plain_of parts.now).subs) }
 {
-    let cache = parts.agent.cache();
-    let mut least = None;
-    for number in (0..parts.subs.len()).rev() {
-        let registration = parts.subs.registration(number);
-        if has_next(cache, registration, parts.subs.state(number)) {
-            least = Some(lesser_name(parts.subs.name(number), &least));
+    let mut last = None;
+    while let Some(number) = next_due_number(parts, last.as_ref()) {
+        let name = *parts.subs.name(number);
+        if has_next(parts, number) {
+            return Some(name);
         }
+        last = Some(name);
     }
-    least
+    None
 }
 
-/// Whether a subscription is open and has a next event in the cache.
-fn has_next(cache: &QueueCache, registration: &Registration, state: &SubState) -> bool
-    requires { state.now.is_open ≡ true → cache.now.low ≤ state.now.cursor }
-    ensures { result ≡ (state.now.is_open && is_some (next_in cache.now state.now.cursor registration.now.stream registration.now.start)) }
+/// Whether the subscription with a number is open and has a next event in the cache.
+fn has_next(parts: &Parts, number: usize) -> bool
+    requires agrees { Agrees parts.now }
+    requires within { number < length parts.now.subs.registry.names }
+    ensures { result ≡ is_deliverable (plain_of parts.now) (record_of parts.now number) }
 {
-    // The tag costs a digest, which a cursor at the end of the cache has no need of.
-    if !state.is_open() || cache.high() <= state.cursor() {
+    let state = parts.subs.state(number);
+    if !state.is_open() {
         return false;
     }
-    let stream = &registration.stream;
-    let tag = tag(stream);
-    next(cache, state.cursor(), stream, tag, &registration.start).is_some()
-}
-
-/// The lesser of two names, where there are two.
-fn lesser_name(name: &SubName, other: &Option<SubName>) -> SubName
-    ensures { result ≡ lesser sub_lt name.now other.now }
-{
-    match other {
-        Some(other) if other.is_before(name) => *other,
-        _ => *name,
-    }
+    let cache = parts.agent.cache();
+    let registration = parts.subs.registration(number);
+    let tag = parts.subs.tag(number);
+    next(
+        cache,
+        state.cursor(),
+        &registration.stream,
+        tag,
+        &registration.start,
+    )
+    .is_some()
 }

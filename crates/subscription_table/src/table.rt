@@ -2,6 +2,7 @@
 //! resumes keeps.
 ghost use Rattle.std.specs.Prelude.{◌≡◌, ◌<◌, ◌≤◌, ◌↔◌, ◌+◌, ◌^◌, ◌++◌, None, Some, length, IfNone, IfSome, IsTrue, OnErr, All, drop, get_or, is_ok, map, set, if◌then◌else◌};
 ghost use Rattle.std.specs.Option.{option_copied};
+ghost use Rattle.queue_mapper.specs.Place.{tag_of};
 ghost use Rattle.pubsub_registry.specs.Index.{AreUnique};
 ghost use Rattle.pubsub_registry.specs.Registry.{is_full};
 ghost use Rattle.consumer_grain.specs.Subscriptions.{is_unacknowledged};
@@ -114,6 +115,14 @@ impl SubscriptionTable {
         ensures { result.now ≡ registration_at self.now number }
     {
         self.registry.at(number).1
+    }
+
+    /// The tag of the stream of the subscription with a number.
+    pub fn tag(&self, number: usize) -> u8
+        requires { number < length self.now.registry.names }
+        ensures { result ≡ tag_of (registration_at self.now number).stream }
+    {
+        self.tags[number]
     }
 
     /// How far the subscription with a number is.

@@ -1,7 +1,5 @@
-use Rattle.std.proofs.Common.{◌≡◌, ◌∙◌, Some, None, ap, sym, subst}
+use Rattle.std.proofs.Common.{◌≡◌, ◌∙◌, Some, None, ap, sym}
 use Rattle.std.proofs.lemmas.Result.{err_from_is_err_and}
-use Rattle.stream_model.specs.Draining.{open_names, serve_each}
-use Rattle.step_core.specs.DrainPhases.{Ends, halted}
 use Rattle.step_core.specs.Serving.{next_due}
 use Rattle.step_core.proofs.DueNames.{fewer-left, goes-on, goes-on-done, goes-on-first, goes-on-halted}
 use Rattle.step_core.proofs.draining.serve_each.Goals as goal

@@ -1,6 +1,13 @@
-use Rattle.std.proofs.Common.{◌≡◌}
-use Rattle.step_core.proofs.PendingOps.{least_from}
+use Rattle.std.proofs.Common.{length}
+use Rattle.stream_ident.specs.SubName.{sub_lt}
+use Rattle.stream_ident.specs.Words.{above}
+use Rattle.stream_model.specs.Draining.{open_names}
+use Rattle.step_core.specs.PlainOf.{plain_of}
+use Rattle.step_core.proofs.DueNames.{ArePast}
 use Rattle.step_core.proofs.looking.least_deliverable.Given as goal
 
 abbrev pub invariant-loop-number : goal.invariant-loop-number
-invariant-loop-number l = l.least ≡ least_from l.parts l.number
+invariant-loop-number l = ArePast (plain_of l.parts) l.last
+
+abbrev pub decreases-loop-number : goal.decreases-loop-number
+decreases-loop-number l = length (above sub_lt l.last (open_names (plain_of l.parts)))

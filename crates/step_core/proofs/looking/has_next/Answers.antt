@@ -1,0 +1,24 @@
+use Rattle.std.proofs.Common.{◌∙◌, sym, ap, refl}
+use Rattle.std.specs.Prelude.{is_some}
+use Rattle.consumer_grain.specs.Subscriptions.{PlainState}
+use Rattle.step_core.proofs.PendingOps.{next-told, open-cursor}
+use Rattle.step_core.proofs.Shared.{distinct-of-unique}
+use Rattle.step_core.proofs.looking.has_next.Goals as goal
+
+pub next-requires-clause-low : goal.next-requires-clause-low
+next-requires-clause-low c =
+    let parts = c.args.parts.now in
+    let i = c.args.number in
+    let is_open = sym c.is_open.ensures ∙ c.if-not-is_open.false in
+    let cursor = open-cursor parts i c.requires.agrees.reached (distinct-of-unique parts.subs.registry.names c.requires.agrees.unique) (sym c.requires.agrees.records.long) c.requires.within (ap (λ (state : PlainState). state.is_open) (sym c.state-state.ensures) ∙ is_open) in
+    rw (c.cache-cache.ensures, c.cursor.ensures, c.state-state.ensures) cursor
+
+pub returns : goal.returns
+returns c =
+    let parts = c.args.parts.now in
+    let i = c.args.number in
+    let is_open = sym c.is_open.ensures ∙ c.if-not-is_open.false in
+    let opened = ap (λ (state : PlainState). state.is_open) (sym c.state-state.ensures) ∙ is_open in
+    let cursor = open-cursor parts i c.requires.agrees.reached (distinct-of-unique parts.subs.registry.names c.requires.agrees.unique) (sym c.requires.agrees.records.long) c.requires.within opened in
+    next-told parts i c.is_some.result c.cache-cache.result.now c.registration-registration.result.now c.state-state.result.now c.requires.agrees.assembled.cached (λ _. cursor) c.cache-cache.ensures c.registration-registration.ensures c.state-state.ensures
+    (c.is_some.ensures ∙ ap is_some c.next.ensures.next ∙ rw (is_open, c.cursor.ensures) refl)
