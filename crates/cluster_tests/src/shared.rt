@@ -13,7 +13,7 @@ use std::test::Fail;
 use std::thread;
 use std::thread::{Threads, join};
 use step_core::{Limits, Op, Partition, Reply};
-use stream_ident::{Event, SubName, Token};
+use stream_ident::{Event, GrainId, SubName, Token};
 use turnstile::{Entry, PassOf, PlainHistory, Turnstile};
 
 const QUEUE: usize = 5;
@@ -33,11 +33,11 @@ impl Gate for Entered {
         }
     }
 
-    fn handle(&self, _sub: &SubName, _event: &Event, note: u64) -> u64 {
+    fn handle(&self, _grain: &GrainId, _sub: &SubName, _event: &Event, note: u64) -> u64 {
         note
     }
 
-    fn done(&self, _sub: &SubName, _token: Token) {}
+    fn done(&self, _grain: &GrainId, _sub: &SubName, _token: Token) {}
 }
 
 type Shared = SharedPartition<Entered, PlainHistory<Op, Reply>>;

@@ -5,7 +5,7 @@ use std::rt::Clock;
 use std::sync::atomic::{AtomicBool, AtomicU64, Ordering};
 use std::thread;
 use std::time::Duration;
-use streams::{Event, Gate, Name, SubName};
+use streams::{Event, Gate, GrainId, Name, SubName};
 
 // How often the archive looks at most whether it may go on, once in a millisecond.
 const MOST_LOOKS: u32 = 60_000;
@@ -45,10 +45,10 @@ impl<C: Clock + Copy> Monitors<C> {
             .map_or(0, |highest| highest.load(Ordering::SeqCst))
     }
 
-    // A monitor notes the reading of its device. It may see a reading twice, so it keeps the highest, and counts
-    // nothing.
-    fn note(&self, event: &Event) {
-        let Some(device) = number_of(&event.stream.key) else {
+    // A monitor notes the reading of its device, whose name is the key of the monitor. It may see a reading twice, so it
+    // keeps the highest, and counts nothing.
+    fn note(&self, monitor: &GrainId, event: &Event) {
+        let Some(device) = number_of(&monitor.key) else {
             return;
         };
         let Some(tenths) = reading_of(event) else {
@@ -72,9 +72,9 @@ impl<C: Clock + Copy> Monitors<C> {
 
 impl<C: Clock + Copy + Send + Sync> Gate for Monitors<C> {
     /// The note counts the readings of a subscription.
-    fn handle(&self, sub: &SubName, event: &Event, note: u64) -> u64 {
+    fn handle(&self, grain: &GrainId, sub: &SubName, event: &Event, note: u64) -> u64 {
         match sub {
-            SubName::Implicit { .. } => self.note(event),
+            SubName::Implicit { .. } => self.note(grain, event),
             SubName::Explicit(_) => self.store(),
         }
         note.saturating_add(1)

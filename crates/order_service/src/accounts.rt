@@ -2,7 +2,7 @@
 use anyhow::Result;
 use std::alloc::Global;
 use std::sync::atomic::{AtomicU64, Ordering};
-use streams::{Event, Gate, Name, SubName};
+use streams::{Event, Gate, GrainId, Name, SubName};
 
 /// What a customer has to pay.
 #[derive(Drop)]
@@ -44,7 +44,7 @@ impl Accounts {
         &self.accounts
     }
 
-    // Notes that the orders of a customer come to this sum.
+    // Notes that the orders that a customer's desk has handled come to this sum.
     fn note(&self, customer: &Name, cents: u64) {
         for account in &self.accounts {
             if account.customer == *customer {
@@ -56,14 +56,17 @@ impl Accounts {
 
 impl Gate for Accounts {
     /// The note of a subscription is the sum of the orders that it has handled. It is stored with each turn, so that
-    /// each order is in it once, whatever happens to silos.
+    /// each order is in it once, whatever happens to silos. Where the grain is a desk, its key is the customer, whose
+    /// account gets the sum; an auditor changes no account.
     ///
-    /// The account is not: where a silo goes between this call and the end of the turn, the order comes here a second
+    /// The account is not stored with the turn: where a silo goes between this call and the end of the turn, the order comes here a second
     /// time, with the same note as before. So what is done here may be done twice without harm: an account takes the
     /// greatest sum that it is told.
-    fn handle(&self, _sub: &SubName, event: &Event, note: u64) -> u64 {
+    fn handle(&self, grain: &GrainId, _sub: &SubName, event: &Event, note: u64) -> u64 {
         let sum = note.saturating_add(price(event.payload.as_bytes()).unwrap_or(0));
-        self.note(&event.stream.key, sum);
+        if grain.kind.as_bytes() == b"desk" {
+            self.note(&grain.key, sum);
+        }
         sum
     }
 }

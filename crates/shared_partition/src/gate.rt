@@ -1,7 +1,7 @@
 //! What a program adds to the calls of a partition.
 ghost use Rattle.std.specs.Prelude.{◌≡◌, ◌+◌, ◌-◌, ◌^◌, min};
 
-use stream_ident::{Event, SubName, Token};
+use stream_ident::{Event, GrainId, SubName, Token};
 
 /// What a program does beside the operations of its partitions.
 ///
@@ -13,14 +13,15 @@ pub trait Gate: Send + Sync + Drop {
     /// other calls of that partition wait until it returns.
     fn inside(&self, _queue: usize) {}
 
-    /// Handles an event, and gives the note that follows. It is to run while no turn is held.
+    /// Handles an event for a grain, and gives the note that follows. It is to run while no turn is held.
     ///
+    /// The grain is the one whose turn runs. So this is a method of that grain, and all grains share the gate.
     /// The number of an explicit subscription is unique in its queue, which is that of the event's stream. The note is
     /// the subscription's own: 0 at first, and then what the handler gave for the event before, as it was committed.
-    fn handle(&self, sub: &SubName, event: &Event, note: u64) -> u64;
+    fn handle(&self, grain: &GrainId, sub: &SubName, event: &Event, note: u64) -> u64;
 
-    /// Is to be called once after each commit, with the token of the last event of its turn.
-    fn done(&self, _sub: &SubName, _token: Token) {}
+    /// Is to be called once after each commit, with the grain whose turn it was, and the token of the turn's last event.
+    fn done(&self, _grain: &GrainId, _sub: &SubName, _token: Token) {}
 }
 
 /// A gate that counts the events of each subscription in its notes, and does nothing else.
@@ -31,11 +32,11 @@ impl Gate for Counting {
     fn inside(&self, _queue: usize) {}
 
     /// The next number, and at the greatest one the number itself.
-    fn handle(&self, _sub: &SubName, _event: &Event, note: u64) -> u64
+    fn handle(&self, _grain: &GrainId, _sub: &SubName, _event: &Event, note: u64) -> u64
         ensures { result ≡ min (note + 1) (2 ^ 64 - 1) }
     {
         note.saturating_add(1)
     }
 
-    fn done(&self, _sub: &SubName, _token: Token) {}
+    fn done(&self, _grain: &GrainId, _sub: &SubName, _token: Token) {}
 }

@@ -1,7 +1,7 @@
 //! A gate that records what it is told.
 use shared_partition::Gate;
 use std::sync::atomic::{AtomicU64, Ordering};
-use stream_ident::{Event, SubName, Token};
+use stream_ident::{Event, GrainId, SubName, Token};
 
 /// What the gate was told of one subscription: the batch after that of the last event, the note that it gave
 /// for it, and how many events it has handled since it was last told of a commit.
@@ -44,9 +44,10 @@ fn note_after(token: Token, note: u64) -> u64 {
 }
 
 /// Counts the calls of partitions, the events that were handled and the commits that were told of, and how
-/// often the handler was called out of order or with another note, or `done` without a turn.
+/// often the handler was called out of order, with another note or for another grain, or `done` without a turn.
 ///
-/// Each batch has to be one event, and each stream to have a queue of its own.
+/// Each batch has to be one event, each stream to have a queue of its own, and the grain of each subscription the key of
+/// its stream.
 #[derive(Drop)]
 pub struct Recorder {
     calls: AtomicU64,
@@ -101,17 +102,17 @@ impl Gate for Recorder {
         self.calls.fetch_add(1, Ordering::SeqCst);
     }
 
-    fn handle(&self, sub: &SubName, event: &Event, note: u64) -> u64 {
+    fn handle(&self, grain: &GrainId, sub: &SubName, event: &Event, note: u64) -> u64 {
         self.handled.fetch_add(1, Ordering::SeqCst);
         let in_order = match self.told(sub) {
-            Some(told) => told.handle(event.token, note),
+            Some(told) => grain.key == event.stream.key && told.handle(event.token, note),
             None => false,
         };
         self.note(in_order);
         note_after(event.token, note)
     }
 
-    fn done(&self, sub: &SubName, token: Token) {
+    fn done(&self, _grain: &GrainId, sub: &SubName, token: Token) {
         self.done.fetch_add(1, Ordering::SeqCst);
         let in_order = match self.told(sub) {
             Some(told) => told.done(token),

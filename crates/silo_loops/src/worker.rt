@@ -41,7 +41,7 @@ impl TurnRoom {
 }
 
 /// The loop of a turn worker, with its passes. A round is for each queue, and there for each ready grain:
-/// Ready, Enter, Begin, the gate's handler for each event, Commit, the gate's `done`, Leave. A grain whose
+/// Ready, Enter, Begin, the gate's handler for the grain and each event, Commit, the gate's `done`, Leave. A grain whose
 /// permit another has, or that is placed on another silo, is passed over.
 ///
 /// A contract sees its silo, its lines, its pass at the directory, what it has in hand, how many more rounds it may

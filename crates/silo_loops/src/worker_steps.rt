@@ -193,7 +193,7 @@ pub(crate) fn leave<D: StoredHistory<DirectoryOp, DirectoryReply>, R: Wait>(
     end_of_asking(&answer)
 }
 
-// Has the gate handle the next event of the turn, with the note that the one before left.
+// Has the gate handle the next event of the grain's turn, with the note that the one before left.
 pub(crate) fn handle<G: Gate>(
     gate: &G,
     walk: &mut Walk,
@@ -207,7 +207,7 @@ pub(crate) fn handle<G: Gate>(
     ensures at { (lines : List LineView) (d : DirectoryPass) → IsAt walk.old lines d → IsAt walk.new lines d }
     ensures works { (silo : ℕ) (lines : List LineView) (d : DirectoryPass) (rounds counted : ℕ) → IsAt walk.old lines d → WorkerWorks (worker_at silo lines d walk.old events.now.items rounds None) (worker_at silo lines d walk.new events.now.items counted None) }
 {
-    let note = gate.handle(&turn.sub, &events[turn.next], turn.note);
+    let note = gate.handle(grain, &turn.sub, &events[turn.next], turn.note);
     let next = turn.next + 1;
     walk.step = Step::Handle {
         grain: *grain,
@@ -233,7 +233,7 @@ pub(crate) fn tell<G: Gate>(
     ensures at { (lines : List LineView) (d : DirectoryPass) → IsAt walk.old lines d → IsAt walk.new lines d }
     ensures works { (silo : ℕ) (lines : List LineView) (d : DirectoryPass) (events : List Event) (rounds counted : ℕ) → IsAt walk.old lines d → WorkerWorks (worker_at silo lines d walk.old events rounds None) (worker_at silo lines d walk.new events counted None) }
 {
-    gate.done(sub, token);
+    gate.done(grain, sub, token);
     walk.step = Step::Leave {
         grain: *grain,
         permit,

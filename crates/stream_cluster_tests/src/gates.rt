@@ -2,7 +2,7 @@
 use crossbeam_utils::Backoff;
 use shared_partition::Gate;
 use std::sync::atomic::{AtomicBool, Ordering};
-use stream_ident::{Event, SubName, Token};
+use stream_ident::{Event, GrainId, SubName, Token};
 
 // Looks so often at most.
 const LOOKS: u32 = 10_000_000;
@@ -45,14 +45,14 @@ impl Crossing {
 impl Gate for Crossing {
     fn inside(&self, _queue: usize) {}
 
-    fn handle(&self, _sub: &SubName, _event: &Event, note: u64) -> u64 {
+    fn handle(&self, _grain: &GrainId, _sub: &SubName, _event: &Event, note: u64) -> u64 {
         if !self.came.swap(true, Ordering::SeqCst) && wait_for(&self.done) {
             self.saw.store(true, Ordering::SeqCst);
         }
         note.saturating_add(1)
     }
 
-    fn done(&self, _sub: &SubName, _token: Token) {
+    fn done(&self, _grain: &GrainId, _sub: &SubName, _token: Token) {
         self.done.store(true, Ordering::SeqCst);
     }
 }
@@ -108,9 +108,9 @@ impl Gate for Elsewhere {
         }
     }
 
-    fn handle(&self, _sub: &SubName, _event: &Event, note: u64) -> u64 {
+    fn handle(&self, _grain: &GrainId, _sub: &SubName, _event: &Event, note: u64) -> u64 {
         note.saturating_add(1)
     }
 
-    fn done(&self, _sub: &SubName, _token: Token) {}
+    fn done(&self, _grain: &GrainId, _sub: &SubName, _token: Token) {}
 }

@@ -4,7 +4,7 @@ use std::rt::Clock;
 use std::sync::atomic::{AtomicU64, Ordering};
 use std::thread;
 use std::time::Duration;
-use streams::{Event, Gate, SubName};
+use streams::{Event, Gate, GrainId, SubName};
 
 /// How many milliseconds a thread sleeps between two looks at a count.
 const NAP: u64 = 1;
@@ -33,7 +33,7 @@ impl Tally {
 }
 
 impl Gate for Tally {
-    fn handle(&self, _sub: &SubName, _event: &Event, note: u64) -> u64 {
+    fn handle(&self, _grain: &GrainId, _sub: &SubName, _event: &Event, note: u64) -> u64 {
         self.handled.fetch_add(1, Ordering::SeqCst);
         note.saturating_add(1)
     }
