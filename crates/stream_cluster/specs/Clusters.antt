@@ -1,8 +1,9 @@
 -- What contracts see of a cluster, and what its calls say.
-use Rattle.std.specs.Prelude.{◌≡◌, ℕ, ◌≤◌, ◌<◌, Bool, true, false, ◌||◌, List, [], ◌∷◌, ◌++◌, length, map, remove, replicate, slice_get, Contains, Some, Result, Ok, Err, IsErr}
+use Rattle.std.specs.Prelude.{◌≡◌, ℕ, ◌-◌, ◌^◌, ◌≤◌, ◌<◌, Bool, true, false, ◌||◌, List, [], ◌∷◌, ◌++◌, length, map, remove, replicate, slice_get, Contains, Some, Result, Ok, Err, IsErr}
 use Rattle.std.specs.List.{AllByRecursion, range_with_len}
 use Rattle.std.specs.declared.alloc.AllocError.{AllocError}
 use Rattle.stream_model.specs.Bounds.{AreLimits}
+use Rattle.stream_model.specs.declared.limits.Limits.{Limits}
 use Rattle.stream_model.specs.declared.op.Op.{Op}
 use Rattle.stream_model.specs.declared.reply.Reply.{Reply}
 use Rattle.stream_model.specs.Positions.{empty}
@@ -39,6 +40,23 @@ pub record IsConfig (config : Config) : Type 0 where
   pub limits : AreLimits config.limits
   pub rises : 1 ≤ config.limits.rises
   pub history : 1 ≤ config.history
+
+-- the greatest limits that a partition may have
+abbrev pub greatest_limits : Limits
+greatest_limits = record { events = 1000000; subs = 10000; rules = 64; rises = 4000000 }
+
+-- the configuration of a service that stays up
+abbrev pub standing_config : ℕ → ℕ → Config
+standing_config queues silos =
+    record {
+      queues = queues;
+      blocks = 4;
+      silos = silos;
+      limits = greatest_limits;
+      history = 2 ^ 64 - 1;
+      rounds = 2 ^ 64 - 1;
+      looks = 100000;
+    }
 
 -- how the turnstile of each queue begins
 abbrev pub opening : Config → Start PlainPartition
@@ -205,10 +223,11 @@ pub record IsOpened (config : Config) (o : OperatorView) (caller : List QueuePas
   pub each : length caller ≡ config.queues
   pub unused : AllByRecursion IsUnused caller
 
--- a new cluster and its caller: so it was opened, and the loops of the silos run
+-- A new cluster and its caller: so it was opened, and the loops of the silos run. Where they began they had done nothing.
 pub record IsNew (config : Config) (c : ClusterView) (caller : List QueuePass) : Type 0 where
   pub opened : IsOpened config c.operator caller
   pub loops : RunLoops c
+  pub fresh : AreFresh config.rounds c.silos
   pub goes_on : is_fixed c ≡ false
   pub none : c.ends ≡ none_ended
   pub rounds : c.rounds ≡ config.rounds

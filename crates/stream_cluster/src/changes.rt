@@ -111,7 +111,7 @@ pub(crate) fn start_all<
     rounds: u64,
 ) -> Result<Vec<RunningSilo<G, H, D>>, AllocError>
     ensures only { HasOnlyGoneOn operator.old operator.new }
-    ensures started { IfOk result (λ running. AreStarted silos running.items × RunsOn operator.new running.items) }
+    ensures started { IfOk result (λ running. AreStarted silos running.items × AreFresh rounds running.items × RunsOn operator.new running.items) }
 {
     let mut running = Vec::with_capacity(alloc, usize::from(silos))?;
     for silo in 0..silos {

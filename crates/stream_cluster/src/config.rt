@@ -1,6 +1,6 @@
 //! What a cluster is made of.
 ghost use Rattle.std.specs.Prelude.{◌≡◌, ◌≤◌};
-ghost use Rattle.stream_cluster.specs.Clusters.{IsConfig};
+ghost use Rattle.stream_cluster.specs.Clusters.{IsConfig, standing_config};
 
 use stream_model::Limits;
 
@@ -32,8 +32,7 @@ impl Config {
         requires queues { (1 ≤ queues) × (queues ≤ 64) }
         requires silos { (1 ≤ silos) × (silos ≤ 16) }
         ensures config { IsConfig result }
-        ensures queues { result.queues ≡ queues }
-        ensures silos { result.silos ≡ silos }
+        ensures whole { result ≡ standing_config queues silos }
     {
         Config {
             queues,

@@ -2,8 +2,8 @@ use Rattle.std.proofs.Common.{List, ap, length, map, subst, sym, ◌+◌, ◌∙
 use Rattle.std.proofs.lemmas.List.{length_push}
 use Rattle.silo_crew.specs.Silos.{SiloView}
 use Rattle.cluster_operator.proofs.Spreading.{only-refl}
-use Rattle.stream_cluster.specs.Clusters.{AreStarted, RunsOn}
-use Rattle.stream_cluster.proofs.Standing.{only-trans, sits-on, started-more}
+use Rattle.stream_cluster.specs.Clusters.{AreFresh, AreStarted, RunsOn}
+use Rattle.stream_cluster.proofs.Standing.{made-more, only-trans, sits-on}
 use Rattle.stream_cluster.proofs.changes.start_all.Goals as goal
 
 pub returns-in_err-running-clause-only : goal.returns-in_err-running-clause-only
@@ -16,6 +16,7 @@ loop-silo-init g c =
       only = only-refl c.args.operator.now;
       many = ap (λ (ss : List SiloView). length ss) none;
       started = ap (λ (ss : List SiloView). map (λ (s : SiloView). s.silo) ss) none;
+      fresh = subst (λ (ss : List SiloView). AreFresh c.args.rounds ss) (sym none) tt;
       runs = subst (λ (ss : List SiloView). RunsOn c.args.operator.now ss) (sym none) tt;
       room = c.in_ok-running.ensures.exact ∙ c.from.ensures;
     }
@@ -30,11 +31,12 @@ returns-in-Err-clause-only g c =
 pub loop-silo-preserved : goal.loop-silo-preserved
 loop-silo-preserved g c =
     let started = c.in-Ok.ensures.started in
-    let more = started-more c.loop-silo.operator c.start_silo.new.operator c.loop-silo.running.items c.in-Ok.started c.loop-silo.silo c.start_silo.ensures.only c.loop-silo.invariant.started c.loop-silo.invariant.runs started.0.0 started.1 in
+    let more = made-more c.args.rounds c.loop-silo.operator c.start_silo.new.operator c.loop-silo.running.items c.in-Ok.started c.loop-silo.silo c.start_silo.ensures.only c.loop-silo.invariant.started c.loop-silo.invariant.fresh c.loop-silo.invariant.runs started.0 started.1 in
     record {
       only = only-trans c.args.operator.now c.loop-silo.operator c.start_silo.new.operator c.loop-silo.invariant.only c.start_silo.ensures.only;
       many = ap (λ (ss : List SiloView). length ss) c.push_reserved.ensures.items ∙ length_push c.loop-silo.running.items c.in-Ok.started ∙ ap (λ n. n + 1) c.loop-silo.invariant.many;
       started = subst (λ (ss : List SiloView). AreStarted (c.loop-silo.silo + 1) ss) (sym c.push_reserved.ensures.items) more.0;
-      runs = subst (λ (ss : List SiloView). RunsOn c.start_silo.new.operator ss) (sym c.push_reserved.ensures.items) more.1;
+      fresh = subst (λ (ss : List SiloView). AreFresh c.args.rounds ss) (sym c.push_reserved.ensures.items) more.1;
+      runs = subst (λ (ss : List SiloView). RunsOn c.start_silo.new.operator ss) (sym c.push_reserved.ensures.items) more.2;
       room = c.push_reserved.ensures.capacity ∙ c.loop-silo.invariant.room;
     }

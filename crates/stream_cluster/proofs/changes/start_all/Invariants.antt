@@ -1,6 +1,6 @@
 use Rattle.std.proofs.Common.{◌≡◌, length, vec_capacity}
 use Rattle.cluster_operator.specs.Operators.{HasOnlyGoneOn}
-use Rattle.stream_cluster.specs.Clusters.{AreStarted, RunsOn}
+use Rattle.stream_cluster.specs.Clusters.{AreFresh, AreStarted, RunsOn}
 use Rattle.stream_cluster.proofs.changes.start_all.Given as goal
 
 abbrev pub invariant-loop-silo : goal.invariant-loop-silo
@@ -9,6 +9,7 @@ invariant-loop-silo g l =
       only : HasOnlyGoneOn l.fn.operator l.operator;
       many : length l.running.items ≡ l.silo;
       started : AreStarted l.silo l.running.items;
+      fresh : AreFresh l.fn.rounds l.running.items;
       runs : RunsOn l.operator l.running.items;
       room : vec_capacity l.running ≡ l.fn.silos;
     }

@@ -5,4 +5,5 @@ use Rattle.stream_cluster.proofs.cluster.Cluster.new.Goals as goal
 pub returns : goal.returns
 returns g c =
     let opened = opened-on c.args.config.now c.in_ok-operator.operator c.start_all.new.operator c.in_ok-operator.caller c.start_all.ensures.only c.in_ok-operator.ensures in
-    record { opened = opened; loops = c.in_ok-silos.ensures.started.0 ∙ sym opened.live; goes_on = refl; none = ends-none c.default.result c.default.ensures.0 c.default.ensures.1.0 c.default.ensures.1.1; rounds = refl; looks = refl }
+    let started = c.in_ok-silos.ensures.started in
+    record { opened = opened; loops = started.0 ∙ sym opened.live; fresh = started.1; goes_on = refl; none = ends-none c.default.result c.default.ensures.0 c.default.ensures.1.0 c.default.ensures.1.1; rounds = refl; looks = refl }
