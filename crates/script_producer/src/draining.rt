@@ -31,8 +31,9 @@ pub enum Drained {
     Limit,
 }
 
-/// Looks at the queues until all are quiet, so often at most, and waits at the doorbell between two looks. The longer it lasts, the more
-/// it leaves the silos to do before it looks again, so that it doesn't give up while they work off what was published.
+/// Looks at the queues until all are quiet, so often at most, and waits at the doorbell between two looks. The longer
+/// it lasts, the more it leaves the silos to do before it looks again, so that it doesn't give up while they work off
+/// what was published.
 ///
 /// # Errors
 /// A call failed to allocate.
