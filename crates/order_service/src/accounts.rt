@@ -63,8 +63,8 @@ impl Gate for Accounts {
     /// time, with the same note as before. So what is done here may be done twice without harm: an account takes the
     /// greatest sum that it is told.
     fn handle(&self, grain: &GrainId, _sub: &SubName, event: &Event, note: u64) -> u64 {
-        let sum = note.saturating_add(price(event.payload.as_bytes()).unwrap_or(0));
-        if grain.kind.as_bytes() == b"desk" {
+        let sum = note.saturating_add(price(event.payload.as_str()).unwrap_or(0));
+        if grain.kind.as_str() == "desk" {
             self.note(&grain.key, sum);
         }
         sum
@@ -72,7 +72,7 @@ impl Gate for Accounts {
 }
 
 /// The price of an order in cents: the number before its first space.
-pub fn price(order: &[u8]) -> Option<u64> {
-    let (cents, _what) = str::from_utf8(order).ok()?.split_once(' ')?;
+pub fn price(order: &str) -> Option<u64> {
+    let (cents, _what) = order.split_once(' ')?;
     cents.parse().ok()
 }

@@ -86,12 +86,12 @@ fn print_table<R: Host>(rt: &R, closed: &Closed) -> Result<()> {
 /// Prints what a subscription has handled.
 fn print_row<R: Host>(rt: &R, partition: &Partition, sub: &SubSummary) -> Result<()> {
     let alloc = rt.alloc();
-    let grain = format!(in alloc; "{:?}/{:?}", sub.grain.kind, sub.grain.key)?;
-    let from = format!(in alloc; "{}.{}", sub.start.seq, sub.start.idx)?;
+    let grain = format!(in alloc; "{}", sub.grain)?;
+    let from = format!(in alloc; "{}", sub.start)?;
     let orders = partition.handled(alloc, &sub.name)?;
     let prices = orders
         .iter()
-        .filter_map(|order| price(order.payload.as_bytes()));
+        .filter_map(|order| price(order.payload.as_str()));
     let cents = prices.fold(0u64, |sum, price| sum.saturating_add(price));
     let total = format!(in alloc; "{}.{:02}", cents / 100, cents % 100)?;
     let many = orders.len();
@@ -105,11 +105,7 @@ fn print_bills<R: Host>(rt: &R, accounts: &Accounts) -> Result<()> {
     for account in accounts.as_slice() {
         let customer = account.customer;
         let cents = account.cents();
-        println!(rt;
-            "{customer:?} has to pay {}.{:02}",
-            cents / 100,
-            cents % 100
-        )?;
+        println!(rt; "{customer} has to pay {}.{:02}", cents / 100, cents % 100)?;
     }
     Ok(())
 }

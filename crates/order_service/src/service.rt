@@ -60,16 +60,13 @@ impl<R: Host> OrderService<R> {
 
     /// A customer orders. An order is its price in cents, a space, and what it is.
     pub fn order(&mut self, customer: &str, orders: &[&str]) -> Result<()> {
-        if let Some(order) = orders
-            .iter()
-            .find(|order| price(order.as_bytes()).is_none())
-        {
+        if let Some(order) = orders.iter().find(|order| price(order).is_none()) {
             println!(self.rt; "refused: {customer} orders {order}, which has no price")?;
             return Ok(());
         }
         let orders = payloads_of(self.rt.alloc(), orders)?;
         match self.service.publish(orders_of(customer)?, &orders) {
-            Ok(batch) => println!(self.rt; "{customer} orders: batch {batch}")?,
+            Ok(first) => println!(self.rt; "{customer} orders: from {first}")?,
             Err(PublishError::BadBatch) => println!(self.rt; "refused: {customer} orders nothing")?,
             Err(error) => return Err(error.into()),
         }
@@ -81,8 +78,7 @@ impl<R: Host> OrderService<R> {
         match self.subscribe_auditor(customer, start)? {
             Ok(_) => println!(self.rt; "{customer} is audited")?,
             Err(SubscribeError::Miss { low, .. }) => {
-                let batch = low.seq;
-                println!(self.rt; "missed: {customer}'s orders before batch {batch} are gone")?;
+                println!(self.rt; "missed: {customer}'s orders before {low} are gone")?;
                 self.subscribe_auditor(customer, low)??;
             }
             Err(error) => return Err(error.into()),

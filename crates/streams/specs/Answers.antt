@@ -3,6 +3,7 @@ use Rattle.std.specs.Prelude.{ℕ, Bool, true, false, Option, Some, None, Result
 use Rattle.std.specs.declared.alloc.AllocError.{AllocError}
 use Rattle.stream_ident.specs.declared.ident.SubName.{SubName}
 use Rattle.stream_ident.specs.declared.ident.SubName.TheVariants.{Explicit}
+use Rattle.stream_ident.specs.declared.token.Token.{Token}
 use Rattle.stream_model.specs.declared.reply.Pending.{Pending}
 use Rattle.stream_model.specs.declared.reply.Reply.{Reply}
 use Rattle.stream_model.specs.declared.reply.Reply.TheVariants as reply
@@ -37,9 +38,9 @@ use Rattle.streams.specs.declared.answers.UnsubscribeError.TheVariants as unsubs
 abbrev pub name_of : Subscription → SubName
 name_of s = Explicit s.number
 
--- the number of a batch; the other reply to a publish says that the queue is full
-abbrev pub published : Result Reply Refusal → Result ℕ PublishError
-published (Ok (reply.Published seq)) = Ok seq
+-- the token of the first event of a batch; the other reply to a publish says that the queue is full
+abbrev pub published : Result Reply Refusal → Result Token PublishError
+published (Ok (reply.Published seq)) = Ok (record { seq = seq; idx = 0 })
 published (Ok reply.BadBatch) = Err publish.BadBatch
 published (Ok other) = Err publish.Limit
 published (Err HistoryFull) = Err publish.Limit

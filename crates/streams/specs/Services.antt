@@ -4,6 +4,7 @@ use Rattle.std.specs.List.{AllZip}
 use Rattle.std.specs.declared.alloc.AllocError.{AllocError}
 use Rattle.stream_ident.specs.declared.ident.GrainId.{GrainId}
 use Rattle.stream_ident.specs.declared.ident.StreamId.{StreamId}
+use Rattle.stream_ident.specs.declared.token.Token.{Token}
 use Rattle.stream_model.specs.declared.op.Op.{Op}
 use Rattle.stream_model.specs.declared.op.Op.TheVariants as op
 use Rattle.stream_model.specs.declared.op.Start.{Start}
@@ -70,7 +71,7 @@ pub record Reads {T : Type 0} (read : Result Reply Refusal → T) (s : ServiceVi
   pub is : result ≡ read answer
 
 -- A batch was published at its stream's queue, or was refused there. Or nothing was done: there was no memory for it.
-abbrev pub Publishes : ServiceView → StreamId → List (List ℕ) → Result ℕ PublishError → ServiceView → Type 0
+abbrev pub Publishes : ServiceView → StreamId → List (List ℕ) → Result Token PublishError → ServiceView → Type 0
 Publishes s stream payloads result t =
     Reads read.published s (queue_of s stream) (op.Publish stream payloads) result t ⊎ ((result ≡ Err publish.Memory) × (t ≡ s))
 

@@ -166,12 +166,12 @@ pub enum CloseError {
     Memory,
 }
 
-// The number of a batch, by the reply to its publish.
-pub(crate) fn published(reply: Result<Reply, Refusal>) -> Result<u64, PublishError>
+// The token of the first event of a batch, by the reply to its publish.
+pub(crate) fn published(reply: Result<Reply, Refusal>) -> Result<Token, PublishError>
     ensures { result ≡ read.published reply }
 {
     match reply {
-        Ok(Reply::Published { seq }) => Ok(seq),
+        Ok(Reply::Published { seq }) => Ok(Token { seq, idx: 0 }),
         Ok(Reply::BadBatch) => Err(PublishError::BadBatch),
         Ok(_) | Err(Refusal::HistoryFull) => Err(PublishError::Limit),
         Err(Refusal::Memory) => Err(PublishError::Memory),

@@ -18,7 +18,7 @@ use std::rt::Runtime;
 use std::sync::{Arc, Wait};
 use std::thread::Threads;
 use stream_cluster::Config;
-use stream_ident::{Batch, GrainId, Name, Payload, StreamId};
+use stream_ident::{Batch, GrainId, Name, Payload, StreamId, Token};
 use stream_model::{Op, Pending, Reply, Start};
 use turnstile::Refusal;
 
@@ -90,11 +90,12 @@ impl<R: Host, G: Gate + 'static> Service<R, G> {
         queue(stream, self.caller.queues())
     }
 
-    /// Publishes a batch of 1 to 64 payloads to a stream, and gives its number.
+    /// Publishes a batch of 1 to 64 payloads to a stream, and gives the token of its first event. A subscription to the
+    /// stream that starts at it begins with this batch, unless its first event has left the cache.
     ///
     /// # Errors
     /// They are those of [`PublishError`]. Nothing was published.
-    pub fn publish(&mut self, stream: StreamId, payloads: &[Payload]) -> Result<u64, PublishError>
+    pub fn publish(&mut self, stream: StreamId, payloads: &[Payload]) -> Result<Token, PublishError>
         ensures { Publishes self.old stream payloads.now result self.new }
     {
         let Ok(payloads) = Vec::from_slice(self.rt.alloc(), payloads) else {
@@ -169,6 +170,9 @@ impl<R: Host, G: Gate + 'static> Service<R, G> {
     }
 
     /// Waits until everything is pulled, delivered and handled at all queues.
+    ///
+    /// So each event that was published before has been handled, and its turn is committed. It doesn't wait for
+    /// [`Gate::done`], which a worker calls after the commit: for the last turns it may not have been called yet.
     ///
     /// # Errors
     /// They are those of [`SettleError`].
