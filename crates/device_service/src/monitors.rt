@@ -83,11 +83,10 @@ impl<C: Clock + Copy + Send + Sync> Gate for Monitors<C> {
 
 /// The number of the device with this name: 17 of `d0017`.
 pub fn number_of(device: &Name) -> Option<usize> {
-    let text = str::from_utf8(device.as_bytes()).ok()?;
-    text.strip_prefix('d')?.parse().ok()
+    device.as_str().strip_prefix('d')?.parse().ok()
 }
 
 /// The reading of an event, in tenths of a degree.
 pub fn reading_of(event: &Event) -> Option<u64> {
-    str::from_utf8(event.payload.as_bytes()).ok()?.parse().ok()
+    event.payload.as_str().parse().ok()
 }

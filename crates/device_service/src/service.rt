@@ -18,8 +18,8 @@ pub struct DeviceService<R: Host> {
 }
 
 impl<R: Host> DeviceService<R> {
-    /// A service on sixteen queues and four silos, whose readings these monitors handle. A rule makes a subscription of each device that sends a
-    /// reading: that of the monitor with its name.
+    /// A service on sixteen queues and four silos, whose readings these monitors handle. A rule makes a subscription of
+    /// each device that sends a reading: that of the monitor with its name.
     pub fn open(rt: R, monitors: Arc<Monitors<R>, Global>) -> Result<DeviceService<R>> {
         // A cache has one block of 64 readings, so that a slow consumer is felt soon.
         let config = Config {
