@@ -1,5 +1,5 @@
 -- One activation of a table changed.
-use Rattle.std.proofs.Common.{◌≡◌, ◌∙◌, ap, sym, refl, subst, ℕ, zero, suc, ◌<◌, List, [], ◌∷◌, length, get_or, set, Option, arith, get_or-set_same}
+use Rattle.std.proofs.Common.{◌≡◌, ◌∙◌, ap, sym, subst, ℕ, ◌<◌, List, length, get_or, set, Option, get_or-set_same}
 use Rattle.std.proofs.lemmas.List.{get_or_default}
 use Rattle.stream_ident.specs.declared.ident.GrainId.{GrainId}
 use Rattle.stream_ident.specs.Name.{grain_lt}

@@ -36,6 +36,18 @@ module _ (grains : PlainGrains) (order : List ℕ) (o : IsInOrder grains order) 
   pub distinct : AreDistinct grains
   distinct i j d = distinct_names name_of grain_lt same_grain grain_order grains order o d i j
 
+  -- a grain that was read under a number has that number
+  pub number_of-read : (grain : GrainId) (number : ℕ) → number < length grains → same_grain grain (grain_at grains number) ≡ true → Some number ≡ number_of grains grain
+  number_of-read grain number within is =
+      sym (first_at-there (λ e. same_grain grain e.0) 0 grains no_grain number within is
+      (λ j less. false_from_ne_true (same_grain grain (grain_at grains j)) (λ also.
+      let equal = distinct number j no_grain within (omega arith) (ap (λ (g : GrainId). same_grain g (grain_at grains j)) (sym (same_grain-equal grain (grain_at grains number) is)) ∙ also) in
+      absurd (omega (arith, equal))))
+      ∙ ap {B = Option ℕ} Some (zero_add number))
+    where
+      zero_add : (n : ℕ) → 0 + n ≡ n
+      zero_add n = omega arith
+
   -- an entry that was read at the first rank that passes
   pub least_where-read : (passes : PlainActivation → Bool) (rank : ℕ) (e : GrainId × PlainActivation) → rank < length order → e ≡ get_or grains (slice_index order rank) e → passes e.1 ≡ true → ((i : ℕ) → i < rank → passes (activation_at grains (slice_index order i)) ≡ false)
       → Some e.0 ≡ least grain_lt (keys_where passes grains)

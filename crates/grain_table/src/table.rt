@@ -1,5 +1,5 @@
 //! The table, and the order of its grains by name.
-ghost use Rattle.std.specs.Prelude.{◌≡◌, ◌+◌, ◌^◌, ◌<◌, ◌≤◌, ◌↔◌, [], None, true, length, is_ok, IfOk, IfSome, IsTrue, OnErr, not, OnOk, if◌then◌else◌};
+ghost use Rattle.std.specs.Prelude.{◌≡◌, ◌+◌, ◌^◌, ◌<◌, ◌≤◌, ◌↔◌, [], None, Some, true, length, is_ok, IfOk, IfSome, IsTrue, OnErr, not, OnOk, if◌then◌else◌};
 ghost use Rattle.std.specs.Option.{option_copied};
 ghost use Rattle.stream_ident.specs.Words.{change_at, past};
 ghost use Rattle.stream_ident.specs.Name.{grain_lt};
@@ -28,6 +28,8 @@ pub struct GrainTable {
     entries: Vec<(GrainId, Activation)>,
     ranking: Ranking,
     ready: LeastTree,
+    // The number of the grain that was offered something last: the next calls mostly ask for it again.
+    last: usize,
 }
 
 impl Drop for GrainTable {
@@ -36,6 +38,7 @@ impl Drop for GrainTable {
             entries: _,
             ranking: _,
             ready: _,
+            last: _,
         } = self;
     }
 }
@@ -60,6 +63,7 @@ impl GrainTable {
             entries: Vec::new(alloc),
             ranking: Ranking::new(alloc),
             ready: LeastTree::new(alloc),
+            last: 0,
         }
     }
 
@@ -78,11 +82,15 @@ impl GrainTable {
         self.entries.is_empty()
     }
 
-    /// The number of a grain, where it was ever active. It costs the logarithm of the length.
+    /// The number of a grain, where it was ever active. It costs the logarithm of the length, and a constant for the
+    /// grain that something was offered to last.
     pub fn find(&self, grain: &GrainId) -> Option<usize>
         ensures number { result ≡ number_of self.now grain.now }
         ensures within { IfSome result (λ number. number < length self.now) }
     {
+        if let Some(number) = self.find_last(grain) {
+            return Some(number);
+        }
         let order = self.ranking.numbers();
         let past = first_past(self.entries.as_slice(), order, Some(grain));
         let rank = past.checked_sub(1)?;
@@ -92,6 +100,16 @@ impl GrainTable {
         } else {
             None
         }
+    }
+
+    /// The number of a grain, where it is the one that something was offered to last.
+    fn find_last(&self, grain: &GrainId) -> Option<usize>
+        ensures number { IfSome result (λ number. Some number ≡ number_of self.now grain.now) }
+        ensures within { IfSome result (λ number. number < length self.now) }
+    {
+        let number = self.last;
+        let (last, _) = self.entries.get(number)?;
+        (*grain == *last).then_some(number)
     }
 
     /// The grain with a number.
@@ -167,6 +185,7 @@ impl GrainTable {
         ensures performs { OffersAt number self.old self.new result delivery }
         ensures memory { OnErr result (offer_takes_memory (activation_at self.old number) delivery ≡ true) }
     {
+        self.last = number;
         let offered = self.entries[number].1.offer(alloc, delivery)?;
         mark(&self.entries, &self.ranking, &mut self.ready, number);
         Ok(offered)

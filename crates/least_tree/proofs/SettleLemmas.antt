@@ -1,8 +1,8 @@
 -- Nodes that are made the lesser of their children, row by row.
 use Rattle.std.proofs.Common.{◌≡◌, ◌≢◌, ℕ, ◌+◌, ◌*◌, ◌/◌, ◌<◌, ◌≤◌, ◌⊎◌, inl, inr, List, length, set, min, sym, ap, ap₂, ◌∙◌, subst, arith, length-set, get_or-set_same, get_or-set_other}
-use Rattle.std.proofs.lemmas.Bool.{cases_eq}
+use Rattle.std.proofs.lemmas.Bool.{cases_eq, cases_lt}
 use Rattle.std.specs.Prelude.{slice_index}
-use Rattle.least_tree.specs.Tree.{IsLesser}
+use Rattle.least_tree.specs.Tree.{IsLesser, IsTree, IsTreeBut}
 
 -- a row from first to last, settled up to a place: only the nodes from there on, and the parents of the row,
 -- may not be the lesser of their children
@@ -42,5 +42,18 @@ settled_step first last at n nodes is from to settled = record {
               | inl below ↦ kept nodes at n x other (omega arith) (omega arith) lesser
               | inr above ↦ kept nodes at n x other (omega arith) (omega arith) lesser
             ]
+      ];
+}
+
+-- the one node that may not be the lesser of its children is so too
+pub tree-of-but : (at n : ℕ) (nodes : List ℕ) → n ≡ min (slice_index nodes (2 * at)) (slice_index nodes (2 * at + 1)) → slice_index nodes at ≡ n → IsTreeBut at at nodes → IsTree nodes
+tree-of-but at n nodes is here but = record {
+  lesser = λ x some inner.
+      elim (cases_lt x at) [
+        | inl before ↦ but.before x some inner before
+        | inr from ↦ elim (cases_eq x at) [
+          | inl same ↦ subst (IsLesser nodes) (sym same) (here ∙ is ∙ ap₂ min (ap (slice_index nodes) (omega arith)) (ap (slice_index nodes) (omega arith)))
+          | inr other ↦ but.past x some inner (omega arith)
+        ]
       ];
 }

@@ -108,7 +108,8 @@ impl LeastTree {
         Ok(())
     }
 
-    /// Changes the key at a place. It costs the logarithm of the length, and takes no memory.
+    /// Changes the key at a place. It costs the logarithm of the length at most, and a constant where the least key
+    /// near it stays. It takes no memory.
     pub fn set(&mut self, place: usize, key: Option<usize>)
         requires within { place < length self.old }
         requires key { IfSome key (λ k. k + 1 < 2 ^ 64) }
@@ -188,6 +189,24 @@ fn settle(nodes: &mut [usize], mut first: usize, mut last: usize)
         settle_row(nodes, first, last);
         first /= 2;
         last /= 2;
+    }
+}
+
+/// Makes a node, and those above it, the lesser of their children, up to the first that is so already: those above
+/// that one are too.
+fn settle_path(nodes: &mut [usize], mut at: usize)
+    requires inner { at + at + 1 < length nodes.old }
+    requires tree { IsTreeBut at at nodes.old }
+    ensures tree { IsTree nodes.new }
+    ensures past { (place : ℕ) → at < place → drop place nodes.new ≡ drop place nodes.old }
+{
+    while at > 0 {
+        let lesser = nodes[2 * at].min(nodes[2 * at + 1]);
+        if nodes[at] == lesser {
+            return;
+        }
+        settle_row(nodes, at, at);
+        at /= 2;
     }
 }
 
@@ -277,7 +296,7 @@ fn set_leaf(nodes: &mut [usize], first_leaf: usize, len: usize, place: usize, n:
 {
     let leaf = first_leaf + place;
     nodes[leaf] = n;
-    settle(nodes, leaf / 2, leaf / 2);
+    settle_path(nodes, leaf / 2);
 }
 
 /// Puts a leaf with a number at a place, and those from there on one further.

@@ -240,3 +240,23 @@ pub first_past-along : {E N : Type 0} (name : E → N) (lt : N → N → Bool) (
     → IsFirstPast name lt after entries order rank → IsFirstPast name lt after entries' order' rank
 first_past-along {E} name lt after entries entries' order order' rank same same' is =
     subst (λ (xs : List E). IsFirstPast name lt after xs order' rank) same (subst (λ (ns : List ℕ). IsFirstPast name lt after entries ns rank) same' is)
+
+-- the names past the rank of an entry are greater than its own
+pub first_past-rank : {E N : Type 0} (name : E → N) (lt same : N → N → Bool) → IsOrder lt same → (entries : List E) (order : List ℕ) → AreRanked name lt entries order
+    → (d : E) (number rank : ℕ) → rank < length order → slice_index order rank ≡ number → IsFirstPast name lt (Some (name (get_or entries number d))) entries order (rank + 1)
+first_past-rank {E} {N} name lt same o entries order are d number rank within at = record {
+  within = omega (arith, within);
+  before = λ e i low.
+      elim (cases_eq i rank) [
+        | inl here ↦ ap (lt a) (ap (λ (r : ℕ). name (entry_at entries order e r)) here ∙ own e) ∙ false_from_ne_true (lt a a) (λ less. both_ways (lt a a) (o.one_way a a less) less)
+        | inr other ↦ ap (λ (b : N). lt b (name (entry_at entries order e i))) (sym (own e)) ∙ o.one_way _ _ (are.rises e i rank (omega arith) within)
+      ];
+  past = λ e i high below. ap (λ (b : N). lt b (name (entry_at entries order e i))) (sym (own e)) ∙ are.rises e rank i (omega arith) below;
+}
+  where
+    a : N
+    a = name (get_or entries number d)
+
+    own : (e : E) → name (entry_at entries order e rank) ≡ a
+    own e =
+        ap name (get_or_default entries (slice_index order rank) e d (omega (arith, are.ranking.inverse.number_within rank within, are.long)) ∙ ap (λ (n : ℕ). get_or entries n d) at)

@@ -85,6 +85,15 @@ impl Ranking {
         rank
     }
 
+    /// The rank of a number. It costs a constant.
+    pub fn rank(&self, number: usize) -> usize
+        requires { number < length self.now }
+        ensures within { result < length self.now }
+        ensures at { slice_index self.now result ≡ number }
+    {
+        self.ranks[number]
+    }
+
     /// Sets the key of a number among the keys by rank. It costs the logarithm of the length, and takes no
     /// memory.
     pub fn set_key(&self, keys: &mut LeastTree, number: usize, key: Option<usize>)

@@ -51,6 +51,15 @@ given : (name : Option SubName) (leaves : List Leaf) (found : Option ℕ) → If
 given name leaves None within is = record { none = sym (is some_leaf); some = tt }
 given name leaves (Some number) within is = record { none = tt; some = (within, λ d. sym (is d)) }
 
+-- what holds with each leaf that is read past the end
+pub none-each : (found : Option ℕ) (P : Leaf → Type 0) → ((d : Leaf) → IfNone found (P d)) → IfNone found ((d : Leaf) → P d)
+none-each None P each = each
+none-each (Some number) P each = tt
+
+pub some-each : (found : Option ℕ) (P : Leaf → ℕ → Type 0) → ((d : Leaf) → IfSome found (P d)) → IfSome found (λ number. (d : Leaf) → P d number)
+some-each None P each = tt
+some-each (Some number) P each = each
+
 module _ (leaves : List Leaf) (order : List ℕ) (resumes due : List (Option ℕ)) (are : AreKept leaves order resumes due) where
   pub least_resume-is : least_key resumes ≡ least_resume leaves
   least_resume-is = least_key-same resumes (map (λ (leaf : Leaf). leaf.resume) leaves) to from

@@ -132,15 +132,12 @@ impl Resumes {
         requires below { IfSome resume (λ position. position + 2 < 2 ^ 64) }
         ensures { (d : Leaf) → self.new ≡ set self.old number (changed resume is_unacknowledged (get_or self.old number d)) }
     {
-        let name = self.leaves[number].name;
         let due = due_at(resume, is_unacknowledged);
         self.ranking.set_key(&mut self.resumes, number, resume);
         self.ranking.set_key(&mut self.due, number, due);
-        self.leaves[number] = Leaf {
-            name,
-            resume,
-            is_unacknowledged,
-        };
+        let leaf = &mut self.leaves[number];
+        leaf.resume = resume;
+        leaf.is_unacknowledged = is_unacknowledged;
     }
 
     /// Takes the last leaf out.
@@ -188,6 +185,17 @@ impl Resumes {
         ensures some { IfSome result (IsNameAt (due_after high (option_copied after.entry) self.now) self.now) }
     {
         let from = first_past(self.leaves.as_slice(), self.ranking.numbers(), after);
+        self.ranking.next_number(&self.due, from, high)
+    }
+
+    /// The number of the next leaf that is due, as `due_after` says, after the name of the leaf with a number. It costs
+    /// the logarithm of the length, and compares no names.
+    pub fn due_past(&self, number: usize, high: usize) -> Option<usize>
+        requires { number < length self.now }
+        ensures none { IfNone result ((d : Leaf) → due_after high (Some (get_or self.now number d).name) self.now ≡ None) }
+        ensures some { IfSome result (λ found. (d : Leaf) → IsNameAt (due_after high (Some (get_or self.now number d).name) self.now) self.now found) }
+    {
+        let from = self.ranking.rank(number) + 1;
         self.ranking.next_number(&self.due, from, high)
     }
 }

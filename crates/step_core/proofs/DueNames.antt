@@ -1,20 +1,21 @@
 -- What a drain serves: the open subscriptions that are due, in the order of their names. The others are settled.
-use Rattle.std.proofs.Common.{◌≡◌, ◌∙◌, ap, sym, refl, subst, ℕ, ◌<◌, ◌≤◌, ◌&&◌, ◌||◌, nat_lt, Bool, true, false, List, [], ◌∷◌, ◌++◌, filter, length, map, Option, Some, None, if◌then◌else◌, arith}
-use Rattle.std.proofs.lemmas.Bool.{and_parts, both_ways, cond_both, eq-eqb, false_from_ne_true, le-leb, lt-ltb, ltb-false}
-use Rattle.std.proofs.lemmas.List.{length-append}
+use Rattle.std.proofs.Common.{◌≡◌, ◌∙◌, ap, sym, refl, subst, ℕ, ◌<◌, ◌≤◌, ◌&&◌, ◌||◌, nat_lt, Bool, true, false, List, [], ◌∷◌, ◌++◌, filter, length, get_or, map, Option, Some, None, if◌then◌else◌, arith}
+use Rattle.std.proofs.lemmas.Bool.{and_parts, both_ways, cond_both, eq-eqb, false_from_ne_true, le-leb, lt-ltb, ltb-false, or_parts, or_right}
+use Rattle.std.proofs.lemmas.List.{length-append, length-map}
 use Rattle.std.specs.Bool.{then_some}
-use Rattle.std.specs.Prelude.{is_some}
+use Rattle.std.specs.Prelude.{is_some, IfNone, IfSome}
 use Rattle.std.specs.List.{AllByRecursion, list_any}
 use Rattle.std.specs.Option.{option_map}
 use Rattle.stream_ident.proofs.NameOrders.{sub_order}
 use Rattle.stream_ident.proofs.SameValues.{sub_equality}
 use Rattle.stream_ident.proofs.WordLemmas.{or_else-parts}
 use Rattle.stream_ident.specs.declared.ident.SubName.{SubName}
+use Rattle.stream_ident.specs.declared.ident.SubName.TheVariants.{Explicit}
 use Rattle.stream_ident.specs.SubName.{same_sub, sub_lt}
 use Rattle.stream_ident.specs.Words.{above, is_above, keys_where, least, next_after, or_else, past}
 use Rattle.stream_laws.proofs.DrainDeliver.{next-bounds}
-use Rattle.stream_laws.proofs.DrainServe.{IsOpenAt}
-use Rattle.stream_laws.proofs.KeyLists.{All-in_order, All-keys_where, any-in_order, any-keys_where, each-entry, keys_where-empty}
+use Rattle.stream_laws.proofs.DrainServe.{IsOpenAt, open-names}
+use Rattle.stream_laws.proofs.KeyLists.{All-keys_where, any-in_order, any-keys_where, each-entry, keys_where-empty}
 use Rattle.stream_laws.proofs.NearSteps.{near-legal}
 use Rattle.stream_laws.proofs.Unique.{AreUnique}
 use Rattle.stream_laws.proofs.UniqueSteps.{steady-legal}
@@ -29,10 +30,10 @@ use Rattle.stream_model.specs.Step.{IsReached}
 use Rattle.step_core.specs.declared.draining.Stop.{Stop}
 use Rattle.step_core.specs.Deliverables.{is_deliverable}
 use Rattle.step_core.specs.DrainPhases.{Ends, halted}
-use Rattle.step_core.specs.Serving.{is_settled_in, next_due}
+use Rattle.step_core.specs.Serving.{is_settled_in, name_of, next_due}
 use Rattle.step_core.proofs.DrainLoops.{Suffices}
 use Rattle.step_core.proofs.DrainSteps.{ends-halted, ends-then}
-use Rattle.step_core.proofs.KeptNames.{open_keys, served-keeps}
+use Rattle.step_core.proofs.KeptNames.{open_keys, served-keeps, served-names}
 use Rattle.step_core.proofs.RisingNames.{AreRising, IsSplit, above-filter, apart-keys, least-is, least-past, none-past, not-passed, rising-in_order, split-at}
 use Rattle.step_core.proofs.SettledOps.{serves-settled}
 use Rattle.step_core.proofs.Shared.{history-of}
@@ -72,16 +73,16 @@ pub due-by : (name : ℕ → SubName) (after : Option SubName) (xs : List SubNam
 due-by name after xs number is true past = due-past after xs (name number) is (sym past)
 due-by name after xs number is false wrapped = due-wrapped after xs (name number) is (sym wrapped)
 
+-- from the least of all on
+pub due-first : (name : ℕ → SubName) (xs : List SubName) (next : Option SubName) → next_after sub_lt None xs ≡ next → (found : Option ℕ) → IfNone found (next ≡ None) → IfSome found (λ number. next ≡ Some (name number))
+    → option_map name found ≡ least sub_lt (above sub_lt None xs)
+due-first name xs next is None none some = sym (due-none-past None xs (is ∙ none))
+due-first name xs next is (Some number) none some = due-past None xs (name number) (is ∙ some) refl
+
 -- ---- open names
 
 unique-of : (p : PlainPartition) → IsReached p → AreUnique same_sub p.subs
 unique-of p reached = (steady-legal reached.blocks reached.limits reached.history p reached.stands).subs
-
-open-names : (p : PlainPartition) → IsReached p → AllByRecursion (IsOpenAt p) (open_names p)
-open-names p reached =
-    All-in_order (IsOpenAt p) sub_lt (open_keys p)
-    (All-keys_where (IsOpenAt p) (λ (r : Subscription). r.is_open) p.subs
-    (each-entry same_sub sub_equality (λ (s : SubName) (r : Subscription). r.is_open ≡ true → IsOpenAt p s) p.subs (unique-of p reached) (λ s r found is_open. record { record_of = r; found = found; is_open = is_open })))
 
 rising-names : (p : PlainPartition) → IsReached p → AreRising sub_lt same_sub sub_order sub_equality (open_names p)
 rising-names p reached =
@@ -96,16 +97,12 @@ any-weaker test passes weaker implies (entry ∷ subs) found = by (passes entry.
     or-later true b c later is = refl
     or-later false b c later is = later is
 
-    or-any : (a c : Bool) → c ≡ true → (a || c) ≡ true
-    or-any true c is = refl
-    or-any false c is = is
-
     by : (b w : Bool) → (b ≡ true → w ≡ true) → list_any test (map (λ (e : SubName × Subscription). e.0) (if b then entry ∷ filter (λ (e : SubName × Subscription). passes e.1) subs else filter (λ (e : SubName × Subscription). passes e.1) subs)) ≡ true
         → (list_any test (keys_where passes subs) ≡ true → list_any test (keys_where weaker subs) ≡ true)
         → list_any test (map (λ (e : SubName × Subscription). e.0) (if w then entry ∷ filter (λ (e : SubName × Subscription). weaker e.1) subs else filter (λ (e : SubName × Subscription). weaker e.1) subs)) ≡ true
     by true true implies found later = or-later (test entry.0) (list_any test (keys_where passes subs)) (list_any test (keys_where weaker subs)) later found
     by true false implies found later = let wrong = implies refl in absurd (cc)
-    by false true implies found later = or-any (test entry.0) (list_any test (keys_where weaker subs)) (later found)
+    by false true implies found later = or_right (test entry.0) (list_any test (keys_where weaker subs)) (later found)
     by false false implies found later = later found
 
 due-among-open : (p : PlainPartition) (d : SubName) → list_any (same_sub d) (keys_where (is_due p) p.subs) ≡ true → list_any (same_sub d) (open_names p) ≡ true
@@ -123,12 +120,8 @@ deliverable-due p s r reached found is =
     let served = (history.fits.subs s r found).served parts.0 in
     let seen = next-within p r (next_position p r) refl parts.1 in
     let below : nat_lt r.resume p.high ≡ true = lt-ltb r.resume p.high (omega (arith, seen, served.resume_cursor)) in
-    rw (parts.0, below) (or-last (is_unacknowledged r))
+    rw (parts.0, below) (or_right (is_unacknowledged r) true refl)
   where
-    or-last : (b : Bool) → (b || true) ≡ true
-    or-last true = refl
-    or-last false = refl
-
     next-within : (p : PlainPartition) (r : Subscription) (next : Option ℕ) → next_position p r ≡ next → is_some next ≡ true → r.cursor < p.high
     next-within p r None is some = absurd (cc)
     next-within p r (Some position) is some = let bounds = next-bounds p r position is in omega (arith, bounds.0, bounds.1)
@@ -165,13 +158,9 @@ least-nowhere p last reached before none =
 
 -- ---- an open subscription that isn't due is settled
 
-or-none : (a b : Bool) → (a || b) ≡ false → (a ≡ false) × (b ≡ false)
-or-none true b none = absurd (cc)
-or-none false b none = (refl, none)
-
 not-due : (p : PlainPartition) (r : Subscription) → r.is_open ≡ true → is_due p r ≡ false → (is_unacknowledged r ≡ false) × (p.high ≤ r.resume)
 not-due p r is_open undue =
-    let tests = or-none (is_unacknowledged r) (nat_lt r.resume p.high) (ap (λ b. b && (is_unacknowledged r || nat_lt r.resume p.high)) (sym is_open) ∙ undue) in
+    let tests = or_parts (is_unacknowledged r) (nat_lt r.resume p.high) (ap (λ b. b && (is_unacknowledged r || nat_lt r.resume p.high)) (sym is_open) ∙ undue) in
     (tests.0, ltb-false r.resume p.high tests.1)
 
 pub settled-undue : (p : PlainPartition) (s : SubName) (r : Subscription) → IsReached p → sub_at p s ≡ Some r → r.is_open ≡ true → is_due p r ≡ false → is_settled_in p.high (sub_at p s) ≡ true
@@ -229,7 +218,7 @@ next-of p last d reached next =
     let is = sym next in
     let past = least-past sub_lt same_sub sub_order sub_equality last d (keys_where (is_due p) p.subs) is in
     let split : IsSplit sub_lt same_sub sub_order sub_equality (IsOpenAt p) (is_above sub_lt last) d (open_names p) =
-    split-at sub_lt same_sub sub_order sub_equality (IsOpenAt p) (is_above sub_lt last) (onward last) d past.0 (open_names p) (open-names p reached) (rising-names p reached) (due-among-open p d past.1) in
+    split-at sub_lt same_sub sub_order sub_equality (IsOpenAt p) (is_above sub_lt last) (onward last) d past.0 (open_names p) (open-names p (unique-of p reached)) (rising-names p reached) (due-among-open p d past.1) in
     record {
       front = split.front;
       settled = All-weaken (λ (s : SubName). IsOpenAt p s × ((is_above sub_lt last s ≡ true) × (sub_lt s d ≡ true))) (Settled p)
@@ -277,7 +266,7 @@ pub goes-on-done : (start here : PlainPartition) (last : Option SubName) → IsR
 goes-on-done start here last reached before none =
     before.rest here (Some None) (ends-settled here (above sub_lt last (open_names start)) reached
     (subst (AllByRecursion (Settled here)) (sym (above-filter sub_lt last (open_names start)))
-    (each (open_names start) (subst (AllByRecursion (IsOpenAt here)) before.names (open-names here reached)))))
+    (each (open_names start) (subst (AllByRecursion (IsOpenAt here)) before.names (open-names here (unique-of here reached))))))
   where
     each : (names : List SubName) → AllByRecursion (IsOpenAt here) names → AllByRecursion (Settled here) (filter (is_above sub_lt last) names)
     each [] opened = tt
@@ -297,3 +286,11 @@ fewer-past p last d reached next =
 pub fewer-left : (start here : PlainPartition) (last : Option SubName) (d : SubName) → IsReached here → GoesOn start here last → Some d ≡ next_due here last → length (above sub_lt (Some d) (open_names start)) < length (above sub_lt last (open_names start))
 fewer-left start here last d reached before next =
     subst (λ (names : List SubName). length (above sub_lt (Some d) names) < length (above sub_lt last names)) before.names (fewer-past here last d reached next)
+
+-- a name by its number stays as it is while one is served
+pub name-stays : (here mid : PlainPartition) (number : ℕ) (d : SubName) → Ends here mid (Some None) (serve d here (sub_at here d)) → name_of mid number ≡ name_of here number
+name-stays here mid number d served = ap (λ names. get_or names number (Explicit 0)) (served-names here mid d served)
+
+pub length-stays : (here mid : PlainPartition) (d : SubName) → Ends here mid (Some None) (serve d here (sub_at here d)) → length mid.subs ≡ length here.subs
+length-stays here mid d served =
+    sym (length-map mid.subs (λ (e : SubName × Subscription). e.0)) ∙ ap length (served-names here mid d served) ∙ length-map here.subs (λ (e : SubName × Subscription). e.0)

@@ -75,7 +75,7 @@ distinct : (parts : Parts) (number : ℕ) → Stands parts number → AreDistinc
 distinct parts number stands = distinct-of-unique parts.subs.registry.names stands.agrees.unique
 
 -- the number stands for the name
-named : (parts : Parts) (number : ℕ) → Stands parts number → place_of same_sub (table.name_at parts.subs number) parts.subs.registry.names ≡ Some number
+pub named : (parts : Parts) (number : ℕ) → Stands parts number → place_of same_sub (table.name_at parts.subs number) parts.subs.registry.names ≡ Some number
 named parts number stands =
     subst (λ s. place_of same_sub s parts.subs.registry.names ≡ Some number) (name-same parts.subs number)
     (number-of-name parts.subs.registry.names number (distinct parts number stands) stands.within)

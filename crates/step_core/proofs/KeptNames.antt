@@ -1,4 +1,4 @@
--- To serve a subscription opens and closes none: the names of the open ones stay as they are.
+-- To serve a subscription makes, opens and closes none: the names stay as they are, and so do those of the open ones.
 use Rattle.std.proofs.Common.{◌≡◌, ◌∙◌, ap, sym, refl, ℕ, zero, suc, ◌-◌, nat_lt, nat_le, ◌==◌, ◌&&◌, not, Bool, true, false, List, [], ◌∷◌, ◌++◌, length, filter, map, is_some, Option, Some, None, if◌then◌else◌}
 use Rattle.std.proofs.lemmas.Bool.{cond_both}
 use Rattle.stream_ident.specs.Blocks.{turn_size}
@@ -23,42 +23,54 @@ use Rattle.stream_model.specs.Pulling.{ack, ack_of, ack_position, acknowledged, 
 use Rattle.stream_model.specs.Step.{step}
 use Rattle.stream_model.specs.Turns.{begin, begin_for, begin_front, begin_in, begin_turn, commit, commit_for, commit_running}
 use Rattle.step_core.specs.DrainPhases.{Ends}
+use Rattle.step_core.specs.Serving.{names_of}
 
 abbrev pub open_keys : PlainPartition → List SubName
 open_keys p = keys_where (λ (r : Subscription). r.is_open) p.subs
 
+-- the name of a subscription, and whether it is open
+abbrev face : SubName × Subscription → SubName × Bool
+face entry = (entry.0, entry.1.is_open)
+
+abbrev faces : PlainPartition → List (SubName × Bool)
+faces p = map face p.subs
+
 abbrev StayIn : PlainPartition → PlainPartition × Reply → Type 0
-StayIn p out = open_keys out.0 ≡ open_keys p
+StayIn p out = faces out.0 ≡ faces p
 
 -- a record set that is open where the one before was
-keys-with_value : (s : SubName) (old new : Subscription) (subs : List (SubName × Subscription)) → value_at same_sub s subs ≡ Some old → new.is_open ≡ old.is_open
-    → keys_where (λ (r : Subscription). r.is_open) (with_value same_sub s new subs) ≡ keys_where (λ (r : Subscription). r.is_open) subs
-keys-with_value s old new [] found as_before = absurd (cc)
-keys-with_value s old new (entry ∷ subs) found as_before =
-    (elim (same_sub s entry.0) as (λ b. (if b then Some entry.1 else value_at same_sub s subs) ≡ Some old
-    → keys_where (λ (r : Subscription). r.is_open) (if b then (entry.0, new) ∷ subs else entry ∷ with_value same_sub s new subs) ≡ keys_where (λ (r : Subscription). r.is_open) (entry ∷ subs)) [
+faces-with_value : (s : SubName) (old new : Subscription) (subs : List (SubName × Subscription)) → value_at same_sub s subs ≡ Some old → new.is_open ≡ old.is_open → map face (with_value same_sub s new subs) ≡ map face subs
+faces-with_value s old new [] found as_before = absurd (cc)
+faces-with_value s old new (entry ∷ subs) found as_before =
+    (elim (same_sub s entry.0) as (λ b. (if b then Some entry.1 else value_at same_sub s subs) ≡ Some old → map face (if b then (entry.0, new) ∷ subs else entry ∷ with_value same_sub s new subs) ≡ map face (entry ∷ subs)) [
       | true ↦ λ here.
           let is_old : entry.1 ≡ old = cc in
-          let same : new.is_open ≡ entry.1.is_open = as_before ∙ ap (λ (r : Subscription). r.is_open) (sym is_old) in
-          ap (λ b. map (λ (e : SubName × Subscription). e.0) (if b then (entry.0, new) ∷ filter (λ (e : SubName × Subscription). e.1.is_open) subs else filter (λ (e : SubName × Subscription). e.1.is_open) subs)) same
-          ∙ by entry.1.is_open
-      | false ↦ λ there. more entry.1.is_open (keys-with_value s old new subs there as_before)
+          ap (λ (b : Bool). (entry.0, b) ∷ map face subs) (as_before ∙ ap (λ (r : Subscription). r.is_open) (sym is_old))
+      | false ↦ λ there. ap (λ rest. face entry ∷ rest) (faces-with_value s old new subs there as_before)
     ]) found
+
+-- the names of all, and of the open ones
+names-of-faces : (subs : List (SubName × Subscription)) → map (λ (e : SubName × Subscription). e.0) subs ≡ map (λ (f : SubName × Bool). f.0) (map face subs)
+names-of-faces [] = refl
+names-of-faces (entry ∷ subs) = ap (λ rest. entry.0 ∷ rest) (names-of-faces subs)
+
+keys-of-faces : (subs : List (SubName × Subscription)) → keys_where (λ (r : Subscription). r.is_open) subs ≡ map (λ (f : SubName × Bool). f.0) (filter (λ (f : SubName × Bool). f.1) (map face subs))
+keys-of-faces [] = refl
+keys-of-faces (entry ∷ subs) = by entry.1.is_open (keys-of-faces subs)
   where
-    kept : List (SubName × Subscription) → List (SubName × Subscription)
-    kept entries = filter (λ (e : SubName × Subscription). e.1.is_open) entries
+    kept : List (SubName × Subscription)
+    kept = filter (λ (e : SubName × Subscription). e.1.is_open) subs
 
-    by : (b : Bool) → map (λ (e : SubName × Subscription). e.0) (if b then (entry.0, new) ∷ kept subs else kept subs) ≡ map (λ (e : SubName × Subscription). e.0) (if b then entry ∷ kept subs else kept subs)
-    by true = refl
-    by false = refl
+    rest : List (SubName × Bool)
+    rest = filter (λ (f : SubName × Bool). f.1) (map face subs)
 
-    more : (b : Bool) → map (λ (e : SubName × Subscription). e.0) (kept (with_value same_sub s new subs)) ≡ map (λ (e : SubName × Subscription). e.0) (kept subs)
-        → map (λ (e : SubName × Subscription). e.0) (if b then entry ∷ kept (with_value same_sub s new subs) else kept (with_value same_sub s new subs)) ≡ map (λ (e : SubName × Subscription). e.0) (if b then entry ∷ kept subs else kept subs)
-    more true rest = ap (λ names. entry.0 ∷ names) rest
-    more false rest = rest
+    by : (b : Bool) → map (λ (e : SubName × Subscription). e.0) kept ≡ map (λ (f : SubName × Bool). f.0) rest
+        → map (λ (e : SubName × Subscription). e.0) (if b then entry ∷ kept else kept) ≡ map (λ (f : SubName × Bool). f.0) (if b then face entry ∷ rest else rest)
+    by true same = ap (λ names. entry.0 ∷ names) same
+    by false same = same
 
-stay-with_sub : (p : PlainPartition) (s : SubName) (old new : Subscription) → sub_at p s ≡ Some old → new.is_open ≡ old.is_open → open_keys (with_sub p s new) ≡ open_keys p
-stay-with_sub p s old new found as_before = keys-with_value s old new p.subs found as_before
+stay-with_sub : (p : PlainPartition) (s : SubName) (old new : Subscription) → sub_at p s ≡ Some old → new.is_open ≡ old.is_open → faces (with_sub p s new) ≡ faces p
+stay-with_sub p s old new found as_before = faces-with_value s old new p.subs found as_before
 
 -- ---- Deliver
 
@@ -124,7 +136,7 @@ unfolding commit_for
 stay-commit_for p g st run note None found = refl
 stay-commit_for p g st run note (Some r) found =
     cond_both (not r.is_open) _ _ (StayIn p) (λ _. refl)
-    (λ _. keys-with_value run.sub r (record r { handled = r.handled ++ run.positions; note = note }) p.subs found refl)
+    (λ _. faces-with_value run.sub r (record r { handled = r.handled ++ run.positions; note = note }) p.subs found refl)
 
 stay-commit_running : (p : PlainPartition) (g : GrainId) (st : Grain) (activation turn note : ℕ) (running : Option RunningTurn) → StayIn p (commit_running p g st activation turn note running)
 unfolding commit_running
@@ -140,12 +152,12 @@ stay-commit p g activation turn note = stay-commit_running p g (grain_at p g) ac
 
 -- the operations leave the names of the open subscriptions
 abbrev Keeps : PlainPartition → Progress → Type 0
-Keeps p m = open_keys m.now ≡ open_keys p
+Keeps p m = faces m.now ≡ faces p
 
 keeps-ask : (p : PlainPartition) (op : Op) (next : PlainPartition → Reply → Progress) → StayIn p (step p op) → ((q : PlainPartition) (answer : Reply) → Keeps q (next q answer)) → Keeps p (ask p op next)
 keeps-ask p op next stay after = after (step p op).0 (step p op).1 ∙ stay
 
-keeps-go_on : (p q : PlainPartition) (entries : List _) (end : Option draining.Stop) (next : PlainPartition → Progress) → open_keys q ≡ open_keys p → ((q : PlainPartition) → Keeps q (next q)) → Keeps p (go_on entries q end next)
+keeps-go_on : (p q : PlainPartition) (entries : List _) (end : Option draining.Stop) (next : PlainPartition → Progress) → faces q ≡ faces p → ((q : PlainPartition) → Keeps q (next q)) → Keeps p (go_on entries q end next)
 keeps-go_on p q entries None next first after = after q ∙ first
 keeps-go_on p q entries (Some why) next first after = first
 
@@ -205,5 +217,13 @@ keeps-serve s p (Some r) =
     (λ q. keeps-and_then q (acknowledge s q (last_handled q (sub_at q s))) (deliver_once_more s) (keeps-acknowledge s q (last_handled q (sub_at q s))) (keeps-once_more s))
 
 -- a subscription that was served in full
+served-faces : (p q : PlainPartition) (s : SubName) → Ends p q (Some None) (serve s p (sub_at p s)) → faces q ≡ faces p
+served-faces p q s ends = ap faces ends.0 ∙ keeps-serve s p (sub_at p s)
+
 pub served-keeps : (p q : PlainPartition) (s : SubName) → Ends p q (Some None) (serve s p (sub_at p s)) → open_names q ≡ open_names p
-served-keeps p q s ends = ap (in_order sub_lt) (ap open_keys ends.0 ∙ keeps-serve s p (sub_at p s))
+served-keeps p q s ends =
+    ap (in_order sub_lt)
+    (keys-of-faces q.subs ∙ ap (λ (fs : List (SubName × Bool)). map (λ (f : SubName × Bool). f.0) (filter (λ (f : SubName × Bool). f.1) fs)) (served-faces p q s ends) ∙ sym (keys-of-faces p.subs))
+
+pub served-names : (p q : PlainPartition) (s : SubName) → Ends p q (Some None) (serve s p (sub_at p s)) → names_of q ≡ names_of p
+served-names p q s ends = names-of-faces q.subs ∙ ap (map (λ (f : SubName × Bool). f.0)) (served-faces p q s ends) ∙ sym (names-of-faces p.subs)

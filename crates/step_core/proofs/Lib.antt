@@ -3,6 +3,7 @@ pub mod AgentOps
 pub mod AssembledTable
 pub mod BeginOps
 pub mod CachedEvents
+pub mod CatchOps
 pub mod CheckOps
 pub mod ClosedOps
 pub mod CommitOps

@@ -1,9 +1,12 @@
 -- The number of a name is the place where it stands.
-use Rattle.std.proofs.Common.{◌≡◌, ◌∙◌, ap, refl, ℕ, zero, suc, ◌<◌, List, [], ◌∷◌, length, get_or, Option, Some, arith, sym}
+use Rattle.std.proofs.Common.{◌≡◌, ◌∙◌, ap, refl, ℕ, zero, suc, ◌<◌, List, [], ◌∷◌, length, get_or, map, Option, Some, arith, sym}
 use Rattle.std.proofs.lemmas.Bool.{false_from_ne_true}
+use Rattle.std.proofs.lemmas.List.{length-map}
 use Rattle.stream_ident.specs.declared.ident.SubName.{SubName}
+use Rattle.stream_ident.specs.declared.ident.SubName.TheVariants.{Explicit}
 use Rattle.stream_ident.specs.SubName.{same_sub}
 use Rattle.stream_ident.specs.Words.{place_of}
+use Rattle.stream_model.specs.declared.plain.Subscription.{Subscription}
 use Rattle.stream_model.specs.Positions.{sub_at}
 use Rattle.consumer_grain.specs.Subscriptions.{PlainState}
 use Rattle.pubsub_registry.specs.declared.registration.Registration.{Registration}
@@ -13,7 +16,8 @@ use Rattle.subscription_table.specs.Table.{no_entry}
 use Rattle.step_core.specs.Numbers.{AreDistinct}
 use Rattle.step_core.specs.declared.parts.Parts.{Parts}
 use Rattle.step_core.specs.PlainOf.{plain_of}
-use Rattle.step_core.specs.View.{name_at}
+use Rattle.step_core.specs.Serving.{name_of}
+use Rattle.step_core.specs.View.{name_at, subs_of}
 use Rattle.step_core.proofs.RecordOps.{record-found, record_at}
 
 -- the name under a number is that of the entry
@@ -43,3 +47,17 @@ number-of-name names j distinct within =
 pub record-of-number : (parts : Parts) (j : ℕ) (d : SubName × Registration) (e : PlainState) → AreDistinct parts.subs.registry.names → length parts.subs.registry.names ≡ length parts.subs.states → j < length parts.subs.registry.names → sub_at (plain_of parts) (name_at parts.subs.registry.names j) ≡ Some (record_at parts j d e)
 record-of-number parts j d e distinct lengths within =
     record-found parts (name_at parts.subs.registry.names j) j d e lengths (number-of-name parts.subs.registry.names j distinct within)
+
+-- the names of the plain partition are those of the table
+names-same : (names : List (SubName × Registration)) (states : List PlainState) → length names ≡ length states → map (λ (entry : SubName × Subscription). entry.0) (subs_of names states) ≡ map (λ (entry : SubName × Registration). entry.0) names
+names-same [] states lengths = refl
+names-same (entry ∷ names) [] lengths = absurd (omega (arith, lengths))
+names-same (entry ∷ names) (state ∷ states) lengths = ap (λ rest. entry.0 ∷ rest) (names-same names states (omega (arith, lengths)))
+
+pub name_of-same : (parts : Parts) (number : ℕ) → length parts.subs.registry.names ≡ length parts.subs.states → name_of (plain_of parts) number ≡ name_at parts.subs.registry.names number
+name_of-same parts number lengths = ap (λ names. get_or names number (Explicit 0)) (names-same parts.subs.registry.names parts.subs.states lengths)
+
+-- and there are as many
+pub length-subs : (names : List (SubName × Registration)) (states : List PlainState) → length names ≡ length states → length (subs_of names states) ≡ length names
+length-subs names states lengths =
+    sym (length-map (subs_of names states) (λ (entry : SubName × Subscription). entry.0)) ∙ ap length (names-same names states lengths) ∙ length-map names (λ (entry : SubName × Registration). entry.0)

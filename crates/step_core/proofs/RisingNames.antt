@@ -1,6 +1,6 @@
 -- Names that rise: those past a name are those up to the next one, then that one, then those past it.
 use Rattle.std.proofs.Common.{◌≡◌, ◌∙◌, ap, sym, refl, subst, Bool, true, false, ◌||◌, List, [], ◌∷◌, ◌++◌, filter, map, Option, Some, None, if◌then◌else◌}
-use Rattle.std.proofs.lemmas.Bool.{both_ways, cond_both, false_from_ne_true}
+use Rattle.std.proofs.lemmas.Bool.{both_ways, cond_both, false_from_ne_true, or_parts, or_right}
 use Rattle.std.specs.List.{AllByRecursion, list_any}
 use Rattle.std.specs.Prelude.{⊤}
 use Rattle.stream_ident.proofs.Order.{IsOrder}
@@ -10,14 +10,6 @@ use Rattle.stream_laws.proofs.KeyLists.{All-insert, any-in_order, least-none, le
 use Rattle.stream_laws.proofs.Unique.{AreUnique, same-swap}
 use Rattle.stream_model.proofs.EachOf.{All-weaken}
 use Rattle.stream_model.specs.Draining.{in_order, insert_in_order}
-
-or-parts : (a b : Bool) → (a || b) ≡ false → (a ≡ false) × (b ≡ false)
-or-parts true b none = absurd (cc)
-or-parts false b none = (refl, none)
-
-or-second : (a b : Bool) → b ≡ true → (a || b) ≡ true
-or-second true b there = refl
-or-second false b there = there
 
 -- all pass
 pub filter-all : {X : Type 0} (passes : X → Bool) (xs : List X) → AllByRecursion (λ x. passes x ≡ true) xs → filter passes xs ≡ xs
@@ -55,7 +47,7 @@ module _ {X : Type 0} (lt same : X → X → Bool) (order : IsOrder lt same) (eq
   rising-insert : (x : X) (xs : List X) → list_any (same x) xs ≡ false → AreRising xs → AreRising (insert_in_order lt x xs)
   rising-insert x [] new up = (tt, tt)
   rising-insert x (y ∷ ys) new up =
-      let apart = or-parts (same x y) (list_any (same x) ys) new in
+      let apart = or_parts (same x y) (list_any (same x) ys) new in
       cond_both (lt y x) (y ∷ insert_in_order lt x ys) (x ∷ y ∷ ys) AreRising
       (λ below. (All-insert (λ (z : X). lt y z ≡ true) lt x ys below up.0, rising-insert x ys apart.1 up.1))
       (λ under.
@@ -172,7 +164,7 @@ module _ {X : Type 0} (lt same : X → X → Bool) (order : IsOrder lt same) (eq
   among-first x xs = rw (equality.reflexive x) refl
 
   among-behind : (z x : X) (xs : List X) → list_any (same z) xs ≡ true → list_any (same z) (x ∷ xs) ≡ true
-  among-behind z x xs there = or-second (same z x) (list_any (same z) xs) there
+  among-behind z x xs there = or_right (same z x) (list_any (same z) xs) there
 
   among-past : (after : Option X) (xs all : List X) → ((z : X) → list_any (same z) xs ≡ true → list_any (same z) all ≡ true) → AllByRecursion (λ (z : X). (is_above lt after z ≡ true) × (list_any (same z) all ≡ true)) (filter (is_above lt after) xs)
   among-past after [] all among = tt

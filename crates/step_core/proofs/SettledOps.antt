@@ -1,8 +1,9 @@
 -- A subscription that is settled: to serve it changes nothing.
-use Rattle.std.proofs.Common.{◌≡◌, ◌∙◌, ap, sym, refl, subst, ℕ, zero, suc, pred, ◌-◌, ◌≤◌, ◌==◌, max, nat_le, nat_lt, Bool, true, false, List, [], ◌∷◌, length, Option, Some, None, if◌then◌else◌, arith}
-use Rattle.std.proofs.lemmas.Bool.{and_parts, eqb-true, leb-true, ltb-false, lt-ltb, not-true}
+use Rattle.std.proofs.Common.{◌≡◌, ◌∙◌, ap, sym, refl, subst, ℕ, zero, suc, pred, ◌-◌, ◌≤◌, ◌==◌, ◌||◌, max, nat_le, nat_lt, Bool, true, false, List, [], ◌∷◌, length, Option, Some, None, if◌then◌else◌, arith}
+use Rattle.std.proofs.lemmas.Bool.{and_parts, eq-eqb, eqb-true, le-leb, le-ltb, leb-true, ltb-false, lt-ltb, not-true, or_parts}
 use Rattle.stream_ident.specs.declared.ident.GrainId.{GrainId}
 use Rattle.stream_ident.specs.declared.ident.SubName.{SubName}
+use Rattle.stream_ident.proofs.SameValues.{sub_equality}
 use Rattle.stream_ident.specs.SubName.{same_sub}
 use Rattle.stream_ident.specs.Words.{past, value_at, with_value}
 use Rattle.stream_model.specs.declared.op.Op.TheVariants.{Ack, Deliver}
@@ -11,15 +12,16 @@ use Rattle.stream_model.specs.declared.plain.Subscription.{Subscription}
 use Rattle.stream_model.specs.declared.reply.Reply.{Reply}
 use Rattle.stream_model.specs.declared.reply.Reply.TheVariants as reply
 use Rattle.stream_model.specs.Draining.{acknowledge, after_ack, after_deliver, after_last_deliver, deliver_all, deliver_once_more, done, last_handled, serve}
-use Rattle.stream_model.specs.Positions.{is_outstanding, is_unacknowledged, sub_at, token_at, with_sub}
+use Rattle.stream_model.specs.Positions.{grain_at, is_outstanding, is_unacknowledged, running_in, sub_at, token_at, waiting_in, with_sub}
 use Rattle.stream_model.specs.Pulling.{acknowledged, caught_up}
 use Rattle.stream_model.specs.Step.{step, IsReached}
+use Rattle.stream_model.proofs.Values.{with_value-at}
 use Rattle.stream_laws.proofs.DrainAck.{ack-first}
 use Rattle.stream_laws.proofs.DrainDeliver.{deliver-nothing, next-none}
 use Rattle.stream_laws.proofs.Invariant.{running_of}
 use Rattle.stream_laws.proofs.LastHandled.{HasLast, handled_at-last, has-last}
 use Rattle.step_core.specs.DrainPhases.{Ends, after_deliveries}
-use Rattle.step_core.specs.Serving.{is_settled, is_settled_in}
+use Rattle.step_core.specs.Serving.{is_settled, is_settled_in, IsCaughtUp}
 use Rattle.step_core.proofs.DrainSteps.{ends-done, ends-last, ends-then}
 use Rattle.step_core.proofs.Shared.{history-of}
 
@@ -141,3 +143,33 @@ pub settles-settled : (p : PlainPartition) (s : SubName) → IsReached p → is_
 settles-settled p s reached is =
     let settled = settled-found p s (sub_at p s) refl is in
     ends-after p s settled.0 settled.1 reached
+
+-- ---- a subscription that has nothing to do
+
+-- one of which nothing is outstanding is settled by a delivery that finds nothing
+pub caught-settled : (p : PlainPartition) (s : SubName) (r : Subscription) → r.is_open ≡ true → is_outstanding p s r ≡ false → r.resume ≤ r.cursor → is_settled_in p.high (sub_at (with_sub p s (caught_up p s r)) s) ≡ true
+caught-settled p s r is_open none order =
+    ap (is_settled_in p.high) (with_value-at same_sub sub_equality s (caught_up p s r) p.subs)
+    ∙ rw (none, is_open, le-leb p.high (max r.cursor p.high) (omega arith), eq-eqb (max r.cursor p.high) (max r.cursor p.high) refl, ltb-past) refl
+  where
+    acked : is_unacknowledged r ≡ false
+    acked =
+        let waits = nat_lt 0 (length (waiting_in s (grain_at p r.grain).mailbox)) in
+        let runs = nat_lt 0 (length (running_in s (grain_at p r.grain).running)) in
+        (or_parts runs (is_unacknowledged r) (or_parts waits (runs || is_unacknowledged r) none).1).1
+
+    ltb-past : nat_lt (max r.cursor p.high) (past r.handled) ≡ false
+    ltb-past = le-ltb (max r.cursor p.high) (past r.handled) (omega (arith, order, ltb-false r.resume (past r.handled) acked))
+
+-- and then it is served
+pub serves-caught-up : (p q : PlainPartition) (s : SubName) → IsReached q → IsCaughtUp p q s → Ends p q (Some None) (serve s p (sub_at p s))
+unfolding serve deliver_all after_deliver
+serves-caught-up p q s reached caught =
+    let r = caught.record_of in
+    let first : Ends p q (Some None) (deliver_all s r p) = ends-last p q None (Deliver p.generation s) reply.Nothing (after_deliver (p.high - r.cursor) s r.grain) caught.stepped (finds-nothing (p.high - r.cursor)) in
+    subst (λ (o : Option Subscription). Ends p q (Some None) (serve s p o)) (sym caught.found)
+    (ends-then p q q (Some None) (deliver_all s r p) (after_deliveries s) first (settles-settled q s reached caught.settled))
+  where
+    finds-nothing : (n : ℕ) → done q ≡ after_deliver n s caught.record_of.grain q reply.Nothing
+    finds-nothing zero = refl
+    finds-nothing (suc n) = refl

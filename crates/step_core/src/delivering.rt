@@ -13,6 +13,7 @@ ghost use Rattle.step_core.specs.Handing.{sent, IsNext};
 ghost use Rattle.step_core.specs.PlainOf.{plain_of};
 ghost use Rattle.step_core.specs.Records.{record_of};
 ghost use Rattle.step_core.specs.Replied.{replied, reply_of};
+ghost use Rattle.step_core.specs.Serving.{CatchesUp};
 ghost use Rattle.stream_model.specs.declared.reply.Reply.TheVariants.{Delivered};
 
 use crate::outcome::Told;
@@ -62,6 +63,25 @@ pub(crate) fn deliver(
         }
         Sought::Nothing => Ok(Told::Nothing),
         Sought::Closed => Ok(Told::Closed),
+    }
+}
+
+/// Delivers to the subscription with a number where the cache has nothing for it and nothing of it is outstanding: its
+/// cursor and its resume go to the end of the cache. Elsewhere nothing changes, and the result is false.
+pub(crate) fn catch_up(parts: &mut Parts, number: usize) -> bool
+    requires agrees { Agrees parts.old }
+    requires number { number < length parts.old.subs.registry.names }
+    ensures assembled { IsAssembled parts.new }
+    ensures told { CatchesUp (plain_of parts.old) (plain_of parts.new) (name_at parts.old.subs number) result }
+{
+    let grain = parts.grains.find(&parts.subs.registration(number).grain);
+    if is_outstanding(parts, number, grain) {
+        return false;
+    }
+    match parts.subs.next_event(number, parts.agent.cache(), false) {
+        Sought::Nothing => true,
+        Sought::Next { .. } => false,
+        Sought::Closed => false,
     }
 }
 

@@ -1,5 +1,5 @@
 //! A drain of a partition: operations, one after another, until nothing is left to do.
-ghost use Rattle.std.specs.Prelude.{◌≡◌, None, OnErr};
+ghost use Rattle.std.specs.Prelude.{◌≡◌, ◌<◌, length, None, OnErr};
 ghost use Rattle.stream_model.specs.declared.op.Op.TheVariants.{Commit, Deliver, Pull};
 ghost use Rattle.stream_model.specs.Draining.{acknowledge, after_begin, after_commit, ask, deliver_once_more, drain, drain_all, drain_round, empty_mailboxes, last_handled, next_note, open_names, serve, serve_each, take_turn, DrainsTo, deliver_up_to};
 ghost use Rattle.stream_ident.specs.Name.{grain_lt};
@@ -9,6 +9,7 @@ ghost use Rattle.stream_model.specs.Positions.{sub_at};
 ghost use Rattle.step_core.specs.declared.draining.Stop.TheVariants.{Memory};
 ghost use Rattle.step_core.specs.DrainPhases.{Asks, BreaksOff, Follows, after_deliveries, deliver_told, is_acknowledged, is_committed, is_nothing, pull_told};
 ghost use Rattle.step_core.specs.Replied.{reply_of, reply_with};
+ghost use Rattle.step_core.specs.Serving.{name_of};
 
 use crate::outcome::{Outcome, Told};
 use crate::partition::Partition;
@@ -149,11 +150,24 @@ fn serve_each(partition: &mut Partition, alloc: Global) -> Result<(), Stop>
     ensures { Follows partition.old partition.new result (serve_each (open_names partition.old) partition.old) }
 {
     let mut last = None;
-    while let Some(sub) = partition.next_due(last.as_ref()) {
-        serve(partition, alloc, &sub)?;
-        last = Some(sub);
+    while let Some(number) = partition.next_due(last) {
+        serve_number(partition, alloc, number)?;
+        last = Some(number);
     }
     Ok(())
+}
+
+/// Serves the subscription with a number. One that has nothing to do isn't looked for by its name.
+fn serve_number(partition: &mut Partition, alloc: Global, number: usize) -> Result<(), Stop>
+    requires { number < length partition.old.subs }
+    ensures { Follows partition.old partition.new result
+        (serve (name_of partition.old number) partition.old (sub_at partition.old (name_of partition.old number))) }
+{
+    if partition.catch_up(number) {
+        return Ok(());
+    }
+    let sub = partition.name(number);
+    serve(partition, alloc, &sub)
 }
 
 /// Serves a subscription: all that the cache has for it is delivered and handled, the last of it is

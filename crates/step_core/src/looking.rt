@@ -1,7 +1,7 @@
 //! What is asked without changing anything.
 ghost use Rattle.std.specs.Prelude.{◌≡◌, ◌<◌, None, Some, IfSome, length, pred, if◌then◌else◌};
 ghost use Rattle.std.specs.List.{AllByRecursion};
-ghost use Rattle.std.specs.Option.{option_copied, option_map};
+ghost use Rattle.std.specs.Option.{option_map};
 ghost use Rattle.stream_ident.specs.Name.{grain_lt};
 ghost use Rattle.stream_ident.specs.SubName.{sub_lt};
 ghost use Rattle.stream_ident.specs.Words.{keys_where, least, past};
@@ -53,31 +53,31 @@ pub(crate) fn due(parts: &Parts, after: Option<SubName>) -> Told
     }
 }
 
-/// The number of the due subscription with the least name that is greater than the given one. It costs the logarithm of
-/// how many subscriptions there are.
-fn next_due_number(parts: &Parts, after: Option<&SubName>) -> Option<usize>
-    requires { Agrees parts.now }
-    ensures number { option_map (name_at parts.now.subs) result ≡ next_due (plain_of parts.now) (option_copied after.entry) }
+/// The number of the due subscription with the least name that is greater than the name of the one with the given
+/// number. It costs the logarithm of how many subscriptions there are.
+pub(crate) fn next_due(parts: &Parts, after: Option<usize>) -> Option<usize>
+    requires agrees { Agrees parts.now }
+    requires after { IfSome after (λ number. number < length parts.now.subs.registry.names) }
+    ensures next { option_map (name_at parts.now.subs) result ≡ next_due (plain_of parts.now) (option_map (name_at parts.now.subs) after) }
     ensures within { IfSome result (λ number. number < length parts.now.subs.registry.names) }
 {
-    let high = parts.agent.cache().high();
-    let number = parts.subs.due_after(after, high)?;
-    // Past the greatest name the table begins again at the least.
-    let is_past = match after {
-        Some(last) => last.is_before(parts.subs.name(number)),
-        None => true,
-    };
-    is_past.then_some(number)
+    match after {
+        Some(last) => due_past(parts, last),
+        None => parts.subs.due_after(None, parts.agent.cache().high()),
+    }
 }
 
-/// The least name of a due subscription that is greater than the given one. It costs the logarithm of how many
-/// subscriptions there are.
-pub(crate) fn next_due(parts: &Parts, after: Option<&SubName>) -> Option<SubName>
-    requires { Agrees parts.now }
-    ensures { result ≡ next_due (plain_of parts.now) (option_copied after.entry) }
+/// The number of the due subscription with the least name that is greater than the name of the one with this number.
+fn due_past(parts: &Parts, last: usize) -> Option<usize>
+    requires agrees { Agrees parts.now }
+    requires last { last < length parts.now.subs.registry.names }
+    ensures next { option_map (name_at parts.now.subs) result ≡ next_due (plain_of parts.now) (Some (name_at parts.now.subs last)) }
+    ensures within { IfSome result (λ number. number < length parts.now.subs.registry.names) }
 {
-    let number = next_due_number(parts, after)?;
-    Some(*parts.subs.name(number))
+    let number = parts.subs.due_past(last, parts.agent.cache().high())?;
+    // Past the greatest name the table begins again at the least.
+    let is_past = parts.subs.name(last).is_before(parts.subs.name(number));
+    is_past.then_some(number)
 }
 
 /// The token of the last event that a subscription has handled, where that isn't acknowledged.
@@ -158,12 +158,11 @@ fn least_deliverable(parts: &Parts) -> Option<SubName>
     ensures { result ≡ least sub_lt (keys_where (is_deliverable (plain_of parts.now)) (plain_of parts.now).subs) }
 {
     let mut last = None;
-    while let Some(number) = next_due_number(parts, last.as_ref()) {
-        let name = *parts.subs.name(number);
+    while let Some(number) = next_due(parts, last) {
         if has_next(parts, number) {
-            return Some(name);
+            return Some(*parts.subs.name(number));
         }
-        last = Some(name);
+        last = Some(number);
     }
     None
 }

@@ -1,7 +1,7 @@
 //! The partition.
-ghost use Rattle.std.specs.Prelude.{◌≡◌, ◌<◌, ◌≤◌, true, length, slice_index_or, IfOk, OnErr, OnOk};
+ghost use Rattle.std.specs.Prelude.{◌≡◌, ◌<◌, ◌≤◌, true, length, slice_index_or, IfOk, IfSome, OnErr, OnOk};
 ghost use Rattle.std.specs.List.{AllByRecursion};
-ghost use Rattle.std.specs.Option.{option_copied, option_map};
+ghost use Rattle.std.specs.Option.{option_map};
 ghost use Rattle.stream_ident.specs.Event.{no_event};
 ghost use Rattle.stream_ident.specs.Name.{grain_lt};
 ghost use Rattle.stream_ident.specs.Words.{keys_where, least, Performs};
@@ -14,7 +14,7 @@ ghost use Rattle.stream_model.specs.Step.{step, IsReached};
 ghost use Rattle.step_core.specs.Reads.{handled_of, handled_positions, summaries_in_order};
 ghost use Rattle.step_core.specs.Replied.{answered, IsOfLog};
 ghost use Rattle.step_core.specs.Run.{Does, StopsBefore};
-ghost use Rattle.step_core.specs.Serving.{is_settled_in, next_due, served_of};
+ghost use Rattle.step_core.specs.Serving.{is_settled_in, name_of, next_due, served_of};
 
 mod asking;
 
@@ -224,13 +224,23 @@ impl Partition {
         all_waiting(&self.parts)
     }
 
-    /// The least name of a due subscription that is greater than the given one, in a partition that a legal history
-    /// leads to.
-    pub(crate) fn next_due(&self, after: Option<&SubName>) -> Option<SubName>
-        ensures next { result ≡ next_due self.now (option_copied after.entry) }
+    /// The number of the due subscription with the least name that is greater than the name of the one with the given
+    /// number, in a partition that a legal history leads to.
+    pub(crate) fn next_due(&self, after: Option<usize>) -> Option<usize>
+        requires { IfSome after (λ number. number < length self.now.subs) }
+        ensures next { option_map (name_of self.now) result ≡ next_due self.now (option_map (name_of self.now) after) }
+        ensures within { IfSome result (λ number. number < length self.now.subs) }
         ensures reached { IsReached self.now }
     {
         next_due(&self.parts, after)
+    }
+
+    /// The name of the subscription with a number.
+    pub(crate) fn name(&self, number: usize) -> SubName
+        requires { number < length self.now.subs }
+        ensures { result ≡ name_of self.now number }
+    {
+        *self.parts.subs.name(number)
     }
 
     /// The grain and the cursor of a subscription.

@@ -18,6 +18,7 @@ use Rattle.stream_laws.proofs.DrainRule.{Meets, Tally, meets-and_then, meets-wea
 use Rattle.stream_laws.proofs.DrainServing.{IsSeen, IsServing, ServingSound, meets-deliver_all, serving-later}
 use Rattle.stream_model.proofs.EachOf.{All-weaken}
 use Rattle.stream_laws.proofs.Summary.{Summary}
+use Rattle.stream_laws.proofs.Unique.{AreUnique}
 use Rattle.stream_ident.proofs.SameValues.{same_sub-equal, sub_equality}
 
 -- one open subscription
@@ -89,11 +90,11 @@ meets-serve_each cache t0 (s ∷ names) t p sound empty opens settled =
     (settled-next p q s names served.1 settled)))
 
 -- the open names, in order, are those of all open subscriptions
-open-names : (cache : ℕ) (t0 : Summary) (t : Tally) (p : PlainPartition) → IsSound cache t0 t p → AllByRecursion (IsOpenAt p) (open_names p)
-open-names cache t0 t p sound =
+pub open-names : (p : PlainPartition) → AreUnique same_sub p.subs → AllByRecursion (IsOpenAt p) (open_names p)
+open-names p unique =
     All-in_order (IsOpenAt p) sub_lt (keys_where (λ (r : Subscription). r.is_open) p.subs)
     (All-keys_where (IsOpenAt p) (λ (r : Subscription). r.is_open) p.subs
-    (each-entry same_sub sub_equality (λ (s : SubName) (r : Subscription). r.is_open ≡ true → IsOpenAt p s) p.subs sound.told.steady.subs (λ s r found is_open. record { record_of = r; found = found; is_open = is_open })))
+    (each-entry same_sub sub_equality (λ (s : SubName) (r : Subscription). r.is_open ≡ true → IsOpenAt p s) p.subs unique (λ s r found is_open. record { record_of = r; found = found; is_open = is_open })))
 
 none-settled : (p : PlainPartition) → SettledBut p (open_names p)
 none-settled p s r found is_open missing =
@@ -106,4 +107,4 @@ meets-drain_round cache t0 t p sound =
     (meets-empty_mailboxes cache t0 t p sound)
     (λ u q empty. meets-weaken (RoundSound cache t0 q) (RoundSound cache t0 p) u (serve_each (open_names q) q)
     (λ v w round. (round.0, round.1, round.2 ∙ empty.2, round.3 ∙ empty.3, round.4))
-    (meets-serve_each cache t0 (open_names q) u q empty.0 empty.1 (open-names cache t0 u q empty.0) (none-settled q)))
+    (meets-serve_each cache t0 (open_names q) u q empty.0 empty.1 (open-names q empty.0.told.steady.subs) (none-settled q)))

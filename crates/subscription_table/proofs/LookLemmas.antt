@@ -1,6 +1,6 @@
 -- What a table tells, by its parts.
 use Rattle.std.proofs.Common.{◌≡◌, ◌∙◌, ℕ, ◌<◌, false, List, length, get_or, None, Some, Option, sym, ap, arith}
-use Rattle.std.specs.Prelude.{slice_get, IfSome}
+use Rattle.std.specs.Prelude.{slice_get, IfNone, IfSome}
 use Rattle.std.proofs.lemmas.List.{get_or_read}
 use Rattle.std.proofs.lemmas.List.Elements.{All-from_recursion}
 use Rattle.std.proofs.lemmas.Map.{none_passes_from_lookup}
@@ -12,7 +12,7 @@ use Rattle.consumer_grain.specs.Subscriptions.{PlainState}
 use Rattle.pubsub_registry.specs.declared.registration.Registration.{Registration}
 use Rattle.resume_tree.specs.Leaves.{IsNameAt, IsNew}
 use Rattle.resume_tree.specs.declared.resumes.Leaf.{Leaf}
-use Rattle.subscription_table.specs.LeavesOf.{leaves_of}
+use Rattle.subscription_table.specs.LeavesOf.{leaf_of, leaves_of}
 use Rattle.subscription_table.specs.Standing.{IsTable}
 use Rattle.subscription_table.specs.Table.{PlainTable, name_at, no_entry, no_state, registration_at, state_at, stepped, with_state}
 use Rattle.subscription_table.proofs.LeafLemmas.{Entry, leaf_at, leaves-named, length-leaves_of}
@@ -21,6 +21,11 @@ use Rattle.subscription_table.proofs.LeafLemmas.{Entry, leaf_at, leaves-named, l
 pub where-some : {A : Type 0} (P Q : A → Type 0) → ((x : A) → P x → Q x) → (o : Option A) → IfSome o P → IfSome o Q
 where-some P Q from None some = tt
 where-some P Q from (Some x) some = from x some
+
+-- and where there is none
+pub where-none : {A : Type 0} (P Q : Type 0) → (P → Q) → (o : Option A) → IfNone o P → IfNone o Q
+where-none P Q from None none = from none
+where-none P Q from (Some x) none = tt
 
 module _ (t old : PlainTable) (tags : List ℕ) (leaves : List Leaf) (is : IsTable t tags leaves) (same : t ≡ old) where
   long : length leaves ≡ length t.registry.names
@@ -45,6 +50,14 @@ module _ (t old : PlainTable) (tags : List ℕ) (leaves : List Leaf) (is : IsTab
       ∙ ap (λ (all : List Leaf). Some (get_or all number d).name) is.leaved
       ∙ ap (λ (leaf : Leaf). Some leaf.name) (leaf_at t.registry.names t.states number d is.records.long within)
       ∙ ap (λ (t : PlainTable). Some (name_at t number)) same
+
+  -- the name of a leaf
+  pub leaf-name : (number : ℕ) → number < length old.registry.names → (get_or leaves number (leaf_of no_entry no_state)).name ≡ name_at old number
+  leaf-name number within =
+      let there : number < length t.registry.names = omega (arith, ap (λ (t : PlainTable). length t.registry.names) same) in
+      ap (λ (all : List Leaf). (get_or all number (leaf_of no_entry no_state)).name) is.leaved
+      ∙ ap (λ (leaf : Leaf). leaf.name) (leaf_at t.registry.names t.states number (leaf_of no_entry no_state) is.records.long there)
+      ∙ ap (λ (t : PlainTable). name_at t number) same
 
   -- a state that was read
   pub state-read : (number : ℕ) → number < length old.registry.names → (was : PlainState) → was ≡ get_or t.states number was → was ≡ state_at old number

@@ -166,6 +166,17 @@ impl SubscriptionTable {
     {
         self.resumes.due_after(after, high)
     }
+
+    /// The number of the next subscription that is due, as `due_after` says, after the name of the subscription with
+    /// a number. It costs the logarithm of the length, and compares no names.
+    pub fn due_past(&self, number: usize, high: usize) -> Option<usize>
+        requires { number < length self.now.registry.names }
+        ensures none { IfNone result (due_after high (Some (name_at self.now number)) (leaves_of self.now.registry.names self.now.states) ≡ None) }
+        ensures within { IfSome result (λ found. found < length self.now.registry.names) }
+        ensures some { IfSome result (λ found. due_after high (Some (name_at self.now number)) (leaves_of self.now.registry.names self.now.states) ≡ Some (name_at self.now found)) }
+    {
+        self.resumes.due_past(number, high)
+    }
 }
 
 /// Adds the states, tags and leaves of those names of a registry that have none yet. Each has handled

@@ -1,16 +1,17 @@
 //! What a drain asks of a partition: operations of its current agent and of a worker. They are those of `Partition::step`,
 //! without the `Op` that asks for them and the `Reply` that is made of what they come to.
-ghost use Rattle.std.specs.Prelude.{◌≡◌, true, OnErr};
+ghost use Rattle.std.specs.Prelude.{◌≡◌, ◌<◌, true, length, OnErr};
 ghost use Rattle.stream_ident.specs.Words.{Performs};
 ghost use Rattle.stream_model.specs.declared.op.Op.TheVariants.{Ack, Begin, Commit, Deliver, Pull};
 ghost use Rattle.stream_model.specs.Memory.{may_allocate};
-ghost use Rattle.stream_model.specs.Step.{step};
+ghost use Rattle.stream_model.specs.Step.{step, IsReached};
 ghost use Rattle.step_core.specs.Assembly.{Agrees, IsAssembled};
 ghost use Rattle.step_core.specs.PlainOf.{plain_of};
 ghost use Rattle.step_core.specs.Replied.{replied, reply_of, reply_with};
+ghost use Rattle.step_core.specs.Serving.{name_of, CatchesUp};
 
 use crate::acknowledging::ack;
-use crate::delivering::deliver;
+use crate::delivering::{catch_up, deliver};
 use crate::outcome::{Outcome, Told};
 use crate::partition::Partition;
 use crate::parts::Parts;
@@ -45,6 +46,18 @@ impl Partition {
         let told = deliver_now(&mut self.parts, alloc, sub);
         let _lengths = (self.parts.subs.len(), self.parts.grains.len());
         told
+    }
+
+    /// The agent delivers to the subscription with a number, where it finds nothing and leaves the subscription settled.
+    /// Elsewhere nothing is done.
+    pub(crate) fn catch_up(&mut self, number: usize) -> bool
+        requires { number < length self.old.subs }
+        ensures told { CatchesUp self.old self.new (name_of self.old number) result }
+        ensures reached { IsReached self.new }
+    {
+        let is_caught_up = catch_up(&mut self.parts, number);
+        let _lengths = (self.parts.subs.len(), self.parts.grains.len());
+        is_caught_up
     }
 
     /// The agent learns that a subscription has handled an event and all that it was owed before.

@@ -1,12 +1,16 @@
-use Rattle.std.proofs.Common.{length}
+use Rattle.std.proofs.Common.{length, ◌<◌}
+use Rattle.std.specs.Option.{option_map}
+use Rattle.std.specs.Prelude.{IfSome}
 use Rattle.stream_ident.specs.SubName.{sub_lt}
 use Rattle.stream_ident.specs.Words.{above}
 use Rattle.stream_model.specs.Draining.{open_names}
+use Rattle.step_core.specs.Serving.{name_of}
 use Rattle.step_core.proofs.DueNames.{GoesOn}
 use Rattle.step_core.proofs.draining.serve_each.Given as goal
 
-abbrev pub invariant-loop-sub : goal.invariant-loop-sub
-invariant-loop-sub l = GoesOn l.fn.partition l.partition l.last
+abbrev pub invariant-loop-number : goal.invariant-loop-number
+invariant-loop-number l =
+    GoesOn l.fn.partition l.partition (option_map (name_of l.partition) l.last) × IfSome l.last (λ number. number < length l.partition.subs)
 
-abbrev pub decreases-loop-sub : goal.decreases-loop-sub
-decreases-loop-sub l = length (above sub_lt l.last (open_names l.fn.partition))
+abbrev pub decreases-loop-number : goal.decreases-loop-number
+decreases-loop-number l = length (above sub_lt (option_map (name_of l.partition) l.last) (open_names l.fn.partition))

@@ -1,0 +1,47 @@
+use Rattle.std.proofs.Common.{◌∙◌, ap, sym, subst, ◌≤◌, false, arith}
+use Rattle.queue_cache.specs.Cache.{PlainCache, high}
+use Rattle.subscription_table.specs.Table.{PlainTable, state_at}
+use Rattle.subscription_table.specs.declared.progress.Sought.TheVariants as sought
+use Rattle.step_core.specs.Assembly.{IsAssembled}
+use Rattle.step_core.proofs.CatchOps.{caught-up}
+use Rattle.step_core.proofs.HandOps.{Searched, Stands, cursor-low, high-few, nothing-assembled, searched-is, with_subs}
+use Rattle.step_core.proofs.delivering.catch_up.Goals as goal
+
+pub next_event-requires-clause-cursor : goal.next_event-requires-clause-cursor
+next_event-requires-clause-cursor c =
+    let parts = c.args.parts.now in
+    let stands : Stands parts c.args.number = record { agrees = c.requires.agrees; within = c.requires.number } in
+    λ is_open. subst (λ (cache : PlainCache). cache.low ≤ (state_at parts.subs c.args.number).cursor) (sym c.cache.ensures) (cursor-low parts c.args.number stands is_open)
+
+pub next_event-requires-clause-high : goal.next_event-requires-clause-high
+next_event-requires-clause-high c = omega (arith, high-few c.args.parts.now c.requires.agrees, ap high c.cache.ensures)
+
+pub returns-in-Nothing-clause-assembled : goal.returns-in-Nothing-clause-assembled
+returns-in-Nothing-clause-assembled c =
+    let parts = c.args.parts.now in
+    let stands : Stands parts c.args.number = record { agrees = c.requires.agrees; within = c.requires.number } in
+    let searched : Searched parts c.next_event.new.self c.args.number false sought.Nothing =
+    searched-is parts c.next_event.new.self c.args.number c.cache.result.now false sought.Nothing c.cache.ensures c.in-Nothing.ensures.sought in
+    nothing-assembled parts c.next_event.new.self c.args.number false stands (sym c.if-is_outstanding.false ∙ c.is_outstanding.ensures) searched
+
+pub returns-in-Nothing-clause-told : goal.returns-in-Nothing-clause-told
+returns-in-Nothing-clause-told c =
+    let parts = c.args.parts.now in
+    let stands : Stands parts c.args.number = record { agrees = c.requires.agrees; within = c.requires.number } in
+    let searched : Searched parts c.next_event.new.self c.args.number false sought.Nothing =
+    searched-is parts c.next_event.new.self c.args.number c.cache.result.now false sought.Nothing c.cache.ensures c.in-Nothing.ensures.sought in
+    caught-up parts c.next_event.new.self c.args.number stands (sym c.if-is_outstanding.false ∙ c.is_outstanding.ensures) searched
+
+pub returns-in-Next-clause-assembled : goal.returns-in-Next-clause-assembled
+returns-in-Next-clause-assembled c =
+    let parts = c.args.parts.now in
+    let searched : Searched parts c.next_event.new.self c.args.number false (sought.Next c.in-Next.position) =
+    searched-is parts c.next_event.new.self c.args.number c.cache.result.now false (sought.Next c.in-Next.position) c.cache.ensures c.in-Next.ensures.sought in
+    subst (λ (t : PlainTable). IsAssembled (with_subs parts t)) (sym searched.0) c.requires.agrees.assembled
+
+pub returns-in-Closed-clause-assembled : goal.returns-in-Closed-clause-assembled
+returns-in-Closed-clause-assembled c =
+    let parts = c.args.parts.now in
+    let searched : Searched parts c.next_event.new.self c.args.number false sought.Closed =
+    searched-is parts c.next_event.new.self c.args.number c.cache.result.now false sought.Closed c.cache.ensures c.in-Closed.ensures.sought in
+    subst (λ (t : PlainTable). IsAssembled (with_subs parts t)) (sym searched.0) c.requires.agrees.assembled
