@@ -3,22 +3,47 @@ use std::alloc::{AllocError, Global};
 use std::process::Abort;
 use std::test::Fail;
 
-// What is done to a grain.
+// What is done to a grain, and what it has to answer.
 #[derive(Clone, Copy)]
 enum Call {
     // The delivery of a position is offered to a subscription.
-    Offer(usize, usize),
+    Offer(usize, usize, Offered),
     // A turn with this number begins, of up to so many events. What comes before the position is handled.
-    Begin(usize, Option<u64>, usize),
-    // A turn of an activation ends.
-    Commit(u64, u64),
+    Begin(usize, Option<u64>, usize, Began<'static>),
+    // A turn of an activation ends, or doesn't run.
+    Commit(u64, u64, bool),
     // The deliveries of a subscription leave.
     Forget(usize),
-    // The grain leaves memory.
-    Deactivate,
-    // Nothing: what is seen of the grain is told.
-    Look,
+    // The grain leaves memory, and so many deliveries are lost.
+    Deactivate(usize),
+    // Nothing: this is seen of the grain.
+    Look(Seen),
 }
+
+// What becomes of a turn that shall begin.
+#[derive(Clone, Copy, PartialEq, Eq)]
+enum Began<'a> {
+    // The turn has these positions of a subscription.
+    Turn(usize, &'a [usize]),
+    // The delivery of a position to a subscription is a repeat.
+    Dropped(usize, usize),
+    Spent,
+    Busy,
+    Empty,
+}
+
+// What is seen of a grain: its number, whether it is active, how many deliveries wait and the first of them, the turn
+// that runs with its subscription and positions, which subscriptions are known, and which of the first ten have
+// something here.
+type Seen = (
+    u64,
+    bool,
+    usize,
+    Option<Delivery>,
+    Option<(u64, usize, &'static [usize])>,
+    &'static [usize],
+    &'static [usize],
+);
 
 // Offers the delivery of a position to a subscription.
 fn offer<R: Abort>(
@@ -32,86 +57,79 @@ fn offer<R: Abort>(
     activation.offer(alloc, Delivery { sub, position })
 }
 
-// Begins a turn, and writes the reply.
-fn begin(
-    text: &mut String,
-    activation: &mut Activation,
-    past: usize,
-    turn: Option<u64>,
-    max_events: usize,
-) -> Result<(), AllocError> {
-    let begun = activation.begin(past, turn, max_events);
-    if let Begun::Turn { sub, positions } = &begun {
-        return write!(text, "turn of {sub}: {:?}", positions.as_slice());
+fn began_of(begun: &Begun) -> Began<'_> {
+    match begun {
+        Begun::Turn { sub, positions } => Began::Turn(*sub, positions.as_slice()),
+        Begun::Dropped(delivery) => Began::Dropped(delivery.sub, delivery.position),
+        Begun::Spent => Began::Spent,
+        Begun::Busy => Began::Busy,
+        Begun::Empty => Began::Empty,
     }
-    write!(text, "{begun:?}")
 }
 
-// Writes which turn runs.
-fn write_running(text: &mut String, activation: &Activation) -> Result<(), AllocError> {
-    match activation.running() {
-        None => text.push_str("nothing"),
-        Some(run) => {
-            let positions = run.positions.as_slice();
-            write!(text, "turn {} of {}: {positions:?}", run.turn, run.sub)
+// Whether this turn runs.
+fn runs(activation: &Activation, turn: Option<(u64, usize, &[usize])>) -> bool {
+    match (activation.running(), turn) {
+        (None, None) => true,
+        (Some(run), Some((turn, sub, positions))) => {
+            run.turn == turn && run.sub == sub && run.positions.as_slice() == positions
         }
+        _ => false,
     }
 }
 
-// Writes which subscriptions are known, and which of the first ten have something here.
-fn write_subs(text: &mut String, activation: &Activation) -> Result<(), AllocError> {
-    write!(text, " runs; {:?} known, held:", activation.subs())?;
+// Whether just these of the first ten subscriptions have something here.
+fn holds_for(activation: &Activation, held: &[usize]) -> bool {
     for sub in 0..10 {
-        if activation.holds(sub) {
-            write!(text, " {sub}")?;
+        if activation.holds(sub) != held.contains(&sub) {
+            return false;
         }
     }
-    Ok(())
+    true
 }
 
-// Writes what is seen of a grain.
-fn write_seen(text: &mut String, activation: &Activation) -> Result<(), AllocError> {
-    let state = if activation.is_active() {
-        "active"
-    } else {
-        "away"
-    };
-    let (number, waiting) = (activation.number(), activation.waiting());
-    let front = activation.front();
-    write!(text, "{number} {state}; {waiting} wait, {front:?} first; ")?;
-    write_running(text, activation)?;
-    write_subs(text, activation)
+// Whether this is seen of a grain.
+fn is_seen(activation: &Activation, seen: Seen) -> bool {
+    let (number, is_active, waiting, front, turn, known, held) = seen;
+    activation.number() == number
+        && activation.is_active() == is_active
+        && activation.waiting() == waiting
+        && activation.front() == front
+        && runs(activation, turn)
+        && activation.subs() == known
+        && holds_for(activation, held)
 }
 
 // Ends this turn of this activation, if it runs, and says whether it did.
-fn commit(activation: &mut Activation, number: u64, turn: u64) -> &'static str {
+fn commit(activation: &mut Activation, number: u64, turn: u64) -> bool {
     if activation.current_turn(number, turn).is_none() {
-        return "Stale";
+        return false;
     }
     activation.end_turn();
-    "Ended"
+    true
 }
 
-// Makes a call, and writes the reply.
-fn tell<R: Abort>(
+// Whether a call is answered so.
+fn is_so<R: Abort>(
     rt: &R,
     alloc: Global,
-    text: &mut String,
     activation: &mut Activation,
     call: Call,
-) -> Result<(), AllocError> {
+) -> Result<bool, AllocError> {
     match call {
-        Call::Offer(sub, position) => {
-            write!(text, "{:?}", offer(rt, alloc, activation, sub, position)?)
+        Call::Offer(sub, position, offered) => {
+            Ok(offer(rt, alloc, activation, sub, position)? == offered)
         }
-        Call::Begin(past, turn, max_events) => begin(text, activation, past, turn, max_events),
-        Call::Commit(number, turn) => text.push_str(commit(activation, number, turn)),
+        Call::Begin(past, turn, max_events, began) => {
+            Ok(began_of(&activation.begin(past, turn, max_events)) == began)
+        }
+        Call::Commit(number, turn, ended) => Ok(commit(activation, number, turn) == ended),
         Call::Forget(sub) => {
             activation.forget(sub);
-            Ok(())
+            Ok(true)
         }
-        Call::Deactivate => write!(text, "{} lost", activation.deactivate()),
-        Call::Look => write_seen(text, activation),
+        Call::Deactivate(lost) => Ok(activation.deactivate() == lost),
+        Call::Look(seen) => Ok(is_seen(activation, seen)),
     }
 }
 
@@ -130,42 +148,30 @@ fn offer_all<R: Abort>(
     Ok(())
 }
 
-// Makes calls, whose replies have to read so.
-fn ask<R: Abort>(
+// Makes calls of a new grain, to which something was offered.
+fn check<R: Abort>(
     rt: &R,
     alloc: Global,
-    activation: &mut Activation,
-    rows: &[(Call, &str)],
+    case: usize,
+    deliveries: &[(usize, usize)],
+    calls: &[Call],
 ) -> Result<(), AllocError> {
-    let mut text = String::new(alloc);
-    for (call, expected) in rows {
-        text.clear();
-        tell(rt, alloc, &mut text, activation, *call)?;
-        assert!(rt; text.as_str() == *expected, "{expected}");
+    let mut activation = Activation::new(alloc)?;
+    offer_all(rt, alloc, &mut activation, deliveries)?;
+    for (row, call) in calls.iter().enumerate() {
+        assert!(rt;
+            is_so(rt, alloc, &mut activation, *call)?,
+            "case {case}, row {row}"
+        );
     }
     Ok(())
 }
 
-// The same of a new grain, to which something was offered.
-fn check<R: Abort>(
-    rt: &R,
-    alloc: Global,
-    deliveries: &[(usize, usize)],
-    rows: &[(Call, &str)],
-) -> Result<(), AllocError> {
-    let mut activation = Activation::new(alloc)?;
-    offer_all(rt, alloc, &mut activation, deliveries)?;
-    ask(rt, alloc, &mut activation, rows)
-}
-
 // A new grain is not active.
-const NEW: [(Call, &str); 3] = [
-    (
-        Call::Look,
-        "0 away; 0 wait, None first; nothing runs; [] known, held:",
-    ),
-    (Call::Begin(0, Some(1), 1), "Empty"),
-    (Call::Deactivate, "0 lost"),
+const NEW: [Call; 3] = [
+    Call::Look((0, false, 0, None, None, &[], &[])),
+    Call::Begin(0, Some(1), 1, Began::Empty),
+    Call::Deactivate(0),
 ];
 
 // Sixteen deliveries of one subscription.
@@ -189,201 +195,300 @@ const SIXTEEN: [(usize, usize); 16] = [
 ];
 
 // Sixteen deliveries wait.
-const FULL: [(Call, &str); 2] = [
-    (Call::Offer(8, 16), "MailboxFull"),
-    (
-        Call::Look,
-        "1 active; 16 wait, Some(Delivery { sub: 7, position: 0 }) first; nothing runs; [7] known, held: 7",
-    ),
+const FULL: [Call; 2] = [
+    Call::Offer(8, 16, Offered::MailboxFull),
+    Call::Look((
+        1,
+        true,
+        16,
+        Some(Delivery {
+            sub: 7,
+            position: 0,
+        }),
+        None,
+        &[7],
+        &[7],
+    )),
 ];
 
 // A turn has as many events as are asked for.
-const THREE: [(Call, &str); 2] = [
-    (Call::Begin(0, Some(9), 3), "turn of 7: [0, 1, 2]"),
-    (
-        Call::Look,
-        "1 active; 13 wait, Some(Delivery { sub: 7, position: 3 }) first; turn 9 of 7: [0, 1, 2] runs; [7] known, held: 7",
-    ),
+const THREE: [Call; 2] = [
+    Call::Begin(0, Some(9), 3, Began::Turn(7, &[0, 1, 2])),
+    Call::Look((
+        1,
+        true,
+        13,
+        Some(Delivery {
+            sub: 7,
+            position: 3,
+        }),
+        Some((9, 7, &[0, 1, 2])),
+        &[7],
+        &[7],
+    )),
 ];
 
 // It has all sixteen.
-const ALL: [(Call, &str); 2] = [
-    (
-        Call::Begin(0, Some(9), 16),
-        "turn of 7: [0, 1, 2, 3, 4, 5, 6, 7, 8, 9, 10, 11, 12, 13, 14, 15]",
+const ALL: [Call; 2] = [
+    Call::Begin(
+        0,
+        Some(9),
+        16,
+        Began::Turn(7, &[0, 1, 2, 3, 4, 5, 6, 7, 8, 9, 10, 11, 12, 13, 14, 15]),
     ),
-    (
-        Call::Look,
-        "1 active; 0 wait, None first; turn 9 of 7: [0, 1, 2, 3, 4, 5, 6, 7, 8, 9, 10, 11, 12, 13, 14, 15] runs; [7] known, held: 7",
-    ),
+    Call::Look((
+        1,
+        true,
+        0,
+        None,
+        Some((
+            9,
+            7,
+            &[0, 1, 2, 3, 4, 5, 6, 7, 8, 9, 10, 11, 12, 13, 14, 15],
+        )),
+        &[7],
+        &[7],
+    )),
 ];
 
 // It has one at least.
-const ONE: [(Call, &str); 2] = [
-    (Call::Begin(0, Some(9), 0), "turn of 7: [0]"),
-    (
-        Call::Look,
-        "1 active; 15 wait, Some(Delivery { sub: 7, position: 1 }) first; turn 9 of 7: [0] runs; [7] known, held: 7",
-    ),
+const ONE: [Call; 2] = [
+    Call::Begin(0, Some(9), 0, Began::Turn(7, &[0])),
+    Call::Look((
+        1,
+        true,
+        15,
+        Some(Delivery {
+            sub: 7,
+            position: 1,
+        }),
+        Some((9, 7, &[0])),
+        &[7],
+        &[7],
+    )),
 ];
 
 // It has sixteen at most.
-const NO_MORE: [(Call, &str); 2] = [
-    (
-        Call::Begin(0, Some(9), 255),
-        "turn of 7: [0, 1, 2, 3, 4, 5, 6, 7, 8, 9, 10, 11, 12, 13, 14, 15]",
+const NO_MORE: [Call; 2] = [
+    Call::Begin(
+        0,
+        Some(9),
+        255,
+        Began::Turn(7, &[0, 1, 2, 3, 4, 5, 6, 7, 8, 9, 10, 11, 12, 13, 14, 15]),
     ),
-    (
-        Call::Look,
-        "1 active; 0 wait, None first; turn 9 of 7: [0, 1, 2, 3, 4, 5, 6, 7, 8, 9, 10, 11, 12, 13, 14, 15] runs; [7] known, held: 7",
-    ),
+    Call::Look((
+        1,
+        true,
+        0,
+        None,
+        Some((
+            9,
+            7,
+            &[0, 1, 2, 3, 4, 5, 6, 7, 8, 9, 10, 11, 12, 13, 14, 15],
+        )),
+        &[7],
+        &[7],
+    )),
 ];
 
 // A repeat is dropped alone.
-const REPEATS: [(Call, &str); 5] = [
-    (
-        Call::Begin(5, Some(1), 16),
-        "Dropped(Delivery { sub: 1, position: 4 })",
-    ),
-    (
-        Call::Look,
-        "1 active; 2 wait, Some(Delivery { sub: 1, position: 4 }) first; nothing runs; [1] known, held: 1",
-    ),
-    (
-        Call::Begin(5, Some(1), 16),
-        "Dropped(Delivery { sub: 1, position: 4 })",
-    ),
-    (
-        Call::Look,
-        "1 active; 1 wait, Some(Delivery { sub: 1, position: 5 }) first; nothing runs; [1] known, held: 1",
-    ),
-    (Call::Begin(5, Some(1), 16), "turn of 1: [5]"),
+const REPEATS: [Call; 5] = [
+    Call::Begin(5, Some(1), 16, Began::Dropped(1, 4)),
+    Call::Look((
+        1,
+        true,
+        2,
+        Some(Delivery {
+            sub: 1,
+            position: 4,
+        }),
+        None,
+        &[1],
+        &[1],
+    )),
+    Call::Begin(5, Some(1), 16, Began::Dropped(1, 4)),
+    Call::Look((
+        1,
+        true,
+        1,
+        Some(Delivery {
+            sub: 1,
+            position: 5,
+        }),
+        None,
+        &[1],
+        &[1],
+    )),
+    Call::Begin(5, Some(1), 16, Began::Turn(1, &[5])),
 ];
 
 // A front is of one subscription and rises.
-const FRONTS: [(Call, &str); 11] = [
-    (Call::Begin(0, Some(1), 16), "turn of 1: [4, 6]"),
-    (Call::Commit(1, 1), "Ended"),
-    (Call::Begin(0, Some(2), 16), "turn of 2: [7]"),
-    (Call::Commit(1, 2), "Ended"),
-    (Call::Begin(0, Some(3), 16), "turn of 1: [8]"),
-    (Call::Commit(1, 3), "Ended"),
-    (Call::Begin(0, Some(4), 16), "turn of 1: [8]"),
-    (Call::Commit(1, 4), "Ended"),
-    (Call::Begin(0, Some(5), 16), "turn of 1: [3, 9]"),
-    (Call::Commit(1, 5), "Ended"),
-    (
-        Call::Look,
-        "1 active; 0 wait, None first; nothing runs; [1, 2] known, held:",
-    ),
+const FRONTS: [Call; 11] = [
+    Call::Begin(0, Some(1), 16, Began::Turn(1, &[4, 6])),
+    Call::Commit(1, 1, true),
+    Call::Begin(0, Some(2), 16, Began::Turn(2, &[7])),
+    Call::Commit(1, 2, true),
+    Call::Begin(0, Some(3), 16, Began::Turn(1, &[8])),
+    Call::Commit(1, 3, true),
+    Call::Begin(0, Some(4), 16, Began::Turn(1, &[8])),
+    Call::Commit(1, 4, true),
+    Call::Begin(0, Some(5), 16, Began::Turn(1, &[3, 9])),
+    Call::Commit(1, 5, true),
+    Call::Look((1, true, 0, None, None, &[1, 2], &[])),
 ];
 
 // A refused begin changes nothing.
-const REFUSED: [(Call, &str); 10] = [
-    (Call::Begin(0, None, 16), "Spent"),
-    (
-        Call::Look,
-        "1 active; 2 wait, Some(Delivery { sub: 1, position: 4 }) first; nothing runs; [1] known, held: 1",
-    ),
-    (Call::Begin(0, Some(1), 1), "turn of 1: [4]"),
-    (Call::Begin(0, Some(2), 16), "Busy"),
-    (
-        Call::Look,
-        "1 active; 1 wait, Some(Delivery { sub: 1, position: 5 }) first; turn 1 of 1: [4] runs; [1] known, held: 1",
-    ),
-    (Call::Commit(1, 1), "Ended"),
-    (Call::Begin(0, Some(2), 16), "turn of 1: [5]"),
-    (Call::Commit(1, 2), "Ended"),
-    (Call::Begin(0, Some(3), 16), "Empty"),
-    (
-        Call::Look,
-        "1 active; 0 wait, None first; nothing runs; [1] known, held:",
-    ),
+const REFUSED: [Call; 10] = [
+    Call::Begin(0, None, 16, Began::Spent),
+    Call::Look((
+        1,
+        true,
+        2,
+        Some(Delivery {
+            sub: 1,
+            position: 4,
+        }),
+        None,
+        &[1],
+        &[1],
+    )),
+    Call::Begin(0, Some(1), 1, Began::Turn(1, &[4])),
+    Call::Begin(0, Some(2), 16, Began::Busy),
+    Call::Look((
+        1,
+        true,
+        1,
+        Some(Delivery {
+            sub: 1,
+            position: 5,
+        }),
+        Some((1, 1, &[4])),
+        &[1],
+        &[1],
+    )),
+    Call::Commit(1, 1, true),
+    Call::Begin(0, Some(2), 16, Began::Turn(1, &[5])),
+    Call::Commit(1, 2, true),
+    Call::Begin(0, Some(3), 16, Began::Empty),
+    Call::Look((1, true, 0, None, None, &[1], &[])),
 ];
 
 // Only the turn that runs ends.
-const ENDS: [(Call, &str); 12] = [
-    (Call::Commit(1, 5), "Stale"),
-    (Call::Begin(0, Some(5), 16), "turn of 1: [4]"),
-    (Call::Commit(0, 5), "Stale"),
-    (
-        Call::Look,
-        "1 active; 0 wait, None first; turn 5 of 1: [4] runs; [1] known, held: 1",
-    ),
-    (Call::Commit(2, 5), "Stale"),
-    (
-        Call::Look,
-        "1 active; 0 wait, None first; turn 5 of 1: [4] runs; [1] known, held: 1",
-    ),
-    (Call::Commit(1, 4), "Stale"),
-    (
-        Call::Look,
-        "1 active; 0 wait, None first; turn 5 of 1: [4] runs; [1] known, held: 1",
-    ),
-    (Call::Commit(1, 6), "Stale"),
-    (
-        Call::Look,
-        "1 active; 0 wait, None first; turn 5 of 1: [4] runs; [1] known, held: 1",
-    ),
-    (Call::Commit(1, 5), "Ended"),
-    (Call::Commit(1, 5), "Stale"),
+const ENDS: [Call; 12] = [
+    Call::Commit(1, 5, false),
+    Call::Begin(0, Some(5), 16, Began::Turn(1, &[4])),
+    Call::Commit(0, 5, false),
+    Call::Look((1, true, 0, None, Some((5, 1, &[4])), &[1], &[1])),
+    Call::Commit(2, 5, false),
+    Call::Look((1, true, 0, None, Some((5, 1, &[4])), &[1], &[1])),
+    Call::Commit(1, 4, false),
+    Call::Look((1, true, 0, None, Some((5, 1, &[4])), &[1], &[1])),
+    Call::Commit(1, 6, false),
+    Call::Look((1, true, 0, None, Some((5, 1, &[4])), &[1], &[1])),
+    Call::Commit(1, 5, true),
+    Call::Commit(1, 5, false),
 ];
 
 // The turn that runs stays when its subscription is forgotten.
-const FORGOTTEN: [(Call, &str); 7] = [
-    (Call::Begin(0, Some(1), 16), "turn of 1: [4]"),
-    (Call::Forget(1), ""),
-    (
-        Call::Look,
-        "1 active; 2 wait, Some(Delivery { sub: 2, position: 5 }) first; turn 1 of 1: [4] runs; [2, 3] known, held: 1 2 3",
-    ),
-    (Call::Commit(1, 1), "Ended"),
-    (
-        Call::Look,
-        "1 active; 2 wait, Some(Delivery { sub: 2, position: 5 }) first; nothing runs; [2, 3] known, held: 2 3",
-    ),
-    (Call::Forget(4), ""),
-    (
-        Call::Look,
-        "1 active; 2 wait, Some(Delivery { sub: 2, position: 5 }) first; nothing runs; [2, 3] known, held: 2 3",
-    ),
+const FORGOTTEN: [Call; 7] = [
+    Call::Begin(0, Some(1), 16, Began::Turn(1, &[4])),
+    Call::Forget(1),
+    Call::Look((
+        1,
+        true,
+        2,
+        Some(Delivery {
+            sub: 2,
+            position: 5,
+        }),
+        Some((1, 1, &[4])),
+        &[2, 3],
+        &[1, 2, 3],
+    )),
+    Call::Commit(1, 1, true),
+    Call::Look((
+        1,
+        true,
+        2,
+        Some(Delivery {
+            sub: 2,
+            position: 5,
+        }),
+        None,
+        &[2, 3],
+        &[2, 3],
+    )),
+    Call::Forget(4),
+    Call::Look((
+        1,
+        true,
+        2,
+        Some(Delivery {
+            sub: 2,
+            position: 5,
+        }),
+        None,
+        &[2, 3],
+        &[2, 3],
+    )),
 ];
 
 // A deactivated grain wakes as another activation.
-const DEACTIVATED: [(Call, &str); 10] = [
-    (Call::Begin(0, Some(1), 16), "turn of 1: [4, 5]"),
-    (Call::Deactivate, "5 lost"),
-    (
-        Call::Look,
-        "1 away; 0 wait, None first; nothing runs; [1, 2, 3] known, held:",
-    ),
-    (Call::Deactivate, "0 lost"),
-    (Call::Begin(0, Some(2), 16), "Empty"),
-    (Call::Offer(1, 4), "Delivered"),
-    (
-        Call::Look,
-        "2 active; 1 wait, Some(Delivery { sub: 1, position: 4 }) first; nothing runs; [1, 2, 3] known, held: 1",
-    ),
-    (Call::Begin(0, Some(2), 16), "turn of 1: [4]"),
-    (Call::Commit(1, 2), "Stale"),
-    (Call::Commit(2, 2), "Ended"),
+const DEACTIVATED: [Call; 10] = [
+    Call::Begin(0, Some(1), 16, Began::Turn(1, &[4, 5])),
+    Call::Deactivate(5),
+    Call::Look((1, false, 0, None, None, &[1, 2, 3], &[])),
+    Call::Deactivate(0),
+    Call::Begin(0, Some(2), 16, Began::Empty),
+    Call::Offer(1, 4, Offered::Delivered),
+    Call::Look((
+        2,
+        true,
+        1,
+        Some(Delivery {
+            sub: 1,
+            position: 4,
+        }),
+        None,
+        &[1, 2, 3],
+        &[1],
+    )),
+    Call::Begin(0, Some(2), 16, Began::Turn(1, &[4])),
+    Call::Commit(1, 2, false),
+    Call::Commit(2, 2, true),
 ];
 
 // Subscriptions rise.
-const RISING: [(Call, &str); 3] = [
-    (
-        Call::Look,
-        "1 active; 7 wait, Some(Delivery { sub: 5, position: 1 }) first; nothing runs; [0, 2, 5, 7, 9] known, held: 0 2 5 7 9",
-    ),
-    (Call::Forget(5), ""),
-    (
-        Call::Look,
-        "1 active; 6 wait, Some(Delivery { sub: 2, position: 2 }) first; nothing runs; [0, 2, 7, 9] known, held: 0 2 7 9",
-    ),
+const RISING: [Call; 3] = [
+    Call::Look((
+        1,
+        true,
+        7,
+        Some(Delivery {
+            sub: 5,
+            position: 1,
+        }),
+        None,
+        &[0, 2, 5, 7, 9],
+        &[0, 2, 5, 7, 9],
+    )),
+    Call::Forget(5),
+    Call::Look((
+        1,
+        true,
+        6,
+        Some(Delivery {
+            sub: 2,
+            position: 2,
+        }),
+        None,
+        &[0, 2, 7, 9],
+        &[0, 2, 7, 9],
+    )),
 ];
 
 // What is offered to a new grain, and what is done to it then.
-const CASES: [(&[(usize, usize)], &[(Call, &str)]); 13] = [
+const CASES: [(&[(usize, usize)], &[Call]); 13] = [
     (&[], &NEW),
     (&SIXTEEN, &FULL),
     (&SIXTEEN, &THREE),
@@ -407,8 +512,8 @@ const CASES: [(&[(usize, usize)], &[(Call, &str)]); 13] = [
 
 #[test]
 fn grains_are_told_what_became_of_calls(rt: HostRuntime) -> Result<(), Fail> {
-    for (deliveries, rows) in &CASES {
-        check(&rt, rt.alloc(), deliveries, rows)?;
+    for (case, (deliveries, calls)) in CASES.iter().enumerate() {
+        check(&rt, rt.alloc(), case, deliveries, calls)?;
     }
     Ok(())
 }

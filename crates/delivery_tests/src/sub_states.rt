@@ -61,137 +61,91 @@ fn apply<R: Abort>(
     Ok(())
 }
 
-// Writes what is seen of a state.
-fn write_seen(text: &mut String, state: &SubState) -> Result<(), AllocError> {
-    let is_open = if state.is_open() { "open" } else { "closed" };
-    let Token { seq, idx } = state.start();
-    write!(
-        text,
-        "{is_open} from ({seq}, {idx}); {:?} ",
-        state.handled()
-    )?;
-    text.push_str(if state.is_unacknowledged() {
-        "to tell"
-    } else {
-        "told"
-    })?;
-    let (past, resume) = (state.past(), state.resume());
-    let (cursor, note) = (state.cursor(), state.note());
-    write!(
-        text,
-        ", past {past}; resume {resume}, cursor {cursor}, note {note}"
-    )
+// What is seen of a state that starts at a token: whether it is open, the positions that are handled, whether some are
+// unacknowledged, the number past the last of them, the resume and the cursor, and the note.
+type Seen = (bool, &'static [usize], bool, usize, [usize; 2], u64);
+
+fn is_handled(state: &SubState, handled: &[usize], is_unacknowledged: bool, past: usize) -> bool {
+    state.handled() == handled
+        && state.is_unacknowledged() == is_unacknowledged
+        && state.past() == past
 }
 
 // Whether this is seen of a state.
-fn is_seen(alloc: Global, state: &SubState, expected: &str) -> Result<bool, AllocError> {
-    let mut text = String::new(alloc);
-    write_seen(&mut text, state)?;
-    Ok(text.as_str() == expected)
+fn is_seen(state: &SubState, seen: Seen) -> bool {
+    let (is_open, handled, is_unacknowledged, past, places, note) = seen;
+    state.start() == START
+        && state.is_open() == is_open
+        && is_handled(state, handled, is_unacknowledged, past)
+        && [state.resume(), state.cursor()] == places
+        && state.note() == note
 }
 
-const NEW: &str = "open from (4, 2); [] told, past 0; resume 10, cursor 10, note 0";
+const NEW: Seen = (true, &[], false, 0, [10, 10], 0);
 
 // Looks at a new state that begins at position 10, makes calls, and looks at it after each.
-fn check<R: Abort>(rt: &R, alloc: Global, rows: &[(Call, &str)]) -> Result<(), AllocError> {
+fn check<R: Abort>(
+    rt: &R,
+    alloc: Global,
+    case: usize,
+    rows: &[(Call, Seen)],
+) -> Result<(), AllocError> {
     let mut state = SubState::new(alloc, START, 10);
-    assert!(rt; is_seen(alloc, &state, NEW)?);
-    for (call, expected) in rows {
+    assert!(rt; is_seen(&state, NEW));
+    for (row, (call, seen)) in rows.iter().enumerate() {
         apply(rt, alloc, &mut state, *call)?;
-        assert!(rt; is_seen(alloc, &state, expected)?, "{expected}");
+        assert!(rt; is_seen(&state, *seen), "case {case}, row {row}");
     }
     Ok(())
 }
 
 // A commit adds positions and keeps the note.
-const COMMITTED: [(Call, &str); 2] = [
+const COMMITTED: [(Call, Seen); 2] = [
     (
         Call::Commit(3, 9, 77),
-        "open from (4, 2); [3, 9] told, past 10; resume 10, cursor 10, note 77",
+        (true, &[3, 9], false, 10, [10, 10], 77),
     ),
     (
         Call::Commit(10, 12, 78),
-        "open from (4, 2); [3, 9, 10, 12] to tell, past 13; resume 10, cursor 10, note 78",
+        (true, &[3, 9, 10, 12], true, 13, [10, 10], 78),
     ),
 ];
 
 // A rewound cursor is at the resume.
-const REWOUND: [(Call, &str); 2] = [
-    (
-        Call::Advance(14),
-        "open from (4, 2); [] told, past 0; resume 10, cursor 15, note 0",
-    ),
-    (
-        Call::Rewind,
-        "open from (4, 2); [] told, past 0; resume 10, cursor 10, note 0",
-    ),
+const REWOUND: [(Call, Seen); 2] = [
+    (Call::Advance(14), (true, &[], false, 0, [10, 15], 0)),
+    (Call::Rewind, (true, &[], false, 0, [10, 10], 0)),
 ];
 
 // The resume catches up with nothing outstanding.
-const CAUGHT_UP: [(Call, &str); 5] = [
-    (
-        Call::CatchUp(12, true),
-        "open from (4, 2); [] told, past 0; resume 10, cursor 12, note 0",
-    ),
-    (
-        Call::CatchUp(11, true),
-        "open from (4, 2); [] told, past 0; resume 10, cursor 12, note 0",
-    ),
-    (
-        Call::CatchUp(11, false),
-        "open from (4, 2); [] told, past 0; resume 12, cursor 12, note 0",
-    ),
-    (
-        Call::CatchUp(20, false),
-        "open from (4, 2); [] told, past 0; resume 20, cursor 20, note 0",
-    ),
-    (
-        Call::CatchUp(5, false),
-        "open from (4, 2); [] told, past 0; resume 20, cursor 20, note 0",
-    ),
+const CAUGHT_UP: [(Call, Seen); 5] = [
+    (Call::CatchUp(12, true), (true, &[], false, 0, [10, 12], 0)),
+    (Call::CatchUp(11, true), (true, &[], false, 0, [10, 12], 0)),
+    (Call::CatchUp(11, false), (true, &[], false, 0, [12, 12], 0)),
+    (Call::CatchUp(20, false), (true, &[], false, 0, [20, 20], 0)),
+    (Call::CatchUp(5, false), (true, &[], false, 0, [20, 20], 0)),
 ];
 
 // An acknowledgement never goes back.
-const ACKNOWLEDGED: [(Call, &str); 5] = [
-    (
-        Call::Advance(19),
-        "open from (4, 2); [] told, past 0; resume 10, cursor 20, note 0",
-    ),
-    (
-        Call::Acknowledge(4),
-        "open from (4, 2); [] told, past 0; resume 10, cursor 20, note 0",
-    ),
-    (
-        Call::Acknowledge(14),
-        "open from (4, 2); [] told, past 0; resume 15, cursor 20, note 0",
-    ),
-    (
-        Call::Acknowledge(13),
-        "open from (4, 2); [] told, past 0; resume 15, cursor 20, note 0",
-    ),
-    (
-        Call::Acknowledge(29),
-        "open from (4, 2); [] told, past 0; resume 30, cursor 30, note 0",
-    ),
+const ACKNOWLEDGED: [(Call, Seen); 5] = [
+    (Call::Advance(19), (true, &[], false, 0, [10, 20], 0)),
+    (Call::Acknowledge(4), (true, &[], false, 0, [10, 20], 0)),
+    (Call::Acknowledge(14), (true, &[], false, 0, [15, 20], 0)),
+    (Call::Acknowledge(13), (true, &[], false, 0, [15, 20], 0)),
+    (Call::Acknowledge(29), (true, &[], false, 0, [30, 30], 0)),
 ];
 
 // A closed one keeps what it has.
-const CLOSED: [(Call, &str); 3] = [
+const CLOSED: [(Call, Seen); 3] = [
     (
         Call::Commit(3, 9, 77),
-        "open from (4, 2); [3, 9] told, past 10; resume 10, cursor 10, note 77",
+        (true, &[3, 9], false, 10, [10, 10], 77),
     ),
-    (
-        Call::Close,
-        "closed from (4, 2); [3, 9] told, past 10; resume 10, cursor 10, note 77",
-    ),
-    (
-        Call::Close,
-        "closed from (4, 2); [3, 9] told, past 10; resume 10, cursor 10, note 77",
-    ),
+    (Call::Close, (false, &[3, 9], false, 10, [10, 10], 77)),
+    (Call::Close, (false, &[3, 9], false, 10, [10, 10], 77)),
 ];
 
-const CASES: [&[(Call, &str)]; 6] = [
+const CASES: [&[(Call, Seen)]; 6] = [
     &[],
     &COMMITTED,
     &REWOUND,
@@ -202,8 +156,8 @@ const CASES: [&[(Call, &str)]; 6] = [
 
 #[test]
 fn calls_change_what_is_seen(rt: HostRuntime) -> Result<(), Fail> {
-    for rows in CASES {
-        check(&rt, rt.alloc(), rows)?;
+    for (case, rows) in CASES.iter().enumerate() {
+        check(&rt, rt.alloc(), case, rows)?;
     }
     Ok(())
 }

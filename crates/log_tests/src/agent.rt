@@ -1,29 +1,25 @@
-use crate::tagging::tags_of;
+use crate::numbered::{events_from, tags_of};
 use pulling_agent::{Agent, Plan, StaleAgent};
 use std::alloc::{AllocError, Global};
 use std::process::Abort;
 use std::test::Fail;
-use stream_ident::{Event, Payload, StreamId, Token};
+use stream_ident::Event;
 
-/// An event of a batch.
-fn event_at(idx: u32) -> Result<Event, Fail> {
-    Ok(Event {
-        stream: StreamId::new(b"o", b"1")?,
-        token: Token { seq: 1, idx },
-        payload: Payload::new(b"")?,
-    })
-}
-
-/// The events of a queue: so many of one batch. One want of memory is answered by asking again.
-fn events_of(alloc: Global, count: u32) -> Result<Vec<Event>, Fail> {
-    let mut events = match Vec::with_capacity(alloc, count as usize) {
-        Ok(events) => events,
-        Err(AllocError) => Vec::with_capacity(alloc, count as usize)?,
-    };
-    for idx in 0..count {
-        events.push(event_at(idx)?)?;
-    }
-    Ok(events)
+/// What is asked of an agent over a queue, and what it has to answer.
+#[derive(Clone, Copy)]
+enum Call {
+    /// A pull of up to so many events, where nothing before a position is read again, is done as planned.
+    Pull(usize, usize, Plan),
+    /// All blocks but so many are purged that lie before a position. The cache begins here then.
+    Purge(usize, usize, usize),
+    /// Where the cache begins and ends.
+    Cache(usize, usize),
+    /// A caller names a generation.
+    Check(u64, Result<(), StaleAgent>),
+    /// A silo takes over with a cache that is empty at a position, under this generation.
+    TakeOver(u8, usize, u64),
+    /// The generation, and the silo.
+    Is(u64, u8),
 }
 
 /// An agent. One want of memory is answered by asking again.
@@ -56,105 +52,143 @@ fn pull(
     Ok(plan)
 }
 
-#[test]
-fn one_block_waits_for_the_least_resume(rt: HostRuntime) -> Result<(), Fail> {
-    let queue = events_of(rt.alloc(), 65)?;
-    let mut agent = new_agent(&rt, rt.alloc(), 1)?;
-    for (least, plan) in [
-        (
-            0,
-            Plan::Take {
-                drops: 0,
-                count: 64,
-            },
-        ),
-        (0, Plan::Pressed),
-        (63, Plan::Pressed),
-        (64, Plan::Take { drops: 1, count: 1 }),
-        (64, Plan::Dry),
-    ] {
-        assert!(rt; pull(&rt, rt.alloc(), &mut agent, queue.as_slice(), 256, least)? == plan);
-    }
-    assert!(rt; (agent.cache().low(), agent.cache().high()) == (64, 65));
-    Ok(())
+/// Whether the cache begins and ends here.
+fn has_cache(agent: &Agent, low: usize, high: usize) -> bool {
+    agent.cache().low() == low && agent.cache().high() == high
 }
 
-#[test]
-fn two_blocks_are_purged(rt: HostRuntime) -> Result<(), Fail> {
-    let queue = events_of(rt.alloc(), 65)?;
-    let mut agent = new_agent(&rt, rt.alloc(), 2)?;
-    let plan = pull(&rt, rt.alloc(), &mut agent, queue.as_slice(), 256, 0)?;
-    assert!(rt;
-        plan == Plan::Take {
-            drops: 0,
-            count: 65
+/// Whether a silo takes over under this generation.
+fn takes_over(agent: &mut Agent, silo: u8, at: usize, generation: u64) -> bool {
+    agent.generation() < 1000 && agent.take_over(silo, at) == generation
+}
+
+/// Whether a call is answered so.
+fn is_so(
+    rt: &impl Abort,
+    alloc: Global,
+    agent: &mut Agent,
+    queue: &[Event],
+    call: Call,
+) -> Result<bool, AllocError> {
+    match call {
+        Call::Pull(max_events, least, plan) => {
+            Ok(pull(rt, alloc, agent, queue, max_events, least)? == plan)
         }
-    );
-    assert!(rt; pull(&rt, rt.alloc(), &mut agent, queue.as_slice(), 256, 0)? == Plan::Dry);
-    for (keep, least, low) in [(2, 65, 0), (1, 63, 0), (1, 65, 64), (0, 65, 64)] {
-        assert!(rt; agent.purge(keep, least) == low, "keep {keep}");
-        assert!(rt; agent.cache().low() == low, "keep {keep}");
+        Call::Purge(keep, least, low) => Ok(agent.purge(keep, least) == low),
+        Call::Cache(low, high) => Ok(has_cache(agent, low, high)),
+        Call::Check(generation, answer) => Ok(agent.check(generation) == answer),
+        Call::TakeOver(silo, at, generation) => Ok(takes_over(agent, silo, at, generation)),
+        Call::Is(generation, silo) => Ok((agent.generation(), agent.silo()) == (generation, silo)),
     }
-    assert!(rt; agent.cache().high() == 65);
-    Ok(())
 }
 
-#[test]
-fn a_pull_brings_1_to_256_events(rt: HostRuntime) -> Result<(), Fail> {
-    let queue = events_of(rt.alloc(), 300)?;
-    let mut agent = new_agent(&rt, rt.alloc(), 4)?;
-    for (max_events, least, plan) in [
-        (0, 0, Plan::Take { drops: 0, count: 1 }),
-        (
-            1000,
-            0,
-            Plan::Take {
-                drops: 0,
-                count: 255,
-            },
-        ),
-        (
-            1000,
-            200,
-            Plan::Take {
-                drops: 1,
-                count: 44,
-            },
-        ),
-        (1000, 200, Plan::Dry),
-    ] {
-        let pulled = pull(
-            &rt,
-            rt.alloc(),
-            &mut agent,
-            queue.as_slice(),
-            max_events,
-            least,
-        )?;
-        assert!(rt; pulled == plan, "at most {max_events}");
+/// Asks a new agent with room for so many blocks, over a queue of so many events.
+fn check(
+    rt: &impl Abort,
+    alloc: Global,
+    case: &str,
+    (events, blocks): (usize, usize),
+    calls: &[Call],
+) -> Result<(), Fail> {
+    let queue = events_from(alloc, 0, events)?;
+    let mut agent = new_agent(rt, alloc, blocks)?;
+    for (row, call) in calls.iter().enumerate() {
+        assert!(rt;
+            is_so(rt, alloc, &mut agent, queue.as_slice(), *call)?,
+            "{case}: row {row}"
+        );
     }
     Ok(())
 }
 
-#[test]
-fn an_agent_that_was_replaced_is_refused(rt: HostRuntime) -> Result<(), Fail> {
-    let queue = events_of(rt.alloc(), 64)?;
-    let mut agent = new_agent(&rt, rt.alloc(), 2)?;
-    let plan = pull(&rt, rt.alloc(), &mut agent, queue.as_slice(), 64, 0)?;
-    assert!(rt;
-        plan == Plan::Take {
+const WAITING: [Call; 6] = [
+    Call::Pull(
+        256,
+        0,
+        Plan::Take {
             drops: 0,
-            count: 64
-        }
-    );
-    assert!(rt; agent.generation() == 0);
-    assert!(rt; agent.check(0) == Ok(()));
-    assert!(rt; agent.take_over(3, 9) == 1);
-    assert!(rt; (agent.generation(), agent.silo()) == (1, 3));
-    assert!(rt; (agent.cache().low(), agent.cache().high()) == (9, 9));
-    let stale = StaleAgent { now: 1 };
-    assert!(rt; agent.check(0) == Err(stale));
-    assert!(rt; agent.check(1) == Ok(()));
-    assert!(rt; agent.check(2) == Err(stale));
+            count: 64,
+        },
+    ),
+    Call::Pull(256, 0, Plan::Pressed),
+    Call::Pull(256, 63, Plan::Pressed),
+    Call::Pull(256, 64, Plan::Take { drops: 1, count: 1 }),
+    Call::Pull(256, 64, Plan::Dry),
+    Call::Cache(64, 65),
+];
+
+const PURGED: [Call; 10] = [
+    Call::Pull(
+        256,
+        0,
+        Plan::Take {
+            drops: 0,
+            count: 65,
+        },
+    ),
+    Call::Pull(256, 0, Plan::Dry),
+    Call::Purge(2, 65, 0),
+    Call::Cache(0, 65),
+    Call::Purge(1, 63, 0),
+    Call::Cache(0, 65),
+    Call::Purge(1, 65, 64),
+    Call::Cache(64, 65),
+    Call::Purge(0, 65, 64),
+    Call::Cache(64, 65),
+];
+
+const PULLED: [Call; 4] = [
+    Call::Pull(0, 0, Plan::Take { drops: 0, count: 1 }),
+    Call::Pull(
+        1000,
+        0,
+        Plan::Take {
+            drops: 0,
+            count: 255,
+        },
+    ),
+    Call::Pull(
+        1000,
+        200,
+        Plan::Take {
+            drops: 1,
+            count: 44,
+        },
+    ),
+    Call::Pull(1000, 200, Plan::Dry),
+];
+
+const REPLACED: [Call; 9] = [
+    Call::Pull(
+        64,
+        0,
+        Plan::Take {
+            drops: 0,
+            count: 64,
+        },
+    ),
+    Call::Is(0, 0),
+    Call::Check(0, Ok(())),
+    Call::TakeOver(3, 9, 1),
+    Call::Is(1, 3),
+    Call::Cache(9, 9),
+    Call::Check(0, Err(StaleAgent { now: 1 })),
+    Call::Check(1, Ok(())),
+    Call::Check(2, Err(StaleAgent { now: 1 })),
+];
+
+/// What is shown, how many events the queue has and how many blocks the cache, and what is asked.
+const CASES: [(&str, (usize, usize), &[Call]); 4] = [
+    ("one block waits for the least resume", (65, 1), &WAITING),
+    ("two blocks are purged", (65, 2), &PURGED),
+    ("a pull brings 1 to 256 events", (300, 4), &PULLED),
+    ("an agent that was replaced is refused", (64, 2), &REPLACED),
+];
+
+#[test]
+fn agents_are_asked(rt: HostRuntime) -> Result<(), Fail> {
+    for (case, sizes, calls) in &CASES {
+        check(&rt, rt.alloc(), case, *sizes, calls)?;
+    }
     Ok(())
 }

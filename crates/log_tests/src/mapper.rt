@@ -3,53 +3,43 @@ use std::alloc::Global;
 use std::test::Fail;
 use stream_ident::StreamId;
 
-/// Queues and tags that another implementation of SHA-256 gives.
-#[test]
-fn places_are_those_of_the_digest(rt: HostRuntime) -> Result<(), Fail> {
-    for (namespace, key, queues, tag) in [
-        (b"o".as_slice(), b"k".as_slice(), [0, 1, 1, 37], 41),
-        (b"orders".as_slice(), b"7".as_slice(), [0, 0, 2, 26], 36),
-        (b"a".as_slice(), b"b".as_slice(), [0, 1, 2, 19], 29),
-        (
-            [b'A'; 64].as_slice(),
-            [b'z'; 64].as_slice(),
-            [0, 1, 0, 5],
-            161,
-        ),
-    ] {
-        let stream = StreamId::new(namespace, key)?;
-        for (count, queue) in [1, 2, 3, 64].into_iter().zip(queues) {
-            assert!(rt;
-                place(&stream, count) == Place { queue, tag },
-                "among {count}"
-            );
-        }
-    }
-    Ok(())
+/// Streams, their tags, and their queues among so many. The first four are those that another implementation of
+/// SHA-256 gives, the others those of `sha256sum`.
+const PLACES: [(&[u8], &[u8], u8, &[(usize, usize)]); 12] = [
+    (b"o", b"k", 41, &[(1, 0), (2, 1), (3, 1), (64, 37)]),
+    (b"orders", b"7", 36, &[(1, 0), (2, 0), (3, 2), (64, 26)]),
+    (b"a", b"b", 29, &[(1, 0), (2, 1), (3, 2), (64, 19)]),
+    (
+        &[b'A'; 64],
+        &[b'z'; 64],
+        161,
+        &[(1, 0), (2, 1), (3, 0), (64, 5)],
+    ),
+    (b"o", b"k", 41, &[(1, 0), (7, 3), (64, 37)]),
+    (b"o", b"0", 184, &[(1, 0), (7, 1), (64, 42)]),
+    (b"o", b"255", 165, &[(1, 0), (7, 6), (64, 13)]),
+    (b"orders", b"7", 36, &[(1, 0), (7, 5), (64, 26)]),
+    (b"orders", b"8", 181, &[(1, 0), (7, 4), (64, 18)]),
+    (b"trades", b"ibm", 229, &[(1, 0), (7, 3), (64, 22)]),
+    (b"users", b"0001", 174, &[(1, 0), (7, 2), (64, 30)]),
+    (b"sensors.eu", b"42", 64, &[(1, 0), (7, 5), (64, 18)]),
+];
+
+/// Whether a stream has this place among so many queues.
+fn is_placed(stream: &StreamId, count: usize, queue: usize, tag: u8) -> bool {
+    1 <= count
+        && place(stream, count) == Place { queue, tag }
+        && queue_mapper::queue(stream, count) == queue
 }
 
-/// Places that `sha256sum` gives among 1, 7 and 64 queues.
 #[test]
-fn places_are_those_of_sha256sum(rt: HostRuntime) -> Result<(), Fail> {
-    for (namespace, key, queues, tag) in [
-        (b"o".as_slice(), b"k".as_slice(), [0, 3, 37], 41),
-        (b"o".as_slice(), b"0".as_slice(), [0, 1, 42], 184),
-        (b"o".as_slice(), b"255".as_slice(), [0, 6, 13], 165),
-        (b"orders".as_slice(), b"7".as_slice(), [0, 5, 26], 36),
-        (b"orders".as_slice(), b"8".as_slice(), [0, 4, 18], 181),
-        (b"trades".as_slice(), b"ibm".as_slice(), [0, 3, 22], 229),
-        (b"users".as_slice(), b"0001".as_slice(), [0, 2, 30], 174),
-        (b"sensors.eu".as_slice(), b"42".as_slice(), [0, 5, 18], 64),
-    ] {
+fn places_are_those_of_the_digest(rt: HostRuntime) -> Result<(), Fail> {
+    for (row, (namespace, key, tag, queues)) in PLACES.iter().enumerate() {
         let stream = StreamId::new(namespace, key)?;
-        for (count, queue) in [1, 7, 64].into_iter().zip(queues) {
+        for (count, queue) in *queues {
             assert!(rt;
-                place(&stream, count) == Place { queue, tag },
-                "among {count}"
-            );
-            assert!(rt;
-                queue_mapper::queue(&stream, count) == queue,
-                "among {count}"
+                is_placed(&stream, *count, *queue, *tag),
+                "row {row}, among {count}"
             );
         }
     }

@@ -81,16 +81,22 @@ fn push_mixed(
     Ok(())
 }
 
+/// Whether this is the next event of a stream from a position on, not before a token.
+fn is_next(
+    cache: &QueueCache,
+    stream: &StreamId,
+    from: usize,
+    start: &Token,
+    wanted: Option<usize>,
+) -> bool {
+    cache.low() <= from && next(cache, from, stream, tag(stream), start) == wanted
+}
+
 /// From each position, against a walk over single events from the last to the first.
 fn check_next(rt: &impl Abort, cache: &QueueCache, stream: &StreamId, start: &Token) {
-    let tag = tag(stream);
     let high = cache.high();
-    for from in [high, usize::MAX] {
-        assert!(rt;
-            next(cache, from, stream, tag, start).is_none(),
-            "from {from}"
-        );
-    }
+    assert!(rt; is_next(cache, stream, high, start, None));
+    assert!(rt; is_next(cache, stream, usize::MAX, start, None));
     let mut wanted = None;
     for back in 0..high - cache.low() {
         let from = high - 1 - back;
@@ -98,10 +104,7 @@ fn check_next(rt: &impl Abort, cache: &QueueCache, stream: &StreamId, start: &To
         if event.stream == *stream && !event.token.is_before(start) {
             wanted = Some(from);
         }
-        assert!(rt;
-            next(cache, from, stream, tag, start) == wanted,
-            "from {from}"
-        );
+        assert!(rt; is_next(cache, stream, from, start, wanted), "from {from}");
     }
 }
 
@@ -143,28 +146,6 @@ fn caches_as_plain_walks_have_them(rt: HostRuntime) -> Result<(), Fail> {
     Ok(())
 }
 
-/// The next event of a stream from a position on, not before batch 191 and a place in it, is this one.
-fn expect_next(
-    rt: &impl Abort,
-    cache: &QueueCache,
-    stream: &StreamId,
-    rows: &[(usize, u32, Option<usize>)],
-) {
-    let tag = tag(stream);
-    assert!(rt; cache.low() == 10);
-    for (from, idx, wanted) in rows {
-        assert!(rt; cache.low() <= *from);
-        let start = Token {
-            seq: 191,
-            idx: *idx,
-        };
-        assert!(rt;
-            next(cache, *from, stream, tag, &start) == *wanted,
-            "from {from}"
-        );
-    }
-}
-
 /// The events of one stream fill three blocks but for one place.
 fn fill(rt: &impl Abort, cache: &mut QueueCache, stream: StreamId) -> Result<(), Fail> {
     for seq in 0..191 {
@@ -173,18 +154,58 @@ fn fill(rt: &impl Abort, cache: &mut QueueCache, stream: StreamId) -> Result<(),
     Ok(())
 }
 
+/// What is asked of a cache over two streams of one tag, and what it has to answer.
+#[derive(Clone, Copy)]
+enum Call {
+    /// Events of the second stream fill three blocks but for one place.
+    Fill,
+    /// The event of the first stream with a token comes in.
+    Push(u64, u32),
+    /// The next event of the first stream from a position on, not before batch 191 and a place in it.
+    Next(usize, u32, Option<usize>),
+    /// The first position whose token isn't before this one.
+    Lower(u64, u32, usize),
+}
+
+/// Whether a call is answered so.
+fn is_so(
+    rt: &impl Abort,
+    cache: &mut QueueCache,
+    first: StreamId,
+    second: StreamId,
+    call: Call,
+) -> Result<bool, Fail> {
+    match call {
+        Call::Fill => fill(rt, cache, second)?,
+        Call::Push(seq, idx) => push(rt, cache, event(first, seq, idx)?),
+        Call::Next(from, idx, wanted) => {
+            let start = Token { seq: 191, idx };
+            return Ok(is_next(cache, &first, from, &start, wanted));
+        }
+        Call::Lower(seq, idx, wanted) => return Ok(lower(cache, &Token { seq, idx }) == wanted),
+    }
+    Ok(true)
+}
+
+const CALLS: [Call; 9] = [
+    Call::Fill,
+    Call::Next(10, 4, None),
+    Call::Push(191, 4),
+    Call::Next(10, 4, Some(201)),
+    Call::Next(202, 4, None),
+    Call::Next(10, 5, None),
+    Call::Lower(100, 0, 110),
+    Call::Lower(191, 4, 201),
+    Call::Lower(192, 0, 202),
+];
+
 /// The last event of three blocks is the only one of its stream, and the others have its tag.
 #[test]
 fn one_among_streams_of_its_tag(rt: HostRuntime) -> Result<(), Fail> {
     let (first, second) = streams_of_one_tag()?;
     let mut cache = new_cache(rt.alloc())?;
-    fill(&rt, &mut cache, second)?;
-    expect_next(&rt, &cache, &first, &[(10, 4, None)]);
-    push(&rt, &mut cache, event(first, 191, 4)?);
-    let rows = [(10, 4, Some(201)), (202, 4, None), (10, 5, None)];
-    expect_next(&rt, &cache, &first, &rows);
-    for (seq, idx, wanted) in [(100, 0, 110), (191, 4, 201), (192, 0, 202)] {
-        assert!(rt; lower(&cache, &Token { seq, idx }) == wanted);
+    for (row, call) in CALLS.iter().enumerate() {
+        assert!(rt; is_so(&rt, &mut cache, first, second, *call)?, "row {row}");
     }
     Ok(())
 }

@@ -1,6 +1,6 @@
 use Rattle.std.proofs.Common.{◌≡◌, ◌+◌, ◌-◌, ◌≤◌, length, take, vec_len, vec_capacity}
 use Rattle.queue_mapper.specs.Place.{tags_of}
-use Rattle.log_tests.proofs.tagging.tags_of.Given as goal
+use Rattle.log_tests.proofs.numbered.tags_of.Given as goal
 
 abbrev pub invariant-loop-event : goal.invariant-loop-event
 invariant-loop-event l =

@@ -1,4 +1,4 @@
-ghost use Rattle.std.specs.Prelude.{◌≡◌, true};
+ghost use Rattle.std.specs.Prelude.{◌≡◌, ◌<◌, true, length};
 ghost use Rattle.resume_tree.specs.Leaves.{IsNew};
 
 use crate::random::Random;
@@ -58,6 +58,14 @@ fn due_after(resumes: &Resumes, after: Option<&SubName>, high: usize) -> Option<
     Some(resumes.leaf(number).name)
 }
 
+fn due_past(resumes: &Resumes, leaves: &[Leaf], number: usize, high: usize) -> Option<SubName>
+    requires { number < length resumes.now }
+{
+    let next = resumes.due_past(number, high)?;
+    let leaf = leaves.get(next)?;
+    Some(leaf.name)
+}
+
 fn lesser(least: Option<SubName>, name: SubName) -> Option<SubName> {
     match least {
         Some(other) if other.is_before(&name) => Some(other),
@@ -65,14 +73,19 @@ fn lesser(least: Option<SubName>, name: SubName) -> Option<SubName> {
     }
 }
 
+/// The lesser of two resumes.
+fn lesser_resume(one: Option<usize>, other: Option<usize>) -> Option<usize> {
+    match (one, other) {
+        (Some(one), Some(other)) => Some(one.min(other)),
+        (None, other) => other,
+        (one, None) => one,
+    }
+}
+
 fn least_resume(leaves: &[Leaf]) -> Option<usize> {
     let mut least = None;
     for leaf in leaves {
-        match (least, leaf.resume) {
-            (None, resume) => least = resume,
-            (Some(old), Some(new)) if new < old => least = Some(new),
-            _ => {}
-        }
+        least = lesser_resume(least, leaf.resume);
     }
     least
 }
@@ -128,6 +141,15 @@ fn assert_due(rt: &impl Abort, resumes: &Resumes, leaves: &[Leaf], after: Option
     }
 }
 
+/// The next that is due after a leaf that goes by its number is the next after its name.
+fn assert_due_past(rt: &impl Abort, resumes: &Resumes, leaves: &[Leaf]) {
+    for number in 0..resumes.len() {
+        let next = due_past(resumes, leaves, number, 4);
+        let name = resumes.leaf(number).name;
+        assert!(rt; next == next_due(leaves, Some(&name), 4), "at {number}");
+    }
+}
+
 /// Each answer is that of plain loops over the leaves.
 fn assert_agree(rt: &impl Abort, resumes: &Resumes, leaves: &[Leaf], after: SubName) {
     let len = leaves.len();
@@ -140,6 +162,7 @@ fn assert_agree(rt: &impl Abort, resumes: &Resumes, leaves: &[Leaf], after: SubN
     assert!(rt; top(resumes) == slowest(leaves));
     assert_due(rt, resumes, leaves, None);
     assert_due(rt, resumes, leaves, Some(&after));
+    assert_due_past(rt, resumes, leaves);
 }
 
 /// Adds to both. Where that fails to allocate all is as before, and it is tried once more.
@@ -185,22 +208,6 @@ fn set(
             resumes.set(number, Some(resume), is_unacknowledged);
         }
     }
-}
-
-/// Open leaves with these names, in this order, and one resume.
-fn made(
-    rt: &impl Abort,
-    alloc: Global,
-    names: &[SubName],
-    resume: usize,
-) -> Result<Resumes, AllocError> {
-    let mut resumes = Resumes::new(alloc);
-    let mut leaves = Vec::new(alloc);
-    for name in names {
-        push(rt, alloc, &mut resumes, &mut leaves, *name, resume)?;
-        assert_agree(rt, &resumes, leaves.as_slice(), *name);
-    }
-    Ok(resumes)
 }
 
 /// Changes any leaf of both.
@@ -253,110 +260,201 @@ fn agrees_with_plain_loops(rt: HostRuntime) -> Result<(), Fail> {
     vary(&rt, alloc, &mut resumes, &mut leaves, &mut Random::new(7))
 }
 
-#[test]
-fn ties_go_to_the_least_name(rt: HostRuntime) -> Result<(), Fail> {
-    let three = SubName::Explicit(3);
-    let ten = SubName::Explicit(10);
-    let a = implicit(Name::new(b"a")?);
-    let b = implicit(Name::new(b"b")?);
-    for (names, top) in [
-        ([three, ten, a, b].as_slice(), 0),
-        ([b, a, ten, three].as_slice(), 3),
-        ([b, ten, a].as_slice(), 1),
-        ([b, a].as_slice(), 1),
-    ] {
-        let resumes = made(&rt, rt.alloc(), names, 4)?;
-        assert!(rt; resumes.top() == Some(top) && resumes.least_resume() == Some(4));
-    }
-    Ok(())
+/// The name of a leaf: a number, or the kind of an implicit one.
+#[derive(Clone, Copy)]
+enum Named {
+    Number(u32),
+    Kind(u8),
 }
 
-/// Three explicit names.
-const THREE: [SubName; 3] = [
-    SubName::Explicit(1),
-    SubName::Explicit(2),
-    SubName::Explicit(3),
-];
-
-/// A number, its new resume and whether it is unacknowledged. Then the slowest, the least resume, and which is
-/// due below 10 and below 6.
-type Change = (
-    usize,
-    Option<usize>,
-    bool,
-    Option<usize>,
-    Option<usize>,
-    [Option<usize>; 2],
-);
-
-const CHANGES: [Change; 5] = [
-    (0, None, true, Some(1), Some(5), [Some(1), Some(1)]),
-    (1, Some(6), false, Some(2), Some(5), [Some(1), Some(2)]),
-    (2, Some(7), false, Some(1), Some(6), [Some(1), None]),
-    (1, None, false, Some(2), Some(7), [Some(2), None]),
-    (2, None, true, None, None, [None, None]),
-];
-
-#[test]
-fn closed_ones_are_passed_over(rt: HostRuntime) -> Result<(), Fail> {
-    let mut resumes = made(&rt, rt.alloc(), THREE.as_slice(), 5)?;
-    for (number, resume, is_unacknowledged, top, least, due) in CHANGES {
-        set(&rt, &mut resumes, number, resume, is_unacknowledged);
-        assert!(rt; resumes.top() == top && resumes.least_resume() == least);
-        assert!(rt; [resumes.due_after(None, 10), resumes.due_after(None, 6)] == due);
+fn name_of(named: Named) -> Result<SubName, Fail> {
+    match named {
+        Named::Number(number) => Ok(SubName::Explicit(number)),
+        Named::Kind(byte) => Ok(implicit(Name::new(&[byte])?)),
     }
-    Ok(())
 }
 
-/// After each name and below each position this one is due.
-fn expect_due(
+/// What is asked of resumes, and what they have to answer. A leaf is named by its number.
+#[derive(Clone, Copy)]
+enum Call {
+    /// A leaf has a new resume, and is unacknowledged or not.
+    Set(usize, Option<usize>, bool),
+    /// The leaves behind the first so many are taken back.
+    Truncate(usize),
+    /// The slowest, and the least resume.
+    Slowest(Option<usize>, Option<usize>),
+    /// Which is due after a name, below a position.
+    Due(Option<Named>, usize, Option<usize>),
+}
+
+fn due_of(resumes: &Resumes, after: Option<Named>, high: usize) -> Result<Option<usize>, Fail> {
+    match after {
+        None => Ok(resumes.due_after(None, high)),
+        Some(named) => Ok(resumes.due_after(Some(&name_of(named)?), high)),
+    }
+}
+
+/// Whether a call is answered so.
+fn is_so(rt: &impl Abort, resumes: &mut Resumes, call: Call) -> Result<bool, Fail> {
+    match call {
+        Call::Set(number, resume, is_unacknowledged) => {
+            set(rt, resumes, number, resume, is_unacknowledged);
+        }
+        Call::Truncate(len) => resumes.truncate(len),
+        Call::Slowest(top, least) => {
+            return Ok(resumes.top() == top && resumes.least_resume() == least);
+        }
+        Call::Due(after, high, due) => return Ok(due_of(resumes, after, high)? == due),
+    }
+    Ok(true)
+}
+
+/// Adds an open leaf to both, and compares them.
+fn add(
     rt: &impl Abort,
-    resumes: &Resumes,
-    rows: &[(Option<SubName>, usize, Option<usize>)],
-) {
-    for (after, high, due) in rows {
-        assert!(rt;
-            resumes.due_after(after.as_ref(), *high) == *due,
-            "below {high}"
-        );
-    }
-}
-
-#[test]
-fn due_ones_go_round(rt: HostRuntime) -> Result<(), Fail> {
-    let two = SubName::Explicit(2);
-    let four = SubName::Explicit(4);
-    let a = implicit(Name::new(b"a")?);
-    let resumes = made(&rt, rt.alloc(), [a, four, two].as_slice(), 5)?;
-    let rows = [
-        (None, 6, Some(2)),
-        (Some(two), 6, Some(1)),
-        (Some(SubName::Explicit(3)), 6, Some(1)),
-        (Some(four), 6, Some(0)),
-        (Some(a), 6, Some(2)),
-        (Some(a), 5, None),
-    ];
-    expect_due(&rt, &resumes, &rows);
+    alloc: Global,
+    resumes: &mut Resumes,
+    leaves: &mut Vec<Leaf>,
+    name: &SubName,
+    resume: usize,
+) -> Result<(), AllocError> {
+    push(rt, alloc, resumes, leaves, *name, resume)?;
+    assert_agree(rt, resumes, leaves.as_slice(), *name);
     Ok(())
 }
 
-const UNACKNOWLEDGED: [(Option<SubName>, usize, Option<usize>); 3] = [
-    (None, 0, Some(1)),
-    (Some(SubName::Explicit(2)), 0, Some(1)),
-    (Some(SubName::Explicit(2)), 6, Some(2)),
+/// Adds open leaves with these names, in this order, and one resume.
+fn fill(
+    rt: &impl Abort,
+    alloc: Global,
+    resumes: &mut Resumes,
+    names: &[Named],
+    resume: usize,
+) -> Result<(), Fail> {
+    let mut leaves = Vec::new(alloc);
+    for named in names {
+        add(rt, alloc, resumes, &mut leaves, &name_of(*named)?, resume)?;
+    }
+    Ok(())
+}
+
+/// Asks new resumes of open leaves with these names and one resume.
+fn check(
+    rt: &impl Abort,
+    alloc: Global,
+    case: &str,
+    (names, resume): (&[Named], usize),
+    calls: &[Call],
+) -> Result<(), Fail> {
+    let mut resumes = Resumes::new(alloc);
+    fill(rt, alloc, &mut resumes, names, resume)?;
+    for (row, call) in calls.iter().enumerate() {
+        assert!(rt; is_so(rt, &mut resumes, *call)?, "{case}: row {row}");
+    }
+    Ok(())
+}
+
+const ALL: [Named; 4] = [
+    Named::Number(3),
+    Named::Number(10),
+    Named::Kind(b'a'),
+    Named::Kind(b'b'),
 ];
 
+const FALLING: [Named; 4] = [
+    Named::Kind(b'b'),
+    Named::Kind(b'a'),
+    Named::Number(10),
+    Named::Number(3),
+];
+
+const MIXED: [Named; 3] = [Named::Kind(b'b'), Named::Number(10), Named::Kind(b'a')];
+
+const KINDS: [Named; 2] = [Named::Kind(b'b'), Named::Kind(b'a')];
+
+const ROUND: [Named; 3] = [Named::Kind(b'a'), Named::Number(4), Named::Number(2)];
+
+const THREE: [Named; 3] = [Named::Number(1), Named::Number(2), Named::Number(3)];
+
+const PASSED_OVER: [Call; 20] = [
+    Call::Set(0, None, true),
+    Call::Slowest(Some(1), Some(5)),
+    Call::Due(None, 10, Some(1)),
+    Call::Due(None, 6, Some(1)),
+    Call::Set(1, Some(6), false),
+    Call::Slowest(Some(2), Some(5)),
+    Call::Due(None, 10, Some(1)),
+    Call::Due(None, 6, Some(2)),
+    Call::Set(2, Some(7), false),
+    Call::Slowest(Some(1), Some(6)),
+    Call::Due(None, 10, Some(1)),
+    Call::Due(None, 6, None),
+    Call::Set(1, None, false),
+    Call::Slowest(Some(2), Some(7)),
+    Call::Due(None, 10, Some(2)),
+    Call::Due(None, 6, None),
+    Call::Set(2, None, true),
+    Call::Slowest(None, None),
+    Call::Due(None, 10, None),
+    Call::Due(None, 6, None),
+];
+
+const GOING_ROUND: [Call; 6] = [
+    Call::Due(None, 6, Some(2)),
+    Call::Due(Some(Named::Number(2)), 6, Some(1)),
+    Call::Due(Some(Named::Number(3)), 6, Some(1)),
+    Call::Due(Some(Named::Number(4)), 6, Some(0)),
+    Call::Due(Some(Named::Kind(b'a')), 6, Some(2)),
+    Call::Due(Some(Named::Kind(b'a')), 5, None),
+];
+
+const UNACKNOWLEDGED: [Call; 8] = [
+    Call::Due(None, 0, None),
+    Call::Set(1, Some(usize::MAX - 2), true),
+    Call::Due(None, 0, Some(1)),
+    Call::Due(Some(Named::Number(2)), 0, Some(1)),
+    Call::Due(Some(Named::Number(2)), 6, Some(2)),
+    Call::Truncate(1),
+    Call::Due(None, 0, None),
+    Call::Due(None, usize::MAX, Some(0)),
+];
+
+/// What is shown, the names of leaves with their resume, and what is asked.
+const CASES: [(&str, (&[Named], usize), &[Call]); 7] = [
+    (
+        "a tie of four",
+        (&ALL, 4),
+        &[Call::Slowest(Some(0), Some(4))],
+    ),
+    (
+        "a tie that falls",
+        (&FALLING, 4),
+        &[Call::Slowest(Some(3), Some(4))],
+    ),
+    (
+        "a tie of three",
+        (&MIXED, 4),
+        &[Call::Slowest(Some(1), Some(4))],
+    ),
+    (
+        "a tie of two",
+        (&KINDS, 4),
+        &[Call::Slowest(Some(1), Some(4))],
+    ),
+    ("closed ones are passed over", (&THREE, 5), &PASSED_OVER),
+    ("due ones go round", (&ROUND, 5), &GOING_ROUND),
+    (
+        "unacknowledged ones are due at once",
+        (&THREE, 5),
+        &UNACKNOWLEDGED,
+    ),
+];
+
+/// Ties go to the least name, and resumes answer as the cases say.
 #[test]
-fn unacknowledged_ones_are_due_at_once(rt: HostRuntime) -> Result<(), Fail> {
-    let mut resumes = made(&rt, rt.alloc(), THREE.as_slice(), 5)?;
-    expect_due(&rt, &resumes, &[(None, 0, None)]);
-    set(&rt, &mut resumes, 1, Some(usize::MAX - 2), true);
-    expect_due(&rt, &resumes, &UNACKNOWLEDGED);
-    resumes.truncate(1);
-    expect_due(
-        &rt,
-        &resumes,
-        &[(None, 0, None), (None, usize::MAX, Some(0))],
-    );
+fn resumes_are_asked(rt: HostRuntime) -> Result<(), Fail> {
+    for (case, filled, calls) in &CASES {
+        check(&rt, rt.alloc(), case, *filled, calls)?;
+    }
     Ok(())
 }

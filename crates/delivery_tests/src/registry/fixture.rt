@@ -1,8 +1,6 @@
 //! A registry with what is asked of it. Names are single bytes: the stream c/r is that with the namespace c
 //! and the key r.
-ghost use Rattle.std.specs.Prelude.{◌≤◌};
-
-use pubsub_registry::{Added, Implied, Registration, Registry, RuleAdded};
+use pubsub_registry::{Added, Implied, Registry, RuleAdded};
 use std::alloc::{AllocError, Global};
 use std::process::Abort;
 use std::test::Fail;
@@ -59,8 +57,8 @@ pub(crate) enum Call {
     ImpliedBy(u8, u8),
     /// All rules.
     Rules,
-    /// What is seen of the registry.
-    Look,
+    /// How many subscriptions there are, how many numbers were given, and whether there is none or no room.
+    Size,
 }
 
 /// The reply to a call that may take memory.
@@ -104,30 +102,37 @@ fn add(
     alloc: Global,
     registry: &mut Registry,
     stream: StreamId,
-) -> Result<Added, AllocError> {
+) -> Result<Answer, AllocError> {
     assert!(rt; registry.explicit() < 1000);
     let grain = GrainId {
         kind: name(rt, b'u'),
         key: name(rt, b'a'),
     };
-    registry.add(alloc, stream, grain, START)
+    Ok(Answer::Explicit(registry.add(alloc, stream, grain, START)?))
 }
 
 /// Adds what a rule makes of a stream, where it isn't there.
 fn add_implied(
     alloc: Global,
     registry: &mut Registry,
-    kind: &Name,
-    stream: &StreamId,
-) -> Result<Implied, AllocError> {
-    let sub = SubName::Implicit {
-        kind: *kind,
-        stream: *stream,
-    };
-    if registry.find(&sub).is_some() {
-        return Ok(Implied::TooMany);
+    kind: Name,
+    stream: StreamId,
+) -> Result<Answer, AllocError> {
+    if registry.find(&SubName::Implicit { kind, stream }).is_some() {
+        return Ok(Answer::Implicit(Implied::TooMany));
     }
-    registry.add_implied(alloc, *kind, *stream, START)
+    Ok(Answer::Implicit(registry.add_implied(alloc, kind, stream, START)?))
+}
+
+/// Adds a rule.
+fn add_rule(
+    alloc: Global,
+    registry: &mut Registry,
+    kind: Name,
+    namespace: Name,
+    seq: u64,
+) -> Result<Answer, AllocError> {
+    Ok(Answer::Rule(registry.add_rule(alloc, kind, namespace, seq)?))
 }
 
 /// The events of these rows.
@@ -150,11 +155,11 @@ fn imply(
     registry: &mut Registry,
     from: usize,
     to: usize,
-) -> Result<Implied, AllocError> {
+) -> Result<Answer, AllocError> {
     assert!(rt; from <= to && to <= EVENTS.len());
     let events = events(rt, alloc, &EVENTS[from..to])?;
     assert!(rt; events.len() <= 256);
-    registry.imply(alloc, events.as_slice())
+    Ok(Answer::Implicit(registry.imply(alloc, events.as_slice())?))
 }
 
 /// Makes a call that may take memory.
@@ -165,59 +170,16 @@ pub(crate) fn change(
     call: Call,
 ) -> Result<Answer, AllocError> {
     match call {
-        Call::Add(namespace, key) => {
-            let stream = stream(rt, namespace, key);
-            Ok(Answer::Explicit(add(rt, alloc, registry, stream)?))
-        }
+        Call::Add(namespace, key) => add(rt, alloc, registry, stream(rt, namespace, key)),
         Call::AddImplied(kind, namespace, key) => {
-            let (kind, stream) = (name(rt, kind), stream(rt, namespace, key));
-            Ok(Answer::Implicit(add_implied(alloc, registry, &kind, &stream)?))
+            add_implied(alloc, registry, name(rt, kind), stream(rt, namespace, key))
         }
         Call::AddRule(kind, namespace, seq) => {
-            let (kind, namespace) = (name(rt, kind), name(rt, namespace));
-            Ok(Answer::Rule(registry.add_rule(alloc, kind, namespace, seq)?))
+            add_rule(alloc, registry, name(rt, kind), name(rt, namespace), seq)
         }
-        Call::Imply(from, to) => Ok(Answer::Implicit(imply(rt, alloc, registry, from, to)?)),
+        Call::Imply(from, to) => imply(rt, alloc, registry, from, to),
         _ => panic!(rt; "no memory is taken"),
     }
-}
-
-/// Writes the name of a subscription: its number, or the kind and the stream.
-fn write_sub(text: &mut String, sub: &SubName) -> Result<(), AllocError> {
-    match sub {
-        SubName::Explicit(number) => write!(text, "{number}"),
-        SubName::Implicit { kind, stream } => {
-            write!(text, "{kind:?}@{:?}/{:?}", stream.namespace, stream.key)
-        }
-    }
-}
-
-fn write_subs(text: &mut String, subs: &[SubName]) -> Result<(), AllocError> {
-    for sub in subs {
-        text.push_str(" ")?;
-        write_sub(text, sub)?;
-    }
-    Ok(())
-}
-
-fn write_registration(text: &mut String, registration: &Registration) -> Result<(), AllocError> {
-    let Registration {
-        stream,
-        grain,
-        start,
-        is_open,
-    } = registration;
-    let state = if *is_open { "open" } else { "closed" };
-    write!(
-        text,
-        " {state}: {:?}/{:?} to ",
-        stream.namespace, stream.key
-    )?;
-    write!(
-        text,
-        "{:?}/{:?} from {}.{}",
-        grain.kind, grain.key, start.seq, start.idx
-    )
 }
 
 /// Writes what stands at a place.
@@ -228,9 +190,33 @@ fn write_at(
     index: usize,
 ) -> Result<(), AllocError> {
     assert!(rt; index < registry.len());
-    let (sub, registration) = registry.at(index);
-    write_sub(text, sub)?;
-    write_registration(text, registration)
+    write!(text, "{:?}", registry.at(index))
+}
+
+/// Writes how many there are, and whether there is none or no room.
+fn write_size(text: &mut String, registry: &Registry) -> Result<(), AllocError> {
+    let (len, explicit) = (registry.len(), registry.explicit());
+    write!(
+        text,
+        "{:?}",
+        (len, explicit, registry.is_empty(), registry.is_full())
+    )
+}
+
+fn write_subs(text: &mut String, registry: &Registry, stream: &StreamId) -> Result<(), AllocError> {
+    write!(text, "{:?}", registry.subs_of(stream))
+}
+
+fn write_implied_by(
+    text: &mut String,
+    registry: &Registry,
+    stream: &StreamId,
+) -> Result<(), AllocError> {
+    write!(text, "{:?}", registry.implied_by(stream))
+}
+
+fn write_place(text: &mut String, registry: &Registry, sub: &SubName) -> Result<(), AllocError> {
+    write!(text, "{:?}", registry.find(sub))
 }
 
 /// Writes what is seen of a registry.
@@ -241,28 +227,33 @@ fn write_seen(
     call: Call,
 ) -> Result<(), AllocError> {
     match call {
-        Call::Find(number) => write!(text, "{:?}", registry.find(&SubName::Explicit(number))),
+        Call::Find(number) => write_place(text, registry, &SubName::Explicit(number)),
         Call::At(index) => write_at(rt, text, registry, index),
-        Call::Subs(namespace, key) => {
-            write_subs(text, registry.subs_of(&stream(rt, namespace, key)))
-        }
+        Call::Subs(namespace, key) => write_subs(text, registry, &stream(rt, namespace, key)),
         Call::ImpliedBy(namespace, key) => {
-            write!(
-                text,
-                "{:?}",
-                registry.implied_by(&stream(rt, namespace, key))
-            )
+            write_implied_by(text, registry, &stream(rt, namespace, key))
         }
         Call::Rules => write!(text, "{:?}", registry.rules()),
-        _ => {
-            let (len, explicit) = (registry.len(), registry.explicit());
-            let (is_empty, is_full) = (registry.is_empty(), registry.is_full());
-            write!(
-                text,
-                "{len} there, {explicit} given, empty {is_empty}, full {is_full}"
-            )
-        }
+        _ => write_size(text, registry),
     }
+}
+
+fn write_answer(
+    rt: &impl Abort,
+    alloc: Global,
+    text: &mut String,
+    registry: &mut Registry,
+    call: Call,
+) -> Result<(), AllocError> {
+    write!(text, "{:?}", change(rt, alloc, registry, call)?)
+}
+
+fn write_closing(
+    text: &mut String,
+    registry: &mut Registry,
+    sub: &SubName,
+) -> Result<(), AllocError> {
+    write!(text, "{:?}", registry.close(sub))
 }
 
 /// Writes the reply to a call.
@@ -275,12 +266,11 @@ fn write_told(
 ) -> Result<(), AllocError> {
     match call {
         Call::Add(..) | Call::AddImplied(..) | Call::AddRule(..) | Call::Imply(..) => {
-            write!(text, "{:?}", change(rt, alloc, registry, call)?)
+            write_answer(rt, alloc, text, registry, call)
         }
-        Call::Close(number) => { write!(text, "{:?}", registry.close(&SubName::Explicit(number))) }
+        Call::Close(number) => write_closing(text, registry, &SubName::Explicit(number)),
         Call::CloseImplied(kind, namespace, key) => {
-            let sub = implicit(rt, kind, namespace, key);
-            write!(text, "{:?}", registry.close(&sub))
+            write_closing(text, registry, &implicit(rt, kind, namespace, key))
         }
         Call::Truncate(len) => {
             registry.truncate(len);
@@ -295,51 +285,55 @@ fn ask(
     rt: &impl Abort,
     alloc: Global,
     registry: &mut Registry,
+    case: &str,
     rows: &[(Call, &str)],
 ) -> Result<(), AllocError> {
     let mut text = String::new(alloc);
-    for (call, expected) in rows {
+    for (row, (call, expected)) in rows.iter().enumerate() {
         text.clear();
         write_told(rt, alloc, &mut text, registry, *call)?;
-        assert!(rt; text.as_str() == *expected, "{expected}");
+        assert!(rt; text.as_str() == *expected, "{case}: row {row}");
     }
     Ok(())
 }
 
-/// Asks a new registry with these limits. The replies have to read so.
-pub(crate) fn check(
-    rt: &impl Abort,
-    alloc: Global,
-    most_names: usize,
-    most_rules: usize,
-    rows: &[(Call, &str)],
-) -> Result<(), Fail>
-    requires names { most_names ≤ 10000 }
-    requires rules { most_rules ≤ 64 }
-{
-    let mut registry = Registry::new(alloc, most_names, most_rules);
-    ask(rt, alloc, &mut registry, rows)?;
+/// What a new registry is asked: what is shown, how many names and rules it may have, and the calls with their
+/// replies.
+pub(crate) type Case = (&'static str, usize, usize, &'static [(Call, &'static str)]);
+
+/// Asks a new registry in each case. The replies have to read so.
+pub(crate) fn check(rt: &impl Abort, alloc: Global, cases: &[Case]) -> Result<(), Fail> {
+    for (case, most_names, most_rules, rows) in cases {
+        assert!(rt; *most_names <= 10000 && *most_rules <= 64);
+        let mut registry = Registry::new(alloc, *most_names, *most_rules);
+        ask(rt, alloc, &mut registry, case, rows)?;
+    }
     Ok(())
 }
 
-/// What two registries have at a place is equal.
-fn compare_at(rt: &impl Abort, registry: &Registry, twin: &Registry, index: usize) {
-    assert!(rt; index < registry.len() && index < twin.len());
-    let (sub, registration) = registry.at(index);
-    let (twin_sub, twin_registration) = twin.at(index);
-    assert!(rt; sub == twin_sub && registration == twin_registration);
+/// Whether what two registries have at a place is equal.
+fn are_alike_at(registry: &Registry, twin: &Registry, index: usize) -> bool {
+    index < registry.len() && index < twin.len() && registry.at(index) == twin.at(index)
+}
+
+/// Whether the rows of a stream are equal in two registries.
+fn are_alike_of(registry: &Registry, twin: &Registry, stream: &StreamId) -> bool {
+    registry.subs_of(stream) == twin.subs_of(stream)
+        && registry.implied_by(stream) == twin.implied_by(stream)
+}
+
+/// Whether two registries have given as many numbers and have equal rules.
+fn are_alike(registry: &Registry, twin: &Registry) -> bool {
+    registry.len() == twin.len()
+        && registry.explicit() == twin.explicit()
+        && registry.rules() == twin.rules()
 }
 
 /// Each read of one registry is that of another.
 fn compare(rt: &impl Abort, registry: &Registry, twin: &Registry, stream: &StreamId) {
-    assert!(rt; registry.len() == twin.len() && registry.explicit() == twin.explicit());
-    assert!(rt;
-        registry.rules() == twin.rules()
-            && registry.subs_of(stream) == twin.subs_of(stream)
-            && registry.implied_by(stream) == twin.implied_by(stream)
-    );
+    assert!(rt; are_alike(registry, twin) && are_alike_of(registry, twin, stream));
     for index in 0..registry.len() {
-        compare_at(rt, registry, twin, index);
+        assert!(rt; are_alike_at(registry, twin, index), "at {index}");
     }
 }
 

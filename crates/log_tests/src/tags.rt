@@ -88,5 +88,11 @@ fn plain_find(tags: &[u8], from: usize, tag: u8) -> Option<usize> {
 }
 
 fn plain_count(tags: &[u8], tag: u8) -> usize {
-    tags.iter().filter(|other| **other == tag).count()
+    let mut count = 0usize;
+    for other in tags {
+        if *other == tag {
+            count = count.wrapping_add(1);
+        }
+    }
+    count
 }

@@ -25,14 +25,19 @@ fn first_at_most(keys: &[Option<usize>], from: usize, bound: usize) -> Option<us
     None
 }
 
+/// The lesser of two keys.
+fn lesser(one: Option<usize>, other: Option<usize>) -> Option<usize> {
+    match (one, other) {
+        (Some(one), Some(other)) => Some(one.min(other)),
+        (None, other) => other,
+        (one, None) => one,
+    }
+}
+
 fn least_key(keys: &[Option<usize>]) -> Option<usize> {
     let mut least = None;
     for key in keys {
-        match (least, *key) {
-            (None, key) => least = key,
-            (Some(old), Some(new)) if new < old => least = Some(new),
-            _ => {}
-        }
+        least = lesser(least, *key);
     }
     least
 }
@@ -150,49 +155,85 @@ fn agrees_with_plain_loops(rt: HostRuntime) -> Result<(), Fail> {
     grow(&rt, alloc, &mut tree, &mut keys, &mut Random::new(7))
 }
 
-/// From each place on, the first key at most as great as a bound is here.
-fn expect_first(
-    rt: &impl Abort,
-    tree: &LeastTree,
-    least: Option<(usize, usize)>,
-    rows: &[(usize, usize, Option<usize>)],
-) {
-    let (place, key) = match least {
-        None => (None, None),
-        Some((place, key)) => (Some(place), Some(key)),
-    };
-    assert!(rt; tree.least() == place && tree.least_key() == key);
-    for (from, bound, wanted) in rows {
-        assert!(rt;
-            tree.first_at_most(*from, *bound) == *wanted,
-            "from {from}, {bound}"
-        );
-    }
+/// What is asked of a tree, and what it has to answer.
+#[derive(Clone, Copy)]
+enum Call {
+    /// A key is inserted at a place.
+    Insert(usize, usize),
+    /// A place without a key is inserted.
+    InsertNone(usize),
+    /// The place of the least key, and the key.
+    Least(Option<usize>, Option<usize>),
+    /// The first place from one on whose key is at most so great.
+    First(usize, usize, Option<usize>),
 }
 
-#[test]
-fn equal_keys_give_the_first_place(rt: HostRuntime) -> Result<(), Fail> {
-    let alloc = rt.alloc();
-    let mut tree = LeastTree::new(alloc);
-    for key in [Some(4), Some(2), None, Some(2), Some(2)] {
-        insert(&rt, alloc, &mut tree, 0, key)?;
+/// Whether a call is answered so.
+fn is_so(
+    rt: &impl Abort,
+    alloc: Global,
+    tree: &mut LeastTree,
+    call: Call,
+) -> Result<bool, AllocError> {
+    match call {
+        Call::Insert(place, key) => {
+            assert!(rt; key < usize::MAX);
+            insert(rt, alloc, tree, place, Some(key))?;
+        }
+        Call::InsertNone(place) => insert(rt, alloc, tree, place, None)?,
+        Call::Least(place, key) => return Ok(tree.least() == place && tree.least_key() == key),
+        Call::First(from, bound, place) => return Ok(tree.first_at_most(from, bound) == place),
     }
-    let rows = [(2, 2, Some(3)), (4, 3, None), (4, 4, Some(4))];
-    expect_first(&rt, &tree, Some((0, 2)), &rows);
+    Ok(true)
+}
+
+const EQUAL: [Call; 9] = [
+    Call::Insert(0, 4),
+    Call::Insert(0, 2),
+    Call::InsertNone(0),
+    Call::Insert(0, 2),
+    Call::Insert(0, 2),
+    Call::Least(Some(0), Some(2)),
+    Call::First(2, 2, Some(3)),
+    Call::First(4, 3, None),
+    Call::First(4, 4, Some(4)),
+];
+
+const NONE: [Call; 19] = [
+    Call::Least(None, None),
+    Call::First(0, usize::MAX, None),
+    Call::InsertNone(0),
+    Call::Least(None, None),
+    Call::First(0, usize::MAX, None),
+    Call::InsertNone(0),
+    Call::Least(None, None),
+    Call::First(0, usize::MAX, None),
+    Call::InsertNone(0),
+    Call::Least(None, None),
+    Call::First(0, usize::MAX, None),
+    Call::InsertNone(0),
+    Call::Least(None, None),
+    Call::First(0, usize::MAX, None),
+    Call::InsertNone(0),
+    Call::Insert(5, usize::MAX - 1),
+    Call::Least(Some(5), Some(usize::MAX - 1)),
+    Call::First(0, usize::MAX - 2, None),
+    Call::First(0, usize::MAX, Some(5)),
+];
+
+/// Asks a new tree.
+fn check(rt: &impl Abort, alloc: Global, case: &str, calls: &[Call]) -> Result<(), AllocError> {
+    let mut tree = LeastTree::new(alloc);
+    for (row, call) in calls.iter().enumerate() {
+        assert!(rt; is_so(rt, alloc, &mut tree, *call)?, "{case}: row {row}");
+    }
     Ok(())
 }
 
 #[test]
-fn no_key_is_found_among_none(rt: HostRuntime) -> Result<(), Fail> {
-    let alloc = rt.alloc();
-    let mut tree = LeastTree::new(alloc);
-    for _place in 0..5 {
-        expect_first(&rt, &tree, None, &[(0, usize::MAX, None)]);
-        insert(&rt, alloc, &mut tree, 0, None)?;
-    }
-    insert(&rt, alloc, &mut tree, 5, Some(usize::MAX - 1))?;
-    let rows = [(0, usize::MAX - 2, None), (0, usize::MAX, Some(5))];
-    expect_first(&rt, &tree, Some((5, usize::MAX - 1)), &rows);
+fn trees_are_asked(rt: HostRuntime) -> Result<(), Fail> {
+    check(&rt, rt.alloc(), "equal keys give the first place", &EQUAL)?;
+    check(&rt, rt.alloc(), "no key is found among none", &NONE)?;
     Ok(())
 }
 
