@@ -33,11 +33,6 @@ module _ {A : Type 0} (P : A → Type 0) where
   all-at (z ∷ xs) (suc k) x all had = all-at xs k x all.1 had
 
   -- the same by a place that there is
-  pub all-get : (xs : List A) (k : ℕ) (d : A) → k < length xs → AllByRecursion P xs → P (get_or xs k d)
-  all-get [] k d less all = absurd (omega arith)
-  all-get (x ∷ xs) zero d less all = all.0
-  all-get (x ∷ xs) (suc k) d less all = all-get xs k d (omega arith) all.1
-
   pub all-push : (xs : List A) (x : A) → AllByRecursion P xs → P x → AllByRecursion P (xs ++ x ∷ [])
   all-push [] x all holds = (holds, tt)
   all-push (z ∷ xs) x all holds = (all.0, all-push xs x all.1 holds)

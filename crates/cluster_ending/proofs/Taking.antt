@@ -14,7 +14,9 @@ use Rattle.cluster_callers.specs.Calls.{AllZipFront, AreAlike, joined_passes, tu
 use Rattle.cluster_callers.proofs.Splitting.{front-alike, turnstiles-joined}
 use Rattle.cluster_callers.proofs.Fronts.{front-last, front-set}
 use Rattle.cluster_ending.specs.Gathering.{AreAt, Gathers, IsFirstOf, IsOtherIn, IsPartOf, Joins, JoinsAll, JoinsEach, gathered, passes_of}
-use Rattle.cluster_ending.proofs.Rows.{all-get, all-push, zip-refl, zip-trans}
+use Rattle.cluster_ending.proofs.Looking.{turnstiles-length}
+use Rattle.cluster_ending.proofs.Rows.{all-push, zip-refl, zip-trans}
+use Rattle.stream_ident.proofs.WordLemmas.{All-at}
 
 -- who has none of more numbers has none of fewer
 pub foreign-within : (fewer numbers : List ℕ) (es : List (Entry Op Reply)) → ((k : ℕ) → Contains fewer k → Contains numbers k) → Foreign numbers es → Foreign fewer es
@@ -102,10 +104,6 @@ each-whole ps [] rs same = same
 each-whole ps (c ∷ cs) rs j =
     each-whole j.0 cs rs j.2 ∙ ap (λ (es : List QueuePass). gathered es cs) (all-whole ps c j.0 j.1)
 
-places-length : (ps qs : List QueuePass) → turnstiles qs ≡ turnstiles ps → length qs ≡ length ps
-places-length ps qs same =
-    sym (length-map qs (λ (p : QueuePass). p.turnstile)) ∙ ap (λ ts. length ts) same ∙ length-map ps (λ (p : QueuePass). p.turnstile)
-
 each-taken : (ps : List QueuePass) (cs : List (List QueuePass)) (rs : List QueuePass) → AllByRecursion (AreAt (turnstiles ps)) cs → JoinsEach ps cs rs
     → AllZip IsFirstOf ps rs × AllByRecursion (λ (c : List QueuePass). AllZip IsOtherIn c rs) cs
 each-taken ps [] rs at same = (subst (λ (es : List QueuePass). AllZip IsFirstOf ps es) (sym same) (zip-refl IsFirstOf first-refl ps), tt)
@@ -113,7 +111,7 @@ each-taken ps (c ∷ cs) rs at j =
     let stays : turnstiles j.0 ≡ turnstiles ps = all-places ps c j.0 j.1 in
     let later = each-taken j.0 cs rs (subst (λ ts. AllByRecursion (AreAt ts) cs) (sym stays) at.1) j.2 in (
       zip-trans IsFirstOf IsFirstOf IsFirstOf first-trans ps j.0 rs (all-first ps c j.0 j.1) later.0,
-      (zip-trans IsOtherIn IsFirstOf IsOtherIn other-trans c j.0 rs (all-others ps c j.0 (places-length ps c at.0) j.1) later.0, later.1),
+      (zip-trans IsOtherIn IsFirstOf IsOtherIn other-trans c j.0 rs (all-others ps c j.0 (turnstiles-length ps c at.0) j.1) later.0, later.1),
     )
 
 gathers : (ps : List QueuePass) (cs : List (List QueuePass)) (rs : List QueuePass) → AllByRecursion (AreAt (turnstiles ps)) cs → AllByRecursion NeverProduces ps → JoinsEach ps cs rs → Gathers ps cs rs
@@ -150,7 +148,7 @@ each-more ps (y ∷ ys) c now new e j = (e.0, e.1, each-more e.0 ys c now new e.
 -- the next caller is at the turnstiles of the passes
 pub next-alike : (old now : List QueuePass) (cs : List (List QueuePass)) (k : ℕ) (c : List QueuePass) → AllByRecursion (AreAt (turnstiles old)) cs → turnstiles now ≡ turnstiles old → k < length cs → c ≡ get_or cs k c → AllZipFront AreAlike now c
 next-alike old now cs k c at stays less is =
-    let there : turnstiles c ≡ turnstiles old = subst (λ (es : List QueuePass). AreAt (turnstiles old) es) (sym is) (all-get (AreAt (turnstiles old)) cs k c less at) in
+    let there : turnstiles c ≡ turnstiles old = subst (λ (es : List QueuePass). AreAt (turnstiles old) es) (sym is) (All-at (AreAt (turnstiles old)) cs k c at less) in
     front-alike now c (there ∙ sym stays)
 
 -- the pass of one more line

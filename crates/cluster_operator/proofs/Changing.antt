@@ -11,21 +11,21 @@ use Rattle.activation_directory.specs.declared.op.DirectoryOp.TheVariants as ask
 use Rattle.activation_directory.specs.declared.reply.DirectoryReply.TheVariants as directory
 use Rattle.shared_partition.specs.Directories as places
 use Rattle.silo_loops.specs.Lines.{DirectoryPass, LineView}
+use Rattle.silo_loops.proofs.Resting.{lt-cases}
+use Rattle.silo_loops.proofs.Stepping.{one-line}
 use Rattle.silo_crew.specs.Silos.{GoOn, GoesOn, LineGoesOn}
-use Rattle.silo_crew.proofs.Going.{goes-refl, goes-set, goes-trans}
+use Rattle.silo_crew.proofs.Going.{goes-refl, goes-set, goes-trans, on-trans}
 use Rattle.cluster_operator.specs.declared.halt.Halt.{Halt}
 use Rattle.cluster_operator.specs.declared.leaving.Release.{Release}
 use Rattle.cluster_operator.specs.declared.leaving.Release.TheVariants as release
 use Rattle.cluster_operator.specs.Changes.{AreDeactivated, AtEachQueue, HasMade, HasSince, IsDeactivated, IsDeactivation, IsNoneLeft, IsRelease, Releases}
+use Rattle.cluster_operator.specs.Operators.{OperatorGoesOn, OperatorView}
 use Rattle.cluster_operator.proofs.Making.{goes-called, goes-longer, made-called, made-cases, made-earlier, made-later, made-none}
-
-one : (lines : List LineView) (k : ℕ) (l m : LineView) → slice_get lines k ≡ Some l → slice_get lines k ≡ Some m → l ≡ m
-one lines k l m a b = ap (λ o. unwrap_or o l) (sym a ∙ b)
 
 pub goes-at : (ls ms : List LineView) (k : ℕ) (l m : LineView) → GoOn ls ms → slice_get ls k ≡ Some l → slice_get ms k ≡ Some m → LineGoesOn l m
 goes-at [] ms k l m on a b = absurd (cc)
 goes-at (x ∷ ls) [] k l m on a b = absurd on
-goes-at (x ∷ ls) (y ∷ ms) zero l m on a b = subst (λ (w : LineView). LineGoesOn w m) (one (x ∷ []) 0 x l refl a) (subst (λ (w : LineView). LineGoesOn x w) (one (y ∷ []) 0 y m refl b) on.0)
+goes-at (x ∷ ls) (y ∷ ms) zero l m on a b = subst (λ (w : LineView). LineGoesOn w m) (one-line (x ∷ []) 0 x l refl a) (subst (λ (w : LineView). LineGoesOn x w) (one-line (y ∷ []) 0 y m refl b) on.0)
 goes-at (x ∷ ls) (y ∷ ms) (suc k) l m on a b = goes-at ls ms k l m on.1 a b
 
 -- where a line stands later, one stood before
@@ -38,7 +38,7 @@ goes-back (x ∷ ls) (y ∷ ms) (suc k) m on b = goes-back ls ms k m on.1 b
 
 get-here : (ls : List LineView) (at : ℕ) (l m : LineView) → slice_get (set ls at l) at ≡ Some m → m ≡ l
 get-here [] at l m a = absurd (cc)
-get-here (x ∷ ls) zero l m a = sym (one (l ∷ []) 0 l m refl a)
+get-here (x ∷ ls) zero l m a = sym (one-line (l ∷ []) 0 l m refl a)
 get-here (x ∷ ls) (suc at) l m a = get-here ls at l m a
 
 get-other : (ls : List LineView) (at k : ℕ) (l : LineView) → k ≢ at → slice_get (set ls at l) k ≡ slice_get ls k
@@ -47,9 +47,6 @@ get-other (x ∷ ls) zero zero l other = absurd (other refl)
 get-other (x ∷ ls) zero (suc k) l other = refl
 get-other (x ∷ ls) (suc at) zero l other = refl
 get-other (x ∷ ls) (suc at) (suc k) l other = get-other ls at k l (λ same. other (ap (λ n. suc n) same))
-
-lt-cases : (k at : ℕ) → k < at + 1 → (k < at) ⊎ (k ≡ at)
-lt-cases k at below = elim (cases_lt k at) as (λ s. (k < at) ⊎ (k ≡ at)) [ inl less ↦ inl less | inr more ↦ inr (omega arith) ]
 
 -- The first so many lines have each made a call that they had to make; which call, and whether, goes by the queue.
 pub record Since (P : ℕ → Op → Reply → Type 0) (must : ℕ → Type 0) (at : ℕ) (old new : List LineView) : Type 0 where
@@ -132,3 +129,7 @@ pub released-on : (silo : ℕ) (d : DirectoryPass) (result : Result Release Halt
 released-on silo d (Ok (release.Grain grain)) e calls = goes-called places.replied places.after d (asked.Down silo) (Ok (directory.Released grain calls.0)) e calls.1
 released-on silo d (Ok release.NoneLeft) e calls = goes-called places.replied places.after d (asked.Down silo) (Ok directory.NoneLeft) e calls
 released-on silo d (Err halt) e on = on
+
+-- an operator that goes on, and then goes on again
+pub op-trans : (u v w : OperatorView) → OperatorGoesOn u v → OperatorGoesOn v w → OperatorGoesOn u w
+op-trans u v w a b = record { lines = goes-trans u.lines v.lines w.lines a.lines b.lines; directory = on-trans u.directory v.directory w.directory a.directory b.directory }

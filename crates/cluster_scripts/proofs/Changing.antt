@@ -5,6 +5,7 @@ use Rattle.std.proofs.lemmas.List.Folds.{list_any_at}
 use Rattle.std.proofs.lemmas.List.Quantifiers.{all_pairs_remove}
 use Rattle.std.specs.Prelude.{slice_get}
 use Rattle.queue_balancer.specs.Balance.{HasNoDoubles}
+use Rattle.queue_balancer.proofs.CountLemmas.{HasNoDoubles-rest}
 use Rattle.cluster_operator.specs.Operators.{OperatorGoesOn}
 use Rattle.cluster_operator.proofs.Spreading.{one-more}
 use Rattle.std.specs.declared.alloc.AllocError.{AllocError}
@@ -13,7 +14,7 @@ use Rattle.stream_cluster.specs.declared.cluster.SiloDown.TheVariants as down
 use Rattle.stream_cluster.specs.declared.cluster.SiloUp.{SiloUp}
 use Rattle.stream_cluster.specs.declared.cluster.SiloUp.TheVariants as up
 use Rattle.stream_cluster.specs.Clusters.{AnswersDown, AnswersUp, ClusterView, IsDown, IsUp, MayGo}
-use Rattle.stream_cluster.proofs.Standing.{op-refl}
+use Rattle.stream_cluster.proofs.Standing.{lives-at, op-refl}
 use Rattle.script_parser.specs.declared.command.Command.TheVariants as command
 use Rattle.script_laws.specs.ScriptReport.{refused_where}
 use Rattle.script_laws.specs.Told.{is_among}
@@ -53,16 +54,8 @@ kept-all silo (x ∷ xs) none =
     ap (λ b. if not b then x ∷ filter (λ (other : ℕ). not (other == silo)) xs else filter (λ (other : ℕ). not (other == silo)) xs) other
     ∙ ap (λ ys. x ∷ ys) rest
 
-rest-once : (x : ℕ) (xs : List ℕ) → HasNoDoubles (x ∷ xs) → HasNoDoubles xs
-rest-once x xs once = λ i j d before below. once (suc i) (suc j) d (omega arith) (omega arith)
-
 first-once : (x : ℕ) (xs : List ℕ) → HasNoDoubles (x ∷ xs) → ¬ Contains xs x
 first-once x xs once has = once 0 (suc has.0) x (omega arith) (omega (arith, has.1)) (sym has.2)
-
-get-has : (xs : List ℕ) (k x : ℕ) → slice_get xs k ≡ Some x → Contains xs x
-get-has [] k x at = absurd (cc)
-get-has (z ∷ xs) zero x at = let same : z ≡ x = cc in (0, omega arith, same)
-get-has (z ∷ xs) (suc k) x at = let has = get-has xs k x at in (suc has.0, omega (arith, has.1), has.2)
 
 removed : (live : List ℕ) (place silo : ℕ) → HasNoDoubles live → slice_get live place ≡ Some silo → remove live place ≡ filter (λ (other : ℕ). not (other == silo)) live
 removed [] place silo once at = absurd (cc)
@@ -71,8 +64,8 @@ removed (x ∷ xs) zero silo once at =
     sym (kept-all silo xs (subst (λ (y : ℕ). ¬ Contains xs y) same (first-once x xs once)))
     ∙ ap (λ b. if not b then x ∷ filter (λ (other : ℕ). not (other == silo)) xs else filter (λ (other : ℕ). not (other == silo)) xs) (sym (eq-eqb x silo same))
 removed (x ∷ xs) (suc place) silo once at =
-    let other : (x == silo) ≡ false = ne_eqb x silo (λ same. first-once x xs once (subst (λ (y : ℕ). Contains xs y) (sym same) (get-has xs place silo at))) in
-    ap (λ ys. x ∷ ys) (removed xs place silo (rest-once x xs once) at)
+    let other : (x == silo) ≡ false = ne_eqb x silo (λ same. first-once x xs once (subst (λ (y : ℕ). Contains xs y) (sym same) (lives-at xs place silo at))) in
+    ap (λ ys. x ∷ ys) (removed xs place silo (HasNoDoubles-rest x xs once) at)
     ∙ ap (λ b. if not b then x ∷ filter (λ (other : ℕ). not (other == silo)) xs else filter (λ (other : ℕ). not (other == silo)) xs) (sym other)
 
 within : (xs : List ℕ) (k x : ℕ) → slice_get xs k ≡ Some x → k < length xs

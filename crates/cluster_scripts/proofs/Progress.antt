@@ -12,10 +12,12 @@ use Rattle.silo_loops.specs.Lines.{QueuePass}
 use Rattle.silo_loops.proofs.Owning.{owns-foreign}
 use Rattle.cluster_callers.specs.Calls.{IsUnused, turnstiles}
 use Rattle.cluster_ending.proofs.Looking.{turnstiles-length}
-use Rattle.cluster_ending.proofs.Rows.{all-at, all-get, all-push, all-weaker, zip-refl, zip-trans}
+use Rattle.cluster_ending.proofs.Rows.{all-at, all-push, all-weaker, zip-refl, zip-trans}
 use Rattle.cluster_operator.specs.Operators.{OperatorGoesOn}
 use Rattle.stream_cluster.specs.Clusters.{ClusterView}
-use Rattle.stream_cluster.proofs.Standing.{op-refl, op-trans}
+use Rattle.cluster_operator.proofs.Changing.{op-trans}
+use Rattle.stream_cluster.proofs.Standing.{op-refl}
+use Rattle.stream_ident.proofs.WordLemmas.{All-at}
 use Rattle.script_parser.specs.declared.command.Command.TheVariants as command
 use Rattle.script_laws.specs.declared.line.Line.{Line}
 use Rattle.script_laws.specs.declared.script_line.ScriptLine.{ScriptLine}
@@ -243,7 +245,7 @@ map-same (x ∷ xs) = ap (λ ys. x ∷ ys) (map-same xs)
 
 pub next-command : (lines : List Line) (k : ℕ) (line : Line) (old now : List QueuePass) → IsScript (length old) lines → k < length lines → line ≡ get_or lines k line → turnstiles now ≡ turnstiles old → IsRunCommand (length now) line.command
 next-command lines k line old now is within same at =
-    let holds = all-get (λ (l : Line). IsRunCommand (length old) l.command) lines k line within is.commands in
+    let holds = All-at (λ (l : Line). IsRunCommand (length old) l.command) lines k line is.commands within in
     subst (λ (l : Line). IsRunCommand (length now) l.command) (sym same)
     (subst (λ (queues : ℕ). IsRunCommand queues (get_or lines k line).command) (sym (turnstiles-length old now at)) holds)
 

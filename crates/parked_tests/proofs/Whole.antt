@@ -4,6 +4,7 @@ use Rattle.std.proofs.lemmas.List.{length-map}
 use Rattle.std.proofs.lemmas.List.Quantifiers.{all_pairs_remove}
 use Rattle.std.specs.List.{insert, slice_get}
 use Rattle.std.specs.declared.alloc.AllocError.{AllocError}
+use Rattle.stream_ident.proofs.WordLemmas.{All-at}
 use Rattle.queue_balancer.specs.Balance.{HasNoDoubles}
 use Rattle.silo_loops.specs.Lines.{QueuePass}
 use Rattle.silo_crew.specs.Silos.{IsSameSilo, IsSiloAt, SiloView}
@@ -12,13 +13,13 @@ use Rattle.cluster_operator.specs.Operators.{OperatorGoesOn}
 use Rattle.stream_cluster.specs.Clusters.{AnswersRetire, ClusterView, HasHalted, IsDown, RunsOn}
 use Rattle.stream_cluster.specs.declared.cluster.Retired.{Retired}
 use Rattle.stream_cluster.specs.declared.cluster.Retired.TheVariants as retired
-use Rattle.stream_cluster.proofs.Standing.{all-at, all-remove, lives-at, map-remove, same-at, silo-place, sits-on}
+use Rattle.stream_cluster.proofs.Standing.{all-remove, lives-at, map-remove, same-at, silo-place, sits-on}
 use Rattle.parked_tests.specs.Parked.{IsLeft, IsWhole, silos_of}
 use Rattle.parked_tests.proofs.Crew.{all-set, insert-remove, one-place, silos-set}
 
 -- the loops of one silo at a place
 runs-at : (c : ClusterView) (crew : List SiloView) (at : ℕ) (s : SiloView) → at < length crew → s ≡ get_or crew at s → RunsOn c.operator crew → IsSiloAt c.operator.lines c.operator.directory s
-runs-at c crew at s within is runs = subst (λ (x : SiloView). IsSiloAt c.operator.lines c.operator.directory x) (sym is) (all-at (IsSiloAt c.operator.lines c.operator.directory) crew at s within runs)
+runs-at c crew at s within is runs = subst (λ (x : SiloView). IsSiloAt c.operator.lines c.operator.directory x) (sym is) (All-at (IsSiloAt c.operator.lines c.operator.directory) crew at s runs within)
 
 -- a step of a loop of the silo at a place
 pub whole-step : (c : ClusterView) (caller : List QueuePass) (crew later : List SiloView) (at : ℕ) (s t : SiloView) → at < length crew → s ≡ get_or crew at s → IsSameSilo s t → later ≡ set crew at t → IsWhole c caller crew → IsWhole c caller later

@@ -27,7 +27,7 @@ count_none silo [] nowhere = refl
 count_none silo (x ∷ xs) nowhere =
     count-cons_other silo x xs (nowhere 0 (omega arith)) ∙ count_none silo xs (λ k below. nowhere (suc k) (omega arith))
 
-HasNoDoubles-rest : (x : ℕ) (xs : List ℕ) → HasNoDoubles (x ∷ xs) → HasNoDoubles xs
+pub HasNoDoubles-rest : (x : ℕ) (xs : List ℕ) → HasNoDoubles (x ∷ xs) → HasNoDoubles xs
 HasNoDoubles-rest x xs apart = λ i j d before below. apart (suc i) (suc j) d (omega arith) (omega arith)
 
 -- without doubles each silo is counted once at most

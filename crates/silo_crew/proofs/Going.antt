@@ -6,6 +6,7 @@ use Rattle.turnstile.specs.declared.history.Entry.{Entry}
 use Rattle.turnstile.specs.Calls.{Agree, HasOnlyMade, joined_pass}
 use Rattle.turnstile.specs.History.{Foreign}
 use Rattle.turnstile.specs.Passes.{PassView}
+use Rattle.turnstile.proofs.Histories.{foreign-append}
 use Rattle.silo_loops.specs.Lines.{LineView, places}
 use Rattle.cluster_callers.specs.Calls.{AllZipFront}
 use Rattle.silo_crew.specs.Silos.{AreAlike, GoOn, GoesOn, IsMarked, IsSilent, IsSplitLine, LineGoesOn, joined_line, joined_lines}
@@ -45,10 +46,6 @@ module _ {O R S : Type 0} where
       }
 
 module _ {O R : Type 0} where
-  foreign-append : (numbers : List ℕ) (xs ys : List (Entry O R)) → Foreign numbers xs → Foreign numbers ys → Foreign numbers (xs ++ ys)
-  foreign-append numbers [] ys a b = b
-  foreign-append numbers (x ∷ xs) ys a b = (a.0, foreign-append numbers xs ys a.1 b)
-
   -- who owns none of more numbers owns none of fewer
   foreign-first : (number : ℕ) (joined : List ℕ) (es : List (Entry O R)) → Foreign (number ∷ joined) es → Foreign (number ∷ []) es
   foreign-first number joined [] foreign = tt

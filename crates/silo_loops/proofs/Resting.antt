@@ -14,7 +14,7 @@ pub record HaveRested (old : List LineView) (at : ℕ) (new : List LineView) : T
 pub rest-none : (old : List LineView) → HaveRested old 0 old
 rest-none old = record { long = refl; front = λ k d below within. absurd (omega arith); back = λ k d above. refl }
 
-lt-cases : (k at : ℕ) → k < at + 1 → (k < at) ⊎ (k ≡ at)
+pub lt-cases : (k at : ℕ) → k < at + 1 → (k < at) ⊎ (k ≡ at)
 lt-cases k at below = elim (cases_lt k at) as (λ s. (k < at) ⊎ (k ≡ at)) [ inl less ↦ inl less | inr more ↦ inr (omega arith) ]
 
 any-default : (xs : List LineView) (k : ℕ) (d e : LineView) → k < length xs → get_or xs k d ≡ get_or xs k e

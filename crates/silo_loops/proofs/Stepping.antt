@@ -31,7 +31,7 @@ use Rattle.silo_loops.specs.Workers.{HasWorked, IsInHand, WorkerAsks, WorkerCall
 use Rattle.silo_loops.proofs.Working.{begun-fits, begun-work, committed-fits, committed-work, end-heard, entered-fits, entered-work, free-work, get-set}
 
 -- one place has one line
-one-line : (lines : List LineView) (at : ℕ) (l m : LineView) → slice_get lines at ≡ Some l → slice_get lines at ≡ Some m → l ≡ m
+pub one-line : (lines : List LineView) (at : ℕ) (l m : LineView) → slice_get lines at ≡ Some l → slice_get lines at ≡ Some m → l ≡ m
 one-line lines at l m a b = ap (λ o. unwrap_or o l) (sym a ∙ b)
 
 -- what fits here, where the next step is known

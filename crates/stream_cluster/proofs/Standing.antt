@@ -15,6 +15,8 @@ use Rattle.cluster_ending.specs.declared.ends.LoopEnds.{LoopEnds}
 use Rattle.cluster_ending.specs.declared.finishing.Finished.{Finished}
 use Rattle.cluster_ending.specs.Finishing.{CallersAloneProduce, HaveBegun, IsFinished, OnHistories}
 use Rattle.cluster_ending.specs.Gathering.{AreAt, gathered, passes_of}
+use Rattle.cluster_ending.proofs.Rows.{all-push}
+use Rattle.stream_ident.proofs.WordLemmas.{All-at}
 use Rattle.stream_model.specs.declared.op.Op.{Op}
 use Rattle.stream_model.specs.declared.reply.Reply.{Reply}
 use Rattle.turnstile.specs.declared.history.Entry.{Entry}
@@ -25,7 +27,7 @@ use Rattle.cluster_operator.specs.declared.halt.Halt.{Halt}
 use Rattle.cluster_operator.specs.declared.halt.Halt.TheVariants as halt
 use Rattle.cluster_operator.specs.Changes.{AreDeactivated, HasMade, HaveMoved, IsDeactivation, IsMove, IsNoneLeft, IsRelease}
 use Rattle.cluster_operator.specs.Operators.{HasOnlyGoneOn, HasSpread, OperatorGoesOn, OperatorView}
-use Rattle.cluster_operator.proofs.Changing.{each-earlier, each-later, goes-at, goes-back}
+use Rattle.cluster_operator.proofs.Changing.{each-earlier, each-later, goes-at, goes-back, op-trans}
 use Rattle.cluster_operator.proofs.Making.{goes-longer, made-earlier, made-since-silent}
 use Rattle.stream_cluster.specs.Clusters.{AnswersDown, AnswersRetire, AnswersUp, AreAtQueues, AreFresh, AreStarted, ClusterView, EndsBy, HasEnded, HasHalted, HasLeft, HasNoted, IsBrokenOff, IsCluster, IsDownBy, IsOpened, IsRetired, IsRetiredBy, IsUpBy, MayGo, RunsOn, all_noted, is_fixed, none_ended, noted}
 use Rattle.stream_cluster.specs.declared.config.Config.{Config}
@@ -37,9 +39,6 @@ use Rattle.stream_cluster.specs.declared.cluster.SiloUp.TheVariants as up
 
 pub op-refl : (v : OperatorView) → OperatorGoesOn v v
 op-refl v = record { lines = goes-refl v.lines; directory = on-refl v.directory }
-
-pub op-trans : (u v w : OperatorView) → OperatorGoesOn u v → OperatorGoesOn v w → OperatorGoesOn u w
-op-trans u v w a b = record { lines = goes-trans u.lines v.lines w.lines a.lines b.lines; directory = on-trans u.directory v.directory w.directory a.directory b.directory }
 
 -- an operator of which only the silos that live are others
 pub op-same : (u v : OperatorView) → v.lines ≡ u.lines → v.directory ≡ u.directory → OperatorGoesOn u v
@@ -65,20 +64,11 @@ sits-on v w [] on all = tt
 sits-on v w (s ∷ ss) on all = (sits-one v w s on all.0, sits-on v w ss on all.1)
 
 module _ {A : Type 0} (P : A → Type 0) where
-  pub all-push : (xs : List A) (x : A) → AllByRecursion P xs → P x → AllByRecursion P (xs ++ x ∷ [])
-  all-push [] x all holds = (holds, tt)
-  all-push (y ∷ ys) x all holds = (all.0, all-push ys x all.1 holds)
-
   pub all-remove : (xs : List A) (at : ℕ) → AllByRecursion P xs → AllByRecursion P (remove xs at)
   all-remove [] zero all = all
   all-remove [] (suc at) all = all
   all-remove (x ∷ xs) zero all = all.1
   all-remove (x ∷ xs) (suc at) all = (all.0, all-remove xs at all.1)
-
-  pub all-at : (xs : List A) (at : ℕ) (d : A) → at < length xs → AllByRecursion P xs → P (get_or xs at d)
-  all-at [] at d within all = absurd (omega arith)
-  all-at (x ∷ xs) zero d within all = all.0
-  all-at (x ∷ xs) (suc at) d within all = all-at xs at d (omega arith) all.1
 
 -- a silo whose loops came back is at the same turnstiles
 pub same-at : (lines : List LineView) (d : DirectoryPass) (s t : SiloView) → IsSiloAt lines d s → IsSameSilo s t → IsSiloAt lines d t
@@ -211,7 +201,7 @@ started-more v w ss s n only started runs silo at = (
 
 -- the loops of the silo at a place come back where they were
 pub back-at : (v : OperatorView) (ss : List SiloView) (place : ℕ) (s t : SiloView) → place < length ss → s ≡ get_or ss place s → RunsOn v ss → IsSameSilo s t → IsSiloAt v.lines v.directory t
-back-at v ss place s t within read runs same = same-at v.lines v.directory s t (subst (λ (x : SiloView). IsSiloAt v.lines v.directory x) (sym read) (all-at (IsSiloAt v.lines v.directory) ss place s within runs)) same
+back-at v ss place s t within read runs same = same-at v.lines v.directory s t (subst (λ (x : SiloView). IsSiloAt v.lines v.directory x) (sym read) (All-at (IsSiloAt v.lines v.directory) ss place s runs within)) same
 
 -- the first of the silos that run comes back, and the others go on running
 pub stop-first : (v w : OperatorView) (s : SiloView) (ss : List SiloView) → HasOnlyGoneOn v w → RunsOn v (s ∷ ss) → RunsOn w ss

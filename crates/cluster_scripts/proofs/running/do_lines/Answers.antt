@@ -2,7 +2,7 @@ use Rattle.std.proofs.Common.{◌∙◌, List, [], arith, refl, rules, subst, sy
 use Rattle.std.proofs.lemmas.Grind.{common_steps}
 use Rattle.std.proofs.lemmas.Iterator.Adapters.{YieldsList-from_vec}
 use Rattle.std.proofs.lemmas.Iterator.Consumers.{YieldsList-end, YieldsList-turn}
-use Rattle.stream_cluster.proofs.Standing.{op-trans}
+use Rattle.cluster_operator.proofs.Changing.{op-trans}
 use Rattle.script_laws.specs.declared.script_line.ScriptLine.{ScriptLine}
 use Rattle.cluster_scripts.proofs.Progress.{Progress, begins, does, done-all, map-same, on-all, on-err, on-ok, stopped}
 use Rattle.cluster_scripts.proofs.running.do_lines.Goals as goal

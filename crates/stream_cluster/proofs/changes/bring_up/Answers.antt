@@ -3,7 +3,9 @@ use Rattle.std.proofs.lemmas.Result.{on_ok_weaker}
 use Rattle.silo_crew.specs.Silos.{IsSiloAt, SiloView}
 use Rattle.cluster_operator.specs.Operators.{HasSpread, OperatorView}
 use Rattle.stream_cluster.specs.Clusters.{RunsOn}
-use Rattle.stream_cluster.proofs.Standing.{all-push, op-refl, op-same, op-trans, sits-on, spread-from}
+use Rattle.cluster_ending.proofs.Rows.{all-push}
+use Rattle.cluster_operator.proofs.Changing.{op-trans}
+use Rattle.stream_cluster.proofs.Standing.{op-refl, op-same, sits-on, spread-from}
 use Rattle.stream_cluster.proofs.changes.bring_up.Goals as goal
 
 pub returns-in_err-reserve-clause-on : goal.returns-in_err-reserve-clause-on

@@ -4,7 +4,8 @@ use Rattle.std.proofs.lemmas.Result.{on_ok_weaker}
 use Rattle.silo_crew.specs.Silos.{SiloView}
 use Rattle.cluster_operator.specs.Operators.{HasSpread, OperatorView}
 use Rattle.stream_cluster.specs.Clusters.{HasLeft}
-use Rattle.stream_cluster.proofs.Standing.{left-whole, op-same, op-trans}
+use Rattle.cluster_operator.proofs.Changing.{op-trans}
+use Rattle.stream_cluster.proofs.Standing.{left-whole, op-same}
 use Rattle.stream_cluster.proofs.changes.leave.Goals as goal
 
 pub returns-in_err-evict-clause-on : goal.returns-in_err-evict-clause-on

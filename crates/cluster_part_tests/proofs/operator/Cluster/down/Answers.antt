@@ -1,5 +1,6 @@
 use Rattle.std.proofs.Common.{◌∙◌}
-use Rattle.cluster_part_tests.proofs.Turnstiles.{beside-operator, operator-relisted, operator-trans, operator-turnstiles}
+use Rattle.cluster_operator.proofs.Changing.{op-trans}
+use Rattle.cluster_part_tests.proofs.Turnstiles.{beside-operator, operator-relisted, operator-turnstiles}
 use Rattle.cluster_part_tests.proofs.operator.Cluster.down.Goals as goal
 
 pub invariant_of-self : goal.invariant_of-self
@@ -10,12 +11,12 @@ returns-in_err-evict g c = operator-turnstiles c.self.inside.operator c.evict.ne
 
 pub invariant_of-self-2 : goal.invariant_of-self-2
 invariant_of-self-2 g c =
-    let on = operator-trans c.self.inside.operator c.evict.new.self c.spread.new.self c.evict.ensures.only.on
+    let on = op-trans c.self.inside.operator c.evict.new.self c.spread.new.self c.evict.ensures.only.on
     (operator-relisted c.evict.new.self c.dismiss.new.self c.spread.new.self _ c.dismiss.ensures c.spread.ensures.on) in
     beside-operator c.self.inside.operator c.spread.new.self _ c.self.invariant on
 
 pub returns : goal.returns
 returns g c =
-    let on = operator-trans c.self.inside.operator c.evict.new.self c.spread.new.self c.evict.ensures.only.on
+    let on = op-trans c.self.inside.operator c.evict.new.self c.spread.new.self c.evict.ensures.only.on
     (operator-relisted c.evict.new.self c.dismiss.new.self c.spread.new.self _ c.dismiss.ensures c.spread.ensures.on) in
     operator-turnstiles c.self.inside.operator c.spread.new.self on ∙ c.self.view_is

@@ -1,5 +1,5 @@
 use Rattle.std.proofs.Common.{◌∙◌}
-use Rattle.cluster_stress.proofs.Places.{down-places}
+use Rattle.stream_cluster.proofs.Places.{down-places}
 use Rattle.cluster_stress.proofs.running.Running.down.Goals as goal
 
 pub returns : goal.returns

@@ -1,5 +1,5 @@
 use Rattle.std.proofs.Common.{◌∙◌}
-use Rattle.cluster_stress.proofs.Places.{up-places}
+use Rattle.stream_cluster.proofs.Places.{up-places}
 use Rattle.cluster_stress.proofs.running.Running.up.Goals as goal
 
 pub returns : goal.returns
