@@ -1,122 +1,173 @@
--- What the order of a table says of its grains.
-use Rattle.std.proofs.Common.{◌≡◌, ◌≢◌, ◌∙◌, ap, sym, refl, subst, ℕ, ◌+◌, ◌-◌, ◌<◌, inl, inr, Bool, true, false, List, [], ◌∷◌, ◌++◌, length, get_or, Option, Some, None, arith}
-use Rattle.std.proofs.lemmas.Bool.{both_ways, cases_lt, cases_eq, false_from_ne_true}
+-- The ready ones after one grain was looked at.
+use Rattle.std.proofs.Common.{◌≡◌, ◌∙◌, ap, sym, refl, subst, ℕ, zero, suc, ◌+◌, ◌-◌, ◌<◌, ◌≤◌, Bool, true, false, not, List, [], ◌∷◌, ◌++◌, length, get_or, drop, filter, map, slice_get, slice_index, nat_lt, position, insert, remove, Option, Some, None, if◌then◌else◌, arith}
+use Rattle.std.proofs.lemmas.Bool.{cond-false, cond-true, false_from_ne_true, le-ltb, lt-ltb, ltb-false, ltb-true}
 use Rattle.std.proofs.lemmas.List.{get_or_default}
-use Rattle.std.specs.List.{insert}
-use Rattle.std.specs.Prelude.{slice_index, if◌then◌else◌}
+use Rattle.std.proofs.lemmas.Option.{same_Some, slice_get-get_or}
+use Rattle.std.specs.List.{position_or_len}
+use Rattle.std.specs.Map.{keys_of}
+use Rattle.indexmap.specs.IndexMap.{insert_entry}
 use Rattle.stream_ident.specs.declared.ident.GrainId.{GrainId}
 use Rattle.stream_ident.specs.Name.{grain_lt, same_grain}
-use Rattle.stream_ident.specs.Words.{keys_where, least}
-use Rattle.consumer_grain.specs.Activations.{PlainActivation}
-use Rattle.least_tree.specs.Keys.{is_at_most}
-use Rattle.ranking.specs.Ranked.{entry_at, AreKeys, IsFirstPast}
-use Rattle.ranking.proofs.EntryLemmas.{distinct_names, keys-insert, ranked-insert}
-use Rattle.ranking.proofs.LeastLemmas.{least_by_rank, none_by_rank}
-use Rattle.stream_ident.proofs.FirstLemmas.{first_at-None, first_at-nowhere, first_at-there}
-use Rattle.grain_table.specs.Grains.{PlainGrains, AreDistinct, is_ready, number_of}
-use Rattle.grain_table.specs.Changes.{no_grain, grain_at, activation_at}
-use Rattle.grain_table.specs.Table.{entry_key, name_of, ready_key, IsInOrder, IsTable}
+use Rattle.stream_ident.specs.Words.{first_at, keys_where, least, lesser}
+use Rattle.stream_ident.proofs.FirstLemmas.{first_at-there}
 use Rattle.stream_ident.proofs.NameOrders.{grain_order}
 use Rattle.stream_ident.proofs.SameValues.{same_grain-equal}
+use Rattle.consumer_grain.specs.Activations.{PlainActivation}
+use Rattle.ranking.specs.Listed.{IsListed}
+use Rattle.ranking.specs.Ranked.{entry_at, IsFirstPast}
+use Rattle.ranking.proofs.ListedLemmas.{listed-in, listed-insert, listed-last, listed-out, listed-remove, listed-room, next_listed-first, next_listed-none, next_listed-past}
+use Rattle.grain_table.specs.Changes.{no_grain, grain_at}
+use Rattle.grain_table.specs.Grains.{PlainGrains, is_ready, number_of, ready_after, AreDistinct}
+use Rattle.grain_table.specs.Table.{is_entry_ready, name_of, AreReady, AreReadyBut}
 
 -- an entry that was read
-pub read_entry : (grains : PlainGrains) (number : ℕ) (e : GrainId × PlainActivation) → number < length grains → e ≡ get_or grains number e → get_or grains number no_grain ≡ e
-read_entry grains number e within is = get_or_default grains number no_grain e within ∙ sym is
+pub read_entry : (grains : PlainGrains) (number : ℕ) (e d : GrainId × PlainActivation) → number < length grains → Some e ≡ slice_get grains number → get_or grains number d ≡ e
+read_entry grains number e d within is = sym (same_Some e (get_or grains number d) (is ∙ slice_get-get_or grains number d within))
 
--- a key that is there is 0
-pub ready-passes : (e : GrainId × PlainActivation) → is_at_most 0 (entry_key e) ≡ is_ready e.1
-ready-passes e = by (is_ready e.1)
+-- a number stands right before a place
+abbrev pub IsLastBefore : List ℕ → ℕ → ℕ → Type 0
+IsLastBefore numbers place number = (0 < place) × (slice_index numbers (place - 1) ≡ number)
+
+-- a grain that was read under a number has that number
+pub number_of-read : (grains : PlainGrains) (grain : GrainId) (number : ℕ) → AreDistinct grains → number < length grains → same_grain grain (grain_at grains number) ≡ true → Some number ≡ number_of grains grain
+number_of-read grains grain number distinct within is =
+    sym (first_at-there (λ e. same_grain grain e.0) 0 grains no_grain number within is
+    (λ j less. false_from_ne_true (same_grain grain (grain_at grains j)) (λ also.
+    let equal = distinct number j no_grain within (omega arith) (ap (λ (g : GrainId). same_grain g (grain_at grains j)) (sym (same_grain-equal grain (grain_at grains number) is)) ∙ also) in
+    absurd (omega (arith, equal))))
+    ∙ ap {B = Option ℕ} Some (zero_add number))
   where
-    by : (b : Bool) → is_at_most 0 (if b then Some 0 else None) ≡ b
-    by true = refl
-    by false = refl
+    zero_add : (n : ℕ) → 0 + n ≡ n
+    zero_add n = omega arith
 
-module _ (grains : PlainGrains) (order : List ℕ) (o : IsInOrder grains order) where
-  -- no grain stands under two numbers
-  pub distinct : AreDistinct grains
-  distinct i j d = distinct_names name_of grain_lt same_grain grain_order grains order o d i j
+-- the place of a grain among the keys is its number
+abbrev place : GrainId → PlainGrains → ℕ
+place g grains = position_or_len (same_grain g) (keys_of grains)
 
-  -- a grain that was read under a number has that number
-  pub number_of-read : (grain : GrainId) (number : ℕ) → number < length grains → same_grain grain (grain_at grains number) ≡ true → Some number ≡ number_of grains grain
-  number_of-read grain number within is =
-      sym (first_at-there (λ e. same_grain grain e.0) 0 grains no_grain number within is
-      (λ j less. false_from_ne_true (same_grain grain (grain_at grains j)) (λ also.
-      let equal = distinct number j no_grain within (omega arith) (ap (λ (g : GrainId). same_grain g (grain_at grains j)) (sym (same_grain-equal grain (grain_at grains number) is)) ∙ also) in
-      absurd (omega (arith, equal))))
-      ∙ ap {B = Option ℕ} Some (zero_add number))
-    where
-      zero_add : (n : ℕ) → 0 + n ≡ n
-      zero_add n = omega arith
-
-  -- an entry that was read at the first rank that passes
-  pub least_where-read : (passes : PlainActivation → Bool) (rank : ℕ) (e : GrainId × PlainActivation) → rank < length order → e ≡ get_or grains (slice_index order rank) e → passes e.1 ≡ true → ((i : ℕ) → i < rank → passes (activation_at grains (slice_index order i)) ≡ false)
-      → Some e.0 ≡ least grain_lt (keys_where passes grains)
-  least_where-read passes rank e within read is before =
-      let same = read_entry grains (slice_index order rank) e (omega (arith, o.long, o.ranking.inverse.number_within rank within)) read in
-      ap (λ (d : GrainId × PlainActivation). Some d.0) (sym same)
-      ∙ sym (least_by_rank name_of grain_lt same_grain grain_order grains order o no_grain (λ d. passes d.1) rank within (ap (λ (d : GrainId × PlainActivation). passes d.1) same ∙ is) before)
-
-  pub least_where-none : (passes : PlainActivation → Bool) → ((i : ℕ) → i < length order → passes (activation_at grains (slice_index order i)) ≡ false) → None ≡ least grain_lt (keys_where passes grains)
-  least_where-none passes none = sym (none_by_rank name_of grain_lt same_grain grain_order grains order o no_grain (λ d. passes d.1) none)
-
-  module _ (grain : GrainId) (past : ℕ) (first : IsFirstPast name_of grain_lt (Some grain) grains order past) where
-    -- a grain stands at no rank but the last that is not past it
-    apart_at : (i : ℕ) → i < length order → i + 1 ≢ past → same_grain grain (entry_at grains order no_grain i).0 ≡ false
-    apart_at i within other =
-        false_from_ne_true (same_grain grain (entry_at grains order no_grain i).0) (λ is.
-        elim (cases_lt i past) [
-          | inl low ↦
-              let equal = same_grain-equal grain (entry_at grains order no_grain i).0 is in
-              let last : i < past - 1 = omega arith in
-              both_ways (grain_lt grain (entry_at grains order no_grain (past - 1)).0) (first.before no_grain (past - 1) (omega arith))
-              (ap (λ (g : GrainId). grain_lt g (entry_at grains order no_grain (past - 1)).0) equal ∙ o.rises no_grain i (past - 1) last (omega (arith, first.within)))
-          | inr high ↦
-              both_ways (grain_lt grain (entry_at grains order no_grain i).0) (grain_order.apart grain (entry_at grains order no_grain i).0 is).0 (first.past no_grain i high within)
-        ])
-
-    -- nor under a number that stands elsewhere
-    apart : (number : ℕ) → number < length grains → (o.ranking.rank_of number + 1 ≢ past) → same_grain grain (grain_at grains number) ≡ false
-    apart number within other =
-        subst (λ (n : ℕ). same_grain grain (grain_at grains n) ≡ false) (o.ranking.inverse.forth number (omega (arith, o.long)))
-        (apart_at (o.ranking.rank_of number) (o.ranking.inverse.rank_within number (omega (arith, o.long))) other)
-
-    pub number_of-there : (rank : ℕ) → rank + 1 ≡ past → same_grain grain (entry_at grains order no_grain rank).0 ≡ true → Some (slice_index order rank) ≡ number_of grains grain
-    number_of-there rank last is =
-        let within : rank < length order = omega (arith, first.within) in
-        let number = slice_index order rank in
-        let inside : number < length grains = omega (arith, o.long, o.ranking.inverse.number_within rank within) in
-        sym (first_at-there (λ e. same_grain grain e.0) 0 grains no_grain number inside is (λ j less.
-        apart j (omega arith) (λ same.
-        let here : o.ranking.rank_of j ≡ rank = omega arith in
-        absurd (omega (arith, sym (o.ranking.inverse.forth j (omega (arith, o.long))) ∙ ap (slice_index order) here))))
-        ∙ ap {B = Option ℕ} Some (zero_add number))
+place-from : (g : GrainId) (n : ℕ) (grains : PlainGrains) → (if nat_lt (place g grains) (length (keys_of grains)) then Some (n + place g grains) else None) ≡ first_at (λ (e : GrainId × PlainActivation). same_grain g e.0) n grains
+place-from g n [] = refl
+place-from g n (e ∷ es) = by (same_grain g e.0) (place-from g (suc n) es)
+  where
+    by : (b : Bool) → (if nat_lt (place g es) (length (keys_of es)) then Some (suc n + place g es) else None) ≡ first_at (λ (e : GrainId × PlainActivation). same_grain g e.0) (suc n) es
+        → (if nat_lt (if not b then 1 + place g es else 0) (suc (length (keys_of es))) then Some (n + (if not b then 1 + place g es else 0)) else None)
+        ≡ (if b then Some n else first_at (λ (e : GrainId × PlainActivation). same_grain g e.0) (suc n) es)
+    by true rest = rw (lt-ltb 0 (suc (length (keys_of es))) (omega arith)) (ap Some (omega arith))
+    by false rest = count (nat_lt (place g es) (length (keys_of es))) refl ∙ rest
       where
-        zero_add : (n : ℕ) → 0 + n ≡ n
-        zero_add n = omega arith
+        count : (b : Bool) → nat_lt (place g es) (length (keys_of es)) ≡ b
+            → (if nat_lt (1 + place g es) (suc (length (keys_of es))) then Some (n + (1 + place g es)) else None) ≡ (if nat_lt (place g es) (length (keys_of es)) then Some (suc n + place g es) else None)
+        count true is =
+            let within : place g es < length (keys_of es) = ltb-true _ _ is in
+            rw (is, lt-ltb (1 + place g es) (suc (length (keys_of es))) (omega arith)) (ap Some (omega arith))
+        count false is =
+            let past : length (keys_of es) ≤ place g es = ltb-false _ _ is in
+            rw (is, le-ltb (1 + place g es) (suc (length (keys_of es))) (omega arith)) refl
 
-    pub number_of-not : (rank : ℕ) → rank + 1 ≡ past → same_grain grain (entry_at grains order no_grain rank).0 ≡ false → None ≡ number_of grains grain
-    number_of-not rank last isnt =
-        sym (first_at-nowhere (λ e. same_grain grain e.0) 0 grains no_grain (λ j within.
-        elim (cases_eq (o.ranking.rank_of j) rank) [
-          | inl here ↦
-              subst (λ (n : ℕ). same_grain grain (grain_at grains n) ≡ false) (sym (ap (slice_index order) here) ∙ o.ranking.inverse.forth j (omega (arith, o.long))) isnt
-          | inr there ↦ apart j within (λ same. there (omega arith))
-        ]))
+pub number_of-place : (g : GrainId) (grains : PlainGrains) → position (same_grain g) (keys_of grains) ≡ number_of grains g
+number_of-place g grains =
+    let zero-more : place g grains ≡ 0 + place g grains = omega arith in
+    ap (λ n. if nat_lt (place g grains) (length (keys_of grains)) then Some n else None) zero-more ∙ place-from g 0 grains
 
-    pub number_of-none : past ≡ 0 → None ≡ number_of grains grain
-    number_of-none none =
-        sym (first_at-nowhere (λ e. same_grain grain e.0) 0 grains no_grain (λ j within. apart j within (λ same. absurd (omega arith))))
-
--- a grain more, ready, under the next number
-pub table-added : (grains : PlainGrains) (order : List ℕ) (ready : List (Option ℕ)) → IsTable grains order ready → (grain : GrainId) (a : PlainActivation) → ready_key a ≡ Some 0 → number_of grains grain ≡ None
-    → (rank : ℕ) → IsFirstPast name_of grain_lt (Some grain) grains order rank → IsTable (grains ++ (grain, a) ∷ []) (insert order rank (length order)) (insert ready rank (Some 0))
-table-added grains order ready t grain a is_ready absent rank first = record {
-  ranked = ranked-insert grains order rank (grain, a) t.ranked.long t.ranked.ranking first.within name_of grain_lt same_grain grain_order t.ranked first new;
-  keyed = subst (λ (key : Option ℕ). AreKeys entry_key (grains ++ (grain, a) ∷ []) (insert order rank (length order)) (insert ready rank key)) is_ready
-      (keys-insert grains order rank (grain, a) t.ranked.long t.ranked.ranking first.within entry_key ready t.keyed);
-}
+-- a grain that has no number is put behind the others
+inserted-from : (grains : PlainGrains) (g : GrainId) (a : PlainActivation) (n : ℕ) → first_at (λ (e : GrainId × PlainActivation). same_grain g e.0) n grains ≡ None → insert_entry same_grain grains g a ≡ grains ++ (g, a) ∷ []
+inserted-from [] g a n none = refl
+inserted-from (e ∷ es) g a n none = by (same_grain g e.0) none (inserted-from es g a (suc n))
   where
-    new : (d : GrainId × PlainActivation) (i : ℕ) → i < length grains → same_grain grain (get_or grains i d).0 ≡ false
-    new d i within =
-        ap (λ (e : GrainId × PlainActivation). same_grain grain e.0) (get_or_default grains i d no_grain within)
-        ∙ first_at-None (λ e. same_grain grain e.0) 0 grains no_grain absent i within
+    by : (b : Bool) → (if b then Some n else first_at (λ (e : GrainId × PlainActivation). same_grain g e.0) (suc n) es) ≡ None
+        → (first_at (λ (e : GrainId × PlainActivation). same_grain g e.0) (suc n) es ≡ None → insert_entry same_grain es g a ≡ es ++ (g, a) ∷ [])
+        → (if b then (e.0, a) ∷ es else e ∷ insert_entry same_grain es g a) ≡ e ∷ (es ++ (g, a) ∷ [])
+    by true none rest = absurd (cc)
+    by false none rest = ap (λ (more : PlainGrains). e ∷ more) (rest none)
+
+pub grown : (grains seen new : PlainGrains) (g : GrainId) (a : PlainActivation) → seen ≡ grains → number_of grains g ≡ None → new ≡ insert_entry same_grain seen g a → new ≡ grains ++ (g, a) ∷ []
+grown grains seen new g a same none put =
+    put ∙ ap (λ (gs : PlainGrains). insert_entry same_grain gs g a) same ∙ inserted-from grains g a 0 none
+
+module _ (grains : PlainGrains) (numbers : List ℕ) (number past : ℕ) (e : GrainId × PlainActivation) (within : number < length grains) (seen : Some e ≡ slice_get grains number)
+    (first : IsFirstPast name_of grain_lt (Some e.0) grains numbers past) (but : AreReadyBut number grains numbers) (distinct : AreDistinct grains) where
+  first-at : IsFirstPast name_of grain_lt (Some (name_of (get_or grains number no_grain))) grains numbers past
+  first-at = subst (λ (g : GrainId). IsFirstPast name_of grain_lt (Some g) grains numbers past) (ap name_of (sym (read_entry grains number e no_grain within seen))) first
+
+  absent : (IsLastBefore numbers past number → ⊥) → IsListed numbers number → ⊥
+  absent isnt there = isnt (listed-last name_of grain_lt same_grain grain_order is_entry_ready grains numbers number past no_grain but.rising first-at there)
+
+  present : IsLastBefore numbers past number → IsListed numbers number
+  present there = record { place = past - 1; within = omega (arith, first.within, there.0); at = there.1 }
+
+  ready-at : (b : Bool) → is_ready e.1 ≡ b → is_entry_ready (get_or grains number no_grain) ≡ b
+  ready-at b is = ap is_entry_ready (read_entry grains number e no_grain within seen) ∙ is
+
+  pub has-room : (IsLastBefore numbers past number → ⊥) → length numbers < length grains
+  has-room isnt = listed-room name_of grain_lt same_grain grain_order is_entry_ready grains numbers number within but.rising (absent isnt)
+
+  pub stays-out : (IsLastBefore numbers past number → ⊥) → is_ready e.1 ≡ false → AreReady grains numbers
+  stays-out isnt is = listed-out name_of grain_lt same_grain grain_order is_entry_ready grains numbers number no_grain within but (absent isnt) (ready-at false is)
+
+  pub stays-in : IsLastBefore numbers past number → is_ready e.1 ≡ true → AreReady grains numbers
+  stays-in there is = listed-in name_of grain_lt same_grain grain_order is_entry_ready grains numbers number no_grain within but (present there) (ready-at true is)
+
+  pub put-in : (IsLastBefore numbers past number → ⊥) → is_ready e.1 ≡ true → AreReady grains (insert numbers past number)
+  put-in isnt is =
+      listed-insert name_of grain_lt same_grain grain_order is_entry_ready grains numbers number past no_grain within (λ d i j. distinct i j d) but (absent isnt) (ready-at true is) first-at
+
+  pub taken-out : IsLastBefore numbers past number → is_ready e.1 ≡ false → AreReady grains (remove numbers (past - 1))
+  taken-out there is =
+      listed-remove name_of grain_lt same_grain grain_order is_entry_ready grains numbers number (past - 1) no_grain within but (omega (arith, first.within, there.0)) there.1 (ready-at false is)
+
+-- ---- the next that is ready
+
+-- the grain that was read at a place
+pub grain-at : (grains : PlainGrains) (numbers : List ℕ) (place number : ℕ) (e : GrainId × PlainActivation) → AreReady grains numbers → place < length numbers → number ≡ get_or numbers place number → Some e ≡ slice_get grains number
+    → e.0 ≡ name_of (entry_at grains numbers no_grain place)
+grain-at grains numbers place number e are within is seen =
+    let same : slice_index numbers place ≡ number = get_or_default numbers place 0 number within ∙ sym is in
+    let inside : number < length grains = subst (λ (n : ℕ). n < length grains) same (are.rising.within place within) in
+    ap name_of (sym (read_entry grains number e no_grain inside seen)) ∙ ap (λ (n : ℕ). name_of (get_or grains n no_grain)) (sym same)
+
+pub next-past : (grains : PlainGrains) (numbers : List ℕ) (after : Option GrainId) (past place : ℕ) → AreReady grains numbers → IsFirstPast name_of grain_lt after grains numbers past → past < length numbers → place ≡ past
+    → Some (name_of (entry_at grains numbers no_grain place)) ≡ ready_after grains after
+next-past grains numbers after past place are first within same =
+    ap (λ (n : ℕ). Some (name_of (entry_at grains numbers no_grain n))) same
+    ∙ sym (next_listed-past name_of grain_lt same_grain grain_order is_entry_ready grains numbers after past no_grain are first within)
+
+pub next-first : (grains : PlainGrains) (numbers : List ℕ) (after : Option GrainId) (past place : ℕ) → AreReady grains numbers → IsFirstPast name_of grain_lt after grains numbers past → length numbers ≤ past → place ≡ 0 → place < length numbers
+    → Some (name_of (entry_at grains numbers no_grain place)) ≡ ready_after grains after
+next-first grains numbers after past place are first high same within =
+    ap (λ (n : ℕ). Some (name_of (entry_at grains numbers no_grain n))) same
+    ∙ sym (next_listed-first name_of grain_lt same_grain grain_order is_entry_ready grains numbers after past no_grain are first high (omega (arith, same, within)))
+
+pub next-none : (grains : PlainGrains) (numbers : List ℕ) (after : Option GrainId) → AreReady grains numbers → length numbers ≡ 0 → None ≡ ready_after grains after
+next-none grains numbers after are none = sym (next_listed-none name_of grain_lt same_grain grain_order is_entry_ready grains numbers after are none)
+
+-- ---- the least that passes, from the end on
+
+module _ (passes : PlainActivation → Bool) where
+  abbrev pub least_from : ℕ → PlainGrains → Option GrainId
+  least_from n grains = least grain_lt (keys_where passes (drop n grains))
+
+  pub least-there : (grains : PlainGrains) (number : ℕ) (e : GrainId × PlainActivation) (so_far : Option GrainId) → number < length grains → Some e ≡ slice_get grains number → passes e.1 ≡ true → so_far ≡ least_from (suc number) grains
+      → Some (lesser grain_lt e.0 so_far) ≡ least_from number grains
+  least-there [] number e so_far within seen is same = absurd (omega arith)
+  least-there (x ∷ xs) zero e so_far within seen is same =
+      let here : e ≡ x = same_Some e x seen in
+      let passed : passes x.1 ≡ true = ap (λ (y : GrainId × PlainActivation). passes y.1) (sym here) ∙ is in
+      ap (λ (y : GrainId × PlainActivation). Some (lesser grain_lt y.0 so_far)) here
+      ∙ ap (λ (o : Option GrainId). Some (lesser grain_lt x.0 o)) same
+      ∙ sym (ap (λ (es : PlainGrains). least grain_lt (map (λ (y : GrainId × PlainActivation). y.0) es)) (cond-true (passes x.1) (x ∷ filter (λ (y : GrainId × PlainActivation). passes y.1) xs) (filter (λ (y : GrainId × PlainActivation). passes y.1) xs) passed))
+  least-there (x ∷ xs) (suc n) e so_far within seen is same = least-there xs n e so_far (omega arith) seen is same
+
+  pub least-not : (grains : PlainGrains) (number : ℕ) (e : GrainId × PlainActivation) (so_far : Option GrainId) → number < length grains → Some e ≡ slice_get grains number → passes e.1 ≡ false → so_far ≡ least_from (suc number) grains
+      → so_far ≡ least_from number grains
+  least-not [] number e so_far within seen is same = absurd (omega arith)
+  least-not (x ∷ xs) zero e so_far within seen is same =
+      let here : e ≡ x = same_Some e x seen in
+      let passed : passes x.1 ≡ false = ap (λ (y : GrainId × PlainActivation). passes y.1) (sym here) ∙ is in
+      same
+      ∙ sym (ap (λ (es : PlainGrains). least grain_lt (map (λ (y : GrainId × PlainActivation). y.0) es)) (cond-false (passes x.1) (x ∷ filter (λ (y : GrainId × PlainActivation). passes y.1) xs) (filter (λ (y : GrainId × PlainActivation). passes y.1) xs) passed))
+  least-not (x ∷ xs) (suc n) e so_far within seen is same = least-not xs n e so_far (omega arith) seen is same
+
+  pub least-end : (grains : PlainGrains) (number : ℕ) → length grains ≤ number → None ≡ least_from number grains
+  least-end [] zero past = refl
+  least-end [] (suc n) past = refl
+  least-end (x ∷ xs) zero past = absurd (omega arith)
+  least-end (x ∷ xs) (suc n) past = least-end xs n (omega arith)

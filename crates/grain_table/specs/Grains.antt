@@ -1,5 +1,5 @@
 -- The grains of a partition, in the order of their first activation, and what is asked of them.
-use Rattle.std.specs.Prelude.{◌≡◌, ℕ, ◌<◌, Bool, true, ◌&&◌, not, List, [], ◌∷◌, ◌++◌, length, get_or, Option, is_some, nat_lt}
+use Rattle.std.specs.Prelude.{◌≡◌, ℕ, ◌<◌, Bool, true, ◌&&◌, not, List, [], ◌∷◌, ◌++◌, length, get_or, Option, None, is_some, nat_lt}
 use Rattle.stream_ident.specs.declared.ident.GrainId.{GrainId}
 use Rattle.stream_ident.specs.Name.{same_grain, grain_lt}
 use Rattle.stream_ident.specs.Words.{keys_where, least, next_after, place_of}
@@ -29,6 +29,10 @@ is_running a = is_some a.running
 -- something waits, and no turn runs
 abbrev pub is_ready : PlainActivation → Bool
 is_ready a = is_waiting a && not (is_running a)
+
+-- nothing waits for any grain, and no turn runs
+abbrev pub AreIdle : PlainGrains → Type 0
+AreIdle grains = (i : ℕ) (d : GrainId × PlainActivation) → i < length grains → ((get_or grains i d).1.mailbox ≡ []) × ((get_or grains i d).1.running ≡ None)
 
 -- the least ready grain after the given one, else the least
 abbrev pub ready_after : PlainGrains → Option GrainId → Option GrainId

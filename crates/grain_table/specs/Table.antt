@@ -1,27 +1,39 @@
--- What a table keeps beside its grains: their numbers in the order of the names, and by rank which are ready.
-use Rattle.std.specs.Prelude.{ℕ, List, Option, Some, None, if◌then◌else◌}
+-- What a table keeps beside its grains: the numbers of those that are ready, in the order of their names.
+use Rattle.std.specs.Prelude.{◌≡◌, ℕ, ◌^◌, ◌≤◌, Bool, List, filter, length}
 use Rattle.stream_ident.specs.declared.ident.GrainId.{GrainId}
 use Rattle.stream_ident.specs.Name.{grain_lt}
 use Rattle.consumer_grain.specs.Activations.{PlainActivation}
-use Rattle.ranking.specs.Ranked.{AreKeys, AreRanked}
-use Rattle.grain_table.specs.Grains.{PlainGrains, is_ready}
+use Rattle.ranking.specs.Listed.{AreListed, AreListedBut, AreRising}
+use Rattle.grain_table.specs.Grains.{PlainGrains, is_ready, is_running, AreDistinct}
 
 -- the grain of an entry
 abbrev pub name_of : GrainId × PlainActivation → GrainId
 name_of entry = entry.0
 
--- the key of a grain that is ready, and none of another
-abbrev pub ready_key : PlainActivation → Option ℕ
-ready_key a = if is_ready a then Some 0 else None
+-- the grain of an entry is ready
+abbrev pub is_entry_ready : GrainId × PlainActivation → Bool
+is_entry_ready entry = is_ready entry.1
 
-abbrev pub entry_key : GrainId × PlainActivation → Option ℕ
-entry_key entry = ready_key entry.1
+-- these are numbers of grains, in the order of their names
+abbrev pub HaveRisingNames : PlainGrains → List ℕ → Type 0
+HaveRisingNames grains numbers = AreRising name_of grain_lt grains numbers
 
--- these are the numbers of the grains in their order
-abbrev pub IsInOrder : PlainGrains → List ℕ → Type 0
-IsInOrder grains order = AreRanked name_of grain_lt grains order
+-- these are the numbers of the ready grains, in the order of their names
+abbrev pub AreReady : PlainGrains → List ℕ → Type 0
+AreReady grains numbers = AreListed name_of grain_lt is_entry_ready grains numbers
 
--- all that is kept beside the grains fits them
-pub record IsTable (grains : PlainGrains) (order : List ℕ) (ready : List (Option ℕ)) : Type 0 where
-  pub ranked : IsInOrder grains order
-  pub keyed : AreKeys entry_key grains order ready
+-- the same, whether or not the grain with this number stands among them
+abbrev pub AreReadyBut : ℕ → PlainGrains → List ℕ → Type 0
+AreReadyBut number grains numbers = AreListedBut number name_of grain_lt is_entry_ready grains numbers
+
+-- for how many grains a turn runs
+abbrev pub running_in : PlainGrains → ℕ
+running_in grains = length (filter (λ entry. is_running entry.1) grains)
+
+-- no grain stands twice, the ready ones are known, there is room for all, and the turns that run are counted
+pub record IsTable (grains : PlainGrains) (ready : List ℕ) (room running : ℕ) : Type 0 where
+  pub distinct : AreDistinct grains
+  pub are_ready : AreReady grains ready
+  pub fits : length grains ≤ room
+  pub few : length grains ≤ 2 ^ 63
+  pub counted : running ≡ running_in grains

@@ -1,19 +1,18 @@
-//! The table, and the order of its grains by name.
-ghost use Rattle.std.specs.Prelude.{◌≡◌, ◌+◌, ◌^◌, ◌<◌, ◌≤◌, ◌↔◌, [], None, Some, true, length, is_ok, IfOk, IfSome, IsTrue, OnErr, not, OnOk, if◌then◌else◌};
+//! The table, and the list of its ready grains.
+ghost use Rattle.std.specs.Prelude.{◌≡◌, ◌+◌, ◌-◌, ◌^◌, ◌<◌, ◌≤◌, ◌↔◌, [], None, Some, true, length, is_ok, slice_index, vec_capacity, IfOk, IfSome, IsTrue, OnErr, not, OnOk, if◌then◌else◌};
 ghost use Rattle.std.specs.Option.{option_copied};
-ghost use Rattle.stream_ident.specs.Words.{change_at, past};
+ghost use Rattle.stream_ident.specs.Words.{change_at, lesser, past};
 ghost use Rattle.stream_ident.specs.Name.{grain_lt};
 ghost use Rattle.consumer_grain.specs.Activations.{begin, deactivated, forgotten, lost, new_activation, offer_takes_memory, without_turn, woken};
 ghost use Rattle.consumer_grain.specs.Begins.{RisesFrom};
 ghost use Rattle.consumer_grain.specs.Subscriptions.{rises_from};
-ghost use Rattle.ranking.specs.Ranked.{is_up_to, IsFirstPast, IsKeySet};
+ghost use Rattle.ranking.specs.Ranked.{is_up_to, IsFirstPast};
 ghost use Rattle.grain_table.specs.Changes.{activation_at, grain_at, OffersAt};
-ghost use Rattle.grain_table.specs.Grains.{least_running, least_waiting, number_of, ready_after, with_grain, AreDistinct};
-ghost use Rattle.grain_table.specs.Table.{name_of, ready_key, IsInOrder};
+ghost use Rattle.grain_table.specs.Grains.{is_ready, least_running, least_waiting, number_of, ready_after, with_grain, AreDistinct, AreIdle, PlainGrains};
+ghost use Rattle.grain_table.specs.Table.{name_of, AreReady, AreReadyBut, HaveRisingNames};
 
 use consumer_grain::{Activation, Begun, Delivery, Offered};
-use least_tree::LeastTree;
-use ranking::Ranking;
+use indexmap::IndexMap;
 use std::alloc::{AllocError, Global};
 use std::marker::Model;
 use stream_ident::GrainId;
@@ -21,13 +20,15 @@ use stream_ident::GrainId;
 /// The grains that were ever active in a partition, each with its activation.
 ///
 /// A grain goes by its number, which is its place in the order of first activation and never changes. A
-/// contract sees the table as the list of the grains with their activations, in that order. The order of
-/// the names, the ready grains in it, and the room that all take in memory are no part of it.
+/// contract sees the table as the list of the grains with their activations, in that order. The list of the
+/// ready grains, and the room that all take in memory are no part of it.
 #[derive(Debug)]
 pub struct GrainTable {
-    entries: Vec<(GrainId, Activation)>,
-    ranking: Ranking,
-    ready: LeastTree,
+    entries: IndexMap<GrainId, Activation>,
+    // The numbers of the ready grains in the order of their names, with room for all grains.
+    ready: Vec<usize>,
+    // For how many grains a turn runs.
+    running: usize,
     // The number of the grain that was offered something last: the next calls mostly ask for it again.
     last: usize,
 }
@@ -36,8 +37,8 @@ impl Drop for GrainTable {
     fn drop(self) {
         let Self {
             entries: _,
-            ranking: _,
             ready: _,
+            running: _,
             last: _,
         } = self;
     }
@@ -49,9 +50,11 @@ impl Model for GrainTable {
 
     ghost Value = { PlainGrains };
 
-    ghost view = { λ t. t.entries.items };
+    ghost use Rattle.std.specs.Prelude.{vec_capacity};
 
-    ghost invariant = { λ t. IsTable t.entries.items t.ranking t.ready };
+    ghost view = { λ t. t.entries.entries };
+
+    ghost invariant = { λ t. IsTable t.entries.entries t.ready.items (vec_capacity t.ready) t.running };
 }
 
 impl GrainTable {
@@ -60,9 +63,9 @@ impl GrainTable {
         ensures { result ≡ [] }
     {
         GrainTable {
-            entries: Vec::new(alloc),
-            ranking: Ranking::new(alloc),
-            ready: LeastTree::new(alloc),
+            entries: IndexMap::new(alloc),
+            ready: Vec::new(alloc),
+            running: 0,
             last: 0,
         }
     }
@@ -82,8 +85,16 @@ impl GrainTable {
         self.entries.is_empty()
     }
 
-    /// The number of a grain, where it was ever active. It costs the logarithm of the length, and a constant for the
-    /// grain that something was offered to last.
+    /// Whether nothing waits for any grain, and no turn runs. It costs a constant.
+    pub fn is_idle(&self) -> bool
+        ensures { IsTrue result → AreIdle self.now }
+    {
+        let ready = self.ready.as_slice();
+        ready.is_empty() && self.running == 0
+    }
+
+    /// The number of a grain, where it was ever active. It costs a look-up, and less for the grain that something was
+    /// offered to last.
     pub fn find(&self, grain: &GrainId) -> Option<usize>
         ensures number { result ≡ number_of self.now grain.now }
         ensures within { IfSome result (λ number. number < length self.now) }
@@ -91,15 +102,7 @@ impl GrainTable {
         if let Some(number) = self.find_last(grain) {
             return Some(number);
         }
-        let order = self.ranking.numbers();
-        let past = first_past(self.entries.as_slice(), order, Some(grain));
-        let rank = past.checked_sub(1)?;
-        let number = order[rank];
-        if *grain == self.entries[number].0 {
-            Some(number)
-        } else {
-            None
-        }
+        self.entries.get_index_of(grain)
     }
 
     /// The number of a grain, where it is the one that something was offered to last.
@@ -108,7 +111,7 @@ impl GrainTable {
         ensures within { IfSome result (λ number. number < length self.now) }
     {
         let number = self.last;
-        let (last, _) = self.entries.get(number)?;
+        let (last, _) = self.entries.get_index(number)?;
         (*grain == *last).then_some(number)
     }
 
@@ -117,7 +120,7 @@ impl GrainTable {
         requires { number < length self.now }
         ensures { result ≡ grain_at self.now number }
     {
-        self.entries[number].0
+        *self.entries.get_index(number).unwrap().0
     }
 
     /// The activation of the grain with a number. At most 16 deliveries wait for it, its subscriptions rise,
@@ -129,7 +132,7 @@ impl GrainTable {
         ensures rising { rises_from 0 (activation_at self.now number).subs ≡ true }
         ensures room { IfSome (activation_at self.now number).running (λ run. past run.positions < 2 ^ 64) }
     {
-        let activation = &self.entries[number].1;
+        let activation = self.entries.get_index(number).unwrap().1;
         // What each of these promises is what is promised here.
         let _waiting = activation.waiting();
         let _subs = activation.subs();
@@ -138,8 +141,8 @@ impl GrainTable {
     }
 
     /// Adds a grain that was never active: it is active now, with one delivery, whose position leaves room
-    /// for one more. Its number is the length before. It costs the logarithm of the length and the grains
-    /// whose names are greater; where a row has to grow, once as much as all.
+    /// for one more. Its number is the length before. It costs a look-up and the ready grains whose names are
+    /// greater; where a row has to grow, once as much as all.
     ///
     /// # Errors
     /// The call failed to allocate, and nothing has changed.
@@ -154,21 +157,18 @@ impl GrainTable {
         ensures { self.new ≡ (if is_ok result then with_grain self.old grain delivery else self.old) }
     {
         let activation = activated(alloc, delivery)?;
+        let number = self.entries.len();
+        let room = number + 1;
+        self.ready.reserve(room - room.min(self.ready.len()))?;
         self.entries.reserve(1)?;
-        let order = self.ranking.numbers();
-        let rank = first_past(self.entries.as_slice(), order, Some(&grain));
-        self.ranking.insert(rank)?;
-        if let Err(error) = self.ready.insert(alloc, rank, Some(0)) {
-            self.ranking.pop();
-            return Err(error);
-        }
-        self.entries.push_reserved((grain, activation));
+        self.entries.insert(grain, activation).unwrap();
+        mark(&self.entries, &mut self.ready, number);
         Ok(())
     }
 
     /// Performs a delivery to the grain with a number, as `Activation::offer` says. The position of the
-    /// delivery and the number of the activation leave room for one more. It costs what that does, and the
-    /// logarithm of the length.
+    /// delivery and the number of the activation leave room for one more. It costs what that does, and where the
+    /// grain becomes ready the ready grains whose names are greater.
     ///
     /// # Errors
     /// The call failed to allocate, and nothing has changed. That can happen only at a delivery that would be
@@ -186,13 +186,17 @@ impl GrainTable {
         ensures memory { OnErr result (offer_takes_memory (activation_at self.old number) delivery ≡ true) }
     {
         self.last = number;
-        let offered = self.entries[number].1.offer(alloc, delivery)?;
-        mark(&self.entries, &self.ranking, &mut self.ready, number);
+        let offered = self
+            .entries
+            .get_index_mut(number)
+            .unwrap()
+            .offer(alloc, delivery)?;
+        mark(&self.entries, &mut self.ready, number);
         Ok(offered)
     }
 
     /// Begins a turn of the grain with a number, as `Activation::begin` says. It takes no memory, and costs
-    /// the logarithm of the length.
+    /// the ready grains whose names are greater.
     pub fn begin(
         &mut self,
         number: usize,
@@ -205,68 +209,80 @@ impl GrainTable {
         ensures begun { result ≡ (begin (activation_at self.old number) past turn max_events).1 }
         ensures rising { RisesFrom past result }
     {
-        let begun = self.entries[number].1.begin(past, turn, max_events);
-        mark(&self.entries, &self.ranking, &mut self.ready, number);
+        let activation = self.entries.get_index_mut(number).unwrap();
+        let did_run = activation.running().is_some();
+        let begun = activation.begin(past, turn, max_events);
+        let runs = activation.running().is_some();
+        self.running = recount(self.running, did_run, runs);
+        mark(&self.entries, &mut self.ready, number);
         begun
     }
 
     /// Ends the turn of the grain with a number, as `Activation::end_turn` says. It takes no memory, and
-    /// costs the logarithm of the length.
+    /// costs the ready grains whose names are greater.
     pub fn end_turn(&mut self, number: usize)
         requires { number < length self.old }
         ensures { self.new ≡ change_at without_turn number self.old }
     {
-        self.entries[number].1.end_turn();
-        mark(&self.entries, &self.ranking, &mut self.ready, number);
+        let activation = self.entries.get_index_mut(number).unwrap();
+        let did_run = activation.running().is_some();
+        activation.end_turn();
+        let runs = activation.running().is_some();
+        self.running = recount(self.running, did_run, runs);
+        mark(&self.entries, &mut self.ready, number);
     }
 
     /// The deliveries of a subscription leave the mailbox of the grain with a number, as
-    /// `Activation::forget` says. It takes no memory, and costs the logarithm of the length.
+    /// `Activation::forget` says. It takes no memory, and costs the ready grains whose names are greater.
     pub fn forget(&mut self, number: usize, sub: usize)
         requires { number < length self.old }
         ensures { self.new ≡ change_at (forgotten sub) number self.old }
     {
-        self.entries[number].1.forget(sub);
-        mark(&self.entries, &self.ranking, &mut self.ready, number);
+        self.entries.get_index_mut(number).unwrap().forget(sub);
+        mark(&self.entries, &mut self.ready, number);
     }
 
     /// The grain with a number leaves memory, as `Activation::deactivate` says: it gives how many
-    /// deliveries are lost. It takes no memory, and costs the logarithm of the length.
+    /// deliveries are lost. It takes no memory, and costs the ready grains whose names are greater.
     pub fn deactivate(&mut self, number: usize) -> usize
         requires { number < length self.old }
         ensures grains { self.new ≡ change_at deactivated number self.old }
         ensures lost { result ≡ lost (activation_at self.old number) }
     {
-        let lost = self.entries[number].1.deactivate();
-        mark(&self.entries, &self.ranking, &mut self.ready, number);
+        let activation = self.entries.get_index_mut(number).unwrap();
+        let did_run = activation.running().is_some();
+        let lost = activation.deactivate();
+        let runs = activation.running().is_some();
+        self.running = recount(self.running, did_run, runs);
+        mark(&self.entries, &mut self.ready, number);
         lost
     }
 
     /// The least grain after the given one that something waits for and no turn runs for; where there is
     /// none after it or none is given, the least of all such grains, if there is one. The given one may be
-    /// a grain that was never active. It costs the logarithm of the length.
+    /// a grain that was never active. It costs the logarithm of the number of the ready ones.
     pub fn ready_after(&self, after: Option<&GrainId>) -> Option<GrainId>
         ensures { result ≡ ready_after self.now (option_copied after.entry) }
     {
-        let from = first_past(self.entries.as_slice(), self.ranking.numbers(), after);
-        let number = self.ranking.next_number(&self.ready, from, 0)?;
-        Some(self.entries[number].0)
+        let ready = self.ready.as_slice();
+        let past = first_past(&self.entries, ready, after);
+        let place = if past < ready.len() { past } else { 0 };
+        let number = *ready.get(place)?;
+        Some(*self.entries.get_index(number).unwrap().0)
     }
 
-    /// The least grain that something waits for, if there is one. It walks over the order of the names, once
-    /// at most.
+    /// The least grain that something waits for, if there is one. It walks over all grains.
     pub fn least_waiting(&self) -> Option<GrainId>
         ensures { result ≡ least_waiting self.now }
     {
-        first_waiting(self.entries.as_slice(), self.ranking.numbers())
+        least_waiting(&self.entries)
     }
 
-    /// The least grain that a turn runs for, if there is one. It walks over the order of the names, once at
-    /// most.
+    /// The least grain that a turn runs for, if there is one. It walks over all grains.
     pub fn least_running(&self) -> Option<GrainId>
         ensures { result ≡ least_running self.now }
     {
-        first_running(self.entries.as_slice(), self.ranking.numbers())
+        least_running(&self.entries)
     }
 }
 
@@ -284,71 +300,120 @@ fn activated(alloc: Global, delivery: Delivery) -> Result<Activation, AllocError
 }
 
 /// Whether there is a grain with this number, and it is not greater than the given one.
-fn is_up_to(entries: &[(GrainId, Activation)], number: usize, grain: &GrainId) -> bool
-    ensures { result ≡ is_up_to name_of grain_lt entries.now grain.now number }
+fn is_up_to(entries: &IndexMap<GrainId, Activation>, number: usize, grain: &GrainId) -> bool
+    ensures { result ≡ is_up_to name_of grain_lt entries.now.entries grain.now number }
 {
-    match entries.get(number) {
+    match entries.get_index(number) {
         Some((other, _)) => !grain.is_before(other),
         None => false,
     }
 }
 
-/// The first rank whose grain is greater than the given one, 0 where none is given. A binary search.
-fn first_past(entries: &[(GrainId, Activation)], order: &[usize], after: Option<&GrainId>) -> usize
-    requires { IsInOrder entries.now order.now }
-    ensures { IsFirstPast name_of grain_lt (option_copied after.entry) entries.now order.now result }
+/// The first place among numbers of grains whose grain is greater than the given one, 0 where none is given. A
+/// binary search.
+fn first_past(
+    entries: &IndexMap<GrainId, Activation>,
+    numbers: &[usize],
+    after: Option<&GrainId>,
+) -> usize
+    requires { HaveRisingNames entries.now.entries numbers.now }
+    ensures { IsFirstPast name_of grain_lt (option_copied after.entry) entries.now.entries numbers.now result }
 {
     let Some(grain) = after else {
         return 0;
     };
-    order.partition_point(|number| is_up_to(entries, *number, grain))
+    numbers.partition_point(|number| is_up_to(entries, *number, grain))
 }
 
-/// The key at the rank of a grain, 0 where something waits for it and no turn runs.
-fn ready_key(activation: &Activation) -> Option<usize>
-    ensures { result ≡ ready_key activation.now }
+/// How many turns run, where one may have ended or begun.
+fn recount(running: usize, did_run: bool, runs: bool) -> usize
+    requires some { IsTrue did_run → 0 < running }
+    requires fits { running + 1 < 2 ^ 64 }
+    ensures { result + (if did_run then 1 else 0) ≡ running + (if runs then 1 else 0) }
 {
-    if activation.waiting() > 0 && activation.running().is_none() {
-        Some(0)
-    } else {
-        None
+    match (did_run, runs) {
+        (true, false) => running - 1,
+        (false, true) => running + 1,
+        (true, true) => running,
+        (false, false) => running,
     }
 }
 
-/// Sets the key of the grain with this number.
-fn mark(entries: &[(GrainId, Activation)], ranking: &Ranking, ready: &mut LeastTree, number: usize)
-    requires number { number < length entries.now }
-    requires ranked { length ranking.now ≡ length entries.now }
-    requires keyed { length ready.old ≡ length entries.now }
-    ensures { IsKeySet ranking.now number (ready_key (activation_at entries.now number)) ready.old ready.new }
+/// Whether something waits for the grain of an activation, and no turn runs.
+fn is_ready(activation: &Activation) -> bool
+    ensures { result ≡ is_ready activation.now }
 {
-    ranking.set_key(ready, number, ready_key(&entries[number].1));
+    activation.waiting() > 0 && activation.running().is_none()
 }
 
-/// The first grain in the order for which something waits.
-fn first_waiting(entries: &[(GrainId, Activation)], order: &[usize]) -> Option<GrainId>
-    requires { IsInOrder entries.now order.now }
-    ensures { result ≡ least_waiting entries.now }
+/// Puts the grain with this number among the ready ones, or takes it out, as is right for its activation. It takes
+/// no memory.
+fn mark(entries: &IndexMap<GrainId, Activation>, ready: &mut Vec<usize>, number: usize)
+    requires number { number < length entries.now.entries }
+    requires distinct { AreDistinct entries.now.entries }
+    requires room { length entries.now.entries ≤ vec_capacity ready.old }
+    requires ready { AreReadyBut number entries.now.entries ready.old.items }
+    ensures ready { AreReady entries.now.entries ready.new.items }
+    ensures room { vec_capacity ready.new ≡ vec_capacity ready.old }
 {
-    for number in order {
-        let (grain, activation) = &entries[*number];
+    let (grain, activation) = entries.get_index(number).unwrap();
+    let past = first_past(entries, ready.as_slice(), Some(grain));
+    match (is_ready(activation), is_last_before(ready, past, number)) {
+        (true, false) => ready.insert(past, number).unwrap(),
+        (false, true) => {
+            ready.remove(past - 1);
+        }
+        (true, true) => {}
+        (false, false) => {}
+    }
+}
+
+/// Whether this number stands right before a place.
+fn is_last_before(numbers: &[usize], place: usize, number: usize) -> bool
+    requires { place ≤ length numbers.now }
+    ensures { IsTrue result ↔ ((0 < place) × (slice_index numbers.now (place - 1) ≡ number)) }
+{
+    place > 0 && numbers[place - 1] == number
+}
+
+/// The lesser of a grain and the least so far.
+fn lesser(grain: &GrainId, least: Option<GrainId>) -> GrainId
+    ensures { result ≡ lesser grain_lt grain.now least }
+{
+    match least {
+        Some(least) if least.is_before(grain) => least,
+        _ => *grain,
+    }
+}
+
+/// The least grain for which something waits.
+fn least_waiting(entries: &IndexMap<GrainId, Activation>) -> Option<GrainId>
+    ensures { result ≡ least_waiting entries.now.entries }
+{
+    let mut least = None;
+    let mut number = entries.len();
+    while number > 0 {
+        number -= 1;
+        let (grain, activation) = entries.get_index(number).unwrap();
         if activation.waiting() > 0 {
-            return Some(*grain);
+            least = Some(lesser(grain, least));
         }
     }
-    None
+    least
 }
 
-/// The first grain in the order that a turn runs for.
-fn first_running(entries: &[(GrainId, Activation)], order: &[usize]) -> Option<GrainId>
-    requires { IsInOrder entries.now order.now }
-    ensures { result ≡ least_running entries.now }
+/// The least grain that a turn runs for.
+fn least_running(entries: &IndexMap<GrainId, Activation>) -> Option<GrainId>
+    ensures { result ≡ least_running entries.now.entries }
 {
-    for number in order {
-        let (grain, activation) = &entries[*number];
+    let mut least = None;
+    let mut number = entries.len();
+    while number > 0 {
+        number -= 1;
+        let (grain, activation) = entries.get_index(number).unwrap();
         if activation.running().is_some() {
-            return Some(*grain);
+            least = Some(lesser(grain, least));
         }
     }
-    None
+    least
 }

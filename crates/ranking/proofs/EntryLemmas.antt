@@ -8,6 +8,7 @@ use Rattle.std.specs.List.{insert, remove}
 use Rattle.std.specs.List.Sorted.{IsPartitionedBy, IsPartitionPoint}
 use Rattle.std.specs.Prelude.{slice_index}
 use Rattle.ranking.specs.Ranked.{entry_at, is_up_to, some_up_to, AreKeys, AreRanked, IsFirstPast, IsKeySet}
+use Rattle.ranking.specs.Listed.{AreRising}
 use Rattle.ranking.specs.Ranking.{IsRanking}
 use Rattle.stream_ident.proofs.Order.{IsOrder}
 use Rattle.ranking.proofs.RankLemmas.{distinct_numbers, insert-before, insert-here, insert-past, placed, ranking-insert, ranking-remove, removed_within, Placed, Before, Here, Past}
@@ -201,13 +202,20 @@ module _ {E : Type 0} (entries : List E) (order : List ℕ) (last rank : ℕ) (r
 
 -- ---- the search by name
 
-module _ {E N : Type 0} (name : E → N) (lt same : N → N → Bool) (o : IsOrder lt same) (entries : List E) (order : List ℕ) (are : AreRanked name lt entries order) (a : N) where
+-- names by rank rise
+pub rising : {E N : Type 0} (name : E → N) (lt : N → N → Bool) (entries : List E) (order : List ℕ) → AreRanked name lt entries order → AreRising name lt entries order
+rising name lt entries order are = record {
+  within = λ i within. omega (arith, are.ranking.inverse.number_within i within, are.long);
+  rises = are.rises;
+}
+
+module _ {E N : Type 0} (name : E → N) (lt same : N → N → Bool) (o : IsOrder lt same) (entries : List E) (order : List ℕ) (are : AreRising name lt entries order) (a : N) where
   abbrev not_past : ℕ → Bool
   not_past = is_up_to name lt entries a
 
   not_past-at : (d : E) (i : ℕ) → i < length order → not_past (slice_index order i) ≡ not (lt a (name (entry_at entries order d i)))
   not_past-at d i within =
-      ap (some_up_to name lt a) (slice_get-get_or entries (slice_index order i) d (omega (arith, are.long, are.ranking.inverse.number_within i within)))
+      ap (some_up_to name lt a) (slice_get-get_or entries (slice_index order i) d (are.within i within))
 
   not_past-down : (d : E) (i j : ℕ) → i ≤ j → j < length order → lt a (name (entry_at entries order d j)) ≡ false → lt a (name (entry_at entries order d i)) ≡ false
   not_past-down d i j le within isnt =

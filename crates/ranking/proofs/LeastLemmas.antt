@@ -66,7 +66,7 @@ module _ {E N : Type 0} (name : E → N) (lt same : N → N → Bool) (o : IsOrd
   lesser_first x (Some b) rest = cond-false (lt b x) b x (rest b refl)
 
   -- the least is the one that is less than each other that passes
-  least_is : (passes : E → Bool) (d : E) (es : List E) (i : ℕ) → i < length es → passes (get_or es i d) ≡ true
+  pub least_is : (passes : E → Bool) (d : E) (es : List E) (i : ℕ) → i < length es → passes (get_or es i d) ≡ true
       → ((j : ℕ) → j < length es → passes (get_or es j d) ≡ true → (j ≡ i) ⊎ (lt (name (get_or es i d)) (name (get_or es j d)) ≡ true))
       → least lt (names_of passes es) ≡ Some (name (get_or es i d))
   least_is passes d [] i within is all = absurd (omega arith)
@@ -93,7 +93,7 @@ module _ {E N : Type 0} (name : E → N) (lt same : N → N → Bool) (o : IsOrd
       ])
       (λ _. rest)
 
-  least_none : (passes : E → Bool) (d : E) (es : List E) → ((j : ℕ) → j < length es → passes (get_or es j d) ≡ false) → least lt (names_of passes es) ≡ None
+  pub least_none : (passes : E → Bool) (d : E) (es : List E) → ((j : ℕ) → j < length es → passes (get_or es j d) ≡ false) → least lt (names_of passes es) ≡ None
   least_none passes d [] all = refl
   least_none passes d (e ∷ es) all =
       by_first (λ xs. least lt xs ≡ None) passes e es
@@ -101,7 +101,7 @@ module _ {E N : Type 0} (name : E → N) (lt same : N → N → Bool) (o : IsOrd
       (λ _. least_none passes d es (λ j within. all (suc j) (omega arith)))
 
   -- the names past one, of those that pass
-  above_where : (passes : E → Bool) (after : Option N) (es : List E) → above lt after (names_of passes es) ≡ names_of (λ e. passes e && is_above lt after (name e)) es
+  pub above_where : (passes : E → Bool) (after : Option N) (es : List E) → above lt after (names_of passes es) ≡ names_of (λ e. passes e && is_above lt after (name e)) es
   above_where passes None [] = refl
   above_where passes (Some a) [] = refl
   above_where passes None (e ∷ es) = by (passes e) (above_where passes None es)

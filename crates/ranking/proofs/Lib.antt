@@ -1,3 +1,4 @@
 pub mod EntryLemmas
 pub mod LeastLemmas
+pub mod ListedLemmas
 pub mod RankLemmas

@@ -1,2 +1,3 @@
 pub mod Ranking
 pub mod Ranked
+pub mod Listed

@@ -1,7 +1,7 @@
 -- What is known where an agent hands an event over, and what the calls of the parts make of it.
-use Rattle.std.proofs.Common.{◌≡◌, ◌∙◌, ap, sym, subst, refl, ℕ, zero, suc, ◌+◌, ◌^◌, ◌<◌, ◌≤◌, max, Bool, true, false, ◌&&◌, ◌||◌, not, List, [], ◌∷◌, length, get_or, set, Option, Some, None, ◌==◌, nat_le, nat_lt, eq-eqb, arith}
+use Rattle.std.proofs.Common.{◌≡◌, ◌∙◌, ap, ap₂, sym, subst, refl, ℕ, zero, suc, ◌+◌, ◌^◌, ◌<◌, ◌≤◌, max, Bool, true, false, ◌&&◌, ◌||◌, not, List, [], ◌∷◌, length, get_or, set, Option, Some, None, ◌==◌, nat_le, nat_lt, eq-eqb, arith}
 use Rattle.std.specs.Prelude.{if◌then◌else◌, Result, Ok, OnErr}
-use Rattle.std.specs.List.{AllByRecursion}
+use Rattle.std.specs.List.{list_any, AllByRecursion}
 use Rattle.std.specs.Option.{option_map}
 use Rattle.std.specs.declared.alloc.AllocError.{AllocError}
 use Rattle.std.proofs.lemmas.Bool.{and_from, and_parts, eqb-true, le-ltb, not-true}
@@ -27,10 +27,10 @@ use Rattle.consumer_grain.specs.declared.mailbox.Delivery.{Delivery}
 use Rattle.consumer_grain.specs.declared.told.Offered.{Offered}
 use Rattle.consumer_grain.specs.declared.told.Offered.TheVariants as offer
 use Rattle.consumer_grain.specs.declared.activation.RunningTurn.{RunningTurn}
-use Rattle.consumer_grain.specs.Activations.{PlainActivation, holds, is_in, new_activation, offered, offer_takes_memory, with_number, woken}
+use Rattle.consumer_grain.specs.Activations.{PlainActivation, holds, runs, is_in, new_activation, offered, offer_takes_memory, with_number, woken}
 use Rattle.consumer_grain.specs.Subscriptions.{PlainState, advanced, caught_up}
 use Rattle.grain_table.specs.Changes.{OffersAt, no_grain}
-use Rattle.grain_table.specs.Grains.{PlainGrains, number_of, with_grain}
+use Rattle.grain_table.specs.Grains.{PlainGrains, number_of, with_grain, AreIdle}
 use Rattle.pubsub_registry.specs.declared.registration.Registration.{Registration}
 use Rattle.cache_cursor.specs.Cursor.{next_in}
 use Rattle.queue_cache.specs.Cache.{PlainCache, high}
@@ -154,6 +154,24 @@ pub outstanding-nowhere : (parts : Parts) (number : ℕ) (s : SubName) → is_un
 outstanding-nowhere parts number s handled none =
     ap (λ (st : Grain). nat_lt 0 (length (waiting_in s st.mailbox)) || (nat_lt 0 (length (running_in s st.running)) || is_unacknowledged (record_of parts number))) (grain-new parts (record_of parts number).grain none)
     ∙ handled
+
+-- where all grains are idle, what is handled and not acknowledged is all that is outstanding
+pub outstanding-idle : (parts : Parts) (number : ℕ) → Stands parts number → AreIdle parts.grains → is_unacknowledged (record_of parts number) ≡ is_outstanding (plain_of parts) (table.name_at parts.subs number) (record_of parts number)
+outstanding-idle parts number stands idle =
+    by (is_unacknowledged (record_of parts number)) refl (place_of same_grain (record_of parts number).grain parts.grains) refl
+  where
+    s : SubName
+    s = table.name_at parts.subs number
+
+    by : (handled : Bool) → is_unacknowledged (record_of parts number) ≡ handled → (found : Option ℕ) → place_of same_grain (record_of parts number).grain parts.grains ≡ found
+        → is_unacknowledged (record_of parts number) ≡ is_outstanding (plain_of parts) s (record_of parts number)
+    by true is found at = is ∙ sym (outstanding-handled parts number s is)
+    by false is None at = is ∙ sym (outstanding-nowhere parts number s is at)
+    by false is (Some j) at =
+        let none = idle j no_grain (place_of-within same_grain (record_of parts number).grain j parts.grains at) in
+        let held : holds number (activation_at parts j no_grain) ≡ false =
+        ap₂ (λ (mailbox : List Delivery) (running : Option RunningTurn). list_any (λ (d : Delivery). number == d.sub) mailbox || runs number running) none.0 none.1 in
+        is ∙ sym (outstanding-held parts number j stands is at ∙ held)
 
 -- ---- what was sought
 

@@ -74,8 +74,7 @@ pub(crate) fn catch_up(parts: &mut Parts, number: usize) -> bool
     ensures assembled { IsAssembled parts.new }
     ensures told { CatchesUp (plain_of parts.old) (plain_of parts.new) (name_at parts.old.subs number) result }
 {
-    let grain = parts.grains.find(&parts.subs.registration(number).grain);
-    if is_outstanding(parts, number, grain) {
+    if has_outstanding(parts, number) {
         return false;
     }
     match parts.subs.next_event(number, parts.agent.cache(), false) {
@@ -83,6 +82,20 @@ pub(crate) fn catch_up(parts: &mut Parts, number: usize) -> bool
         Sought::Next { .. } => false,
         Sought::Closed => false,
     }
+}
+
+/// Whether a delivery of a subscription waits or runs, or it has handled an event at or past its resume. Its grain
+/// is looked for only where some grain isn't idle.
+fn has_outstanding(parts: &Parts, number: usize) -> bool
+    requires agrees { Agrees parts.now }
+    requires number { number < length parts.now.subs.registry.names }
+    ensures { result ≡ is_outstanding (plain_of parts.now) (name_at parts.now.subs number) (record_of parts.now number) }
+{
+    if parts.grains.is_idle() {
+        return parts.subs.state(number).is_unacknowledged();
+    }
+    let grain = parts.grains.find(&parts.subs.registration(number).grain);
+    is_outstanding(parts, number, grain)
 }
 
 /// Whether a delivery of a subscription waits or runs, or it has handled an event at or past its resume. Its

@@ -22,7 +22,7 @@ returns-in-Nothing-clause-assembled c =
     let stands : Stands parts c.args.number = record { agrees = c.requires.agrees; within = c.requires.number } in
     let searched : Searched parts c.next_event.new.self c.args.number false sought.Nothing =
     searched-is parts c.next_event.new.self c.args.number c.cache.result.now false sought.Nothing c.cache.ensures c.in-Nothing.ensures.sought in
-    nothing-assembled parts c.next_event.new.self c.args.number false stands (sym c.if-is_outstanding.false ∙ c.is_outstanding.ensures) searched
+    nothing-assembled parts c.next_event.new.self c.args.number false stands (sym c.if-has_outstanding.false ∙ c.has_outstanding.ensures) searched
 
 pub returns-in-Nothing-clause-told : goal.returns-in-Nothing-clause-told
 returns-in-Nothing-clause-told c =
@@ -30,7 +30,7 @@ returns-in-Nothing-clause-told c =
     let stands : Stands parts c.args.number = record { agrees = c.requires.agrees; within = c.requires.number } in
     let searched : Searched parts c.next_event.new.self c.args.number false sought.Nothing =
     searched-is parts c.next_event.new.self c.args.number c.cache.result.now false sought.Nothing c.cache.ensures c.in-Nothing.ensures.sought in
-    caught-up parts c.next_event.new.self c.args.number stands (sym c.if-is_outstanding.false ∙ c.is_outstanding.ensures) searched
+    caught-up parts c.next_event.new.self c.args.number stands (sym c.if-has_outstanding.false ∙ c.has_outstanding.ensures) searched
 
 pub returns-in-Next-clause-assembled : goal.returns-in-Next-clause-assembled
 returns-in-Next-clause-assembled c =

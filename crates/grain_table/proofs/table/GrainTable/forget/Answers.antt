@@ -1,20 +1,52 @@
-use Rattle.std.proofs.Common.{ap, ◌∙◌, length, ◌<◌, arith}
+use Rattle.std.proofs.Common.{◌≡◌, ◌∙◌, ap, sym, ◌<◌, length, arith}
+use Rattle.std.specs.Option.{option_copied_mut}
 use Rattle.stream_ident.specs.Words.{change_at}
 use Rattle.consumer_grain.specs.Activations.{forgotten, PlainActivation}
-use Rattle.grain_table.proofs.ChangeLemmas.{table-written, written}
+use Rattle.grain_table.specs.Changes.{activation_at}
+use Rattle.grain_table.specs.Grains.{is_running}
+use Rattle.grain_table.proofs.ChangeLemmas.{count-kept, distinct-written, length-written, read-value, ready-but, written}
 use Rattle.grain_table.proofs.table.GrainTable.forget.Goals as goal
+
+pub mark-requires-clause-number : goal.mark-requires-clause-number
+mark-requires-clause-number c =
+    omega (arith, length-written c.self.inside.entries.entries c.args.number c.forget.new.self, ap length c.self.view_is)
+
+pub mark-requires-clause-distinct : goal.mark-requires-clause-distinct
+mark-requires-clause-distinct c =
+    distinct-written c.self.inside.entries.entries c.args.number c.forget.new.self c.self.invariant.distinct
+
+pub mark-requires-clause-room : goal.mark-requires-clause-room
+mark-requires-clause-room c =
+    omega (arith, length-written c.self.inside.entries.entries c.args.number c.forget.new.self, c.self.invariant.fits)
+
+pub mark-requires-clause-ready : goal.mark-requires-clause-ready
+mark-requires-clause-ready c =
+    let t = c.self.inside in
+    let grains = t.entries.entries in
+    let within : c.args.number < length grains = omega (arith, ap length c.self.view_is) in
+    ready-but grains t.ready.items c.args.number c.forget.new.self within c.self.invariant.are_ready
 
 pub invariant_of-self : goal.invariant_of-self
 invariant_of-self c =
     let t = c.self.inside in
-    let within : c.args.number < length t.entries.items = omega (arith, ap length c.self.view_is) in
-    table-written t.entries.items t.ranking t.ready c.self.invariant c.args.number within c.index_mut.result.now c.index_mut.ensures.value c.forget.new.self
-    c.deref.result.now c.deref.ensures.value c.mark.new.ready c.mark.ensures
+    let grains = t.entries.entries in
+    let within : c.args.number < length grains = omega (arith, ap length c.self.view_is) in
+    let read = read-value grains c.args.number c.unwrap.result.now within (sym (ap option_copied_mut c.unwrap.ensures) ∙ c.get_index_mut.ensures.value) in
+    let kept : is_running c.forget.new.self ≡ is_running (activation_at grains c.args.number) = ap is_running c.forget.ensures ∙ ap is_running read in
+    record {
+      distinct = distinct-written grains c.args.number c.forget.new.self c.self.invariant.distinct;
+      are_ready = c.mark.ensures.ready;
+      fits = omega (arith, length-written grains c.args.number c.forget.new.self, c.self.invariant.fits, c.mark.ensures.room);
+      few = omega (arith, length-written grains c.args.number c.forget.new.self, c.self.invariant.few);
+      counted = c.self.invariant.counted ∙ sym (count-kept grains c.args.number c.forget.new.self within kept);
+    }
 
 pub returns : goal.returns
 returns c =
     let t = c.self.inside in
+    let grains = t.entries.entries in
+    let within : c.args.number < length grains = omega (arith, ap length c.self.view_is) in
+    let read = read-value grains c.args.number c.unwrap.result.now within (sym (ap option_copied_mut c.unwrap.ensures) ∙ c.get_index_mut.ensures.value) in
     let change : PlainActivation → PlainActivation = forgotten c.args.sub in
-    let within : c.args.number < length t.entries.items = omega (arith, ap length c.self.view_is) in
-    written t.entries.items change c.args.number c.index_mut.result.now c.forget.new.self within c.index_mut.ensures.value c.forget.ensures
+    written grains change c.args.number c.forget.new.self within (c.forget.ensures ∙ ap change read)
     ∙ ap (change_at change c.args.number) c.self.view_is

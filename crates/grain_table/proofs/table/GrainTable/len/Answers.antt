@@ -1,8 +1,7 @@
 use Rattle.std.proofs.Common.{subst}
 use Rattle.grain_table.specs.Grains.{AreDistinct}
-use Rattle.grain_table.proofs.TableLemmas.{distinct}
 use Rattle.grain_table.proofs.table.GrainTable.len.Goals as goal
 
 pub returns-clause-distinct : goal.returns-clause-distinct
 returns-clause-distinct c =
-    subst AreDistinct c.self.view_is (distinct c.self.inside.entries.items c.self.inside.ranking c.self.invariant.ranked)
+    subst AreDistinct c.self.view_is c.self.invariant.distinct

@@ -1,37 +1,50 @@
-use Rattle.std.proofs.Common.{◌<◌, ◌∙◌, Some, ap, sym, length, arith}
+use Rattle.std.proofs.Common.{◌≡◌, ◌∙◌, ap, sym, subst, ℕ, ◌<◌, ◌≤◌, List, length, get_or, slice_get, Some, arith}
+use Rattle.std.proofs.lemmas.Bool.{ltb-false, ltb-true}
+use Rattle.std.specs.Map.Iter.{deref_pair}
 use Rattle.std.specs.Option.{option_copied, option_map}
 use Rattle.stream_ident.specs.declared.ident.GrainId.{GrainId}
-use Rattle.stream_ident.specs.Name.{grain_lt, same_grain}
+use Rattle.stream_ident.specs.Name.{grain_lt}
 use Rattle.consumer_grain.specs.Activations.{PlainActivation}
-use Rattle.ranking.proofs.EntryLemmas.{first_past-along}
-use Rattle.ranking.proofs.LeastLemmas.{next_by_rank}
-use Rattle.grain_table.specs.Changes.{no_grain, grain_at}
-use Rattle.grain_table.specs.Grains.{PlainGrains, is_ready, ready_after}
-use Rattle.grain_table.specs.Table.{entry_key, name_of}
-use Rattle.stream_ident.proofs.NameOrders.{grain_order}
-use Rattle.grain_table.proofs.TableLemmas.{read_entry, ready-passes}
+use Rattle.ranking.specs.Ranked.{entry_at, IsFirstPast}
+use Rattle.grain_table.specs.Changes.{no_grain}
+use Rattle.grain_table.specs.Grains.{PlainGrains, ready_after}
+use Rattle.grain_table.specs.Table.{name_of}
+use Rattle.grain_table.proofs.TableLemmas.{grain-at, next-first, next-none, next-past}
 use Rattle.grain_table.proofs.table.GrainTable.ready_after.Goals as goal
+use Rattle.grain_table.proofs.table.GrainTable.ready_after.Goals.{then-past-ready, else-past-ready}
 
 pub returns-in_err-number : goal.returns-in_err-number
 returns-in_err-number c =
     let t = c.self.inside in
+    let grains = t.entries.entries in
+    let numbers = t.ready.items in
     let after = option_copied c.args.after in
-    let from = c.first_past-from.result in
-    let first = first_past-along name_of grain_lt after c.as_slice.result.now t.entries.items c.numbers.result.now t.ranking from c.as_slice.ensures.value c.numbers.ensures.numbers c.first_past-from.ensures in
-    c.from_residual.ensures
-    ∙ ap (option_map (grain_at t.entries.items)) c.in_err-number.ensures.number
-    ∙ next_by_rank name_of grain_lt same_grain grain_order t.entries.items t.ranking c.self.invariant.ranked no_grain entry_key t.ready c.self.invariant.keyed 0 (λ e. is_ready e.1) ready-passes after from first
-    ∙ ap (λ (gs : PlainGrains). ready_after gs after) c.self.view_is
+    let place = c.if-past-ready.place in
+    let high : length c.as_slice-ready.result.now ≤ place = ltb-false place (length c.as_slice-ready.result.now) (sym c.in_err-number.ensures.lookup.0) in
+    let none : length numbers ≡ 0 = elim c.if-past-ready.branch [
+      | then-past-ready w ↦ absurd (omega (arith, high, w.place-is, w.if-past-ready.true))
+      | else-past-ready w ↦ omega (arith, high, w.place-is, ap length c.as_slice-ready.ensures.value)
+    ] in
+    c.from_residual.ensures ∙ next-none grains numbers after c.self.invariant.are_ready none ∙ ap (λ (gs : PlainGrains). ready_after gs after) c.self.view_is
 
 pub returns : goal.returns
 returns c =
     let t = c.self.inside in
+    let grains = t.entries.entries in
+    let numbers = t.ready.items in
     let after = option_copied c.args.after in
-    let from = c.first_past-from.result in
-    let number = c.in_ok-number.number in
-    let first = first_past-along name_of grain_lt after c.as_slice.result.now t.entries.items c.numbers.result.now t.ranking from c.as_slice.ensures.value c.numbers.ensures.numbers c.first_past-from.ensures in
-    let within : number < length t.entries.items = omega (arith, c.in_ok-number.ensures.within, c.self.invariant.ranked.long) in
-    ap (λ (e : GrainId × PlainActivation). Some e.0) (sym (read_entry t.entries.items number c.index.result.now within c.index.ensures))
-    ∙ ap (option_map (grain_at t.entries.items)) c.in_ok-number.ensures.number
-    ∙ next_by_rank name_of grain_lt same_grain grain_order t.entries.items t.ranking c.self.invariant.ranked no_grain entry_key t.ready c.self.invariant.keyed 0 (λ e. is_ready e.1) ready-passes after from first
-    ∙ ap (λ (gs : PlainGrains). ready_after gs after) c.self.view_is
+    let past = c.first_past-past.result in
+    let place = c.if-past-ready.place in
+    let number = c.in_ok-number.field-0.now in
+    let first = subst (λ (ns : List ℕ). IsFirstPast name_of grain_lt after grains ns past) c.as_slice-ready.ensures.value c.first_past-past.ensures in
+    let e : GrainId × PlainActivation = (c.unwrap.result.0.now, c.unwrap.result.1.now) in
+    let seen : Some e ≡ slice_get grains number = sym (ap (option_map deref_pair) c.unwrap.ensures) ∙ c.get_index.ensures.entry in
+    let within : place < length numbers = omega (arith, ltb-true place (length c.as_slice-ready.result.now) (sym c.in_ok-number.ensures.lookup.0), ap length c.as_slice-ready.ensures.value) in
+    let next : Some (name_of (entry_at grains numbers no_grain place)) ≡ ready_after grains after = elim c.if-past-ready.branch [
+      | then-past-ready w ↦
+          next-past grains numbers after past place c.self.invariant.are_ready first (omega (arith, w.if-past-ready.true, ap length c.as_slice-ready.ensures.value)) w.place-is
+      | else-past-ready w ↦
+          next-first grains numbers after past place c.self.invariant.are_ready first (omega (arith, w.if-past-ready.false, ap length c.as_slice-ready.ensures.value)) w.place-is within
+    ] in
+    ap (λ (g : GrainId). Some g) (grain-at grains numbers place number e c.self.invariant.are_ready within (c.in_ok-number.ensures.lookup.1 ∙ ap (λ (ns : List ℕ). get_or ns place number) c.as_slice-ready.ensures.value) seen)
+    ∙ next ∙ ap (λ (gs : PlainGrains). ready_after gs after) c.self.view_is
