@@ -1,7 +1,7 @@
 #!/usr/bin/env python3
 """compare.py PROGRAM [TURNS]: events a second of the library, beside Redis Streams and NATS JetStream.
 
-PROGRAM is the built program cluster_benchmarks. All ways are measured in turns, and each as often as TURNS says. What
+PROGRAM is the built program benchmarks. All ways are measured in turns, and each as often as TURNS says. What
 is printed are the figures of docs/BENCHMARKS.md, as Markdown; the chart goes to docs/benchmarks.svg. It needs
 redis-server and nats-server on the path, and nothing else.
 """

@@ -17,17 +17,17 @@ use std::rt::Clock;
 
 /// Prints what each case costs.
 pub fn time<R: Print + Clock>(rt: &R, alloc: Global) -> Result<()> {
-    for case in CASES {
-        let rows = measure(rt, alloc, case)?;
-        print_rows(rt, alloc, case, rows)?;
+    for case in &CASES {
+        let rows = measure(rt, alloc, *case)?;
+        print_rows(rt, alloc, *case, rows)?;
     }
     Ok(())
 }
 
 /// Sees that both partitions do the same, in the smallest of each case, and that a difference is told.
 pub fn check<R: Print + Clock>(rt: &R, alloc: Global) -> Result<()> {
-    for case in CASES {
-        compare(rt, alloc, case)?;
+    for case in &CASES {
+        compare(rt, alloc, *case)?;
     }
     see_difference(rt, alloc)?;
     println!(rt; "both partitions do the same")?;

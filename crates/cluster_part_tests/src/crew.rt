@@ -4,6 +4,7 @@ ghost use Rattle.std.specs.Prelude.{◌≡◌, IfOk};
 use crate::directories::{Asked, close_directory, directory_line};
 use crate::operations::{grain, publish, subscribe};
 use crate::queues::{Calls, Producer, QueueLine, ask, close_all, open_all};
+use activation_directory::{DirectoryOp, DirectoryReply};
 use cluster_callers::Caller;
 use shared_partition::Counting;
 use silo_crew::{RunningSilo, SiloLoops, SiloTools};
@@ -12,11 +13,11 @@ use std::alloc::{AllocError, Global};
 use std::marker::Model;
 use std::process::Abort;
 use std::sync::{Arc, Wait};
-use std::test::Fail;
 use std::thread;
 use std::thread::Threads;
 use stream_ident::SubName;
 use stream_model::{Limits, Op, Pending, Reply, Start};
+use turnstile::StoredHistory;
 
 // How many entries each history may have.
 const HISTORY: u64 = 1_000_000;
@@ -24,27 +25,22 @@ const HISTORY: u64 = 1_000_000;
 // The lines of two queues and of the directory, from which those of loops are split, and a caller.
 //
 // A contract sees their turnstiles.
-struct Cluster {
+#[derive(Drop)]
+struct Cluster<
+    H: StoredHistory<Op, Reply> + Send + 'static,
+    D: StoredHistory<DirectoryOp, DirectoryReply> + Send + 'static,
+> {
     gate: Arc<Counting, Global>,
     doorbell: Arc<Doorbell, Global>,
-    lines: Vec<QueueLine>,
-    directory: DirectoryLine<Asked>,
-    caller: Producer,
+    lines: Vec<QueueLine<H>>,
+    directory: DirectoryLine<D>,
+    caller: Producer<H>,
 }
 
-impl Drop for Cluster {
-    fn drop(self) {
-        let Self {
-            gate: _,
-            doorbell: _,
-            lines: _,
-            directory: _,
-            caller: _,
-        } = self;
-    }
-}
-
-impl Model for Cluster {
+impl<
+    H: StoredHistory<Op, Reply> + Send + 'static,
+    D: StoredHistory<DirectoryOp, DirectoryReply> + Send + 'static,
+> Model for Cluster<H, D> {
     ghost use Rattle.std.specs.Prelude.{◌≡◌, ◌<◌, length, List, Option};
     ghost use Rattle.activation_directory.specs.Plain.{PlainDirectory};
     ghost use Rattle.cluster_callers.specs.Calls.{turnstiles};
@@ -61,11 +57,17 @@ impl Model for Cluster {
 
 // The loops of a silo in threads. A contract sees the turnstiles of their passes.
 #[derive(Drop)]
-struct Running {
-    silo: RunningSilo<Counting, Calls, Asked>,
+struct Running<
+    H: StoredHistory<Op, Reply> + Send + 'static,
+    D: StoredHistory<DirectoryOp, DirectoryReply> + Send + 'static,
+> {
+    silo: RunningSilo<Counting, H, D>,
 }
 
-impl Model for Running {
+impl<
+    H: StoredHistory<Op, Reply> + Send + 'static,
+    D: StoredHistory<DirectoryOp, DirectoryReply> + Send + 'static,
+> Model for Running<H, D> {
     ghost use Rattle.std.specs.Prelude.{◌≡◌, List, Option};
     ghost use Rattle.activation_directory.specs.Plain.{PlainDirectory};
     ghost use Rattle.silo_loops.specs.Lines.{places};
@@ -80,7 +82,10 @@ impl Model for Running {
 }
 
 // Two empty queues.
-fn open(alloc: Global) -> Result<Cluster, AllocError> {
+fn open<
+    H: StoredHistory<Op, Reply> + Send + 'static,
+    D: StoredHistory<DirectoryOp, DirectoryReply> + Send + 'static,
+>(alloc: Global) -> Result<Cluster<H, D>, AllocError> {
     let (lines, callers) = open_all(alloc, 2, Limits::GREATEST, HISTORY)?;
     let doorbell = Arc::new(alloc, Doorbell::new(0))?;
     let caller = Caller::new(Arc::try_clone(&doorbell)?, callers);
@@ -94,14 +99,20 @@ fn open(alloc: Global) -> Result<Cluster, AllocError> {
 }
 
 // The same, asked for once more where memory was refused.
-fn open_at_last(alloc: Global) -> Result<Cluster, AllocError> {
+fn open_at_last<
+    H: StoredHistory<Op, Reply> + Send + 'static,
+    D: StoredHistory<DirectoryOp, DirectoryReply> + Send + 'static,
+>(alloc: Global) -> Result<Cluster<H, D>, AllocError> {
     match open(alloc) {
         Ok(cluster) => Ok(cluster),
         Err(AllocError) => open(alloc),
     }
 }
 
-impl Cluster {
+impl<
+    H: StoredHistory<Op, Reply> + Send + 'static,
+    D: StoredHistory<DirectoryOp, DirectoryReply> + Send + 'static,
+> Cluster<H, D> {
     // What the loops of a silo go by, whose agent has one queue.
     fn tools(&self, alloc: Global, queue: usize) -> Result<SiloTools<Counting>, AllocError> {
         let assigned = Assigned::new(alloc, 2)?;
@@ -121,7 +132,7 @@ impl Cluster {
         alloc: Global,
         silo: u8,
         queue: usize,
-    ) -> Result<Running, AllocError>
+    ) -> Result<Running<H, D>, AllocError>
         ensures same { self.new ≡ self.old }
         ensures at { IfOk result (λ running. running ≡ self.old) }
     {
@@ -138,7 +149,7 @@ impl Cluster {
 
     // Stops the loops of a silo and joins their passes back. The silo, and why each loop has ended before, where it
     // has.
-    fn stop<R: Threads + Wait>(&mut self, rt: &R, running: Running) -> (u8, [Option<Over>; 3])
+    fn stop<R: Threads + Wait>(&mut self, rt: &R, running: Running<H, D>) -> (u8, [Option<Over>; 3])
         requires { running ≡ self.old }
         ensures { self.new ≡ self.old }
     {
@@ -185,7 +196,11 @@ impl Cluster {
 }
 
 // A grain subscribes at each of two queues.
-fn subscribe_both<R: Wait + Abort>(rt: &R, alloc: Global, cluster: &mut Cluster)
+fn subscribe_both<
+    H: StoredHistory<Op, Reply> + Send + 'static,
+    D: StoredHistory<DirectoryOp, DirectoryReply> + Send + 'static,
+    R: Wait + Abort,
+>(rt: &R, alloc: Global, cluster: &mut Cluster<H, D>)
     ensures { cluster.new ≡ cluster.old }
 {
     for queue in 0..2 {
@@ -196,13 +211,11 @@ fn subscribe_both<R: Wait + Abort>(rt: &R, alloc: Global, cluster: &mut Cluster)
 }
 
 // Publishes so many events to a queue, each in a batch of its own.
-fn publish_each<R: Wait + Abort>(
-    rt: &R,
-    alloc: Global,
-    cluster: &mut Cluster,
-    queue: usize,
-    count: u32,
-)
+fn publish_each<
+    H: StoredHistory<Op, Reply> + Send + 'static,
+    D: StoredHistory<DirectoryOp, DirectoryReply> + Send + 'static,
+    R: Wait + Abort,
+>(rt: &R, alloc: Global, cluster: &mut Cluster<H, D>, queue: usize, count: u32)
     ensures { cluster.new ≡ cluster.old }
 {
     for _ in 0..count {
@@ -212,13 +225,11 @@ fn publish_each<R: Wait + Abort>(
 }
 
 // A queue to which nobody attends has an event that isn't pulled, and its subscription has handled so many.
-fn is_left<R: Wait + Abort>(
-    rt: &R,
-    alloc: Global,
-    cluster: &mut Cluster,
-    queue: usize,
-    handled: usize,
-)
+fn is_left<
+    H: StoredHistory<Op, Reply> + Send + 'static,
+    D: StoredHistory<DirectoryOp, DirectoryReply> + Send + 'static,
+    R: Wait + Abort,
+>(rt: &R, alloc: Global, cluster: &mut Cluster<H, D>, queue: usize, handled: usize)
     ensures { cluster.new ≡ cluster.old }
 {
     publish_each(rt, alloc, cluster, queue, 1);
@@ -229,39 +240,53 @@ fn is_left<R: Wait + Abort>(
     assert!(rt; ended == Reply::Unsubscribed { handled });
 }
 
+// Two silos one after the other, at any kind of history.
+fn attend_both<
+    H: StoredHistory<Op, Reply> + Send + 'static,
+    D: StoredHistory<DirectoryOp, DirectoryReply> + Send + 'static,
+    R: Threads + Wait + Abort + Copy + Send + 'static,
+>(rt: &R, alloc: Global) {
+    let mut cluster = open::<H, D>(alloc).expect(rt, "memory");
+    subscribe_both(rt, alloc, &mut cluster);
+    let zero = cluster.start(rt, alloc, 0, 0).expect(rt, "memory");
+    publish_each(rt, alloc, &mut cluster, 0, 30);
+    publish_each(rt, alloc, &mut cluster, 1, 20);
+    cluster.wait_until_quiet(rt, alloc, 0);
+    let behind = cluster.ask(rt, alloc, 1, Op::Quiet);
+    assert!(rt; behind == Reply::NotQuiet(Pending::Behind));
+    let one = cluster.start(rt, alloc, 1, 1).expect(rt, "memory");
+    cluster.wait_until_quiet(rt, alloc, 1);
+    assert!(rt; cluster.stop(rt, zero) == (0, [None; 3]));
+    assert!(rt; cluster.stop(rt, one) == (1, [None; 3]));
+    is_left(rt, alloc, &mut cluster, 0, 30);
+    is_left(rt, alloc, &mut cluster, 1, 20);
+    cluster.finish(rt, alloc);
+}
+
 // The loops of a silo handle what a caller publishes to their agent's queue and nothing of the other queue, which a
 // second silo's loops handle beside them. Once they are told to stop, nothing more is done, and all passes are back.
 #[test]
-fn two_silos(rt: HostRuntime) -> Result<(), Fail> {
-    let alloc = rt.alloc();
-    let mut cluster = open(alloc)?;
-    subscribe_both(&rt, alloc, &mut cluster);
-    let zero = cluster.start(&rt, alloc, 0, 0)?;
-    publish_each(&rt, alloc, &mut cluster, 0, 30);
-    publish_each(&rt, alloc, &mut cluster, 1, 20);
-    cluster.wait_until_quiet(&rt, alloc, 0);
-    let behind = cluster.ask(&rt, alloc, 1, Op::Quiet);
-    assert!(rt; behind == Reply::NotQuiet(Pending::Behind));
-    let one = cluster.start(&rt, alloc, 1, 1)?;
-    cluster.wait_until_quiet(&rt, alloc, 1);
-    assert!(rt; cluster.stop(&rt, zero) == (0, [None; 3]));
-    assert!(rt; cluster.stop(&rt, one) == (1, [None; 3]));
-    is_left(&rt, alloc, &mut cluster, 0, 30);
-    is_left(&rt, alloc, &mut cluster, 1, 20);
-    cluster.finish(&rt, alloc);
-    Ok(())
+fn two_silos(rt: HostRuntime) {
+    attend_both::<Calls, Asked, HostRuntime>(&rt, rt.alloc());
+}
+
+// A start, which may be refused, at any kind of history.
+fn start_and_stop<
+    H: StoredHistory<Op, Reply> + Send + 'static,
+    D: StoredHistory<DirectoryOp, DirectoryReply> + Send + 'static,
+    R: Threads + Wait + Abort + Copy + Send + 'static,
+>(rt: &R, alloc: Global) {
+    let mut cluster = open_at_last::<H, D>(alloc).expect(rt, "memory");
+    if let Ok(running) = cluster.start(rt, alloc, 3, 0) {
+        let (silo, _overs) = cluster.stop(rt, running);
+        assert!(rt; silo == 3);
+    }
+    cluster.finish(rt, alloc);
 }
 
 // With any one allocation refused, loops that couldn't be made or started leave no pass missing. Run it with each
 // allocation failing in turn.
 #[test]
-fn one_allocation_refused(rt: HostRuntime) -> Result<(), Fail> {
-    let alloc = rt.alloc();
-    let mut cluster = open_at_last(alloc)?;
-    if let Ok(running) = cluster.start(&rt, alloc, 3, 0) {
-        let (silo, _overs) = cluster.stop(&rt, running);
-        assert!(rt; silo == 3);
-    }
-    cluster.finish(&rt, alloc);
-    Ok(())
+fn one_allocation_refused(rt: HostRuntime) {
+    start_and_stop::<Calls, Asked, HostRuntime>(&rt, rt.alloc());
 }

@@ -12,18 +12,19 @@ use std::alloc::{AllocError, Global};
 use std::process::Abort;
 use std::sync::{Arc, Wait};
 use stream_model::{Limits, Op, Pending, Reply, Start};
+use turnstile::StoredHistory;
 
 // The lines and two callers of two queues.
 #[derive(Drop)]
-struct Cluster {
+struct Cluster<H: StoredHistory<Op, Reply>> {
     doorbell: Arc<Doorbell, Global>,
-    lines: Vec<QueueLine>,
-    first: Producer,
-    second: Producer,
+    lines: Vec<QueueLine<H>>,
+    first: Producer<H>,
+    second: Producer<H>,
 }
 
 // Two queues whose histories have so many entries at most.
-fn opened<R: Abort>(rt: &R, alloc: Global, limit: u64) -> Cluster
+fn opened<H: StoredHistory<Op, Reply>, R: Abort>(rt: &R, alloc: Global, limit: u64) -> Cluster<H>
     ensures first { turnstiles result.first ≡ places result.lines.items }
     ensures second { turnstiles result.second ≡ places result.lines.items }
 {
@@ -41,12 +42,12 @@ fn opened<R: Abort>(rt: &R, alloc: Global, limit: u64) -> Cluster
 }
 
 // How a cluster ends with both callers.
-fn ended<R: Wait + Abort>(
+fn ended<H: StoredHistory<Op, Reply>, R: Wait + Abort>(
     rt: &R,
     alloc: Global,
-    cluster: Cluster,
+    cluster: Cluster<H>,
     ends: LoopEnds,
-) -> Result<Finished<Calls>, AllocError>
+) -> Result<Finished<H>, AllocError>
     requires first { turnstiles cluster.first ≡ places cluster.lines.items }
     requires second { turnstiles cluster.second ≡ places cluster.lines.items }
 {
@@ -62,35 +63,19 @@ fn ended<R: Wait + Abort>(
     finish(rt, alloc, doorbell, lines, callers, ends)
 }
 
-// The name of an answer.
-fn name_of(ended: &Result<Finished<Calls>, AllocError>) -> &'static str {
-    match ended {
-        Ok(Finished::Report { .. }) => "report",
-        Ok(Finished::NotQuiet { .. }) => "not quiet",
-        Ok(Finished::RoundLimit { .. }) => "round limit",
-        Ok(Finished::Limit { .. }) => "limit",
-        Ok(Finished::NotAll { .. }) => "not all",
-        Ok(Finished::InUse) => "in use",
-        Err(AllocError) => "memory",
-    }
-}
-
-// How many calls were made at each queue.
-fn calls_made<R: Abort>(rt: &R, ended: &Result<Finished<Calls>, AllocError>) -> (usize, usize) {
-    let Ok(
-        Finished::Report { traces, .. }
-        | Finished::NotQuiet { traces, .. }
-        | Finished::RoundLimit { traces }
-        | Finished::Limit { traces },
-    ) = ended
-    else {
-        panic!(rt; "there are traces");
-    };
-    assert!(rt; traces.histories.len() == 2);
-    (
-        traces.histories[0].as_slice().len(),
-        traces.histories[1].as_slice().len(),
-    )
+// How a cluster ends.
+#[derive(Clone, Copy)]
+enum End {
+    // With a report.
+    Report(&'static [u8]),
+    // An event isn't pulled at this queue, the first that isn't quiet.
+    Behind(usize),
+    RoundLimit,
+    Limit,
+    // A pass is missing at the first queue.
+    NotAll,
+    InUse,
+    Memory,
 }
 
 // Whether a text is this one.
@@ -98,89 +83,222 @@ fn is_text(text: &Vec<u8>, wanted: &[u8]) -> bool {
     text.as_slice() == wanted
 }
 
-// The report has what a caller subscribed, and the calls of both callers are in the traces.
-#[test]
-fn a_report(rt: HostRuntime) {
-    let alloc = rt.alloc();
-    let mut cluster = opened(&rt, alloc, 100);
-    let reply = ask(
-        &rt,
-        alloc,
-        &mut cluster.first,
-        1,
-        subscribe(&rt, grain(&rt, b"x"), Start::Latest),
-    );
-    assert!(rt; reply == Reply::Subscribed { number: 1 });
-    assert!(rt; ask(&rt, alloc, &mut cluster.second, 1, Op::Quiet) == Reply::IsQuiet);
-    let ended = ended(&rt, alloc, cluster, LoopEnds::default());
-    assert!(rt; calls_made(&rt, &ended) == (1, 3));
-    let Ok(Finished::Report { text, .. }) = &ended else {
-        panic!(rt; "all queues are quiet");
+// Whether a cluster has ended so.
+fn is_so<H: StoredHistory<Op, Reply>>(
+    ended: &Result<Finished<H>, AllocError>,
+    wanted: End,
+) -> bool {
+    match ended {
+        Ok(Finished::Report { text, .. }) => match wanted {
+            End::Report(lines) => is_text(text, lines),
+            _ => false,
+        },
+        Ok(Finished::NotQuiet { queue, why, .. }) => match wanted {
+            End::Behind(at) => *queue == at && *why == Pending::Behind,
+            _ => false,
+        },
+        Ok(Finished::RoundLimit { .. }) => matches!(wanted, End::RoundLimit),
+        Ok(Finished::Limit { .. }) => matches!(wanted, End::Limit),
+        Ok(Finished::NotAll { queue, missing }) => {
+            matches!(wanted, End::NotAll) && *queue == 0 && *missing == 1
+        }
+        Ok(Finished::InUse) => matches!(wanted, End::InUse),
+        Err(AllocError) => matches!(wanted, End::Memory),
+    }
+}
+
+// How many calls were made at each queue, where there are traces.
+fn calls_made<H: StoredHistory<Op, Reply>>(
+    ended: &Result<Finished<H>, AllocError>,
+) -> Option<(usize, usize)> {
+    let Ok(
+        Finished::Report { traces, .. }
+        | Finished::NotQuiet { traces, .. }
+        | Finished::RoundLimit { traces }
+        | Finished::Limit { traces },
+    ) = ended
+    else {
+        return None;
     };
-    assert!(rt; is_text(text, b"report\n1:1 o/k g/x 0.0 0\n"));
-}
-
-// The second queue isn't quiet: an event isn't pulled.
-#[test]
-fn not_quiet(rt: HostRuntime) {
-    let alloc = rt.alloc();
-    let mut cluster = opened(&rt, alloc, 100);
-    assert!(rt;
-        ask(&rt, alloc, &mut cluster.second, 1, publish(&rt, alloc, 1))
-            == Reply::Published { seq: 0 }
-    );
-    let ended = ended(&rt, alloc, cluster, LoopEnds::default());
-    assert!(rt; calls_made(&rt, &ended) == (1, 2));
-    let Ok(Finished::NotQuiet { queue, why, .. }) = &ended else {
-        panic!(rt; "a queue isn't quiet");
+    let [zero, one] = traces.histories.as_slice() else {
+        return None;
     };
-    assert!(rt; *queue == 1 && *why == Pending::Behind);
+    Some((zero.len(), one.len()))
 }
 
-// The history of the second queue is full. That goes before a loop that made too many rounds.
-#[test]
-fn a_full_history(rt: HostRuntime) {
-    let alloc = rt.alloc();
-    let mut cluster = opened(&rt, alloc, 1);
-    assert!(rt; ask(&rt, alloc, &mut cluster.first, 1, Op::Quiet) == Reply::IsQuiet);
-    let mut ends = LoopEnds::default();
-    ends.note(Some(Over::Rounds));
-    let ended = ended(&rt, alloc, cluster, ends);
-    assert!(rt; name_of(&ended) == "limit");
-    assert!(rt; calls_made(&rt, &ended) == (1, 1));
+// What a caller asks.
+#[derive(Clone, Copy)]
+enum Asked {
+    Subscribe,
+    Publish,
+    Quiet,
 }
 
-// What is answered where the loops of two queues have ended so, and an event isn't pulled.
-fn ended_by<R: Wait + Abort>(rt: &R, alloc: Global, overs: &[Option<Over>]) -> &'static str {
-    let mut cluster = opened(rt, alloc, 100);
-    assert!(rt;
-        ask(rt, alloc, &mut cluster.first, 0, publish(rt, alloc, 1)) == Reply::Published { seq: 0 }
-    );
+fn operation<R: Abort>(rt: &R, alloc: Global, asked: Asked) -> Op {
+    match asked {
+        Asked::Subscribe => subscribe(rt, grain(rt, b"x"), Start::Latest),
+        Asked::Publish => publish(rt, alloc, 1),
+        Asked::Quiet => Op::Quiet,
+    }
+}
+
+// The reply of a queue of which nothing was asked before.
+fn first_reply(asked: Asked) -> Reply {
+    match asked {
+        Asked::Subscribe => Reply::Subscribed { number: 1 },
+        Asked::Publish => Reply::Published { seq: 0 },
+        Asked::Quiet => Reply::IsQuiet,
+    }
+}
+
+// Whether a caller that asks at a queue has such a reply.
+fn is_told<H: StoredHistory<Op, Reply>, R: Wait + Abort>(
+    rt: &R,
+    alloc: Global,
+    caller: &mut Producer<H>,
+    asks: Option<(usize, Asked)>,
+) -> bool
+    ensures { turnstiles caller.new ≡ turnstiles caller.old }
+{
+    let Some((queue, asked)) = asks else {
+        return true;
+    };
+    let op = operation(rt, alloc, asked);
+    ask(rt, alloc, caller, queue, op) == first_reply(asked)
+}
+
+// What loops told that have ended so.
+fn ends_of(overs: &[Option<Over>]) -> LoopEnds {
     let mut ends = LoopEnds::default();
     for over in overs {
         ends.note(*over);
     }
-    name_of(&ended(rt, alloc, cluster, ends))
+    ends
 }
 
-// The order of the answers, by how the loops have ended.
+// What is done before a cluster ends, and how it ends.
+#[derive(Clone, Copy)]
+struct Row {
+    // how many entries each history has at most
+    limit: u64,
+    first: Option<(usize, Asked)>,
+    second: Option<(usize, Asked)>,
+    overs: &'static [Option<Over>],
+    end: End,
+    // how many calls were made at each queue, where that is looked at
+    made: Option<(usize, usize)>,
+}
+
+fn is_ended<H: StoredHistory<Op, Reply>, R: Wait + Abort>(
+    rt: &R,
+    alloc: Global,
+    row: &Row,
+) -> bool {
+    let mut cluster = opened::<H, R>(rt, alloc, row.limit);
+    if !is_told(rt, alloc, &mut cluster.first, row.first) {
+        return false;
+    }
+    if !is_told(rt, alloc, &mut cluster.second, row.second) {
+        return false;
+    }
+    let ended = ended(rt, alloc, cluster, ends_of(row.overs));
+    is_so(&ended, row.end) && (row.made.is_none() || calls_made(&ended) == row.made)
+}
+
+fn check<R: Wait + Abort>(rt: &R, alloc: Global, rows: &[Row]) {
+    for (at, row) in rows.iter().enumerate() {
+        assert!(rt; is_ended::<Calls, R>(rt, alloc, row), "row {at}");
+    }
+}
+
+// The report has what a caller subscribed, and the calls of both callers are in the traces.
+const REPORT: Row = Row {
+    limit: 100,
+    first: Some((1, Asked::Subscribe)),
+    second: Some((1, Asked::Quiet)),
+    overs: &[],
+    end: End::Report(b"report\n1:1 o/k g/x 0.0 0\n"),
+    made: Some((1, 3)),
+};
+
+#[test]
+fn a_report(rt: HostRuntime) {
+    check(&rt, rt.alloc(), &[REPORT]);
+}
+
+// The second queue isn't quiet: an event isn't pulled.
+const NOT_QUIET: Row = Row {
+    limit: 100,
+    first: None,
+    second: Some((1, Asked::Publish)),
+    overs: &[],
+    end: End::Behind(1),
+    made: Some((1, 2)),
+};
+
+#[test]
+fn not_quiet(rt: HostRuntime) {
+    check(&rt, rt.alloc(), &[NOT_QUIET]);
+}
+
+// The history of the second queue is full. That goes before a loop that made too many rounds.
+const FULL: Row = Row {
+    limit: 1,
+    first: Some((1, Asked::Quiet)),
+    second: None,
+    overs: &[Some(Over::Rounds)],
+    end: End::Limit,
+    made: Some((1, 1)),
+};
+
+#[test]
+fn a_full_history(rt: HostRuntime) {
+    check(&rt, rt.alloc(), &[FULL]);
+}
+
+// An event isn't pulled, and no loop has ended.
+const LEFT: Row = Row {
+    limit: 100,
+    first: Some((0, Asked::Publish)),
+    second: None,
+    overs: &[None, None],
+    end: End::Behind(0),
+    made: None,
+};
+
+// The order of the answers, by how the loops of two queues have ended.
+const ENDED: [Row; 4] = [
+    LEFT,
+    Row {
+        overs: &[None, Some(Over::Rounds)],
+        end: End::RoundLimit,
+        ..LEFT
+    },
+    Row {
+        overs: &[Some(Over::Limit), Some(Over::Rounds)],
+        end: End::Limit,
+        ..LEFT
+    },
+    Row {
+        overs: &[Some(Over::Memory), Some(Over::Limit)],
+        end: End::Memory,
+        ..LEFT
+    },
+];
+
 #[test]
 fn loops_that_ended(rt: HostRuntime) {
-    let alloc = rt.alloc();
-    assert!(rt; ended_by(&rt, alloc, &[None, None]) == "not quiet");
-    assert!(rt; ended_by(&rt, alloc, &[None, Some(Over::Rounds)]) == "round limit");
-    assert!(rt; ended_by(&rt, alloc, &[Some(Over::Limit), Some(Over::Rounds)]) == "limit");
-    assert!(rt; ended_by(&rt, alloc, &[Some(Over::Memory), Some(Over::Limit)]) == "memory");
+    check(&rt, rt.alloc(), &ENDED);
 }
 
 // How a cluster ends with its first caller alone.
-fn ended_with_first<R: Wait + Abort>(
+fn ended_with_first<H: StoredHistory<Op, Reply>, R: Wait + Abort>(
     rt: &R,
     alloc: Global,
     doorbell: Arc<Doorbell, Global>,
-    lines: Vec<QueueLine>,
-    first: Producer,
-) -> Result<Finished<Calls>, AllocError>
+    lines: Vec<QueueLine<H>>,
+    first: Producer<H>,
+) -> Result<Finished<H>, AllocError>
     requires { turnstiles first ≡ places lines.items }
 {
     let mut callers = Vec::with_capacity(alloc, 1).expect(rt, "memory");
@@ -188,45 +306,59 @@ fn ended_with_first<R: Wait + Abort>(
     finish(rt, alloc, doorbell, lines, callers, LoopEnds::default())
 }
 
-// A caller was lost, and its passes are missing at both queues.
-#[test]
-fn a_missing_pass(rt: HostRuntime) {
-    let alloc = rt.alloc();
+// The end after a caller was lost, at any kind of history.
+fn lose_a_caller<H: StoredHistory<Op, Reply>, R: Wait + Abort>(rt: &R, alloc: Global) {
     let Cluster {
         doorbell,
         lines,
         first,
         second,
-    } = opened(&rt, alloc, 100);
+    } = opened::<H, R>(rt, alloc, 100);
     drop(second);
-    let ended = ended_with_first(&rt, alloc, doorbell, lines, first);
-    let Ok(Finished::NotAll { queue, missing }) = &ended else {
-        panic!(rt; "a pass is missing");
-    };
-    assert!(rt; *queue == 0 && *missing == 1);
+    let ended = ended_with_first(rt, alloc, doorbell, lines, first);
+    assert!(rt; is_so(&ended, End::NotAll));
 }
 
-// A caller still has the turnstiles, while the passes of another were lost.
+// A caller was lost, and its passes are missing at both queues.
 #[test]
-fn a_caller_still_there(rt: HostRuntime) {
-    let alloc = rt.alloc();
+fn a_missing_pass(rt: HostRuntime) {
+    lose_a_caller::<Calls, HostRuntime>(&rt, rt.alloc());
+}
+
+// The end while a caller is there, at any kind of history.
+fn keep_a_caller<H: StoredHistory<Op, Reply>, R: Wait + Abort>(rt: &R, alloc: Global) {
     let Cluster {
         doorbell,
         lines,
         first,
         mut second,
-    } = opened(&rt, alloc, 100);
-    drop(second.split(alloc).expect(&rt, "memory"));
-    let ended = ended_with_first(&rt, alloc, doorbell, lines, first);
-    assert!(rt; name_of(&ended) == "in use");
+    } = opened::<H, R>(rt, alloc, 100);
+    drop(second.split(alloc).expect(rt, "memory"));
+    let ended = ended_with_first(rt, alloc, doorbell, lines, first);
+    assert!(rt; is_so(&ended, End::InUse));
     drop(second);
+}
+
+// A caller still has the turnstiles, while the passes of another were lost.
+#[test]
+fn a_caller_still_there(rt: HostRuntime) {
+    keep_a_caller::<Calls, HostRuntime>(&rt, rt.alloc());
+}
+
+// The end of a new cluster, at any kind of history.
+fn end_at_once<H: StoredHistory<Op, Reply>, R: Wait + Abort>(rt: &R, alloc: Global) {
+    let ended = ended(
+        &rt,
+        alloc,
+        opened::<H, R>(rt, alloc, 100),
+        LoopEnds::default(),
+    );
+    assert!(rt; is_so(&ended, End::Report(b"report\n")) || is_so(&ended, End::Memory));
 }
 
 // With any one allocation refused in the end of a cluster, it answers so, and else it reports. Run it with each
 // allocation failing in turn.
 #[test]
 fn one_allocation_refused(rt: HostRuntime) {
-    let alloc = rt.alloc();
-    let name = name_of(&ended(&rt, alloc, opened(&rt, alloc, 100), LoopEnds::default()));
-    assert!(rt; name == "report" || name == "memory");
+    end_at_once::<Calls, HostRuntime>(&rt, rt.alloc());
 }

@@ -14,10 +14,9 @@ use std::alloc::{AllocError, Global};
 use std::marker::Model;
 use std::process::Abort;
 use std::sync::{Arc, Wait};
-use std::test::Fail;
 use stream_ident::{GrainId, SubName};
 use stream_model::{Limits, Op, Reply, Start};
-use turnstile::Entry;
+use turnstile::{Entry, StoredHistory};
 
 // How many entries the history of a queue and that of the directory may have, and how many moves and turns there may
 // be at a queue.
@@ -37,23 +36,15 @@ const PLENTY: Room = Room {
 // An operator of some queues, and beside it a caller and a line of the directory.
 //
 // A contract sees the turnstiles.
-struct Cluster {
-    operator: Operator<Counting, Calls, Asked>,
-    directory: DirectoryLine<Asked>,
-    caller: Producer,
+#[derive(Drop)]
+struct Cluster<H: StoredHistory<Op, Reply>, D: StoredHistory<DirectoryOp, DirectoryReply>> {
+    operator: Operator<Counting, H, D>,
+    directory: DirectoryLine<D>,
+    caller: Producer<H>,
 }
 
-impl Drop for Cluster {
-    fn drop(self) {
-        let Self {
-            operator: _,
-            directory: _,
-            caller: _,
-        } = self;
-    }
-}
-
-impl Model for Cluster {
+impl<H: StoredHistory<Op, Reply>, D: StoredHistory<DirectoryOp, DirectoryReply>> Model
+    for Cluster<H, D> {
     ghost use Rattle.std.specs.Prelude.{◌≡◌, List, Option};
     ghost use Rattle.activation_directory.specs.Plain.{PlainDirectory};
     ghost use Rattle.cluster_callers.specs.Calls.{turnstiles};
@@ -70,11 +61,12 @@ impl Model for Cluster {
 
 // The loops of a silo by hand. A contract sees the turnstiles of their passes.
 #[derive(Drop)]
-struct Loops {
-    loops: SiloLoops<Counting, Calls, Asked>,
+struct Loops<H: StoredHistory<Op, Reply>, D: StoredHistory<DirectoryOp, DirectoryReply>> {
+    loops: SiloLoops<Counting, H, D>,
 }
 
-impl Model for Loops {
+impl<H: StoredHistory<Op, Reply>, D: StoredHistory<DirectoryOp, DirectoryReply>> Model
+    for Loops<H, D> {
     ghost use Rattle.std.specs.Prelude.{◌≡◌, List, Option};
     ghost use Rattle.activation_directory.specs.Plain.{PlainDirectory};
     ghost use Rattle.silo_loops.specs.Lines.{places};
@@ -89,7 +81,11 @@ impl Model for Loops {
 }
 
 // An operator of so many empty queues, in whose cluster no silo lives.
-fn open(alloc: Global, queues: usize, room: Room) -> Result<Cluster, AllocError>
+fn open<H: StoredHistory<Op, Reply>, D: StoredHistory<DirectoryOp, DirectoryReply>>(
+    alloc: Global,
+    queues: usize,
+    room: Room,
+) -> Result<Cluster<H, D>, AllocError>
     requires some { 0 < queues }
     requires rises { room.rises < 1001 }
 {
@@ -111,7 +107,7 @@ fn open(alloc: Global, queues: usize, room: Room) -> Result<Cluster, AllocError>
     })
 }
 
-impl Cluster {
+impl<H: StoredHistory<Op, Reply>, D: StoredHistory<DirectoryOp, DirectoryReply>> Cluster<H, D> {
     // A silo comes, with no loops, and the queues are spread.
     fn up<R: Wait + Abort>(&mut self, rt: &R, alloc: Global, silo: u8) -> Result<(), Halt>
         ensures { self.new ≡ self.old }
@@ -157,7 +153,7 @@ impl Cluster {
     }
 
     // The loops of a silo, by hand.
-    fn make_loops(&mut self, alloc: Global, silo: u8) -> Result<Loops, AllocError>
+    fn make_loops(&mut self, alloc: Global, silo: u8) -> Result<Loops<H, D>, AllocError>
         ensures same { self.new ≡ self.old }
         ensures at { IfOk result (λ loops. loops ≡ self.old) }
     {
@@ -165,7 +161,7 @@ impl Cluster {
         Ok(Loops { loops })
     }
 
-    fn take_back(&mut self, loops: Loops)
+    fn take_back(&mut self, loops: Loops<H, D>)
         requires { loops ≡ self.old }
         ensures { self.new ≡ self.old }
     {
@@ -174,7 +170,7 @@ impl Cluster {
     }
 
     // The histories of the queues, to which all passes came back.
-    fn finish<R: Abort>(self, rt: &R, alloc: Global) -> Vec<Calls> {
+    fn finish<R: Abort>(self, rt: &R, alloc: Global) -> Vec<H> {
         let Cluster {
             operator,
             directory: _,
@@ -185,7 +181,7 @@ impl Cluster {
     }
 }
 
-impl Loops {
+impl<H: StoredHistory<Op, Reply>, D: StoredHistory<DirectoryOp, DirectoryReply>> Loops<H, D> {
     // One step of the agent.
     fn advance<R: Wait>(&mut self, rt: &R, alloc: Global) -> Advance
         ensures { self.new ≡ self.old }
@@ -207,9 +203,11 @@ impl Loops {
 }
 
 // Asks at each of four queues. The histories are read from one such mark to the next.
-fn mark<R: Wait + Abort>(rt: &R, alloc: Global, cluster: &mut Cluster)
-    ensures { cluster.new ≡ cluster.old }
-{
+fn mark<
+    H: StoredHistory<Op, Reply>,
+    D: StoredHistory<DirectoryOp, DirectoryReply>,
+    R: Wait + Abort,
+>(rt: &R, alloc: Global, cluster: &mut Cluster<H, D>) {
     for queue in 0..4 {
         let reply = cluster.ask(rt, alloc, queue, Op::Quiet);
         assert!(rt; reply == Reply::IsQuiet);
@@ -249,203 +247,292 @@ fn load<R: Abort>(rt: &R, silos: &[Vec<u8>], mark: usize, silo: u8) -> usize {
     load
 }
 
-// Which silo comes or goes, and the loads of silos 0 to 2 that four queues then may have: the least and the most.
+// What is done to a cluster, and how it is answered.
 #[derive(Clone, Copy)]
-enum Change {
-    Up(u8),
-    Down(u8),
+enum Step {
+    // A silo comes.
+    Up(u8, Result<(), Halt>),
+    // A silo goes.
+    Down(u8, Result<(), Halt>),
+    // An event is brought to the mailbox of a grain at the first queue.
+    Activate(u8),
+    // A silo enters a grain at the directory, which gives a permit or is busy.
+    Enter(u8, u8, Option<u64>),
+    // A silo has no grain at the directory.
+    NoneLeft(u8),
 }
 
-const CHANGES: [(Change, [(usize, usize); 3]); 7] = [
-    (Change::Up(0), [(4, 4), (0, 0), (0, 0)]),
-    (Change::Up(1), [(2, 2), (2, 2), (0, 0)]),
-    (Change::Up(2), [(1, 2), (1, 2), (1, 2)]),
-    (Change::Down(0), [(0, 0), (2, 2), (2, 2)]),
-    (Change::Down(2), [(0, 0), (4, 4), (0, 0)]),
-    (Change::Up(0), [(2, 2), (2, 2), (0, 0)]),
-    (Change::Down(1), [(4, 4), (0, 0), (0, 0)]),
+fn is_met<
+    H: StoredHistory<Op, Reply>,
+    D: StoredHistory<DirectoryOp, DirectoryReply>,
+    R: Wait + Abort,
+>(rt: &R, alloc: Global, cluster: &mut Cluster<H, D>, step: &Step) -> bool {
+    match *step {
+        Step::Up(silo, wanted) => cluster.up(rt, alloc, silo) == wanted,
+        Step::Down(silo, wanted) => cluster.down(rt, alloc, silo) == wanted,
+        Step::Activate(key) => is_active(rt, alloc, cluster, grain(rt, &[key])),
+        Step::Enter(key, silo, permit) => {
+            let grain = grain(rt, &[key]);
+            let wanted = match permit {
+                Some(permit) => DirectoryReply::Entered { permit },
+                None => DirectoryReply::Busy,
+            };
+            cluster.ask_directory(rt, alloc, DirectoryOp::Enter { grain, silo }) == wanted
+        }
+        Step::NoneLeft(silo) => {
+            let down = DirectoryOp::Down { silo };
+            cluster.ask_directory(rt, alloc, down) == DirectoryReply::NoneLeft
+        }
+    }
+}
+
+// Takes the steps of a table.
+fn take<
+    H: StoredHistory<Op, Reply>,
+    D: StoredHistory<DirectoryOp, DirectoryReply>,
+    R: Wait + Abort,
+>(rt: &R, alloc: Global, cluster: &mut Cluster<H, D>, table: usize, steps: &[Step]) {
+    for (row, step) in steps.iter().enumerate() {
+        let is_met = is_met(rt, alloc, cluster, step);
+        assert!(rt; is_met, "table {table}, row {row}");
+    }
+}
+
+// Which silo comes or goes, and the loads of silos 0 to 2 that four queues then may have: the least and the most.
+const CHANGES: [(Step, [(usize, usize); 3]); 7] = [
+    (Step::Up(0, Ok(())), [(4, 4), (0, 0), (0, 0)]),
+    (Step::Up(1, Ok(())), [(2, 2), (2, 2), (0, 0)]),
+    (Step::Up(2, Ok(())), [(1, 2), (1, 2), (1, 2)]),
+    (Step::Down(0, Ok(())), [(0, 0), (2, 2), (2, 2)]),
+    (Step::Down(2, Ok(())), [(0, 0), (4, 4), (0, 0)]),
+    (Step::Up(0, Ok(())), [(2, 2), (2, 2), (0, 0)]),
+    (Step::Down(1, Ok(())), [(4, 4), (0, 0), (0, 0)]),
 ];
+
+// The silos of each queue at the marks of its history.
+fn all_silos<R: Abort>(rt: &R, alloc: Global, histories: &[Calls]) -> Vec<Vec<u8>> {
+    let mut queues = Vec::new(alloc);
+    for history in histories {
+        let silos = silos(rt, alloc, history.as_slice());
+        queues.push(silos).expect(rt, "memory");
+    }
+    queues
+}
+
+// Whether the loads of silos 0 to 2 at a mark are between these.
+fn are_loads<R: Abort>(
+    rt: &R,
+    queues: &[Vec<u8>],
+    mark: usize,
+    loads: &[(usize, usize); 3],
+) -> bool {
+    for silo in 0..3u8 {
+        let (least, most) = loads[silo as usize];
+        let load = load(rt, queues, mark, silo);
+        if load < least || most < load {
+            return false;
+        }
+    }
+    true
+}
+
+// The histories of four queues over which silos come and go.
+fn spread<
+    H: StoredHistory<Op, Reply>,
+    D: StoredHistory<DirectoryOp, DirectoryReply>,
+    R: Wait + Abort,
+>(rt: &R, alloc: Global) -> Vec<H> {
+    let mut cluster = open::<H, D>(alloc, 4, PLENTY).expect(rt, "memory");
+    for (row, (step, _loads)) in CHANGES.iter().enumerate() {
+        take(rt, alloc, &mut cluster, row, &[*step]);
+        mark(rt, alloc, &mut cluster);
+    }
+    cluster.finish(rt, alloc)
+}
 
 // Silos come and go. The queues are spread evenly over those that live, and each moves once at most at each change.
 #[test]
-fn queues_are_spread(rt: HostRuntime) -> Result<(), Fail> {
+fn queues_are_spread(rt: HostRuntime) {
     let alloc = rt.alloc();
-    let mut cluster = open(alloc, 4, PLENTY)?;
-    for (change, _loads) in CHANGES {
-        let changed = match change {
-            Change::Up(silo) => cluster.up(&rt, alloc, silo),
-            Change::Down(silo) => cluster.down(&rt, alloc, silo),
-        };
-        assert!(rt; changed == Ok(()));
-        mark(&rt, alloc, &mut cluster);
-    }
-    let histories = cluster.finish(&rt, alloc);
-    are_spread(&rt, alloc, histories.as_slice());
-    Ok(())
-}
-
-// Whether the loads at each mark are those of the table.
-fn are_spread<R: Abort>(rt: &R, alloc: Global, histories: &[Calls]) {
-    let mut queues = Vec::new(alloc);
-    for history in histories {
-        queues
-            .push(silos(rt, alloc, history.as_slice()))
-            .expect(rt, "memory");
-    }
-    for (mark, (_change, loads)) in CHANGES.iter().enumerate() {
-        for silo in 0..3u8 {
-            let (least, most) = loads[silo as usize];
-            let load = load(rt, queues.as_slice(), mark, silo);
-            assert!(rt; least <= load && load <= most);
-        }
+    let histories = spread::<Calls, Asked, HostRuntime>(&rt, alloc);
+    let queues = all_silos(&rt, alloc, histories.as_slice());
+    for (mark, (_step, loads)) in CHANGES.iter().enumerate() {
+        let are_loads = are_loads(&rt, queues.as_slice(), mark, loads);
+        assert!(rt; are_loads, "row {mark}");
     }
 }
 
-// Brings an event to the mailbox of a grain at a queue.
-fn activate<R: Wait + Abort>(
-    rt: &R,
-    alloc: Global,
-    cluster: &mut Cluster,
-    queue: usize,
-    grain: GrainId,
-)
-    ensures { cluster.new ≡ cluster.old }
-{
-    cluster.ask(rt, alloc, queue, subscribe(rt, grain, Start::Latest));
-    cluster.ask(rt, alloc, queue, publish(rt, alloc, 1));
+// Whether an event gets to the mailbox of a grain at the first queue.
+fn is_active<
+    H: StoredHistory<Op, Reply>,
+    D: StoredHistory<DirectoryOp, DirectoryReply>,
+    R: Wait + Abort,
+>(rt: &R, alloc: Global, cluster: &mut Cluster<H, D>, grain: GrainId) -> bool {
+    cluster.ask(rt, alloc, 0, subscribe(rt, grain, Start::Latest));
+    cluster.ask(rt, alloc, 0, publish(rt, alloc, 1));
     let generation = 0;
     let pull = Op::Pull { generation, max: 1 };
-    cluster.ask(rt, alloc, queue, pull);
+    cluster.ask(rt, alloc, 0, pull);
     let sub = SubName::Explicit(1);
-    let reply = cluster.ask(rt, alloc, queue, Op::Deliver { generation, sub });
-    assert!(rt; matches!(reply, Reply::Delivered { .. }));
+    let reply = cluster.ask(rt, alloc, 0, Op::Deliver { generation, sub });
+    matches!(reply, Reply::Delivered { .. })
 }
 
-// A silo enters a grain at the directory.
-fn enter<R: Wait + Abort>(
-    rt: &R,
-    alloc: Global,
-    cluster: &mut Cluster,
-    key: &[u8],
-    silo: u8,
-) -> DirectoryReply
-    ensures { cluster.new ≡ cluster.old }
-{
-    let grain = grain(rt, key);
-    cluster.ask_directory(rt, alloc, DirectoryOp::Enter { grain, silo })
+// Whether this is the grain of a key, which has lost so many events.
+fn is_lost<R: Abort>(rt: &R, found: &GrainId, reply: &Reply, key: u8, lost: usize) -> bool {
+    let told = match reply {
+        Reply::Deactivated { lost } => *lost,
+        _ => 0,
+    };
+    *found == grain(rt, &[key]) && told == lost
 }
 
-// The grains that were deactivated at a queue, and how many events each has lost.
-fn deactivated<R: Abort>(
-    rt: &R,
-    alloc: Global,
-    history: &[Entry<Op, Reply>],
-) -> Vec<(GrainId, usize)> {
-    let mut grains = Vec::new(alloc);
+// Whether these grains were deactivated at a queue, once and in this order, and have lost so many events each.
+fn are_deactivated<R: Abort>(rt: &R, history: &[Entry<Op, Reply>], wanted: &[(u8, usize)]) -> bool {
+    let mut at: usize = 0;
     for entry in history {
-        if let Op::Deactivate { grain } = entry.op {
-            let lost = match entry.reply {
-                Reply::Deactivated { lost } => lost,
-                _ => 0,
+        if let Op::Deactivate { grain } = &entry.op {
+            let Some((key, lost)) = wanted.get(at) else {
+                return false;
             };
-            grains.push((grain, lost)).expect(rt, "memory");
+            if !is_lost(rt, grain, &entry.reply, *key, *lost) {
+                return false;
+            }
+            at = at.wrapping_add(1);
         }
     }
-    grains
+    at == wanted.len()
 }
 
 // Silo 1 goes, on which two of three grains are. One of them is active at the first queue. Both leave the directory
 // and are deactivated at each queue, once and in their order, and the third stays.
-#[test]
-fn grains_are_deactivated(rt: HostRuntime) -> Result<(), Fail> {
-    let alloc = rt.alloc();
-    let mut cluster = open(alloc, 2, PLENTY)?;
-    activate(&rt, alloc, &mut cluster, 0, grain(&rt, b"a"));
-    for (key, silo, permit) in [(b"b", 1, 1), (b"a", 1, 2), (b"c", 0, 3)] {
-        let entered = enter(&rt, alloc, &mut cluster, key, silo);
-        assert!(rt; entered == DirectoryReply::Entered { permit });
-    }
-    assert!(rt; cluster.up(&rt, alloc, 0) == Ok(()));
-    assert!(rt; cluster.up(&rt, alloc, 1) == Ok(()));
-    assert!(rt; cluster.down(&rt, alloc, 1) == Ok(()));
-    let down = DirectoryOp::Down { silo: 1 };
-    assert!(rt; cluster.ask_directory(&rt, alloc, down) == DirectoryReply::NoneLeft);
-    let entered = enter(&rt, alloc, &mut cluster, b"a", 0);
-    assert!(rt; entered == DirectoryReply::Entered { permit: 4 });
-    assert!(rt; enter(&rt, alloc, &mut cluster, b"c", 0) == DirectoryReply::Busy);
-    let histories = cluster.finish(&rt, alloc);
-    are_deactivated(&rt, alloc, histories.as_slice());
-    Ok(())
+const LEAVES: [Step; 10] = [
+    Step::Activate(b'a'),
+    Step::Enter(b'b', 1, Some(1)),
+    Step::Enter(b'a', 1, Some(2)),
+    Step::Enter(b'c', 0, Some(3)),
+    Step::Up(0, Ok(())),
+    Step::Up(1, Ok(())),
+    Step::Down(1, Ok(())),
+    Step::NoneLeft(1),
+    Step::Enter(b'a', 0, Some(4)),
+    Step::Enter(b'c', 0, None),
+];
+
+// The grains that are deactivated at each queue, and how many events each has lost.
+const LOST: [[(u8, usize); 2]; 2] = [[(b'a', 1), (b'b', 0)], [(b'a', 0), (b'b', 0)]];
+
+// The histories of two queues that a silo leaves.
+fn leave<
+    H: StoredHistory<Op, Reply>,
+    D: StoredHistory<DirectoryOp, DirectoryReply>,
+    R: Wait + Abort,
+>(rt: &R, alloc: Global) -> Vec<H> {
+    let mut cluster = open::<H, D>(alloc, 2, PLENTY).expect(rt, "memory");
+    take(rt, alloc, &mut cluster, 0, &LEAVES);
+    cluster.finish(rt, alloc)
 }
 
-fn are_deactivated<R: Abort>(rt: &R, alloc: Global, histories: &[Calls]) {
-    let wanted = [
-        [(grain(rt, b"a"), 1), (grain(rt, b"b"), 0)],
-        [(grain(rt, b"a"), 0), (grain(rt, b"b"), 0)],
-    ];
-    assert!(rt; histories.len() == 2);
-    for queue in 0..2 {
-        let grains = deactivated(rt, alloc, histories[queue].as_slice());
-        assert!(rt; grains.as_slice() == wanted[queue].as_slice());
+#[test]
+fn grains_are_deactivated(rt: HostRuntime) {
+    let alloc = rt.alloc();
+    let histories = leave::<Calls, Asked, HostRuntime>(&rt, alloc);
+    assert!(rt; histories.len() == LOST.len());
+    for (queue, history) in histories.iter().enumerate() {
+        let are_so = are_deactivated(&rt, history.as_slice(), &LOST[queue]);
+        assert!(rt; are_so, "row {queue}");
     }
 }
 
 // How the changes are answered where there is so much room: silo 1 comes, which moves one of two queues, and goes
 // with a grain.
-const ROOMS: [(Room, Result<(), Halt>, Result<(), Halt>); 6] = [
+const FITS: [Step; 4] = [
+    Step::Enter(b'a', 1, Some(1)),
+    Step::Up(0, Ok(())),
+    Step::Up(1, Ok(())),
+    Step::Down(1, Ok(())),
+];
+
+// Silo 1 doesn't come.
+const STAYS_AWAY: [Step; 3] = [
+    Step::Enter(b'a', 1, Some(1)),
+    Step::Up(0, Ok(())),
+    Step::Up(1, Err(Halt::Limit)),
+];
+
+// Silo 1 doesn't go.
+const STAYS: [Step; 4] = [
+    Step::Enter(b'a', 1, Some(1)),
+    Step::Up(0, Ok(())),
+    Step::Up(1, Ok(())),
+    Step::Down(1, Err(Halt::Limit)),
+];
+
+const ROOMS: [(Room, &[Step]); 6] = [
     (
         Room {
             queue: 3,
             directory: 3,
             rises: 2,
         },
-        Ok(()),
-        Ok(()),
+        &FITS,
     ),
-    (Room { queue: 0, ..PLENTY }, Err(Halt::Limit), Ok(())),
-    (Room { queue: 1, ..PLENTY }, Ok(()), Err(Halt::Limit)),
-    (Room { queue: 2, ..PLENTY }, Ok(()), Err(Halt::Limit)),
+    (Room { queue: 0, ..PLENTY }, &STAYS_AWAY),
+    (Room { queue: 1, ..PLENTY }, &STAYS),
+    (Room { queue: 2, ..PLENTY }, &STAYS),
     (
         Room {
             directory: 2,
             ..PLENTY
         },
-        Ok(()),
-        Err(Halt::Limit),
+        &STAYS,
     ),
-    (Room { rises: 1, ..PLENTY }, Ok(()), Err(Halt::Limit)),
+    (Room { rises: 1, ..PLENTY }, &STAYS),
 ];
+
+// The changes in each room, at any kind of history.
+fn fill<
+    H: StoredHistory<Op, Reply>,
+    D: StoredHistory<DirectoryOp, DirectoryReply>,
+    R: Wait + Abort,
+>(rt: &R, alloc: Global) {
+    for (table, (room, steps)) in ROOMS.iter().enumerate() {
+        assert!(rt; room.rises <= 1_000);
+        let mut cluster = open::<H, D>(alloc, 2, *room).expect(rt, "memory");
+        take(rt, alloc, &mut cluster, table, steps);
+    }
+}
 
 // A history that is full, or a move that is refused, breaks a change off.
 #[test]
-fn limits(rt: HostRuntime) -> Result<(), Fail> {
-    let alloc = rt.alloc();
-    for (room, up, down) in ROOMS {
-        assert!(rt; room.rises <= 1_000);
-        let mut cluster = open(alloc, 2, room)?;
-        let entered = enter(&rt, alloc, &mut cluster, b"a", 1);
-        assert!(rt; entered == DirectoryReply::Entered { permit: 1 });
-        assert!(rt; cluster.up(&rt, alloc, 0) == Ok(()));
-        assert!(rt; cluster.up(&rt, alloc, 1) == up);
-        if up.is_ok() {
-            assert!(rt; cluster.down(&rt, alloc, 1) == down);
-        }
-    }
-    Ok(())
+fn limits(rt: HostRuntime) {
+    fill::<Calls, Asked, HostRuntime>(&rt, rt.alloc());
 }
 
 // No silo lives to which the queues could go.
+const ALONE: [Step; 2] = [Step::Up(0, Ok(())), Step::Down(0, Err(Halt::Limit))];
+
+// The changes of one queue, at any kind of history.
+fn be_alone<
+    H: StoredHistory<Op, Reply>,
+    D: StoredHistory<DirectoryOp, DirectoryReply>,
+    R: Wait + Abort,
+>(rt: &R, alloc: Global) {
+    let mut cluster = open::<H, D>(alloc, 1, PLENTY).expect(rt, "memory");
+    take(rt, alloc, &mut cluster, 0, &ALONE);
+}
+
 #[test]
-fn no_silo(rt: HostRuntime) -> Result<(), Fail> {
-    let alloc = rt.alloc();
-    let mut cluster = open(alloc, 1, PLENTY)?;
-    assert!(rt; cluster.up(&rt, alloc, 0) == Ok(()));
-    assert!(rt; cluster.down(&rt, alloc, 0) == Err(Halt::Limit));
-    Ok(())
+fn no_silo(rt: HostRuntime) {
+    be_alone::<Calls, Asked, HostRuntime>(&rt, rt.alloc());
 }
 
 // Has an agent pull, and tells at how many of two queues all is pulled then.
-fn pulled<R: Wait + Abort>(rt: &R, alloc: Global, cluster: &mut Cluster, loops: &mut Loops) -> usize
+fn pulled<
+    H: StoredHistory<Op, Reply>,
+    D: StoredHistory<DirectoryOp, DirectoryReply>,
+    R: Wait + Abort,
+>(rt: &R, alloc: Global, cluster: &mut Cluster<H, D>, loops: &mut Loops<H, D>) -> usize
     ensures cluster { cluster.new ≡ cluster.old }
     ensures loops { loops.new ≡ loops.old }
 {
@@ -459,7 +546,11 @@ fn pulled<R: Wait + Abort>(rt: &R, alloc: Global, cluster: &mut Cluster, loops: 
     pulled
 }
 
-fn publish_both<R: Wait + Abort>(rt: &R, alloc: Global, cluster: &mut Cluster)
+fn publish_both<
+    H: StoredHistory<Op, Reply>,
+    D: StoredHistory<DirectoryOp, DirectoryReply>,
+    R: Wait + Abort,
+>(rt: &R, alloc: Global, cluster: &mut Cluster<H, D>)
     ensures { cluster.new ≡ cluster.old }
 {
     for queue in 0..2 {
@@ -475,27 +566,54 @@ fn none_is_stale<R: Abort>(rt: &R, history: &[Entry<Op, Reply>]) {
     }
 }
 
+// Has both agents pull. All is pulled at so many queues after that of the second, and after that of the first.
+fn are_pulled<
+    H: StoredHistory<Op, Reply>,
+    D: StoredHistory<DirectoryOp, DirectoryReply>,
+    R: Wait + Abort,
+>(
+    rt: &R,
+    alloc: Global,
+    cluster: &mut Cluster<H, D>,
+    zero: &mut Loops<H, D>,
+    one: &mut Loops<H, D>,
+    wanted: (usize, usize),
+)
+    ensures cluster { cluster.new ≡ cluster.old }
+    ensures zero { zero.new ≡ zero.old }
+    ensures one { one.new ≡ one.old }
+{
+    publish_both(rt, alloc, cluster);
+    let by_one = pulled(rt, alloc, cluster, one);
+    let by_zero = pulled(rt, alloc, cluster, zero);
+    assert!(rt; (by_one, by_zero) == wanted);
+}
+
+// The histories of two queues whose agents are told of them.
+fn tell<
+    H: StoredHistory<Op, Reply>,
+    D: StoredHistory<DirectoryOp, DirectoryReply>,
+    R: Wait + Abort,
+>(rt: &R, alloc: Global) -> Vec<H> {
+    let mut cluster = open::<H, D>(alloc, 2, PLENTY).expect(rt, "memory");
+    let mut zero = cluster.make_loops(alloc, 0).expect(rt, "memory");
+    let mut one = cluster.make_loops(alloc, 1).expect(rt, "memory");
+    assert!(rt; cluster.up(rt, alloc, 0) == Ok(()));
+    assert!(rt; cluster.up(rt, alloc, 1) == Ok(()));
+    are_pulled(rt, alloc, &mut cluster, &mut zero, &mut one, (1, 2));
+    assert!(rt; cluster.down(rt, alloc, 1) == Ok(()));
+    are_pulled(rt, alloc, &mut cluster, &mut zero, &mut one, (0, 2));
+    cluster.take_back(zero);
+    cluster.take_back(one);
+    cluster.finish(rt, alloc)
+}
+
 // The agent of each silo is told of its queues, under the generation of the last move: of two queues each has one,
 // until the second silo goes and the first has both.
 #[test]
-fn agents_are_told(rt: HostRuntime) -> Result<(), Fail> {
+fn agents_are_told(rt: HostRuntime) {
     let alloc = rt.alloc();
-    let mut cluster = open(alloc, 2, PLENTY)?;
-    let mut zero = cluster.make_loops(alloc, 0)?;
-    let mut one = cluster.make_loops(alloc, 1)?;
-    assert!(rt; cluster.up(&rt, alloc, 0) == Ok(()));
-    assert!(rt; cluster.up(&rt, alloc, 1) == Ok(()));
-    publish_both(&rt, alloc, &mut cluster);
-    assert!(rt; pulled(&rt, alloc, &mut cluster, &mut one) == 1);
-    assert!(rt; pulled(&rt, alloc, &mut cluster, &mut zero) == 2);
-    assert!(rt; cluster.down(&rt, alloc, 1) == Ok(()));
-    publish_both(&rt, alloc, &mut cluster);
-    assert!(rt; pulled(&rt, alloc, &mut cluster, &mut one) == 0);
-    assert!(rt; pulled(&rt, alloc, &mut cluster, &mut zero) == 2);
-    cluster.take_back(zero);
-    cluster.take_back(one);
-    for history in cluster.finish(&rt, alloc) {
+    for history in tell::<Calls, Asked, HostRuntime>(&rt, alloc) {
         none_is_stale(&rt, history.as_slice());
     }
-    Ok(())
 }

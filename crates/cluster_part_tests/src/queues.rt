@@ -13,30 +13,30 @@ use std::alloc::{AllocError, Global};
 use std::process::Abort;
 use std::sync::{Arc, Wait};
 use stream_model::{Limits, Op, Reply};
-use turnstile::{Closed, PassOf, PlainHistory, Turnstile};
+use turnstile::{Closed, PassOf, PlainHistory, StoredHistory, Turnstile};
 
 /// How the calls of a queue are stored.
 pub type Calls = PlainHistory<Op, Reply>;
 
 /// A line at a queue.
-pub type QueueLine = Line<Counting, Calls>;
+pub type QueueLine<H> = Line<Counting, H>;
 
 /// A caller of one queue.
-pub type OneCaller = QueueCaller<Counting, Calls>;
+pub type OneCaller<H> = QueueCaller<Counting, H>;
 
 /// A caller of all queues.
-pub type Producer = Caller<Counting, Calls>;
+pub type Producer<H> = Caller<Counting, H>;
 
-type Queue = SharedPartition<Counting, Calls>;
+type Queue<H> = SharedPartition<Counting, H>;
 
 // A turnstile over an empty partition whose cache has one block, and its first pass. The history has so many entries
 // at most.
-fn open_queue(
+fn open_queue<H: StoredHistory<Op, Reply>>(
     alloc: Global,
     queue: usize,
     limits: Limits,
     history: u64,
-) -> Result<(Turnstile<Queue>, PassOf<Queue>), AllocError>
+) -> Result<(Turnstile<Queue<H>>, PassOf<Queue<H>>), AllocError>
     requires { AreLimits limits }
     ensures { IfOk result (λ r. IsOf r.0 r.1 × BeganEmpty r.0.start × (r.1.seen ≡ [])) }
 {
@@ -47,12 +47,12 @@ fn open_queue(
 }
 
 /// A line at a queue of its own.
-pub fn line(
+pub fn line<H: StoredHistory<Op, Reply>>(
     alloc: Global,
     queue: usize,
     limits: Limits,
     history: u64,
-) -> Result<QueueLine, AllocError>
+) -> Result<QueueLine<H>, AllocError>
     requires { AreLimits limits }
 {
     let (turnstile, pass) = open_queue(alloc, queue, limits, history)?;
@@ -60,7 +60,7 @@ pub fn line(
 }
 
 // A caller at the queue of a line.
-fn beside(line: &mut QueueLine) -> Result<OneCaller, AllocError>
+fn beside<H: StoredHistory<Op, Reply>>(line: &mut QueueLine<H>) -> Result<OneCaller<H>, AllocError>
     ensures { IfOk result (λ caller. caller.turnstile ≡ line.new.pass.turnstile) }
 {
     let (turnstile, pass) = line.split()?.into_parts();
@@ -68,12 +68,12 @@ fn beside(line: &mut QueueLine) -> Result<OneCaller, AllocError>
 }
 
 /// Lines of so many empty queues, and callers of them.
-pub fn open_all(
+pub fn open_all<H: StoredHistory<Op, Reply>>(
     alloc: Global,
     count: usize,
     limits: Limits,
     history: u64,
-) -> Result<(Vec<QueueLine>, Vec<OneCaller>), AllocError>
+) -> Result<(Vec<QueueLine<H>>, Vec<OneCaller<H>>), AllocError>
     requires { AreLimits limits }
     ensures beside { IfOk result (λ r. turnstiles r.1.items ≡ places r.0.items) }
     ensures many { IfOk result (λ r. length r.0.items ≡ count) }
@@ -89,16 +89,20 @@ pub fn open_all(
 }
 
 // A caller of a queue that nobody else calls.
-fn only_caller(alloc: Global, queue: usize, history: u64) -> Result<OneCaller, AllocError> {
+fn only_caller<H: StoredHistory<Op, Reply>>(
+    alloc: Global,
+    queue: usize,
+    history: u64,
+) -> Result<OneCaller<H>, AllocError> {
     let (turnstile, pass) = open_queue(alloc, queue, Limits::GREATEST, history)?;
     Ok(QueueCaller::new(Arc::new(alloc, turnstile)?, pass))
 }
 
 /// A caller of two empty queues that nobody else calls, and its doorbell.
-pub fn open_two(
+pub fn open_two<H: StoredHistory<Op, Reply>>(
     alloc: Global,
     history: u64,
-) -> Result<(Arc<Doorbell, Global>, Producer), AllocError>
+) -> Result<(Arc<Doorbell, Global>, Producer<H>), AllocError>
     ensures { IfOk result (λ r. length r.1 ≡ 2) }
 {
     let mut queues = Vec::with_capacity(alloc, 2)?;
@@ -110,10 +114,10 @@ pub fn open_two(
 }
 
 /// The reply to a call at a queue, which isn't refused.
-pub fn ask<R: Wait + Abort>(
+pub fn ask<H: StoredHistory<Op, Reply>, R: Wait + Abort>(
     rt: &R,
     alloc: Global,
-    caller: &mut Producer,
+    caller: &mut Producer<H>,
     queue: usize,
     op: Op,
 ) -> Reply
@@ -143,7 +147,11 @@ pub fn alone<T, R: Abort>(rt: &R, alloc: Global, value: T) -> Vec<T>
 }
 
 /// The history of a queue, all of whose passes are joined to this caller's.
-pub fn history_of<R: Abort>(rt: &R, alloc: Global, queue: OneCaller) -> Calls {
+pub fn history_of<H: StoredHistory<Op, Reply>, R: Abort>(
+    rt: &R,
+    alloc: Global,
+    queue: OneCaller<H>,
+) -> H {
     let (shared, pass) = queue.into_parts();
     let turnstile = Arc::into_inner(shared).expect(rt, "nobody else has it");
     let Closed::Traced(done) = turnstile.close(alone(rt, alloc, pass)) else {
@@ -153,7 +161,12 @@ pub fn history_of<R: Abort>(rt: &R, alloc: Global, queue: OneCaller) -> Calls {
 }
 
 // The history of a queue, all of whose passes are joined to these two.
-fn close_queue<R: Abort>(rt: &R, alloc: Global, line: QueueLine, caller: OneCaller) -> Calls
+fn close_queue<H: StoredHistory<Op, Reply>, R: Abort>(
+    rt: &R,
+    alloc: Global,
+    line: QueueLine<H>,
+    caller: OneCaller<H>,
+) -> H
     requires { caller.turnstile ≡ line.pass.turnstile }
 {
     let (shared, pass) = line.into_parts();
@@ -163,12 +176,12 @@ fn close_queue<R: Abort>(rt: &R, alloc: Global, line: QueueLine, caller: OneCall
 }
 
 /// The histories of all queues, to which all passes came back.
-pub fn close_all<R: Abort>(
+pub fn close_all<H: StoredHistory<Op, Reply>, R: Abort>(
     rt: &R,
     alloc: Global,
-    mut lines: Vec<QueueLine>,
-    mut callers: Vec<OneCaller>,
-) -> Vec<Calls>
+    mut lines: Vec<QueueLine<H>>,
+    mut callers: Vec<OneCaller<H>>,
+) -> Vec<H>
     requires { turnstiles callers.items ≡ places lines.items }
 {
     let mut histories = Vec::new(alloc);

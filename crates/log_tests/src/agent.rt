@@ -1,4 +1,5 @@
 use crate::numbered::{events_from, tags_of};
+use crate::rows::assert_row;
 use pulling_agent::{Agent, Plan, StaleAgent};
 use std::alloc::{AllocError, Global};
 use std::process::Abort;
@@ -68,9 +69,9 @@ fn is_so(
     alloc: Global,
     agent: &mut Agent,
     queue: &[Event],
-    call: Call,
+    call: &Call,
 ) -> Result<bool, AllocError> {
-    match call {
+    match *call {
         Call::Pull(max_events, least, plan) => {
             Ok(pull(rt, alloc, agent, queue, max_events, least)? == plan)
         }
@@ -80,6 +81,21 @@ fn is_so(
         Call::TakeOver(silo, at, generation) => Ok(takes_over(agent, silo, at, generation)),
         Call::Is(generation, silo) => Ok((agent.generation(), agent.silo()) == (generation, silo)),
     }
+}
+
+/// Asks an agent over a queue.
+fn ask(
+    rt: &impl Abort,
+    alloc: Global,
+    agent: &mut Agent,
+    queue: &[Event],
+    case: &str,
+    calls: &[Call],
+) -> Result<(), AllocError> {
+    for (row, call) in calls.iter().enumerate() {
+        assert_row(rt, case, row, is_so(rt, alloc, agent, queue, call)?);
+    }
+    Ok(())
 }
 
 /// Asks a new agent with room for so many blocks, over a queue of so many events.
@@ -92,12 +108,7 @@ fn check(
 ) -> Result<(), Fail> {
     let queue = events_from(alloc, 0, events)?;
     let mut agent = new_agent(rt, alloc, blocks)?;
-    for (row, call) in calls.iter().enumerate() {
-        assert!(rt;
-            is_so(rt, alloc, &mut agent, queue.as_slice(), *call)?,
-            "{case}: row {row}"
-        );
-    }
+    ask(rt, alloc, &mut agent, queue.as_slice(), case, calls)?;
     Ok(())
 }
 
@@ -178,7 +189,7 @@ const REPLACED: [Call; 9] = [
 ];
 
 /// What is shown, how many events the queue has and how many blocks the cache, and what is asked.
-const CASES: [(&str, (usize, usize), &[Call]); 4] = [
+static CASES: [(&str, (usize, usize), &[Call]); 4] = [
     ("one block waits for the least resume", (65, 1), &WAITING),
     ("two blocks are purged", (65, 2), &PURGED),
     ("a pull brings 1 to 256 events", (300, 4), &PULLED),

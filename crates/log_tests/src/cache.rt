@@ -1,4 +1,5 @@
 use crate::numbered::{event, events_from, tags_of};
+use crate::rows::{assert_at, assert_row};
 use queue_cache::{BLOCK_SIZE, QueueCache};
 use queue_mapper::tag;
 use std::alloc::{AllocError, Global};
@@ -116,14 +117,14 @@ fn is_at(cache: &QueueCache, position: usize, wanted: &Event) -> bool {
 fn check_events(rt: &impl Abort, cache: &QueueCache, more: usize) -> Result<(), Fail> {
     for position in cache.low()..cache.high() {
         let wanted = event(position.wrapping_add(more))?;
-        assert!(rt; is_at(cache, position, &wanted), "position {position}");
+        assert_at(rt, position, is_at(cache, position, &wanted));
     }
     Ok(())
 }
 
 /// Whether this is seen of a cache.
-fn is_seen(cache: &QueueCache, call: Call) -> bool {
-    match call {
+fn is_seen(cache: &QueueCache, call: &Call) -> bool {
+    match *call {
         Call::Bounds(low, high) => cache.low() == low && cache.high() == high,
         Call::Room(room, count, blocks) => {
             cache.room() == room && cache.block_count() == count && cache.blocks() == blocks
@@ -133,8 +134,13 @@ fn is_seen(cache: &QueueCache, call: Call) -> bool {
 }
 
 /// Makes a call.
-fn perform(rt: &impl Abort, alloc: Global, cache: &mut QueueCache, call: Call) -> Result<(), Fail> {
-    match call {
+fn perform(
+    rt: &impl Abort,
+    alloc: Global,
+    cache: &mut QueueCache,
+    call: &Call,
+) -> Result<(), Fail> {
+    match *call {
         Call::Take(first, count) => return take_from(rt, alloc, cache, first, count),
         Call::Turn(times, count) => return turn(rt, alloc, cache, times, count),
         Call::Events(more) => return check_events(rt, cache, more),
@@ -155,8 +161,8 @@ fn check(
 ) -> Result<(), Fail> {
     let mut cache = new_cache(rt, alloc, blocks, at)?;
     for (row, call) in calls.iter().enumerate() {
-        perform(rt, alloc, &mut cache, *call)?;
-        assert!(rt; is_seen(&cache, *call), "{case}: row {row}");
+        perform(rt, alloc, &mut cache, call)?;
+        assert_row(rt, case, row, is_seen(&cache, call));
     }
     Ok(())
 }
@@ -204,7 +210,7 @@ const DROPPED: [Call; 6] = [
 ];
 
 /// What is shown, how many blocks a cache has and where it begins, and what is done to it.
-const CASES: [(&str, (usize, usize), &[Call]); 4] = [
+static CASES: [(&str, (usize, usize), &[Call]); 4] = [
     ("events fill two blocks", (2, 5), &FILLED),
     ("blocks turn", (3, 0), &TURNED),
     ("a cache is reset", (2, 0), &RESET),

@@ -1,6 +1,7 @@
 ghost use Rattle.std.specs.Prelude.{◌+◌, ◌^◌, ◌<◌, ◌≤◌, length, IfSome};
 
 use crate::random::Random;
+use crate::rows::{assert_at, assert_row};
 use least_tree::LeastTree;
 use std::alloc::{AllocError, Global};
 use std::process::Abort;
@@ -49,24 +50,42 @@ fn least_place(keys: &[Option<usize>]) -> Option<usize> {
     }
 }
 
+/// Whether a tree has these keys.
+fn has_keys(tree: &LeastTree, keys: &[Option<usize>]) -> bool {
+    if tree.len() != keys.len() {
+        return false;
+    }
+    for (place, key) in keys.iter().enumerate() {
+        if tree.get(place) != *key {
+            return false;
+        }
+    }
+    tree.is_empty() == keys.is_empty()
+}
+
+/// Whether the first key from a place on that is at most so great is that of a plain loop.
+fn is_first(tree: &LeastTree, keys: &[Option<usize>], from: usize, bound: usize) -> bool {
+    tree.first_at_most(from, bound) == first_at_most(keys, from, bound)
+}
+
+/// Whether that is so from the first place, the middle, the end, any place, and far behind the end.
+fn are_first(tree: &LeastTree, keys: &[Option<usize>], any: usize, bound: usize) -> bool {
+    is_first(tree, keys, 0, bound)
+        && is_first(tree, keys, keys.len() / 2, bound)
+        && is_first(tree, keys, keys.len(), bound)
+        && is_first(tree, keys, any, bound)
+        && is_first(tree, keys, usize::MAX, bound)
+}
+
+static BOUNDS: [usize; 5] = [0, 1, 3, 6, usize::MAX];
+
 /// Each answer of a tree is that of plain loops over its keys.
 fn assert_agree(rt: &impl Abort, tree: &LeastTree, keys: &[Option<usize>], random: &mut Random) {
-    let len = keys.len();
-    assert!(rt; tree.len() == len);
-    assert!(rt; tree.is_empty() == (len == 0));
-    for place in 0..len {
-        assert!(rt; tree.get(place) == keys[place], "at {place}");
-    }
-    assert!(rt; tree.least_key() == least_key(keys));
-    assert!(rt; tree.least() == least_place(keys));
-    for bound in [0, 1, 3, 6, usize::MAX] {
-        for from in [0, len / 2, len, random.below(len + 1), usize::MAX] {
-            let place = first_at_most(keys, from, bound);
-            assert!(rt;
-                tree.first_at_most(from, bound) == place,
-                "from {from}, {bound}"
-            );
-        }
+    assert!(rt; has_keys(tree, keys));
+    assert!(rt; tree.least_key() == least_key(keys) && tree.least() == least_place(keys));
+    for bound in &BOUNDS {
+        let any = random.below(keys.len() + 1);
+        assert_at(rt, *bound, are_first(tree, keys, any, *bound));
     }
 }
 
@@ -85,9 +104,7 @@ fn insert(
     if tree.insert(alloc, place, key).is_ok() {
         return Ok(());
     }
-    assert!(rt; tree.len() == len);
-    assert!(rt; tree.least() == least);
-    assert!(rt; tree.first_at_most(0, 4) == first);
+    assert!(rt; tree.len() == len && tree.least() == least && tree.first_at_most(0, 4) == first);
     tree.insert(alloc, place, key)
 }
 
@@ -173,9 +190,9 @@ fn is_so(
     rt: &impl Abort,
     alloc: Global,
     tree: &mut LeastTree,
-    call: Call,
+    call: &Call,
 ) -> Result<bool, AllocError> {
-    match call {
+    match *call {
         Call::Insert(place, key) => {
             assert!(rt; key < usize::MAX);
             insert(rt, alloc, tree, place, Some(key))?;
@@ -187,7 +204,7 @@ fn is_so(
     Ok(true)
 }
 
-const EQUAL: [Call; 9] = [
+static EQUAL: [Call; 9] = [
     Call::Insert(0, 4),
     Call::Insert(0, 2),
     Call::InsertNone(0),
@@ -199,7 +216,7 @@ const EQUAL: [Call; 9] = [
     Call::First(4, 4, Some(4)),
 ];
 
-const NONE: [Call; 19] = [
+static NONE: [Call; 19] = [
     Call::Least(None, None),
     Call::First(0, usize::MAX, None),
     Call::InsertNone(0),
@@ -225,7 +242,7 @@ const NONE: [Call; 19] = [
 fn check(rt: &impl Abort, alloc: Global, case: &str, calls: &[Call]) -> Result<(), AllocError> {
     let mut tree = LeastTree::new(alloc);
     for (row, call) in calls.iter().enumerate() {
-        assert!(rt; is_so(rt, alloc, &mut tree, *call)?, "{case}: row {row}");
+        assert_row(rt, case, row, is_so(rt, alloc, &mut tree, call)?);
     }
     Ok(())
 }

@@ -22,4 +22,6 @@ mod random;
 #[cfg(test)]
 mod resumes;
 #[cfg(test)]
+mod rows;
+#[cfg(test)]
 mod tags;

@@ -1,3 +1,4 @@
+use crate::rows::assert_at;
 use queue_mapper::{Place, place, tag};
 use std::alloc::Global;
 use std::test::Fail;
@@ -5,7 +6,7 @@ use stream_ident::StreamId;
 
 /// Streams, their tags, and their queues among so many. The first four are those that another implementation of
 /// SHA-256 gives, the others those of `sha256sum`.
-const PLACES: [(&[u8], &[u8], u8, &[(usize, usize)]); 12] = [
+static PLACES: [(&[u8], &[u8], u8, &[(usize, usize)]); 12] = [
     (b"o", b"k", 41, &[(1, 0), (2, 1), (3, 1), (64, 37)]),
     (b"orders", b"7", 36, &[(1, 0), (2, 0), (3, 2), (64, 26)]),
     (b"a", b"b", 29, &[(1, 0), (2, 1), (3, 2), (64, 19)]),
@@ -32,16 +33,21 @@ fn is_placed(stream: &StreamId, count: usize, queue: usize, tag: u8) -> bool {
         && queue_mapper::queue(stream, count) == queue
 }
 
+/// Whether a stream has each of these places, among so many queues.
+fn are_placed(stream: &StreamId, tag: u8, queues: &[(usize, usize)]) -> bool {
+    for (count, queue) in queues {
+        if !is_placed(stream, *count, *queue, tag) {
+            return false;
+        }
+    }
+    true
+}
+
 #[test]
 fn places_are_those_of_the_digest(rt: HostRuntime) -> Result<(), Fail> {
     for (row, (namespace, key, tag, queues)) in PLACES.iter().enumerate() {
         let stream = StreamId::new(namespace, key)?;
-        for (count, queue) in *queues {
-            assert!(rt;
-                is_placed(&stream, *count, *queue, *tag),
-                "row {row}, among {count}"
-            );
-        }
+        assert_at(&rt, row, are_placed(&stream, *tag, queues));
     }
     Ok(())
 }

@@ -1,4 +1,5 @@
 //! What no clause says: that a call succeeds, and what want of memory leaves.
+use crate::rows::{assert_at, assert_row};
 use partition_queue::{Appended, Excerpt, PartitionQueue};
 use queue_mapper::tag;
 use std::alloc::{AllocError, Global};
@@ -51,7 +52,7 @@ fn are_alike_at(queue: &PartitionQueue, twin: &PartitionQueue, position: usize) 
 fn compare(rt: &impl Abort, queue: &PartitionQueue, twin: &PartitionQueue) {
     assert!(rt; queue.len() == twin.len() && queue.batches() == twin.batches());
     for position in 0..queue.len() {
-        assert!(rt; are_alike_at(queue, twin, position), "at {position}");
+        assert_at(rt, position, are_alike_at(queue, twin, position));
     }
 }
 
@@ -144,9 +145,9 @@ fn is_so(
     queue: &mut PartitionQueue,
     twin: &mut PartitionQueue,
     excerpt: &mut Excerpt,
-    call: Call,
+    call: &Call,
 ) -> Result<bool, Fail> {
-    match call {
+    match *call {
         Call::Append(key, count, became) => {
             becomes(rt, alloc, queue, twin, (key, count), became)
         }
@@ -171,10 +172,8 @@ fn ask(
     (case, calls): (&str, &[Call]),
 ) -> Result<(), Fail> {
     for (row, call) in calls.iter().enumerate() {
-        assert!(rt;
-            is_so(rt, alloc, queue, twin, excerpt, *call)?,
-            "{case}: row {row}"
-        );
+        let is_so = is_so(rt, alloc, queue, twin, excerpt, call)?;
+        assert_row(rt, case, row, is_so);
     }
     Ok(())
 }
@@ -246,7 +245,7 @@ const READ: [Call; 5] = [
 ];
 
 /// How many events a log may have, what is shown, and what is asked.
-const CASES: [(usize, (&str, &[Call])); 4] = [
+static CASES: [(usize, (&str, &[Call])); 4] = [
     (66, ("batches are counted from 0", &COUNTED)),
     (10, ("tokens are counted in a batch", &TOKENS)),
     (10, ("events are read by position", &EVENTS)),

@@ -2,6 +2,7 @@ ghost use Rattle.std.specs.Prelude.{◌≡◌, ◌<◌, true, length};
 ghost use Rattle.resume_tree.specs.Leaves.{IsNew};
 
 use crate::random::Random;
+use crate::rows::{assert_at, assert_row};
 use resume_tree::{Leaf, Resumes};
 use std::alloc::{AllocError, Global};
 use std::process::Abort;
@@ -133,11 +134,13 @@ fn next_due(leaves: &[Leaf], after: Option<&SubName>, high: usize) -> Option<Sub
     }
 }
 
+static HIGHS: [usize; 5] = [0, 1, 4, 9, usize::MAX];
+
 /// The next that is due is that of plain loops over the leaves.
 fn assert_due(rt: &impl Abort, resumes: &Resumes, leaves: &[Leaf], after: Option<&SubName>) {
-    for high in [0, 1, 4, 9, usize::MAX] {
-        let next = next_due(leaves, after, high);
-        assert!(rt; due_after(resumes, after, high) == next, "{high}");
+    for high in &HIGHS {
+        let next = next_due(leaves, after, *high);
+        assert_at(rt, *high, due_after(resumes, after, *high) == next);
     }
 }
 
@@ -146,7 +149,7 @@ fn assert_due_past(rt: &impl Abort, resumes: &Resumes, leaves: &[Leaf]) {
     for number in 0..resumes.len() {
         let next = due_past(resumes, leaves, number, 4);
         let name = resumes.leaf(number).name;
-        assert!(rt; next == next_due(leaves, Some(&name), 4), "at {number}");
+        assert_at(rt, number, next == next_due(leaves, Some(&name), 4));
     }
 }
 
@@ -156,7 +159,7 @@ fn assert_agree(rt: &impl Abort, resumes: &Resumes, leaves: &[Leaf], after: SubN
     assert!(rt; resumes.len() == len);
     assert!(rt; resumes.is_empty() == (len == 0));
     for number in 0..len {
-        assert!(rt; *resumes.leaf(number) == leaves[number], "at {number}");
+        assert_at(rt, number, *resumes.leaf(number) == leaves[number]);
     }
     assert!(rt; resumes.least_resume() == least_resume(leaves));
     assert!(rt; top(resumes) == slowest(leaves));
@@ -223,6 +226,28 @@ fn change(rt: &impl Abort, resumes: &mut Resumes, leaves: &mut [Leaf], random: &
     leaves[number].is_unacknowledged = is_unacknowledged;
 }
 
+/// Adds a leaf to both, where it isn't there.
+fn push_new(
+    rt: &impl Abort,
+    alloc: Global,
+    resumes: &mut Resumes,
+    leaves: &mut Vec<Leaf>,
+    random: &mut Random,
+    name: &SubName,
+) -> Result<(), AllocError> {
+    if is_new(resumes, name) {
+        push(rt, alloc, resumes, leaves, *name, random.below(9))?;
+    }
+    Ok(())
+}
+
+/// Takes back the last leaves of both, as many as come.
+fn shrink(resumes: &mut Resumes, leaves: &mut Vec<Leaf>, random: &mut Random) {
+    let kept = random.below(leaves.len() + 1);
+    resumes.truncate(kept);
+    leaves.truncate(kept);
+}
+
 /// Adds, changes and takes back leaves of both, as they come.
 fn vary(
     rt: &impl Abort,
@@ -234,19 +259,12 @@ fn vary(
     let (one, other) = (Name::new(b"a")?, Name::new(b"b")?);
     for _step in 0..150 {
         let name = any_name(random, one, other);
-        if is_new(resumes, &name) {
-            push(rt, alloc, resumes, leaves, name, random.below(9))?;
-        }
+        push_new(rt, alloc, resumes, leaves, random, &name)?;
         change(rt, resumes, leaves.as_mut_slice(), random);
-        let after = any_name(random, one, other);
-        assert_agree(rt, resumes, leaves.as_slice(), after);
+        assert_agree(rt, resumes, leaves, any_name(random, one, other));
         if random.below(8) == 0 {
-            let len = leaves.len();
-            let kept = random.below(len + 1);
-            resumes.truncate(kept);
-            leaves.truncate(kept);
-            let after = any_name(random, one, other);
-            assert_agree(rt, resumes, leaves.as_slice(), after);
+            shrink(resumes, leaves, random);
+            assert_agree(rt, resumes, leaves, any_name(random, one, other));
         }
     }
     Ok(())
@@ -295,8 +313,8 @@ fn due_of(resumes: &Resumes, after: Option<Named>, high: usize) -> Result<Option
 }
 
 /// Whether a call is answered so.
-fn is_so(rt: &impl Abort, resumes: &mut Resumes, call: Call) -> Result<bool, Fail> {
-    match call {
+fn is_so(rt: &impl Abort, resumes: &mut Resumes, call: &Call) -> Result<bool, Fail> {
+    match *call {
         Call::Set(number, resume, is_unacknowledged) => {
             set(rt, resumes, number, resume, is_unacknowledged);
         }
@@ -338,6 +356,14 @@ fn fill(
     Ok(())
 }
 
+/// Asks resumes.
+fn ask(rt: &impl Abort, resumes: &mut Resumes, case: &str, calls: &[Call]) -> Result<(), Fail> {
+    for (row, call) in calls.iter().enumerate() {
+        assert_row(rt, case, row, is_so(rt, resumes, call)?);
+    }
+    Ok(())
+}
+
 /// Asks new resumes of open leaves with these names and one resume.
 fn check(
     rt: &impl Abort,
@@ -348,10 +374,7 @@ fn check(
 ) -> Result<(), Fail> {
     let mut resumes = Resumes::new(alloc);
     fill(rt, alloc, &mut resumes, names, resume)?;
-    for (row, call) in calls.iter().enumerate() {
-        assert!(rt; is_so(rt, &mut resumes, *call)?, "{case}: row {row}");
-    }
-    Ok(())
+    ask(rt, &mut resumes, case, calls)
 }
 
 const ALL: [Named; 4] = [
@@ -420,7 +443,7 @@ const UNACKNOWLEDGED: [Call; 8] = [
 ];
 
 /// What is shown, the names of leaves with their resume, and what is asked.
-const CASES: [(&str, (&[Named], usize), &[Call]); 7] = [
+static CASES: [(&str, (&[Named], usize), &[Call]); 7] = [
     (
         "a tie of four",
         (&ALL, 4),

@@ -1,43 +1,46 @@
 use crate::random::Random;
+use crate::rows::assert_at;
 use tag_scan::{count_tag, find_tag, mask};
 
 const BLOCK: usize = 64;
 
+/// A block of one tag but for the last.
+static TAGS: [u8; BLOCK] = [
+    7, 7, 7, 7, 7, 7, 7, 7, 7, 7, 7, 7, 7, 7, 7, 7, 7, 7, 7, 7, 7, 7, 7, 7, 7, 7, 7, 7, 7, 7, 7, 7,
+    7, 7, 7, 7, 7, 7, 7, 7, 7, 7, 7, 7, 7, 7, 7, 7, 7, 7, 7, 7, 7, 7, 7, 7, 7, 7, 7, 7, 7, 7, 7, 9,
+];
+
 #[test]
 fn a_block_of_tags(rt: HostRuntime) {
-    let mut tags = [7; BLOCK];
-    tags[63] = 9;
-    assert!(rt; find_tag(&tags, 0, 9) == Some(63));
-    assert!(rt; find_tag(&tags, 1, 7) == Some(1));
-    assert!(rt; find_tag(&tags, 64, 7) == None);
-    assert!(rt; mask(&tags, 9) == 9223372036854775808);
-    assert!(rt; count_tag(&tags, 7) == 63);
+    assert!(rt; find_tag(&TAGS, 0, 9) == Some(63));
+    assert!(rt; find_tag(&TAGS, 1, 7) == Some(1));
+    assert!(rt; find_tag(&TAGS, 64, 7) == None);
+    assert!(rt; mask(&TAGS, 9) == 9223372036854775808);
+    assert!(rt; count_tag(&TAGS, 7) == 63);
 }
 
 #[test]
 fn one_tag_behind_a_vector(rt: HostRuntime) {
-    let mut tags = [7; 33];
-    tags[32] = 9;
-    assert!(rt; find_tag(&tags, 0, 9) == Some(32));
+    assert!(rt; find_tag(&TAGS[31..], 0, 9) == Some(32));
 }
 
-/// Each length from 0 to 130 and each start, also past the end, against loops over single tags.
+/// Whether a tag is counted, and found from each start, also past the end, as loops over single tags have it.
+fn is_listed(list: &[u8], tag: u8) -> bool {
+    for from in 0..132 {
+        if find_tag(list, from, tag) != plain_find(list, from, tag) {
+            return false;
+        }
+    }
+    count_tag(list, tag) == plain_count(list, tag)
+}
+
+/// Each length from 0 to 130.
 #[test]
 fn lists_as_plain_loops_have_it(rt: HostRuntime) {
     let tags = mixed_tags();
     for length in 0..131 {
-        let list = &tags[..length];
         for tag in 0..6 {
-            assert!(rt;
-                count_tag(list, tag) == plain_count(list, tag),
-                "{tag} of {length}"
-            );
-            for from in 0..length + 2 {
-                assert!(rt;
-                    find_tag(list, from, tag) == plain_find(list, from, tag),
-                    "{tag} of {length} from {from}"
-                );
-            }
+            assert_at(&rt, length, is_listed(&tags[..length], tag));
         }
     }
 }
@@ -50,10 +53,7 @@ fn masks_as_plain_loops_have_them(rt: HostRuntime) {
     for start in 0..67 {
         block.copy_from_slice(&tags[start..start + BLOCK]);
         for tag in 0..6 {
-            assert!(rt;
-                mask(&block, tag) == plain_mask(&block, tag),
-                "{tag} from {start}"
-            );
+            assert_at(&rt, start, mask(&block, tag) == plain_mask(&block, tag));
         }
     }
 }

@@ -4,7 +4,7 @@ ghost use Rattle.std.specs.Prelude.{◌<◌};
 use step_core::{DrainEnd, Op, Pending, Reply};
 
 /// The names of the operations.
-pub const OPERATIONS: [&str; 16] = [
+pub static OPERATIONS: [&str; 16] = [
     "Publish",
     "Subscribe",
     "Unsubscribe",
@@ -75,7 +75,7 @@ pub fn keeps_more(reply: &Reply) -> bool {
 }
 
 /// The names of the replies. Each reason why a partition isn't quiet has one of its own.
-pub const REPLIES: [&str; 42] = [
+pub static REPLIES: [&str; 42] = [
     "Published",
     "QueueFull",
     "BadBatch",
@@ -180,7 +180,7 @@ fn pending_kind(why: &Pending) -> usize
 }
 
 /// The names of the ends of drains.
-pub const ENDS: [&str; 4] = ["Drained", "Stuck", "TooMany", "Spent"];
+pub static ENDS: [&str; 4] = ["Drained", "Stuck", "TooMany", "Spent"];
 
 /// The place of an end's name.
 pub fn end_kind(end: &DrainEnd) -> usize

@@ -1,11 +1,23 @@
-//! Tests of a partition through its public calls: runs of operations, drains, and each limit.
+//! Tests of names, of the crates that follow who subscribes and what grains are delivered and have handled, and of a
+//! partition as a whole, through their public calls: the registry, subscriptions, mailboxes and turns, and a partition's
+//! runs of operations, its drains, and each of its limits.
 #![tactic(auto)]
 
 #[cfg(test)]
-mod drains;
+mod activations;
 #[cfg(test)]
-mod fixture;
+mod grains;
 #[cfg(test)]
-mod limits;
+mod identities;
 #[cfg(test)]
-mod operations;
+mod names;
+#[cfg(test)]
+mod partition;
+#[cfg(test)]
+mod registry;
+#[cfg(test)]
+mod rows;
+#[cfg(test)]
+mod sub_states;
+#[cfg(test)]
+mod subscriptions;

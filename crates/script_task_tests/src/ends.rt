@@ -3,13 +3,12 @@ ghost use Rattle.stream_cluster.specs.Clusters.{IsConfig};
 
 use cluster_scripts::Unfinished;
 use script_tasks::{ProgramFault, run_config, run_on_silos};
-use std::test::Fail;
 use stream_cluster::Config;
 use stream_script::Counted;
 
 /// What a run has too little of. A run of the usual size has too few rules for a script with 65 of them.
-#[derive(Clone, Copy, Debug)]
-enum Small {
+#[derive(Clone, Copy)]
+pub enum Small {
     Rules,
     Events,
     History,
@@ -33,49 +32,92 @@ const RULES: &[u8] = b"unsub 0:7\n\
 const EVENTS: &[u8] =
     b"unsub 0:7\nsub o/k g/x latest\npub o/k \"a\"\npub o/k \"b\"\npub o/k \"c\"\n";
 
-/// What is small, the script, and why there is no report then.
-const ENDS: [(Small, &[u8], Unfinished); 5] = [
-    (Small::Rules, RULES, Unfinished::Limit),
-    (Small::Events, EVENTS, Unfinished::Limit),
-    (Small::History, EVENTS, Unfinished::Limit),
-    (Small::Rounds, EVENTS, Unfinished::RoundLimit),
-    (Small::Looks, EVENTS, Unfinished::NotQuiet),
+/// A script whose third event is published behind two lines that are done, and is one too many.
+pub const STORY: &[u8] =
+    b"unsub 0:1\nsub o/k g/x latest\npub o/k \"a\" \"b\"\npub o/k \"c\"\nunsub 0:2\n";
+
+/// A run of a script that has too little of something, and why there is no report then. Each prints the line that was
+/// refused before it came to the limit.
+struct End {
+    small: Small,
+    silos: u32,
+    script: &'static [u8],
+    why: Unfinished,
+}
+
+const ENDS: [End; 6] = [
+    End {
+        small: Small::Rules,
+        silos: 2,
+        script: RULES,
+        why: Unfinished::Limit,
+    },
+    End {
+        small: Small::Events,
+        silos: 2,
+        script: EVENTS,
+        why: Unfinished::Limit,
+    },
+    End {
+        small: Small::Events,
+        silos: 2,
+        script: STORY,
+        why: Unfinished::Limit,
+    },
+    End {
+        small: Small::History,
+        silos: 2,
+        script: EVENTS,
+        why: Unfinished::Limit,
+    },
+    End {
+        small: Small::Rounds,
+        silos: 2,
+        script: EVENTS,
+        why: Unfinished::RoundLimit,
+    },
+    End {
+        small: Small::Looks,
+        silos: 2,
+        script: EVENTS,
+        why: Unfinished::NotQuiet,
+    },
 ];
 
-/// A cluster with too little of something. A loop that may begin no round ends at its first step, and a drain that may not
-/// look gives up at once.
-fn config_with(small: Small) -> Config
+/// The same cluster with too little of something. A loop that may begin no round ends at its first step, and a drain that
+/// may not look gives up at once.
+pub fn lessened(config: Config, small: Small) -> Config
+    requires { IsConfig config }
     ensures { IsConfig result }
 {
-    let mut config = run_config(1, 4, 2);
+    let mut config = config;
     match small {
         Small::Rules => {}
         Small::Events => config.limits.events = 2,
-        Small::History => config.history = 5,
+        Small::History => config.history = 10,
         Small::Rounds => config.rounds = 0,
         Small::Looks => config.looks = 0,
     }
     config
 }
 
-#[test]
-fn a_run_that_meets_a_limit_ends_with_status_four(rt: HostRuntime) -> Result<(), Fail> {
-    for (small, script, why) in ENDS {
-        let mut source = Counted::new(script);
-        let mut written = Vec::new(rt.alloc());
-        let config = config_with(small);
-        let Err(fault) = run_on_silos(&rt, rt.alloc(), &config, &mut source, &mut written) else {
-            return Err(Fail::from("the run has a report"));
-        };
-        assert!(rt; fault.status() == 4, "{small:?}");
-        assert!(rt;
-            matches!(fault, ProgramFault::Unfinished(found) if found == why),
-            "{small:?}"
-        );
-        assert!(rt;
-            written.as_slice() == b"refused 1\n".as_slice(),
-            "{small:?}"
-        );
+fn is_unfinished(ended: &Result<(), ProgramFault>, why: Unfinished) -> bool {
+    match ended {
+        Err(fault) => {
+            matches!(fault, ProgramFault::Unfinished(found) if *found == why) && fault.status() == 4
+        }
+        Ok(()) => false,
     }
-    Ok(())
+}
+
+#[test]
+fn a_run_that_meets_a_limit_ends_with_status_four(rt: HostRuntime) {
+    for end in &ENDS {
+        let mut source = Counted::new(end.script);
+        let mut written = Vec::new(rt.alloc());
+        let config = lessened(run_config(1, 4, end.silos), end.small);
+        let ended = run_on_silos(&rt, rt.alloc(), &config, &mut source, &mut written);
+        assert!(rt; is_unfinished(&ended, end.why));
+        assert!(rt; written.as_slice() == b"refused 1\n".as_slice());
+    }
 }

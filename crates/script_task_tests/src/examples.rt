@@ -16,22 +16,23 @@ fn indented(alloc: Global, text: &str) -> Result<Vec<u8>, AllocError> {
     Ok(lines)
 }
 
-/// Examples, the words that stand behind their scripts, and what is done with these.
-const EXAMPLES: [(&str, &str, Doing); 2] = [
-    (SIM_EXAMPLE, "Each command", Doing::Simulating),
-    (RUN_EXAMPLE, "At the end", Doing::RunningOnTwoSilos),
+/// Examples, the words that stand behind their scripts, and what is done with these on how many silos.
+const EXAMPLES: [(&str, &str, Doing, u32); 2] = [
+    (SIM_EXAMPLE, "Each command", Doing::Simulating, 1),
+    (RUN_EXAMPLE, "At the end", Doing::Running, 2),
 ];
 
 #[test]
 fn the_examples_hold(rt: HostRuntime) -> Result<(), Fail> {
     let alloc = rt.alloc();
-    for (text, behind, doing) in EXAMPLES {
+    for (text, behind, doing, silos) in EXAMPLES {
         let Some((script, printed)) = text.split_once(behind) else {
             return Err(Fail::from("no example"));
         };
         let (script, printed) = (indented(alloc, script)?, indented(alloc, printed)?);
         let mut text = Vec::new(alloc);
-        let outcome = perform_task(&rt, alloc, task_of(doing), script.as_slice(), &mut text);
+        let task = task_of(doing, 1, 4, silos);
+        let outcome = perform_task(&rt, alloc, task, script.as_slice(), &mut text);
         assert!(rt; outcome.is_ok());
         assert!(rt; text.as_slice() == printed.as_slice());
     }

@@ -1,10 +1,12 @@
 //! What is told of each fault, and the status that the program ends with.
+use crate::words::owned;
 use cluster_scripts::Unfinished;
 use script_tasks::{ProgramFault, parse_options};
-use std::alloc::{AllocError, Global};
+use std::alloc::Global;
 use std::cell::Cell;
 use std::fmt::Display;
 use std::io::{self, ErrorKind};
+use std::process::ExitCode;
 use std::test::Fail;
 use stream_script::{Fault, FaultKind, SimError};
 
@@ -93,20 +95,22 @@ fn reported(
     fault: &ProgramFault,
     text: &str,
     is_closed: bool,
-) -> Result<(Prints, String), AllocError> {
+) -> (Prints, ExitCode) {
     let console = Console {
         alloc,
         text,
         is_closed,
-        prints: Cell::new(Prints {
-            told: 0,
-            other: 0,
-            shown: 0,
-        }),
+        prints: Cell::new(NOTHING),
     };
     let code = fault.report(&console);
-    Ok((console.prints.get(), format!(in alloc; "{code:?}")?))
+    (console.prints.get(), code)
 }
+
+const NOTHING: Prints = Prints {
+    told: 0,
+    other: 0,
+    shown: 0,
+};
 
 /// What is printed where a fault is told once on standard error, and nothing else is printed.
 const TOLD_ONCE: Prints = Prints {
@@ -116,66 +120,131 @@ const TOLD_ONCE: Prints = Prints {
 };
 
 /// Whether the fault is told once, in this text, and ends with this status.
-fn is_told(
-    alloc: Global,
-    fault: &ProgramFault,
-    text: &str,
-    status: u8,
-) -> Result<bool, AllocError> {
-    let line = format!(in alloc; "{text}\n")?;
-    let (prints, code) = reported(alloc, fault, line.as_str(), false)?;
-    let wanted = format!(in alloc; "ExitCode(unix_exit_status({status}))")?;
-    Ok(prints == TOLD_ONCE && code.as_str() == wanted.as_str() && fault.status() == status)
+fn is_told(alloc: Global, fault: &ProgramFault, text: &str, status: u8) -> bool {
+    let (prints, code) = reported(alloc, fault, text, false);
+    prints == TOLD_ONCE && code == ExitCode::from(status) && fault.status() == status
 }
 
-/// Faults of reading and writing, and their texts.
-const TRANSFER_FAULTS: [(SimError, &str); 3] = [
-    (SimError::ReadFault, "streams: read fault"),
-    (SimError::WriteFault, "streams: write fault"),
-    (SimError::Memory, "streams: out of memory"),
-];
-
-/// Faulty lines, and their texts.
-const LINE_FAULTS: [(usize, FaultKind, &str); 11] = [
-    (0, FaultKind::TooLong, "streams: line 0: too long"),
-    (2, FaultKind::BadByte, "streams: line 2: bad byte"),
-    (2, FaultKind::BadText, "streams: line 2: bad text"),
-    (2, FaultKind::BadCommand, "streams: line 2: bad command"),
-    (2, FaultKind::NotInSim, "streams: line 2: not in sim"),
-    (2, FaultKind::NotInRun, "streams: line 2: not in run"),
-    (2, FaultKind::WordCount, "streams: line 2: word count"),
-    (2, FaultKind::BadName, "streams: line 2: bad name"),
-    (2, FaultKind::BadNumber, "streams: line 2: bad number"),
-    (2, FaultKind::BadToken, "streams: line 2: bad token"),
-    (2, FaultKind::NoQueue, "streams: line 2: no queue"),
+/// Faults of reading and writing and of lines, their texts, and the statuses that they end with.
+const FAULTS: [(SimError, &str, u8); 14] = [
+    (SimError::ReadFault, "streams: read fault\n", 3),
+    (SimError::WriteFault, "streams: write fault\n", 3),
+    (SimError::Memory, "streams: out of memory\n", 3),
+    (
+        SimError::ScriptFault(Fault {
+            line: 0,
+            kind: FaultKind::TooLong,
+        }),
+        "streams: line 0: too long\n",
+        1,
+    ),
+    (
+        SimError::ScriptFault(Fault {
+            line: 2,
+            kind: FaultKind::BadByte,
+        }),
+        "streams: line 2: bad byte\n",
+        1,
+    ),
+    (
+        SimError::ScriptFault(Fault {
+            line: 2,
+            kind: FaultKind::BadText,
+        }),
+        "streams: line 2: bad text\n",
+        1,
+    ),
+    (
+        SimError::ScriptFault(Fault {
+            line: 2,
+            kind: FaultKind::BadCommand,
+        }),
+        "streams: line 2: bad command\n",
+        1,
+    ),
+    (
+        SimError::ScriptFault(Fault {
+            line: 2,
+            kind: FaultKind::NotInSim,
+        }),
+        "streams: line 2: not in sim\n",
+        1,
+    ),
+    (
+        SimError::ScriptFault(Fault {
+            line: 2,
+            kind: FaultKind::NotInRun,
+        }),
+        "streams: line 2: not in run\n",
+        1,
+    ),
+    (
+        SimError::ScriptFault(Fault {
+            line: 2,
+            kind: FaultKind::WordCount,
+        }),
+        "streams: line 2: word count\n",
+        1,
+    ),
+    (
+        SimError::ScriptFault(Fault {
+            line: 2,
+            kind: FaultKind::BadName,
+        }),
+        "streams: line 2: bad name\n",
+        1,
+    ),
+    (
+        SimError::ScriptFault(Fault {
+            line: 2,
+            kind: FaultKind::BadNumber,
+        }),
+        "streams: line 2: bad number\n",
+        1,
+    ),
+    (
+        SimError::ScriptFault(Fault {
+            line: 2,
+            kind: FaultKind::BadToken,
+        }),
+        "streams: line 2: bad token\n",
+        1,
+    ),
+    (
+        SimError::ScriptFault(Fault {
+            line: 2,
+            kind: FaultKind::NoQueue,
+        }),
+        "streams: line 2: no queue\n",
+        1,
+    ),
 ];
 
 #[test]
-fn faults_of_a_script_are_told_once(rt: HostRuntime) -> Result<(), Fail> {
-    for (error, text) in TRANSFER_FAULTS {
-        let told = is_told(rt.alloc(), &ProgramFault::from(error), text, 3)?;
-        assert!(rt; told, "{text}");
+fn faults_of_a_script_are_told_once(rt: HostRuntime) {
+    for (error, text, status) in FAULTS {
+        assert!(rt;
+            is_told(rt.alloc(), &ProgramFault::from(error), text, status),
+            "{text}"
+        );
     }
-    for (line, kind, text) in LINE_FAULTS {
-        let error = SimError::ScriptFault(Fault { line, kind });
-        let told = is_told(rt.alloc(), &ProgramFault::from(error), text, 1)?;
-        assert!(rt; told, "{text}");
-    }
-    Ok(())
 }
 
+/// Why runs have no report, and their texts.
+const UNFINISHED: [(Unfinished, &str); 3] = [
+    (Unfinished::Limit, "streams: limit reached\n"),
+    (Unfinished::RoundLimit, "streams: round limit\n"),
+    (Unfinished::NotQuiet, "streams: not quiet\n"),
+];
+
 #[test]
-fn runs_without_a_report_are_told_once(rt: HostRuntime) -> Result<(), Fail> {
-    let cases = [
-        (Unfinished::Limit, "streams: limit reached"),
-        (Unfinished::RoundLimit, "streams: round limit"),
-        (Unfinished::NotQuiet, "streams: not quiet"),
-    ];
-    for (why, text) in cases {
-        let told = is_told(rt.alloc(), &ProgramFault::Unfinished(why), text, 4)?;
-        assert!(rt; told, "{text}");
+fn runs_without_a_report_are_told_once(rt: HostRuntime) {
+    for (why, text) in UNFINISHED {
+        assert!(rt;
+            is_told(rt.alloc(), &ProgramFault::Unfinished(why), text, 4),
+            "{text}"
+        );
     }
-    Ok(())
 }
 
 /// Words, whether standard output is closed, what is printed on standard error or none where it is the text of the
@@ -219,10 +288,7 @@ const WORDS: [(&str, bool, Option<&str>, Prints, u8); 4] = [
 
 /// The fault of a command line with this word, which asks for no task.
 fn fault_of(alloc: Global, word: &str) -> Result<ProgramFault, Fail> {
-    let words = vec![in alloc;
-        String::from_str(alloc, "streams")?,
-        String::from_str(alloc, word)?,
-    ]?;
+    let words = owned(alloc, &["streams", word])?;
     match parse_options(alloc, words.as_slice()) {
         Ok(_) => Err(Fail::from("a task")),
         Err(error) => Ok(ProgramFault::from(error)),
@@ -239,10 +305,8 @@ fn words_that_ask_for_no_task_are_told_once(rt: HostRuntime) -> Result<(), Fail>
             Some(text) => text,
             None => own.as_str(),
         };
-        let (printed, code) = reported(alloc, &fault, text, is_closed)?;
-        let wanted = format!(in alloc; "ExitCode(unix_exit_status({status}))")?;
         assert!(rt;
-            printed == prints && code.as_str() == wanted.as_str(),
+            reported(alloc, &fault, text, is_closed) == (prints, ExitCode::from(status)),
             "{word}"
         );
     }

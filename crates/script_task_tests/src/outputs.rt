@@ -1,8 +1,8 @@
 //! What comes of an output that is closed, and how often an output is written and flushed.
 use crate::tasks::{Doing, task_of};
 use script_tasks::{ProgramFault, perform_task, sim_config};
+use std::alloc::Global;
 use std::io::{self, ErrorKind, Write};
-use std::test::Fail;
 use stream_script::{Counted, Fault, FaultKind, SimError, sim};
 
 /// An output that is closed after some calls, and counts those before.
@@ -15,6 +15,17 @@ struct Output {
     writes: u32,
     flushes: u32,
     text: Vec<u8>,
+}
+
+/// An output that nothing was written to.
+fn output_of(alloc: Global, open: u32, most: usize) -> Output {
+    Output {
+        open,
+        most,
+        writes: 0,
+        flushes: 0,
+        text: Vec::new(alloc),
+    }
 }
 
 impl Output {
@@ -47,43 +58,123 @@ impl Write for Output {
 const SCRIPT: &[u8] = b"sub orders/17 clerk/17 latest\npub orders/17 \"a\"\ndrain\n";
 
 /// What is done with the script, the most bytes that a write takes, how many calls don't fail, and whether it ends well.
+struct Case {
+    doing: Doing,
+    most: usize,
+    open: u32,
+    is_done: bool,
+}
+
 /// A simulation of the script prints 41 bytes and a run of it 46, so that 8 bytes at once take six writes. The last call
 /// is the flush.
-const CASES: [(Doing, usize, u32, bool); 15] = [
-    (Doing::Simulating, 4096, 0, false),
-    (Doing::Simulating, 4096, 1, false),
-    (Doing::Simulating, 4096, 2, true),
-    (Doing::Simulating, 8, 3, false),
-    (Doing::Simulating, 8, 5, false),
-    (Doing::Simulating, 8, 6, false),
-    (Doing::RunningOnOneSilo, 4096, 0, false),
-    (Doing::RunningOnOneSilo, 4096, 1, false),
-    (Doing::RunningOnOneSilo, 4096, 2, true),
-    (Doing::RunningOnOneSilo, 8, 3, false),
-    (Doing::RunningOnOneSilo, 8, 5, false),
-    (Doing::RunningOnOneSilo, 8, 6, false),
-    (Doing::Tracing, 4096, 0, false),
-    (Doing::Tracing, 4096, 1, false),
-    (Doing::Tracing, 4096, 2, true),
+const CASES: [Case; 15] = [
+    Case {
+        doing: Doing::Simulating,
+        most: 4096,
+        open: 0,
+        is_done: false,
+    },
+    Case {
+        doing: Doing::Simulating,
+        most: 4096,
+        open: 1,
+        is_done: false,
+    },
+    Case {
+        doing: Doing::Simulating,
+        most: 4096,
+        open: 2,
+        is_done: true,
+    },
+    Case {
+        doing: Doing::Simulating,
+        most: 8,
+        open: 3,
+        is_done: false,
+    },
+    Case {
+        doing: Doing::Simulating,
+        most: 8,
+        open: 5,
+        is_done: false,
+    },
+    Case {
+        doing: Doing::Simulating,
+        most: 8,
+        open: 6,
+        is_done: false,
+    },
+    Case {
+        doing: Doing::Running,
+        most: 4096,
+        open: 0,
+        is_done: false,
+    },
+    Case {
+        doing: Doing::Running,
+        most: 4096,
+        open: 1,
+        is_done: false,
+    },
+    Case {
+        doing: Doing::Running,
+        most: 4096,
+        open: 2,
+        is_done: true,
+    },
+    Case {
+        doing: Doing::Running,
+        most: 8,
+        open: 3,
+        is_done: false,
+    },
+    Case {
+        doing: Doing::Running,
+        most: 8,
+        open: 5,
+        is_done: false,
+    },
+    Case {
+        doing: Doing::Running,
+        most: 8,
+        open: 6,
+        is_done: false,
+    },
+    Case {
+        doing: Doing::Tracing,
+        most: 4096,
+        open: 0,
+        is_done: false,
+    },
+    Case {
+        doing: Doing::Tracing,
+        most: 4096,
+        open: 1,
+        is_done: false,
+    },
+    Case {
+        doing: Doing::Tracing,
+        most: 4096,
+        open: 2,
+        is_done: true,
+    },
 ];
 
-#[test]
-fn a_closed_output_is_a_write_fault(rt: HostRuntime) -> Result<(), Fail> {
-    for (doing, most, open, is_done) in CASES {
-        let mut output = Output {
-            open,
-            most,
-            writes: 0,
-            flushes: 0,
-            text: Vec::new(rt.alloc()),
-        };
-        let so = match perform_task(&rt, rt.alloc(), task_of(doing), SCRIPT, &mut output) {
-            Ok(()) => is_done,
-            Err(fault) => !is_done && is_write_fault(&fault),
-        };
-        assert!(rt; so, "{most} bytes at once, {open} calls");
+fn is_ended(ended: &Result<(), ProgramFault>, is_done: bool) -> bool {
+    match ended {
+        Ok(()) => is_done,
+        Err(fault) => !is_done && is_write_fault(fault),
     }
-    Ok(())
+}
+
+#[test]
+fn a_closed_output_is_a_write_fault(rt: HostRuntime) {
+    for case in &CASES {
+        let mut output = output_of(rt.alloc(), case.open, case.most);
+        let task = task_of(case.doing, 1, 4, 1);
+        let ended = perform_task(&rt, rt.alloc(), task, SCRIPT, &mut output);
+        assert!(rt; is_ended(&ended, case.is_done));
+    }
 }
 
 fn is_write_fault(fault: &ProgramFault) -> bool {
@@ -148,21 +239,19 @@ const SIMULATIONS: [Simulation; 5] = [
     },
 ];
 
+fn is_left(output: &Output, case: &Simulation) -> bool {
+    output.writes == case.writes
+        && output.flushes == case.flushes
+        && output.text.as_slice() == case.text
+}
+
 #[test]
 fn each_reply_is_written_before_the_next_line_is_done(rt: HostRuntime) {
     for case in &SIMULATIONS {
         let mut source = Counted::new(case.script);
-        let mut sink = Counted::new(Output {
-            open: case.open,
-            most: 4096,
-            writes: 0,
-            flushes: 0,
-            text: Vec::new(rt.alloc()),
-        });
+        let mut sink = Counted::new(output_of(rt.alloc(), case.open, 4096));
         let ended = sim(rt.alloc(), sim_config(1, 4), &mut source, &mut sink);
         assert!(rt; ended == case.outcome);
-        let output = sink.into_inner();
-        assert!(rt; (output.writes, output.flushes) == (case.writes, case.flushes));
-        assert!(rt; output.text.as_slice() == case.text);
+        assert!(rt; is_left(&sink.into_inner(), case));
     }
 }

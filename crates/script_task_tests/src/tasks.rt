@@ -3,23 +3,21 @@ ghost use Rattle.script_tasks.specs.Tasks.{IsTask};
 
 use script_tasks::{Task, run_config, sim_config, trace_config};
 
-/// What is done with a script, with one queue and four blocks.
+/// What is done with a script.
 #[derive(Clone, Copy)]
 pub enum Doing {
     Simulating,
-    RunningOnOneSilo,
-    RunningOnTwoSilos,
+    Running,
     Tracing,
 }
 
-/// The task.
-pub fn task_of(doing: Doing) -> Task
+/// The task, with this many queues, blocks and silos. A simulation has no silos.
+pub fn task_of(doing: Doing, queues: u32, blocks: u32, silos: u32) -> Task
     ensures { IsTask result }
 {
     match doing {
-        Doing::Simulating => Task::Simulate(sim_config(1, 4)),
-        Doing::RunningOnOneSilo => Task::Run(run_config(1, 4, 1)),
-        Doing::RunningOnTwoSilos => Task::Run(run_config(1, 4, 2)),
-        Doing::Tracing => Task::Trace(trace_config(1, 4, 1)),
+        Doing::Simulating => Task::Simulate(sim_config(queues, blocks)),
+        Doing::Running => Task::Run(run_config(queues, blocks, silos)),
+        Doing::Tracing => Task::Trace(trace_config(queues, blocks, silos)),
     }
 }

@@ -1,7 +1,9 @@
 //! Traces that are simulated again.
+use crate::ends::{STORY, Small, lessened};
 use cluster_scripts::Unfinished;
 use script_tasks::{ProgramFault, sim_config, trace_config, trace_on_silos};
 use std::alloc::{AllocError, Global};
+use std::str;
 use std::test::Fail;
 use stream_script::{Counted, sim};
 
@@ -44,18 +46,46 @@ fn a_trace_is_simulated_with_the_same_replies(rt: HostRuntime) -> Result<(), Fai
     Ok(())
 }
 
+/// Three events, of which the third is one too many.
+const EVENTS: &[u8] = b"pub orders/17 \"a\"\npub orders/17 \"b\"\npub orders/17 \"c\"\n";
+
+/// What is small, on how many silos, the script, and what its trace tells.
+struct Limit {
+    small: Small,
+    silos: u32,
+    script: &'static [u8],
+    comment: &'static str,
+}
+
+const LIMITS: [Limit; 3] = [
+    Limit {
+        small: Small::Events,
+        silos: 1,
+        script: EVENTS,
+        comment: "\n# 0 queue-full\n",
+    },
+    Limit {
+        small: Small::Events,
+        silos: 2,
+        script: STORY,
+        comment: "\n# 0 queue-full\n",
+    },
+    Limit {
+        small: Small::History,
+        silos: 1,
+        script: STORY,
+        comment: "\n# 0 ",
+    },
+];
+
 #[test]
-fn a_run_that_meets_a_limit_is_traced(rt: HostRuntime) -> Result<(), Fail> {
-    let script = b"pub orders/17 \"a\"\npub orders/17 \"b\"\npub orders/17 \"c\"\n";
-    let mut source = Counted::new(script.as_slice());
-    let mut trace = Vec::new(rt.alloc());
-    let mut config = trace_config(1, 4, 1);
-    config.limits.events = 2;
-    let outcome = trace_on_silos(&rt, rt.alloc(), &config, &mut source, &mut trace);
-    assert!(rt; matches!(outcome, Err(ProgramFault::Unfinished(Unfinished::Limit))));
-    let told = comments(rt.alloc(), trace.as_slice())?;
-    assert!(rt;
-        std::str::from_utf8(told.as_slice()).is_ok_and(|told| told.contains("0 queue-full"))
-    );
-    Ok(())
+fn a_run_that_meets_a_limit_is_traced(rt: HostRuntime) {
+    for limit in &LIMITS {
+        let mut source = Counted::new(limit.script);
+        let mut trace = Vec::new(rt.alloc());
+        let config = lessened(trace_config(1, 4, limit.silos), limit.small);
+        let ended = trace_on_silos(&rt, rt.alloc(), &config, &mut source, &mut trace);
+        assert!(rt; matches!(ended, Err(ProgramFault::Unfinished(Unfinished::Limit))));
+        assert!(rt; str::from_utf8(&trace).is_ok_and(|text| text.contains(limit.comment)));
+    }
 }

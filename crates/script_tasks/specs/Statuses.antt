@@ -1,5 +1,5 @@
 -- How the program ends.
-use Rattle.std.specs.Prelude.{◌≡◌, ◌≢◌, ◌⊎◌, ℕ}
+use Rattle.std.specs.Prelude.{◌≡◌, ◌≢◌, ◌⊎◌, ℕ, Result, Ok, Err}
 use Rattle.std.specs.declared.process.ExitCode.{ExitCode}
 use Rattle.std.specs.Process.{exit_status}
 use Rattle.clap.specs.declared.error.Error.{Error}
@@ -28,3 +28,8 @@ abbrev pub EndsWith : ProgramFault → ExitCode → Type 0
 EndsWith (fault.CommandLine wrong) code = EndsWords wrong (exit_status code)
 EndsWith (fault.Script wrong) code = exit_status code ≡ status_of (fault.Script wrong)
 EndsWith (fault.Unfinished why) code = exit_status code ≡ status_of (fault.Unfinished why)
+
+-- what the program ends with, by how that ended which it was asked for
+abbrev pub Exits : Result Unit ProgramFault → ExitCode → Type 0
+Exits (Ok done) code = exit_status code ≡ 0
+Exits (Err wrong) code = EndsWith wrong code

@@ -1,6 +1,7 @@
 //! What the command line asks for is done.
 ghost use Rattle.std.specs.Prelude.{◌-◌, ◌^◌, ◌<◌, IfSome};
 ghost use Rattle.stream_script.specs.Simulation.{IsSimConfig, simulation};
+ghost use Rattle.script_tasks.specs.Statuses.{Exits};
 ghost use Rattle.script_tasks.specs.Tasks.{IsTask, PrintsSimulation, PrintsTask};
 
 use crate::fault::ProgramFault;
@@ -21,22 +22,42 @@ use stream_script::{Counted, SimConfig, SimError, Source, sim};
 pub fn perform<R: Runtime + AllocGlobal + Threads + Wait + Copy + Send + 'static>(
     rt: &R,
 ) -> ExitCode {
-    match perform_words(rt) {
+    end(rt, &perform_command_line(rt))
+}
+
+/// The exit status of the program, by how that ended which it was asked for. What stopped it is printed.
+fn end<R: Print + Eprint>(rt: &R, ended: &Result<(), ProgramFault>) -> ExitCode
+    ensures { Exits ended.now result }
+{
+    match ended {
         Ok(()) => ExitCode::SUCCESS,
         Err(fault) => fault.report(rt),
     }
 }
 
-/// Does what the command line asks for.
-fn perform_words<R: Runtime + AllocGlobal + Threads + Wait + Copy + Send + 'static>(
+/// Does what the command line asks for, and prints it on standard output.
+fn perform_command_line<R: Runtime + AllocGlobal + Threads + Wait + Copy + Send + 'static>(
     rt: &R,
 ) -> Result<(), ProgramFault> {
+    let words = std::env::args(rt)?.collect::<Vec<String>>(rt.alloc())?;
+    perform_words(rt, words.as_slice(), io::writer(rt))
+}
+
+/// Does what these words ask for, of which the first is the name of the program. The script is read from the file that
+/// they name, or else from standard input.
+///
+/// # Errors
+/// The words ask for no task, the file can't be opened (`ReadFault`), the call failed to allocate, or the task ends with
+/// a fault, as [`perform_task`] tells.
+pub fn perform_words<
+    R: Runtime + AllocGlobal + Threads + Wait + Copy + Send + 'static,
+    W: Write + Drop,
+>(rt: &R, words: &[String], sink: W) -> Result<(), ProgramFault> {
     let alloc = rt.alloc();
-    let words = std::env::args(rt)?.collect::<Vec<String>>(alloc)?;
-    let Request { file, task } = parse_options(alloc, words.as_slice())?;
+    let Request { file, task } = parse_options(alloc, words)?;
     match file {
-        None => perform_task(rt, alloc, task, rt.reader(), io::writer(rt)),
-        Some(path) => perform_task(rt, alloc, task, open(rt, path)?, io::writer(rt)),
+        None => perform_task(rt, alloc, task, rt.reader(), sink),
+        Some(path) => perform_task(rt, alloc, task, open(rt, path)?, sink),
     }
 }
 

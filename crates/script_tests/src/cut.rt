@@ -1,6 +1,8 @@
 //! Scripts that end inside a line, and lines of one byte.
-use crate::sim::{faulty, simulate};
+use crate::rows::assert_at;
+use crate::sim::{does, faulty};
 use std::alloc::{AllocError, Global};
+use std::process::Abort;
 use std::test::Fail;
 use stream_script::{FaultKind, SimError};
 
@@ -19,7 +21,7 @@ struct Line {
     cuts: &'static [(usize, Ending)],
 }
 
-const LINES: [Line; 6] = [
+static LINES: [Line; 6] = [
     Line {
         number: 1,
         text: "sub o/k g/x latest",
@@ -111,16 +113,53 @@ fn ends_so(
     part: &[u8],
     ending: Ending,
 ) -> Result<bool, AllocError> {
-    let mut script = Vec::from_slice(alloc, whole)?;
-    script.extend_from_slice(part)?;
-    let mut wanted = Vec::from_slice(alloc, replies)?;
-    let mut outcome: Result<(), SimError> = Ok(());
+    let script = joined(alloc, whole, part)?;
     match ending {
-        Ending::Fault(kind) => outcome = faulty(number, kind),
-        Ending::Reply(reply) => wanted.extend_from_slice(reply.as_bytes())?,
+        Ending::Fault(kind) => Ok(does(alloc, &script, &faulty(number, kind), replies)),
+        Ending::Reply(reply) => {
+            let wanted = joined(alloc, replies, reply.as_bytes())?;
+            Ok(does(alloc, &script, &Ok(()), &wanted))
+        }
     }
-    let (ended, text) = simulate(alloc, &script);
-    Ok(ended == outcome && text.as_slice() == wanted.as_slice())
+}
+
+fn joined(alloc: Global, front: &[u8], back: &[u8]) -> Result<Vec<u8>, AllocError> {
+    let mut text = Vec::from_slice(alloc, front)?;
+    text.extend_from_slice(back)?;
+    Ok(text)
+}
+
+/// Stops at a cut of a line that doesn't end so.
+fn assert_cut(rt: &impl Abort, line: usize, len: usize, is_so: bool) {
+    assert!(rt; is_so, "line {line} cut to {len}");
+}
+
+/// A line that is cut to each of its lengths ends as it says, behind the replies to whole lines.
+fn check_cuts(
+    rt: &impl Abort,
+    alloc: Global,
+    whole: &[u8],
+    replies: &[u8],
+    line: &Line,
+) -> Result<(), AllocError> {
+    let text = line.text.as_bytes();
+    for len in 0..=text.len() {
+        let ending = ending_of(line, len);
+        let so = ends_so(alloc, whole, replies, line.number, &text[..len], ending)?;
+        assert_cut(rt, line.number, len, so);
+    }
+    Ok(())
+}
+
+/// Adds a line to a script, and its reply to the replies.
+fn add(script: &mut Vec<u8>, replies: &mut Vec<u8>, line: &Line) -> Result<(), AllocError> {
+    let text = line.text.as_bytes();
+    if let Ending::Reply(reply) = ending_of(line, text.len()) {
+        replies.extend_from_slice(reply.as_bytes())?;
+    }
+    script.extend_from_slice(text)?;
+    script.push(b'\n')?;
+    Ok(())
 }
 
 #[test]
@@ -128,23 +167,8 @@ fn a_script_may_end_at_each_byte(rt: HostRuntime) -> Result<(), Fail> {
     let mut script = Vec::new(rt.alloc());
     let mut replies = Vec::new(rt.alloc());
     for line in &LINES {
-        let text = line.text.as_bytes();
-        for len in 0..=text.len() {
-            let so = ends_so(
-                rt.alloc(),
-                &script,
-                &replies,
-                line.number,
-                &text[..len],
-                ending_of(line, len),
-            )?;
-            assert!(rt; so, "\"{}\" cut to {len}", line.text);
-        }
-        if let Ending::Reply(reply) = ending_of(line, text.len()) {
-            replies.extend_from_slice(reply.as_bytes())?;
-        }
-        script.extend_from_slice(text)?;
-        script.push(b'\n')?;
+        check_cuts(&rt, rt.alloc(), &script, &replies, line)?;
+        add(&mut script, &mut replies, line)?;
     }
     Ok(())
 }
@@ -162,11 +186,9 @@ fn fault_of(byte: u8) -> Result<(), SimError> {
 #[test]
 fn a_line_may_be_any_byte(rt: HostRuntime) -> Result<(), Fail> {
     for byte in 0..=u8::MAX {
-        let mut script = Vec::from_slice(rt.alloc(), b"pub o/k \"a\"\n")?;
-        script.push(byte)?;
-        let (outcome, text) = simulate(rt.alloc(), &script);
-        assert!(rt; outcome == fault_of(byte), "at byte {byte}");
-        assert!(rt; text.as_slice() == &b"0 published 0\n"[..]);
+        let script = joined(rt.alloc(), b"pub o/k \"a\"\n", &[byte])?;
+        let so = does(rt.alloc(), &script, &fault_of(byte), b"0 published 0\n");
+        assert_at(&rt, byte as usize, so);
     }
     Ok(())
 }

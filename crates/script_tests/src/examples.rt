@@ -4,7 +4,7 @@
 pub(crate) type Row = (&'static str, &'static str);
 
 /// Worked examples, in a cache of four blocks.
-pub(crate) const EXAMPLES: &[&[Row]] = &[
+pub(crate) static EXAMPLES: &[&[Row]] = &[
     // Each subscription handles its stream from its start, in order, and a late one only what comes later.
     // three events, one after another
     &[

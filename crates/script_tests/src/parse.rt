@@ -1,9 +1,12 @@
 //! What lines are read as.
+use crate::rows::assert_line;
+use std::alloc::{AllocError, Global};
+use std::process::Abort;
 use std::test::Fail;
 use stream_script::{Fault, FaultKind, Mode, Parsed, parse_line};
 
 /// Lines of a script that is simulated on one queue, and how the command that each reads as is printed.
-const COMMANDS: &[(&str, &str)] = &[
+static COMMANDS: &[(&str, &str)] = &[
     (
         r#"pub o/k"#,
         "Command(Step { queue: 0, op: Publish { stream: StreamId { namespace: o, key: k }, payloads: Batch { payloads: [] } } })",
@@ -91,7 +94,7 @@ const COMMANDS: &[(&str, &str)] = &[
 ];
 
 /// Lines of a script that is run, and how what each reads as is printed.
-const RUN_COMMANDS: &[(&str, &str)] = &[
+static RUN_COMMANDS: &[(&str, &str)] = &[
     ("up 15", "Command(Up { silo: 15 })"),
     (" down 0 ", "Command(Down { silo: 0 })"),
     ("drain", "Command(Drain)"),
@@ -116,20 +119,33 @@ const RUN_COMMANDS: &[(&str, &str)] = &[
     ("#pub o/k \"a\"", "Skip"),
 ];
 
-#[test]
-fn commands(rt: HostRuntime) -> Result<(), Fail> {
-    for (mode, rows) in [(Mode::Sim, COMMANDS), (Mode::Run, RUN_COMMANDS)] {
-        for (line, wanted) in rows {
-            let parsed = parse_line(rt.alloc(), line.as_bytes(), 7, 1, mode)?;
-            let shown = format!(in rt.alloc(); "{parsed:?}")?;
-            assert!(rt; shown.as_str() == *wanted, "at {line}");
-        }
+/// What a line of a script on one queue is read as, printed.
+fn shown(alloc: Global, line: &str, mode: Mode) -> Result<String, AllocError> {
+    let parsed = parse_line(alloc, line.as_bytes(), 7, 1, mode)?;
+    format!(in alloc; "{parsed:?}")
+}
+
+fn check_commands(
+    rt: &impl Abort,
+    alloc: Global,
+    mode: Mode,
+    rows: &[(&str, &str)],
+) -> Result<(), AllocError> {
+    for (line, wanted) in rows {
+        assert_line(rt, line, shown(alloc, line, mode)?.as_str() == *wanted);
     }
     Ok(())
 }
 
+#[test]
+fn commands(rt: HostRuntime) -> Result<(), Fail> {
+    check_commands(&rt, rt.alloc(), Mode::Sim, COMMANDS)?;
+    check_commands(&rt, rt.alloc(), Mode::Run, RUN_COMMANDS)?;
+    Ok(())
+}
+
 /// Faults, and lines of a script that is simulated on one queue which have them.
-const FAULTS: &[(FaultKind, &str)] = &[
+static FAULTS: &[(FaultKind, &str)] = &[
     (
         FaultKind::BadByte,
         "pub o/k\t\"a\"\n\
@@ -200,7 +216,7 @@ const FAULTS: &[(FaultKind, &str)] = &[
 ];
 
 /// Faults, and lines of a script that is simulated on two queues which have them.
-const FAULTS_OF_TWO: &[(FaultKind, &str)] = &[
+static FAULTS_OF_TWO: &[(FaultKind, &str)] = &[
     (
         FaultKind::WordCount,
         "unsub\n\
@@ -238,7 +254,7 @@ const FAULTS_OF_TWO: &[(FaultKind, &str)] = &[
 ];
 
 /// Faults, and lines of a script that is run which have them.
-const RUN_FAULTS: &[(FaultKind, &str)] = &[
+static RUN_FAULTS: &[(FaultKind, &str)] = &[
     (
         FaultKind::WordCount,
         "up\n\
@@ -260,20 +276,52 @@ const RUN_FAULTS: &[(FaultKind, &str)] = &[
     ),
 ];
 
+/// Whether a line has such a fault in a script on so many queues.
+fn is_faulty(
+    alloc: Global,
+    line: &str,
+    queues: usize,
+    mode: Mode,
+    kind: FaultKind,
+) -> Result<bool, AllocError> {
+    if queues == 0 {
+        return Ok(false);
+    }
+    let parsed = parse_line(alloc, line.as_bytes(), 7, queues, mode)?;
+    Ok(is_fault(&parsed, kind))
+}
+
+fn check_lines(
+    rt: &impl Abort,
+    alloc: Global,
+    queues: usize,
+    mode: Mode,
+    (kind, lines): &(FaultKind, &str),
+) -> Result<(), AllocError> {
+    for line in lines.lines() {
+        assert_line(rt, line, is_faulty(alloc, line, queues, mode, *kind)?);
+    }
+    Ok(())
+}
+
+fn check_faults(
+    rt: &impl Abort,
+    alloc: Global,
+    queues: usize,
+    mode: Mode,
+    rows: &[(FaultKind, &str)],
+) -> Result<(), AllocError> {
+    for row in rows {
+        check_lines(rt, alloc, queues, mode, row)?;
+    }
+    Ok(())
+}
+
 #[test]
 fn faults(rt: HostRuntime) -> Result<(), Fail> {
-    for (queues, mode, rows) in [
-        (1, Mode::Sim, FAULTS),
-        (2, Mode::Sim, FAULTS_OF_TWO),
-        (1, Mode::Run, RUN_FAULTS),
-    ] {
-        for (kind, lines) in rows {
-            for line in lines.lines() {
-                let parsed = parse_line(rt.alloc(), line.as_bytes(), 7, queues, mode)?;
-                assert!(rt; is_fault(&parsed, *kind), "at {line}");
-            }
-        }
-    }
+    check_faults(&rt, rt.alloc(), 1, Mode::Sim, FAULTS)?;
+    check_faults(&rt, rt.alloc(), 2, Mode::Sim, FAULTS_OF_TWO)?;
+    check_faults(&rt, rt.alloc(), 1, Mode::Run, RUN_FAULTS)?;
     Ok(())
 }
 
@@ -285,16 +333,20 @@ fn is_fault(parsed: &Parsed, kind: FaultKind) -> bool {
     }
 }
 
+/// Whether the line whose text has so many quotes has a faulty text.
+fn is_too_long(alloc: Global, len: usize) -> Result<bool, AllocError> {
+    let mut line = Vec::from_slice(alloc, b"pub o/k \"")?;
+    for _ in 0..len {
+        line.extend_from_slice(b"\\\"")?;
+    }
+    line.push(b'"')?;
+    let parsed = parse_line(alloc, &line, 7, 1, Mode::Sim)?;
+    Ok(is_fault(&parsed, FaultKind::BadText))
+}
+
 #[test]
 fn long_texts(rt: HostRuntime) -> Result<(), Fail> {
-    for (len, is_too_long) in [(256, false), (257, true)] {
-        let mut line = Vec::from_slice(rt.alloc(), b"pub o/k \"")?;
-        for _ in 0..len {
-            line.extend_from_slice(b"\\\"")?;
-        }
-        line.push(b'"')?;
-        let parsed = parse_line(rt.alloc(), &line, 7, 1, Mode::Sim)?;
-        assert!(rt; is_fault(&parsed, FaultKind::BadText) == is_too_long);
-    }
+    assert!(rt; !is_too_long(rt.alloc(), 256)?);
+    assert!(rt; is_too_long(rt.alloc(), 257)?);
     Ok(())
 }

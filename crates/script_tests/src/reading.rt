@@ -1,5 +1,7 @@
 //! Whole scripts that are to be run: their lines, or their first fault.
+use crate::rows::assert_at;
 use script_reader::{Script, read_lines};
+use std::alloc::Global;
 use std::test::Fail;
 use stream_script::{Command, Fault, FaultKind};
 
@@ -21,21 +23,31 @@ fn lines_have_their_numbers(rt: HostRuntime) -> Result<(), Fail> {
     Ok(())
 }
 
+// Scripts, and the line and the kind of the first fault of each.
+static FAULTS: [(&[u8], usize, FaultKind); 5] = [
+    (b"quiet\nfly", 1, FaultKind::NotInRun),
+    (b"drain\nreport\nfly", 2, FaultKind::NotInRun),
+    (b"\nup 16\nquiet", 2, FaultKind::BadNumber),
+    (b"unsub 2:1", 1, FaultKind::NoQueue),
+    (b"# one\nrule g\x7f o", 2, FaultKind::BadByte),
+];
+
+fn first_fault(alloc: Global, text: &[u8]) -> Result<Fault, Fail> {
+    if 100 < text.len() {
+        return Err(Fail::from("the script is too long"));
+    }
+    match read_lines(alloc, text, 2)? {
+        Script::Fault(fault) => Ok(fault),
+        Script::Lines(_) => Err(Fail::from("there is a fault")),
+    }
+}
+
 // Nothing is read past the first fault.
 #[test]
 fn the_first_fault(rt: HostRuntime) -> Result<(), Fail> {
-    let cases: [(&[u8], usize, FaultKind); 5] = [
-        (b"quiet\nfly", 1, FaultKind::NotInRun),
-        (b"drain\nreport\nfly", 2, FaultKind::NotInRun),
-        (b"\nup 16\nquiet", 2, FaultKind::BadNumber),
-        (b"unsub 2:1", 1, FaultKind::NoQueue),
-        (b"# one\nrule g\x7f o", 2, FaultKind::BadByte),
-    ];
-    for (text, line, kind) in cases {
-        let Script::Fault(fault) = read_lines(rt.alloc(), text, 2)? else {
-            return Err(Fail::from("there is a fault"));
-        };
-        assert!(rt; fault == Fault { line, kind });
+    for (row, (text, line, kind)) in FAULTS.iter().enumerate() {
+        let fault = first_fault(rt.alloc(), text)?;
+        assert_at(&rt, row, fault.line == *line && fault.kind == *kind);
     }
     Ok(())
 }

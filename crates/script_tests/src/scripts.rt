@@ -4,6 +4,7 @@ ghost use Rattle.stream_script.specs.Simulation.{IsSimConfig};
 ghost use Rattle.stream_script.specs.Bounds.{AreLimits};
 
 use crate::examples::{EXAMPLES, Row};
+use crate::rows::assert_at;
 use std::alloc::{AllocError, Global};
 use std::test::Fail;
 use stream_model::Limits;
@@ -106,7 +107,7 @@ const LONGEST: &str =
     "pub o/k \"xxxxxxxxxxxxxxxxxxxxxxxxxxxxxxxxxxxxxxxxxxxxxxxxxxxxxxxxxxxxxxxxxxxxxxxxxxxxxxxxxxxxxxxxxxxxxxxxxxxxxxxxxxxxxxxxxxxxxxxxxxxxxxxxxxxxxxxxxxxxxxxxxxxxxxxxxxxxxxxxxxxxxxxxxxxxxxxxxxxxxxxxxxxxxxxxxxxxxxxxxxxxxxxxxxxxxxxxxxxxxxxxxxxxxxxxxxxxxxxxxxxxxxxxxxxxxxxx\"";
 
 /// Examples in a cache of one block.
-const SMALL_CACHES: &[&[Row]] = &[
+static SMALL_CACHES: &[&[Row]] = &[
     // refusals come in their order
     &[
         ("sub o/k g/x latest", "subscribed 1"),
@@ -156,10 +157,10 @@ const SMALL_CACHES: &[&[Row]] = &[
 #[test]
 fn examples(rt: HostRuntime) -> Result<(), Fail> {
     for (at, rows) in EXAMPLES.iter().enumerate() {
-        assert!(rt; gives(rt.alloc(), rows, 4, Limits::GREATEST)?, "at {at}");
+        assert_at(&rt, at, gives(rt.alloc(), rows, 4, Limits::GREATEST)?);
     }
     for (at, rows) in SMALL_CACHES.iter().enumerate() {
-        assert!(rt; gives(rt.alloc(), rows, 1, Limits::GREATEST)?, "at {at}");
+        assert_at(&rt, at, gives(rt.alloc(), rows, 1, Limits::GREATEST)?);
     }
     Ok(())
 }
@@ -172,7 +173,7 @@ struct FullCache {
 }
 
 /// What a cache of one block comes to.
-const ONE_BLOCK: &[FullCache] = &[
+static ONE_BLOCK: &[FullCache] = &[
     // a mailbox and a turn have their sizes
     FullCache {
         before: &[("sub o/k g/x latest", "subscribed 1")],
@@ -256,7 +257,7 @@ const ONE_BLOCK: &[FullCache] = &[
 ];
 
 /// What a cache of two blocks comes to.
-const TWO_BLOCKS: &[FullCache] = &[
+static TWO_BLOCKS: &[FullCache] = &[
     // a purge drops whole blocks
     FullCache {
         before: &[],
@@ -291,19 +292,19 @@ fn script_of(alloc: Global, cache: &FullCache) -> Result<Script, AllocError> {
 
 #[test]
 fn full_caches(rt: HostRuntime) -> Result<(), Fail> {
-    for cache in ONE_BLOCK {
+    for (at, cache) in ONE_BLOCK.iter().enumerate() {
         let script = script_of(rt.alloc(), cache)?;
-        assert!(rt; script.holds(rt.alloc(), 1, Limits::GREATEST));
+        assert_at(&rt, at, script.holds(rt.alloc(), 1, Limits::GREATEST));
     }
-    for cache in TWO_BLOCKS {
+    for (at, cache) in TWO_BLOCKS.iter().enumerate() {
         let script = script_of(rt.alloc(), cache)?;
-        assert!(rt; script.holds(rt.alloc(), 2, Limits::GREATEST));
+        assert_at(&rt, at, script.holds(rt.alloc(), 2, Limits::GREATEST));
     }
     Ok(())
 }
 
 /// The log has room for two events.
-const LIMITED: &[Row] = &[
+static LIMITED: &[Row] = &[
     ("pub o/k \"a\" \"b\" \"c\"", "queue-full"),
     ("pub o/k", "bad-batch"),
     ("pub o/k \"a\" \"b\"", "published 0"),
@@ -322,7 +323,7 @@ const LIMITED: &[Row] = &[
 ];
 
 /// There is room for one subscription.
-const LIMITED_IMPLICIT: &[Row] = &[
+static LIMITED_IMPLICIT: &[Row] = &[
     ("sub o/k g/x latest", "subscribed 1"),
     ("rule log o", "rule-added 0"),
     ("pub o/a \"a\"", "published 0"),

@@ -2,6 +2,7 @@
 //! reader or writer leads to.
 ghost use Rattle.stream_script.specs.Simulation.{IsSimConfig};
 
+use crate::rows::assert_at;
 use std::alloc::Global;
 use std::io::{self, ErrorKind, Read, Write};
 use std::test::Fail;
@@ -79,7 +80,18 @@ fn one_queue() -> SimConfig
 }
 
 /// What came of a script: how it ended, how often reads and writes failed, and what was written.
-type End = (Result<(), SimError>, [u64; 2], Vec<u8>);
+#[derive(Drop)]
+struct End {
+    outcome: Result<(), SimError>,
+    reads: u64,
+    writes: u64,
+    text: Vec<u8>,
+}
+
+/// Whether a script ended so, after so many failed reads and writes.
+fn has_ended(end: &End, outcome: &Result<(), SimError>, reads: u64, writes: u64) -> bool {
+    end.outcome == *outcome && end.reads == reads && end.writes == writes
+}
 
 /// What comes of a script whose reads and writes go so.
 fn simulate_over(alloc: Global, script: &[u8], reads: Calls, writes: Calls) -> End {
@@ -92,14 +104,23 @@ fn simulate_over(alloc: Global, script: &[u8], reads: Calls, writes: Calls) -> E
         calls: writes,
     });
     let outcome = sim(alloc, one_queue(), &mut source, &mut sink);
-    let failures = [source.failures(), sink.failures()];
-    (outcome, failures, sink.into_inner().inner)
+    End {
+        outcome,
+        reads: source.failures(),
+        writes: sink.failures(),
+        text: sink.into_inner().inner,
+    }
 }
 
-/// The outcome of a script, and what it wrote.
-pub(crate) fn simulate(alloc: Global, script: &[u8]) -> (Result<(), SimError>, Vec<u8>) {
-    let (outcome, _failures, text) = simulate_over(alloc, script, SOUND, SOUND);
-    (outcome, text)
+/// Whether a script ends so, and writes these replies.
+pub(crate) fn does(
+    alloc: Global,
+    script: &[u8],
+    outcome: &Result<(), SimError>,
+    replies: &[u8],
+) -> bool {
+    let end = simulate_over(alloc, script, SOUND, SOUND);
+    end.outcome == *outcome && end.text.as_slice() == replies
 }
 
 pub(crate) fn faulty(line: usize, kind: FaultKind) -> Result<(), SimError> {
@@ -113,7 +134,7 @@ const REPLIES: &[u8] =
     b"0 subscribed 1\n0 published 0\n0 pulled 1 low 0.0 high 1.0\n0 delivered 0.0\n0 turn 1 sub 1 activation 1 event 0.0 \"a\" note 0\n0 committed 1 0.0\n";
 
 /// Scripts, how they end, and what they write.
-const SCRIPTS: &[(&[u8], Result<(), SimError>, &[u8])] = &[
+static SCRIPTS: &[(&[u8], Result<(), SimError>, &[u8])] = &[
     (b"", Ok(()), b""),
     (SCRIPT, Ok(()), REPLIES),
     // comments, returns, and a last line without a feed
@@ -143,22 +164,16 @@ const SCRIPTS: &[(&[u8], Result<(), SimError>, &[u8])] = &[
 
 #[test]
 fn scripts_are_done_line_by_line(rt: HostRuntime) {
-    for (script, outcome, replies) in SCRIPTS {
-        let (ended, text) = simulate(rt.alloc(), script);
-        assert!(rt; ended == *outcome);
-        assert!(rt; text.as_slice() == *replies);
+    for (row, (script, outcome, replies)) in SCRIPTS.iter().enumerate() {
+        assert_at(&rt, row, does(rt.alloc(), script, outcome, replies));
     }
 }
 
 #[test]
 fn a_script_that_is_too_long_is_not_begun(rt: HostRuntime) -> Result<(), Fail> {
     let script = vec![in rt.alloc(); b'#'; 4_194_305]?;
-    let (outcome, text) = simulate(rt.alloc(), &script);
-    assert!(rt; outcome == faulty(0, FaultKind::TooLong));
-    assert!(rt; text.is_empty());
-    let (outcome, text) = simulate(rt.alloc(), &script[1..]);
-    assert!(rt; outcome == Ok(()));
-    assert!(rt; text.is_empty());
+    assert!(rt; does(rt.alloc(), &script, &faulty(0, FaultKind::TooLong), b""));
+    assert!(rt; does(rt.alloc(), &script[1..], &Ok(()), b""));
     Ok(())
 }
 
@@ -166,39 +181,50 @@ fn a_script_that_is_too_long_is_not_begun(rt: HostRuntime) -> Result<(), Fail> {
 #[test]
 fn nothing_is_read_past_the_limit(rt: HostRuntime) -> Result<(), Fail> {
     let script = vec![in rt.alloc(); b'#'; 4_200_000]?;
-    let cases = [
-        (1024, Err(SimError::ReadFault), [1, 0]),
-        (1025, faulty(0, FaultKind::TooLong), [0, 0]),
-    ];
-    for (fails_at, outcome, failures) in cases {
-        let reads = Calls {
-            most: 4096,
-            fails_at,
-            kind: ErrorKind::BrokenPipe,
-        };
-        let (ended, failed, text) = simulate_over(rt.alloc(), &script, reads, SOUND);
-        assert!(rt; (ended, failed, text.len()) == (outcome, failures, 0));
-    }
+    let outcome = Err(SimError::ReadFault);
+    assert!(rt; reads_so(rt.alloc(), &script, broken(4096, 1024), &outcome, 1));
+    let outcome = faulty(0, FaultKind::TooLong);
+    assert!(rt; reads_so(rt.alloc(), &script, broken(4096, 1025), &outcome, 0));
     Ok(())
 }
 
+/// Calls of so many bytes at most, of which one fails.
+fn broken(most: usize, fails_at: u32) -> Calls {
+    Calls {
+        most,
+        fails_at,
+        kind: ErrorKind::BrokenPipe,
+    }
+}
+
+/// Whether a script whose reads go so writes nothing and ends so, after so many failed reads.
+fn reads_so(
+    alloc: Global,
+    script: &[u8],
+    reads: Calls,
+    outcome: &Result<(), SimError>,
+    failures: u64,
+) -> bool {
+    let end = simulate_over(alloc, script, reads, SOUND);
+    has_ended(&end, outcome, failures, 0) && end.text.is_empty()
+}
+
 /// Kinds of failed reads, and what comes of each: an interrupted call is made again.
-const READS: &[(ErrorKind, Result<(), SimError>, u64)] = &[
+static READS: &[(ErrorKind, Result<(), SimError>, u64)] = &[
     (ErrorKind::BrokenPipe, Err(SimError::ReadFault), 1),
     (ErrorKind::Interrupted, Ok(()), 0),
 ];
 
 #[test]
 fn a_failed_read_is_told(rt: HostRuntime) {
-    for fails_at in [0, 1, 2] {
-        for (kind, outcome, failures) in READS {
+    for fails_at in 0..3 {
+        for (row, (kind, outcome, failures)) in READS.iter().enumerate() {
             let reads = Calls {
-                most: 3,
-                fails_at,
                 kind: *kind,
+                ..broken(3, fails_at)
             };
-            let (ended, failed, text) = simulate_over(rt.alloc(), b"# no", reads, SOUND);
-            assert!(rt; (ended, failed, text.len()) == (*outcome, [*failures, 0], 0));
+            let so = reads_so(rt.alloc(), b"# no", reads, outcome, *failures);
+            assert_at(&rt, row, so);
         }
     }
 }
@@ -210,16 +236,18 @@ const DRAINED: &[u8] =
 const DRAINED_REPLIES: &[u8] =
     b"0 subscribed 1\n0 published 0\n0 published 1\n0 published 2\n0 drained 3\nreport\n0:1 o/k g/x 0.0 3\n  0.0 \"a\"\n  1.0 \"b\"\n  2.0 \"c\"\n";
 
-/// Scripts and how their writes go; how each ends, how often a write has failed, and what was written.
-const WRITES: &[(
-    &[u8],
+/// A script and how its writes go; how it ends, how often a write has failed, and what was written.
+type Written = (
+    &'static [u8],
     usize,
     u32,
     ErrorKind,
     Result<(), SimError>,
     u64,
-    &[u8],
-)] = &[
+    &'static [u8],
+);
+
+static WRITES: &[Written] = &[
     // the flush of a script that writes nothing
     (
         b"",
@@ -263,17 +291,21 @@ const WRITES: &[(
     ),
 ];
 
+/// Whether a script ends so whose writes go so.
+fn writes_so(alloc: Global, write: &Written) -> bool {
+    let (script, most, fails_at, kind, outcome, failures, wanted) = write;
+    let writes = Calls {
+        kind: *kind,
+        ..broken(*most, *fails_at)
+    };
+    let end = simulate_over(alloc, script, SOUND, writes);
+    has_ended(&end, outcome, 0, *failures) && end.text.as_slice() == *wanted
+}
+
 #[test]
 fn a_failed_write_is_told(rt: HostRuntime) {
-    for (script, most, fails_at, kind, outcome, failures, wanted) in WRITES {
-        let writes = Calls {
-            most: *most,
-            fails_at: *fails_at,
-            kind: *kind,
-        };
-        let (ended, failed, text) = simulate_over(rt.alloc(), script, SOUND, writes);
-        assert!(rt; (ended, failed) == (*outcome, [0, *failures]));
-        assert!(rt; text.as_slice() == *wanted);
+    for (row, write) in WRITES.iter().enumerate() {
+        assert_at(&rt, row, writes_so(rt.alloc(), write));
     }
 }
 
@@ -288,41 +320,49 @@ fn a_full_writer_has_failed(rt: HostRuntime) {
     assert!(rt; sink.failures() == 1);
 }
 
+/// Calls of one byte, of which one fails at its time.
+fn timed_out(fails_at: u32) -> Calls {
+    Calls {
+        kind: ErrorKind::TimedOut,
+        ..broken(1, fails_at)
+    }
+}
+
 /// A read of each byte, and one that finds the end.
 #[test]
 fn each_read_that_fails_is_told(rt: HostRuntime) {
-    for fails_at in 0..70 {
-        let reads = Calls {
-            most: 1,
-            fails_at,
-            kind: ErrorKind::TimedOut,
-        };
-        let wanted = if fails_at < 69 {
-            (Err(SimError::ReadFault), [1, 0], 0)
-        } else {
-            (Ok(()), [0, 0], 124)
-        };
-        let (ended, failed, text) = simulate_over(rt.alloc(), DRAINED, reads, SOUND);
-        assert!(rt; (ended, failed, text.len()) == wanted, "at call {fails_at}");
+    for fails_at in 0..69 {
+        let so = reads_so(
+            rt.alloc(),
+            DRAINED,
+            timed_out(fails_at),
+            &Err(SimError::ReadFault),
+            1,
+        );
+        assert_at(&rt, fails_at as usize, so);
     }
+    let end = simulate_over(rt.alloc(), DRAINED, timed_out(69), SOUND);
+    assert!(rt; has_ended(&end, &Ok(()), 0, 0) && end.text.len() == 124);
+}
+
+/// Whether a script ends where this write of a byte fails so, and those before it were taken.
+fn fails_to_write(alloc: Global, kind: ErrorKind, fails_at: u32) -> bool {
+    let writes = Calls {
+        kind,
+        ..broken(1, fails_at)
+    };
+    let end = simulate_over(alloc, DRAINED, SOUND, writes);
+    has_ended(&end, &Err(SimError::WriteFault), 0, 1)
+        && end.text.len() == fails_at as usize
+        && DRAINED_REPLIES.starts_with(&end.text)
 }
 
 /// A write of each byte: where one fails or takes none, those before it were taken.
 #[test]
 fn each_write_that_fails_is_told(rt: HostRuntime) {
-    for kind in [ErrorKind::BrokenPipe, ErrorKind::WriteZero] {
-        for fails_at in 0..124 {
-            let writes = Calls {
-                most: 1,
-                fails_at,
-                kind,
-            };
-            let (ended, failed, text) = simulate_over(rt.alloc(), DRAINED, SOUND, writes);
-            assert!(rt;
-                (ended, failed, text.len())
-                    == (Err(SimError::WriteFault), [0, 1], fails_at as usize)
-            );
-            assert!(rt; DRAINED_REPLIES.starts_with(&text), "at call {fails_at}");
-        }
+    for fails_at in 0..124 {
+        let so = fails_to_write(rt.alloc(), ErrorKind::BrokenPipe, fails_at)
+            && fails_to_write(rt.alloc(), ErrorKind::WriteZero, fails_at);
+        assert_at(&rt, fails_at as usize, so);
     }
 }

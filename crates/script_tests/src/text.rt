@@ -1,4 +1,5 @@
 //! The texts of replies, from outside.
+use crate::rows::assert_at;
 use std::alloc::{AllocError, Global};
 use std::test::Fail;
 use stream_ident::{Event, GrainId, Name, Payload, StreamId, SubName, Token};
@@ -50,109 +51,165 @@ const HIGH: Token = Token { seq: 2, idx: 63 };
 
 const GREATEST: SubName = SubName::Explicit(4294967295);
 
-/// Replies without names, and their texts.
-const REPLIES: [(Reply, &[u8]); 11] = [
-    (Reply::QueueFull, b"queue-full"),
-    (Reply::Subscribed { number: 1 }, b"subscribed 1"),
-    (
-        Reply::Miss {
+/// Replies without names.
+#[derive(Clone, Copy)]
+enum Plain {
+    QueueFull,
+    Subscribed,
+    Miss,
+    Unsubscribed,
+    Pulled,
+    Purged,
+    Dropped,
+    Moved,
+    DueSub,
+    Behind,
+    Deliverable,
+}
+
+/// These replies, and their texts.
+static REPLIES: [(Plain, &[u8]); 11] = [
+    (Plain::QueueFull, b"queue-full"),
+    (Plain::Subscribed, b"subscribed 1"),
+    (Plain::Miss, b"miss 0.0 low 2.63 high 9.1"),
+    (Plain::Unsubscribed, b"unsubscribed 1000000"),
+    (Plain::Pulled, b"pulled 32 low 0.0 high 2.63"),
+    (Plain::Purged, b"purged low 2.63"),
+    (Plain::Dropped, b"dropped 4294967295 2.63"),
+    (Plain::Moved, b"moved 2 low 0.0"),
+    (Plain::DueSub, b"due 4294967295 ack -"),
+    (Plain::Behind, b"behind"),
+    (Plain::Deliverable, b"deliverable 4294967295"),
+];
+
+fn plain_reply(plain: Plain) -> Reply {
+    match plain {
+        Plain::QueueFull => Reply::QueueFull,
+        Plain::Subscribed => Reply::Subscribed { number: 1 },
+        Plain::Miss => Reply::Miss {
             requested: LOW,
             low: HIGH,
             high: Token { seq: 9, idx: 1 },
         },
-        b"miss 0.0 low 2.63 high 9.1",
-    ),
-    (
-        Reply::Unsubscribed { handled: 1000000 },
-        b"unsubscribed 1000000",
-    ),
-    (
-        Reply::Pulled {
+        Plain::Unsubscribed => Reply::Unsubscribed { handled: 1000000 },
+        Plain::Pulled => Reply::Pulled {
             count: 32,
             low: LOW,
             high: HIGH,
         },
-        b"pulled 32 low 0.0 high 2.63",
-    ),
-    (Reply::Purged { low: HIGH }, b"purged low 2.63"),
-    (
-        Reply::Dropped {
+        Plain::Purged => Reply::Purged { low: HIGH },
+        Plain::Dropped => Reply::Dropped {
             sub: GREATEST,
             token: HIGH,
         },
-        b"dropped 4294967295 2.63",
-    ),
-    (
-        Reply::Moved {
+        Plain::Moved => Reply::Moved {
             generation: 2,
             low: LOW,
         },
-        b"moved 2 low 0.0",
-    ),
-    (
-        Reply::DueSub {
+        Plain::DueSub => Reply::DueSub {
             sub: GREATEST,
             ack: None,
         },
-        b"due 4294967295 ack -",
-    ),
-    (Reply::NotQuiet(Pending::Behind), b"behind"),
-    (
-        Reply::NotQuiet(Pending::Deliverable(GREATEST)),
-        b"deliverable 4294967295",
-    ),
-];
+        Plain::Behind => Reply::NotQuiet(Pending::Behind),
+        Plain::Deliverable => Reply::NotQuiet(Pending::Deliverable(GREATEST)),
+    }
+}
 
 #[test]
 fn replies_have_their_texts(rt: HostRuntime) -> Result<(), Fail> {
-    for (reply, text) in REPLIES {
-        assert!(rt; text_of(rt.alloc(), &reply)?.as_slice() == text);
+    for (row, (plain, text)) in REPLIES.iter().enumerate() {
+        let shown = text_of(rt.alloc(), &plain_reply(*plain))?;
+        assert_at(&rt, row, shown.as_slice() == *text);
     }
     Ok(())
+}
+
+/// Replies that have the grain cart/k-1, or the name that a rule for carts makes of orders/k-1.
+#[derive(Clone, Copy)]
+enum Named {
+    Pressed,
+    Committed,
+    Next,
+    DueSub,
+    Running,
+}
+
+/// These replies, and their texts.
+static NAMED: [(Named, &[u8]); 5] = [
+    (Named::Pressed, b"pressed cart@orders/k-1"),
+    (Named::Committed, b"committed cart@orders/k-1 0.0"),
+    (Named::Next, b"next cart/k-1"),
+    (Named::DueSub, b"due cart@orders/k-1 ack 2.63"),
+    (Named::Running, b"running cart/k-1"),
+];
+
+fn grain() -> Result<GrainId, Fail> {
+    Ok(GrainId::new(b"cart", b"k-1")?)
+}
+
+fn named_reply(named: Named) -> Result<Reply, Fail> {
+    Ok(match named {
+        Named::Pressed => Reply::Pressed { by: implicit()? },
+        Named::Committed => Reply::Committed {
+            sub: implicit()?,
+            token: LOW,
+        },
+        Named::Next => Reply::Next(grain()?),
+        Named::DueSub => Reply::DueSub {
+            sub: implicit()?,
+            ack: Some(HIGH),
+        },
+        Named::Running => Reply::NotQuiet(Pending::Running(grain()?)),
+    })
 }
 
 #[test]
 fn replies_with_names_have_their_texts(rt: HostRuntime) -> Result<(), Fail> {
-    let grain = GrainId::new(b"cart", b"k-1")?;
-    let sub = implicit()?;
-    let cases: [(Reply, &[u8]); 5] = [
-        (Reply::Pressed { by: sub }, b"pressed cart@orders/k-1"),
-        (
-            Reply::Committed { sub, token: LOW },
-            b"committed cart@orders/k-1 0.0",
-        ),
-        (Reply::Next(grain), b"next cart/k-1"),
-        (
-            Reply::DueSub {
-                sub,
-                ack: Some(HIGH),
-            },
-            b"due cart@orders/k-1 ack 2.63",
-        ),
-        (
-            Reply::NotQuiet(Pending::Running(grain)),
-            b"running cart/k-1",
-        ),
-    ];
-    for (reply, text) in cases {
-        assert!(rt; text_of(rt.alloc(), &reply)?.as_slice() == text);
+    for (row, (named, text)) in NAMED.iter().enumerate() {
+        let shown = text_of(rt.alloc(), &named_reply(*named)?)?;
+        assert_at(&rt, row, shown.as_slice() == *text);
     }
     Ok(())
 }
 
+/// The ends of a drain, and their texts. The grain is cart/k-1.
+static ENDS: [(End, &[u8]); 4] = [
+    (End::Drained, b"drained 12"),
+    (End::Stuck, b"stuck cart/k-1"),
+    (End::TooMany, b"too-many"),
+    (End::Spent, b"spent"),
+];
+
+/// How a drain ends.
+#[derive(Clone, Copy)]
+enum End {
+    Drained,
+    Stuck,
+    TooMany,
+    Spent,
+}
+
+fn drain_end(end: End) -> Result<DrainEnd, Fail> {
+    match end {
+        End::Drained => Ok(DrainEnd::Drained { turns: 12 }),
+        End::Stuck => Ok(DrainEnd::Stuck { grain: grain()? }),
+        End::TooMany => Ok(DrainEnd::TooMany),
+        End::Spent => Ok(DrainEnd::Spent),
+    }
+}
+
+fn drained(alloc: Global, end: &DrainEnd) -> Result<Vec<u8>, AllocError> {
+    let mut text = Vec::new(alloc);
+    drain_text(end, &mut text)?;
+    Ok(text)
+}
+
 #[test]
 fn each_end_of_a_drain_has_its_text(rt: HostRuntime) -> Result<(), Fail> {
-    let grain = GrainId::new(b"cart", b"k-1")?;
-    let cases: [(DrainEnd, &[u8]); 4] = [
-        (DrainEnd::Drained { turns: 12 }, b"drained 12"),
-        (DrainEnd::Stuck { grain }, b"stuck cart/k-1"),
-        (DrainEnd::TooMany, b"too-many"),
-        (DrainEnd::Spent, b"spent"),
-    ];
-    for (end, wanted) in cases {
-        let mut text = Vec::new(rt.alloc());
-        drain_text(&end, &mut text)?;
-        assert!(rt; text.as_slice() == wanted);
+    for (row, (end, wanted)) in ENDS.iter().enumerate() {
+        let end = drain_end(*end)?;
+        let shown = drained(rt.alloc(), &end)?;
+        assert_at(&rt, row, shown.as_slice() == *wanted);
     }
     Ok(())
 }

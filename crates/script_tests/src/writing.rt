@@ -1,4 +1,5 @@
 //! Operations, the lines that are written of them, and what those lines are read as.
+use crate::rows::assert_at;
 use script_writer::write_op;
 use std::alloc::{AllocError, Global};
 use std::test::Fail;
@@ -40,6 +41,12 @@ fn wanted(alloc: Global, op: &Op) -> Result<String, AllocError> {
     }
 }
 
+/// Whether this is the line of an operation, and is read as the operation.
+fn is_written(alloc: Global, op: &Op, line: &[u8]) -> Result<bool, Fail> {
+    let written = line_of(alloc, op)?;
+    Ok(written.as_slice() == line && shown(alloc, &written)? == wanted(alloc, op)?)
+}
+
 /// The token with the greatest numbers.
 const LAST: Token = Token {
     seq: 18446744073709551615,
@@ -50,67 +57,84 @@ const SUB: SubName = SubName::Explicit(7);
 
 const GREATEST: SubName = SubName::Explicit(4294967295);
 
-/// Operations without names, and their lines.
-const NAMELESS: [(Op, &[u8]); 12] = [
-    (Op::Unsubscribe { sub: GREATEST }, b"unsub 3:4294967295"),
+/// Operations without names.
+#[derive(Clone, Copy)]
+enum Nameless {
+    Unsubscribe,
+    Pull,
+    Deliver,
+    Retry,
+    Ack,
+    AckLast,
+    Purge,
+    Move,
+    Ready,
+    Due,
+    DueAfter,
+    Quiet,
+}
+
+/// These operations, and their lines.
+static NAMELESS: [(Nameless, &[u8]); 12] = [
+    (Nameless::Unsubscribe, b"unsub 3:4294967295"),
+    (Nameless::Pull, b"pull 3 18446744073709551615 4294967295"),
+    (Nameless::Deliver, b"deliver 5 3:7"),
+    (Nameless::Retry, b"retry 0 3:7"),
+    (Nameless::Ack, b"ack 5 3:7 9.2"),
     (
-        Op::Pull {
+        Nameless::AckLast,
+        b"ack 5 3:7 18446744073709551615.4294967295",
+    ),
+    (Nameless::Purge, b"purge 3 5 0"),
+    (Nameless::Move, b"move 3 15"),
+    (Nameless::Ready, b"ready 3"),
+    (Nameless::Due, b"due 3"),
+    (Nameless::DueAfter, b"due 3 3:7"),
+    (Nameless::Quiet, b"quiet"),
+];
+
+fn ack(token: Token) -> Op {
+    Op::Ack {
+        generation: 5,
+        sub: SUB,
+        token,
+    }
+}
+
+fn nameless_op(nameless: Nameless) -> Op {
+    match nameless {
+        Nameless::Unsubscribe => Op::Unsubscribe { sub: GREATEST },
+        Nameless::Pull => Op::Pull {
             generation: 18446744073709551615,
             max: 4294967295,
         },
-        b"pull 3 18446744073709551615 4294967295",
-    ),
-    (
-        Op::Deliver {
+        Nameless::Deliver => Op::Deliver {
             generation: 5,
             sub: SUB,
         },
-        b"deliver 5 3:7",
-    ),
-    (
-        Op::Retry {
+        Nameless::Retry => Op::Retry {
             generation: 0,
             sub: SUB,
         },
-        b"retry 0 3:7",
-    ),
-    (
-        Op::Ack {
-            generation: 5,
-            sub: SUB,
-            token: Token { seq: 9, idx: 2 },
-        },
-        b"ack 5 3:7 9.2",
-    ),
-    (
-        Op::Ack {
-            generation: 5,
-            sub: SUB,
-            token: LAST,
-        },
-        b"ack 5 3:7 18446744073709551615.4294967295",
-    ),
-    (
-        Op::Purge {
+        Nameless::Ack => ack(Token { seq: 9, idx: 2 }),
+        Nameless::AckLast => ack(LAST),
+        Nameless::Purge => Op::Purge {
             generation: 5,
             keep: 0,
         },
-        b"purge 3 5 0",
-    ),
-    (Op::Move { silo: 15 }, b"move 3 15"),
-    (Op::Ready { after: None }, b"ready 3"),
-    (Op::Due { after: None }, b"due 3"),
-    (Op::Due { after: Some(SUB) }, b"due 3 3:7"),
-    (Op::Quiet, b"quiet"),
-];
+        Nameless::Move => Op::Move { silo: 15 },
+        Nameless::Ready => Op::Ready { after: None },
+        Nameless::Due => Op::Due { after: None },
+        Nameless::DueAfter => Op::Due { after: Some(SUB) },
+        Nameless::Quiet => Op::Quiet,
+    }
+}
 
 #[test]
 fn operations_without_names(rt: HostRuntime) -> Result<(), Fail> {
-    for (op, line) in NAMELESS {
-        let written = line_of(rt.alloc(), &op)?;
-        assert!(rt; written.as_slice() == line);
-        let read = shown(rt.alloc(), &written)?;
-        assert!(rt; read == wanted(rt.alloc(), &op)?);
+    for (row, (nameless, line)) in NAMELESS.iter().enumerate() {
+        let op = nameless_op(*nameless);
+        assert_at(&rt, row, is_written(rt.alloc(), &op, line)?);
     }
     Ok(())
 }
@@ -130,39 +154,65 @@ fn implicit() -> Result<SubName, Fail> {
     })
 }
 
-/// Operations with names, and their lines.
-fn named() -> Result<[(Op, &'static [u8]); 9], Fail> {
-    let (stream, grain, sub) = (stream()?, grain()?, implicit()?);
-    let rule = Op::AddRule {
-        kind: Name::new(b"log")?,
-        namespace: Name::new(b"orders")?,
-    };
-    let commit = Op::Commit {
-        grain,
-        activation: 11,
-        turn: 12,
-        note: 13,
-    };
-    Ok([
-        (rule, b"rule log orders"),
-        (
-            subscribe(stream, grain, Start::Latest),
-            b"sub orders/k-1 clerk/k_2 latest",
-        ),
-        (
-            subscribe(stream, grain, Start::At(Token { seq: 7, idx: 2 })),
-            b"sub orders/k-1 clerk/k_2 from 7.2",
-        ),
-        (
-            Op::Deliver { generation: 5, sub },
-            b"deliver 5 3:log@orders/k-1",
-        ),
-        (Op::Begin { grain, max: 1 }, b"begin 3 clerk/k_2 1"),
-        (commit, b"commit 3 clerk/k_2 11 12 13"),
-        (Op::Deactivate { grain }, b"deactivate 3 clerk/k_2"),
-        (Op::Ready { after: Some(grain) }, b"ready 3 clerk/k_2"),
-        (Op::Due { after: Some(sub) }, b"due 3 3:log@orders/k-1"),
-    ])
+/// Operations that have the stream orders/k-1, the grain clerk/k_2, or the name that a rule for logs makes of the stream.
+#[derive(Clone, Copy)]
+enum Named {
+    AddRule,
+    SubscribeLatest,
+    SubscribeAt,
+    Deliver,
+    Begin,
+    Commit,
+    Deactivate,
+    Ready,
+    Due,
+}
+
+/// These operations, and their lines.
+static NAMED: [(Named, &[u8]); 9] = [
+    (Named::AddRule, b"rule log orders"),
+    (Named::SubscribeLatest, b"sub orders/k-1 clerk/k_2 latest"),
+    (Named::SubscribeAt, b"sub orders/k-1 clerk/k_2 from 7.2"),
+    (Named::Deliver, b"deliver 5 3:log@orders/k-1"),
+    (Named::Begin, b"begin 3 clerk/k_2 1"),
+    (Named::Commit, b"commit 3 clerk/k_2 11 12 13"),
+    (Named::Deactivate, b"deactivate 3 clerk/k_2"),
+    (Named::Ready, b"ready 3 clerk/k_2"),
+    (Named::Due, b"due 3 3:log@orders/k-1"),
+];
+
+fn named_op(named: Named) -> Result<Op, Fail> {
+    Ok(match named {
+        Named::AddRule => Op::AddRule {
+            kind: Name::new(b"log")?,
+            namespace: Name::new(b"orders")?,
+        },
+        Named::SubscribeLatest => subscribe(stream()?, grain()?, Start::Latest),
+        Named::SubscribeAt => {
+            subscribe(stream()?, grain()?, Start::At(Token { seq: 7, idx: 2 }))
+        }
+        Named::Deliver => Op::Deliver {
+            generation: 5,
+            sub: implicit()?,
+        },
+        Named::Begin => Op::Begin {
+            grain: grain()?,
+            max: 1,
+        },
+        Named::Commit => Op::Commit {
+            grain: grain()?,
+            activation: 11,
+            turn: 12,
+            note: 13,
+        },
+        Named::Deactivate => Op::Deactivate { grain: grain()? },
+        Named::Ready => Op::Ready {
+            after: Some(grain()?),
+        },
+        Named::Due => Op::Due {
+            after: Some(implicit()?),
+        },
+    })
 }
 
 fn subscribe(stream: StreamId, grain: GrainId, start: Start) -> Op {
@@ -175,17 +225,15 @@ fn subscribe(stream: StreamId, grain: GrainId, start: Start) -> Op {
 
 #[test]
 fn operations_with_names(rt: HostRuntime) -> Result<(), Fail> {
-    for (op, line) in named()? {
-        let written = line_of(rt.alloc(), &op)?;
-        assert!(rt; written.as_slice() == line);
-        let read = shown(rt.alloc(), &written)?;
-        assert!(rt; read == wanted(rt.alloc(), &op)?);
+    for (row, (named, line)) in NAMED.iter().enumerate() {
+        let op = named_op(*named)?;
+        assert_at(&rt, row, is_written(rt.alloc(), &op, line)?);
     }
     Ok(())
 }
 
 /// Batches, and the lines of their publishes.
-const BATCHES: [(&[&[u8]], &[u8]); 4] = [
+static BATCHES: [(&[&[u8]], &[u8]); 4] = [
     (&[], b"pub orders/k-1"),
     (&[b""], br#"pub orders/k-1 """#),
     (&[b"a", b" b  c "], br#"pub orders/k-1 "a" " b  c ""#),
@@ -195,21 +243,22 @@ const BATCHES: [(&[&[u8]], &[u8]); 4] = [
     ),
 ];
 
+fn batch(alloc: Global, texts: &[&[u8]]) -> Result<Batch, Fail> {
+    let mut payloads = Vec::new(alloc);
+    for text in texts {
+        payloads.push(Payload::new(text)?)?;
+    }
+    Ok(Batch::of(payloads))
+}
+
 #[test]
 fn publishes(rt: HostRuntime) -> Result<(), Fail> {
-    for (texts, line) in BATCHES {
-        let mut payloads = Vec::new(rt.alloc());
-        for text in texts {
-            payloads.push(Payload::new(*text)?)?;
-        }
+    for (row, (texts, line)) in BATCHES.iter().enumerate() {
         let op = Op::Publish {
             stream: stream()?,
-            payloads: Batch::of(payloads),
+            payloads: batch(rt.alloc(), texts)?,
         };
-        let written = line_of(rt.alloc(), &op)?;
-        assert!(rt; written.as_slice() == line);
-        let read = shown(rt.alloc(), &written)?;
-        assert!(rt; read == wanted(rt.alloc(), &op)?);
+        assert_at(&rt, row, is_written(rt.alloc(), &op, line)?);
     }
     Ok(())
 }

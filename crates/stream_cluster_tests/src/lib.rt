@@ -1,4 +1,4 @@
-//! Tests of a cluster, through its public calls.
+//! Tests of a cluster, through its public calls: in threads, refused memory and threads, under load, and parked.
 #![tactic(auto)]
 
 #[cfg(test)]
@@ -8,8 +8,28 @@ mod gates;
 #[cfg(test)]
 mod in_parallel;
 #[cfg(test)]
+mod load;
+#[cfg(test)]
+mod names;
+#[cfg(test)]
+mod parked;
+#[cfg(test)]
+mod parked_ends;
+#[cfg(test)]
+mod parked_refusals;
+#[cfg(test)]
 mod producer;
+#[cfg(test)]
+mod refusals;
 #[cfg(test)]
 mod running;
 #[cfg(test)]
+mod scarce;
+#[cfg(test)]
 mod silos;
+#[cfg(test)]
+mod stops;
+#[cfg(test)]
+mod story;
+#[cfg(test)]
+mod told;

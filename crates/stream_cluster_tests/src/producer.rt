@@ -1,34 +1,40 @@
 //! A caller in a thread, and what it was told.
-ghost use Rattle.std.specs.Prelude.{◌≡◌};
+ghost use Rattle.std.specs.Prelude.{◌≡◌, IfOk};
 ghost use Rattle.cluster_callers.specs.Calls.{turnstiles};
 
+use crate::names::{digits, grain, stream};
+use crate::told::Told;
 use cluster_callers::Caller;
-use shared_partition::Gate;
-use std::alloc::Global;
+use script_producer::{Drained, drain};
+use shared_partition::{Counting, Gate};
+use std::alloc::{AllocError, Global};
 use std::marker::Model;
 use std::process::Abort;
 use std::sync::Wait;
-use std::thread;
 use step_core::{Op, Reply};
-use stream_ident::{Batch, GrainId, Payload, StreamId};
+use stream_ident::{Batch, Payload, SubName};
 use stream_model::Start;
-use turnstile::PlainHistory;
+use turnstile::{PlainHistory, ProofHistory, Refusal, StoredHistory};
 
 /// How the calls of a queue are stored.
 pub type Calls = PlainHistory<Op, Reply>;
 
-/// A caller of a cluster. A contract sees the turnstiles of its passes.
-pub struct Producer<G: Gate> {
-    caller: Caller<G, Calls>,
+/// A producer of a cluster that stores no calls.
+pub type Publisher = Producer<Counting, ProofHistory<Op, Reply>>;
+
+/// A caller of a cluster, and what it was told was published. A contract sees the turnstiles of its passes.
+pub struct Producer<G: Gate, H: StoredHistory<Op, Reply>> {
+    caller: Caller<G, H>,
+    told: Vec<Told>,
 }
 
-impl<G: Gate + Drop> Drop for Producer<G> {
+impl<G: Gate + Drop, H: StoredHistory<Op, Reply> + Drop> Drop for Producer<G, H> {
     fn drop(self) {
-        let Self { caller: _ } = self;
+        let Self { caller: _, told: _ } = self;
     }
 }
 
-impl<G: Gate> Model for Producer<G> {
+impl<G: Gate, H: StoredHistory<Op, Reply>> Model for Producer<G, H> {
     ghost use Rattle.std.specs.Prelude.{List, Option};
     ghost use Rattle.stream_model.specs.declared.plain.PlainPartition.{PlainPartition};
     ghost use Rattle.cluster_callers.specs.Calls.{turnstiles};
@@ -39,108 +45,198 @@ impl<G: Gate> Model for Producer<G> {
     ghost view = { λ p. turnstiles p.caller };
 }
 
-impl<G: Gate> Producer<G> {
-    pub fn new(caller: Caller<G, Calls>) -> Producer<G>
+// A grain subscribes to the stream of a queue, from the next event on.
+fn subscription<R: Abort>(
+    rt: &R,
+    alloc: Global,
+    queue: usize,
+    to: usize,
+) -> Result<Op, AllocError> {
+    let from = digits(alloc, queue as u64)?;
+    let to = digits(alloc, to as u64)?;
+    Ok(Op::Subscribe {
+        stream: stream(rt, from.as_bytes()),
+        grain: grain(rt, to.as_bytes()),
+        start: Start::Latest,
+    })
+}
+
+// An event for the stream of a queue.
+fn publication<R: Abort>(
+    rt: &R,
+    alloc: Global,
+    queue: usize,
+    payload: u64,
+) -> Result<Op, AllocError> {
+    let key = digits(alloc, queue as u64)?;
+    let text = digits(alloc, payload)?;
+    let mut payloads = Vec::with_capacity(alloc, 1)?;
+    payloads.push_reserved(Payload::new(text.as_bytes()).expect(rt, "a payload"));
+    Ok(Op::Publish {
+        stream: stream(rt, key.as_bytes()),
+        payloads: Batch::of(payloads),
+    })
+}
+
+impl<G: Gate, H: StoredHistory<Op, Reply>> Producer<G, H> {
+    /// One that was told nothing yet, and has room to be told.
+    pub fn new(caller: Caller<G, H>, told: Vec<Told>) -> Producer<G, H>
         ensures { result ≡ turnstiles caller }
     {
-        Producer { caller }
+        Producer { caller, told }
     }
 
-    /// Another one of the same queues.
-    pub fn split<R: Abort>(&mut self, rt: &R, alloc: Global) -> Producer<G>
+    /// Another one of the same queues, which was told nothing yet.
+    ///
+    /// # Errors
+    /// The call failed to allocate.
+    pub fn split(&mut self, alloc: Global, room: usize) -> Result<Producer<G, H>, AllocError>
         ensures same { self.new ≡ self.old }
-        ensures other { result ≡ self.old }
+        ensures other { IfOk result (λ other. other ≡ self.old) }
     {
-        Producer::new(self.caller.split(alloc).expect(rt, "memory"))
+        let told = Vec::with_capacity(alloc, room)?;
+        Ok(Producer::new(self.caller.split(alloc)?, told))
     }
 
-    /// Takes in another one of the same queues.
-    pub fn join(&mut self, other: Producer<G>)
+    /// Takes in another one of the same queues, with what it was told, for which there is room.
+    pub fn join<R: Abort>(&mut self, rt: &R, other: Producer<G, H>)
         requires { other ≡ self.old }
         ensures { self.new ≡ self.old }
     {
-        self.caller.join(other.into_caller());
+        let (caller, mut told) = other.into_parts();
+        self.caller.join(caller);
+        self.told.append(&mut told).expect(rt, "room");
     }
 
-    pub fn into_caller(self) -> Caller<G, Calls>
-        ensures { turnstiles result ≡ self }
+    /// The caller, and what it was told.
+    pub fn into_parts(self) -> (Caller<G, H>, Vec<Told>)
+        ensures { turnstiles result.0 ≡ self }
     {
-        let Producer { caller } = self;
-        caller
+        let Producer { caller, told } = self;
+        (caller, told)
     }
 
-    /// Does an operation. Where it is refused there is no reply.
+    /// The reply to an operation.
+    ///
+    /// # Errors
+    /// It is refused, and nothing was done.
     pub fn try_ask<R: Wait + Abort>(
         &mut self,
         rt: &R,
         alloc: Global,
         queue: usize,
         op: Op,
-    ) -> Option<Reply>
+    ) -> Result<Reply, Refusal>
         ensures { self.new ≡ self.old }
     {
         assert!(rt; queue < self.caller.queues());
-        self.caller.call(rt, alloc, queue, op).ok()
+        self.caller.call(rt, alloc, queue, op)
     }
 
-    /// Does an operation, which isn't refused.
-    pub fn ask<R: Wait + Abort>(&mut self, rt: &R, alloc: Global, queue: usize, op: Op) -> Reply
+    // The reply to an operation, which is refused only for want of memory.
+    fn ask<R: Wait + Abort>(
+        &mut self,
+        rt: &R,
+        alloc: Global,
+        queue: usize,
+        op: Op,
+    ) -> Result<Reply, AllocError>
         ensures { self.new ≡ self.old }
     {
-        self.try_ask(rt, alloc, queue, op).expect(rt, "a reply")
+        match self.try_ask(rt, alloc, queue, op) {
+            Ok(reply) => Ok(reply),
+            Err(Refusal::Memory) => Err(AllocError),
+            Err(Refusal::HistoryFull) => panic!(rt; "there is room"),
+        }
     }
 
-    /// A grain subscribes to a stream from the next event on; both have this key.
-    pub fn subscribe<R: Wait + Abort>(&mut self, rt: &R, alloc: Global, queue: usize, key: &[u8])
+    /// A grain subscribes to the stream of a queue.
+    ///
+    /// # Errors
+    /// The call failed to allocate, and nothing was done.
+    pub fn subscribe<R: Wait + Abort>(
+        &mut self,
+        rt: &R,
+        alloc: Global,
+        queue: usize,
+        to: usize,
+    ) -> Result<(), AllocError>
         ensures { self.new ≡ self.old }
     {
-        let op = Op::Subscribe {
-            stream: StreamId::new(b"o", key).expect(rt, "a stream"),
-            grain: GrainId::new(b"g", key).expect(rt, "a grain"),
-            start: Start::Latest,
-        };
-        let reply = self.ask(rt, alloc, queue, op);
+        let op = subscription(rt, alloc, queue, to)?;
+        let reply = self.ask(rt, alloc, queue, op)?;
         assert!(rt; matches!(reply, Reply::Subscribed { .. }));
+        Ok(())
     }
 
-    /// Publishes an event with this payload to the stream of this key, and gives its number.
+    /// Publishes an event to the stream of a queue.
+    ///
+    /// # Errors
+    /// The call failed to allocate, and nothing was done.
     pub fn publish<R: Wait + Abort>(
         &mut self,
         rt: &R,
         alloc: Global,
         queue: usize,
-        key: &[u8],
-        payload: &[u8],
-    ) -> u64
+        payload: u64,
+    ) -> Result<(), AllocError>
         ensures { self.new ≡ self.old }
     {
-        let op = publish(rt, alloc, key, payload);
-        let Reply::Published { seq } = self.ask(rt, alloc, queue, op) else {
+        let op = publication(rt, alloc, queue, payload)?;
+        let reply = self.ask(rt, alloc, queue, op)?;
+        let Reply::Published { seq } = reply else {
             panic!(rt; "the event is published");
         };
-        seq
+        let seq = seq as usize;
+        self.told
+            .push(Told {
+                queue,
+                seq,
+                payload,
+            })
+            .expect(rt, "room");
+        Ok(())
     }
 
-    /// Waits until a queue is quiet.
-    pub fn wait_until_quiet<R: Wait + Abort>(&mut self, rt: &R, alloc: Global, queue: usize)
+    /// How many events of a queue it was told of.
+    pub fn told_of(&self, queue: usize) -> usize {
+        let mut count = 0usize;
+        for it in &self.told {
+            if it.queue == queue {
+                count = count.wrapping_add(1);
+            }
+        }
+        count
+    }
+
+    /// Whether a loop of the cluster has ended by itself.
+    pub fn sees_an_end(&self) -> bool {
+        self.caller.doorbell().has_ended()
+    }
+
+    /// Ends the subscription with this number at a queue, and gives how many events it has handled.
+    pub fn unsubscribe<R: Wait + Abort>(
+        &mut self,
+        rt: &R,
+        alloc: Global,
+        queue: usize,
+        number: u32,
+    ) -> usize
         ensures { self.new ≡ self.old }
     {
-        for _ in rt.forever() {
-            if self.ask(rt, alloc, queue, Op::Quiet) == Reply::IsQuiet {
-                break;
-            }
-            assert!(rt; !self.caller.doorbell().has_ended());
-            thread::yield_now();
-        }
+        let sub = SubName::Explicit(number);
+        let reply = self.ask(rt, alloc, queue, Op::Unsubscribe { sub });
+        let Reply::Unsubscribed { handled } = reply.expect(rt, "it takes no memory") else {
+            panic!(rt; "it is subscribed");
+        };
+        handled
     }
-}
 
-/// An event for the stream of this key.
-pub fn publish<R: Abort>(rt: &R, alloc: Global, key: &[u8], payload: &[u8]) -> Op {
-    let mut payloads = Vec::with_capacity(alloc, 1).expect(rt, "memory");
-    payloads.push_reserved(Payload::new(payload).expect(rt, "a payload"));
-    Op::Publish {
-        stream: StreamId::new(b"o", key).expect(rt, "a stream"),
-        payloads: Batch::of(payloads),
+    /// Waits until all queues are quiet, and tells whether they are: a loop may have ended.
+    pub fn is_quiet<R: Wait + Abort>(&mut self, rt: &R, alloc: Global) -> bool
+        ensures { self.new ≡ self.old }
+    {
+        drain(rt, alloc, &mut self.caller, 100_000).expect(rt, "it takes no memory")
+            == Drained::Quiet
     }
 }

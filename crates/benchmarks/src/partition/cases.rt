@@ -35,7 +35,7 @@ pub enum Case {
     Purge,
 }
 
-pub const CASES: [Case; 6] = [
+pub static CASES: [Case; 6] = [
     Case::Drain,
     Case::Lag,
     Case::Due,

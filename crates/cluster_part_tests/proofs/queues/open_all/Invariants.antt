@@ -4,7 +4,7 @@ use Rattle.silo_loops.specs.Lines.{places}
 use Rattle.cluster_part_tests.proofs.queues.open_all.Given as goal
 
 abbrev pub invariant-loop-queue : goal.invariant-loop-queue
-invariant-loop-queue l =
+invariant-loop-queue g l =
     record {
       beside : turnstiles l.callers.items ≡ places l.lines.items;
       many : length l.lines.items ≡ l.queue;

@@ -1,0 +1,376 @@
+use crate::activations::{Began, are_alike, is_begun};
+use crate::names::grain;
+use crate::rows::assert_row;
+use consumer_grain::{Delivery, Offered};
+use grain_table::GrainTable;
+use std::alloc::{AllocError, Global};
+use std::process::Abort;
+use std::test::Fail;
+use stream_ident::GrainId;
+
+// What is asked of a table, and what it has to answer. A grain is named by its number, or by the byte that is its key.
+#[derive(Clone, Copy)]
+enum Call {
+    // The delivery of position 3 is offered to a subscription of a grain.
+    Offer(usize, usize, Offered),
+    // Turn 5 of a grain begins, whose subscription has handled what comes before a position.
+    Begin(usize, usize, Began),
+    // A turn of the first activation of a grain ends, or doesn't run.
+    Commit(usize, u64, bool),
+    // The deliveries of subscription 7 leave a grain.
+    Forget(usize),
+    // A grain leaves memory, and so many deliveries are lost.
+    Deactivate(usize, usize),
+    // Which number a grain has.
+    Find(u8, Option<usize>),
+    // A grain with this key is active or not, for which time it is, and how many deliveries wait.
+    At(usize, u8, bool, u64, usize),
+    // Which grain is ready after another.
+    After(u8, u8),
+    // Which grain is ready, for which something waits, and whose turn runs.
+    First(Option<u8>, Option<u8>, Option<u8>),
+}
+
+// Adds the grain with a key, which isn't there, with the delivery of position 3.
+fn add<R: Abort>(rt: &R, alloc: Global, table: &mut GrainTable, key: u8) -> Result<(), AllocError> {
+    let grain = grain(rt, b'g', key);
+    assert!(rt; table.find(&grain).is_none());
+    let (sub, position) = (7, 3);
+    table.add(alloc, grain, Delivery { sub, position })
+}
+
+// Offers the delivery of position 3 to a subscription of the grain with a number.
+fn offer<R: Abort>(
+    rt: &R,
+    alloc: Global,
+    table: &mut GrainTable,
+    number: usize,
+    sub: usize,
+) -> Result<Offered, AllocError> {
+    assert!(rt; number < table.len() && table.at(number).number() < 1000);
+    table.offer(alloc, number, Delivery { sub, position: 3 })
+}
+
+// Whether this becomes of turn 5 of the grain with a number.
+fn begins(table: &mut GrainTable, number: usize, past: usize, began: &Began) -> bool {
+    number < table.len() && is_begun(&table.begin(number, past, Some(5), 1), began)
+}
+
+// Ends this turn of the first activation of the grain with a number, if it runs, and says whether it did.
+fn commit<R: Abort>(rt: &R, table: &mut GrainTable, number: usize, turn: u64) -> bool {
+    assert!(rt; number < table.len());
+    if table.at(number).current_turn(1, turn).is_none() {
+        return false;
+    }
+    table.end_turn(number);
+    true
+}
+
+// The deliveries of subscription 7 leave the grain with a number.
+fn forget<R: Abort>(rt: &R, table: &mut GrainTable, number: usize) {
+    assert!(rt; number < table.len());
+    table.forget(number, 7);
+}
+
+// Whether the grain with a number leaves memory, and so many deliveries are lost.
+fn deactivates(table: &mut GrainTable, number: usize, lost: usize) -> bool {
+    number < table.len() && table.deactivate(number) == lost
+}
+
+// Whether a grain has this key, or there is none.
+fn is_named<R: Abort>(rt: &R, found: &Option<GrainId>, key: Option<u8>) -> bool {
+    match key {
+        None => found.is_none(),
+        Some(key) => *found == Some(grain(rt, b'g', key)),
+    }
+}
+
+// Whether this is seen of the grain with a number.
+fn is_at<R: Abort>(
+    rt: &R,
+    table: &GrainTable,
+    number: usize,
+    key: u8,
+    (is_active, times, waiting): (bool, u64, usize),
+) -> bool {
+    if table.len() <= number || table.grain_at(number) != grain(rt, b'g', key) {
+        return false;
+    }
+    let found = table.at(number);
+    found.is_active() == is_active && found.number() == times && found.waiting() == waiting
+}
+
+// Whether a call is answered so.
+fn is_so<R: Abort>(
+    rt: &R,
+    alloc: Global,
+    table: &mut GrainTable,
+    call: &Call,
+) -> Result<bool, AllocError> {
+    match call {
+        Call::Offer(number, sub, offered) => {
+            return Ok(offer(rt, alloc, table, *number, *sub)? == *offered);
+        }
+        Call::Begin(number, past, began) => return Ok(begins(table, *number, *past, began)),
+        Call::Commit(number, turn, ended) => {
+            return Ok(commit(rt, table, *number, *turn) == *ended);
+        }
+        Call::Forget(number) => forget(rt, table, *number),
+        Call::Deactivate(number, lost) => return Ok(deactivates(table, *number, *lost)),
+        _ => return Ok(is_seen(rt, table, call)),
+    }
+    Ok(true)
+}
+
+// Whether this is seen of a table.
+fn is_seen<R: Abort>(rt: &R, table: &GrainTable, call: &Call) -> bool {
+    match *call {
+        Call::Find(key, number) => table.find(&grain(rt, b'g', key)) == number,
+        Call::At(number, key, is_active, times, waiting) => {
+            is_at(rt, table, number, key, (is_active, times, waiting))
+        }
+        Call::After(key, next) => {
+            is_named(
+                rt,
+                &table.ready_after(Some(&grain(rt, b'g', key))),
+                Some(next),
+            )
+        }
+        Call::First(ready, waits, runs) => {
+            is_named(rt, &table.ready_after(None), ready)
+                && is_named(rt, &table.least_waiting(), waits)
+                && is_named(rt, &table.least_running(), runs)
+        }
+        _ => false,
+    }
+}
+
+// Adds the grains with these keys to a table, in the order of their numbers.
+fn fill<R: Abort>(
+    rt: &R,
+    alloc: Global,
+    table: &mut GrainTable,
+    keys: &[u8],
+) -> Result<(), AllocError> {
+    for key in keys {
+        add(rt, alloc, table, *key)?;
+    }
+    assert!(rt; table.len() == keys.len() && table.is_empty() == keys.is_empty());
+    Ok(())
+}
+
+// Fills and asks a new table.
+fn check<R: Abort>(
+    rt: &R,
+    alloc: Global,
+    case: usize,
+    keys: &[u8],
+    calls: &[Call],
+) -> Result<(), AllocError> {
+    let mut table = GrainTable::new(alloc);
+    fill(rt, alloc, &mut table, keys)?;
+    for (row, call) in calls.iter().enumerate() {
+        assert_row(rt, case, row, is_so(rt, alloc, &mut table, call)?);
+    }
+    Ok(())
+}
+
+// Grains are found by name.
+const FOUND: [Call; 19] = [
+    Call::Find(b'h', Some(0)),
+    Call::At(0, b'h', true, 1, 1),
+    Call::Find(b'b', Some(1)),
+    Call::At(1, b'b', true, 1, 1),
+    Call::Find(b'd', Some(2)),
+    Call::At(2, b'd', true, 1, 1),
+    Call::Find(b'a', Some(3)),
+    Call::At(3, b'a', true, 1, 1),
+    Call::Find(b'c', Some(4)),
+    Call::At(4, b'c', true, 1, 1),
+    Call::Find(b'g', Some(5)),
+    Call::At(5, b'g', true, 1, 1),
+    Call::Find(b'f', Some(6)),
+    Call::At(6, b'f', true, 1, 1),
+    Call::Find(b'e', Some(7)),
+    Call::At(7, b'e', true, 1, 1),
+    Call::Find(b'0', None),
+    Call::Find(b'i', None),
+    Call::Find(b'z', None),
+];
+
+// No grain is in a new table.
+const EMPTY: [Call; 2] = [Call::Find(b'a', None), Call::First(None, None, None)];
+
+// Ready grains come in turn.
+const READY: [Call; 8] = [
+    Call::First(Some(b'b'), Some(b'b'), None),
+    Call::After(b'a', b'b'),
+    Call::After(b'b', b'd'),
+    Call::After(b'c', b'd'),
+    Call::After(b'd', b'f'),
+    Call::After(b'f', b'h'),
+    Call::After(b'h', b'b'),
+    Call::After(b'z', b'b'),
+];
+
+// A grain with a running turn is not ready.
+const RUNNING: [Call; 7] = [
+    Call::Offer(1, 8, Offered::Delivered),
+    Call::Begin(1, 0, Began::Turn(7, &[3])),
+    Call::First(Some(b'b'), Some(b'a'), Some(b'a')),
+    Call::After(b'c', b'b'),
+    Call::Commit(1, 6, false),
+    Call::Commit(1, 5, true),
+    Call::First(Some(b'a'), Some(b'a'), None),
+];
+
+// A grain for which nothing waits is not ready.
+const NOTHING_WAITS: [Call; 8] = [
+    Call::Forget(1),
+    Call::First(Some(b'b'), Some(b'b'), None),
+    Call::Begin(2, 4, Began::Dropped(7, 3)),
+    Call::First(Some(b'c'), Some(b'c'), None),
+    Call::Deactivate(0, 1),
+    Call::First(None, None, None),
+    Call::Find(b'c', Some(0)),
+    Call::At(0, b'c', false, 1, 0),
+];
+
+// A deactivated grain keeps its number.
+const DEACTIVATED: [Call; 7] = [
+    Call::Begin(0, 0, Began::Turn(7, &[3])),
+    Call::Deactivate(0, 1),
+    Call::First(Some(b'b'), Some(b'b'), None),
+    Call::Offer(0, 8, Offered::Delivered),
+    Call::Find(b'a', Some(0)),
+    Call::At(0, b'a', true, 2, 1),
+    Call::First(Some(b'a'), Some(b'a'), None),
+];
+
+// The keys of the grains that are added to a new table, and what is asked of it then.
+static CASES: [(&[u8], &[Call]); 6] = [
+    (b"hbdacgfe", &FOUND),
+    (b"", &EMPTY),
+    (b"hbdf", &READY),
+    (b"cab", &RUNNING),
+    (b"cab", &NOTHING_WAITS),
+    (b"ab", &DEACTIVATED),
+];
+
+#[test]
+fn tables_of_grains_are_asked(rt: HostRuntime) -> Result<(), Fail> {
+    for (case, (keys, calls)) in CASES.iter().enumerate() {
+        check(&rt, rt.alloc(), case, keys, calls)?;
+    }
+    Ok(())
+}
+
+// Whether the grains with a number are alike in two tables.
+fn are_alike_at(one: &GrainTable, twin: &GrainTable, number: usize) -> bool {
+    number < one.len()
+        && number < twin.len()
+        && one.grain_at(number) == twin.grain_at(number)
+        && are_alike(one.at(number), twin.at(number))
+}
+
+// Whether a grain stands under the same number in two tables, and the same grain is ready after it.
+fn are_alike_after(one: &GrainTable, twin: &GrainTable, grain: &GrainId) -> bool {
+    one.find(grain) == twin.find(grain)
+        && one.ready_after(Some(grain)) == twin.ready_after(Some(grain))
+}
+
+// Two tables are alike.
+fn compare<R: Abort>(rt: &R, one: &GrainTable, twin: &GrainTable) {
+    assert!(rt; one.len() == twin.len());
+    for number in 0..one.len() {
+        assert!(rt; are_alike_at(one, twin, number));
+    }
+    for key in b"abcdefgh" {
+        assert!(rt; are_alike_after(one, twin, &grain(rt, b'g', *key)));
+    }
+}
+
+// What may want memory.
+#[derive(Clone, Copy)]
+enum Change {
+    // The grain with a key is added.
+    Add(u8),
+    // The grain with the number 4 is offered a delivery to a subscription.
+    Offer(usize),
+}
+
+static CHANGES: [Change; 13] = [
+    Change::Add(b'h'),
+    Change::Add(b'b'),
+    Change::Add(b'd'),
+    Change::Add(b'a'),
+    Change::Add(b'c'),
+    Change::Add(b'g'),
+    Change::Add(b'f'),
+    Change::Add(b'e'),
+    Change::Offer(9),
+    Change::Offer(5),
+    Change::Offer(1),
+    Change::Offer(3),
+    Change::Offer(2),
+];
+
+fn apply<R: Abort>(
+    rt: &R,
+    alloc: Global,
+    table: &mut GrainTable,
+    change: Change,
+) -> Result<(), AllocError> {
+    match change {
+        Change::Add(key) => add(rt, alloc, table, key),
+        Change::Offer(sub) => {
+            assert!(rt; offer(rt, alloc, table, 4, sub)? == Offered::Delivered);
+            Ok(())
+        }
+    }
+}
+
+// Changes a table, and then its twin. A table that wanted memory is like its twin, and is changed then.
+fn apply_both<R: Abort>(
+    rt: &R,
+    alloc: Global,
+    one: &mut GrainTable,
+    twin: &mut GrainTable,
+    change: Change,
+) -> Result<(), AllocError> {
+    if apply(rt, alloc, one, change).is_err() {
+        compare(rt, one, twin);
+        apply(rt, alloc, one, change)?;
+    }
+    if apply(rt, alloc, twin, change).is_err() {
+        apply(rt, alloc, twin, change)?;
+    }
+    compare(rt, one, twin);
+    Ok(())
+}
+
+fn keep_alike<R: Abort>(
+    rt: &R,
+    alloc: Global,
+    one: &mut GrainTable,
+    twin: &mut GrainTable,
+) -> Result<(), AllocError> {
+    for change in &CHANGES {
+        apply_both(rt, alloc, one, twin, *change)?;
+    }
+    assert!(rt; one.len() == 8);
+    assert!(rt; one.at(4).subs() == [1, 2, 3, 5, 7, 9].as_slice());
+    Ok(())
+}
+
+// With any one allocation refused, two tables stay alike. The second is one grain or delivery behind when the
+// first is given one, and so shows that a refused call left all as it was. Run it with each allocation failing
+// in turn.
+#[test]
+fn one_allocation_refused(rt: HostRuntime) -> Result<(), Fail> {
+    let alloc = rt.alloc();
+    let mut one = GrainTable::new(alloc);
+    let mut twin = GrainTable::new(alloc);
+    keep_alike(&rt, alloc, &mut one, &mut twin)?;
+    Ok(())
+}

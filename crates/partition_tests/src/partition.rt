@@ -1,0 +1,4 @@
+mod drains;
+mod fixture;
+mod limits;
+mod operations;
