@@ -1,5 +1,5 @@
 -- One activation of a table changed.
-use Rattle.std.proofs.Common.{◌≡◌, ◌∙◌, ap, ap₂, sym, refl, subst, ℕ, zero, suc, ◌<◌, true, false, true≢false, List, [], ◌∷◌, length, get_or, set, slice_get, Some, arith, ◌+◌, ◌≤◌, filter, if◌then◌else◌, Bool, ◌++◌, is_some, None, Bor, Option}
+use Rattle.std.proofs.Common.{◌≡◌, ◌∙◌, ap, ap₂, sym, refl, subst, ℕ, zero, suc, ◌<◌, true, false, true≢false, List, [], ◌∷◌, length, get_or, set, slice_get, Some, arith, ◌+◌, ◌≤◌, filter, if◌then◌else◌, Bool, ◌++◌, is_some, None, Bor, Option, slice_index, nat_lt, ◌&&◌, not}
 use Rattle.std.proofs.lemmas.Bool.{false_from_ne_true, lt-ltb}
 use Rattle.std.proofs.lemmas.List.{get_or_default}
 use Rattle.std.proofs.lemmas.Option.{same_Some}
@@ -159,3 +159,20 @@ idle-all grains are none i d within =
         by : (mailbox : List Delivery) → a.mailbox ≡ mailbox → a.mailbox ≡ []
         by [] is = is
         by (d ∷ ds) is = absurd (isnt (rw (is, rests, lt-ltb 0 (suc (length ds)) (omega arith)) refl))
+
+-- where nothing waits and no turn runs, none is ready
+pub idle-ready : (grains : PlainGrains) (numbers : List ℕ) → AreReady grains numbers → AreIdle grains → length numbers ≡ 0
+idle-ready grains [] are idle = refl
+idle-ready grains (n ∷ ns) are idle =
+    let within : slice_index (n ∷ ns) 0 < length grains = are.rising.within 0 (omega arith) in
+    let empty : is_ready (activation_at grains (slice_index (n ∷ ns) 0)) ≡ false = unready (activation_at grains (slice_index (n ∷ ns) 0)) (idle (slice_index (n ∷ ns) 0) no_grain within).0 in
+    absurd (true≢false (sym (are.passing no_grain 0 (omega arith)) ∙ empty))
+  where
+    unready : (a : PlainActivation) → a.mailbox ≡ [] → is_ready a ≡ false
+    unready a none = ap (λ (ds : List Delivery). nat_lt 0 (length ds) && not (is_running a)) none
+
+pub idle-running : (grains : PlainGrains) → AreIdle grains → running_in grains ≡ 0
+idle-running [] idle = refl
+idle-running (e ∷ es) idle =
+    let rests : ◌≡◌ {A = ℕ} (if is_running e.1 then 1 else 0) 0 = ap {B = ℕ} (λ (o : Option RunningTurn). if is_some o then 1 else 0) (idle 0 e (omega arith)).1 in
+    omega (arith, count-first e es, rests, idle-running es (λ i d within. idle (suc i) d (omega arith)))

@@ -21,7 +21,7 @@ use stream_ident::GrainId;
 ///
 /// A grain goes by its number, which is its place in the order of first activation and never changes. A
 /// contract sees the table as the list of the grains with their activations, in that order. The list of the
-/// ready grains, and the room that all take in memory are no part of it.
+/// ready grains, the count of the turns that run, and the room that all take in memory are no part of it.
 #[derive(Debug)]
 pub struct GrainTable {
     entries: IndexMap<GrainId, Activation>,
@@ -87,7 +87,7 @@ impl GrainTable {
 
     /// Whether nothing waits for any grain, and no turn runs. It costs a constant.
     pub fn is_idle(&self) -> bool
-        ensures { IsTrue result → AreIdle self.now }
+        ensures { IsTrue result ↔ AreIdle self.now }
     {
         let ready = self.ready.as_slice();
         ready.is_empty() && self.running == 0

@@ -151,14 +151,7 @@ module _ {E N : Type 0} (name : E → N) (lt same : N → N → Bool) (o : IsOrd
   own : (entries : List E) (number : ℕ) (d : E) → number < length entries → (e : E) (n : ℕ) → n ≡ number → get_or entries n e ≡ get_or entries number d
   own entries number d inside e n here = ap (λ (k : ℕ). get_or entries k e) here ∙ get_or_default entries number e d inside
 
-  -- ---- no entry, and one changed or added
-
-  pub listed-none : AreListed name lt passes [] []
-  listed-none = record {
-    rising = record { within = λ i within. absurd (omega (arith, within)); rises = λ d low high less within. absurd (omega (arith, within)) };
-    passing = λ d i within. absurd (omega (arith, within));
-    listed = λ d n within passed. absurd (omega (arith, within));
-  }
+  -- ---- an entry changed or added
 
   pub listed-but : (entries : List E) (numbers : List ℕ) (number : ℕ) (e : E) → number < length entries → ((d : E) → name e ≡ name (get_or entries number d)) → AreListed name lt passes entries numbers
       → AreListedBut number name lt passes (set entries number e) numbers
