@@ -10,7 +10,7 @@ use Rattle.stream_ident.specs.Alphabet.{IsPayload, is_printable, wrong_in_payloa
 use Rattle.stream_ident.specs.Event.{events_of}
 use Rattle.stream_ident.proofs.NameLemmas.{wrong_place-short}
 use Rattle.stream_ident.proofs.WordLemmas.{one-add}
-use Rattle.partition_queue.specs.declared.entry.Entry.{Entry}
+use Rattle.partition_queue.specs.declared.queue.Entry.{Entry}
 use Rattle.partition_queue.specs.Log.{entries_of, event_of, events_in, no_stream, payload_in, token_of, Grows, IsEntry, IsKept}
 
 -- ---- payloads

@@ -6,7 +6,7 @@ use Rattle.stream_ident.specs.declared.ident.StreamId.{StreamId}
 use Rattle.stream_ident.specs.declared.token.Token.{Token}
 use Rattle.stream_ident.specs.Alphabet.{IsPayload}
 use Rattle.queue_mapper.specs.Place.{tags_of}
-use Rattle.partition_queue.specs.declared.entry.Entry.{Entry}
+use Rattle.partition_queue.specs.declared.queue.Entry.{Entry}
 
 -- what stands for a stream where there is none
 abbrev pub no_stream : StreamId

@@ -5,7 +5,6 @@
 #![tactic(auto)]
 
 mod appended;
-mod entry;
 mod excerpt;
 mod queue;
 mod streams;

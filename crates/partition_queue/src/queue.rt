@@ -2,13 +2,12 @@
 ghost use Rattle.std.specs.Prelude.{◌≡◌, ◌+◌, ◌-◌, ◌*◌, ◌<◌, ◌≤◌, ◌↔◌, ◌++◌, [], true, length, IsTrue, OnErr, vec_len, vec_capacity};
 ghost use Rattle.std.specs.List.{AllByRecursion, concat};
 ghost use Rattle.stream_ident.specs.Alphabet.{IsPayload};
-ghost use Rattle.partition_queue.specs.Log.{entries_of};
+ghost use Rattle.partition_queue.specs.Log.{entries_of, event_of, IsEntry};
 ghost use Rattle.partition_queue.specs.Queue.{append, between, empty, event_at, takes_memory, token_at, TokensRise};
 ghost use Rattle.queue_mapper.specs.Place.{tag_of};
 ghost use Rattle.stream_ident.specs.Words.{Performs};
 
 use crate::appended::Appended;
-use crate::entry::{Entry, event_of};
 use crate::excerpt::Excerpt;
 use crate::streams::Streams;
 use std::alloc::{AllocError, Global};
@@ -20,6 +19,36 @@ const MAX_BATCH: usize = 64;
 
 /// The most bytes of a payload.
 const MAX_PAYLOAD: usize = 256;
+
+/// What the log keeps of an event: the number of its stream, its token, and where its payload lies. It
+/// takes 16 bytes.
+#[derive(Clone, Copy, Debug)]
+struct Entry {
+    /// The number of the stream among those of the log.
+    stream: u32,
+    /// The number of the batch.
+    seq: u32,
+    /// Where the payload begins among the bytes of the log.
+    start: u32,
+    /// How many bytes the payload has.
+    len: u16,
+    /// The place in the batch.
+    idx: u16,
+}
+
+impl Entry {
+    ghost use Rattle.partition_queue.specs.Log.{token_of};
+
+    /// The token of the event.
+    fn token(&self) -> Token
+        ensures { result ≡ token_of self.now }
+    {
+        Token {
+            seq: self.seq as u64,
+            idx: self.idx as u32,
+        }
+    }
+}
 
 /// The log of a partition: the events of the batches that it accepted, in order, at the positions 0, 1, 2
 /// and so on.
@@ -215,4 +244,25 @@ fn push_events(
         });
         bytes.extend_from_slice(text).unwrap();
     }
+}
+
+/// The event of an entry, of these streams and bytes.
+fn event_of(streams: &Streams, bytes: &[u8], entry: &Entry) -> Event
+    requires { IsEntry streams.now bytes.now entry.now }
+    ensures { result ≡ event_of streams.now bytes.now entry.now }
+{
+    let start = entry.start as usize;
+    Event {
+        stream: streams.get(entry.stream),
+        token: entry.token(),
+        payload: payload_of(&bytes[start..start + entry.len as usize]),
+    }
+}
+
+/// The payload of bytes that are one.
+fn payload_of(bytes: &[u8]) -> Payload
+    requires { IsPayload bytes.now }
+    ensures { result ≡ bytes.now }
+{
+    Payload::new(bytes).unwrap()
 }

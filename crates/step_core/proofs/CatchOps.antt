@@ -15,7 +15,7 @@ use Rattle.stream_model.proofs.Reaching.{reached-after}
 use Rattle.stream_model.proofs.StepBounds.{bounds-step}
 use Rattle.stream_laws.proofs.DrainDeliver.{deliver-nothing}
 use Rattle.subscription_table.specs.Table.{PlainTable, name_at, no_entry, no_state}
-use Rattle.subscription_table.specs.declared.progress.Sought.TheVariants as sought
+use Rattle.subscription_table.specs.declared.told.Sought.TheVariants as sought
 use Rattle.step_core.specs.declared.parts.Parts.{Parts}
 use Rattle.step_core.specs.PlainOf.{plain_of}
 use Rattle.step_core.specs.Records.{record_of}

@@ -37,8 +37,8 @@ use Rattle.queue_cache.specs.Cache.{PlainCache, high}
 use Rattle.subscription_table.specs.Progress.{next_at, next_event}
 use Rattle.subscription_table.specs.Table.{PlainTable, no_entry, no_state, registration_at, state_at, stepped, with_state}
 use Rattle.subscription_table.specs.Table as table
-use Rattle.subscription_table.specs.declared.progress.Sought.{Sought}
-use Rattle.subscription_table.specs.declared.progress.Sought.TheVariants as sought
+use Rattle.subscription_table.specs.declared.told.Sought.{Sought}
+use Rattle.subscription_table.specs.declared.told.Sought.TheVariants as sought
 use Rattle.stream_model.proofs.Lookups.{place_of-within}
 use Rattle.stream_ident.proofs.FirstLemmas.{place_of-key}
 use Rattle.stream_model.proofs.Answering.{on-error}

@@ -22,8 +22,8 @@ use Rattle.pulling_agent.specs.declared.agent.StaleAgent.{StaleAgent}
 use Rattle.subscription_table.specs.Progress.{ack, ack_at, handled_at, retry}
 use Rattle.subscription_table.specs.Standing.{AreRecords}
 use Rattle.subscription_table.specs.Table.{PlainTable, no_entry, no_state, number_of, state_at, stepped}
-use Rattle.subscription_table.specs.declared.progress.Acked.{Acked}
-use Rattle.subscription_table.specs.declared.progress.Retried.{Retried}
+use Rattle.subscription_table.specs.declared.told.Acked.{Acked}
+use Rattle.subscription_table.specs.declared.told.Retried.{Retried}
 use Rattle.step_core.specs.Assembly.{IsAssembled}
 use Rattle.step_core.specs.PlainOf.{plain_of}
 use Rattle.step_core.specs.Replies.{of_ack, of_retry}

@@ -6,10 +6,10 @@ use Rattle.partition_queue.specs.declared.appended.Appended.{Appended}
 use Rattle.partition_queue.specs.declared.appended.Appended.TheVariants as appended
 use Rattle.pubsub_registry.specs.declared.told.RuleAdded.{RuleAdded}
 use Rattle.pubsub_registry.specs.declared.told.RuleAdded.TheVariants as rule_told
-use Rattle.subscription_table.specs.declared.progress.Acked.{Acked}
-use Rattle.subscription_table.specs.declared.progress.Acked.TheVariants as ack_told
-use Rattle.subscription_table.specs.declared.progress.Retried.{Retried}
-use Rattle.subscription_table.specs.declared.progress.Retried.TheVariants as retry_told
+use Rattle.subscription_table.specs.declared.told.Acked.{Acked}
+use Rattle.subscription_table.specs.declared.told.Acked.TheVariants as ack_told
+use Rattle.subscription_table.specs.declared.told.Retried.{Retried}
+use Rattle.subscription_table.specs.declared.told.Retried.TheVariants as retry_told
 
 abbrev pub of_append : Appended → Reply
 of_append (appended.Accepted seq) = reply.Published seq

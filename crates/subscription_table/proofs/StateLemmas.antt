@@ -9,10 +9,10 @@ use Rattle.queue_cache.specs.Cache.{PlainCache, high}
 use Rattle.consumer_grain.specs.Subscriptions.{PlainState, acknowledged, advanced, caught_up, committed, rewound}
 use Rattle.subscription_table.specs.LeavesOf.{leaf_of}
 use Rattle.subscription_table.specs.Progress.{ack, ack_at, handled_at, next_at, next_event, retry}
-use Rattle.subscription_table.specs.declared.progress.Acked.TheVariants as ack_told
-use Rattle.subscription_table.specs.declared.progress.Retried.TheVariants as retry_told
-use Rattle.subscription_table.specs.declared.progress.Sought.{Sought}
-use Rattle.subscription_table.specs.declared.progress.Sought.TheVariants as sought
+use Rattle.subscription_table.specs.declared.told.Acked.TheVariants as ack_told
+use Rattle.subscription_table.specs.declared.told.Retried.TheVariants as retry_told
+use Rattle.subscription_table.specs.declared.told.Sought.{Sought}
+use Rattle.subscription_table.specs.declared.told.Sought.TheVariants as sought
 use Rattle.subscription_table.proofs.LeafLemmas.{Entry}
 use Rattle.subscription_table.proofs.TableLemmas.{Fits}
 

@@ -3,8 +3,8 @@
 //! agent).
 #![tactic(auto)]
 
-mod progress;
 mod table;
+mod told;
 
-pub use progress::{Acked, Retried, Sought};
 pub use table::SubscriptionTable;
+pub use told::{Acked, Retried, Sought};

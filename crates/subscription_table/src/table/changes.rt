@@ -1,16 +1,19 @@
 //! The calls that change subscriptions: they make and close them, commit to them, and move them over the
 //! log.
-ghost use Rattle.std.specs.Prelude.{◌≡◌, ◌+◌, ◌^◌, ◌<◌, ◌≤◌, true, false, length, is_ok, OnErr, All, if◌then◌else◌};
+ghost use Rattle.std.specs.Prelude.{◌≡◌, ◌+◌, ◌^◌, ◌<◌, ◌≤◌, true, false, length, is_ok, OnErr, All, if◌then◌else◌, IfSome};
 ghost use Rattle.stream_ident.specs.Words.{past, Performs};
 ghost use Rattle.queue_cache.specs.Cache.{high};
 ghost use Rattle.pubsub_registry.specs.Registry.{is_full};
 ghost use Rattle.consumer_grain.specs.Subscriptions.{committed, rises_from, advanced};
 ghost use Rattle.subscription_table.specs.Table.{add_rule, close, imply, state_at, subscribe, with_state, registration_at, rewound_all, stepped, AreRewound};
-ghost use Rattle.subscription_table.specs.Progress.{ack, next_event, retry, IsFound};
+ghost use Rattle.subscription_table.specs.Progress.{ack, next_event, retry, IsFound, handled_at};
+ghost use Rattle.partition_queue.specs.Queue.{TokensRise};
+ghost use Rattle.queue_mapper.specs.Place.{tag_of};
+ghost use Rattle.subscription_table.specs.Handled.{first_of, IsBound};
 
 use super::{SubscriptionTable, add_rows, refresh, rewind_each, rewind_these};
-use crate::progress;
-use crate::progress::{Acked, Retried, Sought};
+use crate::told::{Acked, Retried, Sought};
+use cache_cursor::next;
 use consumer_grain::SubState;
 use partition_queue::PartitionQueue;
 use pubsub_registry::{Added, Closing, Implied, RuleAdded};
@@ -165,7 +168,7 @@ impl SubscriptionTable {
         let stream = &self.registry.at(number).1.stream;
         let tag = self.tags[number];
         let state = &mut self.states[number];
-        let sought = progress::next_event(state, cache, stream, tag, outstanding);
+        let sought = next_event(state, cache, stream, tag, outstanding);
         if let Sought::Nothing = sought {
             refresh(&mut self.resumes, number, &self.states[number]);
         }
@@ -187,7 +190,7 @@ impl SubscriptionTable {
         requires { number < length self.old.registry.names }
         ensures { (self.new, result) ≡ stepped self.old number (retry (state_at self.old number)) }
     {
-        progress::retry(&mut self.states[number])
+        retry(&mut self.states[number])
     }
 
     /// Acknowledges what a subscription is owed up to and with a handled event, which its token names. The
@@ -198,7 +201,7 @@ impl SubscriptionTable {
         requires few { length queue.now.events ≤ 1000000 }
         ensures { (self.new, result) ≡ stepped self.old number (ack (state_at self.old number) queue.now token.now) }
     {
-        let acked = progress::ack(&mut self.states[number], queue, token);
+        let acked = ack(&mut self.states[number], queue, token);
         if let Acked::Acked = acked {
             refresh(&mut self.resumes, number, &self.states[number]);
         }
@@ -219,4 +222,92 @@ impl SubscriptionTable {
     {
         rewind_these(self.states.as_mut_slice(), numbers);
     }
+}
+
+/// The next event of a cache that the subscription to a stream is owed, as `SubscriptionTable::next_event`
+/// says. The tag is that of the stream.
+fn next_event(
+    state: &mut SubState,
+    cache: &QueueCache,
+    stream: &StreamId,
+    tag: u8,
+    outstanding: bool,
+) -> Sought
+    requires cursor { state.old.is_open ≡ true → cache.now.low ≤ state.old.cursor }
+    requires tag { tag ≡ tag_of stream.now }
+    ensures sought { (state.new, result) ≡ next_event cache.now state.old stream.now outstanding }
+    ensures found { IsFound cache.now state.old result }
+{
+    if !state.is_open() {
+        return Sought::Closed;
+    }
+    let start = state.start();
+    match next(cache, state.cursor(), stream, tag, &start) {
+        Some(position) => Sought::Next { position },
+        None => {
+            state.catch_up(cache.high(), outstanding);
+            Sought::Nothing
+        }
+    }
+}
+
+/// What the subscription hasn't acknowledged is sought again: its cursor goes back to its resume.
+fn retry(state: &mut SubState) -> Retried
+    ensures { (state.new, result) ≡ retry state.old }
+{
+    if !state.is_open() {
+        return Retried::Closed;
+    }
+    state.rewind();
+    Retried::Rewound
+}
+
+/// Acknowledges what the subscription is owed up to and with a handled event, which its token names.
+fn ack(state: &mut SubState, queue: &PartitionQueue, token: &Token) -> Acked
+    requires { All (λ position. position < length queue.now.events) state.old.handled }
+    ensures { (state.new, result) ≡ ack state.old queue.now token.now }
+{
+    if !state.is_open() {
+        return Acked::Closed;
+    }
+    // The queue says with its length that tokens rise, which the search by token rests on.
+    prove!(state.past() <= queue.len());
+    let Some(position) = handled_at(state.handled(), queue, token) else {
+        return Acked::NotHandled;
+    };
+    state.acknowledge(position);
+    Acked::Acked
+}
+
+/// The handled position whose event has a token, found in a logarithmic number of steps.
+fn handled_at(handled: &[usize], queue: &PartitionQueue, token: &Token) -> Option<usize>
+    requires rising { rises_from 0 handled.now ≡ true }
+    requires there { All (λ position. position < length queue.now.events) handled.now }
+    requires tokens { TokensRise queue.now }
+    ensures found { result ≡ first_of (handled_at handled.now queue.now token.now) }
+    ensures there { IfSome result (λ position. position < length queue.now.events) }
+{
+    let place = lower_bound(handled, queue, token);
+    let position = *handled.get(place)?;
+    (queue.token_at(position) == *token).then_some(position)
+}
+
+/// How many of the handled positions have tokens before this one: the first of the others.
+fn lower_bound(handled: &[usize], queue: &PartitionQueue, token: &Token) -> usize
+    requires rising { rises_from 0 handled.now ≡ true }
+    requires there { All (λ position. position < length queue.now.events) handled.now }
+    requires tokens { TokensRise queue.now }
+    ensures { IsBound handled.now queue.now token.now result }
+{
+    let mut low = 0;
+    let mut high = handled.len();
+    while low < high {
+        let middle = low + (high - low) / 2;
+        if queue.token_at(handled[middle]).is_before(token) {
+            low = middle + 1;
+        } else {
+            high = middle;
+        }
+    }
+    low
 }

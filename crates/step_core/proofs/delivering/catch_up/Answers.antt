@@ -1,7 +1,7 @@
 use Rattle.std.proofs.Common.{◌∙◌, ap, sym, subst, ◌≤◌, false, arith}
 use Rattle.queue_cache.specs.Cache.{PlainCache, high}
 use Rattle.subscription_table.specs.Table.{PlainTable, state_at}
-use Rattle.subscription_table.specs.declared.progress.Sought.TheVariants as sought
+use Rattle.subscription_table.specs.declared.told.Sought.TheVariants as sought
 use Rattle.step_core.specs.Assembly.{IsAssembled}
 use Rattle.step_core.proofs.CatchOps.{caught-up}
 use Rattle.step_core.proofs.HandOps.{Searched, Stands, cursor-low, high-few, nothing-assembled, searched-is, with_subs}

@@ -10,7 +10,7 @@ use Rattle.grain_table.specs.Grains.{number_of}
 use Rattle.pubsub_registry.specs.declared.registration.Registration.{Registration}
 use Rattle.queue_cache.specs.Cache.{PlainCache, high}
 use Rattle.subscription_table.specs.Table.{PlainTable, registration_at, state_at}
-use Rattle.subscription_table.specs.declared.progress.Sought.TheVariants as sought
+use Rattle.subscription_table.specs.declared.told.Sought.TheVariants as sought
 use Rattle.step_core.specs.Assembly.{IsAssembled}
 use Rattle.step_core.specs.declared.parts.Parts.{Parts}
 use Rattle.step_core.specs.PlainOf.{plain_of}

@@ -1,8 +1,9 @@
-use Rattle.std.proofs.Common.{◌≡◌, ◌∙◌, ap, sym, refl, subst, ℕ, List, [], ◌∷◌, length, arith}
-use Rattle.std.proofs.lemmas.Bool.{eqb-true}
+use Rattle.std.proofs.Common.{◌≡◌, ◌∙◌, ap, sym, refl, subst, ℕ, List, [], ◌∷◌, length, arith, true≢false}
+use Rattle.std.proofs.lemmas.Bool.{eqb-false, eqb-true}
+use Rattle.std.specs.Prelude.{eqb}
 use Rattle.grain_table.specs.Grains.{AreIdle}
 use Rattle.grain_table.specs.Table.{AreReady}
-use Rattle.grain_table.proofs.ChangeLemmas.{idle-all}
+use Rattle.grain_table.proofs.ChangeLemmas.{idle-all, idle-ready, idle-running}
 use Rattle.grain_table.proofs.table.GrainTable.is_idle.Goals as goal
 
 no-items : (numbers : List ℕ) → length numbers ≡ 0 → numbers ≡ []
@@ -10,7 +11,18 @@ no-items [] none = refl
 no-items (n ∷ numbers) none = absurd (omega (arith, none))
 
 pub returns-then-is_empty : goal.returns-then-is_empty
-returns-then-is_empty c = λ is.
+returns-then-is_empty c =
     let t = c.self.inside in
-    let none : t.ready.items ≡ [] = no-items t.ready.items (ap length (sym c.as_slice-ready.ensures.value) ∙ eqb-true (length c.as_slice-ready.result.now) 0 (sym c.is_empty.ensures ∙ c.if-is_empty.true)) in
-    subst AreIdle c.self.view_is (idle-all t.entries.entries (subst (AreReady t.entries.entries) none c.self.invariant.are_ready) (sym c.self.invariant.counted ∙ eqb-true t.running 0 is))
+    let none : t.ready.items ≡ [] = no-items t.ready.items (ap length (sym c.as_slice-ready.ensures.value) ∙ eqb-true (length c.as_slice-ready.result.now) 0 (sym c.is_empty.ensures ∙ c.if-is_empty.true)) in (
+      λ is. subst AreIdle c.self.view_is (idle-all t.entries.entries (subst (AreReady t.entries.entries) none c.self.invariant.are_ready) (sym c.self.invariant.counted ∙ eqb-true t.running 0 is)),
+      λ idle. ap (λ n. eqb n 0) (c.self.invariant.counted ∙ idle-running t.entries.entries (subst AreIdle (sym c.self.view_is) idle)),
+    )
+
+pub returns-else-is_empty : goal.returns-else-is_empty
+returns-else-is_empty c =
+    let t = c.self.inside in (
+      λ is. absurd (true≢false (sym is ∙ c.if-is_empty.false)),
+      λ idle.
+          let none = ap length c.as_slice-ready.ensures.value ∙ idle-ready t.entries.entries t.ready.items c.self.invariant.are_ready (subst AreIdle (sym c.self.view_is) idle) in
+          absurd (eqb-false (length c.as_slice-ready.result.now) 0 (sym c.is_empty.ensures ∙ c.if-is_empty.false) none),
+    )

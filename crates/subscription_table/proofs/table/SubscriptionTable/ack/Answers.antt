@@ -2,7 +2,7 @@ use Rattle.std.proofs.Common.{◌<◌, length, sym, ap, subst, All}
 use Rattle.consumer_grain.specs.Subscriptions.{PlainState}
 use Rattle.subscription_table.proofs.StateLemmas.{fits-acked}
 use Rattle.subscription_table.specs.Table.{PlainTable}
-use Rattle.subscription_table.specs.declared.progress.Acked.{Acked}
+use Rattle.subscription_table.specs.declared.told.Acked.{Acked}
 use Rattle.subscription_table.proofs.LookLemmas.{leaf-within, state-read}
 use Rattle.subscription_table.proofs.TableLemmas.{Fits, refreshed, seen-below}
 use Rattle.subscription_table.proofs.table.SubscriptionTable.ack.Goals as goal

@@ -4,7 +4,7 @@ use Rattle.subscription_table.proofs.StateLemmas.{fits-sought, same-sought}
 use Rattle.subscription_table.specs.LeavesOf.{leaf_of}
 use Rattle.subscription_table.specs.Progress.{next_event}
 use Rattle.subscription_table.specs.Table.{PlainTable}
-use Rattle.subscription_table.specs.declared.progress.Sought.{Sought}
+use Rattle.subscription_table.specs.declared.told.Sought.{Sought}
 use Rattle.subscription_table.proofs.LookLemmas.{leaf-within, state-read, stepped-is}
 use Rattle.subscription_table.proofs.TableLemmas.{Fits, kept, refreshed}
 use Rattle.subscription_table.proofs.table.SubscriptionTable.next_event.Goals as goal

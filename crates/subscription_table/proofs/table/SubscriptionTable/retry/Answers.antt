@@ -2,7 +2,7 @@ use Rattle.std.proofs.Common.{◌∙◌, sym, ap, subst}
 use Rattle.consumer_grain.specs.Subscriptions.{PlainState}
 use Rattle.subscription_table.specs.LeavesOf.{leaf_of}
 use Rattle.subscription_table.specs.Table.{PlainTable}
-use Rattle.subscription_table.specs.declared.progress.Retried.{Retried}
+use Rattle.subscription_table.specs.declared.told.Retried.{Retried}
 use Rattle.subscription_table.proofs.StateLemmas.{fits-retried, leaf-retried}
 use Rattle.subscription_table.proofs.TableLemmas.{Fits, kept}
 use Rattle.subscription_table.proofs.table.SubscriptionTable.retry.Goals as goal
