@@ -4,7 +4,7 @@ use Rattle.std.specs.List.{AllByRecursion}
 use Rattle.script_parser.specs.declared.command.Command.{Command}
 use Rattle.script_parser.specs.declared.command.Mode.{Mode}
 use Rattle.script_parser.specs.declared.command.Mode.TheVariants as mode
-use Rattle.script_parser.specs.declared.verb.Verb.{Verb}
+use Rattle.script_parser.specs.declared.command.Verb.{Verb}
 use Rattle.script_parser.specs.Pieces.{Piece, Word}
 use Rattle.script_parser.specs.Forms.{verb_command}
 use Rattle.script_parser.specs.Grammar.{MayStand}

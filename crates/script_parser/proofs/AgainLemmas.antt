@@ -25,7 +25,7 @@ use Rattle.script_parser.specs.Forms.{verb_command}
 use Rattle.script_parser.specs.Grammar.{IsWritten, IsSpelled, MayStand, Reads}
 use Rattle.script_parser.specs.Reading.{command_of, is_skipped, reading}
 use Rattle.script_parser.specs.Verbs.{may_stand, not_here}
-use Rattle.script_parser.specs.declared.verb.Verb.TheVariants.{Pub, Unsub, Pull, Deliver, Retry, Ack, Purge, Move, Begin, Commit, Deactivate, Ready, Due, Quiet, Drain, Report, Up, Down}
+use Rattle.script_parser.specs.declared.command.Verb.TheVariants.{Pub, Unsub, Pull, Deliver, Retry, Ack, Purge, Move, Begin, Commit, Deactivate, Ready, Due, Quiet, Drain, Report, Up, Down}
 use Rattle.script_parser.proofs.VerbLemmas.{verb_word, verb_of-word}
 use Rattle.script_parser.proofs.PrintableLemmas.{line_printable, number_printable, stream_printable, grain_printable, token_printable, sub_printable, payloads_printable, word_printable}
 use Rattle.script_parser.proofs.AgainForms.{IsAgain, both_may, sim_may, run_may}

@@ -7,7 +7,7 @@ use Rattle.stream_ident.specs.Token.{token_text}
 use Rattle.stream_model.specs.declared.op.Op.TheVariants as op
 use Rattle.script_parser.specs.declared.command.Command.{Command}
 use Rattle.script_parser.specs.declared.command.Command.TheVariants.{Step}
-use Rattle.script_parser.specs.declared.verb.Verb.TheVariants.{Pull, Deliver, Retry, Ack, Purge, Move}
+use Rattle.script_parser.specs.declared.command.Verb.TheVariants.{Pull, Deliver, Retry, Ack, Purge, Move}
 use Rattle.script_parser.specs.Fields.{number_field, queue_field, token_field, sub_field}
 use Rattle.script_parser.specs.Forms.{pull_fields, pull_words, deliver_fields, deliver_words, retry_fields, retry_words, ack_fields, ack_words, purge_fields, purge_words, move_fields, move_words}
 use Rattle.script_parser.specs.Pieces.{Piece, Word}

@@ -4,10 +4,10 @@ use Rattle.std.specs.List.{list_all}
 use Rattle.std.proofs.Common.{sym, ◌∙◌, subst}
 use Rattle.std.proofs.lemmas.Bool.{and_parts, and_left, and_right, eqb-true, or_from}
 use Rattle.std.proofs.lemmas.List.{append_assoc}
-use Rattle.script_parser.specs.declared.verb.Verb.{Verb}
+use Rattle.script_parser.specs.declared.command.Verb.{Verb}
 use Rattle.script_parser.specs.Pieces.{Piece, Word, is_space, AreSpaces, IsLineOf}
 use Rattle.script_parser.specs.Reading.{is_comment, is_skipped}
-use Rattle.script_parser.specs.declared.verb.Verb.TheVariants.{Pub, Sub, Unsub, Rule, Pull, Deliver, Retry, Ack, Purge, Move, Begin, Commit, Deactivate, Ready, Due, Quiet, Drain, Report, Up, Down}
+use Rattle.script_parser.specs.declared.command.Verb.TheVariants.{Pub, Sub, Unsub, Rule, Pull, Deliver, Retry, Ack, Purge, Move, Begin, Commit, Deactivate, Ready, Due, Quiet, Drain, Report, Up, Down}
 use Rattle.script_parser.proofs.VerbLemmas.{verb_word}
 
 not_spaces : (spaces : List ℕ) (byte : ℕ) (bytes : List ℕ) → is_space byte ≡ false → list_all is_space (spaces ++ byte ∷ bytes) ≡ false

@@ -13,8 +13,8 @@ use Rattle.script_parser.specs.declared.command.FaultKind.TheVariants as kind
 use Rattle.script_parser.specs.declared.command.Mode.{Mode}
 use Rattle.script_parser.specs.declared.command.Parsed.{Parsed}
 use Rattle.script_parser.specs.declared.command.Parsed.TheVariants as parsed
-use Rattle.script_parser.specs.declared.verb.Verb.{Verb}
-use Rattle.script_parser.specs.declared.verb.Verb.TheVariants.{Pub, Sub, Unsub, Rule, Pull, Deliver, Retry, Ack, Purge, Move, Begin, Commit, Deactivate, Ready, Due, Quiet, Drain, Report, Up, Down}
+use Rattle.script_parser.specs.declared.command.Verb.{Verb}
+use Rattle.script_parser.specs.declared.command.Verb.TheVariants.{Pub, Sub, Unsub, Rule, Pull, Deliver, Retry, Ack, Purge, Move, Begin, Commit, Deactivate, Ready, Due, Quiet, Drain, Report, Up, Down}
 use Rattle.script_parser.specs.Fields.{guard}
 use Rattle.script_parser.specs.Forms.{verb_command, alone, rule_words, sub_words, unsub_words, pull_words, deliver_words, retry_words, ack_words, purge_words, move_words, begin_words, commit_words, deactivate_words, ready_words, due_words, up_words, down_words}
 use Rattle.script_parser.specs.Grammar.{IsSpelled, MayStand, Reads}

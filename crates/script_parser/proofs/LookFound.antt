@@ -8,8 +8,8 @@ use Rattle.script_parser.specs.declared.command.Command.{Command}
 use Rattle.script_parser.specs.declared.command.Command.TheVariants.{Step}
 use Rattle.script_parser.specs.declared.command.Command.TheVariants as made
 use Rattle.script_parser.specs.declared.command.EachOp.TheVariants as each
-use Rattle.script_parser.specs.declared.verb.Verb.{Verb}
-use Rattle.script_parser.specs.declared.verb.Verb.TheVariants.{Ready, Due, Quiet, Drain, Report}
+use Rattle.script_parser.specs.declared.command.Verb.{Verb}
+use Rattle.script_parser.specs.declared.command.Verb.TheVariants.{Ready, Due, Quiet, Drain, Report}
 use Rattle.script_parser.specs.Fields.{queue_field, grain_field, own_sub_field}
 use Rattle.script_parser.specs.Forms.{ready_first, ready_after, ready_words, due_first, due_after, due_words, alone}
 use Rattle.script_parser.specs.Pieces.{Piece, Word}

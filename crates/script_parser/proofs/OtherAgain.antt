@@ -12,8 +12,8 @@ use Rattle.script_parser.specs.Pieces.{Word}
 use Rattle.script_parser.specs.Spelling.{grain_text, sub_text}
 use Rattle.script_parser.specs.Forms.{pull_fields, deliver_fields, retry_fields, ack_fields, purge_fields, move_fields, begin_one, begin_most, commit_fields, deactivate_fields, ready_first, ready_after, due_first, due_after, up_fields, down_fields, verb_command}
 use Rattle.script_parser.specs.Grammar.{IsGrain, IsSub, IsQueue}
-use Rattle.script_parser.specs.declared.verb.Verb.TheVariants.{Pull, Deliver, Retry, Ack, Purge, Move, Begin, Commit, Deactivate, Ready, Due}
-use Rattle.script_parser.specs.declared.verb.Verb.TheVariants as verb
+use Rattle.script_parser.specs.declared.command.Verb.TheVariants.{Pull, Deliver, Retry, Ack, Purge, Move, Begin, Commit, Deactivate, Ready, Due}
+use Rattle.script_parser.specs.declared.command.Verb.TheVariants as verb
 use Rattle.script_parser.proofs.FieldLemmas.{number_again, queue_again, grain_again, token_again}
 use Rattle.script_parser.proofs.SubLemmas.{sub_again, own_sub_again}
 

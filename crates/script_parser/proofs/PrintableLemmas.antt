@@ -12,11 +12,11 @@ use Rattle.stream_ident.specs.declared.ident.SubName.{SubName}
 use Rattle.stream_ident.specs.declared.token.Token.{Token}
 use Rattle.stream_ident.specs.Token.{token_text, IsToken}
 use Rattle.stream_ident.specs.Alphabet.{is_name_byte, IsPayload, is_printable}
-use Rattle.script_parser.specs.declared.verb.Verb.{Verb}
+use Rattle.script_parser.specs.declared.command.Verb.{Verb}
 use Rattle.script_parser.specs.Pieces.{Piece, Word, Text, is_space, is_special, escaped, spelling, IsLineOf}
 use Rattle.script_parser.specs.Spelling.{stream_text, grain_text, sub_text}
 use Rattle.script_parser.specs.Grammar.{IsStream, IsGrain, IsSub, IsQueue}
-use Rattle.script_parser.specs.declared.verb.Verb.TheVariants.{Pub, Sub, Unsub, Rule, Pull, Deliver, Retry, Ack, Purge, Move, Begin, Commit, Deactivate, Ready, Due, Quiet, Drain, Report, Up, Down}
+use Rattle.script_parser.specs.declared.command.Verb.TheVariants.{Pub, Sub, Unsub, Rule, Pull, Deliver, Retry, Ack, Purge, Move, Begin, Commit, Deactivate, Ready, Due, Quiet, Drain, Report, Up, Down}
 use Rattle.script_parser.proofs.FieldLemmas.{list_all-weaker}
 use Rattle.script_parser.proofs.SubLemmas.{list_all-both, decimal_all, stream_text_all, grain_text_all, name_text_all}
 use Rattle.script_parser.proofs.VerbLemmas.{verb_word}

@@ -19,7 +19,7 @@ use Rattle.script_parser.specs.Pieces.{Piece, Word, Text}
 use Rattle.script_parser.specs.Spelling.{stream_text, grain_text, sub_text}
 use Rattle.script_parser.specs.Forms.{texts_of, payloads_of, queue_of, pub_fields, sub_latest, sub_from, unsub_fields, rule_fields, verb_command}
 use Rattle.script_parser.specs.Grammar.{IsStream, IsGrain, IsSub, IsQueue, StartsAt}
-use Rattle.script_parser.specs.declared.verb.Verb.TheVariants.{Pub, Sub, Unsub, Rule}
+use Rattle.script_parser.specs.declared.command.Verb.TheVariants.{Pub, Sub, Unsub, Rule}
 use Rattle.script_parser.proofs.FieldLemmas.{stream_again, grain_again, token_again, payload_again, bare_name_again}
 use Rattle.script_parser.proofs.SubLemmas.{sub_again, name_all}
 use Rattle.script_parser.proofs.PrintableLemmas.{name_printable, stream_printable, grain_printable, token_printable}

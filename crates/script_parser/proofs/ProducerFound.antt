@@ -12,7 +12,7 @@ use Rattle.script_parser.specs.declared.command.Command.TheVariants.{Step}
 use Rattle.script_parser.specs.declared.command.Command.TheVariants as made
 use Rattle.script_parser.specs.declared.command.EachOp.TheVariants as each
 use Rattle.script_parser.specs.declared.command.FaultKind.TheVariants as kind
-use Rattle.script_parser.specs.declared.verb.Verb.TheVariants.{Pub, Sub, Unsub, Rule}
+use Rattle.script_parser.specs.declared.command.Verb.TheVariants.{Pub, Sub, Unsub, Rule}
 use Rattle.script_parser.specs.Fields.{guard, stream_field, grain_field, token_field, bare_name_field, sub_field}
 use Rattle.script_parser.specs.Forms.{word_of, text_of, texts_of, payloads_of, queue_of, pub_fields, pub_command, sub_latest, sub_from, sub_words, unsub_fields, unsub_words, rule_fields, rule_words}
 use Rattle.script_parser.specs.Pieces.{Piece, Word, Text}

@@ -4,7 +4,7 @@ use Rattle.std.specs.Fmt.{decimal}
 use Rattle.std.proofs.Common.{subst}
 use Rattle.script_parser.specs.declared.command.Command.{Command}
 use Rattle.script_parser.specs.declared.command.Command.TheVariants as made
-use Rattle.script_parser.specs.declared.verb.Verb.TheVariants.{Up, Down}
+use Rattle.script_parser.specs.declared.command.Verb.TheVariants.{Up, Down}
 use Rattle.script_parser.specs.Fields.{number_field}
 use Rattle.script_parser.specs.Forms.{up_fields, up_words, down_fields, down_words}
 use Rattle.script_parser.specs.Pieces.{Piece, Word}

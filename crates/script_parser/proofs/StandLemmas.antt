@@ -8,7 +8,7 @@ use Rattle.script_parser.specs.declared.command.Command.{Command}
 use Rattle.script_parser.specs.declared.command.FaultKind.{FaultKind}
 use Rattle.script_parser.specs.declared.command.Mode.{Mode}
 use Rattle.script_parser.specs.declared.command.Mode.TheVariants as mode
-use Rattle.script_parser.specs.declared.verb.Verb.{Verb}
+use Rattle.script_parser.specs.declared.command.Verb.{Verb}
 use Rattle.script_parser.specs.Fields.{payload_field}
 use Rattle.script_parser.specs.Forms.{read_all, word_of, text_of, words_of, payloads_of}
 use Rattle.script_parser.specs.Grammar.{IsSpelled, MayStand}

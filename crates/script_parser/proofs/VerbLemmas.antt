@@ -6,8 +6,8 @@ use Rattle.std.proofs.lemmas.Bool.{cases_Bool}
 use Rattle.stream_ident.specs.Name.{same_name}
 use Rattle.stream_ident.specs.Words.{or_else}
 use Rattle.script_parser.specs.declared.command.FaultKind.TheVariants as kind
-use Rattle.script_parser.specs.declared.verb.Verb.{Verb}
-use Rattle.script_parser.specs.declared.verb.Verb.TheVariants.{Pub, Sub, Unsub, Rule, Pull, Deliver, Retry, Ack, Purge, Move, Begin, Commit, Deactivate, Ready, Due, Quiet, Drain, Report, Up, Down}
+use Rattle.script_parser.specs.declared.command.Verb.{Verb}
+use Rattle.script_parser.specs.declared.command.Verb.TheVariants.{Pub, Sub, Unsub, Rule, Pull, Deliver, Retry, Ack, Purge, Move, Begin, Commit, Deactivate, Ready, Due, Quiet, Drain, Report, Up, Down}
 use Rattle.script_parser.specs.Pieces.{Piece, Word, Text}
 use Rattle.script_parser.specs.Verbs.{producer_verb, agent_verb, worker_verb, look_verb, operator_verb, verb_of, verb_in_front}
 use Rattle.script_parser.proofs.FieldLemmas.{or_fault_ok}

@@ -6,7 +6,7 @@ use Rattle.stream_ident.specs.Name.{◌>>=◌}
 use Rattle.stream_model.specs.declared.op.Op.TheVariants as op
 use Rattle.script_parser.specs.declared.command.Command.{Command}
 use Rattle.script_parser.specs.declared.command.Command.TheVariants.{Step}
-use Rattle.script_parser.specs.declared.verb.Verb.TheVariants.{Begin, Commit, Deactivate}
+use Rattle.script_parser.specs.declared.command.Verb.TheVariants.{Begin, Commit, Deactivate}
 use Rattle.script_parser.specs.Fields.{number_field, queue_field, grain_field}
 use Rattle.script_parser.specs.Forms.{begin_one, begin_most, begin_words, commit_fields, commit_words, deactivate_fields, deactivate_words}
 use Rattle.script_parser.specs.Pieces.{Piece, Word}

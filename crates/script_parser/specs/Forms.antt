@@ -12,8 +12,8 @@ use Rattle.script_parser.specs.declared.command.EachOp.{EachOp}
 use Rattle.script_parser.specs.declared.command.EachOp.TheVariants as each
 use Rattle.script_parser.specs.declared.command.FaultKind.{FaultKind}
 use Rattle.script_parser.specs.declared.command.FaultKind.TheVariants as kind
-use Rattle.script_parser.specs.declared.verb.Verb.{Verb}
-use Rattle.script_parser.specs.declared.verb.Verb.TheVariants.{Pub, Sub, Unsub, Rule, Pull, Deliver, Retry, Ack, Purge, Move, Begin, Commit, Deactivate, Ready, Due, Quiet, Drain, Report, Up, Down}
+use Rattle.script_parser.specs.declared.command.Verb.{Verb}
+use Rattle.script_parser.specs.declared.command.Verb.TheVariants.{Pub, Sub, Unsub, Rule, Pull, Deliver, Retry, Ack, Purge, Move, Begin, Commit, Deactivate, Ready, Due, Quiet, Drain, Report, Up, Down}
 use Rattle.script_parser.specs.Fields.{guard, number_field, queue_field, stream_field, grain_field, token_field, payload_field, bare_name_field, sub_field, own_sub_field}
 use Rattle.script_parser.specs.Pieces.{Piece, Word, Text}
 use Rattle.script_parser.specs.Verbs.{takes_texts}

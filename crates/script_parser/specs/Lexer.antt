@@ -2,8 +2,8 @@
 -- `found` and `only` of `parse_line`, which speak of those, stand on that.
 use Rattle.std.specs.Prelude.{◌≡◌, ℕ, Bool, false, ◌&&◌, not, ◌==◌, List, [], ◌∷◌, ◌++◌, map, Option, Some, None, if◌then◌else◌}
 use Rattle.std.specs.Option.{option_map}
-use Rattle.script_parser.specs.declared.pieces.Piece.{Piece as CodePiece}
-use Rattle.script_parser.specs.declared.pieces.Piece.TheVariants as code
+use Rattle.script_parser.specs.declared.lines.Piece.{Piece as CodePiece}
+use Rattle.script_parser.specs.declared.lines.Piece.TheVariants as code
 use Rattle.script_parser.specs.Pieces.{Piece, Word, Text, is_space, is_quote, is_backslash, ends_word, is_special}
 
 -- Where the cutting stands: between pieces, in a word, in a text, behind a backslash in a text, or right

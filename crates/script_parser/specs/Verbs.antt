@@ -6,8 +6,8 @@ use Rattle.script_parser.specs.declared.command.FaultKind.{FaultKind}
 use Rattle.script_parser.specs.declared.command.FaultKind.TheVariants as kind
 use Rattle.script_parser.specs.declared.command.Mode.{Mode}
 use Rattle.script_parser.specs.declared.command.Mode.TheVariants as mode
-use Rattle.script_parser.specs.declared.verb.Verb.{Verb}
-use Rattle.script_parser.specs.declared.verb.Verb.TheVariants.{Pub, Sub, Unsub, Rule, Pull, Deliver, Retry, Ack, Purge, Move, Begin, Commit, Deactivate, Ready, Due, Quiet, Drain, Report, Up, Down}
+use Rattle.script_parser.specs.declared.command.Verb.{Verb}
+use Rattle.script_parser.specs.declared.command.Verb.TheVariants.{Pub, Sub, Unsub, Rule, Pull, Deliver, Retry, Ack, Purge, Move, Begin, Commit, Deactivate, Ready, Due, Quiet, Drain, Report, Up, Down}
 use Rattle.script_parser.specs.Fields.{or_fault}
 use Rattle.script_parser.specs.Pieces.{Piece, Word, Text}
 

@@ -4,10 +4,9 @@ ghost use Rattle.script_parser.specs.Forms.{verb_command, words_command, alone, 
 ghost use Rattle.script_parser.specs.Lexer.{pieces_in};
 ghost use Rattle.script_parser.specs.Reading.{Gives};
 
-use crate::command::{Command, EachOp, FaultKind, LineError};
-use crate::pieces::Piece;
-use crate::verb::Verb;
-use crate::{agent_forms, fields};
+use crate::command::{Command, EachOp, FaultKind, LineError, Verb};
+use crate::lines::Piece;
+use crate::{agent_forms, parse};
 use std::alloc::Global;
 use stream_ident::{Batch, GrainId, StreamId};
 use stream_model::{Op, Start};
@@ -25,7 +24,7 @@ pub(crate) fn command(
     if verb.takes_texts() {
         return publish(alloc, pieces, queues);
     }
-    let words = fields::words(alloc, pieces)?;
+    let words = parse::words(alloc, pieces)?;
     Ok(of_words(verb, &words, queues)?)
 }
 
@@ -77,8 +76,8 @@ fn publish(alloc: Global, pieces: &[Piece], queues: usize) -> Result<Command, Li
     let [first, rest @ ..] = pieces else {
         return Err(LineError::Fault(FaultKind::WordCount));
     };
-    let stream = fields::word(first)?;
-    let texts = fields::texts(alloc, rest)?;
+    let stream = parse::word(first)?;
+    let texts = parse::texts(alloc, rest)?;
     publish_fields(alloc, stream, &texts, queues)
 }
 
@@ -92,10 +91,10 @@ fn publish_fields(
     requires { 1 ≤ queues }
     ensures { Gives (λ command. command) result (pub_fields queues stream.now (map (λ text. text.now) texts.now)) }
 {
-    let stream = fields::stream(stream)?;
-    let payloads = fields::payloads(alloc, texts)?;
+    let stream = parse::stream(stream)?;
+    let payloads = parse::payloads(alloc, texts)?;
     Ok(Command::on_queue(
-        fields::queue_of(&stream, queues),
+        parse::queue_of(&stream, queues),
         Op::Publish {
             stream,
             payloads: Batch::of(payloads),
@@ -125,8 +124,8 @@ fn subscribe_latest(
     requires { 1 ≤ queues }
     ensures { result ≡ sub_latest queues stream.now grain.now word.now }
 {
-    let stream = fields::stream(stream)?;
-    let grain = fields::grain(grain)?;
+    let stream = parse::stream(stream)?;
+    let grain = parse::grain(grain)?;
     if word != b"latest".as_slice() {
         return Err(FaultKind::BadCommand);
     }
@@ -144,12 +143,12 @@ fn subscribe_from(
     requires { 1 ≤ queues }
     ensures { result ≡ sub_from queues stream.now grain.now word.now token.now }
 {
-    let stream = fields::stream(stream)?;
-    let grain = fields::grain(grain)?;
+    let stream = parse::stream(stream)?;
+    let grain = parse::grain(grain)?;
     if word != b"from".as_slice() {
         return Err(FaultKind::BadCommand);
     }
-    let token = fields::token(token)?;
+    let token = parse::token(token)?;
     Ok(subscription(stream, grain, Start::At(token), queues))
 }
 
@@ -158,7 +157,7 @@ fn subscription(stream: StreamId, grain: GrainId, start: Start, queues: usize) -
     requires { 1 ≤ queues }
     ensures { result ≡ Command.Step (queue_of stream queues) (Op.Subscribe stream grain start) }
 {
-    let queue = fields::queue_of(&stream, queues);
+    let queue = parse::queue_of(&stream, queues);
     Command::on_queue(
         queue,
         Op::Subscribe {
@@ -183,7 +182,7 @@ fn unsubscribe(words: &[&[u8]], queues: usize) -> Result<Command, FaultKind>
 fn unsubscribe_fields(sub: &[u8], queues: usize) -> Result<Command, FaultKind>
     ensures { result ≡ unsub_fields queues sub.now }
 {
-    let (queue, sub) = fields::sub(sub, queues)?;
+    let (queue, sub) = parse::sub(sub, queues)?;
     Ok(Command::on_queue(queue, Op::Unsubscribe { sub }))
 }
 
@@ -201,8 +200,8 @@ fn rule(words: &[&[u8]]) -> Result<Command, FaultKind>
 fn rule_fields(kind: &[u8], namespace: &[u8]) -> Result<Command, FaultKind>
     ensures { result ≡ rule_fields kind.now namespace.now }
 {
-    let kind = fields::bare_name(kind)?;
-    let namespace = fields::bare_name(namespace)?;
+    let kind = parse::bare_name(kind)?;
+    let namespace = parse::bare_name(namespace)?;
     Ok(Command::Each(EachOp::Rule { kind, namespace }))
 }
 
@@ -220,7 +219,7 @@ fn up(words: &[&[u8]]) -> Result<Command, FaultKind>
 fn up_fields(silo: &[u8]) -> Result<Command, FaultKind>
     ensures { result ≡ up_fields silo.now }
 {
-    let silo = fields::silo(silo)?;
+    let silo = parse::silo(silo)?;
     Ok(Command::Up { silo })
 }
 
@@ -238,6 +237,6 @@ fn down(words: &[&[u8]]) -> Result<Command, FaultKind>
 fn down_fields(silo: &[u8]) -> Result<Command, FaultKind>
     ensures { result ≡ down_fields silo.now }
 {
-    let silo = fields::silo(silo)?;
+    let silo = parse::silo(silo)?;
     Ok(Command::Down { silo })
 }

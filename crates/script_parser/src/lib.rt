@@ -3,13 +3,10 @@
 
 mod agent_forms;
 mod command;
-mod fields;
 mod forms;
 pub mod laws;
 mod lines;
 mod parse;
-mod pieces;
-mod verb;
 
 pub use command::{Command, EachOp, Fault, FaultKind, Mode, Parsed};
 pub use lines::Lines;

@@ -1,6 +1,6 @@
 use Rattle.std.proofs.Common.{◌≡◌, ◌≤◌, [], length}
 use Rattle.script_parser.specs.Lexer.{InText, cut}
-use Rattle.script_parser.proofs.pieces.text_at.Given as goal
+use Rattle.script_parser.proofs.lines.text_at.Given as goal
 
 -- the rest is cut as the whole is
 abbrev pub invariant-loop-text : goal.invariant-loop-text

@@ -1,6 +1,6 @@
 use Rattle.std.proofs.Common.{◌∙◌, sym, arith}
 use Rattle.script_parser.proofs.PieceLemmas.{word_quoted, word_found, word_some}
-use Rattle.script_parser.proofs.pieces.word_at.Goals as goal
+use Rattle.script_parser.proofs.lines.word_at.Goals as goal
 
 pub returns-then-begins_with-clause-exact : goal.returns-then-begins_with-clause-exact
 returns-then-begins_with-clause-exact c =

@@ -2,7 +2,7 @@ use Rattle.std.proofs.Common.{◌≡◌, ◌∙◌, ◌++◌, ◌-◌, ◌∷◌
 use Rattle.std.proofs.lemmas.List.{take_rest}
 use Rattle.script_parser.specs.Lexer.{InText, Closed, cut}
 use Rattle.script_parser.proofs.PieceLemmas.{text_begun, cut-quote, cut-escape, cut-text_stuck, CutsOne-along}
-use Rattle.script_parser.proofs.pieces.text_at.Goals as goal
+use Rattle.script_parser.proofs.lines.text_at.Goals as goal
 
 pub returns-then-begins_with-clause-exact : goal.returns-then-begins_with-clause-exact
 returns-then-begins_with-clause-exact c =

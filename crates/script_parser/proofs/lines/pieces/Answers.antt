@@ -3,7 +3,7 @@ use Rattle.std.proofs.lemmas.List.{map_push}
 use Rattle.script_parser.specs.Lexer.{Between, cut, piece_of, pieces_in}
 use Rattle.script_parser.specs.Pieces.{Piece}
 use Rattle.script_parser.proofs.PieceLemmas.{with_front, line_stuck, line_more, line_done}
-use Rattle.script_parser.proofs.pieces.pieces.Goals as goal
+use Rattle.script_parser.proofs.lines.pieces.Goals as goal
 
 pub returns-in_default-2 : goal.returns-in_default-2
 returns-in_default-2 c =

@@ -1,7 +1,7 @@
 use Rattle.std.proofs.Common.{◌≡◌, length}
 use Rattle.script_parser.specs.Lexer.{Between, cut, pieces_in}
 use Rattle.script_parser.proofs.PieceLemmas.{with_front}
-use Rattle.script_parser.proofs.pieces.pieces.Given as goal
+use Rattle.script_parser.proofs.lines.pieces.Given as goal
 
 -- the pieces so far and those of the rest are those of the line
 abbrev pub invariant-loop-rest : goal.invariant-loop-rest

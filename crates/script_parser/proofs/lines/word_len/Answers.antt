@@ -1,10 +1,10 @@
 use Rattle.std.proofs.Common.{◌∙◌, ap, length}
 use Rattle.std.specs.Prelude.{unwrap_or}
-use Rattle.script_parser.specs.Pieces.{is_special}
+use Rattle.script_parser.specs.Pieces.{ends_word}
 use Rattle.script_parser.proofs.PieceLemmas.{unwrap_or-position}
-use Rattle.script_parser.proofs.pieces.plain_len.Goals as goal
+use Rattle.script_parser.proofs.lines.word_len.Goals as goal
 
 pub returns-clause-exact : goal.returns-clause-exact
 returns-clause-exact c =
     let bytes = c.args.bytes.now in
-    c.unwrap_or.ensures ∙ (ap (λ o. unwrap_or o (length bytes)) c.plain_end.ensures.exact ∙ unwrap_or-position is_special bytes)
+    c.unwrap_or.ensures ∙ (ap (λ o. unwrap_or o (length bytes)) c.word_end.ensures.exact ∙ unwrap_or-position ends_word bytes)
