@@ -1,8 +1,9 @@
 -- A loop that reads each element of a list.
-use Rattle.std.specs.Prelude.{◌≡◌, ℕ, suc, ◌+◌, ◌<◌, ◌≤◌, List, [], ◌∷◌, ◌++◌, length, drop, map, Result, Ok, Err, refl}
+use Rattle.std.specs.Prelude.{◌≡◌, ℕ, ◌+◌, ◌<◌, ◌≤◌, List, [], ◌∷◌, ◌++◌, length, drop, map, Result, Ok, Err, refl}
 use Rattle.std.specs.Result.{IsErr, IsErrAnd}
-use Rattle.std.proofs.Common.{sym, ap, ◌∙◌, subst, append_assoc, add-one, drop-cons, get_or}
+use Rattle.std.proofs.Common.{sym, ap, ◌∙◌, subst, append_assoc, get_or}
 use Rattle.std.proofs.lemmas.List.{append-nil, drop_all}
+use Rattle.stream_ident.proofs.WordLemmas.{drop-read}
 use Rattle.stream_ident.specs.Name.{◌>>=◌}
 use Rattle.script_parser.specs.declared.command.FaultKind.{FaultKind}
 use Rattle.script_parser.specs.declared.command.LineError.{LineError}
@@ -18,12 +19,6 @@ with_one : {C : Type 0} (front : List C) (y : C) (rest : Result (List C) FaultKi
 with_one front y (Ok ys) = ap (λ all. Ok all) (sym (append_assoc front (y ∷ []) ys))
 with_one front y (Err fault) = refl
 
--- the element at a place, and those behind it
-drop_at : {A : Type 0} (xs : List A) (i : ℕ) (x : A) → i < length xs → x ≡ get_or xs i x → drop i xs ≡ x ∷ drop (i + 1) xs
-drop_at xs i x within is =
-    let next : drop i xs ≡ get_or xs i x ∷ drop (suc i) xs = drop-cons xs i x within in
-    next ∙ ap (λ y. y ∷ drop (suc i) xs) (sym is) ∙ ap (λ n. x ∷ drop n xs) (sym (add-one i))
-
 -- with an element in front of the rest
 abbrev with_next : {B C : Type 0} → (B → Result C FaultKind) → List C → List B → Result C FaultKind → Result (List C) FaultKind
 with_next read front xs first = with_read front (first >>= λ y. read_all read xs >>= λ ys. Ok (y ∷ ys))
@@ -36,14 +31,14 @@ read_more read view front xs i x y whole within is reads so_far =
     let rest = map view (drop (i + 1) xs) in
     sym (with_one front y (read_all read rest))
     ∙ (ap (with_next read front rest) (sym reads)
-    ∙ (ap (λ all. with_read front (read_all read (map view all))) (sym (drop_at xs i x within is)) ∙ so_far))
+    ∙ (ap (λ all. with_read front (read_all read (map view all))) (sym (drop-read xs i x within is)) ∙ so_far))
 
 -- an element has a fault
 pub read_stuck : {A B C : Type 0} (read : B → Result C FaultKind) (view : A → B) (front : List C) (xs : List A) (i : ℕ) (x : A) (fault : FaultKind) (whole : Result (List C) FaultKind)
     → i < length xs → x ≡ get_or xs i x → read (view x) ≡ Err fault → with_read front (read_all read (map view (drop i xs))) ≡ whole → whole ≡ Err fault
 read_stuck read view front xs i x fault whole within is reads so_far =
     sym so_far
-    ∙ (ap (λ all. with_read front (read_all read (map view all))) (drop_at xs i x within is)
+    ∙ (ap (λ all. with_read front (read_all read (map view all))) (drop-read xs i x within is)
     ∙ ap (with_next read front (map view (drop (i + 1) xs))) reads)
 
 -- all elements were read

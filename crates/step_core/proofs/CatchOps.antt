@@ -22,9 +22,10 @@ use Rattle.step_core.specs.Records.{record_of}
 use Rattle.step_core.specs.Serving.{is_settled_in, name_of, CatchesUp, IsCaughtUp}
 use Rattle.step_core.specs.Assembly.{Agrees}
 use Rattle.step_core.proofs.HandOps.{Searched, Stands, named, nothing-performs, sought-next, with_subs}
-use Rattle.step_core.proofs.NamesOps.{length-subs, name_of-same, record-of-number}
+use Rattle.step_core.proofs.NamesOps.{name_of-same, record-of-number}
 use Rattle.step_core.proofs.SettledOps.{caught-settled}
 use Rattle.step_core.proofs.Shared.{distinct-of-unique, history-of, name-same}
+use Rattle.step_core.proofs.ViewLemmas.{records-length}
 
 found-at : (parts : Parts) (number : ℕ) → Stands parts number → sub_at (plain_of parts) (name_at parts.subs number) ≡ Some (record_of parts number)
 found-at parts number stands =
@@ -73,4 +74,4 @@ option-name-is parts (Some number) agrees = ap Some (name-is parts number agrees
 
 pub count-is : (parts : Parts) (p : PlainPartition) → Agrees parts → plain_of parts ≡ p → length p.subs ≡ length parts.subs.registry.names
 count-is parts p agrees same =
-    ap (λ (p : PlainPartition). length p.subs) (sym same) ∙ length-subs parts.subs.registry.names parts.subs.states (sym agrees.records.long)
+    ap (λ (p : PlainPartition). length p.subs) (sym same) ∙ records-length parts.subs.registry.names parts.subs.states (sym agrees.records.long)

@@ -34,6 +34,7 @@ use Rattle.step_core.specs.Serving.{is_settled_in, name_of, next_due}
 use Rattle.step_core.proofs.DrainLoops.{Suffices}
 use Rattle.step_core.proofs.DrainSteps.{ends-halted, ends-then}
 use Rattle.step_core.proofs.KeptNames.{open_keys, served-keeps, served-names}
+use Rattle.step_core.proofs.KnownOps.{or-map}
 use Rattle.step_core.proofs.RisingNames.{AreRising, IsSplit, above-filter, apart-keys, least-is, least-past, none-past, not-passed, rising-in_order, split-at}
 use Rattle.step_core.proofs.SettledOps.{serves-settled}
 use Rattle.step_core.proofs.Shared.{history-of}
@@ -93,14 +94,10 @@ any-weaker : (test : SubName → Bool) (passes weaker : Subscription → Bool) �
 any-weaker test passes weaker implies [] found = absurd (cc)
 any-weaker test passes weaker implies (entry ∷ subs) found = by (passes entry.1) (weaker entry.1) (implies entry.1) found (any-weaker test passes weaker implies subs)
   where
-    or-later : (a b c : Bool) → (b ≡ true → c ≡ true) → (a || b) ≡ true → (a || c) ≡ true
-    or-later true b c later is = refl
-    or-later false b c later is = later is
-
     by : (b w : Bool) → (b ≡ true → w ≡ true) → list_any test (map (λ (e : SubName × Subscription). e.0) (if b then entry ∷ filter (λ (e : SubName × Subscription). passes e.1) subs else filter (λ (e : SubName × Subscription). passes e.1) subs)) ≡ true
         → (list_any test (keys_where passes subs) ≡ true → list_any test (keys_where weaker subs) ≡ true)
         → list_any test (map (λ (e : SubName × Subscription). e.0) (if w then entry ∷ filter (λ (e : SubName × Subscription). weaker e.1) subs else filter (λ (e : SubName × Subscription). weaker e.1) subs)) ≡ true
-    by true true implies found later = or-later (test entry.0) (list_any test (keys_where passes subs)) (list_any test (keys_where weaker subs)) later found
+    by true true implies found later = or-map (test entry.0) (list_any test (keys_where passes subs)) (list_any test (keys_where weaker subs)) later found
     by true false implies found later = let wrong = implies refl in absurd (cc)
     by false true implies found later = or_right (test entry.0) (list_any test (keys_where weaker subs)) (later found)
     by false false implies found later = later found

@@ -1,7 +1,6 @@
 -- The number of a name is the place where it stands.
 use Rattle.std.proofs.Common.{◌≡◌, ◌∙◌, ap, refl, ℕ, zero, suc, ◌<◌, List, [], ◌∷◌, length, get_or, map, Option, Some, arith, sym}
 use Rattle.std.proofs.lemmas.Bool.{false_from_ne_true}
-use Rattle.std.proofs.lemmas.List.{length-map}
 use Rattle.stream_ident.specs.declared.ident.SubName.{SubName}
 use Rattle.stream_ident.specs.declared.ident.SubName.TheVariants.{Explicit}
 use Rattle.stream_ident.specs.SubName.{same_sub}
@@ -56,8 +55,3 @@ names-same (entry ∷ names) (state ∷ states) lengths = ap (λ rest. entry.0 �
 
 pub name_of-same : (parts : Parts) (number : ℕ) → length parts.subs.registry.names ≡ length parts.subs.states → name_of (plain_of parts) number ≡ name_at parts.subs.registry.names number
 name_of-same parts number lengths = ap (λ names. get_or names number (Explicit 0)) (names-same parts.subs.registry.names parts.subs.states lengths)
-
--- and there are as many
-pub length-subs : (names : List (SubName × Registration)) (states : List PlainState) → length names ≡ length states → length (subs_of names states) ≡ length names
-length-subs names states lengths =
-    sym (length-map (subs_of names states) (λ (entry : SubName × Subscription). entry.0)) ∙ ap length (names-same names states lengths) ∙ length-map names (λ (entry : SubName × Registration). entry.0)

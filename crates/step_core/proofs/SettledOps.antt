@@ -5,7 +5,7 @@ use Rattle.stream_ident.specs.declared.ident.GrainId.{GrainId}
 use Rattle.stream_ident.specs.declared.ident.SubName.{SubName}
 use Rattle.stream_ident.proofs.SameValues.{sub_equality}
 use Rattle.stream_ident.specs.SubName.{same_sub}
-use Rattle.stream_ident.specs.Words.{past, value_at, with_value}
+use Rattle.stream_ident.specs.Words.{past}
 use Rattle.stream_model.specs.declared.op.Op.TheVariants.{Ack, Deliver}
 use Rattle.stream_model.specs.declared.plain.PlainPartition.{PlainPartition}
 use Rattle.stream_model.specs.declared.plain.Subscription.{Subscription}
@@ -18,6 +18,7 @@ use Rattle.stream_model.specs.Step.{step, IsReached}
 use Rattle.stream_model.proofs.Values.{with_value-at}
 use Rattle.stream_laws.proofs.DrainAck.{ack-first}
 use Rattle.stream_laws.proofs.DrainDeliver.{deliver-nothing, next-none}
+use Rattle.stream_laws.proofs.FitsOne.{with_value-same}
 use Rattle.stream_laws.proofs.Invariant.{running_of}
 use Rattle.stream_laws.proofs.LastHandled.{HasLast, handled_at-last, has-last}
 use Rattle.step_core.specs.DrainPhases.{Ends, after_deliveries}
@@ -46,15 +47,6 @@ settled-as p s r found is =
     }
 
 -- the value that stands there put there again
-with_value-same : {K V : Type 0} (same : K → K → Bool) (k : K) (v : V) (entries : List (K × V)) → value_at same k entries ≡ Some v → with_value same k v entries ≡ entries
-with_value-same same k v [] found = absurd (cc)
-with_value-same {K} {V} same k v (entry ∷ entries) found =
-    (elim (same k entry.0) as (λ b. (if b then Some entry.1 else value_at same k entries) ≡ Some v → (if b then (entry.0, v) ∷ entries else entry ∷ with_value same k v entries) ≡ entry ∷ entries) [
-      | true ↦ λ here. let same_value : entry.1 ≡ v = cc in ap (λ (x : V). (entry.0, x) ∷ entries) (sym same_value)
-      | false ↦ λ there. ap (λ (xs : List (K × V)). entry ∷ xs) (with_value-same same k v entries there)
-    ])
-    found
-
 with_sub-same : (p : PlainPartition) (s : SubName) (r : Subscription) → sub_at p s ≡ Some r → with_sub p s r ≡ p
 with_sub-same p s r found = ap (λ subs. record p { subs = subs }) (with_value-same same_sub s r p.subs found)
 
