@@ -3,7 +3,7 @@ ghost use Rattle.std.specs.Prelude.{◌≡◌, map};
 ghost use Rattle.script_parser.specs.Forms.{pull_words, pull_fields, deliver_words, deliver_fields, retry_words, retry_fields, ack_words, ack_fields, purge_words, purge_fields, move_words, move_fields, begin_words, begin_one, begin_most, commit_words, commit_fields, deactivate_words, deactivate_fields, ready_words, ready_first, ready_after, due_words, due_first, due_after};
 
 use crate::command::{Command, FaultKind};
-use crate::parse;
+use crate::fields;
 use stream_model::Op;
 
 /// `pull Q GEN MAX`
@@ -25,9 +25,9 @@ fn pull_fields(
 ) -> Result<Command, FaultKind>
     ensures { result ≡ pull_fields queues queue.now generation.now max.now }
 {
-    let queue = parse::queue(queue, queues)?;
-    let generation = parse::number(generation)?;
-    let max = parse::short_number(max)?;
+    let queue = fields::queue(queue, queues)?;
+    let generation = fields::number(generation)?;
+    let max = fields::short_number(max)?;
     Ok(Command::on_queue(queue, Op::Pull { generation, max }))
 }
 
@@ -45,8 +45,8 @@ pub(crate) fn deliver(words: &[&[u8]], queues: usize) -> Result<Command, FaultKi
 fn deliver_fields(generation: &[u8], sub: &[u8], queues: usize) -> Result<Command, FaultKind>
     ensures { result ≡ deliver_fields queues generation.now sub.now }
 {
-    let generation = parse::number(generation)?;
-    let (queue, sub) = parse::sub(sub, queues)?;
+    let generation = fields::number(generation)?;
+    let (queue, sub) = fields::sub(sub, queues)?;
     Ok(Command::on_queue(queue, Op::Deliver { generation, sub }))
 }
 
@@ -64,8 +64,8 @@ pub(crate) fn retry(words: &[&[u8]], queues: usize) -> Result<Command, FaultKind
 fn retry_fields(generation: &[u8], sub: &[u8], queues: usize) -> Result<Command, FaultKind>
     ensures { result ≡ retry_fields queues generation.now sub.now }
 {
-    let generation = parse::number(generation)?;
-    let (queue, sub) = parse::sub(sub, queues)?;
+    let generation = fields::number(generation)?;
+    let (queue, sub) = fields::sub(sub, queues)?;
     Ok(Command::on_queue(queue, Op::Retry { generation, sub }))
 }
 
@@ -88,9 +88,9 @@ fn ack_fields(
 ) -> Result<Command, FaultKind>
     ensures { result ≡ ack_fields queues generation.now sub.now token.now }
 {
-    let generation = parse::number(generation)?;
-    let (queue, sub) = parse::sub(sub, queues)?;
-    let token = parse::token(token)?;
+    let generation = fields::number(generation)?;
+    let (queue, sub) = fields::sub(sub, queues)?;
+    let token = fields::token(token)?;
     Ok(Command::on_queue(
         queue,
         Op::Ack {
@@ -120,9 +120,9 @@ fn purge_fields(
 ) -> Result<Command, FaultKind>
     ensures { result ≡ purge_fields queues queue.now generation.now keep.now }
 {
-    let queue = parse::queue(queue, queues)?;
-    let generation = parse::number(generation)?;
-    let keep = parse::short_number(keep)?;
+    let queue = fields::queue(queue, queues)?;
+    let generation = fields::number(generation)?;
+    let keep = fields::short_number(keep)?;
     Ok(Command::on_queue(queue, Op::Purge { generation, keep }))
 }
 
@@ -140,8 +140,8 @@ pub(crate) fn move_queue(words: &[&[u8]], queues: usize) -> Result<Command, Faul
 fn move_fields(queue: &[u8], silo: &[u8], queues: usize) -> Result<Command, FaultKind>
     ensures { result ≡ move_fields queues queue.now silo.now }
 {
-    let queue = parse::queue(queue, queues)?;
-    let silo = parse::silo(silo)?;
+    let queue = fields::queue(queue, queues)?;
+    let silo = fields::silo(silo)?;
     Ok(Command::on_queue(queue, Op::Move { silo }))
 }
 
@@ -160,8 +160,8 @@ pub(crate) fn begin(words: &[&[u8]], queues: usize) -> Result<Command, FaultKind
 fn begin_one(queue: &[u8], grain: &[u8], queues: usize) -> Result<Command, FaultKind>
     ensures { result ≡ begin_one queues queue.now grain.now }
 {
-    let queue = parse::queue(queue, queues)?;
-    let grain = parse::grain(grain)?;
+    let queue = fields::queue(queue, queues)?;
+    let grain = fields::grain(grain)?;
     Ok(Command::on_queue(queue, Op::Begin { grain, max: 1 }))
 }
 
@@ -169,9 +169,9 @@ fn begin_one(queue: &[u8], grain: &[u8], queues: usize) -> Result<Command, Fault
 fn begin_most(queue: &[u8], grain: &[u8], max: &[u8], queues: usize) -> Result<Command, FaultKind>
     ensures { result ≡ begin_most queues queue.now grain.now max.now }
 {
-    let queue = parse::queue(queue, queues)?;
-    let grain = parse::grain(grain)?;
-    let max = parse::short_number(max)?;
+    let queue = fields::queue(queue, queues)?;
+    let grain = fields::grain(grain)?;
+    let max = fields::short_number(max)?;
     Ok(Command::on_queue(queue, Op::Begin { grain, max }))
 }
 
@@ -198,11 +198,11 @@ fn commit_fields(
 ) -> Result<Command, FaultKind>
     ensures { result ≡ commit_fields queues queue.now grain.now activation.now turn.now note.now }
 {
-    let queue = parse::queue(queue, queues)?;
-    let grain = parse::grain(grain)?;
-    let activation = parse::number(activation)?;
-    let turn = parse::number(turn)?;
-    let note = parse::number(note)?;
+    let queue = fields::queue(queue, queues)?;
+    let grain = fields::grain(grain)?;
+    let activation = fields::number(activation)?;
+    let turn = fields::number(turn)?;
+    let note = fields::number(note)?;
     Ok(Command::on_queue(
         queue,
         Op::Commit {
@@ -228,8 +228,8 @@ pub(crate) fn deactivate(words: &[&[u8]], queues: usize) -> Result<Command, Faul
 fn deactivate_fields(queue: &[u8], grain: &[u8], queues: usize) -> Result<Command, FaultKind>
     ensures { result ≡ deactivate_fields queues queue.now grain.now }
 {
-    let queue = parse::queue(queue, queues)?;
-    let grain = parse::grain(grain)?;
+    let queue = fields::queue(queue, queues)?;
+    let grain = fields::grain(grain)?;
     Ok(Command::on_queue(queue, Op::Deactivate { grain }))
 }
 
@@ -248,7 +248,7 @@ pub(crate) fn ready(words: &[&[u8]], queues: usize) -> Result<Command, FaultKind
 fn ready_first(queue: &[u8], queues: usize) -> Result<Command, FaultKind>
     ensures { result ≡ ready_first queues queue.now }
 {
-    let queue = parse::queue(queue, queues)?;
+    let queue = fields::queue(queue, queues)?;
     Ok(Command::on_queue(queue, Op::Ready { after: None }))
 }
 
@@ -256,8 +256,8 @@ fn ready_first(queue: &[u8], queues: usize) -> Result<Command, FaultKind>
 fn ready_after(queue: &[u8], grain: &[u8], queues: usize) -> Result<Command, FaultKind>
     ensures { result ≡ ready_after queues queue.now grain.now }
 {
-    let queue = parse::queue(queue, queues)?;
-    let after = Some(parse::grain(grain)?);
+    let queue = fields::queue(queue, queues)?;
+    let after = Some(fields::grain(grain)?);
     Ok(Command::on_queue(queue, Op::Ready { after }))
 }
 
@@ -276,7 +276,7 @@ pub(crate) fn due(words: &[&[u8]], queues: usize) -> Result<Command, FaultKind>
 fn due_first(queue: &[u8], queues: usize) -> Result<Command, FaultKind>
     ensures { result ≡ due_first queues queue.now }
 {
-    let queue = parse::queue(queue, queues)?;
+    let queue = fields::queue(queue, queues)?;
     Ok(Command::on_queue(queue, Op::Due { after: None }))
 }
 
@@ -284,7 +284,7 @@ fn due_first(queue: &[u8], queues: usize) -> Result<Command, FaultKind>
 fn due_after(queue: &[u8], sub: &[u8], queues: usize) -> Result<Command, FaultKind>
     ensures { result ≡ due_after queues queue.now sub.now }
 {
-    let queue = parse::queue(queue, queues)?;
-    let after = Some(parse::own_sub(sub, queue, queues)?);
+    let queue = fields::queue(queue, queues)?;
+    let after = Some(fields::own_sub(sub, queue, queues)?);
     Ok(Command::on_queue(queue, Op::Due { after }))
 }

@@ -3,7 +3,7 @@
 
 mod agent_forms;
 mod command;
-mod forms;
+mod fields;
 pub mod laws;
 mod lines;
 mod parse;

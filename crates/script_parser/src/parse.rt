@@ -1,20 +1,20 @@
-//! From a line's bytes to its command, and from the bytes of a field to what it says.
-ghost use Rattle.std.specs.Prelude.{◌≡◌, ◌^◌, ◌≤◌, map, IfOk, MatchResult, Ok, Err};
+//! From a line's bytes to its command: its verb, and for the verbs of producers and operators what stands behind them.
+ghost use Rattle.std.specs.Prelude.{◌≡◌, ◌≤◌, map, IfOk, Ok, Err};
 ghost use Rattle.std.specs.List.{list_all};
 ghost use Rattle.stream_ident.specs.Alphabet.{is_printable};
 ghost use Rattle.script_parser.specs.declared.command.Command.{Command};
-ghost use Rattle.script_parser.specs.Fields.{number_field, queue_field, stream_field, grain_field, token_field, payload_field, bare_name_field, explicit_field, implicit_field, name_field, sub_parts, sub_field, own_sub_field};
-ghost use Rattle.script_parser.specs.Forms.{word_of, text_of, words_of, texts_of, payloads_of, queue_of};
+ghost use Rattle.script_parser.specs.Forms.{queue_of, verb_command, words_command, alone, pub_command, pub_fields, sub_words, sub_latest, sub_from, unsub_words, unsub_fields, rule_words, rule_fields, up_words, up_fields, down_words, down_fields};
 ghost use Rattle.script_parser.specs.Grammar.{Reads};
-ghost use Rattle.script_parser.specs.Lexer.{piece_of, pieces_in};
+ghost use Rattle.script_parser.specs.Lexer.{pieces_in};
 ghost use Rattle.script_parser.specs.Pieces.{is_space};
 ghost use Rattle.script_parser.specs.Reading.{Gives, IsWithin, reading, is_comment, is_skipped, line_command, command_of};
 
-use crate::command::{Command, Fault, FaultKind, LineError, Mode, Parsed, Verb, not_here};
-use crate::forms;
+use crate::command::{Command, EachOp, Fault, FaultKind, LineError, Mode, Parsed, Verb, not_here};
 use crate::lines::{Piece, pieces};
+use crate::{agent_forms, fields};
 use std::alloc::{AllocError, Global};
-use stream_ident::{GrainId, Name, Payload, StreamId, SubName, Token, parse_number, split_once};
+use stream_ident::{Batch, GrainId, StreamId};
+use stream_model::{Op, Start};
 
 /// What a line is, its line feed and carriage return taken off: a command, a line to pass over, or its
 /// first fault.
@@ -126,220 +126,230 @@ fn command(alloc: Global, pieces: &[Piece], queues: usize, mode: Mode) -> Result
     if !verb.may_stand(mode) {
         return Err(LineError::Fault(not_here(mode)));
     }
-    forms::command(alloc, verb, rest, queues)
+    of_verb(alloc, verb, rest, queues)
 }
 
-/// The word that a piece is.
-pub(crate) fn word<'a>(piece: &Piece<'a>) -> Result<&'a [u8], FaultKind>
-    ensures { MatchResult result (λ word. word_of (piece_of piece.now) ≡ Ok word.now) (λ fault. word_of (piece_of piece.now) ≡ Err fault) }
-{
-    match piece {
-        Piece::Word(word) => Ok(*word),
-        Piece::Text(_) => Err(FaultKind::WordCount),
-    }
-}
-
-/// What the text that a piece is stands for.
-fn text<'a>(piece: &'a Piece) -> Result<&'a [u8], FaultKind>
-    ensures { MatchResult result (λ text. text_of (piece_of piece.now) ≡ Ok text.now) (λ fault. text_of (piece_of piece.now) ≡ Err fault) }
-{
-    match piece {
-        Piece::Word(_) => Err(FaultKind::WordCount),
-        Piece::Text(text) => Ok(text.as_slice()),
-    }
-}
-
-/// The words, where none is a text.
-pub(crate) fn words<'a>(alloc: Global, pieces: &[Piece<'a>]) -> Result<Vec<&'a [u8]>, LineError>
-    ensures { Gives (λ v. map (λ word. word.now) v.items) result (words_of (pieces_in pieces.now)) }
-{
-    let mut words = Vec::new(alloc);
-    for piece in pieces {
-        let word = word(piece)?;
-        words.push(word)?;
-    }
-    Ok(words)
-}
-
-/// What the texts stand for, where none is a word.
-pub(crate) fn texts<'a>(alloc: Global, pieces: &'a [Piece]) -> Result<Vec<&'a [u8]>, LineError>
-    ensures { Gives (λ v. map (λ text. text.now) v.items) result (texts_of (pieces_in pieces.now)) }
-{
-    let mut texts = Vec::new(alloc);
-    for piece in pieces {
-        let text = text(piece)?;
-        texts.push(text)?;
-    }
-    Ok(texts)
-}
-
-/// Each text as a payload.
-pub(crate) fn payloads(alloc: Global, texts: &[&[u8]]) -> Result<Vec<Payload>, LineError>
-    ensures { Gives (λ v. v.items) result (payloads_of (map (λ text. text.now) texts.now)) }
-{
-    let mut payloads = Vec::new(alloc);
-    for text in texts {
-        let payload = payload(*text)?;
-        payloads.push(payload)?;
-    }
-    Ok(payloads)
-}
-
-/// A number in decimal, below 2^64.
-#[tactic(auto, unfolding(crate::specs::Fields::number_field))]
-pub(crate) fn number(bytes: &[u8]) -> Result<u64, FaultKind>
-    ensures { result ≡ number_field (2 ^ 64) bytes.now }
-{
-    parse_number(bytes).ok_or(FaultKind::BadNumber)
-}
-
-/// A number in decimal, below 2^32.
-#[tactic(auto, unfolding(crate::specs::Fields::number_field))]
-pub(crate) fn short_number(bytes: &[u8]) -> Result<u32, FaultKind>
-    ensures { result ≡ number_field (2 ^ 32) bytes.now }
-{
-    let number = parse_number(bytes).ok_or(FaultKind::BadNumber)?;
-    u32::try_from(number).map_err(|_| FaultKind::BadNumber)
-}
-
-/// The number of a silo, 0 to 15.
-#[tactic(auto, unfolding(crate::specs::Fields::number_field))]
-pub(crate) fn silo(bytes: &[u8]) -> Result<u8, FaultKind>
-    ensures { result ≡ number_field 16 bytes.now }
-{
-    let number = parse_number(bytes).ok_or(FaultKind::BadNumber)?;
-    if number >= 16 {
-        return Err(FaultKind::BadNumber);
-    }
-    Ok(number as u8)
-}
-
-/// The number of a queue.
-#[tactic(auto, unfolding(crate::specs::Fields::queue_field))]
-pub(crate) fn queue(bytes: &[u8], queues: usize) -> Result<usize, FaultKind>
-    ensures { result ≡ queue_field queues bytes.now }
-{
-    let queue = short_number(bytes)? as usize;
-    if queue >= queues {
-        return Err(FaultKind::NoQueue);
-    }
-    Ok(queue)
-}
-
-/// A stream, `NS/KEY`.
-#[tactic(auto, unfolding(crate::specs::Fields::stream_field))]
-pub(crate) fn stream(bytes: &[u8]) -> Result<StreamId, FaultKind>
-    ensures { result ≡ stream_field bytes.now }
-{
-    let (namespace, key) = split_once(bytes, b'/').ok_or(FaultKind::BadName)?;
-    StreamId::new(namespace, key).map_err(|_| FaultKind::BadName)
-}
-
-/// The queue of a stream.
-pub(crate) fn queue_of(stream: &StreamId, queues: usize) -> usize
+/// The command of a verb and the pieces behind it.
+fn of_verb(alloc: Global, verb: Verb, pieces: &[Piece], queues: usize) -> Result<Command, LineError>
     requires { 1 ≤ queues }
-    ensures { result ≡ queue_of stream.now queues }
+    ensures { Gives (λ command. command) result (verb_command verb queues (pieces_in pieces.now)) }
 {
-    queue_mapper::queue(stream, queues)
-}
-
-/// A grain, `KIND/KEY`.
-#[tactic(auto, unfolding(crate::specs::Fields::grain_field))]
-pub(crate) fn grain(bytes: &[u8]) -> Result<GrainId, FaultKind>
-    ensures { result ≡ grain_field bytes.now }
-{
-    let (kind, key) = split_once(bytes, b'/').ok_or(FaultKind::BadName)?;
-    GrainId::new(kind, key).map_err(|_| FaultKind::BadName)
-}
-
-/// A name, of a kind or of a namespace.
-#[tactic(auto, unfolding(crate::specs::Fields::bare_name_field))]
-pub(crate) fn bare_name(bytes: &[u8]) -> Result<Name, FaultKind>
-    ensures { result ≡ bare_name_field bytes.now }
-{
-    Name::new(bytes).map_err(|_| FaultKind::BadName)
-}
-
-/// A token, `SEQ.IDX`.
-#[tactic(auto, unfolding(crate::specs::Fields::token_field))]
-pub(crate) fn token(bytes: &[u8]) -> Result<Token, FaultKind>
-    ensures { result ≡ token_field bytes.now }
-{
-    Token::parse(bytes).map_err(|_| FaultKind::BadToken)
-}
-
-/// What a text carries.
-#[tactic(auto, unfolding(crate::specs::Fields::payload_field))]
-pub(crate) fn payload(bytes: &[u8]) -> Result<Payload, FaultKind>
-    ensures { result ≡ payload_field bytes.now }
-{
-    Payload::new(bytes).map_err(|_| FaultKind::BadText)
-}
-
-/// The number of an explicit subscription, 1 or more.
-#[tactic(auto, unfolding(crate::specs::Fields::explicit_field))]
-fn explicit(bytes: &[u8]) -> Result<SubName, FaultKind>
-    ensures { result ≡ explicit_field bytes.now }
-{
-    let number = short_number(bytes)?;
-    if number == 0 {
-        return Err(FaultKind::BadNumber);
+    if verb.takes_texts() {
+        return publish(alloc, pieces, queues);
     }
-    Ok(SubName::Explicit(number))
+    let words = fields::words(alloc, pieces)?;
+    Ok(of_words(verb, &words, queues)?)
 }
 
-/// The name of an implicit subscription, its kind and its stream cut at the `@`.
-#[tactic(auto, unfolding(crate::specs::Fields::implicit_field))]
-fn implicit(kind: &[u8], of: &[u8]) -> Result<SubName, FaultKind>
-    ensures { result ≡ implicit_field (kind.now, of.now) }
+/// The command of a verb and the words behind it.
+fn of_words(verb: Verb, words: &[&[u8]], queues: usize) -> Result<Command, FaultKind>
+    requires { 1 ≤ queues }
+    ensures { result ≡ words_command verb queues (map (λ word. word.now) words.now) }
 {
-    let kind = Name::new(kind).map_err(|_| FaultKind::BadName)?;
-    let stream = stream(of)?;
-    Ok(SubName::Implicit { kind, stream })
-}
-
-/// The name of a subscription: a number, or `KIND@NS/KEY`.
-#[tactic(auto, unfolding(crate::specs::Fields::name_field))]
-fn name(bytes: &[u8]) -> Result<SubName, FaultKind>
-    ensures { result ≡ name_field bytes.now }
-{
-    match split_once(bytes, b'@') {
-        None => explicit(bytes),
-        Some((kind, of)) => implicit(kind, of),
+    match verb {
+        // Texts stand behind it.
+        Verb::Pub => Err(FaultKind::WordCount),
+        Verb::Sub => subscribe(words, queues),
+        Verb::Unsub => unsubscribe(words, queues),
+        Verb::Rule => rule(words),
+        Verb::Pull => agent_forms::pull(words, queues),
+        Verb::Deliver => agent_forms::deliver(words, queues),
+        Verb::Retry => agent_forms::retry(words, queues),
+        Verb::Ack => agent_forms::ack(words, queues),
+        Verb::Purge => agent_forms::purge(words, queues),
+        Verb::Move => agent_forms::move_queue(words, queues),
+        Verb::Begin => agent_forms::begin(words, queues),
+        Verb::Commit => agent_forms::commit(words, queues),
+        Verb::Deactivate => agent_forms::deactivate(words, queues),
+        Verb::Ready => agent_forms::ready(words, queues),
+        Verb::Due => agent_forms::due(words, queues),
+        Verb::Report => alone(Command::Report, words),
+        Verb::Quiet => alone(Command::Each(EachOp::Quiet), words),
+        Verb::Drain => alone(Command::Drain, words),
+        Verb::Up => up(words),
+        Verb::Down => down(words),
     }
 }
 
-/// A subscription's queue, and what stands behind its one `:`.
-#[tactic(auto, unfolding(crate::specs::Fields::sub_parts))]
-fn sub_parts(bytes: &[u8], queues: usize) -> Result<(usize, &[u8]), FaultKind>
-    ensures { MatchResult result (λ parts. sub_parts queues bytes.entry.now ≡ Ok (parts.0, parts.1.now)) (λ fault. sub_parts queues bytes.entry.now ≡ Err fault) }
+/// A command whose word stands alone.
+fn alone(command: Command, words: &[&[u8]]) -> Result<Command, FaultKind>
+    ensures { result ≡ alone command (map (λ word. word.now) words.now) }
 {
-    let (of, after) = split_once(bytes, b':').ok_or(FaultKind::BadName)?;
-    if after.contains(&b':') {
-        return Err(FaultKind::BadName);
+    if !words.is_empty() {
+        return Err(FaultKind::WordCount);
     }
-    let queue = queue(of, queues)?;
-    Ok((queue, after))
+    Ok(command)
 }
 
-/// A subscription with its queue, `Q:NAME`.
-#[tactic(auto, unfolding(crate::specs::Fields::sub_field))]
-pub(crate) fn sub(bytes: &[u8], queues: usize) -> Result<(usize, SubName), FaultKind>
-    ensures { result ≡ sub_field queues bytes.now }
+/// `pub STREAM TEXT ..`
+fn publish(alloc: Global, pieces: &[Piece], queues: usize) -> Result<Command, LineError>
+    requires { 1 ≤ queues }
+    ensures { Gives (λ command. command) result (pub_command queues (pieces_in pieces.now)) }
 {
-    let (queue, after) = sub_parts(bytes, queues)?;
-    let name = name(after)?;
-    Ok((queue, name))
+    let [first, rest @ ..] = pieces else {
+        return Err(LineError::Fault(FaultKind::WordCount));
+    };
+    let stream = fields::word(first)?;
+    let texts = fields::texts(alloc, rest)?;
+    publish_fields(alloc, stream, &texts, queues)
 }
 
-/// A subscription of this queue, `Q:NAME`.
-#[tactic(auto, unfolding(crate::specs::Fields::own_sub_field))]
-pub(crate) fn own_sub(bytes: &[u8], queue: usize, queues: usize) -> Result<SubName, FaultKind>
-    ensures { result ≡ own_sub_field queues queue bytes.now }
+#[tactic(auto, unfolding(crate::specs::Forms::pub_fields))]
+fn publish_fields(
+    alloc: Global,
+    stream: &[u8],
+    texts: &[&[u8]],
+    queues: usize,
+) -> Result<Command, LineError>
+    requires { 1 ≤ queues }
+    ensures { Gives (λ command. command) result (pub_fields queues stream.now (map (λ text. text.now) texts.now)) }
 {
-    let (of, after) = sub_parts(bytes, queues)?;
-    if of != queue {
-        return Err(FaultKind::NoQueue);
+    let stream = fields::stream(stream)?;
+    let payloads = fields::payloads(alloc, texts)?;
+    Ok(Command::on_queue(
+        fields::queue_of(&stream, queues),
+        Op::Publish {
+            stream,
+            payloads: Batch::of(payloads),
+        },
+    ))
+}
+
+/// `sub STREAM GRAIN latest` or `sub STREAM GRAIN from TOKEN`
+fn subscribe(words: &[&[u8]], queues: usize) -> Result<Command, FaultKind>
+    requires { 1 ≤ queues }
+    ensures { result ≡ sub_words queues (map (λ word. word.now) words.now) }
+{
+    match words {
+        [stream, grain, word] => subscribe_latest(stream, grain, word, queues),
+        [stream, grain, word, token] => subscribe_from(stream, grain, word, token, queues),
+        _ => Err(FaultKind::WordCount),
     }
-    name(after)
+}
+
+#[tactic(auto, unfolding(crate::specs::Forms::sub_latest))]
+fn subscribe_latest(
+    stream: &[u8],
+    grain: &[u8],
+    word: &[u8],
+    queues: usize,
+) -> Result<Command, FaultKind>
+    requires { 1 ≤ queues }
+    ensures { result ≡ sub_latest queues stream.now grain.now word.now }
+{
+    let stream = fields::stream(stream)?;
+    let grain = fields::grain(grain)?;
+    if word != b"latest".as_slice() {
+        return Err(FaultKind::BadCommand);
+    }
+    Ok(subscription(stream, grain, Start::Latest, queues))
+}
+
+#[tactic(auto, unfolding(crate::specs::Forms::sub_from))]
+fn subscribe_from(
+    stream: &[u8],
+    grain: &[u8],
+    word: &[u8],
+    token: &[u8],
+    queues: usize,
+) -> Result<Command, FaultKind>
+    requires { 1 ≤ queues }
+    ensures { result ≡ sub_from queues stream.now grain.now word.now token.now }
+{
+    let stream = fields::stream(stream)?;
+    let grain = fields::grain(grain)?;
+    if word != b"from".as_slice() {
+        return Err(FaultKind::BadCommand);
+    }
+    let token = fields::token(token)?;
+    Ok(subscription(stream, grain, Start::At(token), queues))
+}
+
+/// A subscription on the stream's queue.
+fn subscription(stream: StreamId, grain: GrainId, start: Start, queues: usize) -> Command
+    requires { 1 ≤ queues }
+    ensures { result ≡ Command.Step (queue_of stream queues) (Op.Subscribe stream grain start) }
+{
+    let queue = fields::queue_of(&stream, queues);
+    Command::on_queue(
+        queue,
+        Op::Subscribe {
+            stream,
+            grain,
+            start,
+        },
+    )
+}
+
+/// `unsub SUB`
+fn unsubscribe(words: &[&[u8]], queues: usize) -> Result<Command, FaultKind>
+    ensures { result ≡ unsub_words queues (map (λ word. word.now) words.now) }
+{
+    match words {
+        [sub] => unsubscribe_fields(sub, queues),
+        _ => Err(FaultKind::WordCount),
+    }
+}
+
+#[tactic(auto, unfolding(crate::specs::Forms::unsub_fields))]
+fn unsubscribe_fields(sub: &[u8], queues: usize) -> Result<Command, FaultKind>
+    ensures { result ≡ unsub_fields queues sub.now }
+{
+    let (queue, sub) = fields::sub(sub, queues)?;
+    Ok(Command::on_queue(queue, Op::Unsubscribe { sub }))
+}
+
+/// `rule KIND NS`
+fn rule(words: &[&[u8]]) -> Result<Command, FaultKind>
+    ensures { result ≡ rule_words (map (λ word. word.now) words.now) }
+{
+    match words {
+        [kind, namespace] => rule_fields(kind, namespace),
+        _ => Err(FaultKind::WordCount),
+    }
+}
+
+#[tactic(auto, unfolding(crate::specs::Forms::rule_fields))]
+fn rule_fields(kind: &[u8], namespace: &[u8]) -> Result<Command, FaultKind>
+    ensures { result ≡ rule_fields kind.now namespace.now }
+{
+    let kind = fields::bare_name(kind)?;
+    let namespace = fields::bare_name(namespace)?;
+    Ok(Command::Each(EachOp::Rule { kind, namespace }))
+}
+
+/// `up SILO`
+fn up(words: &[&[u8]]) -> Result<Command, FaultKind>
+    ensures { result ≡ up_words (map (λ word. word.now) words.now) }
+{
+    match words {
+        [silo] => up_fields(silo),
+        _ => Err(FaultKind::WordCount),
+    }
+}
+
+#[tactic(auto, unfolding(crate::specs::Forms::up_fields))]
+fn up_fields(silo: &[u8]) -> Result<Command, FaultKind>
+    ensures { result ≡ up_fields silo.now }
+{
+    let silo = fields::silo(silo)?;
+    Ok(Command::Up { silo })
+}
+
+/// `down SILO`
+fn down(words: &[&[u8]]) -> Result<Command, FaultKind>
+    ensures { result ≡ down_words (map (λ word. word.now) words.now) }
+{
+    match words {
+        [silo] => down_fields(silo),
+        _ => Err(FaultKind::WordCount),
+    }
+}
+
+#[tactic(auto, unfolding(crate::specs::Forms::down_fields))]
+fn down_fields(silo: &[u8]) -> Result<Command, FaultKind>
+    ensures { result ≡ down_fields silo.now }
+{
+    let silo = fields::silo(silo)?;
+    Ok(Command::Down { silo })
 }

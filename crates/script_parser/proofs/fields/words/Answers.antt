@@ -3,7 +3,7 @@ use Rattle.std.proofs.lemmas.List.{map_push}
 use Rattle.script_parser.specs.Lexer.{piece_of}
 use Rattle.script_parser.specs.Forms.{read_all, word_of}
 use Rattle.script_parser.proofs.ReadLemmas.{with_read, read_more, read_stuck, read_done, gives_fault}
-use Rattle.script_parser.proofs.parse.words.Goals as goal
+use Rattle.script_parser.proofs.fields.words.Goals as goal
 
 pub returns-in_err-word : goal.returns-in_err-word
 returns-in_err-word c =

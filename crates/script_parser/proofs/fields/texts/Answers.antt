@@ -3,7 +3,7 @@ use Rattle.std.proofs.lemmas.List.{map_push}
 use Rattle.script_parser.specs.Lexer.{piece_of}
 use Rattle.script_parser.specs.Forms.{read_all, text_of}
 use Rattle.script_parser.proofs.ReadLemmas.{with_read, read_more, read_stuck, read_done, gives_fault}
-use Rattle.script_parser.proofs.parse.texts.Goals as goal
+use Rattle.script_parser.proofs.fields.texts.Goals as goal
 
 pub returns-in_err-text : goal.returns-in_err-text
 returns-in_err-text c =
