@@ -1,187 +1,236 @@
-use crate::cluster::{Cluster, KEYS};
-use crate::operations::{add_rule, grain, subscribe, unsubscribe};
+//! The loops of a silo over one queue, step by step.
+use crate::cluster::{Cluster, KEYS, Silos, compare, is_told, rest, settle};
+use crate::fresh::{Asked, History};
+use crate::operations::{Call, Told};
+use crate::rows::assert_row;
 use crate::silo::Loop;
+use activation_directory::{DirectoryOp, DirectoryReply};
 use silo_loops::Advance;
 use std::alloc::Global;
 use std::process::Abort;
 use std::sync::Wait;
-use std::test::Fail;
 use step_core::{Op, Reply};
+use turnstile::StoredHistory;
 
-const CALLS: u64 = 1_000_000;
+// What the gate was told: events, commits, and how much of it was out of order.
+type Work = (u64, u64, u64);
 
-// One queue with a subscription, which the agent of the first silo has.
-fn one_queue<R: Wait + Abort>(rt: &R, alloc: Global) -> Cluster {
-    let mut cluster = Cluster::new(rt, alloc, 1, CALLS);
-    cluster.one().assign(0, Some(0));
-    let op = subscribe(rt, KEYS[0]);
-    assert!(rt; cluster.ask(rt, alloc, 0, op) == Reply::Subscribed { number: 1 });
-    cluster
+// What is done, and what is seen then.
+#[derive(Clone, Copy)]
+enum Step {
+    // An operation of a producer, and its reply.
+    Ask(Call, Told),
+    // So many events are published, each in a batch of its own.
+    Publish(u32),
+    // The agent is told under which generation it has the queue, or that it hasn't the queue.
+    Assign(Option<u32>),
+    // A loop goes on until it is idle.
+    Rest(Loop),
+    // All loops go on until none finds anything to do.
+    Settle,
+    // The calls of the partition are counted from here on.
+    Count,
+    // The first worker takes a step. So many calls were made by then, and the gate was told so much.
+    Did(u64, Work),
+    // The first worker finds nothing to do, and has begun so many rounds.
+    Idle(u64),
+    // The gate was told so much.
+    Works(Work),
+    // So many events were handled.
+    Handled(u64),
+    // All is pulled, delivered and handled, with nothing out of order, and so many events were handled.
+    Settled(u64),
 }
 
-// A step of the first worker, and what the gate was told then: calls since some time, and work.
-fn step<R: Wait + Abort>(
+// Whether a step of the first worker does something, or finds nothing to do.
+fn is_worked<C: Silos, R: Wait>(rt: &R, alloc: Global, cluster: &mut C, wanted: Advance) -> bool {
+    cluster.advance(rt, alloc, true, Loop::First) == wanted
+}
+
+// Whether the gate was told so much.
+fn has_worked<C: Silos>(cluster: &C, work: &Work) -> bool {
+    let (events, commits, astray) = cluster.gate().work();
+    events == work.0 && commits == work.1 && astray == work.2
+}
+
+// Whether all is handled, in order.
+fn is_settled<C: Silos, R: Wait + Abort>(
     rt: &R,
     alloc: Global,
-    cluster: &mut Cluster,
-    since: u64,
-    wanted: (u64, (u64, u64, u64)),
-) {
-    let did = cluster.advance(rt, alloc, true, Loop::First);
-    assert!(rt; did == Advance::Did);
-    let calls = cluster.gate().calls().wrapping_sub(since);
-    let work = cluster.gate().work();
-    assert!(rt; (calls, work) == wanted);
+    cluster: &mut C,
+    events: u64,
+) -> bool {
+    settle(rt, alloc, cluster, true);
+    let (handled, _, astray) = cluster.gate().work();
+    handled == events && astray == 0 && is_told(rt, alloc, cluster, 0, Call::Quiet, Told::IsQuiet)
 }
 
-// All is pulled, delivered and handled, with nothing out of order, and so many events were handled.
-fn is_settled<R: Wait + Abort>(rt: &R, alloc: Global, cluster: &mut Cluster, events: u64) {
-    cluster.settle_one(rt, alloc);
-    assert!(rt; cluster.ask(rt, alloc, 0, Op::Quiet) == Reply::IsQuiet);
-    let (handled, _, astray) = cluster.gate().work();
-    assert!(rt; handled == events && astray == 0);
+// Takes a step, and tells whether what is seen then is as it should be. The calls are counted from a number on.
+fn is_met<C: Silos, R: Wait + Abort>(
+    rt: &R,
+    alloc: Global,
+    cluster: &mut C,
+    since: &mut u64,
+    step: &Step,
+) -> bool {
+    match step {
+        Step::Ask(call, wanted) => return is_told(rt, alloc, cluster, 0, *call, *wanted),
+        Step::Publish(events) => cluster.publish(rt, alloc, 0, *events),
+        Step::Assign(generation) => cluster.assign(true, 0, *generation),
+        Step::Rest(which) => rest(rt, alloc, cluster, true, *which),
+        Step::Settle => settle(rt, alloc, cluster, true),
+        Step::Count => *since = cluster.gate().calls(),
+        Step::Did(calls, work) => {
+            let is_worked = is_worked(rt, alloc, cluster, Advance::Did);
+            let made = cluster.gate().calls().wrapping_sub(*since);
+            return is_worked && made == *calls && has_worked(cluster, work);
+        }
+        Step::Idle(rounds) => {
+            let is_worked = is_worked(rt, alloc, cluster, Advance::Idle);
+            return is_worked && cluster.rounds(true)[1] == *rounds;
+        }
+        Step::Works(work) => return has_worked(cluster, work),
+        Step::Handled(events) => return cluster.gate().work().0 == *events,
+        Step::Settled(events) => return is_settled(rt, alloc, cluster, *events),
+    }
+    true
 }
+
+// Takes the steps of a case.
+fn take<C: Silos, R: Wait + Abort>(
+    rt: &R,
+    alloc: Global,
+    cluster: &mut C,
+    case: usize,
+    steps: &[Step],
+) {
+    let mut since = 0;
+    for (row, step) in steps.iter().enumerate() {
+        assert_row(rt, case, row, is_met(rt, alloc, cluster, &mut since, step));
+    }
+}
+
+// The histories after the steps of a case, over one queue, which the agent of the first silo has.
+fn played<
+    H: StoredHistory<Op, Reply>,
+    D: StoredHistory<DirectoryOp, DirectoryReply>,
+    R: Wait + Abort,
+>(rt: &R, alloc: Global, case: usize, steps: &[Step]) -> Vec<H> {
+    let mut cluster = Cluster::<H, D>::new(rt, alloc, 1, 1_000_000);
+    cluster.assign(true, 0, Some(0));
+    take(rt, alloc, &mut cluster, case, steps);
+    cluster.into_histories(rt, alloc)
+}
+
+// The first step of each case.
+const BEGIN: Step = Step::Ask(Call::Subscribe(KEYS[0], KEYS[0]), Told::Subscribed(1));
 
 // What stands after each step of a worker for three events: each step is one call, one event or one commit that is
 // told. The calls are Ready, Enter (which isn't a call of the partition), Begin, Commit, Leave, and Ready twice,
 // since the round changed something.
-const TURN: [(u64, (u64, u64, u64)); 11] = [
-    (1, (0, 0, 0)),
-    (1, (0, 0, 0)),
-    (2, (0, 0, 0)),
-    (2, (1, 0, 0)),
-    (2, (2, 0, 0)),
-    (2, (3, 0, 0)),
-    (3, (3, 0, 0)),
-    (3, (3, 1, 0)),
-    (3, (3, 1, 0)),
-    (4, (3, 1, 0)),
-    (5, (3, 1, 0)),
+const TURN: [Step; 17] = [
+    BEGIN,
+    Step::Publish(3),
+    Step::Rest(Loop::Agent),
+    Step::Count,
+    Step::Did(1, (0, 0, 0)),
+    Step::Did(1, (0, 0, 0)),
+    Step::Did(2, (0, 0, 0)),
+    Step::Did(2, (1, 0, 0)),
+    Step::Did(2, (2, 0, 0)),
+    Step::Did(2, (3, 0, 0)),
+    Step::Did(3, (3, 0, 0)),
+    Step::Did(3, (3, 1, 0)),
+    Step::Did(3, (3, 1, 0)),
+    Step::Did(4, (3, 1, 0)),
+    Step::Did(5, (3, 1, 0)),
+    Step::Idle(2),
+    Step::Settled(3),
 ];
-
-#[test]
-fn a_turn_step_by_step(rt: HostRuntime) -> Result<(), Fail> {
-    let alloc = rt.alloc();
-    let mut cluster = one_queue(&rt, alloc);
-    cluster.publish(&rt, alloc, 0, 3);
-    cluster.rest(&rt, alloc, Loop::Agent);
-    let since = cluster.gate().calls();
-    for row in &TURN {
-        step(&rt, alloc, &mut cluster, since, *row);
-    }
-    let did = cluster.advance(&rt, alloc, true, Loop::First);
-    assert!(rt; did == Advance::Idle && cluster.one().rounds()[1] == 2);
-    is_settled(&rt, alloc, &mut cluster, 3);
-    cluster.finish(&rt, alloc);
-    Ok(())
-}
 
 // A worker has handled two events of a turn when its grain is taken out of memory. Its commit is refused, so the
 // gate isn't told of one, and the events come again from the first, under the note of the last commit.
-const LOST: [(u64, (u64, u64, u64)); 4] = [
-    (4, (3, 0, 0)),
-    (4, (3, 0, 0)),
-    (5, (3, 0, 0)),
-    (6, (3, 0, 0)),
+const LOST: [Step; 17] = [
+    BEGIN,
+    Step::Publish(3),
+    Step::Rest(Loop::Agent),
+    Step::Count,
+    Step::Did(1, (0, 0, 0)),
+    Step::Did(1, (0, 0, 0)),
+    Step::Did(2, (0, 0, 0)),
+    Step::Did(2, (1, 0, 0)),
+    Step::Did(2, (2, 0, 0)),
+    Step::Ask(Call::Deactivate(KEYS[0]), Told::Deactivated(3)),
+    Step::Did(3, (3, 0, 0)),
+    Step::Did(4, (3, 0, 0)),
+    Step::Did(4, (3, 0, 0)),
+    Step::Did(5, (3, 0, 0)),
+    Step::Did(6, (3, 0, 0)),
+    Step::Settle,
+    Step::Works((6, 1, 1)),
 ];
-
-#[test]
-fn a_turn_that_is_lost(rt: HostRuntime) -> Result<(), Fail> {
-    let alloc = rt.alloc();
-    let mut cluster = one_queue(&rt, alloc);
-    cluster.publish(&rt, alloc, 0, 3);
-    cluster.rest(&rt, alloc, Loop::Agent);
-    let since = cluster.gate().calls();
-    for row in TURN[..5].iter() {
-        step(&rt, alloc, &mut cluster, since, *row);
-    }
-    let grain = grain(&rt, KEYS[0]);
-    let lost = cluster.ask(&rt, alloc, 0, Op::Deactivate { grain });
-    assert!(rt; lost == Reply::Deactivated { lost: 3 });
-    step(&rt, alloc, &mut cluster, since, (3, (3, 0, 0)));
-    for row in &LOST {
-        step(&rt, alloc, &mut cluster, since, *row);
-    }
-    cluster.settle_one(&rt, alloc);
-    assert!(rt; cluster.gate().work() == (6, 1, 1));
-    cluster.finish(&rt, alloc);
-    Ok(())
-}
-
-// What a producer does between two times that the silo settles: an operation and its reply, how many events it then
-// publishes, and how many are handled in all when the silo has settled.
-fn round<R: Wait + Abort>(
-    rt: &R,
-    alloc: Global,
-    cluster: &mut Cluster,
-    asked: (Op, Reply),
-    events: u32,
-    handled: u64,
-) {
-    let (op, wanted) = asked;
-    let reply = cluster.ask(rt, alloc, 0, op);
-    assert!(rt; reply == wanted);
-    cluster.publish(rt, alloc, 0, events);
-    is_settled(rt, alloc, cluster, handled);
-}
 
 // Each operation of a producer. The subscription, the rule and a later subscription each have the events from the
 // next one on, until they end.
-#[test]
-fn all_operations_of_a_producer(rt: HostRuntime) -> Result<(), Fail> {
-    let alloc = rt.alloc();
-    let mut cluster = one_queue(&rt, alloc);
-    is_settled(&rt, alloc, &mut cluster, 0);
-    cluster.publish(&rt, alloc, 0, 40);
-    is_settled(&rt, alloc, &mut cluster, 40);
-    let added = (add_rule(&rt), Reply::RuleAdded { from: 40 });
-    round(&rt, alloc, &mut cluster, added, 100, 240);
-    let ended = (unsubscribe(1), Reply::Unsubscribed { handled: 140 });
-    round(&rt, alloc, &mut cluster, ended, 30, 270);
-    let begun = (subscribe(&rt, KEYS[0]), Reply::Subscribed { number: 2 });
-    round(&rt, alloc, &mut cluster, begun, 300, 870);
-    round(
-        &rt,
-        alloc,
-        &mut cluster,
-        (unsubscribe(1), Reply::Closed),
-        0,
-        870,
-    );
-    cluster.finish(&rt, alloc);
-    Ok(())
-}
+const PRODUCED: [Step; 15] = [
+    BEGIN,
+    Step::Settled(0),
+    Step::Publish(40),
+    Step::Settled(40),
+    Step::Ask(Call::Rule, Told::RuleAdded(40)),
+    Step::Publish(100),
+    Step::Settled(240),
+    Step::Ask(Call::Unsubscribe(1), Told::Unsubscribed(140)),
+    Step::Publish(30),
+    Step::Settled(270),
+    Step::Ask(Call::Subscribe(KEYS[0], KEYS[0]), Told::Subscribed(2)),
+    Step::Publish(300),
+    Step::Settled(870),
+    Step::Ask(Call::Unsubscribe(1), Told::Closed),
+    Step::Settled(870),
+];
 
 // A mailbox has sixteen places, so an agent is idle with the rest in the cache until a worker has run.
-#[test]
-fn a_full_mailbox(rt: HostRuntime) -> Result<(), Fail> {
-    let alloc = rt.alloc();
-    let mut cluster = one_queue(&rt, alloc);
-    cluster.publish(&rt, alloc, 0, 20);
-    cluster.rest(&rt, alloc, Loop::Agent);
-    cluster.rest(&rt, alloc, Loop::Agent);
-    cluster.rest(&rt, alloc, Loop::First);
-    assert!(rt; cluster.gate().work() == (16, 1, 0));
-    is_settled(&rt, alloc, &mut cluster, 20);
-    cluster.finish(&rt, alloc);
-    Ok(())
-}
+const FULL: [Step; 7] = [
+    BEGIN,
+    Step::Publish(20),
+    Step::Rest(Loop::Agent),
+    Step::Rest(Loop::Agent),
+    Step::Rest(Loop::First),
+    Step::Works((16, 1, 0)),
+    Step::Settled(20),
+];
 
 // A Move makes the agent's generation stale: it passes the queue over until it is told the new one, and when it is
 // told that it hasn't the queue.
+const STALE: [Step; 19] = [
+    BEGIN,
+    Step::Ask(Call::Move(0), Told::Moved(1)),
+    Step::Assign(Some(0)),
+    Step::Publish(5),
+    Step::Settle,
+    Step::Handled(0),
+    Step::Assign(Some(1)),
+    Step::Publish(5),
+    Step::Settle,
+    Step::Handled(10),
+    Step::Assign(None),
+    Step::Publish(5),
+    Step::Settle,
+    Step::Handled(10),
+    Step::Assign(Some(1)),
+    Step::Publish(5),
+    Step::Settle,
+    Step::Handled(20),
+    Step::Settled(20),
+];
+
+static CASES: [&[Step]; 5] = [&TURN, &LOST, &PRODUCED, &FULL, &STALE];
+
 #[test]
-fn a_stale_generation(rt: HostRuntime) -> Result<(), Fail> {
-    let alloc = rt.alloc();
-    let mut cluster = one_queue(&rt, alloc);
-    let moved = cluster.ask(&rt, alloc, 0, Op::Move { silo: 0 });
-    assert!(rt; matches!(moved, Reply::Moved { generation: 1, .. }));
-    for (generation, handled) in [(Some(0), 0), (Some(1), 10), (None, 10), (Some(1), 20)] {
-        cluster.one().assign(0, generation);
-        cluster.publish(&rt, alloc, 0, 5);
-        cluster.settle_one(&rt, alloc);
-        assert!(rt; cluster.gate().work().0 == handled);
+fn steps_by_hand(rt: HostRuntime) {
+    for (case, steps) in CASES.iter().enumerate() {
+        let histories = played::<History, Asked, HostRuntime>(&rt, rt.alloc(), case, steps);
+        compare(&rt, rt.alloc(), histories.as_slice());
     }
-    is_settled(&rt, alloc, &mut cluster, 20);
-    cluster.finish(&rt, alloc);
-    Ok(())
 }

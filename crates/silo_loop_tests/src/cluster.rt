@@ -1,26 +1,27 @@
-//! Two silos by hand, over some queues.
-ghost use Rattle.std.specs.Prelude.{◌≡◌, IfOk};
-ghost use Rattle.turnstile.specs.Calls.{IsOf};
-ghost use Rattle.shared_partition.specs.Directories.{BeganEmpty};
+//! Two silos over some queues, whose loops are called by hand or run in threads.
+ghost use Rattle.std.specs.Prelude.{◌≡◌};
 
+use crate::fresh;
+use crate::fresh::{Asked, History};
 use crate::gate::Recorder;
-use crate::operations::publish;
+use crate::operations::{Call, Told, operation, reply};
 use crate::queue::Queue;
 use crate::replay::replay;
-use crate::silo::{Asked, Directory, Loop, Shared, Silo};
-use shared_partition::SharedDirectory;
+use crate::silo::{Loop, Shared, Silo, StoredSilo, run_silo};
+use activation_directory::{DirectoryOp, DirectoryReply};
+use shared_partition::Gate;
 use silo_loops::{Advance, DirectoryLine, Doorbell};
-use std::alloc::{AllocError, Global};
+use std::alloc::Global;
 use std::process::Abort;
 use std::sync::atomic::{AtomicBool, Ordering};
 use std::sync::{Arc, Wait};
 use std::thread;
 use std::thread::{Threads, join};
 use step_core::{Op, Reply};
-use turnstile::{PassOf, Turnstile};
+use turnstile::StoredHistory;
 
 /// The key of the stream and of the grain at each queue.
-pub const KEYS: [&[u8]; 2] = [b"a", b"b"];
+pub const KEYS: [u8; 2] = [b'a', b'b'];
 
 /// What is done beside loops that run.
 #[derive(Clone, Copy)]
@@ -31,30 +32,108 @@ pub enum Beside {
     Watch(u64),
 }
 
+/// Two silos over some queues, as tests see them: the first one and the other.
+pub trait Silos {
+    /// What the gate of all queues was told.
+    fn gate(&self) -> &Recorder;
+
+    /// How often the doorbell was rung, and two less.
+    fn rung<R: Wait>(&self, rt: &R) -> u64;
+
+    /// Whether the doorbell tells that a loop has ended by itself.
+    fn has_ended(&self) -> bool;
+
+    /// Whether a loop of a silo has ended.
+    fn is_over(&self) -> bool;
+
+    /// The agent of a silo has the queue from now on, under this generation, or has it no more.
+    fn assign(&self, in_one: bool, queue: usize, generation: Option<u32>);
+
+    /// How many rounds each loop of a silo has begun.
+    fn rounds(&self, in_one: bool) -> [u64; 3];
+
+    /// The reply to a producer at a queue.
+    fn ask<R: Wait + Abort>(&mut self, rt: &R, alloc: Global, queue: usize, call: Call) -> Reply;
+
+    /// Publishes so many events, each in a batch of its own.
+    fn publish<R: Wait + Abort>(&mut self, rt: &R, alloc: Global, queue: usize, count: u32);
+
+    /// One step of a loop of a silo.
+    fn advance<R: Wait>(&mut self, rt: &R, alloc: Global, in_one: bool, which: Loop) -> Advance;
+}
+
+/// Whether a producer at a queue is told so.
+pub fn is_told<C: Silos, R: Wait + Abort>(
+    rt: &R,
+    alloc: Global,
+    cluster: &mut C,
+    queue: usize,
+    call: Call,
+    wanted: Told,
+) -> bool {
+    cluster.ask(rt, alloc, queue, call) == reply(wanted)
+}
+
+/// Steps of a loop of a silo, until it is idle.
+pub fn rest<C: Silos, R: Wait + Abort>(
+    rt: &R,
+    alloc: Global,
+    cluster: &mut C,
+    in_one: bool,
+    which: Loop,
+) {
+    for _ in 0..100_000 {
+        if cluster.advance(rt, alloc, in_one, which) == Advance::Idle {
+            return;
+        }
+    }
+    panic!(rt; "a loop is idle at some time");
+}
+
+/// Steps of the loops of a silo, until none finds anything to do.
+pub fn settle<C: Silos, R: Wait + Abort>(rt: &R, alloc: Global, cluster: &mut C, in_one: bool) {
+    for _ in 0..10_000 {
+        let seen = cluster.rung(rt);
+        rest(rt, alloc, cluster, in_one, Loop::Agent);
+        rest(rt, alloc, cluster, in_one, Loop::First);
+        rest(rt, alloc, cluster, in_one, Loop::Second);
+        if cluster.rung(rt) == seen {
+            return;
+        }
+    }
+    panic!(rt; "a silo settles at some time");
+}
+
+/// Steps of all loops, until none finds anything to do.
+pub fn settle_both<C: Silos, R: Wait + Abort>(rt: &R, alloc: Global, cluster: &mut C) {
+    for _ in 0..1_000 {
+        let seen = cluster.rung(rt);
+        settle(rt, alloc, cluster, true);
+        settle(rt, alloc, cluster, false);
+        if cluster.rung(rt) == seen {
+            return;
+        }
+    }
+    panic!(rt; "silos settle at some time");
+}
+
 /// Some queues and two silos over them.
-pub struct Cluster {
-    shared: Shared,
-    queues: Vec<Queue>,
-    one: Silo,
-    other: Silo,
+#[derive(Drop)]
+pub struct Cluster<H: StoredHistory<Op, Reply>, D: StoredHistory<DirectoryOp, DirectoryReply>> {
+    shared: Shared<Recorder, D>,
+    queues: Vec<Queue<Recorder, H>>,
+    one: Silo<Recorder, H, D>,
+    other: Silo<Recorder, H, D>,
     ghost one_here: { one ≡ queues.items },
     ghost other_here: { other ≡ queues.items },
 }
 
-impl Drop for Cluster {
-    fn drop(self) {
-        let Self {
-            shared: _,
-            queues: _,
-            one: _,
-            other: _,
-        } = self;
-    }
-}
+/// A cluster whose loops can run in threads: how its calls are stored is known.
+pub type StoredCluster = Cluster<History, Asked>;
 
-impl Cluster {
+impl<H: StoredHistory<Op, Reply>, D: StoredHistory<DirectoryOp, DirectoryReply>> Cluster<H, D> {
     /// Empty queues, whose histories have at most so many calls each. The doorbell's count is about to wrap.
-    pub fn new<R: Abort>(rt: &R, alloc: Global, queues: usize, calls: u64) -> Cluster {
+    pub fn new<R: Abort>(rt: &R, alloc: Global, queues: usize, calls: u64) -> Cluster<H, D> {
         let gate = Arc::new(alloc, Recorder::new()).expect(rt, "memory");
         let mut queues = open_all(rt, alloc, &gate, queues, calls);
         let mut shared = Shared {
@@ -72,42 +151,77 @@ impl Cluster {
         }
     }
 
-    pub fn gate(&self) -> &Recorder {
+    /// The histories of the queues, to which all passes come back.
+    pub fn into_histories<R: Abort>(self, rt: &R, alloc: Global) -> Vec<H> {
+        let Cluster {
+            shared: _,
+            mut queues,
+            one,
+            other,
+        } = self;
+        one.leave(&mut queues);
+        other.leave(&mut queues);
+        let mut histories = Vec::with_capacity(alloc, queues.len()).expect(rt, "memory");
+        for queue in queues {
+            histories.push(queue.finish(rt, alloc)).expect(rt, "memory");
+        }
+        histories
+    }
+}
+
+/// Compares the history of each queue with the plain program.
+pub fn compare<R: Abort>(rt: &R, alloc: Global, histories: &[History]) {
+    for history in histories {
+        replay(rt, alloc, history.as_slice());
+    }
+}
+
+impl<H: StoredHistory<Op, Reply>, D: StoredHistory<DirectoryOp, DirectoryReply>> Silos
+    for Cluster<H, D> {
+    fn gate(&self) -> &Recorder {
         &self.shared.gate
     }
 
-    /// How often the doorbell was rung, and two less.
-    pub fn rung<R: Wait>(&self, rt: &R) -> u64 {
+    fn rung<R: Wait>(&self, rt: &R) -> u64 {
         self.shared.doorbell.now(rt)
     }
 
-    /// Whether a loop has ended by itself.
-    pub fn has_ended(&self) -> bool {
+    fn has_ended(&self) -> bool {
         self.shared.doorbell.has_ended()
     }
 
-    pub fn one(&self) -> &Silo {
-        &self.one
+    fn is_over(&self) -> bool {
+        self.one.has_ended() || self.other.has_ended()
     }
 
-    pub fn other(&self) -> &Silo {
-        &self.other
+    fn assign(&self, in_one: bool, queue: usize, generation: Option<u32>) {
+        if in_one {
+            self.one.assign(queue, generation);
+        } else {
+            self.other.assign(queue, generation);
+        }
     }
 
-    /// Does an operation of a producer.
-    pub fn ask<R: Wait + Abort>(&mut self, rt: &R, alloc: Global, queue: usize, op: Op) -> Reply {
+    fn rounds(&self, in_one: bool) -> [u64; 3] {
+        if in_one {
+            self.one.rounds()
+        } else {
+            self.other.rounds()
+        }
+    }
+
+    fn ask<R: Wait + Abort>(&mut self, rt: &R, alloc: Global, queue: usize, call: Call) -> Reply {
         ask_at(
             rt,
             alloc,
             &mut self.queues,
             &self.shared.doorbell,
             queue,
-            op,
+            call,
         )
     }
 
-    /// Publishes so many events, each in a batch of its own.
-    pub fn publish<R: Wait + Abort>(&mut self, rt: &R, alloc: Global, queue: usize, count: u32) {
+    fn publish<R: Wait + Abort>(&mut self, rt: &R, alloc: Global, queue: usize, count: u32) {
         publish_at(
             rt,
             alloc,
@@ -118,93 +232,22 @@ impl Cluster {
         );
     }
 
-    /// One step of a loop of a silo.
-    pub fn advance<R: Wait>(
-        &mut self,
-        rt: &R,
-        alloc: Global,
-        in_one: bool,
-        which: Loop,
-    ) -> Advance {
+    fn advance<R: Wait>(&mut self, rt: &R, alloc: Global, in_one: bool, which: Loop) -> Advance {
         if in_one {
             self.one.advance(rt, alloc, which)
         } else {
             self.other.advance(rt, alloc, which)
         }
     }
-
-    /// Steps of a loop of the first silo, until it is idle.
-    pub fn rest<R: Wait + Abort>(&mut self, rt: &R, alloc: Global, which: Loop) {
-        self.one.rest(rt, alloc, which);
-    }
-
-    /// Steps of the loops of the first silo, until none finds anything to do.
-    pub fn settle_one<R: Wait + Abort>(&mut self, rt: &R, alloc: Global) {
-        self.one.settle(rt, alloc, &self.shared.doorbell);
-    }
-
-    /// Steps of all loops, until none finds anything to do.
-    pub fn settle<R: Wait + Abort>(&mut self, rt: &R, alloc: Global) {
-        settle_both(
-            rt,
-            alloc,
-            &mut self.one,
-            &mut self.other,
-            &self.shared.doorbell,
-        );
-    }
-
-    /// Runs each loop in a thread of its own, until the thread beside them tells them to stop.
-    pub fn run<R: Threads + Wait + Abort + Sync>(
-        self,
-        rt: &R,
-        alloc: Global,
-        beside: Beside,
-    ) -> Cluster {
-        let Cluster {
-            shared,
-            queues,
-            one,
-            other,
-        } = self;
-        let stop = AtomicBool::new(false);
-        let ((one, other), queues) = join(
-            rt,
-            || run_silos(rt, alloc, one, other, &stop),
-            || attend(rt, alloc, queues, &shared, &stop, beside),
-        );
-        Cluster {
-            shared,
-            queues,
-            one,
-            other,
-        }
-    }
-
-    /// Closes each queue, to which all passes come back, and compares its history with the plain program.
-    pub fn finish<R: Abort>(self, rt: &R, alloc: Global) {
-        let Cluster {
-            shared: _,
-            mut queues,
-            one,
-            other,
-        } = self;
-        one.leave(&mut queues);
-        other.leave(&mut queues);
-        for queue in queues {
-            let history = queue.finish(rt, alloc);
-            replay(rt, alloc, history.as_slice());
-        }
-    }
 }
 
-fn open_all<R: Abort>(
+fn open_all<G: Gate, H: StoredHistory<Op, Reply>, R: Abort>(
     rt: &R,
     alloc: Global,
-    gate: &Arc<Recorder, Global>,
+    gate: &Arc<G, Global>,
     count: usize,
     calls: u64,
-) -> Vec<Queue> {
+) -> Vec<Queue<G, H>> {
     let mut queues = Vec::with_capacity(alloc, count).expect(rt, "memory");
     for queue in 0..count {
         queues.push_reserved(Queue::open(rt, alloc, gate, queue, calls));
@@ -212,109 +255,62 @@ fn open_all<R: Abort>(
     queues
 }
 
-fn directory<R: Abort>(rt: &R, alloc: Global) -> Directory {
-    let (turnstile, pass) = open_directory(alloc).expect(rt, "memory");
+fn directory<D: StoredHistory<DirectoryOp, DirectoryReply>, R: Abort>(
+    rt: &R,
+    alloc: Global,
+) -> DirectoryLine<D> {
+    let (turnstile, pass) = fresh::directory(alloc, 4_000_000, 1_000_000).expect(rt, "memory");
     DirectoryLine::new(Arc::new(alloc, turnstile).expect(rt, "memory"), pass)
 }
 
-// A turnstile over an empty directory.
-fn open_directory(
-    alloc: Global,
-) -> Result<
-    (
-        Turnstile<SharedDirectory<Asked>>,
-        PassOf<SharedDirectory<Asked>>,
-    ),
-    AllocError,
->
-    ensures { IfOk result (λ r. IsOf r.0 r.1 × BeganEmpty r.0.start) }
-{
-    let shared = SharedDirectory::new(alloc, 4_000_000);
-    let (turnstile, pass) = Turnstile::new(alloc, shared, 1_000_000)?;
-    Ok((turnstile, pass))
-}
-
-fn ask_at<R: Wait + Abort>(
+fn ask_at<G: Gate, H: StoredHistory<Op, Reply>, R: Wait + Abort>(
     rt: &R,
     alloc: Global,
-    queues: &mut Vec<Queue>,
+    queues: &mut Vec<Queue<G, H>>,
     doorbell: &Doorbell,
     at: usize,
-    op: Op,
+    call: Call,
 ) -> Reply
     ensures { queues.new.items ≡ queues.old.items }
 {
     assert!(rt; at < queues.len());
+    let op = operation(rt, alloc, call).expect(rt, "memory");
     queues[at].ask(rt, alloc, doorbell, op)
 }
 
-fn publish_at<R: Wait + Abort>(
+/// The key of the stream at a queue.
+pub fn key_of(queue: usize) -> u8 {
+    if queue == 0 { KEYS[0] } else { KEYS[1] }
+}
+
+fn publish_at<G: Gate, H: StoredHistory<Op, Reply>, R: Wait + Abort>(
     rt: &R,
     alloc: Global,
-    queues: &mut Vec<Queue>,
+    queues: &mut Vec<Queue<G, H>>,
     doorbell: &Doorbell,
     at: usize,
     count: u32,
 )
     ensures { queues.new.items ≡ queues.old.items }
 {
-    let key = if at == 0 { KEYS[0] } else { KEYS[1] };
+    let key = key_of(at);
     for _ in 0..count {
-        let op = publish(rt, alloc, key).expect(rt, "memory");
-        let reply = ask_at(rt, alloc, queues, doorbell, at, op);
+        let reply = ask_at(rt, alloc, queues, doorbell, at, Call::Publish(key));
         assert!(rt; matches!(reply, Reply::Published { .. }));
     }
 }
 
-fn settle_both<R: Wait + Abort>(
-    rt: &R,
-    alloc: Global,
-    one: &mut Silo,
-    other: &mut Silo,
-    doorbell: &Doorbell,
-)
-    ensures one { one.new ≡ one.old }
-    ensures other { other.new ≡ other.old }
-{
-    for _ in 0..1_000 {
-        let seen = doorbell.now(rt);
-        one.settle(rt, alloc, doorbell);
-        other.settle(rt, alloc, doorbell);
-        if doorbell.now(rt) == seen {
-            return;
-        }
-    }
-    panic!(rt; "silos settle at some time");
-}
-
-fn run_silos<R: Threads + Wait + Sync>(
-    rt: &R,
-    alloc: Global,
-    one: Silo,
-    other: Silo,
-    stop: &AtomicBool,
-) -> (Silo, Silo)
-    ensures one { result.0 ≡ one }
-    ensures other { result.1 ≡ other }
-{
-    join(
-        rt,
-        || one.run(rt, alloc, stop),
-        || other.run(rt, alloc, stop),
-    )
-}
-
 // Whether each queue is quiet.
-fn all_quiet<R: Wait + Abort>(
+fn all_quiet<G: Gate, H: StoredHistory<Op, Reply>, R: Wait + Abort>(
     rt: &R,
     alloc: Global,
-    queues: &mut Vec<Queue>,
+    queues: &mut Vec<Queue<G, H>>,
     doorbell: &Doorbell,
 ) -> bool
     ensures { queues.new.items ≡ queues.old.items }
 {
     for at in 0..queues.len() {
-        if ask_at(rt, alloc, queues, doorbell, at, Op::Quiet) != Reply::IsQuiet {
+        if ask_at(rt, alloc, queues, doorbell, at, Call::Quiet) != Reply::IsQuiet {
             return false;
         }
     }
@@ -322,10 +318,10 @@ fn all_quiet<R: Wait + Abort>(
 }
 
 // Publishes so many events at each queue, and waits until all are handled.
-fn publish_all<R: Wait + Abort>(
+fn publish_all<G: Gate, H: StoredHistory<Op, Reply>, R: Wait + Abort>(
     rt: &R,
     alloc: Global,
-    queues: &mut Vec<Queue>,
+    queues: &mut Vec<Queue<G, H>>,
     doorbell: &Doorbell,
     count: u32,
 )
@@ -360,11 +356,11 @@ fn watch<R: Wait + Abort>(rt: &R, gate: &Recorder, calls: u64) {
 fn attend<R: Wait + Abort>(
     rt: &R,
     alloc: Global,
-    mut queues: Vec<Queue>,
-    shared: &Shared,
+    mut queues: Vec<Queue<Recorder, History>>,
+    shared: &Shared<Recorder, Asked>,
     stop: &AtomicBool,
     beside: Beside,
-) -> Vec<Queue>
+) -> Vec<Queue<Recorder, History>>
     ensures { result.items ≡ queues.items }
 {
     match beside {
@@ -376,4 +372,48 @@ fn attend<R: Wait + Abort>(
     stop.store(true, Ordering::SeqCst);
     shared.doorbell.ring(rt);
     queues
+}
+
+fn run_silos<R: Threads + Wait + Sync>(
+    rt: &R,
+    alloc: Global,
+    one: StoredSilo,
+    other: StoredSilo,
+    stop: &AtomicBool,
+) -> (StoredSilo, StoredSilo)
+    ensures one { result.0 ≡ one }
+    ensures other { result.1 ≡ other }
+{
+    join(
+        rt,
+        || run_silo(rt, alloc, one, stop),
+        || run_silo(rt, alloc, other, stop),
+    )
+}
+
+/// Runs each loop in a thread of its own, until the thread beside them tells them to stop.
+pub fn run<R: Threads + Wait + Abort + Sync>(
+    rt: &R,
+    alloc: Global,
+    cluster: StoredCluster,
+    beside: Beside,
+) -> StoredCluster {
+    let Cluster {
+        shared,
+        queues,
+        one,
+        other,
+    } = cluster;
+    let stop = AtomicBool::new(false);
+    let ((one, other), queues) = join(
+        rt,
+        || run_silos(rt, alloc, one, other, &stop),
+        || attend(rt, alloc, queues, &shared, &stop, beside),
+    );
+    Cluster {
+        shared,
+        queues,
+        one,
+        other,
+    }
 }

@@ -1,16 +1,20 @@
-use crate::cluster::Cluster;
+//! How the loops of a silo end.
+use crate::cluster::{Cluster, Silos, compare, rest};
+use crate::fresh::{Asked, History};
 use crate::silo::{Loop, MOST_ROUNDS};
+use activation_directory::{DirectoryOp, DirectoryReply};
 use silo_loops::{Advance, Over};
 use std::alloc::Global;
 use std::process::Abort;
 use std::sync::Wait;
-use std::test::Fail;
+use step_core::{Op, Reply};
+use turnstile::StoredHistory;
 
 // The loop has ended so, for good: further steps answer the same, and neither call nor ring.
-fn has_ended<R: Wait + Abort>(
+fn has_ended<C: Silos, R: Wait + Abort>(
     rt: &R,
     alloc: Global,
-    cluster: &mut Cluster,
+    cluster: &mut C,
     which: Loop,
     over: Over,
 ) {
@@ -22,9 +26,9 @@ fn has_ended<R: Wait + Abort>(
 }
 
 // So many rounds of the agent that find nothing to do, and then none. The doorbell tells that it has ended.
-fn use_up<R: Wait + Abort>(rt: &R, alloc: Global, cluster: &mut Cluster) {
+fn use_up<C: Silos, R: Wait + Abort>(rt: &R, alloc: Global, cluster: &mut C) {
     for _ in 0..MOST_ROUNDS {
-        cluster.rest(rt, alloc, Loop::Agent);
+        rest(rt, alloc, cluster, true, Loop::Agent);
     }
     let rung = cluster.rung(rt);
     assert!(rt; !cluster.has_ended());
@@ -32,19 +36,20 @@ fn use_up<R: Wait + Abort>(rt: &R, alloc: Global, cluster: &mut Cluster) {
     assert!(rt; cluster.has_ended() && cluster.rung(rt) == rung.wrapping_add(1));
 }
 
-// A loop makes so many rounds at most as it may.
-#[test]
-fn no_round_is_left(rt: HostRuntime) -> Result<(), Fail> {
-    let alloc = rt.alloc();
-    let mut cluster = Cluster::new(&rt, alloc, 1, 100);
-    use_up(&rt, alloc, &mut cluster);
-    has_ended(&rt, alloc, &mut cluster, Loop::Agent, Over::Rounds);
-    assert!(rt; cluster.one().rounds()[0] == MOST_ROUNDS);
-    Ok(())
+// An agent that begins as many rounds as it may, at any kind of history.
+fn end_by_rounds<
+    H: StoredHistory<Op, Reply>,
+    D: StoredHistory<DirectoryOp, DirectoryReply>,
+    R: Wait + Abort,
+>(rt: &R, alloc: Global) {
+    let mut cluster = Cluster::<H, D>::new(rt, alloc, 1, 100);
+    use_up(rt, alloc, &mut cluster);
+    has_ended(rt, alloc, &mut cluster, Loop::Agent, Over::Rounds);
+    assert!(rt; cluster.rounds(true)[0] == MOST_ROUNDS);
 }
 
 // Steps of a loop until its call is refused.
-fn run_against<R: Wait + Abort>(rt: &R, alloc: Global, cluster: &mut Cluster, which: Loop) {
+fn run_against<C: Silos, R: Wait + Abort>(rt: &R, alloc: Global, cluster: &mut C, which: Loop) {
     let mut last = Advance::Idle;
     for _ in 0..100 {
         last = cluster.advance(rt, alloc, true, which);
@@ -56,16 +61,25 @@ fn run_against<R: Wait + Abort>(rt: &R, alloc: Global, cluster: &mut Cluster, wh
     has_ended(rt, alloc, cluster, which, Over::Limit);
 }
 
-// The history of a queue has as many calls as it may have, which ends each loop.
-#[test]
-fn a_full_history(rt: HostRuntime) -> Result<(), Fail> {
-    let alloc = rt.alloc();
-    let mut cluster = Cluster::new(&rt, alloc, 1, 10);
-    cluster.one().assign(0, Some(0));
-    run_against(&rt, alloc, &mut cluster, Loop::Agent);
-    run_against(&rt, alloc, &mut cluster, Loop::First);
-    run_against(&rt, alloc, &mut cluster, Loop::Second);
+// The histories after loops that a full one ends.
+fn end_by_history<
+    H: StoredHistory<Op, Reply>,
+    D: StoredHistory<DirectoryOp, DirectoryReply>,
+    R: Wait + Abort,
+>(rt: &R, alloc: Global) -> Vec<H> {
+    let mut cluster = Cluster::<H, D>::new(rt, alloc, 1, 10);
+    cluster.assign(true, 0, Some(0));
+    run_against(rt, alloc, &mut cluster, Loop::Agent);
+    run_against(rt, alloc, &mut cluster, Loop::First);
+    run_against(rt, alloc, &mut cluster, Loop::Second);
     assert!(rt; cluster.gate().calls() == 10);
-    cluster.finish(&rt, alloc);
-    Ok(())
+    cluster.into_histories(rt, alloc)
+}
+
+// A loop makes so many rounds at most as it may, and a history that has as many calls as it may have ends each loop.
+#[test]
+fn no_round_and_no_call_is_left(rt: HostRuntime) {
+    end_by_rounds::<History, Asked, HostRuntime>(&rt, rt.alloc());
+    let histories = end_by_history::<History, Asked, HostRuntime>(&rt, rt.alloc());
+    compare(&rt, rt.alloc(), histories.as_slice());
 }

@@ -1,21 +1,44 @@
-//! Tests of the loops of a silo, through their public calls.
+//! Tests of the layers that threads share, through their public calls: the turnstile, what is shared through it, the
+//! directory of activations, the balancer of queues, and the loops of a silo.
 #![tactic(auto)]
 
+#[cfg(test)]
+mod balancer;
 #[cfg(test)]
 mod by_hand;
 #[cfg(test)]
 mod cluster;
 #[cfg(test)]
+mod directory;
+#[cfg(test)]
 mod endings;
+#[cfg(test)]
+mod fresh;
 #[cfg(test)]
 mod gate;
 #[cfg(test)]
+mod histories;
+#[cfg(test)]
 mod operations;
+#[cfg(test)]
+mod passes;
 #[cfg(test)]
 mod queue;
 #[cfg(test)]
+mod refusals;
+#[cfg(test)]
 mod replay;
 #[cfg(test)]
+mod rows;
+#[cfg(test)]
+mod shared;
+#[cfg(test)]
+mod shared_directory;
+#[cfg(test)]
 mod silo;
+#[cfg(test)]
+mod total;
+#[cfg(test)]
+mod turns;
 #[cfg(test)]
 mod two_silos;

@@ -1,49 +1,154 @@
-//! What producers ask.
+//! What is asked of a queue. The streams are of the namespace `o`, and the grains of the kind `g`.
 use std::alloc::{AllocError, Global};
 use std::process::Abort;
-use step_core::{Op, Start};
-use stream_ident::{Batch, GrainId, Payload, StreamId, SubName};
+use step_core::{Op, Reply, Start};
+use stream_ident::{Batch, GrainId, Payload, StreamId, SubName, Token};
 
-/// A stream of the namespace `o` with this key.
-pub fn stream(rt: &impl Abort, key: &[u8]) -> StreamId {
-    StreamId::new(b"o", key).expect(rt, "a stream")
+/// The first subscription.
+pub const SUB: SubName = SubName::Explicit(1);
+
+/// What is asked. A grain and a stream are named by their keys.
+#[derive(Clone, Copy)]
+pub enum Call {
+    /// Grains of the kind `g` shall consume the streams of the namespace `o`.
+    Rule,
+    /// A grain subscribes to a stream, from the next event on: the stream and the grain.
+    Subscribe(u8, u8),
+    /// An explicit subscription ends.
+    Unsubscribe(u32),
+    /// A batch of one event goes to the stream.
+    Publish(u8),
+    Pull,
+    /// The next event goes to the first subscription.
+    Deliver,
+    /// The next event of the stream goes to the grain that the rule names.
+    DeliverByRule(u8),
+    /// The grain begins a turn.
+    Begin(u8),
+    /// A turn of an activation of the grain ends, and leaves a note.
+    Commit(u8, u64, u64, u64),
+    /// The first subscription has handled all up to an event.
+    Acknowledge(Token),
+    /// The grain is taken out of memory.
+    Deactivate(u8),
+    /// The queue goes to a silo.
+    Move(u8),
+    /// Is all handled?
+    Quiet,
 }
 
-/// A grain of the kind `g` with this key.
-pub fn grain(rt: &impl Abort, key: &[u8]) -> GrainId {
-    GrainId::new(b"g", key).expect(rt, "a grain")
+fn stream(rt: &impl Abort, key: u8) -> StreamId {
+    StreamId::new(b"o", &[key]).expect(rt, "a stream")
 }
 
-/// The grain of a key subscribes to the stream of the key, from the next event on.
-pub fn subscribe(rt: &impl Abort, key: &[u8]) -> Op {
-    Op::Subscribe {
-        stream: stream(rt, key),
-        grain: grain(rt, key),
-        start: Start::Latest,
-    }
+fn grain(rt: &impl Abort, key: u8) -> GrainId {
+    GrainId::new(b"g", &[key]).expect(rt, "a grain")
 }
 
-/// An explicit subscription ends.
-pub fn unsubscribe(number: u32) -> Op {
-    Op::Unsubscribe {
-        sub: SubName::Explicit(number),
-    }
-}
-
-/// The grain of a key shall consume the stream of the key.
-pub fn add_rule(rt: &impl Abort) -> Op {
-    Op::AddRule {
-        kind: grain(rt, b"k").kind,
-        namespace: stream(rt, b"k").namespace,
-    }
-}
-
-/// A batch of one event.
-pub fn publish(rt: &impl Abort, alloc: Global, key: &[u8]) -> Result<Op, AllocError> {
+fn publish(rt: &impl Abort, alloc: Global, key: u8) -> Result<Op, AllocError> {
     let mut payloads = Vec::with_capacity(alloc, 1)?;
     payloads.push_reserved(Payload::new(b"a").expect(rt, "a payload"));
     Ok(Op::Publish {
         stream: stream(rt, key),
         payloads: Batch::of(payloads),
     })
+}
+
+fn subscribe(rt: &impl Abort, from: u8, to: u8) -> Op {
+    Op::Subscribe {
+        stream: stream(rt, from),
+        grain: grain(rt, to),
+        start: Start::Latest,
+    }
+}
+
+fn add_rule(rt: &impl Abort) -> Op {
+    Op::AddRule {
+        kind: grain(rt, b'k').kind,
+        namespace: stream(rt, b'k').namespace,
+    }
+}
+
+// The name of the subscription that the rule makes.
+fn implied(rt: &impl Abort, key: u8) -> SubName {
+    SubName::Implicit {
+        kind: grain(rt, key).kind,
+        stream: stream(rt, key),
+    }
+}
+
+/// The operation of a call.
+pub fn operation(rt: &impl Abort, alloc: Global, call: Call) -> Result<Op, AllocError> {
+    let generation = 0;
+    Ok(match call {
+        Call::Rule => add_rule(rt),
+        Call::Subscribe(from, to) => subscribe(rt, from, to),
+        Call::Unsubscribe(number) => Op::Unsubscribe {
+            sub: SubName::Explicit(number),
+        },
+        Call::Publish(key) => return publish(rt, alloc, key),
+        Call::Pull => Op::Pull {
+            generation,
+            max: 32,
+        },
+        Call::Deliver => Op::Deliver {
+            generation,
+            sub: SUB,
+        },
+        Call::DeliverByRule(key) => Op::Deliver {
+            generation,
+            sub: implied(rt, key),
+        },
+        Call::Begin(key) => Op::Begin {
+            grain: grain(rt, key),
+            max: 16,
+        },
+        Call::Commit(key, activation, turn, note) => Op::Commit {
+            grain: grain(rt, key),
+            activation,
+            turn,
+            note,
+        },
+        Call::Acknowledge(token) => Op::Ack {
+            generation,
+            sub: SUB,
+            token,
+        },
+        Call::Deactivate(key) => Op::Deactivate {
+            grain: grain(rt, key),
+        },
+        Call::Move(silo) => Op::Move { silo },
+        Call::Quiet => Op::Quiet,
+    })
+}
+
+/// What a producer is told, or who moves a queue.
+#[derive(Clone, Copy)]
+pub enum Told {
+    Subscribed(u32),
+    /// How many events were handled.
+    Unsubscribed(usize),
+    Closed,
+    RuleAdded(u64),
+    /// How many events are lost.
+    Deactivated(usize),
+    /// The generation of a queue whose cache still has the first event.
+    Moved(u64),
+    IsQuiet,
+}
+
+/// The reply that tells it.
+pub fn reply(told: Told) -> Reply {
+    match told {
+        Told::Subscribed(number) => Reply::Subscribed { number },
+        Told::Unsubscribed(handled) => Reply::Unsubscribed { handled },
+        Told::Closed => Reply::Closed,
+        Told::RuleAdded(from) => Reply::RuleAdded { from },
+        Told::Deactivated(lost) => Reply::Deactivated { lost },
+        Told::Moved(generation) => Reply::Moved {
+            generation,
+            low: Token { seq: 0, idx: 0 },
+        },
+        Told::IsQuiet => Reply::IsQuiet,
+    }
 }

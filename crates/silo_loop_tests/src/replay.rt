@@ -1,5 +1,5 @@
 //! What a history is compared with.
-use crate::queue::BLOCKS;
+use crate::fresh::BLOCKS;
 use partition_reference::Partition;
 use std::alloc::Global;
 use std::process::Abort;

@@ -3,11 +3,13 @@ ghost use Rattle.std.specs.Prelude.{◌≡◌};
 ghost use Rattle.silo_loops.specs.Lines.{places};
 ghost use Rattle.silo_loops.specs.Workers.{IsBeside};
 
+use crate::fresh::{Asked, History};
 use crate::gate::Recorder;
-use crate::queue::{History, Queue, QueueLine};
+use crate::queue::Queue;
 use activation_directory::{DirectoryOp, DirectoryReply};
+use shared_partition::Gate;
 use silo_loops::{
-    Advance, AgentLoop, Assigned, DirectoryLine, Doorbell, Over, TurnRoom, WorkerLoop,
+    Advance, AgentLoop, Assigned, DirectoryLine, Doorbell, Line, TurnRoom, WorkerLoop,
 };
 use std::alloc::Global;
 use std::marker::Model;
@@ -15,14 +17,11 @@ use std::process::Abort;
 use std::sync::atomic::AtomicBool;
 use std::sync::{Arc, Wait};
 use std::thread::{Threads, join};
-use turnstile::PlainHistory;
+use step_core::{Op, Reply};
+use turnstile::StoredHistory;
 
-/// How the calls of the directory are stored.
-pub type Asked = PlainHistory<DirectoryOp, DirectoryReply>;
-
-pub type Directory = DirectoryLine<Asked>;
-
-type Agent = AgentLoop<Recorder, History>;
+/// A silo whose loops can run in threads: how its calls are stored is known.
+pub type StoredSilo = Silo<Recorder, History, Asked>;
 
 type Worker = WorkerLoop<Recorder, History, Asked>;
 
@@ -40,25 +39,20 @@ pub enum Loop {
 /// The loops of a silo: an agent and two workers.
 ///
 /// A contract sees the turnstiles of its lines, in the order of the queues.
-pub struct Silo {
+#[derive(Drop)]
+pub struct Silo<
+    G: Gate,
+    H: StoredHistory<Op, Reply>,
+    D: StoredHistory<DirectoryOp, DirectoryReply>,
+> {
     assigned: Arc<Assigned, Global>,
-    agent: Agent,
-    first: Worker,
-    second: Worker,
+    agent: AgentLoop<G, H>,
+    first: WorkerLoop<G, H, D>,
+    second: WorkerLoop<G, H, D>,
 }
 
-impl Drop for Silo {
-    fn drop(self) {
-        let Self {
-            assigned: _,
-            agent: _,
-            first: _,
-            second: _,
-        } = self;
-    }
-}
-
-impl Model for Silo {
+impl<G: Gate, H: StoredHistory<Op, Reply>, D: StoredHistory<DirectoryOp, DirectoryReply>> Model
+    for Silo<G, H, D> {
     ghost use Rattle.std.specs.Prelude.{◌≡◌, List, Option};
     ghost use Rattle.stream_model.specs.declared.plain.PlainPartition.{PlainPartition};
     ghost use Rattle.silo_loops.specs.Lines.{places};
@@ -72,31 +66,26 @@ impl Model for Silo {
 }
 
 /// What the loops of all silos share.
-pub struct Shared {
-    pub gate: Arc<Recorder, Global>,
+#[derive(Drop)]
+pub struct Shared<G: Gate, D: StoredHistory<DirectoryOp, DirectoryReply>> {
+    pub gate: Arc<G, Global>,
     pub doorbell: Arc<Doorbell, Global>,
-    pub directory: Directory,
+    pub directory: DirectoryLine<D>,
 }
 
-impl Drop for Shared {
-    fn drop(self) {
-        let Self {
-            gate: _,
-            doorbell: _,
-            directory: _,
-        } = self;
-    }
-}
-
-impl Silo {
+impl<G: Gate, H: StoredHistory<Op, Reply>, D: StoredHistory<DirectoryOp, DirectoryReply>> Silo<
+    G,
+    H,
+    D,
+> {
     /// A silo whose agent has no queue yet.
     pub fn new<R: Abort>(
         rt: &R,
         alloc: Global,
-        shared: &mut Shared,
-        queues: &mut Vec<Queue>,
+        shared: &mut Shared<G, D>,
+        queues: &mut Vec<Queue<G, H>>,
         number: u8,
-    ) -> Silo
+    ) -> Silo<G, H, D>
         ensures queues { queues.new.items ≡ queues.old.items }
         ensures silo { result ≡ queues.old.items }
     {
@@ -132,34 +121,6 @@ impl Silo {
         }
     }
 
-    /// Steps of a loop, until it is idle.
-    pub fn rest<R: Wait + Abort>(&mut self, rt: &R, alloc: Global, which: Loop)
-        ensures { self.new ≡ self.old }
-    {
-        for _ in 0..100_000 {
-            if self.advance(rt, alloc, which) == Advance::Idle {
-                return;
-            }
-        }
-        panic!(rt; "a loop is idle at some time");
-    }
-
-    /// Steps of all loops, until none finds anything to do.
-    pub fn settle<R: Wait + Abort>(&mut self, rt: &R, alloc: Global, doorbell: &Doorbell)
-        ensures { self.new ≡ self.old }
-    {
-        for _ in 0..10_000 {
-            let seen = doorbell.now(rt);
-            self.rest(rt, alloc, Loop::Agent);
-            self.rest(rt, alloc, Loop::First);
-            self.rest(rt, alloc, Loop::Second);
-            if doorbell.now(rt) == seen {
-                return;
-            }
-        }
-        panic!(rt; "a silo settles at some time");
-    }
-
     /// How many rounds each loop has begun.
     pub fn rounds(&self) -> [u64; 3] {
         [
@@ -169,36 +130,13 @@ impl Silo {
         ]
     }
 
-    /// Why each loop has ended, where it has.
-    pub fn over(&self) -> [Option<Over>; 3] {
-        [self.agent.over(), self.first.over(), self.second.over()]
-    }
-
-    /// Runs each loop in a thread of its own, until it is told to stop.
-    pub fn run<R: Threads + Wait + Sync>(self, rt: &R, alloc: Global, stop: &AtomicBool) -> Silo
-        ensures { result ≡ self }
-    {
-        let Silo {
-            assigned,
-            agent,
-            first,
-            second,
-        } = self;
-        let (agent, workers) = join(
-            rt,
-            || agent.run(rt, alloc, stop),
-            || run_workers(rt, alloc, first, second, stop),
-        );
-        Silo {
-            assigned,
-            agent,
-            first: workers.0,
-            second: workers.1,
-        }
+    /// Whether a loop has ended.
+    pub fn has_ended(&self) -> bool {
+        self.agent.over().is_some() || self.first.over().is_some() || self.second.over().is_some()
     }
 
     /// Gives its lines back to their queues.
-    pub fn leave(self, queues: &mut Vec<Queue>)
+    pub fn leave(self, queues: &mut Vec<Queue<G, H>>)
         requires { self ≡ queues.old.items }
         ensures { queues.new.items ≡ queues.old.items }
     {
@@ -213,6 +151,111 @@ impl Silo {
         join_all(queues, lines);
         let (lines, _directory) = second.into_parts();
         join_all(queues, lines);
+    }
+}
+
+fn new_agent<
+    G: Gate,
+    H: StoredHistory<Op, Reply>,
+    D: StoredHistory<DirectoryOp, DirectoryReply>,
+    R: Abort,
+>(
+    rt: &R,
+    alloc: Global,
+    shared: &Shared<G, D>,
+    queues: &mut Vec<Queue<G, H>>,
+    assigned: &Arc<Assigned, Global>,
+) -> AgentLoop<G, H>
+    ensures queues { queues.new.items ≡ queues.old.items }
+    ensures agent { places result.lines ≡ queues.old.items }
+{
+    let doorbell = Arc::try_clone(&shared.doorbell).expect(rt, "memory");
+    let assigned = Arc::try_clone(assigned).expect(rt, "memory");
+    let lines = split_all(rt, alloc, queues);
+    match AgentLoop::new(alloc, doorbell, assigned, lines, MOST_ROUNDS) {
+        Ok(agent) => agent,
+        Err(_lines) => panic!(rt; "memory"),
+    }
+}
+
+fn new_worker<
+    G: Gate,
+    H: StoredHistory<Op, Reply>,
+    D: StoredHistory<DirectoryOp, DirectoryReply>,
+    R: Abort,
+>(
+    rt: &R,
+    alloc: Global,
+    shared: &mut Shared<G, D>,
+    queues: &mut Vec<Queue<G, H>>,
+    silo: u8,
+) -> WorkerLoop<G, H, D>
+    ensures queues { queues.new.items ≡ queues.old.items }
+    ensures worker { places result.lines ≡ queues.old.items }
+{
+    let gate = Arc::try_clone(&shared.gate).expect(rt, "memory");
+    let doorbell = Arc::try_clone(&shared.doorbell).expect(rt, "memory");
+    let directory = shared.directory.split().expect(rt, "memory");
+    let room = TurnRoom::new(alloc).expect(rt, "memory");
+    let lines = split_all(rt, alloc, queues);
+    assert!(rt; !lines.is_empty());
+    WorkerLoop::new(silo, gate, doorbell, lines, directory, room, MOST_ROUNDS)
+}
+
+// A line of each queue.
+fn split_all<G: Gate, H: StoredHistory<Op, Reply>, R: Abort>(
+    rt: &R,
+    alloc: Global,
+    queues: &mut Vec<Queue<G, H>>,
+) -> Vec<Line<G, H>>
+    ensures queues { queues.new.items ≡ queues.old.items }
+    ensures lines { places result.items ≡ queues.old.items }
+{
+    let mut lines = Vec::with_capacity(alloc, queues.len()).expect(rt, "memory");
+    for at in 0..queues.len() {
+        lines.push_reserved(queues[at].split(rt));
+    }
+    lines
+}
+
+// Each queue takes its line back.
+fn join_all<G: Gate, H: StoredHistory<Op, Reply>>(
+    queues: &mut Vec<Queue<G, H>>,
+    mut lines: Vec<Line<G, H>>,
+)
+    requires { places lines.items ≡ queues.old.items }
+    ensures { queues.new.items ≡ queues.old.items }
+{
+    for at in 0..queues.len() {
+        queues[at].join(lines.remove(0));
+    }
+}
+
+/// Runs each loop of a silo in a thread of its own, until it is told to stop.
+pub fn run_silo<R: Threads + Wait + Sync>(
+    rt: &R,
+    alloc: Global,
+    silo: StoredSilo,
+    stop: &AtomicBool,
+) -> StoredSilo
+    ensures { result ≡ silo }
+{
+    let Silo {
+        assigned,
+        agent,
+        first,
+        second,
+    } = silo;
+    let (agent, workers) = join(
+        rt,
+        || agent.run(rt, alloc, stop),
+        || run_workers(rt, alloc, first, second, stop),
+    );
+    Silo {
+        assigned,
+        agent,
+        first: workers.0,
+        second: workers.1,
     }
 }
 
@@ -231,64 +274,4 @@ fn run_workers<R: Threads + Wait + Sync>(
         || first.run(rt, alloc, stop),
         || second.run(rt, alloc, stop),
     )
-}
-
-fn new_agent<R: Abort>(
-    rt: &R,
-    alloc: Global,
-    shared: &Shared,
-    queues: &mut Vec<Queue>,
-    assigned: &Arc<Assigned, Global>,
-) -> Agent
-    ensures queues { queues.new.items ≡ queues.old.items }
-    ensures agent { places result.lines ≡ queues.old.items }
-{
-    let doorbell = Arc::try_clone(&shared.doorbell).expect(rt, "memory");
-    let assigned = Arc::try_clone(assigned).expect(rt, "memory");
-    let lines = split_all(rt, alloc, queues);
-    match AgentLoop::new(alloc, doorbell, assigned, lines, MOST_ROUNDS) {
-        Ok(agent) => agent,
-        Err(_lines) => panic!(rt; "memory"),
-    }
-}
-
-fn new_worker<R: Abort>(
-    rt: &R,
-    alloc: Global,
-    shared: &mut Shared,
-    queues: &mut Vec<Queue>,
-    silo: u8,
-) -> Worker
-    ensures queues { queues.new.items ≡ queues.old.items }
-    ensures worker { places result.lines ≡ queues.old.items }
-{
-    let gate = Arc::try_clone(&shared.gate).expect(rt, "memory");
-    let doorbell = Arc::try_clone(&shared.doorbell).expect(rt, "memory");
-    let directory = shared.directory.split().expect(rt, "memory");
-    let room = TurnRoom::new(alloc).expect(rt, "memory");
-    let lines = split_all(rt, alloc, queues);
-    assert!(rt; !lines.is_empty());
-    WorkerLoop::new(silo, gate, doorbell, lines, directory, room, MOST_ROUNDS)
-}
-
-// A line of each queue.
-fn split_all<R: Abort>(rt: &R, alloc: Global, queues: &mut Vec<Queue>) -> Vec<QueueLine>
-    ensures queues { queues.new.items ≡ queues.old.items }
-    ensures lines { places result.items ≡ queues.old.items }
-{
-    let mut lines = Vec::with_capacity(alloc, queues.len()).expect(rt, "memory");
-    for at in 0..queues.len() {
-        lines.push_reserved(queues[at].split(rt));
-    }
-    lines
-}
-
-// Each queue takes its line back.
-fn join_all(queues: &mut Vec<Queue>, mut lines: Vec<QueueLine>)
-    requires { places lines.items ≡ queues.old.items }
-    ensures { queues.new.items ≡ queues.old.items }
-{
-    for at in 0..queues.len() {
-        queues[at].join(lines.remove(0));
-    }
 }

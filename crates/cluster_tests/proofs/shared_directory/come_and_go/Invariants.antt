@@ -1,5 +1,0 @@
-use Rattle.turnstile.specs.Calls.{IsOf}
-use Rattle.cluster_tests.proofs.shared_directory.come_and_go.Given as goal
-
-abbrev pub invariant-loop : goal.invariant-loop
-invariant-loop g l = IsOf l.turnstile l.pass

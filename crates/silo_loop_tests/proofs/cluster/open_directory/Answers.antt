@@ -1,7 +1,0 @@
-use Rattle.std.proofs.Common.{◌∙◌, ap}
-use Rattle.silo_loop_tests.proofs.cluster.open_directory.Goals as goal
-
-pub returns : goal.returns
-returns c =
-    let made = c.in_ok-turnstile.ensures in
-    (ap (λ p. p.turnstile) made.pass, (4000000, ap (λ x. x.state) made.start ∙ c.new-shared.ensures))

@@ -1,0 +1,5 @@
+use Rattle.turnstile.specs.Calls.{IsOf}
+use Rattle.silo_loop_tests.proofs.shared.produce.Given as goal
+
+abbrev pub invariant-loop : goal.invariant-loop
+invariant-loop g l = IsOf l.turnstile l.pass

@@ -1,0 +1,60 @@
+//! Turnstiles over an empty partition and an empty directory, and how their calls are stored.
+ghost use Rattle.std.specs.Prelude.{◌≡◌, ◌≤◌, [], IfOk};
+ghost use Rattle.turnstile.specs.Calls.{IsOf};
+ghost use Rattle.shared_partition.specs.Directories as directories;
+ghost use Rattle.shared_partition.specs.Partitions as partitions;
+
+use activation_directory::{DirectoryOp, DirectoryReply};
+use shared_partition::{Gate, SharedDirectory, SharedPartition};
+use std::alloc::{AllocError, Global};
+use std::sync::Arc;
+use step_core::{Limits, Op, Reply};
+use turnstile::{PassOf, PlainHistory, StoredHistory, Turnstile};
+
+/// How the calls of a partition are stored, where they are compared at the end.
+pub type History = PlainHistory<Op, Reply>;
+
+/// How the calls of a directory are stored, where they are compared at the end.
+pub type Asked = PlainHistory<DirectoryOp, DirectoryReply>;
+
+/// How many blocks of 64 events the cache of each queue has.
+pub const BLOCKS: usize = 4;
+
+/// A turnstile over an empty partition whose cache has so many blocks, and its first pass. The history has at most so
+/// many calls.
+pub fn partition<G: Gate, H: StoredHistory<Op, Reply>>(
+    alloc: Global,
+    gate: Arc<G, Global>,
+    queue: usize,
+    blocks: usize,
+    calls: u64,
+) -> Result<
+    (
+        Turnstile<SharedPartition<G, H>>,
+        PassOf<SharedPartition<G, H>>,
+    ),
+    AllocError,
+>
+    requires some { 1 ≤ blocks }
+    requires most { blocks ≤ 64 }
+    ensures { IfOk result (λ r. IsOf r.0 r.1 × partitions.BeganEmpty r.0.start × (r.1.seen ≡ [])) }
+{
+    let shared = SharedPartition::new(alloc, gate, queue, blocks, Limits::GREATEST)?;
+    let (turnstile, pass) = Turnstile::new(alloc, shared, calls)?;
+    Ok((turnstile, pass))
+}
+
+/// A turnstile over an empty directory, which gives so many permits, and its first pass. The history has at most so
+/// many calls.
+pub fn directory<D: StoredHistory<DirectoryOp, DirectoryReply>>(
+    alloc: Global,
+    permits: u64,
+    calls: u64,
+) -> Result<(Turnstile<SharedDirectory<D>>, PassOf<SharedDirectory<D>>), AllocError>
+    requires { permits ≤ 4000000 }
+    ensures { IfOk result (λ r. IsOf r.0 r.1 × directories.BeganEmpty r.0.start) }
+{
+    let shared = SharedDirectory::new(alloc, permits);
+    let (turnstile, pass) = Turnstile::new(alloc, shared, calls)?;
+    Ok((turnstile, pass))
+}
