@@ -1,28 +1,26 @@
 //! The loops of a silo, in threads.
 ghost use Rattle.std.specs.Prelude.{◌≡◌, IfOk};
 
-use crate::directories::{Asked, close_directory, directory_line};
-use crate::operations::{grain, publish, subscribe};
-use crate::queues::{Calls, Producer, QueueLine, ask, close_all, open_all};
+use crate::asking::{Asked, Call, PUBLISH, Produced, Told, call_all, is_told};
+use crate::directories::{Places, close_directory, directory_line};
+use crate::queues::{Calls, Queues, close_all, open as open_queues};
 use activation_directory::{DirectoryOp, DirectoryReply};
-use cluster_callers::Caller;
 use shared_partition::Counting;
 use silo_crew::{RunningSilo, SiloLoops, SiloTools};
-use silo_loops::{Assigned, DirectoryLine, Doorbell, Over};
+use silo_loops::{Assigned, DirectoryLine};
 use std::alloc::{AllocError, Global};
 use std::marker::Model;
 use std::process::Abort;
 use std::sync::{Arc, Wait};
 use std::thread;
 use std::thread::Threads;
-use stream_ident::SubName;
-use stream_model::{Limits, Op, Pending, Reply, Start};
+use stream_model::{Limits, Op, Reply};
 use turnstile::StoredHistory;
 
 // How many entries each history may have.
 const HISTORY: u64 = 1_000_000;
 
-// The lines of two queues and of the directory, from which those of loops are split, and a caller.
+// Two queues and a directory, from whose lines those of loops are split.
 //
 // A contract sees their turnstiles.
 #[derive(Drop)]
@@ -31,10 +29,8 @@ struct Cluster<
     D: StoredHistory<DirectoryOp, DirectoryReply> + Send + 'static,
 > {
     gate: Arc<Counting, Global>,
-    doorbell: Arc<Doorbell, Global>,
-    lines: Vec<QueueLine<H>>,
+    queues: Queues<H>,
     directory: DirectoryLine<D>,
-    caller: Producer<H>,
 }
 
 impl<
@@ -50,9 +46,9 @@ impl<
 
     ghost Value = { List (Option (Origin PlainPartition)) × Option (Origin PlainDirectory) };
 
-    ghost view = { λ c. (places c.lines.items, c.directory.turnstile) };
+    ghost view = { λ c. (places c.queues.lines.items, c.directory.turnstile) };
 
-    ghost invariant = { λ c. (turnstiles c.caller ≡ places c.lines.items) × (0 < length c.lines.items) };
+    ghost invariant = { λ c. (turnstiles c.queues.caller ≡ places c.queues.lines.items) × (0 < length c.queues.lines.items) };
 }
 
 // The loops of a silo in threads. A contract sees the turnstiles of their passes.
@@ -86,15 +82,13 @@ fn open<
     H: StoredHistory<Op, Reply> + Send + 'static,
     D: StoredHistory<DirectoryOp, DirectoryReply> + Send + 'static,
 >(alloc: Global) -> Result<Cluster<H, D>, AllocError> {
-    let (lines, callers) = open_all(alloc, 2, Limits::GREATEST, HISTORY)?;
-    let doorbell = Arc::new(alloc, Doorbell::new(0))?;
-    let caller = Caller::new(Arc::try_clone(&doorbell)?, callers);
+    let gate = Arc::new(alloc, Counting)?;
+    let queues = open_queues(alloc, 2, Limits::GREATEST, HISTORY)?;
+    let directory = directory_line(alloc, HISTORY)?;
     Ok(Cluster {
-        gate: Arc::new(alloc, Counting)?,
-        doorbell,
-        lines,
-        directory: directory_line(alloc, HISTORY)?,
-        caller,
+        gate,
+        queues,
+        directory,
     })
 }
 
@@ -102,10 +96,11 @@ fn open<
 fn open_at_last<
     H: StoredHistory<Op, Reply> + Send + 'static,
     D: StoredHistory<DirectoryOp, DirectoryReply> + Send + 'static,
->(alloc: Global) -> Result<Cluster<H, D>, AllocError> {
+    R: Abort,
+>(rt: &R, alloc: Global) -> Cluster<H, D> {
     match open(alloc) {
-        Ok(cluster) => Ok(cluster),
-        Err(AllocError) => open(alloc),
+        Ok(cluster) => cluster,
+        Err(AllocError) => open(alloc).expect(rt, "memory"),
     }
 }
 
@@ -119,7 +114,7 @@ impl<
         assigned.assign(queue, 0);
         Ok(SiloTools {
             gate: Arc::try_clone(&self.gate)?,
-            doorbell: Arc::try_clone(&self.doorbell)?,
+            doorbell: Arc::try_clone(&self.queues.doorbell)?,
             assigned: Arc::new(alloc, assigned)?,
             rounds: 1_000_000,
         })
@@ -137,46 +132,66 @@ impl<
         ensures at { IfOk result (λ running. running ≡ self.old) }
     {
         let tools = self.tools(alloc, queue)?;
-        let loops = SiloLoops::new(alloc, silo, &tools, &mut self.lines, &mut self.directory)?;
-        match RunningSilo::start(rt, alloc, &self.doorbell, loops) {
+        let lines = &mut self.queues.lines;
+        let loops = SiloLoops::new(alloc, silo, &tools, lines, &mut self.directory)?;
+        match RunningSilo::start(rt, alloc, &self.queues.doorbell, loops) {
             Ok(silo) => Ok(Running { silo }),
             Err(loops) => {
-                loops.join_into(&mut self.lines, &mut self.directory);
+                loops.join_into(&mut self.queues.lines, &mut self.directory);
                 Err(AllocError)
             }
         }
     }
 
-    // Stops the loops of a silo and joins their passes back. The silo, and why each loop has ended before, where it
-    // has.
-    fn stop<R: Threads + Wait>(&mut self, rt: &R, running: Running<H, D>) -> (u8, [Option<Over>; 3])
+    // Stops the loops of a silo, which has this number, and joins their passes back. Whether one had ended before.
+    fn stop<R: Threads + Wait + Abort>(&mut self, rt: &R, running: Running<H, D>, silo: u8) -> bool
         requires { running ≡ self.old }
         ensures { self.new ≡ self.old }
     {
-        let Running { silo } = running;
-        let loops = silo.stop(rt, &self.doorbell);
-        let number = loops.silo;
-        let overs = [loops.agent.over(), loops.first.over(), loops.second.over()];
-        loops.join_into(&mut self.lines, &mut self.directory);
-        (number, overs)
+        let Running { silo: threads } = running;
+        let loops = threads.stop(rt, &self.queues.doorbell);
+        assert!(rt; loops.silo == silo);
+        let had_ended = loops.agent.over().is_some()
+            || loops.first.over().is_some()
+            || loops.second.over().is_some();
+        loops.join_into(&mut self.queues.lines, &mut self.directory);
+        had_ended
     }
 
-    // The reply to a producer at a queue.
-    fn ask<R: Wait + Abort>(&mut self, rt: &R, alloc: Global, queue: usize, op: Op) -> Reply
+    // Whether a call is answered so.
+    fn is_told<R: Wait + Abort>(&mut self, rt: &R, alloc: Global, call: &Call) -> bool
         ensures { self.new ≡ self.old }
     {
-        ask(rt, alloc, &mut self.caller, queue, op)
+        is_told(rt, alloc, &mut self.queues.caller, call)
+    }
+
+    // Makes the calls of a table.
+    fn call_all<R: Wait + Abort>(&mut self, rt: &R, alloc: Global, table: usize, calls: &[Call])
+        ensures { self.new ≡ self.old }
+    {
+        call_all(rt, alloc, &mut self.queues.caller, table, calls);
+    }
+
+    // Publishes so many events to a queue, each in a batch of its own.
+    fn publish_each<R: Wait + Abort>(&mut self, rt: &R, alloc: Global, queue: usize, count: u32)
+        ensures { self.new ≡ self.old }
+    {
+        let call = Call(queue, PUBLISH, Told::Accepted);
+        for _ in 0..count {
+            assert!(rt; self.is_told(rt, alloc, &call));
+        }
     }
 
     // Waits until a queue is quiet.
     fn wait_until_quiet<R: Wait + Abort>(&mut self, rt: &R, alloc: Global, queue: usize)
         ensures { self.new ≡ self.old }
     {
+        let call = Call(queue, Asked::Quiet, Told::Quiet);
         for _ in rt.forever() {
-            if self.ask(rt, alloc, queue, Op::Quiet) == Reply::IsQuiet {
+            if self.is_told(rt, alloc, &call) {
                 break;
             }
-            assert!(rt; !self.doorbell.has_ended());
+            assert!(rt; !self.queues.doorbell.has_ended());
             thread::yield_now();
         }
     }
@@ -185,60 +200,38 @@ impl<
     fn finish<R: Abort>(self, rt: &R, alloc: Global) {
         let Cluster {
             gate: _,
+            queues,
+            directory,
+        } = self;
+        let Queues {
             doorbell: _,
             lines,
-            directory,
             caller,
-        } = self;
-        close_all(rt, alloc, lines, caller.into_queues());
+        } = queues;
+        close_all(rt, alloc, lines, caller);
         close_directory(rt, alloc, directory);
     }
 }
 
 // A grain subscribes at each of two queues.
-fn subscribe_both<
-    H: StoredHistory<Op, Reply> + Send + 'static,
-    D: StoredHistory<DirectoryOp, DirectoryReply> + Send + 'static,
-    R: Wait + Abort,
->(rt: &R, alloc: Global, cluster: &mut Cluster<H, D>)
-    ensures { cluster.new ≡ cluster.old }
-{
-    for queue in 0..2 {
-        let op = subscribe(rt, grain(rt, b"k"), Start::Latest);
-        let reply = cluster.ask(rt, alloc, queue, op);
-        assert!(rt; reply == Reply::Subscribed { number: 1 });
-    }
-}
+static SUBSCRIBED: [Call; 2] = [
+    Call(0, Asked::By(Produced::Subscribe(b'k')), Told::Subscribed(1)),
+    Call(1, Asked::By(Produced::Subscribe(b'k')), Told::Subscribed(1)),
+];
 
-// Publishes so many events to a queue, each in a batch of its own.
-fn publish_each<
-    H: StoredHistory<Op, Reply> + Send + 'static,
-    D: StoredHistory<DirectoryOp, DirectoryReply> + Send + 'static,
-    R: Wait + Abort,
->(rt: &R, alloc: Global, cluster: &mut Cluster<H, D>, queue: usize, count: u32)
-    ensures { cluster.new ≡ cluster.old }
-{
-    for _ in 0..count {
-        let reply = cluster.ask(rt, alloc, queue, publish(rt, alloc, 1));
-        assert!(rt; matches!(reply, Reply::Published { .. }));
-    }
-}
+// Nobody attends to the second queue.
+static BEHIND: [Call; 1] = [Call(1, Asked::Quiet, Told::Behind)];
 
-// A queue to which nobody attends has an event that isn't pulled, and its subscription has handled so many.
-fn is_left<
-    H: StoredHistory<Op, Reply> + Send + 'static,
-    D: StoredHistory<DirectoryOp, DirectoryReply> + Send + 'static,
-    R: Wait + Abort,
->(rt: &R, alloc: Global, cluster: &mut Cluster<H, D>, queue: usize, handled: usize)
-    ensures { cluster.new ≡ cluster.old }
-{
-    publish_each(rt, alloc, cluster, queue, 1);
-    let behind = cluster.ask(rt, alloc, queue, Op::Quiet);
-    assert!(rt; behind == Reply::NotQuiet(Pending::Behind));
-    let sub = SubName::Explicit(1);
-    let ended = cluster.ask(rt, alloc, queue, Op::Unsubscribe { sub });
-    assert!(rt; ended == Reply::Unsubscribed { handled });
-}
+// Nobody attends to the queues any more. Each has an event that isn't pulled, and its subscription has handled those
+// that came before.
+static LEFT: [Call; 6] = [
+    Call(0, PUBLISH, Told::Accepted),
+    Call(0, Asked::Quiet, Told::Behind),
+    Call(0, Asked::By(Produced::Unsubscribe), Told::Unsubscribed(30)),
+    Call(1, PUBLISH, Told::Accepted),
+    Call(1, Asked::Quiet, Told::Behind),
+    Call(1, Asked::By(Produced::Unsubscribe), Told::Unsubscribed(20)),
+];
 
 // Two silos one after the other, at any kind of history.
 fn attend_both<
@@ -246,20 +239,18 @@ fn attend_both<
     D: StoredHistory<DirectoryOp, DirectoryReply> + Send + 'static,
     R: Threads + Wait + Abort + Copy + Send + 'static,
 >(rt: &R, alloc: Global) {
-    let mut cluster = open::<H, D>(alloc).expect(rt, "memory");
-    subscribe_both(rt, alloc, &mut cluster);
+    let mut cluster = open_at_last::<H, D, R>(rt, alloc);
+    cluster.call_all(rt, alloc, 0, &SUBSCRIBED);
     let zero = cluster.start(rt, alloc, 0, 0).expect(rt, "memory");
-    publish_each(rt, alloc, &mut cluster, 0, 30);
-    publish_each(rt, alloc, &mut cluster, 1, 20);
+    cluster.publish_each(rt, alloc, 0, 30);
+    cluster.publish_each(rt, alloc, 1, 20);
     cluster.wait_until_quiet(rt, alloc, 0);
-    let behind = cluster.ask(rt, alloc, 1, Op::Quiet);
-    assert!(rt; behind == Reply::NotQuiet(Pending::Behind));
+    cluster.call_all(rt, alloc, 1, &BEHIND);
     let one = cluster.start(rt, alloc, 1, 1).expect(rt, "memory");
     cluster.wait_until_quiet(rt, alloc, 1);
-    assert!(rt; cluster.stop(rt, zero) == (0, [None; 3]));
-    assert!(rt; cluster.stop(rt, one) == (1, [None; 3]));
-    is_left(rt, alloc, &mut cluster, 0, 30);
-    is_left(rt, alloc, &mut cluster, 1, 20);
+    assert!(rt; !cluster.stop(rt, zero, 0));
+    assert!(rt; !cluster.stop(rt, one, 1));
+    cluster.call_all(rt, alloc, 2, &LEFT);
     cluster.finish(rt, alloc);
 }
 
@@ -267,7 +258,7 @@ fn attend_both<
 // second silo's loops handle beside them. Once they are told to stop, nothing more is done, and all passes are back.
 #[test]
 fn two_silos(rt: HostRuntime) {
-    attend_both::<Calls, Asked, HostRuntime>(&rt, rt.alloc());
+    attend_both::<Calls, Places, HostRuntime>(&rt, rt.alloc());
 }
 
 // A start, which may be refused, at any kind of history.
@@ -276,10 +267,9 @@ fn start_and_stop<
     D: StoredHistory<DirectoryOp, DirectoryReply> + Send + 'static,
     R: Threads + Wait + Abort + Copy + Send + 'static,
 >(rt: &R, alloc: Global) {
-    let mut cluster = open_at_last::<H, D>(alloc).expect(rt, "memory");
+    let mut cluster = open_at_last::<H, D, R>(rt, alloc);
     if let Ok(running) = cluster.start(rt, alloc, 3, 0) {
-        let (silo, _overs) = cluster.stop(rt, running);
-        assert!(rt; silo == 3);
+        cluster.stop(rt, running, 3);
     }
     cluster.finish(rt, alloc);
 }
@@ -288,5 +278,5 @@ fn start_and_stop<
 // allocation failing in turn.
 #[test]
 fn one_allocation_refused(rt: HostRuntime) {
-    start_and_stop::<Calls, Asked, HostRuntime>(&rt, rt.alloc());
+    start_and_stop::<Calls, Places, HostRuntime>(&rt, rt.alloc());
 }

@@ -13,7 +13,7 @@ use std::sync::Arc;
 use turnstile::{Closed, PassOf, PlainHistory, StoredHistory, Turnstile};
 
 /// How the calls of a directory are stored.
-pub type Asked = PlainHistory<DirectoryOp, DirectoryReply>;
+pub type Places = PlainHistory<DirectoryOp, DirectoryReply>;
 
 type Directory<D> = SharedDirectory<D>;
 

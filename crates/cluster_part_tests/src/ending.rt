@@ -1,66 +1,32 @@
 //! The end of a cluster of two queues.
-ghost use Rattle.std.specs.Prelude.{◌≡◌};
-ghost use Rattle.silo_loops.specs.Lines.{places};
+ghost use Rattle.std.specs.Prelude.{◌≡◌, List, Option};
+ghost use Rattle.std.specs.List.{AllByRecursion};
+ghost use Rattle.stream_model.specs.declared.plain.PlainPartition.{PlainPartition};
+ghost use Rattle.turnstile.specs.Passes.{Origin};
 ghost use Rattle.cluster_callers.specs.Calls.{turnstiles};
+ghost use Rattle.cluster_ending.specs.Gathering.{AreAt};
 
-use crate::operations::{grain, publish, subscribe};
-use crate::queues::{Calls, Producer, QueueLine, ask, open_all};
-use cluster_callers::Caller;
+use crate::asking::{Asked, Call, PUBLISH, Produced, Told, call_all, holds};
+use crate::queues::{Calls, Producer, Queues, have_made, open_two, push};
 use cluster_ending::{Finished, LoopEnds, finish};
-use silo_loops::{Doorbell, Over};
+use silo_loops::Over;
 use std::alloc::{AllocError, Global};
 use std::process::Abort;
-use std::sync::{Arc, Wait};
-use stream_model::{Limits, Op, Pending, Reply, Start};
+use std::sync::Wait;
+use stream_model::{Op, Pending, Reply};
 use turnstile::StoredHistory;
 
-// The lines and two callers of two queues.
-#[derive(Drop)]
-struct Cluster<H: StoredHistory<Op, Reply>> {
-    doorbell: Arc<Doorbell, Global>,
-    lines: Vec<QueueLine<H>>,
-    first: Producer<H>,
-    second: Producer<H>,
-}
+type Ended<H> = Result<Finished<H>, AllocError>;
 
-// Two queues whose histories have so many entries at most.
-fn opened<H: StoredHistory<Op, Reply>, R: Abort>(rt: &R, alloc: Global, limit: u64) -> Cluster<H>
-    ensures first { turnstiles result.first ≡ places result.lines.items }
-    ensures second { turnstiles result.second ≡ places result.lines.items }
-{
-    let (lines, queues) = open_all(alloc, 2, Limits::GREATEST, limit).expect(rt, "memory");
-    let doorbell = Arc::new(alloc, Doorbell::new(0)).expect(rt, "memory");
-    let shared = Arc::try_clone(&doorbell).expect(rt, "memory");
-    let mut first = Caller::new(shared, queues);
-    let second = first.split(alloc).expect(rt, "memory");
-    Cluster {
-        doorbell,
-        lines,
-        first,
-        second,
-    }
-}
-
-// How a cluster ends with both callers.
-fn ended<H: StoredHistory<Op, Reply>, R: Wait + Abort>(
-    rt: &R,
-    alloc: Global,
-    cluster: Cluster<H>,
-    ends: LoopEnds,
-) -> Result<Finished<H>, AllocError>
-    requires first { turnstiles cluster.first ≡ places cluster.lines.items }
-    requires second { turnstiles cluster.second ≡ places cluster.lines.items }
-{
-    let Cluster {
-        doorbell,
-        lines,
-        first,
-        second,
-    } = cluster;
-    let mut callers = Vec::with_capacity(alloc, 2).expect(rt, "memory");
-    callers.push_reserved(first);
-    callers.push_reserved(second);
-    finish(rt, alloc, doorbell, lines, callers, ends)
+// What becomes of the second caller.
+#[derive(Clone, Copy)]
+enum Second {
+    // It comes to the end.
+    Comes,
+    // It is lost.
+    IsLost,
+    // It stays away, and a caller that was split off it is lost.
+    Stays,
 }
 
 // How a cluster ends.
@@ -78,93 +44,45 @@ enum End {
     Memory,
 }
 
-// Whether a text is this one.
-fn is_text(text: &Vec<u8>, wanted: &[u8]) -> bool {
-    text.as_slice() == wanted
-}
-
-// Whether a cluster has ended so.
-fn is_so<H: StoredHistory<Op, Reply>>(
-    ended: &Result<Finished<H>, AllocError>,
-    wanted: End,
-) -> bool {
-    match ended {
-        Ok(Finished::Report { text, .. }) => match wanted {
-            End::Report(lines) => is_text(text, lines),
-            _ => false,
-        },
-        Ok(Finished::NotQuiet { queue, why, .. }) => match wanted {
-            End::Behind(at) => *queue == at && *why == Pending::Behind,
-            _ => false,
-        },
-        Ok(Finished::RoundLimit { .. }) => matches!(wanted, End::RoundLimit),
-        Ok(Finished::Limit { .. }) => matches!(wanted, End::Limit),
-        Ok(Finished::NotAll { queue, missing }) => {
-            matches!(wanted, End::NotAll) && *queue == 0 && *missing == 1
-        }
-        Ok(Finished::InUse) => matches!(wanted, End::InUse),
-        Err(AllocError) => matches!(wanted, End::Memory),
-    }
-}
-
-// How many calls were made at each queue, where there are traces.
-fn calls_made<H: StoredHistory<Op, Reply>>(
-    ended: &Result<Finished<H>, AllocError>,
-) -> Option<(usize, usize)> {
-    let Ok(
-        Finished::Report { traces, .. }
-        | Finished::NotQuiet { traces, .. }
-        | Finished::RoundLimit { traces }
-        | Finished::Limit { traces },
-    ) = ended
-    else {
-        return None;
-    };
-    let [zero, one] = traces.histories.as_slice() else {
-        return None;
-    };
-    Some((zero.len(), one.len()))
-}
-
-// What a caller asks.
+// What is done before a cluster ends, and how it ends.
 #[derive(Clone, Copy)]
-enum Asked {
-    Subscribe,
-    Publish,
-    Quiet,
+struct Row {
+    // how many entries each history has at most
+    limit: u64,
+    first: &'static [Call],
+    second: &'static [Call],
+    goes: Second,
+    // how the loops have ended
+    overs: &'static [Option<Over>],
+    end: End,
+    // how many calls were made at each queue, where there are traces
+    made: &'static [usize],
 }
 
-fn operation<R: Abort>(rt: &R, alloc: Global, asked: Asked) -> Op {
-    match asked {
-        Asked::Subscribe => subscribe(rt, grain(rt, b"x"), Start::Latest),
-        Asked::Publish => publish(rt, alloc, 1),
-        Asked::Quiet => Op::Quiet,
-    }
-}
-
-// The reply of a queue of which nothing was asked before.
-fn first_reply(asked: Asked) -> Reply {
-    match asked {
-        Asked::Subscribe => Reply::Subscribed { number: 1 },
-        Asked::Publish => Reply::Published { seq: 0 },
-        Asked::Quiet => Reply::IsQuiet,
-    }
-}
-
-// Whether a caller that asks at a queue has such a reply.
-fn is_told<H: StoredHistory<Op, Reply>, R: Wait + Abort>(
+// The callers that come to the end, and the one that stays away.
+fn part<H: StoredHistory<Op, Reply>, R: Abort>(
     rt: &R,
     alloc: Global,
-    caller: &mut Producer<H>,
-    asks: Option<(usize, Asked)>,
-) -> bool
-    ensures { turnstiles caller.new ≡ turnstiles caller.old }
+    first: Producer<H>,
+    second: Producer<H>,
+    goes: Second,
+) -> (Vec<Producer<H>>, Vec<Producer<H>>)
+    requires { turnstiles second ≡ turnstiles first }
+    ensures { (at : List (Option (Origin PlainPartition))) → turnstiles first ≡ at → AllByRecursion (AreAt at) result.0.items }
 {
-    let Some((queue, asked)) = asks else {
-        return true;
-    };
-    let op = operation(rt, alloc, asked);
-    ask(rt, alloc, caller, queue, op) == first_reply(asked)
+    let mut second = second;
+    let mut callers = Vec::new(alloc);
+    let mut others = Vec::new(alloc);
+    push(rt, &mut callers, first);
+    match goes {
+        Second::Comes => push(rt, &mut callers, second),
+        Second::IsLost => drop(second),
+        Second::Stays => {
+            drop(second.split(alloc).expect(rt, "memory"));
+            push(rt, &mut others, second);
+        }
+    }
+    (callers, others)
 }
 
 // What loops told that have ended so.
@@ -176,98 +94,114 @@ fn ends_of(overs: &[Option<Over>]) -> LoopEnds {
     ends
 }
 
-// What is done before a cluster ends, and how it ends.
-#[derive(Clone, Copy)]
-struct Row {
-    // how many entries each history has at most
-    limit: u64,
-    first: Option<(usize, Asked)>,
-    second: Option<(usize, Asked)>,
-    overs: &'static [Option<Over>],
-    end: End,
-    // how many calls were made at each queue, where that is looked at
-    made: Option<(usize, usize)>,
-}
-
-fn is_ended<H: StoredHistory<Op, Reply>, R: Wait + Abort>(
+// How a cluster ends in which that was done.
+fn end_of<H: StoredHistory<Op, Reply>, R: Wait + Abort>(
     rt: &R,
     alloc: Global,
+    at: usize,
     row: &Row,
-) -> bool {
-    let mut cluster = opened::<H, R>(rt, alloc, row.limit);
-    if !is_told(rt, alloc, &mut cluster.first, row.first) {
-        return false;
-    }
-    if !is_told(rt, alloc, &mut cluster.second, row.second) {
-        return false;
-    }
-    let ended = ended(rt, alloc, cluster, ends_of(row.overs));
-    is_so(&ended, row.end) && (row.made.is_none() || calls_made(&ended) == row.made)
+) -> Ended<H> {
+    let Queues {
+        doorbell,
+        lines,
+        caller,
+    } = open_two::<H, R>(rt, alloc, row.limit);
+    let mut first = caller;
+    let mut second = first.split(alloc).expect(rt, "memory");
+    call_all(rt, alloc, &mut first, at, row.first);
+    call_all(rt, alloc, &mut second, at, row.second);
+    let (callers, others) = part(rt, alloc, first, second, row.goes);
+    let ended = finish(rt, alloc, doorbell, lines, callers, ends_of(row.overs));
+    drop(others);
+    ended
 }
 
-fn check<R: Wait + Abort>(rt: &R, alloc: Global, rows: &[Row]) {
-    for (at, row) in rows.iter().enumerate() {
-        assert!(rt; is_ended::<Calls, R>(rt, alloc, row), "row {at}");
+// Whether a text is this one.
+fn is_text(text: &Vec<u8>, wanted: &[u8]) -> bool {
+    text.as_slice() == wanted
+}
+
+// Whether a cluster has ended so.
+fn is_so<H: StoredHistory<Op, Reply>>(ended: &Ended<H>, row: &Row) -> bool {
+    match ended {
+        Ok(Finished::Report { text, traces }) => match row.end {
+            End::Report(lines) => is_text(text, lines) && have_made(&traces.histories, row.made),
+            _ => false,
+        },
+        Ok(Finished::NotQuiet { queue, why, traces }) => match row.end {
+            End::Behind(at) => {
+                *queue == at && *why == Pending::Behind && have_made(&traces.histories, row.made)
+            }
+            _ => false,
+        },
+        Ok(Finished::RoundLimit { traces }) => {
+            matches!(row.end, End::RoundLimit) && have_made(&traces.histories, row.made)
+        }
+        Ok(Finished::Limit { traces }) => {
+            matches!(row.end, End::Limit) && have_made(&traces.histories, row.made)
+        }
+        Ok(Finished::NotAll { queue, missing }) => {
+            matches!(row.end, End::NotAll) && *queue == 0 && *missing == 1
+        }
+        Ok(Finished::InUse) => matches!(row.end, End::InUse),
+        Err(AllocError) => matches!(row.end, End::Memory),
     }
 }
 
-// The report has what a caller subscribed, and the calls of both callers are in the traces.
-const REPORT: Row = Row {
+const SUBSCRIBED: Call = Call(1, Asked::By(Produced::Subscribe(b'x')), Told::Subscribed(1));
+
+const QUIET: Call = Call(1, Asked::Quiet, Told::Quiet);
+
+const PUBLISHED_FIRST: Call = Call(0, PUBLISH, Told::Published(0));
+
+const PUBLISHED_SECOND: Call = Call(1, PUBLISH, Told::Published(0));
+
+// Nothing was done, and the report is empty.
+const NEW: Row = Row {
     limit: 100,
-    first: Some((1, Asked::Subscribe)),
-    second: Some((1, Asked::Quiet)),
+    first: &[],
+    second: &[],
+    goes: Second::Comes,
     overs: &[],
-    end: End::Report(b"report\n1:1 o/k g/x 0.0 0\n"),
-    made: Some((1, 3)),
+    end: End::Report(b"report\n"),
+    made: &[1, 1],
 };
 
-#[test]
-fn a_report(rt: HostRuntime) {
-    check(&rt, rt.alloc(), &[REPORT]);
-}
-
-// The second queue isn't quiet: an event isn't pulled.
-const NOT_QUIET: Row = Row {
-    limit: 100,
-    first: None,
-    second: Some((1, Asked::Publish)),
-    overs: &[],
-    end: End::Behind(1),
-    made: Some((1, 2)),
-};
-
-#[test]
-fn not_quiet(rt: HostRuntime) {
-    check(&rt, rt.alloc(), &[NOT_QUIET]);
-}
-
-// The history of the second queue is full. That goes before a loop that made too many rounds.
-const FULL: Row = Row {
-    limit: 1,
-    first: Some((1, Asked::Quiet)),
-    second: None,
-    overs: &[Some(Over::Rounds)],
-    end: End::Limit,
-    made: Some((1, 1)),
-};
-
-#[test]
-fn a_full_history(rt: HostRuntime) {
-    check(&rt, rt.alloc(), &[FULL]);
-}
-
-// An event isn't pulled, and no loop has ended.
+// An event isn't pulled at the first queue, and no loop has ended.
 const LEFT: Row = Row {
-    limit: 100,
-    first: Some((0, Asked::Publish)),
-    second: None,
+    first: &[PUBLISHED_FIRST],
     overs: &[None, None],
     end: End::Behind(0),
-    made: None,
+    made: &[2, 0],
+    ..NEW
 };
 
-// The order of the answers, by how the loops of two queues have ended.
-const ENDED: [Row; 4] = [
+static ROWS: [Row; 9] = [
+    // The report has what a caller subscribed, and the calls of both callers are in the traces.
+    Row {
+        first: &[SUBSCRIBED],
+        second: &[QUIET],
+        end: End::Report(b"report\n1:1 o/k g/x 0.0 0\n"),
+        made: &[1, 3],
+        ..NEW
+    },
+    // The second queue isn't quiet.
+    Row {
+        second: &[PUBLISHED_SECOND],
+        end: End::Behind(1),
+        made: &[1, 2],
+        ..NEW
+    },
+    // The history of the second queue is full. That goes before a loop that made too many rounds.
+    Row {
+        limit: 1,
+        first: &[QUIET],
+        overs: &[Some(Over::Rounds)],
+        end: End::Limit,
+        made: &[1, 1],
+        ..NEW
+    },
+    // The order of the answers, by how the loops of two queues have ended.
     LEFT,
     Row {
         overs: &[None, Some(Over::Rounds)],
@@ -284,76 +218,37 @@ const ENDED: [Row; 4] = [
         end: End::Memory,
         ..LEFT
     },
+    // A caller was lost, and its passes are missing at both queues.
+    Row {
+        goes: Second::IsLost,
+        end: End::NotAll,
+        ..NEW
+    },
+    // A caller still has the turnstiles, while the passes of another were lost.
+    Row {
+        goes: Second::Stays,
+        end: End::InUse,
+        ..NEW
+    },
 ];
 
+fn check<H: StoredHistory<Op, Reply>, R: Wait + Abort>(rt: &R, alloc: Global) {
+    for (at, row) in ROWS.iter().enumerate() {
+        let ended = end_of::<H, R>(rt, alloc, at, row);
+        holds(rt, is_so(&ended, row), at, 0);
+    }
+}
+
 #[test]
-fn loops_that_ended(rt: HostRuntime) {
-    check(&rt, rt.alloc(), &ENDED);
-}
-
-// How a cluster ends with its first caller alone.
-fn ended_with_first<H: StoredHistory<Op, Reply>, R: Wait + Abort>(
-    rt: &R,
-    alloc: Global,
-    doorbell: Arc<Doorbell, Global>,
-    lines: Vec<QueueLine<H>>,
-    first: Producer<H>,
-) -> Result<Finished<H>, AllocError>
-    requires { turnstiles first ≡ places lines.items }
-{
-    let mut callers = Vec::with_capacity(alloc, 1).expect(rt, "memory");
-    callers.push_reserved(first);
-    finish(rt, alloc, doorbell, lines, callers, LoopEnds::default())
-}
-
-// The end after a caller was lost, at any kind of history.
-fn lose_a_caller<H: StoredHistory<Op, Reply>, R: Wait + Abort>(rt: &R, alloc: Global) {
-    let Cluster {
-        doorbell,
-        lines,
-        first,
-        second,
-    } = opened::<H, R>(rt, alloc, 100);
-    drop(second);
-    let ended = ended_with_first(rt, alloc, doorbell, lines, first);
-    assert!(rt; is_so(&ended, End::NotAll));
-}
-
-// A caller was lost, and its passes are missing at both queues.
-#[test]
-fn a_missing_pass(rt: HostRuntime) {
-    lose_a_caller::<Calls, HostRuntime>(&rt, rt.alloc());
-}
-
-// The end while a caller is there, at any kind of history.
-fn keep_a_caller<H: StoredHistory<Op, Reply>, R: Wait + Abort>(rt: &R, alloc: Global) {
-    let Cluster {
-        doorbell,
-        lines,
-        first,
-        mut second,
-    } = opened::<H, R>(rt, alloc, 100);
-    drop(second.split(alloc).expect(rt, "memory"));
-    let ended = ended_with_first(rt, alloc, doorbell, lines, first);
-    assert!(rt; is_so(&ended, End::InUse));
-    drop(second);
-}
-
-// A caller still has the turnstiles, while the passes of another were lost.
-#[test]
-fn a_caller_still_there(rt: HostRuntime) {
-    keep_a_caller::<Calls, HostRuntime>(&rt, rt.alloc());
+fn ends(rt: HostRuntime) {
+    check::<Calls, HostRuntime>(&rt, rt.alloc());
 }
 
 // The end of a new cluster, at any kind of history.
 fn end_at_once<H: StoredHistory<Op, Reply>, R: Wait + Abort>(rt: &R, alloc: Global) {
-    let ended = ended(
-        &rt,
-        alloc,
-        opened::<H, R>(rt, alloc, 100),
-        LoopEnds::default(),
-    );
-    assert!(rt; is_so(&ended, End::Report(b"report\n")) || is_so(&ended, End::Memory));
+    let row = &NEW;
+    let ended = end_of::<H, R>(rt, alloc, 0, row);
+    assert!(rt; is_so(&ended, row) || matches!(ended, Err(AllocError)));
 }
 
 // With any one allocation refused in the end of a cluster, it answers so, and else it reports. Run it with each

@@ -3,6 +3,8 @@
 #![tactic(auto)]
 
 #[cfg(test)]
+mod asking;
+#[cfg(test)]
 mod callers;
 #[cfg(test)]
 mod crew;
@@ -10,8 +12,6 @@ mod crew;
 mod directories;
 #[cfg(test)]
 mod ending;
-#[cfg(test)]
-mod operations;
 #[cfg(test)]
 mod operator;
 #[cfg(test)]

@@ -1,21 +1,20 @@
 //! The operator of a cluster, whose loops are advanced by hand.
-ghost use Rattle.std.specs.Prelude.{◌≡◌, ◌<◌, IfOk};
+ghost use Rattle.std.specs.Prelude.{◌≡◌, IfOk};
 
-use crate::directories::{Asked, directory_line};
-use crate::operations::{grain, publish, subscribe};
-use crate::queues::{Calls, Producer, ask, close_all, open_all};
+use crate::asking::{Asked, Call, PUBLISH, Produced, Told, call_all, grain, holds, is_told};
+use crate::directories::{Places, directory_line};
+use crate::queues::{Calls, Producer, Queues, close_all, open as open_queues};
 use activation_directory::{DirectoryOp, DirectoryReply};
-use cluster_callers::Caller;
 use cluster_operator::{Halt, Operator};
 use shared_partition::Counting;
 use silo_crew::SiloLoops;
-use silo_loops::{Advance, DirectoryLine, Doorbell};
+use silo_loops::{Advance, DirectoryLine};
 use std::alloc::{AllocError, Global};
 use std::marker::Model;
 use std::process::Abort;
 use std::sync::{Arc, Wait};
-use stream_ident::{GrainId, SubName};
-use stream_model::{Limits, Op, Reply, Start};
+use stream_ident::GrainId;
+use stream_model::{Limits, Op, Reply};
 use turnstile::{Entry, StoredHistory};
 
 // How many entries the history of a queue and that of the directory may have, and how many moves and turns there may
@@ -81,30 +80,31 @@ impl<H: StoredHistory<Op, Reply>, D: StoredHistory<DirectoryOp, DirectoryReply>>
 }
 
 // An operator of so many empty queues, in whose cluster no silo lives.
-fn open<H: StoredHistory<Op, Reply>, D: StoredHistory<DirectoryOp, DirectoryReply>>(
+fn open<H: StoredHistory<Op, Reply>, D: StoredHistory<DirectoryOp, DirectoryReply>, R: Abort>(
+    rt: &R,
     alloc: Global,
     queues: usize,
-    room: Room,
-) -> Result<Cluster<H, D>, AllocError>
-    requires some { 0 < queues }
-    requires rises { room.rises < 1001 }
-{
+    room: &Room,
+) -> Cluster<H, D> {
+    assert!(rt; queues > 0 && room.rises <= 1_000);
     let limits = Limits {
         rises: room.rises,
         ..Limits::GREATEST
     };
-    let (lines, callers) = open_all(alloc, queues, limits, room.queue)?;
-    let mut line = directory_line(alloc, room.directory)?;
-    let directory = line.split()?;
-    let gate = Arc::new(alloc, Counting)?;
-    let doorbell = Arc::new(alloc, Doorbell::new(0))?;
-    let caller = Caller::new(Arc::try_clone(&doorbell)?, callers);
-    let operator = Operator::new(alloc, gate, doorbell, lines, line)?;
-    Ok(Cluster {
+    let Queues {
+        doorbell,
+        lines,
+        caller,
+    } = open_queues(alloc, queues, limits, room.queue).expect(rt, "memory");
+    let mut line = directory_line(alloc, room.directory).expect(rt, "memory");
+    let directory = line.split().expect(rt, "memory");
+    let gate = Arc::new(alloc, Counting).expect(rt, "memory");
+    let operator = Operator::new(alloc, gate, doorbell, lines, line).expect(rt, "memory");
+    Cluster {
         operator,
         directory,
         caller,
-    })
+    }
 }
 
 impl<H: StoredHistory<Op, Reply>, D: StoredHistory<DirectoryOp, DirectoryReply>> Cluster<H, D> {
@@ -130,26 +130,33 @@ impl<H: StoredHistory<Op, Reply>, D: StoredHistory<DirectoryOp, DirectoryReply>>
         self.operator.spread(rt, alloc)
     }
 
-    // The reply at a queue.
-    fn ask<R: Wait + Abort>(&mut self, rt: &R, alloc: Global, queue: usize, op: Op) -> Reply
+    // Whether a call is answered so.
+    fn is_told<R: Wait + Abort>(&mut self, rt: &R, alloc: Global, call: &Call) -> bool
         ensures { self.new ≡ self.old }
     {
-        ask(rt, alloc, &mut self.caller, queue, op)
+        is_told(rt, alloc, &mut self.caller, call)
     }
 
-    // The reply of the directory.
-    fn ask_directory<R: Wait + Abort>(
+    // Makes the calls of a table.
+    fn call_all<R: Wait + Abort>(&mut self, rt: &R, alloc: Global, calls: &[Call])
+        ensures { self.new ≡ self.old }
+    {
+        call_all(rt, alloc, &mut self.caller, 0, calls);
+    }
+
+    // Whether this is the reply of the directory.
+    fn is_directed<R: Wait + Abort>(
         &mut self,
         rt: &R,
         alloc: Global,
         op: DirectoryOp,
-    ) -> DirectoryReply
+        wanted: DirectoryReply,
+    ) -> bool
         ensures { self.new ≡ self.old }
     {
         let doorbell = self.operator.doorbell();
-        self.directory
-            .call(rt, alloc, doorbell, op)
-            .expect(rt, "a reply")
+        let reply = self.directory.call(rt, alloc, doorbell, op);
+        reply.expect(rt, "a reply") == wanted
     }
 
     // The loops of a silo, by hand.
@@ -177,7 +184,7 @@ impl<H: StoredHistory<Op, Reply>, D: StoredHistory<DirectoryOp, DirectoryReply>>
             caller,
         } = self;
         let (_doorbell, lines) = operator.into_lines();
-        close_all(rt, alloc, lines, caller.into_queues())
+        close_all(rt, alloc, lines, caller)
     }
 }
 
@@ -202,180 +209,281 @@ impl<H: StoredHistory<Op, Reply>, D: StoredHistory<DirectoryOp, DirectoryReply>>
     }
 }
 
-// Asks at each of four queues. The histories are read from one such mark to the next.
-fn mark<
-    H: StoredHistory<Op, Reply>,
-    D: StoredHistory<DirectoryOp, DirectoryReply>,
-    R: Wait + Abort,
->(rt: &R, alloc: Global, cluster: &mut Cluster<H, D>) {
-    for queue in 0..4 {
-        let reply = cluster.ask(rt, alloc, queue, Op::Quiet);
-        assert!(rt; reply == Reply::IsQuiet);
-    }
+// How a change of silos ends.
+#[derive(Clone, Copy)]
+enum Then {
+    Done,
+    // A limit breaks it off.
+    Limit,
 }
 
-// The silo of a queue at each mark of its history. It moves once at most from one to the next.
-fn silos<R: Abort>(rt: &R, alloc: Global, history: &[Entry<Op, Reply>]) -> Vec<u8> {
-    let mut silos = Vec::new(alloc);
-    let mut at = 0;
-    let mut moved = false;
-    for entry in history {
-        match entry.op {
-            Op::Move { silo } => {
-                assert!(rt; !moved && silo != at);
-                at = silo;
-                moved = true;
-            }
-            Op::Quiet => {
-                silos.push(at).expect(rt, "memory");
-                moved = false;
-            }
-            _ => panic!(rt; "nothing else is asked"),
-        }
+// Whether it was so.
+fn is_then(answer: &Result<(), Halt>, then: Then) -> bool {
+    match then {
+        Then::Done => answer.is_ok(),
+        Then::Limit => matches!(answer, Err(Halt::Limit)),
     }
-    silos
-}
-
-// How many queues are on a silo at a mark.
-fn load<R: Abort>(rt: &R, silos: &[Vec<u8>], mark: usize, silo: u8) -> usize {
-    let mut load: usize = 0;
-    for queue in silos {
-        if *queue.get(mark).expect(rt, "a mark") == silo {
-            load = load.wrapping_add(1);
-        }
-    }
-    load
 }
 
 // What is done to a cluster, and how it is answered.
 #[derive(Clone, Copy)]
 enum Step {
     // A silo comes.
-    Up(u8, Result<(), Halt>),
+    Up(u8, Then),
     // A silo goes.
-    Down(u8, Result<(), Halt>),
-    // An event is brought to the mailbox of a grain at the first queue.
-    Activate(u8),
+    Down(u8, Then),
+    // All queues are quiet. The histories are read from one such mark to the next.
+    Mark,
+    // A call at a queue.
+    At(Call),
     // A silo enters a grain at the directory, which gives a permit or is busy.
     Enter(u8, u8, Option<u64>),
     // A silo has no grain at the directory.
     NoneLeft(u8),
 }
 
-fn is_met<
+// Whether all queues are quiet.
+fn are_quiet<
     H: StoredHistory<Op, Reply>,
     D: StoredHistory<DirectoryOp, DirectoryReply>,
     R: Wait + Abort,
->(rt: &R, alloc: Global, cluster: &mut Cluster<H, D>, step: &Step) -> bool {
-    match *step {
-        Step::Up(silo, wanted) => cluster.up(rt, alloc, silo) == wanted,
-        Step::Down(silo, wanted) => cluster.down(rt, alloc, silo) == wanted,
-        Step::Activate(key) => is_active(rt, alloc, cluster, grain(rt, &[key])),
-        Step::Enter(key, silo, permit) => {
-            let grain = grain(rt, &[key]);
-            let wanted = match permit {
-                Some(permit) => DirectoryReply::Entered { permit },
-                None => DirectoryReply::Busy,
-            };
-            cluster.ask_directory(rt, alloc, DirectoryOp::Enter { grain, silo }) == wanted
-        }
-        Step::NoneLeft(silo) => {
-            let down = DirectoryOp::Down { silo };
-            cluster.ask_directory(rt, alloc, down) == DirectoryReply::NoneLeft
-        }
-    }
-}
-
-// Takes the steps of a table.
-fn take<
-    H: StoredHistory<Op, Reply>,
-    D: StoredHistory<DirectoryOp, DirectoryReply>,
-    R: Wait + Abort,
->(rt: &R, alloc: Global, cluster: &mut Cluster<H, D>, table: usize, steps: &[Step]) {
-    for (row, step) in steps.iter().enumerate() {
-        let is_met = is_met(rt, alloc, cluster, step);
-        assert!(rt; is_met, "table {table}, row {row}");
-    }
-}
-
-// Which silo comes or goes, and the loads of silos 0 to 2 that four queues then may have: the least and the most.
-const CHANGES: [(Step, [(usize, usize); 3]); 7] = [
-    (Step::Up(0, Ok(())), [(4, 4), (0, 0), (0, 0)]),
-    (Step::Up(1, Ok(())), [(2, 2), (2, 2), (0, 0)]),
-    (Step::Up(2, Ok(())), [(1, 2), (1, 2), (1, 2)]),
-    (Step::Down(0, Ok(())), [(0, 0), (2, 2), (2, 2)]),
-    (Step::Down(2, Ok(())), [(0, 0), (4, 4), (0, 0)]),
-    (Step::Up(0, Ok(())), [(2, 2), (2, 2), (0, 0)]),
-    (Step::Down(1, Ok(())), [(4, 4), (0, 0), (0, 0)]),
-];
-
-// The silos of each queue at the marks of its history.
-fn all_silos<R: Abort>(rt: &R, alloc: Global, histories: &[Calls]) -> Vec<Vec<u8>> {
-    let mut queues = Vec::new(alloc);
-    for history in histories {
-        let silos = silos(rt, alloc, history.as_slice());
-        queues.push(silos).expect(rt, "memory");
-    }
-    queues
-}
-
-// Whether the loads of silos 0 to 2 at a mark are between these.
-fn are_loads<R: Abort>(
-    rt: &R,
-    queues: &[Vec<u8>],
-    mark: usize,
-    loads: &[(usize, usize); 3],
-) -> bool {
-    for silo in 0..3u8 {
-        let (least, most) = loads[silo as usize];
-        let load = load(rt, queues, mark, silo);
-        if load < least || most < load {
+>(rt: &R, alloc: Global, cluster: &mut Cluster<H, D>) -> bool {
+    for queue in 0..cluster.caller.queues() {
+        if !cluster.is_told(rt, alloc, &Call(queue, Asked::Quiet, Told::Quiet)) {
             return false;
         }
     }
     true
 }
 
-// The histories of four queues over which silos come and go.
-fn spread<
+// Whether a step is answered so.
+fn is_met<
     H: StoredHistory<Op, Reply>,
     D: StoredHistory<DirectoryOp, DirectoryReply>,
     R: Wait + Abort,
->(rt: &R, alloc: Global) -> Vec<H> {
-    let mut cluster = open::<H, D>(alloc, 4, PLENTY).expect(rt, "memory");
-    for (row, (step, _loads)) in CHANGES.iter().enumerate() {
-        take(rt, alloc, &mut cluster, row, &[*step]);
-        mark(rt, alloc, &mut cluster);
+>(rt: &R, alloc: Global, cluster: &mut Cluster<H, D>, step: &Step) -> bool {
+    match *step {
+        Step::Up(silo, then) => is_then(&cluster.up(rt, alloc, silo), then),
+        Step::Down(silo, then) => is_then(&cluster.down(rt, alloc, silo), then),
+        Step::Mark => are_quiet(rt, alloc, cluster),
+        Step::At(ref call) => cluster.is_told(rt, alloc, call),
+        Step::Enter(key, silo, permit) => {
+            let grain = grain(rt, key);
+            let wanted = match permit {
+                Some(permit) => DirectoryReply::Entered { permit },
+                None => DirectoryReply::Busy,
+            };
+            cluster.is_directed(rt, alloc, DirectoryOp::Enter { grain, silo }, wanted)
+        }
+        Step::NoneLeft(silo) => {
+            let op = DirectoryOp::Down { silo };
+            cluster.is_directed(rt, alloc, op, DirectoryReply::NoneLeft)
+        }
     }
-    cluster.finish(rt, alloc)
+}
+
+// What the histories of the queues say in the end.
+#[derive(Clone, Copy)]
+enum Left {
+    // It isn't looked at.
+    Unread,
+    // How many queues are on silos 0 to 2 at each mark: the least and the most.
+    Loads(&'static [[[usize; 2]; 3]]),
+    // The grains that were deactivated at each queue, in this order, and how many events each has lost.
+    Lost(&'static [[(u8, usize); 2]]),
+}
+
+// A cluster of so many queues, and what is done to it.
+#[derive(Clone, Copy)]
+struct Case {
+    queues: usize,
+    room: Room,
+    steps: &'static [Step],
+    left: Left,
 }
 
 // Silos come and go. The queues are spread evenly over those that live, and each moves once at most at each change.
-#[test]
-fn queues_are_spread(rt: HostRuntime) {
-    let alloc = rt.alloc();
-    let histories = spread::<Calls, Asked, HostRuntime>(&rt, alloc);
-    let queues = all_silos(&rt, alloc, histories.as_slice());
-    for (mark, (_step, loads)) in CHANGES.iter().enumerate() {
-        let are_loads = are_loads(&rt, queues.as_slice(), mark, loads);
-        assert!(rt; are_loads, "row {mark}");
+const CHANGES: [Step; 14] = [
+    Step::Up(0, Then::Done),
+    Step::Mark,
+    Step::Up(1, Then::Done),
+    Step::Mark,
+    Step::Up(2, Then::Done),
+    Step::Mark,
+    Step::Down(0, Then::Done),
+    Step::Mark,
+    Step::Down(2, Then::Done),
+    Step::Mark,
+    Step::Up(0, Then::Done),
+    Step::Mark,
+    Step::Down(1, Then::Done),
+    Step::Mark,
+];
+
+const LOADS: [[[usize; 2]; 3]; 7] = [
+    [[4, 4], [0, 0], [0, 0]],
+    [[2, 2], [2, 2], [0, 0]],
+    [[1, 2], [1, 2], [1, 2]],
+    [[0, 0], [2, 2], [2, 2]],
+    [[0, 0], [4, 4], [0, 0]],
+    [[2, 2], [2, 2], [0, 0]],
+    [[4, 4], [0, 0], [0, 0]],
+];
+
+// Silo 1 goes, on which two of three grains are. One of them is active at the first queue, where an event waits for it.
+// Both leave the directory and are deactivated at each queue, once and in their order, and the third stays.
+const LEAVES: [Step; 13] = [
+    Step::At(Call(0, Asked::By(Produced::Subscribe(b'a')), Told::Subscribed(1))),
+    Step::At(Call(0, PUBLISH, Told::Published(0))),
+    Step::At(Call(0, Asked::Pull(1), Told::Pulled(1))),
+    Step::At(Call(0, Asked::Deliver, Told::Delivered)),
+    Step::Enter(b'b', 1, Some(1)),
+    Step::Enter(b'a', 1, Some(2)),
+    Step::Enter(b'c', 0, Some(3)),
+    Step::Up(0, Then::Done),
+    Step::Up(1, Then::Done),
+    Step::Down(1, Then::Done),
+    Step::NoneLeft(1),
+    Step::Enter(b'a', 0, Some(4)),
+    Step::Enter(b'c', 0, None),
+];
+
+const LOST: [[(u8, usize); 2]; 2] = [[(b'a', 1), (b'b', 0)], [(b'a', 0), (b'b', 0)]];
+
+// How the changes are answered where there is so much room: silo 1 comes, which moves one of two queues, and goes
+// with a grain.
+const FITS: [Step; 4] = [
+    Step::Enter(b'a', 1, Some(1)),
+    Step::Up(0, Then::Done),
+    Step::Up(1, Then::Done),
+    Step::Down(1, Then::Done),
+];
+
+// Silo 1 doesn't come.
+const STAYS_AWAY: [Step; 3] = [
+    Step::Enter(b'a', 1, Some(1)),
+    Step::Up(0, Then::Done),
+    Step::Up(1, Then::Limit),
+];
+
+// Silo 1 doesn't go.
+const STAYS: [Step; 4] = [
+    Step::Enter(b'a', 1, Some(1)),
+    Step::Up(0, Then::Done),
+    Step::Up(1, Then::Done),
+    Step::Down(1, Then::Limit),
+];
+
+// No silo lives to which the queues could go.
+const ALONE: [Step; 2] = [Step::Up(0, Then::Done), Step::Down(0, Then::Limit)];
+
+// A history that is full, or a move that is refused, breaks a change off.
+const STAYING: Case = Case {
+    queues: 2,
+    room: PLENTY,
+    steps: &STAYS,
+    left: Left::Unread,
+};
+
+static CASES: [Case; 9] = [
+    Case {
+        queues: 4,
+        steps: &CHANGES,
+        left: Left::Loads(&LOADS),
+        ..STAYING
+    },
+    Case {
+        steps: &LEAVES,
+        left: Left::Lost(&LOST),
+        ..STAYING
+    },
+    Case {
+        queues: 1,
+        steps: &ALONE,
+        ..STAYING
+    },
+    Case {
+        room: Room {
+            queue: 3,
+            directory: 3,
+            rises: 2,
+        },
+        steps: &FITS,
+        ..STAYING
+    },
+    Case {
+        room: Room { queue: 0, ..PLENTY },
+        steps: &STAYS_AWAY,
+        ..STAYING
+    },
+    Case {
+        room: Room { queue: 1, ..PLENTY },
+        ..STAYING
+    },
+    Case {
+        room: Room { queue: 2, ..PLENTY },
+        ..STAYING
+    },
+    Case {
+        room: Room {
+            directory: 2,
+            ..PLENTY
+        },
+        ..STAYING
+    },
+    Case {
+        room: Room { rises: 1, ..PLENTY },
+        ..STAYING
+    },
+];
+
+// The silo of a queue at a mark of its history. It moves once at most from one mark to the next.
+fn silo_at<R: Abort>(rt: &R, history: &[Entry<Op, Reply>], mark: usize) -> u8 {
+    let mut silo = 0;
+    let mut marks: usize = 0;
+    let mut has_moved = false;
+    for entry in history {
+        match entry.op {
+            Op::Move { silo: to } => {
+                assert!(rt; !has_moved && to != silo);
+                silo = to;
+                has_moved = true;
+            }
+            Op::Quiet => {
+                if marks == mark {
+                    return silo;
+                }
+                marks = marks.wrapping_add(1);
+                has_moved = false;
+            }
+            _ => panic!(rt; "nothing else is asked"),
+        }
     }
+    panic!(rt; "there is such a mark");
 }
 
-// Whether an event gets to the mailbox of a grain at the first queue.
-fn is_active<
-    H: StoredHistory<Op, Reply>,
-    D: StoredHistory<DirectoryOp, DirectoryReply>,
-    R: Wait + Abort,
->(rt: &R, alloc: Global, cluster: &mut Cluster<H, D>, grain: GrainId) -> bool {
-    cluster.ask(rt, alloc, 0, subscribe(rt, grain, Start::Latest));
-    cluster.ask(rt, alloc, 0, publish(rt, alloc, 1));
-    let generation = 0;
-    let pull = Op::Pull { generation, max: 1 };
-    cluster.ask(rt, alloc, 0, pull);
-    let sub = SubName::Explicit(1);
-    let reply = cluster.ask(rt, alloc, 0, Op::Deliver { generation, sub });
-    matches!(reply, Reply::Delivered { .. })
+// How many queues are on a silo at a mark.
+fn load<R: Abort>(rt: &R, histories: &Vec<Calls>, mark: usize, silo: usize) -> usize {
+    let mut load: usize = 0;
+    for history in histories {
+        if usize::from(silo_at(rt, history.as_slice(), mark)) == silo {
+            load = load.wrapping_add(1);
+        }
+    }
+    load
+}
+
+// Whether the loads of silos 0 to 2 at each mark are between these.
+fn are_loads<R: Abort>(rt: &R, histories: &Vec<Calls>, wanted: &[[[usize; 2]; 3]]) -> bool {
+    for (mark, loads) in wanted.iter().enumerate() {
+        for (silo, [least, most]) in loads.iter().enumerate() {
+            let load = load(rt, histories, mark, silo);
+            if load < *least || *most < load {
+                return false;
+            }
+        }
+    }
+    true
 }
 
 // Whether this is the grain of a key, which has lost so many events.
@@ -384,7 +492,7 @@ fn is_lost<R: Abort>(rt: &R, found: &GrainId, reply: &Reply, key: u8, lost: usiz
         Reply::Deactivated { lost } => *lost,
         _ => 0,
     };
-    *found == grain(rt, &[key]) && told == lost
+    *found == grain(rt, key) && told == lost
 }
 
 // Whether these grains were deactivated at a queue, once and in this order, and have lost so many events each.
@@ -404,128 +512,62 @@ fn are_deactivated<R: Abort>(rt: &R, history: &[Entry<Op, Reply>], wanted: &[(u8
     at == wanted.len()
 }
 
-// Silo 1 goes, on which two of three grains are. One of them is active at the first queue. Both leave the directory
-// and are deactivated at each queue, once and in their order, and the third stays.
-const LEAVES: [Step; 10] = [
-    Step::Activate(b'a'),
-    Step::Enter(b'b', 1, Some(1)),
-    Step::Enter(b'a', 1, Some(2)),
-    Step::Enter(b'c', 0, Some(3)),
-    Step::Up(0, Ok(())),
-    Step::Up(1, Ok(())),
-    Step::Down(1, Ok(())),
-    Step::NoneLeft(1),
-    Step::Enter(b'a', 0, Some(4)),
-    Step::Enter(b'c', 0, None),
-];
+// Whether these grains were deactivated at each queue.
+fn are_lost<R: Abort>(rt: &R, histories: &Vec<Calls>, wanted: &[[(u8, usize); 2]]) -> bool {
+    assert!(rt; histories.len() == wanted.len());
+    for (queue, history) in histories.iter().enumerate() {
+        if !are_deactivated(rt, history.as_slice(), &wanted[queue]) {
+            return false;
+        }
+    }
+    true
+}
 
-// The grains that are deactivated at each queue, and how many events each has lost.
-const LOST: [[(u8, usize); 2]; 2] = [[(b'a', 1), (b'b', 0)], [(b'a', 0), (b'b', 0)]];
+fn is_left<R: Abort>(rt: &R, histories: &Vec<Calls>, left: Left) -> bool {
+    match left {
+        Left::Unread => true,
+        Left::Loads(wanted) => are_loads(rt, histories, wanted),
+        Left::Lost(wanted) => are_lost(rt, histories, wanted),
+    }
+}
 
-// The histories of two queues that a silo leaves.
-fn leave<
+// The histories of the queues to which that was done.
+fn take<
     H: StoredHistory<Op, Reply>,
     D: StoredHistory<DirectoryOp, DirectoryReply>,
     R: Wait + Abort,
->(rt: &R, alloc: Global) -> Vec<H> {
-    let mut cluster = open::<H, D>(alloc, 2, PLENTY).expect(rt, "memory");
-    take(rt, alloc, &mut cluster, 0, &LEAVES);
+>(rt: &R, alloc: Global, table: usize, case: &Case) -> Vec<H> {
+    let mut cluster = open::<H, D, R>(rt, alloc, case.queues, &case.room);
+    for (row, step) in case.steps.iter().enumerate() {
+        let is_met = is_met(rt, alloc, &mut cluster, step);
+        holds(rt, is_met, table, row);
+    }
     cluster.finish(rt, alloc)
 }
 
-#[test]
-fn grains_are_deactivated(rt: HostRuntime) {
-    let alloc = rt.alloc();
-    let histories = leave::<Calls, Asked, HostRuntime>(&rt, alloc);
-    assert!(rt; histories.len() == LOST.len());
-    for (queue, history) in histories.iter().enumerate() {
-        let are_so = are_deactivated(&rt, history.as_slice(), &LOST[queue]);
-        assert!(rt; are_so, "row {queue}");
+fn check<R: Wait + Abort>(rt: &R, alloc: Global) {
+    for (table, case) in CASES.iter().enumerate() {
+        let histories = take::<Calls, Places, R>(rt, alloc, table, case);
+        holds(
+            rt,
+            is_left(rt, &histories, case.left),
+            table,
+            case.steps.len(),
+        );
     }
 }
 
-// How the changes are answered where there is so much room: silo 1 comes, which moves one of two queues, and goes
-// with a grain.
-const FITS: [Step; 4] = [
-    Step::Enter(b'a', 1, Some(1)),
-    Step::Up(0, Ok(())),
-    Step::Up(1, Ok(())),
-    Step::Down(1, Ok(())),
-];
-
-// Silo 1 doesn't come.
-const STAYS_AWAY: [Step; 3] = [
-    Step::Enter(b'a', 1, Some(1)),
-    Step::Up(0, Ok(())),
-    Step::Up(1, Err(Halt::Limit)),
-];
-
-// Silo 1 doesn't go.
-const STAYS: [Step; 4] = [
-    Step::Enter(b'a', 1, Some(1)),
-    Step::Up(0, Ok(())),
-    Step::Up(1, Ok(())),
-    Step::Down(1, Err(Halt::Limit)),
-];
-
-const ROOMS: [(Room, &[Step]); 6] = [
-    (
-        Room {
-            queue: 3,
-            directory: 3,
-            rises: 2,
-        },
-        &FITS,
-    ),
-    (Room { queue: 0, ..PLENTY }, &STAYS_AWAY),
-    (Room { queue: 1, ..PLENTY }, &STAYS),
-    (Room { queue: 2, ..PLENTY }, &STAYS),
-    (
-        Room {
-            directory: 2,
-            ..PLENTY
-        },
-        &STAYS,
-    ),
-    (Room { rises: 1, ..PLENTY }, &STAYS),
-];
-
-// The changes in each room, at any kind of history.
-fn fill<
-    H: StoredHistory<Op, Reply>,
-    D: StoredHistory<DirectoryOp, DirectoryReply>,
-    R: Wait + Abort,
->(rt: &R, alloc: Global) {
-    for (table, (room, steps)) in ROOMS.iter().enumerate() {
-        assert!(rt; room.rises <= 1_000);
-        let mut cluster = open::<H, D>(alloc, 2, *room).expect(rt, "memory");
-        take(rt, alloc, &mut cluster, table, steps);
-    }
-}
-
-// A history that is full, or a move that is refused, breaks a change off.
+// The changes of each case.
 #[test]
-fn limits(rt: HostRuntime) {
-    fill::<Calls, Asked, HostRuntime>(&rt, rt.alloc());
+fn silos_come_and_go(rt: HostRuntime) {
+    check(&rt, rt.alloc());
 }
 
-// No silo lives to which the queues could go.
-const ALONE: [Step; 2] = [Step::Up(0, Ok(())), Step::Down(0, Err(Halt::Limit))];
-
-// The changes of one queue, at any kind of history.
-fn be_alone<
-    H: StoredHistory<Op, Reply>,
-    D: StoredHistory<DirectoryOp, DirectoryReply>,
-    R: Wait + Abort,
->(rt: &R, alloc: Global) {
-    let mut cluster = open::<H, D>(alloc, 1, PLENTY).expect(rt, "memory");
-    take(rt, alloc, &mut cluster, 0, &ALONE);
-}
-
-#[test]
-fn no_silo(rt: HostRuntime) {
-    be_alone::<Calls, Asked, HostRuntime>(&rt, rt.alloc());
-}
+// An event is published to each of two queues.
+static PUBLISHED: [Call; 2] = [
+    Call(0, PUBLISH, Told::Accepted),
+    Call(1, PUBLISH, Told::Accepted),
+];
 
 // Has an agent pull, and tells at how many of two queues all is pulled then.
 fn pulled<
@@ -539,34 +581,14 @@ fn pulled<
     loops.rest(rt, alloc);
     let mut pulled: usize = 0;
     for queue in 0..2 {
-        if cluster.ask(rt, alloc, queue, Op::Quiet) == Reply::IsQuiet {
+        if cluster.is_told(rt, alloc, &Call(queue, Asked::Quiet, Told::Quiet)) {
             pulled = pulled.wrapping_add(1);
         }
     }
     pulled
 }
 
-fn publish_both<
-    H: StoredHistory<Op, Reply>,
-    D: StoredHistory<DirectoryOp, DirectoryReply>,
-    R: Wait + Abort,
->(rt: &R, alloc: Global, cluster: &mut Cluster<H, D>)
-    ensures { cluster.new ≡ cluster.old }
-{
-    for queue in 0..2 {
-        let reply = cluster.ask(rt, alloc, queue, publish(rt, alloc, 1));
-        assert!(rt; matches!(reply, Reply::Published { .. }));
-    }
-}
-
-// No agent has called where it hadn't the queue.
-fn none_is_stale<R: Abort>(rt: &R, history: &[Entry<Op, Reply>]) {
-    for entry in history {
-        assert!(rt; !matches!(entry.reply, Reply::StaleAgent { .. }));
-    }
-}
-
-// Has both agents pull. All is pulled at so many queues after that of the second, and after that of the first.
+// Has both agents pull. All is pulled at so many queues after that of the second, and at both after that of the first.
 fn are_pulled<
     H: StoredHistory<Op, Reply>,
     D: StoredHistory<DirectoryOp, DirectoryReply>,
@@ -577,16 +599,15 @@ fn are_pulled<
     cluster: &mut Cluster<H, D>,
     zero: &mut Loops<H, D>,
     one: &mut Loops<H, D>,
-    wanted: (usize, usize),
+    by_one: usize,
 )
     ensures cluster { cluster.new ≡ cluster.old }
     ensures zero { zero.new ≡ zero.old }
     ensures one { one.new ≡ one.old }
 {
-    publish_both(rt, alloc, cluster);
-    let by_one = pulled(rt, alloc, cluster, one);
-    let by_zero = pulled(rt, alloc, cluster, zero);
-    assert!(rt; (by_one, by_zero) == wanted);
+    cluster.call_all(rt, alloc, &PUBLISHED);
+    assert!(rt; pulled(rt, alloc, cluster, one) == by_one);
+    assert!(rt; pulled(rt, alloc, cluster, zero) == 2);
 }
 
 // The histories of two queues whose agents are told of them.
@@ -595,25 +616,35 @@ fn tell<
     D: StoredHistory<DirectoryOp, DirectoryReply>,
     R: Wait + Abort,
 >(rt: &R, alloc: Global) -> Vec<H> {
-    let mut cluster = open::<H, D>(alloc, 2, PLENTY).expect(rt, "memory");
+    let mut cluster = open::<H, D, R>(rt, alloc, 2, &PLENTY);
     let mut zero = cluster.make_loops(alloc, 0).expect(rt, "memory");
     let mut one = cluster.make_loops(alloc, 1).expect(rt, "memory");
-    assert!(rt; cluster.up(rt, alloc, 0) == Ok(()));
-    assert!(rt; cluster.up(rt, alloc, 1) == Ok(()));
-    are_pulled(rt, alloc, &mut cluster, &mut zero, &mut one, (1, 2));
-    assert!(rt; cluster.down(rt, alloc, 1) == Ok(()));
-    are_pulled(rt, alloc, &mut cluster, &mut zero, &mut one, (0, 2));
+    assert!(rt; cluster.up(rt, alloc, 0).is_ok());
+    assert!(rt; cluster.up(rt, alloc, 1).is_ok());
+    are_pulled(rt, alloc, &mut cluster, &mut zero, &mut one, 1);
+    assert!(rt; cluster.down(rt, alloc, 1).is_ok());
+    are_pulled(rt, alloc, &mut cluster, &mut zero, &mut one, 0);
     cluster.take_back(zero);
     cluster.take_back(one);
     cluster.finish(rt, alloc)
+}
+
+// Whether no agent has called where it hadn't the queue.
+fn none_is_stale(history: &[Entry<Op, Reply>]) -> bool {
+    for entry in history {
+        if matches!(entry.reply, Reply::StaleAgent { .. }) {
+            return false;
+        }
+    }
+    true
 }
 
 // The agent of each silo is told of its queues, under the generation of the last move: of two queues each has one,
 // until the second silo goes and the first has both.
 #[test]
 fn agents_are_told(rt: HostRuntime) {
-    let alloc = rt.alloc();
-    for history in tell::<Calls, Asked, HostRuntime>(&rt, alloc) {
-        none_is_stale(&rt, history.as_slice());
+    let histories = tell::<Calls, Places, HostRuntime>(&rt, rt.alloc());
+    for history in &histories {
+        assert!(rt; none_is_stale(history.as_slice()));
     }
 }

@@ -1,4 +1,4 @@
-//! Queues with their lines and their callers: opened, called and closed.
+//! Queues with their lines and a caller: opened and closed.
 ghost use Rattle.std.specs.Prelude.{◌≡◌, [], ◌∷◌, ◌++◌, length, IfOk};
 ghost use Rattle.stream_model.specs.Bounds.{AreLimits};
 ghost use Rattle.turnstile.specs.Calls.{IsOf};
@@ -11,7 +11,7 @@ use shared_partition::{Counting, SharedPartition};
 use silo_loops::{Doorbell, Line};
 use std::alloc::{AllocError, Global};
 use std::process::Abort;
-use std::sync::{Arc, Wait};
+use std::sync::Arc;
 use stream_model::{Limits, Op, Reply};
 use turnstile::{Closed, PassOf, PlainHistory, StoredHistory, Turnstile};
 
@@ -21,13 +21,20 @@ pub type Calls = PlainHistory<Op, Reply>;
 /// A line at a queue.
 pub type QueueLine<H> = Line<Counting, H>;
 
-/// A caller of one queue.
-pub type OneCaller<H> = QueueCaller<Counting, H>;
-
 /// A caller of all queues.
 pub type Producer<H> = Caller<Counting, H>;
 
 type Queue<H> = SharedPartition<Counting, H>;
+
+type OneCaller<H> = QueueCaller<Counting, H>;
+
+/// Some queues, each with a line, their doorbell, and a caller of all of them.
+#[derive(Drop)]
+pub struct Queues<H: StoredHistory<Op, Reply>> {
+    pub doorbell: Arc<Doorbell, Global>,
+    pub lines: Vec<QueueLine<H>>,
+    pub caller: Producer<H>,
+}
 
 // A turnstile over an empty partition whose cache has one block, and its first pass. The history has so many entries
 // at most.
@@ -46,8 +53,8 @@ fn open_queue<H: StoredHistory<Op, Reply>>(
     Ok((turnstile, pass))
 }
 
-/// A line at a queue of its own.
-pub fn line<H: StoredHistory<Op, Reply>>(
+// A line at a queue of its own.
+fn line<H: StoredHistory<Op, Reply>>(
     alloc: Global,
     queue: usize,
     limits: Limits,
@@ -67,8 +74,8 @@ fn beside<H: StoredHistory<Op, Reply>>(line: &mut QueueLine<H>) -> Result<OneCal
     Ok(QueueCaller::new(turnstile, pass))
 }
 
-/// Lines of so many empty queues, and callers of them.
-pub fn open_all<H: StoredHistory<Op, Reply>>(
+// Lines of so many empty queues, and callers of them.
+fn open_all<H: StoredHistory<Op, Reply>>(
     alloc: Global,
     count: usize,
     limits: Limits,
@@ -88,47 +95,46 @@ pub fn open_all<H: StoredHistory<Op, Reply>>(
     Ok((lines, callers))
 }
 
-// A caller of a queue that nobody else calls.
-fn only_caller<H: StoredHistory<Op, Reply>>(
+/// So many empty queues, whose histories have at most so many entries each.
+///
+/// # Errors
+/// The call failed to allocate.
+pub fn open<H: StoredHistory<Op, Reply>>(
     alloc: Global,
-    queue: usize,
+    count: usize,
+    limits: Limits,
     history: u64,
-) -> Result<OneCaller<H>, AllocError> {
-    let (turnstile, pass) = open_queue(alloc, queue, Limits::GREATEST, history)?;
-    Ok(QueueCaller::new(Arc::new(alloc, turnstile)?, pass))
-}
-
-/// A caller of two empty queues that nobody else calls, and its doorbell.
-pub fn open_two<H: StoredHistory<Op, Reply>>(
-    alloc: Global,
-    history: u64,
-) -> Result<(Arc<Doorbell, Global>, Producer<H>), AllocError>
-    ensures { IfOk result (λ r. length r.1 ≡ 2) }
+) -> Result<Queues<H>, AllocError>
+    requires { AreLimits limits }
+    ensures beside { IfOk result (λ opened. turnstiles opened.caller ≡ places opened.lines.items) }
+    ensures many { IfOk result (λ opened. length opened.lines.items ≡ count) }
 {
-    let mut queues = Vec::with_capacity(alloc, 2)?;
-    queues.push_reserved(only_caller(alloc, 0, history)?);
-    queues.push_reserved(only_caller(alloc, 1, history)?);
     let doorbell = Arc::new(alloc, Doorbell::new(0))?;
     let shared = Arc::try_clone(&doorbell)?;
-    Ok((doorbell, Caller::new(shared, queues)))
+    let (lines, callers) = open_all(alloc, count, limits, history)?;
+    Ok(Queues {
+        doorbell,
+        lines,
+        caller: Caller::new(shared, callers),
+    })
 }
 
-/// The reply to a call at a queue, which isn't refused.
-pub fn ask<H: StoredHistory<Op, Reply>, R: Wait + Abort>(
+/// Two empty queues, asked for once more where memory was refused.
+pub fn open_two<H: StoredHistory<Op, Reply>, R: Abort>(
     rt: &R,
     alloc: Global,
-    caller: &mut Producer<H>,
-    queue: usize,
-    op: Op,
-) -> Reply
-    ensures { turnstiles caller.new ≡ turnstiles caller.old }
+    history: u64,
+) -> Queues<H>
+    ensures { turnstiles result.caller ≡ places result.lines.items }
 {
-    assert!(rt; queue < caller.queues());
-    caller.call(rt, alloc, queue, op).expect(rt, "a reply")
+    match open(alloc, 2, Limits::GREATEST, history) {
+        Ok(queues) => queues,
+        Err(AllocError) => open(alloc, 2, Limits::GREATEST, history).expect(rt, "memory"),
+    }
 }
 
-// Puts a value behind the others. A want of memory is answered by asking again.
-fn push<T, R: Abort>(rt: &R, values: &mut Vec<T>, value: T)
+/// Puts a value behind the others. A want of memory is answered by asking again.
+pub fn push<T, R: Abort>(rt: &R, values: &mut Vec<T>, value: T)
     ensures { values.new.items ≡ values.old.items ++ value ∷ [] }
 {
     if values.reserve(1).is_err() {
@@ -146,20 +152,6 @@ pub fn alone<T, R: Abort>(rt: &R, alloc: Global, value: T) -> Vec<T>
     values
 }
 
-/// The history of a queue, all of whose passes are joined to this caller's.
-pub fn history_of<H: StoredHistory<Op, Reply>, R: Abort>(
-    rt: &R,
-    alloc: Global,
-    queue: OneCaller<H>,
-) -> H {
-    let (shared, pass) = queue.into_parts();
-    let turnstile = Arc::into_inner(shared).expect(rt, "nobody else has it");
-    let Closed::Traced(done) = turnstile.close(alone(rt, alloc, pass)) else {
-        panic!(rt; "no pass is missing");
-    };
-    done.history
-}
-
 // The history of a queue, all of whose passes are joined to these two.
 fn close_queue<H: StoredHistory<Op, Reply>, R: Abort>(
     rt: &R,
@@ -172,7 +164,12 @@ fn close_queue<H: StoredHistory<Op, Reply>, R: Abort>(
     let (shared, pass) = line.into_parts();
     let mut whole = QueueCaller::new(shared, pass);
     whole.join(caller);
-    history_of(rt, alloc, whole)
+    let (shared, pass) = whole.into_parts();
+    let turnstile = Arc::into_inner(shared).expect(rt, "nobody else has it");
+    let Closed::Traced(done) = turnstile.close(alone(rt, alloc, pass)) else {
+        panic!(rt; "no pass is missing");
+    };
+    done.history
 }
 
 /// The histories of all queues, to which all passes came back.
@@ -180,10 +177,11 @@ pub fn close_all<H: StoredHistory<Op, Reply>, R: Abort>(
     rt: &R,
     alloc: Global,
     mut lines: Vec<QueueLine<H>>,
-    mut callers: Vec<OneCaller<H>>,
+    caller: Producer<H>,
 ) -> Vec<H>
-    requires { turnstiles callers.items ≡ places lines.items }
+    requires { turnstiles caller ≡ places lines.items }
 {
+    let mut callers = caller.into_queues();
     let mut histories = Vec::new(alloc);
     while !lines.is_empty() {
         assert!(rt; !callers.is_empty());
@@ -192,4 +190,17 @@ pub fn close_all<H: StoredHistory<Op, Reply>, R: Abort>(
         push(rt, &mut histories, history);
     }
     histories
+}
+
+/// Whether so many calls were made at each queue.
+pub fn have_made<H: StoredHistory<Op, Reply>>(histories: &Vec<H>, calls: &[usize]) -> bool {
+    if histories.len() != calls.len() {
+        return false;
+    }
+    for (queue, history) in histories.iter().enumerate() {
+        if history.len() != calls[queue] {
+            return false;
+        }
+    }
+    true
 }

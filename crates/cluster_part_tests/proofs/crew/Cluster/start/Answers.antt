@@ -7,32 +7,32 @@ use Rattle.cluster_part_tests.proofs.crew.Cluster.start.Goals as goal
 pub invariant_of-self : goal.invariant_of-self
 invariant_of-self g c =
     let on = c.new.ensures.go_on in
-    (c.self.invariant.0 ∙ sym (goes-places c.self.inside.lines.items c.new.new.lines.items on), goes-some c.self.inside.lines.items c.new.new.lines.items on c.self.invariant.1)
+    (c.self.invariant.0 ∙ sym (goes-places c.self.inside.queues.lines.items c.new.new.lines.items on), goes-some c.self.inside.queues.lines.items c.new.new.lines.items on c.self.invariant.1)
 
 pub returns-in_err-loops-clause-same : goal.returns-in_err-loops-clause-same
 returns-in_err-loops-clause-same g c =
-    kept-turnstiles c.self.inside.lines.items c.new.new.lines.items c.self.inside.directory c.new.new.directory c.new.ensures.go_on c.new.ensures.directory.on ∙ c.self.view_is
+    kept-turnstiles c.self.inside.queues.lines.items c.new.new.lines.items c.self.inside.directory c.new.new.directory c.new.ensures.go_on c.new.ensures.directory.on ∙ c.self.view_is
 
 pub invariant_of-self-in-Ok : goal.invariant_of-self-in-Ok
 invariant_of-self-in-Ok g c =
     let on = c.new.ensures.go_on in
-    (c.self.invariant.0 ∙ sym (goes-places c.self.inside.lines.items c.new.new.lines.items on), goes-some c.self.inside.lines.items c.new.new.lines.items on c.self.invariant.1)
+    (c.self.invariant.0 ∙ sym (goes-places c.self.inside.queues.lines.items c.new.new.lines.items on), goes-some c.self.inside.queues.lines.items c.new.new.lines.items on c.self.invariant.1)
 
 pub returns-in-Ok-clause-same : goal.returns-in-Ok-clause-same
 returns-in-Ok-clause-same g c =
-    kept-turnstiles c.self.inside.lines.items c.new.new.lines.items c.self.inside.directory c.new.new.directory c.new.ensures.go_on c.new.ensures.directory.on ∙ c.self.view_is
+    kept-turnstiles c.self.inside.queues.lines.items c.new.new.lines.items c.self.inside.directory c.new.new.directory c.new.ensures.go_on c.new.ensures.directory.on ∙ c.self.view_is
 
 pub returns-in-Ok-clause-at : goal.returns-in-Ok-clause-at
 returns-in-Ok-clause-at g c =
     ap (λ (s : SiloView). turnstiles_of s) c.in-Ok.ensures ∙ turnstiles-silo c.new.new.lines.items c.new.new.directory c.in_ok-loops.loops c.in_ok-loops.ensures.at
-    ∙ kept-turnstiles c.self.inside.lines.items c.new.new.lines.items c.self.inside.directory c.new.new.directory c.new.ensures.go_on c.new.ensures.directory.on ∙ c.self.view_is
+    ∙ kept-turnstiles c.self.inside.queues.lines.items c.new.new.lines.items c.self.inside.directory c.new.new.directory c.new.ensures.go_on c.new.ensures.directory.on ∙ c.self.view_is
 
 pub invariant_of-self-in-Err : goal.invariant_of-self-in-Err
 invariant_of-self-in-Err g c =
-    let on = goes-trans c.self.inside.lines.items c.new.new.lines.items c.join_into.new.lines.items c.new.ensures.go_on c.join_into.ensures.go_on in
-    (c.self.invariant.0 ∙ sym (goes-places c.self.inside.lines.items c.join_into.new.lines.items on), goes-some c.self.inside.lines.items c.join_into.new.lines.items on c.self.invariant.1)
+    let on = goes-trans c.self.inside.queues.lines.items c.new.new.lines.items c.join_into.new.lines.items c.new.ensures.go_on c.join_into.ensures.go_on in
+    (c.self.invariant.0 ∙ sym (goes-places c.self.inside.queues.lines.items c.join_into.new.lines.items on), goes-some c.self.inside.queues.lines.items c.join_into.new.lines.items on c.self.invariant.1)
 
 pub returns-clause-same : goal.returns-clause-same
 returns-clause-same g c =
     kept-turnstiles c.new.new.lines.items c.join_into.new.lines.items c.new.new.directory c.join_into.new.directory c.join_into.ensures.go_on c.join_into.ensures.directory.on
-    ∙ kept-turnstiles c.self.inside.lines.items c.new.new.lines.items c.self.inside.directory c.new.new.directory c.new.ensures.go_on c.new.ensures.directory.on ∙ c.self.view_is
+    ∙ kept-turnstiles c.self.inside.queues.lines.items c.new.new.lines.items c.self.inside.directory c.new.new.directory c.new.ensures.go_on c.new.ensures.directory.on ∙ c.self.view_is
