@@ -8,9 +8,10 @@ mod ways;
 
 use crate::clusters::counting::{Calls, count};
 use crate::clusters::scripts::{STREAMS, script_of};
-use crate::clusters::ways::{agree, ending, run_on_silos, simulate};
+use crate::clusters::ways::{History, agree, ending, run_on_silos, simulate};
 use crate::setting::config_of;
 use anyhow::{Result, ensure};
+use cluster_scripts::Ran;
 use std::alloc::Global;
 use std::num::nearest_usize_to_f64;
 use std::rt::Clock;
@@ -131,23 +132,58 @@ fn go<R: Clock + Threads + Wait + Copy + Send + 'static>(
 ) -> Result<Measured>
     requires { IsConfig config.now }
 {
-    let start = Instant::now(rt)?;
-    let simulated = simulate(alloc, script, config)?;
-    let simulating = start.elapsed(rt)?.as_secs_f64();
-    let start = Instant::now(rt)?;
-    let ran = run_on_silos(rt, alloc, script, config)?;
-    let running = start.elapsed(rt)?.as_secs_f64();
-    let (report, histories) = ending(&ran)?;
+    let (simulating, simulated) = time_simulation(rt, alloc, config, script)?;
+    let (running, ran) = time_cluster(rt, alloc, config, script)?;
     // A line for the report, one for each subscription, and one for each event that it has handled.
     let lines = events.saturating_add(STREAMS).saturating_add(1);
-    ensure!(
-        agree(&simulated, report, lines),
-        "the cluster reports something else"
-    );
-    let calls = count(alloc, config.blocks, histories)?;
+    let calls = compare(alloc, config.blocks, &simulated, &ran, lines)?;
     Ok(Measured {
         simulating,
         running,
         calls,
     })
+}
+
+/// Simulates a script: the seconds of that, and its text.
+fn time_simulation<C: Clock>(
+    clock: &C,
+    alloc: Global,
+    config: &Config,
+    script: &[u8],
+) -> Result<(f64, Vec<u8>)>
+    requires { IsConfig config.now }
+{
+    let start = Instant::now(clock)?;
+    let simulated = simulate(alloc, script, config)?;
+    Ok((start.elapsed(clock)?.as_secs_f64(), simulated))
+}
+
+/// Runs a script on a cluster: the seconds of that, and its end.
+fn time_cluster<R: Clock + Threads + Wait + Copy + Send + 'static>(
+    rt: &R,
+    alloc: Global,
+    config: &Config,
+    script: &[u8],
+) -> Result<(f64, Ran<History>)>
+    requires { IsConfig config.now }
+{
+    let start = Instant::now(rt)?;
+    let ran = run_on_silos(rt, alloc, script, config)?;
+    Ok((start.elapsed(rt)?.as_secs_f64(), ran))
+}
+
+/// The calls of a cluster, which reports the same as a simulation, in so many lines.
+fn compare(
+    alloc: Global,
+    blocks: usize,
+    simulated: &[u8],
+    ran: &Ran<History>,
+    lines: usize,
+) -> Result<Calls> {
+    let (report, histories) = ending(ran)?;
+    ensure!(
+        agree(simulated, report, lines),
+        "the cluster reports something else"
+    );
+    count(alloc, blocks, histories)
 }

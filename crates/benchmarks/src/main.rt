@@ -1,9 +1,9 @@
 //! Measures the partition, the simulation of scripts, the tag scan, and what threads share: the calls of a shared
 //! partition, clusters beside the simulator, and how many events a cluster handles in a second.
 //!
-//! Without a word on the command line it only sees that the ways that it compares agree. With the word `time`
-//! it prints ratios, and for `throughput` seconds. The words `partition`, `scripts`, `tags`, `calls`, `clusters` and
-//! `throughput` choose what is measured; without them all is.
+//! Without a word on the command line it only sees that the ways that it compares agree, and that a partition is
+//! answered as it has to be. With the word `time` it prints ratios, and for `throughput` seconds. The words
+//! `partition`, `scripts`, `tags`, `calls`, `clusters` and `throughput` choose what is measured; without them all is.
 #![tactic(auto)]
 
 mod calls;
@@ -16,9 +16,7 @@ mod throughput;
 
 use anyhow::Result;
 use std::alloc::Global;
-use std::rt::Clock;
-use std::sync::Wait;
-use std::thread::Threads;
+use streams::Host;
 
 /// What is measured.
 #[derive(Clone, Copy)]
@@ -73,12 +71,8 @@ fn main(rt: HostRuntime) -> Result<()> {
     Ok(())
 }
 
-/// Sees that the ways that are compared agree.
-fn check<R: Print + Clock + Threads + Wait + Copy + Send + Sync + 'static>(
-    rt: &R,
-    alloc: Global,
-    subject: Subject,
-) -> Result<()> {
+/// Sees that all is answered as it has to be.
+fn check<R: Host>(rt: &R, alloc: Global, subject: Subject) -> Result<()> {
     match subject {
         Subject::Partition => partition::check(rt, alloc),
         Subject::Scripts => scripts::check(rt, alloc),
@@ -90,12 +84,7 @@ fn check<R: Print + Clock + Threads + Wait + Copy + Send + Sync + 'static>(
 }
 
 /// Prints ratios, or seconds.
-fn time<R: Print + Clock + Threads + Wait + Copy + Send + Sync + 'static>(
-    rt: &R,
-    alloc: Global,
-    subject: Subject,
-    words: &[String],
-) -> Result<()> {
+fn time<R: Host>(rt: &R, alloc: Global, subject: Subject, words: &[String]) -> Result<()> {
     match subject {
         Subject::Partition => partition::time(rt, alloc),
         Subject::Scripts => scripts::time(rt, alloc),

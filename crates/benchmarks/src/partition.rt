@@ -1,57 +1,76 @@
-//! Measures `step_core::Partition`, and beside it the plain program `partition_reference::Partition`: what an
-//! event or an operation costs, and how many times that of a smaller case and of the plain program.
+//! Measures `step_core::Partition`: what an event or an operation costs, and how many times that of a case of a tenth
+//! of the size.
 pub mod asking;
-pub mod calls;
-pub mod cases;
-pub mod draining;
-pub mod feeding;
-pub mod lagging;
-pub mod queues;
-pub mod timing;
+mod cases;
+mod feeding;
+mod lagging;
+mod running;
 
 use crate::partition::cases::{CASES, Case};
-use crate::partition::timing::{Row, compare, measure, see_difference};
-use anyhow::Result;
+use crate::partition::running::{agree, fastest, run};
+use anyhow::{Result, ensure};
 use std::alloc::Global;
 use std::rt::Clock;
 
 /// Prints what each case costs.
 pub fn time<R: Print + Clock>(rt: &R, alloc: Global) -> Result<()> {
     for case in &CASES {
-        let rows = measure(rt, alloc, *case)?;
-        print_rows(rt, alloc, *case, rows)?;
+        print_case(rt, alloc, case)?;
     }
     Ok(())
 }
 
-/// Sees that both partitions do the same, in the smallest of each case, and that a difference is told.
+/// Sees that each case is answered as it has to be, in its smallest size, and that a difference is told.
 pub fn check<R: Print + Clock>(rt: &R, alloc: Global) -> Result<()> {
     for case in &CASES {
-        compare(rt, alloc, *case)?;
+        let ran = run(rt, alloc, case.work, case.sizes[0])?;
+        ensure!(
+            agree(ran, case.sums[0]),
+            "an answer isn't what it has to be"
+        );
     }
     see_difference(rt, alloc)?;
-    println!(rt; "both partitions do the same")?;
+    println!(rt; "each case is answered as it has to be")?;
     Ok(())
 }
 
-/// A line for each size.
-fn print_rows(rt: &impl Print, alloc: Global, case: Case, rows: [Row; 4]) -> Result<()> {
-    let name = case.name();
-    for row in rows {
-        let (size, nanoseconds) = (row.size, row.cost * 1e9);
-        let smaller = times(alloc, row.smaller)?;
-        let plain = times(alloc, row.plain)?;
-        println!(rt;
-            "{name:<21}{size:>7}: {nanoseconds:>6.0} ns, {smaller:>5} times a tenth, {plain:>5} times the plain program"
-        )?;
+/// Sees that a difference is told: a case of another size isn't taken for the same.
+fn see_difference<C: Clock>(clock: &C, alloc: Global) -> Result<()> {
+    let case = &CASES[2];
+    let ran = run(clock, alloc, case.work, case.sizes[1])?;
+    ensure!(
+        !agree(ran, case.sums[0]),
+        "a larger case was taken for the same"
+    );
+    Ok(())
+}
+
+/// A line for each size of a case.
+fn print_case<R: Print + Clock>(rt: &R, alloc: Global, case: &Case) -> Result<()> {
+    let mut smaller = None;
+    for place in 0..4 {
+        let size = case.sizes[place];
+        let seconds = fastest(rt, alloc, case.work, size, case.sums[place])?;
+        print_cost(rt, case.name, size, seconds)?;
+        print_ratio(rt, seconds, smaller)?;
+        smaller = Some(seconds);
     }
     Ok(())
 }
 
-/// A ratio with two decimals, or a dash for one that wasn't measured.
-fn times(alloc: Global, ratio: Option<f64>) -> Result<String> {
-    Ok(match ratio {
-        Some(ratio) => format!(in alloc; "{ratio:.2}")?,
-        None => format!(in alloc; "-")?,
-    })
+/// What an event or an operation costs.
+fn print_cost(rt: &impl Print, name: &str, size: usize, seconds: f64) -> Result<()> {
+    let nanoseconds = seconds * 1e9;
+    print!(rt; "{name:<21}{size:>7}: {nanoseconds:>6.0} ns")?;
+    Ok(())
+}
+
+/// How many times the cost at a tenth of the size that is, where that was measured.
+fn print_ratio(rt: &impl Print, seconds: f64, smaller: Option<f64>) -> Result<()> {
+    if let Some(smaller) = smaller {
+        let ratio = seconds / smaller;
+        print!(rt; ", {ratio:>5.2} times a tenth")?;
+    }
+    println!(rt; "")?;
+    Ok(())
 }

@@ -1,29 +1,23 @@
-//! Measures how long a cluster takes from the first publish until each event is handled and its turn committed.
+//! Measures how long a service takes from the first publish until each event is handled and its turn committed.
 mod load;
 mod producing;
 mod tally;
 
 use crate::setting::config_of;
 use crate::throughput::load::{FEW, Load, load_of};
-use crate::throughput::producing::{publish_all, subscribe_all};
+use crate::throughput::producing::{publish_all, streams_of, subscribe_each};
 use crate::throughput::tally::{Tally, wait_until};
-use anyhow::{Result, bail, ensure};
+use anyhow::{Result, ensure};
 use std::alloc::Global;
-use std::rt::Clock;
-use std::sync::{Arc, Wait};
-use std::thread::Threads;
+use std::sync::Arc;
 use std::time::Instant;
-use streams::{Drained, Finished, UntracedCluster, drain};
+use streams::{Host, Service};
 
 /// How many blocks of 64 events the cache of a queue has: as many as it may.
 const BLOCKS: usize = 64;
 
 /// Prints how many events were handled, and in how many seconds.
-pub fn time<R: Print + Clock + Threads + Wait + Copy + Send + 'static>(
-    rt: &R,
-    alloc: Global,
-    words: &[String],
-) -> Result<()> {
+pub fn time<R: Host>(rt: &R, alloc: Global, words: &[String]) -> Result<()> {
     let load = load_of(words);
     let ran = go(rt, alloc, &load)?;
     ensure!(agree(&load, &ran), "not each event is handled once");
@@ -33,10 +27,7 @@ pub fn time<R: Print + Clock + Threads + Wait + Copy + Send + 'static>(
 }
 
 /// Sees that each event is handled once, and that a difference is told.
-pub fn check<R: Print + Clock + Threads + Wait + Copy + Send + 'static>(
-    rt: &R,
-    alloc: Global,
-) -> Result<()> {
+pub fn check<R: Host>(rt: &R, alloc: Global) -> Result<()> {
     let ran = go(rt, alloc, &FEW)?;
     ensure!(agree(&FEW, &ran), "not each event is handled once");
     let fewer = Ran {
@@ -71,32 +62,36 @@ fn agree(load: &Load, ran: &Ran) -> bool {
     ran.handled == load.events() as u64 && ran.lines == lines.saturating_add(1)
 }
 
-/// Starts a cluster, publishes all to it, and ends it when each event is handled.
-fn go<R: Clock + Threads + Wait + Copy + Send + 'static>(
-    rt: &R,
-    alloc: Global,
-    load: &Load,
-) -> Result<Ran> {
+/// Opens a service, publishes all to it, and closes it when each event is handled.
+fn go<R: Host>(rt: &R, alloc: Global, load: &Load) -> Result<Ran> {
     let config = config_of(load.silos, load.queues, BLOCKS);
     let tally = Arc::new(alloc, Tally::new())?;
-    let gate = Arc::try_clone(&tally)?;
-    let (cluster, mut caller) = UntracedCluster::new(rt, alloc, &config, gate)?;
-    let streams = subscribe_all(rt, alloc, &mut caller, load.consumers)?;
-    let payload = load.payload(alloc)?;
-    let start = Instant::now(rt)?;
-    publish_all(rt, alloc, &mut caller, &streams, payload, load.rounds)?;
-    wait_until(rt, &tally, load.events() as u64)?;
-    let drained = drain(rt, alloc, &mut caller, 100_000)?;
-    let seconds = start.elapsed(rt)?.as_secs_f64();
-    ensure!(drained == Drained::Quiet, "the queues don't get quiet");
-    let Finished::Report { text, .. } = cluster.finish(rt, alloc, vec![in alloc; caller]?)? else {
-        bail!("there is no report")
-    };
+    let mut service = Service::open(*rt, &config, Arc::try_clone(&tally)?)?;
+    let seconds = measure(rt, alloc, &mut service, &tally, load)?;
+    let closed = service.close()?;
     Ok(Ran {
         seconds,
         handled: tally.handled(),
-        lines: lines_of(&text),
+        lines: lines_of(&closed.report),
     })
+}
+
+/// The seconds from the first publish until all queues are quiet.
+fn measure<R: Host>(
+    rt: &R,
+    alloc: Global,
+    service: &mut Service<R, Tally>,
+    tally: &Tally,
+    load: &Load,
+) -> Result<f64> {
+    let streams = streams_of(alloc, load.consumers)?;
+    subscribe_each(service, &streams)?;
+    let batch = load.batch(alloc)?;
+    let start = Instant::now(rt)?;
+    publish_all(service, &streams, &batch, load.rounds)?;
+    wait_until(rt, tally, load.events() as u64)?;
+    service.settle()?;
+    Ok(start.elapsed(rt)?.as_secs_f64())
 }
 
 /// How many lines a text has.

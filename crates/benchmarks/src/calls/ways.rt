@@ -68,9 +68,7 @@ pub fn shared<H: StoredHistory<Op, Reply> + Send, R: Clock + Threads + Wait + Sy
     let mut first = Seat::<H>::open(alloc)?;
     let seats = first.split_off(alloc, threads)?;
     let each = calls.checked_div(threads).unwrap_or(0);
-    let start = Instant::now(rt)?;
-    let sum = ask_in_threads(rt, alloc, seats, asking, each)?;
-    let seconds = start.elapsed(rt)?.as_secs_f64();
+    let (seconds, sum) = ask_in_threads(rt, alloc, seats, asking, each)?;
     ensure!(
         first.count(rt, alloc) == calls as u64,
         "not each call is in the history"
@@ -82,21 +80,28 @@ pub fn shared<H: StoredHistory<Op, Reply> + Send, R: Clock + Threads + Wait + Sy
     })
 }
 
-/// Each pass makes so many calls, in a thread of its own.
-fn ask_in_threads<H: StoredHistory<Op, Reply> + Send, R: Threads + Wait + Sync>(
+/// Each pass makes so many calls, in a thread of its own: the seconds of all, and the sum of the numbers of the replies.
+fn ask_in_threads<H: StoredHistory<Op, Reply> + Send, R: Clock + Threads + Wait + Sync>(
     rt: &R,
     alloc: Global,
     seats: Vec<Seat<H>>,
     asking: &Asking,
     calls: usize,
-) -> Result<u64> {
+) -> Result<(f64, u64)> {
+    let start = Instant::now(rt)?;
     let sums = map_vec(
         rt,
         seats,
         &|seat: Seat<H>| { ask_all(rt, alloc, seat, asking, calls) },
     )?;
+    let seconds = start.elapsed(rt)?.as_secs_f64();
+    Ok((seconds, sum_of(&sums)?))
+}
+
+/// The sum of what all threads were told.
+fn sum_of(sums: &[Option<u64>]) -> Result<u64> {
     let mut all = 0u64;
-    for sum in &sums {
+    for sum in sums {
         let Some(sum) = sum else {
             bail!("a shared call isn't done");
         };

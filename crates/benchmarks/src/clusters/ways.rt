@@ -14,7 +14,7 @@ use streams::{
 };
 
 /// How the calls of a queue are stored.
-pub type Calls = AskedHistory<Op, Reply>;
+pub type History = AskedHistory<Op, Reply>;
 
 /// The text of a simulation, which ends with a report.
 #[inline(never)]
@@ -48,7 +48,7 @@ pub fn run_on_silos<R: Threads + Wait + Copy + Send + 'static>(
     alloc: Global,
     script: &[u8],
     config: &Config,
-) -> Result<Ran<Calls>>
+) -> Result<Ran<History>>
     requires { IsConfig config.now }
 {
     let mut source = Counted::new(script);
@@ -57,13 +57,13 @@ pub fn run_on_silos<R: Threads + Wait + Copy + Send + 'static>(
         bail!("a line is faulty");
     };
     let gate = Arc::new(alloc, Counting)?;
-    Ok(run::<Counting, Calls, ProofHistory<DirectoryOp, DirectoryReply>, R>(
+    Ok(run::<Counting, History, ProofHistory<DirectoryOp, DirectoryReply>, R>(
         rt, alloc, config, gate, lines,
     )?)
 }
 
 /// The report of a run, and the calls of each queue.
-pub fn ending(ran: &Ran<Calls>) -> Result<(&[u8], &[Calls])> {
+pub fn ending(ran: &Ran<History>) -> Result<(&[u8], &[History])> {
     ensure!(ran.printed.is_empty(), "a line was refused");
     match &ran.end {
         RunEnd::Report { text, traces } => Ok((text.as_slice(), traces.histories.as_slice())),

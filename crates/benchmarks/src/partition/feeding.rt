@@ -1,20 +1,21 @@
 //! What a partition is asked before it is measured: subscriptions and events.
-use crate::partition::calls::{Call, Told};
-use crate::partition::queues::Asked;
-use anyhow::{Result, bail, ensure};
+use crate::partition::asking::{publish, pull, subscribe};
+use crate::partition::cases::Before;
+use crate::partition::lagging::deliver;
+use anyhow::Result;
 use std::alloc::Global;
-use stream_ident::{GrainId, Payload, StreamId, Token};
+use step_core::Partition;
+use stream_ident::{GrainId, Name, Payload, StreamId};
 
 /// The payloads of a batch.
-pub const BATCH: usize = 4;
+const BATCH: usize = 4;
 
-/// A subscription with its grain, and the last event that it has handled.
+/// A subscription with its grain.
 #[derive(Clone, Copy)]
 pub struct Consumer {
     /// The number of the subscription.
     pub sub: u32,
     pub grain: GrainId,
-    pub last: Option<Token>,
     /// How many events it has handled.
     pub handled: usize,
 }
@@ -24,40 +25,38 @@ impl Consumer {
         Consumer {
             sub,
             grain,
-            last: None,
             handled: 0,
         }
     }
 }
 
-/// The stream with this number.
-pub fn stream(alloc: Global, number: usize) -> Result<StreamId> {
-    let key = format!(in alloc; "{number}")?;
-    Ok(StreamId::new(b"orders", key.as_bytes())?)
+/// Publishes the events that the subscriptions don't need, and pulls them.
+pub fn feed_early(partition: &mut Partition, alloc: Global, before: Before) -> Result<()> {
+    publish_all(partition, alloc, before.early, 1)?;
+    pull_all(partition, alloc, before.early)
 }
 
-/// The grain with this number.
-fn grain(alloc: Global, number: usize) -> Result<GrainId> {
-    let key = format!(in alloc; "{number}")?;
-    Ok(GrainId::new(b"packer", key.as_bytes())?)
-}
-
-/// A grain subscribes to a stream, from the next batch on. The result is the number of the subscription.
-pub fn subscribe<Q: Asked>(
-    queue: &mut Q,
+/// Publishes the events that come after the subscriptions, pulls some of them, and delivers one to each consumer where
+/// that is so.
+pub fn feed_late(
+    partition: &mut Partition,
     alloc: Global,
-    stream: StreamId,
-    grain: GrainId,
-) -> Result<u32> {
-    match queue.ask(alloc, Call::Subscribe(stream, grain))? {
-        Told::Subscribed(number) => Ok(number),
-        _ => bail!("a subscription was refused"),
+    before: Before,
+    consumers: &[Consumer],
+) -> Result<()> {
+    publish_all(partition, alloc, before.late, before.streams)?;
+    pull_all(partition, alloc, before.pulled)?;
+    if before.is_delivered {
+        for consumer in consumers {
+            deliver(partition, alloc, consumer.sub)?;
+        }
     }
+    Ok(())
 }
 
 /// So many grains subscribe, one after another, to so many streams in turn.
-pub fn subscribe_all<Q: Asked>(
-    queue: &mut Q,
+pub fn subscribe_all(
+    partition: &mut Partition,
     alloc: Global,
     count: usize,
     streams: usize,
@@ -68,47 +67,53 @@ pub fn subscribe_all<Q: Asked>(
             stream(alloc, number % streams.max(1))?,
             grain(alloc, number)?,
         );
-        let sub = subscribe(queue, alloc, stream, grain)?;
+        let sub = subscribe(partition, alloc, stream, grain)?;
         consumers.push(Consumer::new(sub, grain))?;
     }
     Ok(consumers)
 }
 
 /// Publishes so many events, in batches of four, to so many streams in turn.
-pub fn publish_all<Q: Asked>(
-    queue: &mut Q,
+fn publish_all(
+    partition: &mut Partition,
     alloc: Global,
     events: usize,
     streams: usize,
 ) -> Result<()> {
+    let payload = Payload::new(b"one box")?;
     for batch in 0..events / BATCH {
         let stream = stream(alloc, batch % streams.max(1))?;
-        publish(queue, alloc, stream)?;
+        publish(partition, alloc, stream, payload, BATCH)?;
     }
     Ok(())
 }
 
-/// Publishes a batch of four events.
-pub fn publish<Q: Asked>(queue: &mut Q, alloc: Global, stream: StreamId) -> Result<()> {
-    let payload = Payload::new(b"one box")?;
-    let told = queue.ask(alloc, Call::Publish(stream, payload, BATCH))?;
-    ensure!(matches!(told, Told::Published), "a batch was refused");
-    Ok(())
-}
-
-/// The agent pulls at most so many events, and the result says whether it got any.
-pub fn pull<Q: Asked>(queue: &mut Q, alloc: Global, max: u32) -> Result<bool> {
-    match queue.ask(alloc, Call::Pull(max))? {
-        Told::Pulled(_) => Ok(true),
-        Told::Dry => Ok(false),
-        _ => bail!("a pull was refused"),
-    }
-}
-
-/// The agent pulls so many events.
-pub fn pull_all<Q: Asked>(queue: &mut Q, alloc: Global, events: usize) -> Result<()> {
+/// The agent pulls so many events, four at a time.
+fn pull_all(partition: &mut Partition, alloc: Global, events: usize) -> Result<()> {
     for _ in 0..events / BATCH {
-        ensure!(pull(queue, alloc, BATCH as u32)?, "nothing was pulled");
+        pull(partition, alloc, BATCH as u32)?;
     }
     Ok(())
+}
+
+/// The stream with this number.
+fn stream(alloc: Global, number: usize) -> Result<StreamId> {
+    Ok(StreamId {
+        namespace: Name::new(b"orders")?,
+        key: key(alloc, number)?,
+    })
+}
+
+/// The grain with this number.
+fn grain(alloc: Global, number: usize) -> Result<GrainId> {
+    Ok(GrainId {
+        kind: Name::new(b"packer")?,
+        key: key(alloc, number)?,
+    })
+}
+
+/// The key with this number. Each has five digits, so that their order is that of the numbers.
+fn key(alloc: Global, number: usize) -> Result<Name> {
+    let digits = number.saturating_add(10_000);
+    Ok(Name::new(format!(in alloc; "{digits}")?.as_bytes())?)
 }

@@ -1,9 +1,7 @@
 //! A script, and what it comes to: simulated, as operations alone, and as text alone.
 ghost use Rattle.stream_script.specs.Simulation.{IsSimConfig};
 
-use crate::partition::calls::Call;
-use crate::partition::feeding::subscribe;
-use crate::partition::queues::Asked;
+use crate::partition::asking::{publish, subscribe};
 use anyhow::Result;
 use std::alloc::{AllocError, Global};
 use step_core::{Limits, Partition};
@@ -94,9 +92,9 @@ fn feed(alloc: Global, partition: &mut Partition, batches: usize) -> Result<()> 
         let grain = GrainId::new(b"g", format!(in alloc; "{key}")?.as_bytes())?;
         subscribe(partition, alloc, stream, grain)?;
     }
-    let publish = Call::Publish(stream, Payload::new(b"e")?, 1);
+    let payload = Payload::new(b"e")?;
     for _ in 0..batches {
-        partition.ask(alloc, publish)?;
+        publish(partition, alloc, stream, payload, 1)?;
     }
     Ok(())
 }

@@ -27,11 +27,11 @@ impl Tags {
 fn tags_of(alloc: Global, size: usize) -> Result<Vec<u8>, AllocError> {
     let mut tags = Vec::new(alloc);
     let mut state = 1u32;
-    for place in 0..size {
+    for _ in 1..size {
         state = state.wrapping_mul(1664525).wrapping_add(1013904223);
-        let tag = (state >> 24) as u8 % 3;
-        tags.push(if place == size - 1 { SOUGHT } else { tag })?;
+        tags.push((state >> 24) as u8 % 3)?;
     }
+    tags.push(SOUGHT)?;
     Ok(tags)
 }
 

@@ -5,7 +5,7 @@ use stream_ident::parse_number;
 use streams::Payload;
 
 /// How many events a batch has: as many as it may.
-pub const BATCH: usize = 64;
+const BATCH: usize = 64;
 
 /// What is published, and to how many consumers, on how many silos and queues.
 #[derive(Clone, Copy)]
@@ -61,9 +61,9 @@ impl Load {
             .saturating_mul(BATCH)
     }
 
-    /// What each event carries.
-    pub fn payload(&self, alloc: Global) -> Result<Payload> {
+    /// A batch.
+    pub fn batch(&self, alloc: Global) -> Result<Vec<Payload>> {
         let bytes = vec![in alloc; b'e'; self.bytes]?;
-        Ok(Payload::new(&bytes)?)
+        Ok(vec![in alloc; Payload::new(&bytes)?; BATCH]?)
     }
 }

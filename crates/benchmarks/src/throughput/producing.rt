@@ -1,101 +1,49 @@
 //! The one producer.
-ghost use Rattle.std.specs.Prelude.{◌≡◌};
-ghost use Rattle.cluster_callers.specs.Calls.{turnstiles};
-
-use crate::throughput::load::BATCH;
-use anyhow::{Result, ensure};
+use anyhow::Result;
 use std::alloc::Global;
-use std::sync::Wait;
-use streams::{
-    Batch, Caller, Gate, GrainId, Op, Payload, Reply, Start, StoredHistory, StreamId, queue,
-};
+use streams::{Gate, GrainId, Host, Payload, Service, Start, StreamId};
 
-/// So many streams, to each of which a grain of its own subscribes.
-pub fn subscribe_all<G: Gate, H: StoredHistory<Op, Reply>, R: Wait>(
-    rt: &R,
-    alloc: Global,
-    caller: &mut Caller<G, H>,
-    count: usize,
-) -> Result<Vec<StreamId>>
-    ensures { turnstiles caller.new ≡ turnstiles caller.old }
-{
-    let mut streams = Vec::new(alloc);
+/// So many streams.
+pub fn streams_of(alloc: Global, count: usize) -> Result<Vec<StreamId>> {
+    let mut streams = Vec::with_capacity(alloc, count)?;
     for number in 0..count {
-        let key = format!(in alloc; "{number}")?;
-        let stream = StreamId::new(b"load", key.as_bytes())?;
-        let grain = GrainId::new(b"load", key.as_bytes())?;
-        let start = Start::Latest;
-        let subscribe = Op::Subscribe {
-            stream,
-            grain,
-            start,
-        };
-        ask(rt, alloc, caller, &stream, subscribe)?;
-        streams.push(stream)?;
+        streams.push(stream(alloc, number)?)?;
     }
     Ok(streams)
 }
 
-/// Publishes so many batches to each stream, to one stream after another.
-pub fn publish_all<G: Gate, H: StoredHistory<Op, Reply>, R: Wait>(
-    rt: &R,
-    alloc: Global,
-    caller: &mut Caller<G, H>,
-    streams: &[StreamId],
-    payload: Payload,
-    rounds: usize,
-) -> Result<()>
-    ensures { turnstiles caller.new ≡ turnstiles caller.old }
-{
-    for _ in 0..rounds {
-        publish_round(rt, alloc, caller, streams, payload)?;
-    }
-    Ok(())
+/// The stream with this number.
+fn stream(alloc: Global, number: usize) -> Result<StreamId> {
+    let key = format!(in alloc; "{number}")?;
+    Ok(StreamId::new(b"load", key.as_bytes())?)
 }
 
-/// Publishes a batch to each stream.
-fn publish_round<G: Gate, H: StoredHistory<Op, Reply>, R: Wait>(
-    rt: &R,
-    alloc: Global,
-    caller: &mut Caller<G, H>,
+/// A grain of its own subscribes to each stream.
+pub fn subscribe_each<R: Host, G: Gate + 'static>(
+    service: &mut Service<R, G>,
     streams: &[StreamId],
-    payload: Payload,
-) -> Result<()>
-    ensures { turnstiles caller.new ≡ turnstiles caller.old }
-{
+) -> Result<()> {
     for stream in streams {
-        let payloads = Batch::of(vec![in alloc; payload; BATCH]?);
-        let publish = Op::Publish {
-            stream: *stream,
-            payloads,
+        let grain = GrainId {
+            kind: stream.namespace,
+            key: stream.key,
         };
-        ask(rt, alloc, caller, stream, publish)?;
+        service.subscribe(*stream, grain, Start::Latest)?;
     }
     Ok(())
 }
 
-/// Asks for an operation at the queue of a stream, where it is to be done.
-fn ask<G: Gate, H: StoredHistory<Op, Reply>, R: Wait>(
-    rt: &R,
-    alloc: Global,
-    caller: &mut Caller<G, H>,
-    stream: &StreamId,
-    op: Op,
-) -> Result<()>
-    ensures { turnstiles caller.new ≡ turnstiles caller.old }
-{
-    let queues = caller.queues();
-    ensure!(queues > 0, "there is no queue");
-    let queue = queue(stream, queues);
-    let answer = caller.call(rt, alloc, queue, op);
-    ensure!(is_done(answer.as_ref().ok()), "a call is refused");
+/// Publishes so many times a batch to each stream, to one stream after another.
+pub fn publish_all<R: Host, G: Gate + 'static>(
+    service: &mut Service<R, G>,
+    streams: &[StreamId],
+    batch: &[Payload],
+    rounds: usize,
+) -> Result<()> {
+    for _ in 0..rounds {
+        for stream in streams {
+            service.publish(*stream, batch)?;
+        }
+    }
     Ok(())
-}
-
-/// Whether what was asked for is done.
-fn is_done(reply: Option<&Reply>) -> bool {
-    matches!(
-        reply,
-        Some(Reply::Published { .. } | Reply::Subscribed { .. })
-    )
 }
