@@ -1,4 +1,4 @@
-//! Gates that wait for something that can happen only beside them.
+//! A gate that waits for something that can happen only beside it.
 use crossbeam_utils::Backoff;
 use shared_partition::Gate;
 use std::sync::atomic::{AtomicBool, Ordering};
@@ -19,35 +19,67 @@ fn wait_for(flag: &AtomicBool) -> bool {
     false
 }
 
-/// A gate whose first event is handled only after another event was handled and committed.
+/// A gate in which the next event, or the next call of the first queue, waits until something else was done: another
+/// event was handled and committed, or a call of another queue was answered.
 #[derive(Drop)]
-pub struct Crossing {
+pub struct Meeting {
+    event_waits: AtomicBool,
+    call_waits: AtomicBool,
     came: AtomicBool,
     done: AtomicBool,
     saw: AtomicBool,
 }
 
-impl Crossing {
-    pub fn new() -> Crossing {
-        Crossing {
+impl Meeting {
+    /// One in which the first event waits, or nothing does yet.
+    pub fn new(event_waits: bool) -> Meeting {
+        Meeting {
+            event_waits: AtomicBool::new(event_waits),
+            call_waits: AtomicBool::new(false),
             came: AtomicBool::new(false),
             done: AtomicBool::new(false),
             saw: AtomicBool::new(false),
         }
     }
 
-    /// Whether the first event has seen the other one committed.
+    /// The next call of the first queue is to wait.
+    pub fn wait(&self) {
+        self.call_waits.store(true, Ordering::SeqCst);
+    }
+
+    /// Waits until somebody waits, and tells whether one does.
+    pub fn comes(&self) -> bool {
+        wait_for(&self.came)
+    }
+
+    /// The call of another queue was answered.
+    pub fn answered(&self) {
+        self.done.store(true, Ordering::SeqCst);
+    }
+
+    /// Whether the one that waited has seen that the other was done.
     pub fn saw(&self) -> bool {
         self.saw.load(Ordering::SeqCst)
     }
+
+    fn meet(&self) {
+        self.came.store(true, Ordering::SeqCst);
+        if wait_for(&self.done) {
+            self.saw.store(true, Ordering::SeqCst);
+        }
+    }
 }
 
-impl Gate for Crossing {
-    fn inside(&self, _queue: usize) {}
+impl Gate for Meeting {
+    fn inside(&self, queue: usize) {
+        if queue == 0 && self.call_waits.swap(false, Ordering::SeqCst) {
+            self.meet();
+        }
+    }
 
     fn handle(&self, _grain: &GrainId, _sub: &SubName, _event: &Event, note: u64) -> u64 {
-        if !self.came.swap(true, Ordering::SeqCst) && wait_for(&self.done) {
-            self.saw.store(true, Ordering::SeqCst);
+        if self.event_waits.swap(false, Ordering::SeqCst) {
+            self.meet();
         }
         note.saturating_add(1)
     }
@@ -55,62 +87,4 @@ impl Gate for Crossing {
     fn done(&self, _grain: &GrainId, _sub: &SubName, _token: Token) {
         self.done.store(true, Ordering::SeqCst);
     }
-}
-
-/// A gate in which a call of the first queue waits until a call of another queue was answered: the first one after
-/// the gate was told to wait.
-#[derive(Drop)]
-pub struct Elsewhere {
-    waits: AtomicBool,
-    came: AtomicBool,
-    answered: AtomicBool,
-    saw: AtomicBool,
-}
-
-impl Elsewhere {
-    pub fn new() -> Elsewhere {
-        Elsewhere {
-            waits: AtomicBool::new(false),
-            came: AtomicBool::new(false),
-            answered: AtomicBool::new(false),
-            saw: AtomicBool::new(false),
-        }
-    }
-
-    /// The next call of the first queue is to wait.
-    pub fn wait(&self) {
-        self.waits.store(true, Ordering::SeqCst);
-    }
-
-    /// Waits until a call of the first queue waits, and tells whether one does.
-    pub fn comes(&self) -> bool {
-        wait_for(&self.came)
-    }
-
-    /// The call of the other queue was answered.
-    pub fn answered(&self) {
-        self.answered.store(true, Ordering::SeqCst);
-    }
-
-    /// Whether the call of the first queue has seen that.
-    pub fn saw(&self) -> bool {
-        self.saw.load(Ordering::SeqCst)
-    }
-}
-
-impl Gate for Elsewhere {
-    fn inside(&self, queue: usize) {
-        if queue == 0 && self.waits.swap(false, Ordering::SeqCst) {
-            self.came.store(true, Ordering::SeqCst);
-            if wait_for(&self.answered) {
-                self.saw.store(true, Ordering::SeqCst);
-            }
-        }
-    }
-
-    fn handle(&self, _grain: &GrainId, _sub: &SubName, _event: &Event, note: u64) -> u64 {
-        note.saturating_add(1)
-    }
-
-    fn done(&self, _grain: &GrainId, _sub: &SubName, _token: Token) {}
 }

@@ -2,7 +2,9 @@
 #![tactic(auto)]
 
 #[cfg(test)]
-mod ends;
+mod asking;
+#[cfg(test)]
+mod cases;
 #[cfg(test)]
 mod gates;
 #[cfg(test)]
@@ -25,8 +27,6 @@ mod refusals;
 mod running;
 #[cfg(test)]
 mod scarce;
-#[cfg(test)]
-mod silos;
 #[cfg(test)]
 mod stops;
 #[cfg(test)]

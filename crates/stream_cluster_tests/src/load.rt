@@ -1,7 +1,7 @@
 ghost use Rattle.std.specs.Prelude.{◌≡◌};
 
-use crate::producer::Publisher;
-use crate::running::{Ended, Running, is_reported, start};
+use crate::producer::Producer;
+use crate::running::{Ended, Running, Size, is_reported, start};
 use crate::told::{Told, report_of, subscribe_all};
 use activation_directory::{DirectoryOp, DirectoryReply};
 use shared_partition::Counting;
@@ -13,7 +13,7 @@ use std::thread;
 use std::thread::{Promise, PromisedHandle, Threads};
 use step_core::{Op, Reply};
 use stream_cluster::{SiloDown, SiloUp};
-use turnstile::ProofHistory;
+use turnstile::{ProofHistory, StoredHistory};
 
 /// How many clusters each test runs, one after another. A test has a minute, on a machine that has other work too.
 const CLUSTERS: usize = 10;
@@ -32,35 +32,41 @@ const ROOM: usize = 4 * ROUNDS * EVENTS;
 
 const QUEUES: usize = 64;
 
-const SILOS: u8 = 16;
+static SIZE: Size = Size {
+    queues: QUEUES,
+    silos: 16,
+    history: 1_000_000_000,
+    room: ROOM,
+};
 
-type Silos = Running<Counting, ProofHistory<Op, Reply>, ProofHistory<DirectoryOp, DirectoryReply>>;
+type Calls = ProofHistory<Op, Reply>;
+
+type Publisher = Producer<Counting, Calls>;
+
+type Silos<H, D> = Running<Counting, H, D>;
 
 // A silo goes or comes. The one that stays is another one in each round.
-fn change_silo<R: Threads + Wait + Abort + Copy + Send + 'static>(
-    rt: &R,
-    alloc: Global,
-    running: &mut Silos,
-    round: usize,
-    change: usize,
-)
+fn change_silo<
+    H: StoredHistory<Op, Reply> + Send + 'static,
+    D: StoredHistory<DirectoryOp, DirectoryReply> + Send + 'static,
+    R: Threads + Wait + Abort + Copy + Send + 'static,
+>(rt: &R, alloc: Global, running: &mut Silos<H, D>, round: usize, change: usize)
     ensures { running.new ≡ running.old }
 {
     let silo = (round.wrapping_add(1).wrapping_add(change % 15) % 16) as u8;
     if change < 15 {
-        assert!(rt; running.down(rt, alloc, silo) == Ok(SiloDown::Down));
+        assert!(rt; matches!(running.down(rt, alloc, silo), Ok(SiloDown::Down)));
     } else {
-        assert!(rt; running.up(rt, alloc, silo) == Ok(SiloUp::Up));
+        assert!(rt; matches!(running.up(rt, alloc, silo), Ok(SiloUp::Up)));
     }
 }
 
 // All silos but one go, and come again.
-fn go_and_come<R: Threads + Wait + Abort + Copy + Send + 'static>(
-    rt: &R,
-    alloc: Global,
-    running: &mut Silos,
-    round: usize,
-)
+fn go_and_come<
+    H: StoredHistory<Op, Reply> + Send + 'static,
+    D: StoredHistory<DirectoryOp, DirectoryReply> + Send + 'static,
+    R: Threads + Wait + Abort + Copy + Send + 'static,
+>(rt: &R, alloc: Global, running: &mut Silos<H, D>, round: usize)
     ensures { running.new ≡ running.old }
 {
     for change in 0..CHANGES {
@@ -69,13 +75,11 @@ fn go_and_come<R: Threads + Wait + Abort + Copy + Send + 'static>(
 }
 
 // The silos go and come in each round. The rounds are numbered from this number on.
-fn change_silos<R: Threads + Wait + Abort + Copy + Send + 'static>(
-    rt: &R,
-    alloc: Global,
-    rounds: &Barrier,
-    running: &mut Silos,
-    from: usize,
-)
+fn change_silos<
+    H: StoredHistory<Op, Reply> + Send + 'static,
+    D: StoredHistory<DirectoryOp, DirectoryReply> + Send + 'static,
+    R: Threads + Wait + Abort + Copy + Send + 'static,
+>(rt: &R, alloc: Global, rounds: &Barrier, running: &mut Silos<H, D>, from: usize)
     ensures { running.new ≡ running.old }
 {
     for round in 0..ROUNDS {
@@ -85,10 +89,10 @@ fn change_silos<R: Threads + Wait + Abort + Copy + Send + 'static>(
 }
 
 // Publishes the events of one round, by a producer with a number.
-fn publish_round<R: Wait + Abort>(
+fn publish_round<H: StoredHistory<Op, Reply>, R: Wait + Abort>(
     rt: &R,
     alloc: Global,
-    producer: &mut Publisher,
+    producer: &mut Producer<Counting, H>,
     number: usize,
     round: usize,
 )
@@ -105,13 +109,13 @@ fn publish_round<R: Wait + Abort>(
 }
 
 // Publishes in each round, beside the silos that change.
-fn publish<R: Wait + Abort>(
+fn publish<H: StoredHistory<Op, Reply>, R: Wait + Abort>(
     rt: &R,
     alloc: Global,
     rounds: &Barrier,
-    producer: Publisher,
+    producer: Producer<Counting, H>,
     number: usize,
-) -> Publisher
+) -> Producer<Counting, H>
     ensures { result ≡ producer }
 {
     let mut producer = producer;
@@ -168,10 +172,13 @@ fn spawn_beside<R: Threads + Wait + Abort + Copy + Send + 'static>(
 }
 
 // The silos change beside four producers in threads. Two come back, which have taken in the others.
-fn publish_beside<R: Threads + Wait + Abort + Copy + Send + 'static>(
+fn publish_beside<
+    D: StoredHistory<DirectoryOp, DirectoryReply> + Send + 'static,
+    R: Threads + Wait + Abort + Copy + Send + 'static,
+>(
     rt: &R,
     alloc: Global,
-    running: &mut Silos,
+    running: &mut Silos<Calls, D>,
     producer: Publisher,
     from: usize,
 ) -> (Publisher, Publisher)
@@ -194,37 +201,59 @@ fn publish_beside<R: Threads + Wait + Abort + Copy + Send + 'static>(
     (first, second)
 }
 
+// A cluster, at each queue of which two grains subscribe.
+fn opened<
+    H: StoredHistory<Op, Reply> + Send + 'static,
+    D: StoredHistory<DirectoryOp, DirectoryReply> + Send + 'static,
+    R: Threads + Wait + Abort + Copy + Send + 'static,
+>(rt: &R, alloc: Global, gate: Arc<Counting, Global>) -> (Silos<H, D>, Producer<Counting, H>)
+    ensures { result.1 ≡ result.0 }
+{
+    let started = start::<Counting, H, D, R>(rt, alloc, &SIZE, gate);
+    let (running, mut producer) = started.expect(rt, "memory");
+    assert!(rt; !subscribe_all(rt, alloc, &mut producer, QUEUES));
+    (running, producer)
+}
+
 // All events that were told of are reported of each subscription, in their order.
-fn check<R: Abort>(
+fn is_whole<H, R: Abort>(rt: &R, alloc: Global, ended: &Ended<H>, told: &[Told]) -> bool {
+    assert!(rt; told.len() == ROOM);
+    let wanted = report_of(alloc, told, QUEUES).expect(rt, "memory");
+    is_reported(ended, wanted.expect(rt, "numbers").as_bytes())
+}
+
+// Ends a cluster with two producers, once all is handled.
+fn close<
+    H: StoredHistory<Op, Reply>,
+    D: StoredHistory<DirectoryOp, DirectoryReply>,
+    R: Threads + Wait + Abort,
+>(
     rt: &R,
     alloc: Global,
-    ended: &Ended<ProofHistory<Op, Reply>>,
-    one: Vec<Told>,
-    other: Vec<Told>,
-) {
-    let mut told = one;
-    let mut other = other;
-    told.append(&mut other).expect(rt, "memory");
-    assert!(rt; told.len() == ROOM);
-    let wanted = report_of(alloc, &told, QUEUES).expect(rt, "memory");
-    assert!(rt; is_reported(ended, wanted.expect(rt, "numbers").as_bytes()));
+    running: Silos<H, D>,
+    first: Producer<Counting, H>,
+    second: Producer<Counting, H>,
+)
+    requires first { first ≡ running }
+    requires second { second ≡ running }
+{
+    let mut first = first;
+    assert!(rt; first.is_quiet(rt, alloc));
+    let (ended, told) = running.finish_both(rt, alloc, first, second);
+    assert!(rt; is_whole(rt, alloc, &ended, &told));
 }
 
 // One cluster, from its start to its report.
-fn run<R: Threads + Wait + Abort + Copy + Send + 'static>(
-    rt: &R,
-    alloc: Global,
-    gate: Arc<Counting, Global>,
-    from: usize,
-) {
-    let started = start(rt, alloc, QUEUES, SILOS, 1_000_000_000, ROOM, gate);
-    let (mut running, mut producer) = started.expect(rt, "memory");
-    assert!(rt; !subscribe_all(rt, alloc, &mut producer, QUEUES));
-    let (mut first, second) = publish_beside(rt, alloc, &mut running, producer, from);
-    assert!(rt; first.is_quiet(rt, alloc));
-    let (ended, one, other) = running.finish_both(rt, alloc, first, second);
-    check(rt, alloc, &ended, one, other);
+fn run<
+    D: StoredHistory<DirectoryOp, DirectoryReply> + Send + 'static,
+    R: Threads + Wait + Abort + Copy + Send + 'static,
+>(rt: &R, alloc: Global, gate: Arc<Counting, Global>, from: usize) {
+    let (mut running, producer) = opened::<Calls, D, R>(rt, alloc, gate);
+    let (first, second) = publish_beside(rt, alloc, &mut running, producer, from);
+    close(rt, alloc, running, first, second);
 }
+
+type Places = ProofHistory<DirectoryOp, DirectoryReply>;
 
 // Sixteen silos go and come under four producers in threads, in one cluster after another. Nothing that the producers
 // were told was published is lost, and nothing is left of a cluster.
@@ -232,7 +261,7 @@ fn run_each<R: Threads + Wait + Abort + Copy + Send + 'static>(rt: &R, alloc: Gl
     let gate = Arc::new(alloc, Counting).expect(rt, "memory");
     for _ in 0..CLUSTERS {
         let shared = Arc::try_clone(&gate).expect(rt, "it is shared a few times");
-        run(rt, alloc, shared, from);
+        run::<Places, R>(rt, alloc, shared, from);
         assert!(rt; Arc::strong_count(&gate) == 1);
     }
 }

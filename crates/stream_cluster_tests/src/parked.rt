@@ -3,8 +3,10 @@ ghost use Rattle.std.specs.Prelude.{◌≡◌};
 ghost use Rattle.silo_crew.specs.Silos.{IsSameSilo};
 ghost use Rattle.stream_cluster_tests.specs.Parked.{IsLeft};
 
-use crate::producer::Calls;
-use crate::running::{Asked, Ended};
+use crate::asking::{Ask, ask_at};
+use crate::producer::fills;
+use crate::running::Ended;
+use activation_directory::{DirectoryOp, DirectoryReply};
 use cluster_callers::Caller;
 use shared_partition::Counting;
 use silo_crew::SiloLoops;
@@ -16,8 +18,9 @@ use std::sync::{Arc, Wait};
 use std::thread::Threads;
 use step_core::{Limits, Op, Reply};
 use stream_cluster::{Cluster, Config, Retired, SiloDown, SiloUp};
+use turnstile::StoredHistory;
 
-type Loops = SiloLoops<Counting, Calls, Asked>;
+type Loops<H, D> = SiloLoops<Counting, H, D>;
 
 /// How many queues a cluster has.
 pub const QUEUES: usize = 3;
@@ -50,13 +53,14 @@ pub enum Astray {
 /// A parked cluster, its caller, and the loops of its silos that weren't given back.
 ///
 /// A contract sees of how many silos it has the loops.
-pub struct Parked {
-    cluster: Cluster<Counting, Calls, Asked>,
-    caller: Caller<Counting, Calls>,
-    crew: Vec<Loops>,
+pub struct Parked<H: StoredHistory<Op, Reply>, D: StoredHistory<DirectoryOp, DirectoryReply>> {
+    cluster: Cluster<Counting, H, D>,
+    caller: Caller<Counting, H>,
+    crew: Vec<Loops<H, D>>,
 }
 
-impl Drop for Parked {
+impl<H: StoredHistory<Op, Reply> + Drop, D: StoredHistory<DirectoryOp, DirectoryReply> + Drop> Drop
+    for Parked<H, D> {
     fn drop(self) {
         let Self {
             cluster: _,
@@ -66,7 +70,8 @@ impl Drop for Parked {
     }
 }
 
-impl Model for Parked {
+impl<H: StoredHistory<Op, Reply>, D: StoredHistory<DirectoryOp, DirectoryReply>> Model
+    for Parked<H, D> {
     ghost use Rattle.std.specs.Prelude.{ℕ, length};
     ghost use Rattle.stream_cluster_tests.specs.Parked.{IsWhole};
 
@@ -78,7 +83,12 @@ impl Model for Parked {
 }
 
 // One step of a loop.
-fn step<R: Wait>(rt: &R, alloc: Global, loops: &mut Loops, which: Loop) -> Advance
+fn step<H: StoredHistory<Op, Reply>, D: StoredHistory<DirectoryOp, DirectoryReply>, R: Wait>(
+    rt: &R,
+    alloc: Global,
+    loops: &mut Loops<H, D>,
+    which: Loop,
+) -> Advance
     ensures { IsSameSilo loops.old loops.new }
 {
     match which {
@@ -88,12 +98,23 @@ fn step<R: Wait>(rt: &R, alloc: Global, loops: &mut Loops, which: Loop) -> Advan
     }
 }
 
+// The loops that are kept, where they are.
+fn go_astray<H: StoredHistory<Op, Reply>, D: StoredHistory<DirectoryOp, DirectoryReply>>(
+    loops: Loops<H, D>,
+    astray: Astray,
+) -> Option<Loops<H, D>> {
+    match astray {
+        Astray::Kept => Some(loops),
+        Astray::Dropped => None,
+    }
+}
+
 // What a retire answered. Loops that were handed out again come to their place.
-fn sort_out<R: Abort>(
+fn sort_out<H: StoredHistory<Op, Reply>, D: StoredHistory<DirectoryOp, DirectoryReply>, R: Abort>(
     rt: &R,
-    crew: &mut Vec<Loops>,
+    crew: &mut Vec<Loops<H, D>>,
     at: usize,
-    answer: Result<Retired<Counting, Calls, Asked>, AllocError>,
+    answer: Result<Retired<Counting, H, D>, AllocError>,
 ) -> Went
     ensures { IsLeft answer at crew.old.items crew.new.items }
 {
@@ -113,14 +134,14 @@ fn sort_out<R: Abort>(
     }
 }
 
-impl Parked {
+impl<H: StoredHistory<Op, Reply>, D: StoredHistory<DirectoryOp, DirectoryReply>> Parked<H, D> {
     /// A parked cluster of so many silos, whose histories have at most so many calls each.
     pub fn new<R: Wait + Abort>(
         rt: &R,
         alloc: Global,
         silos: u8,
         history: u64,
-    ) -> Result<Parked, AllocError> {
+    ) -> Result<Parked<H, D>, AllocError> {
         assert!(rt; 1 <= silos && silos <= 16);
         assert!(rt; 1 <= history);
         let config = Config {
@@ -153,16 +174,26 @@ impl Parked {
         self.caller.doorbell().now(rt)
     }
 
-    /// Does an operation of a producer. Where it is refused there is no reply.
-    pub fn try_ask<R: Wait + Abort>(
+    /// Whether a producer is answered, or is refused.
+    pub fn answers<R: Wait + Abort>(
         &mut self,
         rt: &R,
         alloc: Global,
         queue: usize,
-        op: Op,
-    ) -> Option<Reply> {
-        assert!(rt; queue < self.caller.queues());
-        self.caller.call(rt, alloc, queue, op).ok()
+        ask: &Ask,
+    ) -> bool {
+        ask_at(rt, alloc, &mut self.caller, queue, ask).is_ok()
+    }
+
+    /// Asks a queue so often whether it is quiet, and once more. Whether it is refused at some time.
+    pub fn fills<R: Wait + Abort>(
+        &mut self,
+        rt: &R,
+        alloc: Global,
+        queue: usize,
+        calls: u64,
+    ) -> bool {
+        fills(rt, alloc, &mut self.caller, queue, calls)
     }
 
     /// One step of a loop of the silo at this place.
@@ -190,17 +221,6 @@ impl Parked {
         )
     }
 
-    /// A silo is to come.
-    pub fn up<R: Threads + Wait + Abort + Copy + Send + 'static>(
-        &mut self,
-        rt: &R,
-        alloc: Global,
-        silo: u8,
-    ) -> Result<SiloUp, AllocError> {
-        assert!(rt; silo < 16);
-        self.cluster.silo_up(rt, alloc, silo)
-    }
-
     /// A silo is to go.
     pub fn down<R: Threads + Wait + Abort>(
         &mut self,
@@ -213,7 +233,7 @@ impl Parked {
     }
 
     /// Ends the cluster, to which all loops come back.
-    pub fn finish<R: Wait>(self, rt: &R, alloc: Global) -> Ended<Calls> {
+    pub fn finish<R: Wait>(self, rt: &R, alloc: Global) -> Ended<H> {
         let Parked {
             cluster,
             caller,
@@ -231,21 +251,32 @@ impl Parked {
         alloc: Global,
         at: usize,
         astray: Astray,
-    ) -> Ended<Calls> {
+    ) -> Ended<H> {
         let Parked {
             cluster,
             caller,
             mut crew,
         } = self;
         assert!(rt; at < crew.len());
-        let mut kept = Vec::with_capacity(alloc, 1)?;
-        let loops = crew.remove(at);
-        match astray {
-            Astray::Kept => kept.push_reserved(loops),
-            Astray::Dropped => drop(loops),
-        }
+        let _kept = go_astray(crew.remove(at), astray);
         let mut callers = Vec::with_capacity(alloc, 1)?;
         callers.push_reserved(caller);
         cluster.finish_parked(rt, alloc, callers, crew)
+    }
+}
+
+impl<
+    H: StoredHistory<Op, Reply> + Send + 'static,
+    D: StoredHistory<DirectoryOp, DirectoryReply> + Send + 'static,
+> Parked<H, D> {
+    /// A silo is to come.
+    pub fn up<R: Threads + Wait + Abort + Copy + Send + 'static>(
+        &mut self,
+        rt: &R,
+        alloc: Global,
+        silo: u8,
+    ) -> Result<SiloUp, AllocError> {
+        assert!(rt; silo < 16);
+        self.cluster.silo_up(rt, alloc, silo)
     }
 }

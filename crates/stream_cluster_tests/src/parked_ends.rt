@@ -1,75 +1,86 @@
+//! The ends of parked clusters.
 use crate::parked::{Astray, Parked, QUEUES, Went};
-use crate::running::{is_in_use, is_missing};
-use crate::story::{begin, go_on, is_told, settle};
-use cluster_ending::Finished;
+use crate::running::{Calls, End, Places, is_so};
+use crate::story::{REPORT, begin, tell_the_rest};
+use activation_directory::{DirectoryOp, DirectoryReply};
 use std::alloc::Global;
 use std::process::Abort;
 use std::sync::Wait;
-use std::test::Fail;
-use step_core::Op;
+use std::thread::Threads;
+use step_core::{Op, Reply};
 use stream_cluster::{SiloDown, SiloUp};
+use turnstile::StoredHistory;
+
+static WENT: [Went; 3] = [Went::Down, Went::Down, Went::LastSilo];
 
 // Silos are retired one after another, up to the last, whose loops are handed out again. None comes, and none goes by
 // itself.
-#[test]
-fn all_but_the_last(rt: HostRuntime) -> Result<(), Fail> {
-    let alloc = rt.alloc();
-    let mut parked = Parked::new(&rt, alloc, 3, 1_000_000)?;
-    begin(&rt, alloc, &mut parked);
-    for wanted in [Went::Down, Went::Down, Went::LastSilo] {
-        assert!(rt; parked.up(&rt, alloc, 3)? == SiloUp::Halted);
-        assert!(rt; parked.down(&rt, alloc, 2)? == SiloDown::Halted);
-        assert!(rt; parked.retire(&rt, alloc, 0) == wanted);
+fn retire_all<
+    H: StoredHistory<Op, Reply> + Send + 'static,
+    D: StoredHistory<DirectoryOp, DirectoryReply> + Send + 'static,
+    R: Threads + Wait + Abort + Copy + Send + 'static,
+>(rt: &R, alloc: Global) {
+    let mut parked = Parked::<H, D>::new(rt, alloc, 3, 1_000_000).expect(rt, "memory");
+    begin(rt, alloc, &mut parked);
+    for wanted in &WENT {
+        assert!(rt; matches!(parked.up(rt, alloc, 3), Ok(SiloUp::Halted)));
+        assert!(rt; matches!(parked.down(rt, alloc, 2), Ok(SiloDown::Halted)));
+        assert!(rt; parked.retire(rt, alloc, 0) == *wanted);
     }
-    go_on(&rt, alloc, &mut parked);
-    settle(&rt, alloc, &mut parked);
-    assert!(rt; is_told(&parked.finish(&rt, alloc)));
-    Ok(())
+    let ended = tell_the_rest(rt, alloc, parked);
+    assert!(rt; is_so(&ended, End::Report(REPORT)));
 }
 
-// The loops of a silo are neither given back nor dropped.
-#[test]
-fn loops_still_there(rt: HostRuntime) -> Result<(), Fail> {
-    let alloc = rt.alloc();
-    let parked = Parked::new(&rt, alloc, 2, 1_000_000)?;
-    let ended = parked.finish_without(&rt, alloc, 0, Astray::Kept);
-    assert!(rt; is_in_use(&ended));
-    Ok(())
-}
+// What becomes of the loops of a silo that aren't given back, and how the cluster ends.
+static ASTRAY: [(usize, Astray, End); 2] = [
+    // They are neither given back nor dropped.
+    (0, Astray::Kept, End::InUse),
+    // They were dropped, and the three passes of each queue that they had are missing.
+    (1, Astray::Dropped, End::Missing(3)),
+];
 
-// The loops of a silo were dropped, and the three passes of each queue that they had are missing.
-#[test]
-fn loops_lost(rt: HostRuntime) -> Result<(), Fail> {
-    let alloc = rt.alloc();
-    let parked = Parked::new(&rt, alloc, 2, 1_000_000)?;
-    let ended = parked.finish_without(&rt, alloc, 1, Astray::Dropped);
-    assert!(rt; is_missing(&ended, 3));
-    Ok(())
+fn go_astray<
+    H: StoredHistory<Op, Reply>,
+    D: StoredHistory<DirectoryOp, DirectoryReply>,
+    R: Wait + Abort,
+>(rt: &R, alloc: Global) {
+    for (at, astray, end) in &ASTRAY {
+        let parked = Parked::<H, D>::new(rt, alloc, 2, 1_000_000).expect(rt, "memory");
+        let ended = parked.finish_without(rt, alloc, *at, *astray);
+        assert!(rt; is_so(&ended, *end), "the silo at {at}");
+    }
 }
 
 // How many calls each history of a small cluster has.
 const HISTORY: u64 = 20;
 
-// Asks a queue until its history is full.
-fn fill<R: Wait + Abort>(rt: &R, alloc: Global, parked: &mut Parked, queue: usize) {
-    for _ in 0..HISTORY {
-        if parked.try_ask(rt, alloc, queue, Op::Quiet).is_none() {
-            return;
-        }
+// The histories are full, so that no queue can leave its silo. The silos don't change any more then.
+fn fill_all<
+    H: StoredHistory<Op, Reply>,
+    D: StoredHistory<DirectoryOp, DirectoryReply>,
+    R: Wait + Abort,
+>(rt: &R, alloc: Global) {
+    let mut parked = Parked::<H, D>::new(rt, alloc, 2, HISTORY).expect(rt, "memory");
+    for queue in 0..QUEUES {
+        assert!(rt; parked.fills(rt, alloc, queue, HISTORY));
     }
-    assert!(rt; parked.try_ask(rt, alloc, queue, Op::Quiet).is_none());
+    assert!(rt; parked.retire(rt, alloc, 0) == Went::Limit);
+    assert!(rt; parked.retire(rt, alloc, 0) == Went::Halted);
+    let ended = parked.finish(rt, alloc);
+    assert!(rt; is_so(&ended, End::Full(HISTORY as usize, QUEUES)));
 }
 
-// The histories are full, so that no queue can leave its silo. The silos don't change any more then.
 #[test]
-fn full_histories(rt: HostRuntime) -> Result<(), Fail> {
-    let alloc = rt.alloc();
-    let mut parked = Parked::new(&rt, alloc, 2, HISTORY)?;
-    for queue in 0..QUEUES {
-        fill(&rt, alloc, &mut parked, queue);
-    }
-    assert!(rt; parked.retire(&rt, alloc, 0) == Went::Limit);
-    assert!(rt; parked.retire(&rt, alloc, 0) == Went::Halted);
-    assert!(rt; matches!(parked.finish(&rt, alloc), Ok(Finished::Limit { .. })));
-    Ok(())
+fn all_but_the_last(rt: HostRuntime) {
+    retire_all::<Calls, Places, HostRuntime>(&rt, rt.alloc());
+}
+
+#[test]
+fn loops_that_are_missing(rt: HostRuntime) {
+    go_astray::<Calls, Places, HostRuntime>(&rt, rt.alloc());
+}
+
+#[test]
+fn full_histories(rt: HostRuntime) {
+    fill_all::<Calls, Places, HostRuntime>(&rt, rt.alloc());
 }

@@ -2,25 +2,18 @@
 ghost use Rattle.std.specs.Prelude.{◌≡◌, IfOk};
 ghost use Rattle.cluster_callers.specs.Calls.{turnstiles};
 
-use crate::names::{digits, grain, stream};
+use crate::asking::{Ask, Told as Answer, ask_at};
+use crate::names::digits;
 use crate::told::Told;
 use cluster_callers::Caller;
 use script_producer::{Drained, drain};
-use shared_partition::{Counting, Gate};
+use shared_partition::Gate;
 use std::alloc::{AllocError, Global};
 use std::marker::Model;
 use std::process::Abort;
 use std::sync::Wait;
 use step_core::{Op, Reply};
-use stream_ident::{Batch, Payload, SubName};
-use stream_model::Start;
-use turnstile::{PlainHistory, ProofHistory, Refusal, StoredHistory};
-
-/// How the calls of a queue are stored.
-pub type Calls = PlainHistory<Op, Reply>;
-
-/// A producer of a cluster that stores no calls.
-pub type Publisher = Producer<Counting, ProofHistory<Op, Reply>>;
+use turnstile::{Refusal, StoredHistory};
 
 /// A caller of a cluster, and what it was told was published. A contract sees the turnstiles of its passes.
 pub struct Producer<G: Gate, H: StoredHistory<Op, Reply>> {
@@ -43,39 +36,6 @@ impl<G: Gate, H: StoredHistory<Op, Reply>> Model for Producer<G, H> {
     ghost Value = { List (Option (Origin PlainPartition)) };
 
     ghost view = { λ p. turnstiles p.caller };
-}
-
-// A grain subscribes to the stream of a queue, from the next event on.
-fn subscription<R: Abort>(
-    rt: &R,
-    alloc: Global,
-    queue: usize,
-    to: usize,
-) -> Result<Op, AllocError> {
-    let from = digits(alloc, queue as u64)?;
-    let to = digits(alloc, to as u64)?;
-    Ok(Op::Subscribe {
-        stream: stream(rt, from.as_bytes()),
-        grain: grain(rt, to.as_bytes()),
-        start: Start::Latest,
-    })
-}
-
-// An event for the stream of a queue.
-fn publication<R: Abort>(
-    rt: &R,
-    alloc: Global,
-    queue: usize,
-    payload: u64,
-) -> Result<Op, AllocError> {
-    let key = digits(alloc, queue as u64)?;
-    let text = digits(alloc, payload)?;
-    let mut payloads = Vec::with_capacity(alloc, 1)?;
-    payloads.push_reserved(Payload::new(text.as_bytes()).expect(rt, "a payload"));
-    Ok(Op::Publish {
-        stream: stream(rt, key.as_bytes()),
-        payloads: Batch::of(payloads),
-    })
 }
 
 impl<G: Gate, H: StoredHistory<Op, Reply>> Producer<G, H> {
@@ -116,35 +76,18 @@ impl<G: Gate, H: StoredHistory<Op, Reply>> Producer<G, H> {
         (caller, told)
     }
 
-    /// The reply to an operation.
-    ///
-    /// # Errors
-    /// It is refused, and nothing was done.
-    pub fn try_ask<R: Wait + Abort>(
-        &mut self,
-        rt: &R,
-        alloc: Global,
-        queue: usize,
-        op: Op,
-    ) -> Result<Reply, Refusal>
-        ensures { self.new ≡ self.old }
-    {
-        assert!(rt; queue < self.caller.queues());
-        self.caller.call(rt, alloc, queue, op)
-    }
-
-    // The reply to an operation, which is refused only for want of memory.
+    // How it is answered at a queue. It is refused only for want of memory.
     fn ask<R: Wait + Abort>(
         &mut self,
         rt: &R,
         alloc: Global,
         queue: usize,
-        op: Op,
-    ) -> Result<Reply, AllocError>
+        ask: &Ask,
+    ) -> Result<Answer, AllocError>
         ensures { self.new ≡ self.old }
     {
-        match self.try_ask(rt, alloc, queue, op) {
-            Ok(reply) => Ok(reply),
+        match ask_at(rt, alloc, &mut self.caller, queue, ask) {
+            Ok(answer) => Ok(answer),
             Err(Refusal::Memory) => Err(AllocError),
             Err(Refusal::HistoryFull) => panic!(rt; "there is room"),
         }
@@ -163,9 +106,11 @@ impl<G: Gate, H: StoredHistory<Op, Reply>> Producer<G, H> {
     ) -> Result<(), AllocError>
         ensures { self.new ≡ self.old }
     {
-        let op = subscription(rt, alloc, queue, to)?;
-        let reply = self.ask(rt, alloc, queue, op)?;
-        assert!(rt; matches!(reply, Reply::Subscribed { .. }));
+        let from = digits(alloc, queue as u64)?;
+        let to = digits(alloc, to as u64)?;
+        let ask = Ask::Subscribe(from.as_bytes(), to.as_bytes());
+        let answer = self.ask(rt, alloc, queue, &ask)?;
+        assert!(rt; matches!(answer, Answer::Subscribed));
         Ok(())
     }
 
@@ -182,19 +127,19 @@ impl<G: Gate, H: StoredHistory<Op, Reply>> Producer<G, H> {
     ) -> Result<(), AllocError>
         ensures { self.new ≡ self.old }
     {
-        let op = publication(rt, alloc, queue, payload)?;
-        let reply = self.ask(rt, alloc, queue, op)?;
-        let Reply::Published { seq } = reply else {
+        let key = digits(alloc, queue as u64)?;
+        let text = digits(alloc, payload)?;
+        let ask = Ask::Publish(key.as_bytes(), text.as_bytes());
+        let Answer::Published(seq) = self.ask(rt, alloc, queue, &ask)? else {
             panic!(rt; "the event is published");
         };
         let seq = seq as usize;
-        self.told
-            .push(Told {
-                queue,
-                seq,
-                payload,
-            })
-            .expect(rt, "room");
+        let told = Told {
+            queue,
+            seq,
+            payload,
+        };
+        self.told.push(told).expect(rt, "room");
         Ok(())
     }
 
@@ -224,12 +169,24 @@ impl<G: Gate, H: StoredHistory<Op, Reply>> Producer<G, H> {
     ) -> usize
         ensures { self.new ≡ self.old }
     {
-        let sub = SubName::Explicit(number);
-        let reply = self.ask(rt, alloc, queue, Op::Unsubscribe { sub });
-        let Reply::Unsubscribed { handled } = reply.expect(rt, "it takes no memory") else {
-            panic!(rt; "it is subscribed");
-        };
-        handled
+        let answer = self.ask(rt, alloc, queue, &Ask::Unsubscribe(number));
+        match answer.expect(rt, "it takes no memory") {
+            Answer::Unsubscribed(handled) => handled,
+            _ => panic!(rt; "it is subscribed"),
+        }
+    }
+
+    /// Asks a queue so often whether it is quiet, and once more. Whether it is refused at some time.
+    pub fn fills<R: Wait + Abort>(
+        &mut self,
+        rt: &R,
+        alloc: Global,
+        queue: usize,
+        calls: u64,
+    ) -> bool
+        ensures { self.new ≡ self.old }
+    {
+        fills(rt, alloc, &mut self.caller, queue, calls)
     }
 
     /// Waits until all queues are quiet, and tells whether they are: a loop may have ended.
@@ -239,4 +196,22 @@ impl<G: Gate, H: StoredHistory<Op, Reply>> Producer<G, H> {
         drain(rt, alloc, &mut self.caller, 100_000).expect(rt, "it takes no memory")
             == Drained::Quiet
     }
+}
+
+/// Asks a queue so often whether it is quiet, and once more. Whether that is refused at some time.
+pub fn fills<G: Gate, H: StoredHistory<Op, Reply>, R: Wait + Abort>(
+    rt: &R,
+    alloc: Global,
+    caller: &mut Caller<G, H>,
+    queue: usize,
+    calls: u64,
+) -> bool
+    ensures { turnstiles caller.new ≡ turnstiles caller.old }
+{
+    for _ in 0..calls {
+        if ask_at(rt, alloc, caller, queue, &Ask::Quiet).is_err() {
+            return true;
+        }
+    }
+    ask_at(rt, alloc, caller, queue, &Ask::Quiet).is_err()
 }

@@ -1,8 +1,8 @@
 ghost use Rattle.std.specs.Prelude.{◌≡◌};
 
 use crate::names::{digits, grain};
-use crate::producer::Publisher;
-use crate::running::{Ended, Running, start};
+use crate::producer::Producer;
+use crate::running::{Ended, Running, Size, start};
 use crate::scarce::Scarce;
 use crate::told::{Told, grains, report_of, subscribe_all};
 use activation_directory::{DirectoryOp, DirectoryReply};
@@ -12,7 +12,6 @@ use shared_partition::Counting;
 use std::alloc::{AllocError, Global};
 use std::process::Abort;
 use std::sync::{Arc, Wait};
-use std::test::Fail;
 use std::thread::Threads;
 use step_core::{Op, Partition, Reply};
 use stream_cluster::{SiloDown, SiloUp};
@@ -20,17 +19,30 @@ use turnstile::{ProofHistory, StoredHistory};
 
 const QUEUES: usize = 3;
 
-// How many calls each history has at most.
-const HISTORY: u64 = 1_000_000_000;
-
 // How many events the producers are told of at most.
 const ROOM: usize = 3 * QUEUES;
+
+static TWO: Size = Size {
+    queues: QUEUES,
+    silos: 2,
+    history: 1_000_000_000,
+    room: ROOM,
+};
+
+static ONE: Size = Size {
+    queues: QUEUES,
+    silos: 1,
+    history: 1_000_000_000,
+    room: ROOM,
+};
 
 type Calls = ProofHistory<Op, Reply>;
 
 type Places = ProofHistory<DirectoryOp, DirectoryReply>;
 
-type Silos<D> = Running<Counting, Calls, D>;
+type Silos<H, D> = Running<Counting, H, D>;
+
+type Publisher<H> = Producer<Counting, H>;
 
 // A gate that is asked for once more where memory was refused.
 fn shared_gate<R: Abort>(rt: &R, alloc: Global) -> Arc<Counting, Global> {
@@ -48,16 +60,22 @@ fn again<R: Abort>(rt: &R, gate: &Arc<Counting, Global>) -> Arc<Counting, Global
 // A cluster of so many silos, asked for once more where it was refused: nothing is left of the first one then. Whether
 // it was refused.
 fn opened<
+    H: StoredHistory<Op, Reply> + Send + 'static,
     D: StoredHistory<DirectoryOp, DirectoryReply> + Send + 'static,
     R: Threads + Wait + Abort + Copy + Send + 'static,
->(rt: &R, alloc: Global, silos: u8, gate: &Arc<Counting, Global>) -> (Silos<D>, Publisher, bool)
+>(
+    rt: &R,
+    alloc: Global,
+    size: &Size,
+    gate: &Arc<Counting, Global>,
+) -> (Silos<H, D>, Publisher<H>, bool)
     ensures { result.1 ≡ result.0 }
 {
-    match start(rt, alloc, QUEUES, silos, HISTORY, ROOM, again(rt, gate)) {
+    match start(rt, alloc, size, again(rt, gate)) {
         Ok((running, producer)) => (running, producer, false),
         Err(AllocError) => {
             assert!(rt; Arc::strong_count(gate) == 1);
-            let second = start(rt, alloc, QUEUES, silos, HISTORY, ROOM, again(rt, gate));
+            let second = start(rt, alloc, size, again(rt, gate));
             let (running, producer) = second.expect(rt, "memory");
             (running, producer, true)
         }
@@ -65,10 +83,10 @@ fn opened<
 }
 
 // Publishes an event to each queue. Whether that was refused somewhere; then it was asked for once more.
-fn publish_all<R: Wait + Abort>(
+fn publish_all<H: StoredHistory<Op, Reply>, R: Wait + Abort>(
     rt: &R,
     alloc: Global,
-    producer: &mut Publisher,
+    producer: &mut Publisher<H>,
     payload: u64,
 ) -> bool
     ensures { producer.new ≡ producer.old }
@@ -86,7 +104,11 @@ fn publish_all<R: Wait + Abort>(
 }
 
 // Another producer, asked for once more where it was refused. Whether it was.
-fn split<R: Abort>(rt: &R, alloc: Global, producer: &mut Publisher) -> (Publisher, bool)
+fn split<H: StoredHistory<Op, Reply>, R: Abort>(
+    rt: &R,
+    alloc: Global,
+    producer: &mut Publisher<H>,
+) -> (Publisher<H>, bool)
     ensures same { producer.new ≡ producer.old }
     ensures other { result.0 ≡ producer.old }
 {
@@ -98,31 +120,29 @@ fn split<R: Abort>(rt: &R, alloc: Global, producer: &mut Publisher) -> (Publishe
 
 // No silo comes or goes any more.
 fn stands_still<
+    H: StoredHistory<Op, Reply> + Send + 'static,
     D: StoredHistory<DirectoryOp, DirectoryReply> + Send + 'static,
     R: Threads + Wait + Abort + Copy + Send + 'static,
->(rt: &R, alloc: Global, running: &mut Silos<D>)
+>(rt: &R, alloc: Global, running: &mut Silos<H, D>)
     ensures { running.new ≡ running.old }
 {
     for silo in 0..4 {
-        assert!(rt; running.up(rt, alloc, silo) == Ok(SiloUp::Halted));
-        assert!(rt; running.down(rt, alloc, silo) == Ok(SiloDown::Halted));
+        assert!(rt; matches!(running.up(rt, alloc, silo), Ok(SiloUp::Halted)));
+        assert!(rt; matches!(running.down(rt, alloc, silo), Ok(SiloDown::Halted)));
     }
 }
 
 // A silo comes, or where that is refused, none comes or goes any more. Whether it was refused.
-fn bring_up<R: Threads + Wait + Abort + Copy + Send + 'static>(
-    rt: &R,
-    alloc: Global,
-    running: &mut Silos<Places>,
-    silo: u8,
-) -> bool
+fn bring_up<
+    H: StoredHistory<Op, Reply> + Send + 'static,
+    D: StoredHistory<DirectoryOp, DirectoryReply> + Send + 'static,
+    R: Threads + Wait + Abort + Copy + Send + 'static,
+>(rt: &R, alloc: Global, running: &mut Silos<H, D>, silo: u8) -> bool
     ensures { running.new ≡ running.old }
 {
     match running.up(rt, alloc, silo) {
-        Ok(answer) => {
-            assert!(rt; answer == SiloUp::Up);
-            false
-        }
+        Ok(SiloUp::Up) => false,
+        Ok(_) => panic!(rt; "it comes"),
         Err(AllocError) => {
             stands_still(rt, alloc, running);
             true
@@ -131,24 +151,29 @@ fn bring_up<R: Threads + Wait + Abort + Copy + Send + 'static>(
 }
 
 // A silo goes, or where that is refused, none comes or goes any more. Whether it was refused.
-fn take_down<R: Threads + Wait + Abort + Copy + Send + 'static>(
-    rt: &R,
-    alloc: Global,
-    running: &mut Silos<Places>,
-    silo: u8,
-) -> bool
+fn take_down<
+    H: StoredHistory<Op, Reply> + Send + 'static,
+    D: StoredHistory<DirectoryOp, DirectoryReply> + Send + 'static,
+    R: Threads + Wait + Abort + Copy + Send + 'static,
+>(rt: &R, alloc: Global, running: &mut Silos<H, D>, silo: u8) -> bool
     ensures { running.new ≡ running.old }
 {
     match running.down(rt, alloc, silo) {
-        Ok(answer) => {
-            assert!(rt; answer == SiloDown::Down);
-            false
-        }
+        Ok(SiloDown::Down) => false,
+        Ok(_) => panic!(rt; "it goes"),
         Err(AllocError) => {
             stands_still(rt, alloc, running);
             true
         }
     }
+}
+
+// What was refused to those that change silos and publish.
+#[derive(Clone, Copy)]
+struct Course {
+    refused: bool,
+    // whether it was refused in the middle of a silo that goes
+    half_gone: bool,
 }
 
 // The rest of what a partition is owed is done without silos: its grains are deactivated, and then it is drained.
@@ -164,77 +189,65 @@ fn do_the_rest<R: Abort>(rt: &R, alloc: Global, queue: usize, partition: &mut Pa
 }
 
 // What is reported of these partitions once the rest is done.
-fn in_the_end<R: Abort>(rt: &R, alloc: Global, partitions: Vec<Partition>) -> Vec<u8> {
-    let mut partitions = partitions;
+fn in_the_end<R: Abort>(rt: &R, alloc: Global, partitions: &mut Vec<Partition>) -> Vec<u8> {
     for queue in 0..partitions.len() {
         do_the_rest(rt, alloc, queue, &mut partitions[queue]);
     }
     let mut text = Vec::new(alloc);
-    report_text(alloc, &partitions, &mut text).expect(rt, "memory");
+    report_text(alloc, partitions, &mut text).expect(rt, "memory");
     text
 }
 
-// What is reported of all that was told, asked for once more where memory was refused.
-fn wanted<R: Abort>(rt: &R, alloc: Global, told: &[Told]) -> String {
+// Whether a text is what is reported of all that was told. That is asked for once more where memory was refused.
+fn is_wanted<R: Abort>(rt: &R, alloc: Global, told: &[Told], text: &Vec<u8>) -> bool {
     let wanted = match report_of(alloc, told, QUEUES) {
         Ok(wanted) => wanted,
         Err(AllocError) => report_of(alloc, told, QUEUES).expect(rt, "memory"),
     };
-    wanted.expect(rt, "numbers")
+    text.as_slice() == wanted.expect(rt, "numbers").as_bytes()
 }
 
 // How a cluster may end in which so much was refused. Whether it has ended with a report.
 //
 // Where the end fails to allocate, or a loop had, nothing else was refused. Where a silo is gone by half, something may
 // be left to do, and nothing is lost. All else is reported, and a pass is never missing.
-fn is_reported<R: Abort>(
+fn is_reported<H, R: Abort>(
     rt: &R,
     alloc: Global,
-    ended: Ended<Calls>,
+    ended: &mut Ended<H>,
     told: &[Told],
-    refused: bool,
-    half_gone: bool,
+    course: Course,
 ) -> bool {
     match ended {
-        Ok(Finished::Report { text, traces: _ }) => {
-            assert!(rt; text.as_slice() == wanted(rt, alloc, told).as_bytes());
+        Ok(Finished::Report { text, .. }) => {
+            assert!(rt; is_wanted(rt, alloc, told, text));
             true
         }
-        Ok(
-            Finished::NotQuiet {
-                queue: _,
-                why: _,
-                traces,
-            },
-        ) => {
-            assert!(rt; half_gone);
-            let text = in_the_end(rt, alloc, traces.partitions);
-            assert!(rt; text.as_slice() == wanted(rt, alloc, told).as_bytes());
+        Ok(Finished::NotQuiet { traces, .. }) => {
+            assert!(rt; course.half_gone);
+            let text = in_the_end(rt, alloc, &mut traces.partitions);
+            assert!(rt; is_wanted(rt, alloc, told, &text));
             false
         }
         Err(AllocError) => {
-            assert!(rt; !refused);
+            assert!(rt; !course.refused);
             false
         }
         Ok(_) => panic!(rt; "no pass is missing"),
     }
 }
 
-// What was refused to those that change silos and publish.
-#[derive(Clone, Copy)]
-struct Course {
-    refused: bool,
-    // whether it was refused in the middle of a silo that goes
-    half_gone: bool,
-}
-
 // A silo comes and another one goes, and two producers publish before, between and after.
-fn change<R: Threads + Wait + Abort + Copy + Send + 'static>(
+fn change<
+    H: StoredHistory<Op, Reply> + Send + 'static,
+    D: StoredHistory<DirectoryOp, DirectoryReply> + Send + 'static,
+    R: Threads + Wait + Abort + Copy + Send + 'static,
+>(
     rt: &R,
     alloc: Global,
-    running: &mut Silos<Places>,
-    first: &mut Publisher,
-    second: &mut Publisher,
+    running: &mut Silos<H, D>,
+    first: &mut Publisher<H>,
+    second: &mut Publisher<H>,
 ) -> Course
     ensures running { running.new ≡ running.old }
     ensures first { first.new ≡ first.old }
@@ -257,7 +270,12 @@ fn change<R: Threads + Wait + Abort + Copy + Send + 'static>(
 }
 
 // Each subscription is ended, and has handled no more events than were published to its queue.
-fn have_fronts<R: Wait + Abort>(rt: &R, alloc: Global, first: &mut Publisher, second: &Publisher)
+fn have_fronts<H: StoredHistory<Op, Reply>, R: Wait + Abort>(
+    rt: &R,
+    alloc: Global,
+    first: &mut Publisher<H>,
+    second: &Publisher<H>,
+)
     ensures { first.new ≡ first.old }
 {
     for queue in 0..QUEUES {
@@ -268,63 +286,79 @@ fn have_fronts<R: Wait + Abort>(rt: &R, alloc: Global, first: &mut Publisher, se
 }
 
 // A cluster lives and ends with something refused or nothing. Whether nothing was.
-fn is_undisturbed<R: Threads + Wait + Abort + Copy + Send + 'static>(
-    rt: &R,
-    alloc: Global,
-) -> bool {
+fn is_undisturbed<
+    H: StoredHistory<Op, Reply> + Send + 'static,
+    D: StoredHistory<DirectoryOp, DirectoryReply> + Send + 'static,
+    R: Threads + Wait + Abort + Copy + Send + 'static,
+>(rt: &R, alloc: Global) -> bool {
     let gate = shared_gate(rt, alloc);
-    let (mut running, mut first, anew) = opened(rt, alloc, 2, &gate);
+    let (mut running, mut first, anew) = opened::<H, D, R>(rt, alloc, &TWO, &gate);
     let subscribed = subscribe_all(rt, alloc, &mut first, QUEUES);
     let (mut second, split) = split(rt, alloc, &mut first);
-    let course = change(rt, alloc, &mut running, &mut first, &mut second);
+    let mut course = change(rt, alloc, &mut running, &mut first, &mut second);
     if first.sees_an_end() {
         have_fronts(rt, alloc, &mut first, &second);
     }
-    let (ended, mut told, mut other) = running.finish_both(rt, alloc, first, second);
+    let (mut ended, told) = running.finish_both(rt, alloc, first, second);
     assert!(rt; Arc::strong_count(&gate) == 1);
-    told.append(&mut other).expect(rt, "room");
-    let refused = anew || subscribed || split || course.refused;
-    is_reported(rt, alloc, ended, &told, refused, course.half_gone) && !refused
+    course.refused |= anew || subscribed || split;
+    is_reported(rt, alloc, &mut ended, &told, course) && !course.refused
+}
+
+fn is_so_at_last<
+    H: StoredHistory<Op, Reply> + Send + 'static,
+    D: StoredHistory<DirectoryOp, DirectoryReply> + Send + 'static,
+    R: Threads + Wait + Abort + Copy + Send + 'static,
+>(rt: &R, alloc: Global) -> bool {
+    is_undisturbed::<H, D, R>(rt, alloc) || is_undisturbed::<H, D, R>(rt, alloc)
 }
 
 // With any one allocation refused, or any one thread, what was answered stands, no thread is left, and no pass is
 // missing. Run it with each allocation failing in turn, and with each thread.
 #[test]
-fn one_refused(rt: HostRuntime) -> Result<(), Fail> {
-    let alloc = rt.alloc();
-    assert!(rt; is_undisturbed(&rt, alloc) || is_undisturbed(&rt, alloc));
-    Ok(())
+fn one_refused(rt: HostRuntime) {
+    assert!(rt; is_so_at_last::<Calls, Places, HostRuntime>(&rt, rt.alloc()));
 }
+
+const HALF_GONE: Course = Course {
+    refused: true,
+    half_gone: true,
+};
 
 // The first silo goes, and its directory is of a kind that refuses a call of that.
 fn go_by_half<
+    H: StoredHistory<Op, Reply> + Send + 'static,
     D: StoredHistory<DirectoryOp, DirectoryReply> + Send + 'static,
     R: Threads + Wait + Abort + Copy + Send + 'static,
 >(rt: &R, alloc: Global) {
     let gate = shared_gate(rt, alloc);
-    let (mut running, mut first, _anew) = opened::<D, R>(rt, alloc, 1, &gate);
+    let (mut running, mut first, _anew) = opened::<H, D, R>(rt, alloc, &ONE, &gate);
     subscribe_all(rt, alloc, &mut first, QUEUES);
     publish_all(rt, alloc, &mut first, 1);
     assert!(rt; first.is_quiet(rt, alloc));
-    assert!(rt; running.up(rt, alloc, 1) == Ok(SiloUp::Up));
+    assert!(rt; matches!(running.up(rt, alloc, 1), Ok(SiloUp::Up)));
     assert!(rt; running.down(rt, alloc, 0).is_err());
     stands_still(rt, alloc, &mut running);
     let (mut second, _split) = split(rt, alloc, &mut first);
     publish_all(rt, alloc, &mut second, 2);
-    let (ended, mut told, mut other) = running.finish_both(rt, alloc, first, second);
+    let (mut ended, told) = running.finish_both(rt, alloc, first, second);
     assert!(rt; Arc::strong_count(&gate) == 1);
-    told.append(&mut other).expect(rt, "room");
-    assert!(rt; !is_reported(rt, alloc, ended, &told, true, true));
+    assert!(rt; !is_reported(rt, alloc, &mut ended, &told, HALF_GONE));
+}
+
+fn go_by_each_half<
+    H: StoredHistory<Op, Reply> + Send + 'static,
+    R: Threads + Wait + Abort + Copy + Send + 'static,
+>(rt: &R, alloc: Global) {
+    go_by_half::<H, Scarce<1>, R>(rt, alloc);
+    go_by_half::<H, Scarce<2>, R>(rt, alloc);
+    go_by_half::<H, Scarce<3>, R>(rt, alloc);
+    go_by_half::<H, Scarce<4>, R>(rt, alloc);
 }
 
 // Four grains are on a silo that goes, and the directory refuses the call after each of them in turn. The silo's queues
 // have no agent then, and what is published to them is left to do.
 #[test]
-fn gone_by_half(rt: HostRuntime) -> Result<(), Fail> {
-    let alloc = rt.alloc();
-    go_by_half::<Scarce<1>, HostRuntime>(&rt, alloc);
-    go_by_half::<Scarce<2>, HostRuntime>(&rt, alloc);
-    go_by_half::<Scarce<3>, HostRuntime>(&rt, alloc);
-    go_by_half::<Scarce<4>, HostRuntime>(&rt, alloc);
-    Ok(())
+fn gone_by_half(rt: HostRuntime) {
+    go_by_each_half::<Calls, HostRuntime>(&rt, rt.alloc());
 }

@@ -1,11 +1,11 @@
 //! A cluster that runs.
 ghost use Rattle.std.specs.Prelude.{◌≡◌, ◌≤◌, [], IfOk, vec_capacity};
 
-use crate::producer::{Calls, Producer};
+use crate::producer::Producer;
 use crate::told::Told;
 use activation_directory::{DirectoryOp, DirectoryReply};
 use cluster_callers::Caller;
-use cluster_ending::Finished;
+use cluster_ending::{Finished, Traces};
 use shared_partition::Gate;
 use std::alloc::{AllocError, Global};
 use std::marker::Model;
@@ -16,8 +16,11 @@ use step_core::{Limits, Op, Reply};
 use stream_cluster::{Cluster, Config, SiloDown, SiloUp};
 use turnstile::{PlainHistory, StoredHistory};
 
+/// How the calls of a queue are stored.
+pub type Calls = PlainHistory<Op, Reply>;
+
 /// How the calls of a directory are stored.
-pub type Asked = PlainHistory<DirectoryOp, DirectoryReply>;
+pub type Places = PlainHistory<DirectoryOp, DirectoryReply>;
 
 /// How a cluster has ended, or that the end failed to allocate.
 pub type Ended<H> = Result<Finished<H>, AllocError>;
@@ -53,8 +56,18 @@ impl<G: Gate, H: StoredHistory<Op, Reply>, D: StoredHistory<DirectoryOp, Directo
     ghost view = { λ r. places r.cluster.operator.lines };
 }
 
-/// So many silos over so many queues, and its first producer, which has room to be told of so many events. No history
-/// has more calls than that.
+/// How large a cluster is.
+#[derive(Clone, Copy)]
+pub struct Size {
+    pub queues: usize,
+    pub silos: u8,
+    /// How many calls each history has at most.
+    pub history: u64,
+    /// How many events a producer has room to be told of.
+    pub room: usize,
+}
+
+/// A cluster of this size, and its first producer.
 ///
 /// # Errors
 /// The call failed to allocate, or a thread can't be made.
@@ -66,14 +79,17 @@ pub fn start<
 >(
     rt: &R,
     alloc: Global,
-    queues: usize,
-    silos: u8,
-    history: u64,
-    room: usize,
+    size: &Size,
     gate: Arc<G, Global>,
 ) -> Result<(Running<G, H, D>, Producer<G, H>), AllocError>
     ensures { IfOk result (λ r. r.1 ≡ r.0) }
 {
+    let Size {
+        queues,
+        silos,
+        history,
+        room,
+    } = *size;
     assert!(rt; 1 <= queues && queues <= 64);
     assert!(rt; 1 <= silos && silos <= 16);
     assert!(rt; 1 <= history);
@@ -89,21 +105,6 @@ pub fn start<
     let told = Vec::with_capacity(alloc, room)?;
     let (cluster, caller) = Cluster::new(rt, alloc, &config, gate)?;
     Ok((Running { cluster }, Producer::new(caller, told)))
-}
-
-/// The same, of a cluster that stores all calls.
-pub fn started<G: Gate + 'static, R: Threads + Wait + Abort + Copy + Send + 'static>(
-    rt: &R,
-    alloc: Global,
-    queues: usize,
-    silos: u8,
-    history: u64,
-    gate: &Arc<G, Global>,
-) -> (Running<G, Calls, Asked>, Producer<G, Calls>)
-    ensures { result.1 ≡ result.0 }
-{
-    let gate = Arc::try_clone(gate).expect(rt, "it is shared a few times");
-    start(rt, alloc, queues, silos, history, 0, gate).expect(rt, "memory")
 }
 
 impl<
@@ -123,7 +124,13 @@ impl<
         assert!(rt; silo < 16);
         self.cluster.silo_up(rt, alloc, silo)
     }
+}
 
+impl<G: Gate, H: StoredHistory<Op, Reply>, D: StoredHistory<DirectoryOp, DirectoryReply>> Running<
+    G,
+    H,
+    D,
+> {
     /// A silo goes.
     pub fn down<R: Threads + Wait + Abort>(
         &mut self,
@@ -160,17 +167,18 @@ impl<
         alloc: Global,
         first: Producer<G, H>,
         second: Producer<G, H>,
-    ) -> (Ended<H>, Vec<Told>, Vec<Told>)
+    ) -> (Ended<H>, Vec<Told>)
         requires first { first ≡ self }
         requires second { second ≡ self }
     {
         let Running { cluster } = self;
-        let (first, told) = first.into_parts();
-        let (second, other) = second.into_parts();
+        let (first, mut told) = first.into_parts();
+        let (second, mut other) = second.into_parts();
+        told.append(&mut other).expect(rt, "room");
         let mut callers = room_for_two(rt, alloc);
         callers.push_reserved(first);
         callers.push_reserved(second);
-        (cluster.finish(rt, alloc, callers), told, other)
+        (cluster.finish(rt, alloc, callers), told)
     }
 }
 
@@ -188,16 +196,30 @@ fn room_for_two<G: Gate, H: StoredHistory<Op, Reply>, R: Abort>(
     }
 }
 
-/// Whether somebody else still had the turnstile of a queue.
-pub fn is_in_use<H>(ended: &Ended<H>) -> bool {
-    matches!(ended, Ok(Finished::InUse))
+/// How a cluster ends.
+#[derive(Clone, Copy)]
+pub enum End {
+    /// With this report.
+    Report(&'static [u8]),
+    /// With this report, or something was left to do at the first queue.
+    LeftOr(&'static [u8]),
+    /// The history of the second queue was full, with so many calls, and what was done at so many queues is there.
+    Full(usize, usize),
+    /// So many passes of the first queue were missing.
+    Missing(u64),
+    /// Somebody else still had the turnstile of a queue.
+    InUse,
 }
 
-/// Whether so many passes of the first queue were missing.
-pub fn is_missing<H>(ended: &Ended<H>, passes: u64) -> bool {
-    match ended {
-        Ok(Finished::NotAll { queue, missing }) => *queue == 0 && *missing == passes,
-        _ => false,
+// Whether the second of so many histories has so many calls.
+fn are_full<H: StoredHistory<Op, Reply>>(traces: &Traces<H>, calls: usize, queues: usize) -> bool {
+    match traces.histories.get(1) {
+        Some(history) => {
+            history.len() == calls
+                && traces.histories.len() == queues
+                && traces.partitions.len() == queues
+        }
+        None => false,
     }
 }
 
@@ -206,5 +228,25 @@ pub fn is_reported<H>(ended: &Ended<H>, report: &[u8]) -> bool {
     match ended {
         Ok(Finished::Report { text, .. }) => text.as_slice() == report,
         _ => false,
+    }
+}
+
+/// Whether it ended so.
+pub fn is_so<H: StoredHistory<Op, Reply>>(ended: &Ended<H>, end: End) -> bool {
+    match end {
+        End::Report(report) => is_reported(ended, report),
+        End::LeftOr(report) => match ended {
+            Ok(Finished::NotQuiet { queue, .. }) => *queue == 0,
+            _ => is_reported(ended, report),
+        },
+        End::Full(calls, queues) => match ended {
+            Ok(Finished::Limit { traces }) => are_full(traces, calls, queues),
+            _ => false,
+        },
+        End::Missing(passes) => match ended {
+            Ok(Finished::NotAll { queue, missing }) => *queue == 0 && *missing == passes,
+            _ => false,
+        },
+        End::InUse => matches!(ended, Ok(Finished::InUse)),
     }
 }

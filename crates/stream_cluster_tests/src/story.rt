@@ -1,48 +1,36 @@
 //! What producers ask of a cluster, and how its loops get on.
-use crate::names::{grain, stream};
+use crate::asking::Ask;
 use crate::parked::{Loop, Parked};
-use crate::producer::Calls;
-use crate::running::{Ended, is_reported};
+use crate::running::{Calls, Ended};
+use activation_directory::{DirectoryOp, DirectoryReply};
 use cluster_ending::{Finished, Traces};
 use silo_loops::Advance;
-use std::alloc::{AllocError, Global};
+use std::alloc::Global;
 use std::process::Abort;
 use std::sync::Wait;
 use step_core::{Op, Reply};
-use stream_ident::{Batch, Payload};
-use stream_model::Start;
-
-/// What a producer asks. Streams are of the namespace `o`, and grains of the kind `g`.
-#[derive(Clone, Copy)]
-enum Ask {
-    /// The grain of the second key subscribes to the stream of the first, from the next batch on.
-    Subscribe(&'static [u8], &'static [u8]),
-    /// The grain of each key shall consume the stream of the key.
-    Rule,
-    /// A batch for the stream of this key, of payloads of one byte each.
-    Publish(&'static [u8], &'static [u8]),
-}
+use turnstile::StoredHistory;
 
 // What is asked before the loops have done anything: at which queue, and what.
-const FIRST: [(usize, Ask); 11] = [
+static FIRST: [(usize, Ask); 11] = [
     (0, Ask::Subscribe(b"x", b"x")),
-    (0, Ask::Publish(b"x", b"ab")),
+    (0, Ask::PublishEach(b"x", b"ab")),
     (0, Ask::Subscribe(b"x", b"w")),
-    (0, Ask::Publish(b"x", b"c")),
+    (0, Ask::PublishEach(b"x", b"c")),
     (1, Ask::Rule),
     (1, Ask::Subscribe(b"y", b"x")),
-    (1, Ask::Publish(b"y", b"a")),
-    (1, Ask::Publish(b"z", b"b")),
+    (1, Ask::PublishEach(b"y", b"a")),
+    (1, Ask::PublishEach(b"z", b"b")),
     (2, Ask::Subscribe(b"u", b"u")),
     (2, Ask::Rule),
-    (2, Ask::Publish(b"u", b"a")),
+    (2, Ask::PublishEach(b"u", b"a")),
 ];
 
 // What is asked later.
-const LATER: [(usize, Ask); 3] = [
-    (0, Ask::Publish(b"x", b"d")),
-    (1, Ask::Publish(b"y", b"c")),
-    (2, Ask::Publish(b"u", b"b")),
+static LATER: [(usize, Ask); 3] = [
+    (0, Ask::PublishEach(b"x", b"d")),
+    (1, Ask::PublishEach(b"y", b"c")),
+    (2, Ask::PublishEach(b"u", b"b")),
 ];
 
 /// What is reported of all that.
@@ -71,62 +59,25 @@ pub const REPORT: &[u8] = b"report
   1.0 \"b\"
 ";
 
-fn batch<R: Abort>(rt: &R, alloc: Global, payloads: &[u8]) -> Result<Batch, AllocError> {
-    let mut made = Vec::new(alloc);
-    for payload in payloads {
-        made.push(Payload::new(&[*payload]).expect(rt, "a payload"))?;
-    }
-    Ok(Batch::of(made))
-}
-
-fn operation<R: Abort>(rt: &R, alloc: Global, ask: Ask) -> Result<Op, AllocError> {
-    Ok(match ask {
-        Ask::Subscribe(from, to) => Op::Subscribe {
-            stream: stream(rt, from),
-            grain: grain(rt, to),
-            start: Start::Latest,
-        },
-        Ask::Rule => Op::AddRule {
-            kind: grain(rt, b"k").kind,
-            namespace: stream(rt, b"k").namespace,
-        },
-        Ask::Publish(key, payloads) => Op::Publish {
-            stream: stream(rt, key),
-            payloads: batch(rt, alloc, payloads)?,
-        },
-    })
-}
-
-// Whether it was answered.
-fn is_answered<R: Wait + Abort>(
-    rt: &R,
-    alloc: Global,
-    parked: &mut Parked,
-    queue: usize,
-    ask: Ask,
-) -> bool {
-    match operation(rt, alloc, ask) {
-        Ok(op) => parked.try_ask(rt, alloc, queue, op).is_some(),
-        Err(AllocError) => false,
-    }
-}
-
 // Asks for each of these, and once more where memory was refused.
-fn ask_all<R: Wait + Abort>(rt: &R, alloc: Global, parked: &mut Parked, asks: &[(usize, Ask)]) {
+fn ask_all<
+    H: StoredHistory<Op, Reply>,
+    D: StoredHistory<DirectoryOp, DirectoryReply>,
+    R: Wait + Abort,
+>(rt: &R, alloc: Global, parked: &mut Parked<H, D>, asks: &[(usize, Ask)]) {
     for (queue, ask) in asks {
-        let answered = is_answered(rt, alloc, parked, *queue, *ask);
-        assert!(rt; answered || is_answered(rt, alloc, parked, *queue, *ask));
+        let is_answered = parked.answers(rt, alloc, *queue, ask);
+        assert!(rt; is_answered || parked.answers(rt, alloc, *queue, ask));
     }
 }
 
 /// Asks for what is asked before the loops have done anything.
-pub fn begin<R: Wait + Abort>(rt: &R, alloc: Global, parked: &mut Parked) {
+pub fn begin<
+    H: StoredHistory<Op, Reply>,
+    D: StoredHistory<DirectoryOp, DirectoryReply>,
+    R: Wait + Abort,
+>(rt: &R, alloc: Global, parked: &mut Parked<H, D>) {
     ask_all(rt, alloc, parked, &FIRST);
-}
-
-/// Asks for what is asked later.
-pub fn go_on<R: Wait + Abort>(rt: &R, alloc: Global, parked: &mut Parked) {
-    ask_all(rt, alloc, parked, &LATER);
 }
 
 /// In which order loops are advanced.
@@ -149,16 +100,14 @@ impl Order {
     }
 }
 
-const LOOPS: [Loop; 3] = [Loop::Agent, Loop::First, Loop::Second];
+static LOOPS: [Loop; 3] = [Loop::Agent, Loop::First, Loop::Second];
 
 /// Advances the loops by so many steps in all.
-pub fn advance<R: Wait + Abort>(
-    rt: &R,
-    alloc: Global,
-    parked: &mut Parked,
-    order: Order,
-    steps: usize,
-) {
+pub fn advance<
+    H: StoredHistory<Op, Reply>,
+    D: StoredHistory<DirectoryOp, DirectoryReply>,
+    R: Wait + Abort,
+>(rt: &R, alloc: Global, parked: &mut Parked<H, D>, order: Order, steps: usize) {
     let loops = parked.silos().wrapping_mul(3);
     for step in 0..steps {
         let which = order.loop_of(step, loops);
@@ -167,7 +116,11 @@ pub fn advance<R: Wait + Abort>(
 }
 
 // Steps of a loop, until it is idle or has ended.
-fn rest<R: Wait + Abort>(rt: &R, alloc: Global, parked: &mut Parked, at: usize, which: Loop) {
+fn rest<
+    H: StoredHistory<Op, Reply>,
+    D: StoredHistory<DirectoryOp, DirectoryReply>,
+    R: Wait + Abort,
+>(rt: &R, alloc: Global, parked: &mut Parked<H, D>, at: usize, which: Loop) {
     for _ in 0..10_000 {
         if parked.advance(rt, alloc, at, which) != Advance::Did {
             return;
@@ -176,13 +129,17 @@ fn rest<R: Wait + Abort>(rt: &R, alloc: Global, parked: &mut Parked, at: usize, 
     panic!(rt; "a loop is idle at some time");
 }
 
-/// Steps of all loops, until none finds anything to do.
-pub fn settle<R: Wait + Abort>(rt: &R, alloc: Global, parked: &mut Parked) {
+// Steps of all loops, until none finds anything to do.
+fn settle<
+    H: StoredHistory<Op, Reply>,
+    D: StoredHistory<DirectoryOp, DirectoryReply>,
+    R: Wait + Abort,
+>(rt: &R, alloc: Global, parked: &mut Parked<H, D>) {
     for _ in 0..1_000 {
         let seen = parked.rung(rt);
         for at in 0..parked.silos() {
-            for which in LOOPS {
-                rest(rt, alloc, parked, at, which);
+            for which in &LOOPS {
+                rest(rt, alloc, parked, at, *which);
             }
         }
         if parked.rung(rt) == seen {
@@ -192,9 +149,16 @@ pub fn settle<R: Wait + Abort>(rt: &R, alloc: Global, parked: &mut Parked) {
     panic!(rt; "a cluster settles at some time");
 }
 
-/// Whether it ended with the report of the story.
-pub fn is_told(ended: &Ended<Calls>) -> bool {
-    is_reported(ended, REPORT)
+/// Asks for the rest, and ends the cluster once no loop finds anything to do.
+pub fn tell_the_rest<
+    H: StoredHistory<Op, Reply>,
+    D: StoredHistory<DirectoryOp, DirectoryReply>,
+    R: Wait + Abort,
+>(rt: &R, alloc: Global, parked: Parked<H, D>) -> Ended<H> {
+    let mut parked = parked;
+    ask_all(rt, alloc, &mut parked, &LATER);
+    settle(rt, alloc, &mut parked);
+    parked.finish(rt, alloc)
 }
 
 // How many deliveries were lost to deactivations.

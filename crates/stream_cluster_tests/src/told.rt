@@ -1,10 +1,13 @@
 //! What producers were told was published, and the report that follows of it.
 ghost use Rattle.std.specs.Prelude.{◌≡◌};
 
-use crate::producer::Publisher;
+use crate::producer::Producer;
+use shared_partition::Gate;
 use std::alloc::{AllocError, Global};
 use std::process::Abort;
 use std::sync::Wait;
+use step_core::{Op, Reply};
+use turnstile::StoredHistory;
 
 /// An event that a producer was told was published, in a batch of its own.
 #[derive(Clone, Copy)]
@@ -79,10 +82,10 @@ pub fn report_of(
 }
 
 // A grain subscribes at a queue, and asks once more where that was refused. Whether it was.
-fn subscribe<R: Wait + Abort>(
+fn subscribe<G: Gate, H: StoredHistory<Op, Reply>, R: Wait + Abort>(
     rt: &R,
     alloc: Global,
-    producer: &mut Publisher,
+    producer: &mut Producer<G, H>,
     queue: usize,
     to: usize,
 ) -> bool
@@ -98,10 +101,10 @@ fn subscribe<R: Wait + Abort>(
 }
 
 /// Two grains subscribe at each queue. Whether that was refused somewhere; then it was asked for once more.
-pub fn subscribe_all<R: Wait + Abort>(
+pub fn subscribe_all<G: Gate, H: StoredHistory<Op, Reply>, R: Wait + Abort>(
     rt: &R,
     alloc: Global,
-    producer: &mut Publisher,
+    producer: &mut Producer<G, H>,
     queues: usize,
 ) -> bool
     ensures { producer.new ≡ producer.old }

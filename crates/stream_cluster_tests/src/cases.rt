@@ -1,0 +1,231 @@
+//! Clusters in threads: what is done to each, and how it ends.
+ghost use Rattle.std.specs.Prelude.{◌≡◌};
+
+use crate::asking::holds;
+use crate::producer::Producer;
+use crate::running::{Calls, End, Ended, Places, Running, Size, is_so, start};
+use activation_directory::{DirectoryOp, DirectoryReply};
+use shared_partition::{Counting, Gate};
+use std::alloc::Global;
+use std::process::Abort;
+use std::sync::{Arc, Wait};
+use std::thread::Threads;
+use step_core::{Op, Reply};
+use stream_cluster::{SiloDown, SiloUp};
+use turnstile::StoredHistory;
+
+/// What is done to a cluster.
+#[derive(Clone, Copy)]
+pub enum Step {
+    /// A grain subscribes at a queue.
+    Subscribe(usize, usize),
+    /// An event of this payload is published to a queue.
+    Publish(usize, u64),
+    /// A silo comes, and is answered so.
+    Up(u8, SiloUp),
+    /// A silo goes, and is answered so.
+    Down(u8, SiloDown),
+    /// All is handled.
+    Settle,
+    /// A queue is asked until its history is full.
+    Fill(usize),
+}
+
+/// What becomes of a second caller.
+#[derive(Clone, Copy)]
+pub enum Second {
+    /// There is none.
+    None,
+    /// It is lost.
+    IsLost,
+    /// It stays away from the end.
+    Stays,
+}
+
+/// A cluster, what is done to it, and how it ends.
+#[derive(Clone, Copy)]
+pub struct Case {
+    pub size: Size,
+    pub steps: &'static [Step],
+    pub second: Second,
+    pub end: End,
+}
+
+// Whether a step is done, and answered so.
+fn is_met<
+    G: Gate + 'static,
+    H: StoredHistory<Op, Reply> + Send + 'static,
+    D: StoredHistory<DirectoryOp, DirectoryReply> + Send + 'static,
+    R: Threads + Wait + Abort + Copy + Send + 'static,
+>(
+    rt: &R,
+    alloc: Global,
+    running: &mut Running<G, H, D>,
+    producer: &mut Producer<G, H>,
+    step: &Step,
+) -> bool
+    ensures running { running.new ≡ running.old }
+    ensures producer { producer.new ≡ producer.old }
+{
+    match *step {
+        Step::Subscribe(queue, to) => producer.subscribe(rt, alloc, queue, to).is_ok(),
+        Step::Publish(queue, payload) => producer.publish(rt, alloc, queue, payload).is_ok(),
+        Step::Up(silo, wanted) => running.up(rt, alloc, silo).expect(rt, "memory") == wanted,
+        Step::Down(silo, wanted) => running.down(rt, alloc, silo).expect(rt, "memory") == wanted,
+        Step::Settle => producer.is_quiet(rt, alloc),
+        Step::Fill(queue) => producer.fills(rt, alloc, queue, FEW),
+    }
+}
+
+// How a cluster ends.
+fn finish<
+    G: Gate + 'static,
+    H: StoredHistory<Op, Reply> + Send + 'static,
+    D: StoredHistory<DirectoryOp, DirectoryReply> + Send + 'static,
+    R: Threads + Wait + Abort,
+>(
+    rt: &R,
+    alloc: Global,
+    running: Running<G, H, D>,
+    producer: Producer<G, H>,
+    second: Second,
+) -> Ended<H>
+    requires { producer ≡ running }
+{
+    let mut producer = producer;
+    match second {
+        Second::None => running.finish(rt, alloc, producer),
+        Second::IsLost => {
+            drop(producer.split(alloc, 0).expect(rt, "memory"));
+            running.finish(rt, alloc, producer)
+        }
+        Second::Stays => {
+            let other = producer.split(alloc, 0).expect(rt, "memory");
+            let ended = running.finish(rt, alloc, producer);
+            drop(other);
+            ended
+        }
+    }
+}
+
+/// Whether a cluster with this gate ends as its case says.
+pub fn is_case<
+    G: Gate + 'static,
+    H: StoredHistory<Op, Reply> + Send + 'static,
+    D: StoredHistory<DirectoryOp, DirectoryReply> + Send + 'static,
+    R: Threads + Wait + Abort + Copy + Send + 'static,
+>(rt: &R, alloc: Global, gate: Arc<G, Global>, table: usize, case: &Case) -> bool {
+    let started = start::<G, H, D, R>(rt, alloc, &case.size, gate);
+    let (mut running, mut producer) = started.expect(rt, "memory");
+    for (row, step) in case.steps.iter().enumerate() {
+        let is_met = is_met(rt, alloc, &mut running, &mut producer, step);
+        holds(rt, is_met, table, row);
+    }
+    let ended = finish(rt, alloc, running, producer, case.second);
+    is_so(&ended, case.end)
+}
+
+// How many calls each history of a small cluster has.
+const FEW: u64 = 100;
+
+const TWO: Size = Size {
+    queues: 2,
+    silos: 2,
+    history: 1_000_000,
+    room: 0,
+};
+
+// Silos come and go while events are published to two queues. Each is handled once.
+const CHANGES: [Step; 22] = [
+    Step::Subscribe(0, 5),
+    Step::Subscribe(1, 6),
+    Step::Publish(0, 7),
+    Step::Publish(1, 8),
+    Step::Up(1, SiloUp::Up),
+    Step::Up(1, SiloUp::Already),
+    Step::Down(0, SiloDown::Down),
+    Step::Down(0, SiloDown::NotLive),
+    Step::Publish(0, 7),
+    Step::Publish(1, 8),
+    Step::Up(2, SiloUp::Up),
+    Step::Up(2, SiloUp::Already),
+    Step::Down(1, SiloDown::Down),
+    Step::Down(1, SiloDown::NotLive),
+    Step::Publish(0, 7),
+    Step::Publish(1, 8),
+    Step::Up(3, SiloUp::Up),
+    Step::Up(3, SiloUp::Already),
+    Step::Down(2, SiloDown::Down),
+    Step::Down(2, SiloDown::NotLive),
+    Step::Down(3, SiloDown::LastSilo),
+    Step::Settle,
+];
+
+const CHANGED: &[u8] =
+    b"report\n0:1 o/0 g/5 0.0 3\n  0.0 \"7\"\n  1.0 \"7\"\n  2.0 \"7\"\n1:1 o/1 g/6 0.0 3\n  0.0 \"8\"\n  1.0 \"8\"\n  2.0 \"8\"\n";
+
+const PUBLISHED: [Step; 2] = [Step::Subscribe(0, 5), Step::Publish(0, 7)];
+
+const FILLED: [Step; 1] = [Step::Fill(1)];
+
+static CASES: [Case; 5] = [
+    Case {
+        size: Size { silos: 1, ..TWO },
+        steps: &CHANGES,
+        second: Second::None,
+        end: End::Report(CHANGED),
+    },
+    // Another caller still has the turnstiles.
+    Case {
+        size: TWO,
+        steps: &[],
+        second: Second::Stays,
+        end: End::InUse,
+    },
+    // Another caller was lost, and its passes are missing.
+    Case {
+        size: TWO,
+        steps: &[],
+        second: Second::IsLost,
+        end: End::Missing(1),
+    },
+    // The history of a queue is full.
+    Case {
+        size: Size {
+            silos: 1,
+            history: FEW,
+            ..TWO
+        },
+        steps: &FILLED,
+        second: Second::None,
+        end: End::Full(FEW as usize, 2),
+    },
+    // A cluster that ends at once after a publish has handled the event or not, and says so.
+    Case {
+        size: Size {
+            queues: 1,
+            silos: 1,
+            ..TWO
+        },
+        steps: &PUBLISHED,
+        second: Second::None,
+        end: End::LeftOr(b"report\n0:1 o/0 g/5 0.0 1\n  0.0 \"7\"\n"),
+    },
+];
+
+fn check<
+    H: StoredHistory<Op, Reply> + Send + 'static,
+    D: StoredHistory<DirectoryOp, DirectoryReply> + Send + 'static,
+    R: Threads + Wait + Abort + Copy + Send + 'static,
+>(rt: &R, alloc: Global) {
+    for (table, case) in CASES.iter().enumerate() {
+        let gate = Arc::new(alloc, Counting).expect(rt, "memory");
+        let is_case = is_case::<Counting, H, D, R>(rt, alloc, gate, table, case);
+        holds(rt, is_case, table, case.steps.len());
+    }
+}
+
+#[test]
+fn clusters_end(rt: HostRuntime) {
+    check::<Calls, Places, HostRuntime>(&rt, rt.alloc());
+}
