@@ -17,8 +17,7 @@ use Rattle.pubsub_registry.specs.declared.registration.Registration.{Registratio
 use Rattle.subscription_table.specs.Table.{is_in, no_entry, no_state}
 use Rattle.pubsub_registry.specs.Registry.{closed_registration}
 use Rattle.step_core.specs.Known.{AreKnown, IsOf, IsUnheld, IsUnknown, IsUntouched}
-use Rattle.step_core.proofs.KnownOps.{Either, Left, Right, changed-here, changed-other, eqb-same, none-or, or-none, same-or}
-use Rattle.stream_ident.proofs.WordLemmas.{length-change_at}
+use Rattle.step_core.proofs.KnownOps.{Either, Left, Right, changed-back, changed-forth, changed-here, changed-of, changed-other, eqb-same, none-or, of-changed, or-none, same-or}
 
 -- ---- a grain more
 
@@ -172,35 +171,16 @@ any-filtered p q (d ∷ ds) none = by (q d) (or-none (p d) (list_any p ds) none)
 pub known-forgotten : (names : List (SubName × Registration)) (states : List PlainState) (grains : List (GrainId × PlainActivation)) (i j : ℕ) → AreKnown names states grains → (get_or states i no_state).is_open ≡ false → j < length grains
     → AreKnown names states (change_at (forgotten i) j grains)
 known-forgotten names states grains i j known is_closed inside = record {
-  within = λ k n within is. known.within k n (back k within) (was_in k n is (same-or k j) (same-or n i));
-  theirs = λ k n within is. of_same k n (known.theirs k n (back k within) (was_in k n is (same-or k j) (same-or n i)));
+  within = λ k n within is. known.within k n (changed-back grains j (forgotten i) k within) (was_in k n is (same-or k j) (same-or n i));
+  theirs = λ k n within is. changed-of grains j (forgotten i) names inside k n (known.theirs k n (changed-back grains j (forgotten i) k within) (was_in k n is (same-or k j) (same-or n i)));
   untouched = λ n within is_open unknown. untouched_by n within is_open unknown (same-or n i);
 }
   where
     New : List (GrainId × PlainActivation)
     New = change_at (forgotten i) j grains
 
-    back : (k : ℕ) → k < length New → k < length grains
-    back k within = omega (arith, within, length-change_at (forgotten i) j grains)
-
-    forth : (k : ℕ) → k < length grains → k < length New
-    forth k within = omega (arith, within, length-change_at (forgotten i) j grains)
-
     here : get_or New j no_grain ≡ ((get_or grains j no_grain).0, forgotten i (get_or grains j no_grain).1)
     here = changed-here (forgotten i) j grains no_grain inside
-
-    there : (k : ℕ) → k ≢ j → get_or New k no_grain ≡ get_or grains k no_grain
-    there k other = changed-other (forgotten i) j k grains no_grain other
-
-    grain-by : (k : ℕ) → Either (k ≡ j) (k ≢ j) → grain_at New k ≡ grain_at grains k
-    grain-by k (Left same) = ap (grain_at New) same ∙ ap (λ (e : GrainId × PlainActivation). e.0) here ∙ ap (grain_at grains) (sym same)
-    grain-by k (Right other) = ap (λ (e : GrainId × PlainActivation). e.0) (there k other)
-
-    of_same : (k n : ℕ) → IsOf names grains n k → IsOf names New n k
-    of_same k n is = subst (λ (g : GrainId). same_grain (get_or names n no_entry).1.grain g ≡ true) (sym (grain-by k (same-or k j))) is
-
-    of_back : (k n : ℕ) → IsOf names New n k → IsOf names grains n k
-    of_back k n is = subst (λ (g : GrainId). same_grain (get_or names n no_entry).1.grain g ≡ true) (grain-by k (same-or k j)) is
 
     subs-here : (k : ℕ) → k ≡ j → (activation_at New k).subs ≡ without_number i (activation_at grains k).subs
     subs-here k same =
@@ -208,13 +188,13 @@ known-forgotten names states grains i j known is_closed inside = record {
 
     in_same : (k n : ℕ) → n ≢ i → Either (k ≡ j) (k ≢ j) → is_in (activation_at New k).subs n ≡ is_in (activation_at grains k).subs n
     in_same k n other (Left same) = ap (λ (subs : List ℕ). is_in subs n) (subs-here k same) ∙ without-number-other i n (activation_at grains k).subs other
-    in_same k n other (Right other_k) = ap (λ (e : GrainId × PlainActivation). is_in e.1.subs n) (there k other_k)
+    in_same k n other (Right other_k) = ap (λ (e : GrainId × PlainActivation). is_in e.1.subs n) (changed-other (forgotten i) j k grains no_grain other_k)
 
     was_in : (k n : ℕ) → is_in (activation_at New k).subs n ≡ true → Either (k ≡ j) (k ≢ j) → Either (n ≡ i) (n ≢ i) → is_in (activation_at grains k).subs n ≡ true
     was_in k n is at_k (Right other) = sym (in_same k n other at_k) ∙ is
     was_in k n is (Left same) (Left own) =
         absurd (false≢true (sym (ap (is_in (activation_at New k).subs) own ∙ ap (λ (subs : List ℕ). is_in subs i) (subs-here k same) ∙ without-number-own i (activation_at grains k).subs) ∙ is))
-    was_in k n is (Right other_k) (Left own) = sym (ap (λ (e : GrainId × PlainActivation). is_in e.1.subs n) (there k other_k)) ∙ is
+    was_in k n is (Right other_k) (Left own) = sym (ap (λ (e : GrainId × PlainActivation). is_in e.1.subs n) (changed-other (forgotten i) j k grains no_grain other_k)) ∙ is
 
     held : (n k : ℕ) → holds n (activation_at grains k) ≡ false → Either (k ≡ j) (k ≢ j) → holds n (activation_at New k) ≡ false
     held n k was (Left same) =
@@ -222,10 +202,10 @@ known-forgotten names states grains i j known is_closed inside = record {
         let parts = or-none (list_any (λ (e : Delivery). n == e.sub) old.mailbox) (runs n old.running) (ap (λ m. holds n (activation_at grains m)) (sym same) ∙ was) in
         ap (λ m. holds n (activation_at New m)) same ∙ ap (λ (e : GrainId × PlainActivation). holds n e.1) here
         ∙ none-or (list_any (λ (e : Delivery). n == e.sub) (filter (λ (e : Delivery). not (i == e.sub)) old.mailbox)) (runs n old.running) (any-filtered (λ e. n == e.sub) (λ e. not (i == e.sub)) old.mailbox parts.0) parts.1
-    held n k was (Right other) = ap (λ (e : GrainId × PlainActivation). holds n e.1) (there k other) ∙ was
+    held n k was (Right other) = ap (λ (e : GrainId × PlainActivation). holds n e.1) (changed-other (forgotten i) j k grains no_grain other) ∙ was
 
     untouched_by : (n : ℕ) → n < length names → (get_or states n no_state).is_open ≡ true → IsUnknown names New n → Either (n ≡ i) (n ≢ i) → IsUntouched names states New n
     untouched_by n within is_open unknown (Left own) = absurd (false≢true (sym (ap (λ m. (get_or states m no_state).is_open) own ∙ is_closed) ∙ is_open))
     untouched_by n within is_open unknown (Right other) =
-        let was = known.untouched n within is_open (λ k in_k of_k. sym (in_same k n other (same-or k j)) ∙ unknown k (forth k in_k) (of_same k n of_k)) in
-        record { at_resume = was.at_resume; unhandled = was.unhandled; unheld = λ k in_k of_k. held n k (was.unheld k (back k in_k) (of_back k n of_k)) (same-or k j) }
+        let was = known.untouched n within is_open (λ k in_k of_k. sym (in_same k n other (same-or k j)) ∙ unknown k (changed-forth grains j (forgotten i) k in_k) (changed-of grains j (forgotten i) names inside k n of_k)) in
+        record { at_resume = was.at_resume; unhandled = was.unhandled; unheld = λ k in_k of_k. held n k (was.unheld k (changed-back grains j (forgotten i) k in_k) (of-changed grains j (forgotten i) names inside k n of_k)) (same-or k j) }

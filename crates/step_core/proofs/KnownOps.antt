@@ -127,7 +127,28 @@ known-rewound names states grains lengths known =
       ),
     ))
 
--- ---- one grain changed, states as they were
+-- ---- one grain changed
+
+-- what stays as it was where the grain with a number changes
+module _ (grains : List (GrainId × PlainActivation)) (j : ℕ) (f : PlainActivation → PlainActivation) where
+  pub changed-back : (k : ℕ) → k < length (change_at f j grains) → k < length grains
+  changed-back k within = omega (arith, within, length-change_at f j grains)
+
+  pub changed-forth : (k : ℕ) → k < length grains → k < length (change_at f j grains)
+  changed-forth k within = omega (arith, within, length-change_at f j grains)
+
+  pub changed-grain : j < length grains → (k : ℕ) → grain_at (change_at f j grains) k ≡ grain_at grains k
+  changed-grain inside k = by (same-or k j)
+    where
+      by : Either (k ≡ j) (k ≢ j) → grain_at (change_at f j grains) k ≡ grain_at grains k
+      by (Left same) = ap (grain_at (change_at f j grains)) same ∙ ap (λ (e : GrainId × PlainActivation). e.0) (changed-here f j grains no_grain inside) ∙ ap (grain_at grains) (sym same)
+      by (Right other) = ap (λ (e : GrainId × PlainActivation). e.0) (changed-other f j k grains no_grain other)
+
+  pub changed-of : (names : List (SubName × Registration)) → j < length grains → (k n : ℕ) → IsOf names grains n k → IsOf names (change_at f j grains) n k
+  changed-of names inside k n is = subst (λ (g : GrainId). same_grain (get_or names n no_entry).1.grain g ≡ true) (sym (changed-grain inside k)) is
+
+  pub of-changed : (names : List (SubName × Registration)) → j < length grains → (k n : ℕ) → IsOf names (change_at f j grains) n k → IsOf names grains n k
+  of-changed names inside k n is = subst (λ (g : GrainId). same_grain (get_or names n no_entry).1.grain g ≡ true) (changed-grain inside k) is
 
 -- it knows the same and holds no more
 pub known-grain : (names : List (SubName × Registration)) (states : List PlainState) (grains : List (GrainId × PlainActivation)) (j : ℕ) (f : PlainActivation → PlainActivation) → AreKnown names states grains → j < length grains
@@ -135,35 +156,22 @@ pub known-grain : (names : List (SubName × Registration)) (states : List PlainS
     → ((n : ℕ) → holds n (activation_at grains j) ≡ false → holds n (f (activation_at grains j)) ≡ false)
     → AreKnown names states (change_at f j grains)
 known-grain names states grains j f known inside knows holds_less = record {
-  within = λ k n within is. known.within k n (back k within) (subst (λ (subs : List ℕ). is_in subs n ≡ true) (subs-same k) is);
-  theirs = λ k n within is. subst (λ (g : GrainId). same_grain (get_or names n no_entry).1.grain g ≡ true) (sym (grain-same k)) (known.theirs k n (back k within) (subst (λ (subs : List ℕ). is_in subs n ≡ true) (subs-same k) is));
+  within = λ k n within is. known.within k n (changed-back grains j f k within) (subst (λ (subs : List ℕ). is_in subs n ≡ true) (subs-same k) is);
+  theirs = λ k n within is. changed-of grains j f names inside k n (known.theirs k n (changed-back grains j f k within) (subst (λ (subs : List ℕ). is_in subs n ≡ true) (subs-same k) is));
   untouched = λ n within is_open unknown.
-      let was = known.untouched n within is_open (λ k in_k of_k. subst (λ (subs : List ℕ). is_in subs n ≡ false) (subs-same k) (unknown k (forth k in_k) (subst (λ (g : GrainId). same_grain (get_or names n no_entry).1.grain g ≡ true) (sym (grain-same k)) of_k))) in
+      let was = known.untouched n within is_open (λ k in_k of_k. subst (λ (subs : List ℕ). is_in subs n ≡ false) (subs-same k) (unknown k (changed-forth grains j f k in_k) (changed-of grains j f names inside k n of_k))) in
       record {
         at_resume = was.at_resume;
         unhandled = was.unhandled;
-        unheld = λ k in_k of_k. held n k (was.unheld k (back k in_k) (subst (λ (g : GrainId). same_grain (get_or names n no_entry).1.grain g ≡ true) (grain-same k) of_k)) (same-or k j);
+        unheld = λ k in_k of_k. held n k (was.unheld k (changed-back grains j f k in_k) (of-changed grains j f names inside k n of_k)) (same-or k j);
       };
 }
   where
     New : List (GrainId × PlainActivation)
     New = change_at f j grains
 
-    back : (k : ℕ) → k < length New → k < length grains
-    back k within = omega (arith, within, length-change_at f j grains)
-
-    forth : (k : ℕ) → k < length grains → k < length New
-    forth k within = omega (arith, within, length-change_at f j grains)
-
     here : get_or New j no_grain ≡ ((get_or grains j no_grain).0, f (get_or grains j no_grain).1)
     here = changed-here f j grains no_grain inside
-
-    grain-by : (k : ℕ) → Either (k ≡ j) (k ≢ j) → grain_at New k ≡ grain_at grains k
-    grain-by k (Left same) = ap (grain_at New) same ∙ ap (λ (e : GrainId × PlainActivation). e.0) here ∙ ap (grain_at grains) (sym same)
-    grain-by k (Right other) = ap (λ (e : GrainId × PlainActivation). e.0) (changed-other f j k grains no_grain other)
-
-    grain-same : (k : ℕ) → grain_at New k ≡ grain_at grains k
-    grain-same k = grain-by k (same-or k j)
 
     subs-by : (k : ℕ) → Either (k ≡ j) (k ≢ j) → (activation_at New k).subs ≡ (activation_at grains k).subs
     subs-by k (Left same) = ap (λ i. (activation_at New i).subs) same ∙ ap (λ (e : GrainId × PlainActivation). e.1.subs) here ∙ knows ∙ ap (λ i. (activation_at grains i).subs) (sym same)
@@ -260,35 +268,16 @@ holds-woken n a d other was =
 pub known-offered : (names : List (SubName × Registration)) (states : List PlainState) (grains : List (GrainId × PlainActivation)) (i j : ℕ) (s : PlainState) (d : Delivery) → AreKnown names states grains → i < length names → j < length grains → d.sub ≡ i → IsOf names grains i j
     → AreKnown names (set states i s) (change_at (λ a. woken a d) j grains)
 known-offered names states grains i j s d known within_i inside is_sub its = record {
-  within = λ k n within is. within_by k n (back k within) is (same-or k j) (same-or n i);
-  theirs = λ k n within is. of_by k n (back k within) is (same-or k j) (same-or n i);
+  within = λ k n within is. within_by k n (changed-back grains j (λ a. woken a d) k within) is (same-or k j) (same-or n i);
+  theirs = λ k n within is. of_by k n (changed-back grains j (λ a. woken a d) k within) is (same-or k j) (same-or n i);
   untouched = λ n within is_open unknown. untouched_by n within is_open unknown (same-or n i);
 }
   where
     New : List (GrainId × PlainActivation)
     New = change_at (λ a. woken a d) j grains
 
-    back : (k : ℕ) → k < length New → k < length grains
-    back k within = omega (arith, within, length-change_at (λ a. woken a d) j grains)
-
-    forth : (k : ℕ) → k < length grains → k < length New
-    forth k within = omega (arith, within, length-change_at (λ a. woken a d) j grains)
-
     here : get_or New j no_grain ≡ ((get_or grains j no_grain).0, woken (get_or grains j no_grain).1 d)
     here = changed-here (λ a. woken a d) j grains no_grain inside
-
-    there : (k : ℕ) → k ≢ j → get_or New k no_grain ≡ get_or grains k no_grain
-    there k other = changed-other (λ a. woken a d) j k grains no_grain other
-
-    grain-by : (k : ℕ) → Either (k ≡ j) (k ≢ j) → grain_at New k ≡ grain_at grains k
-    grain-by k (Left same) = ap (grain_at New) same ∙ ap (λ (e : GrainId × PlainActivation). e.0) here ∙ ap (grain_at grains) (sym same)
-    grain-by k (Right other) = ap (λ (e : GrainId × PlainActivation). e.0) (there k other)
-
-    of_same : (k n : ℕ) → IsOf names grains n k → IsOf names New n k
-    of_same k n is = subst (λ (g : GrainId). same_grain (get_or names n no_entry).1.grain g ≡ true) (sym (grain-by k (same-or k j))) is
-
-    of_back : (k n : ℕ) → IsOf names New n k → IsOf names grains n k
-    of_back k n is = subst (λ (g : GrainId). same_grain (get_or names n no_entry).1.grain g ≡ true) (grain-by k (same-or k j)) is
 
     subs-here : (k : ℕ) → k ≡ j → (activation_at New k).subs ≡ with_number i (activation_at grains k).subs
     subs-here k same =
@@ -297,38 +286,38 @@ known-offered names states grains i j s d known within_i inside is_sub its = rec
 
     was_in : (k n : ℕ) → is_in (activation_at New k).subs n ≡ true → Either (k ≡ j) (k ≢ j) → n ≢ i → is_in (activation_at grains k).subs n ≡ true
     was_in k n is (Left same) other = with-number-back i n (activation_at grains k).subs other (subst (λ (subs : List ℕ). is_in subs n ≡ true) (subs-here k same) is)
-    was_in k n is (Right other_k) other = subst (λ (e : GrainId × PlainActivation). is_in e.1.subs n ≡ true) (there k other_k) is
+    was_in k n is (Right other_k) other = subst (λ (e : GrainId × PlainActivation). is_in e.1.subs n ≡ true) (changed-other (λ a. woken a d) j k grains no_grain other_k) is
 
     within_by : (k n : ℕ) → k < length grains → is_in (activation_at New k).subs n ≡ true → Either (k ≡ j) (k ≢ j) → Either (n ≡ i) (n ≢ i) → n < length names
     within_by k n within is at_k (Left own) = subst (λ m. m < length names) (sym own) within_i
     within_by k n within is at_k (Right other) = known.within k n within (was_in k n is at_k other)
 
     of_by : (k n : ℕ) → k < length grains → is_in (activation_at New k).subs n ≡ true → Either (k ≡ j) (k ≢ j) → Either (n ≡ i) (n ≢ i) → IsOf names New n k
-    of_by k n within is at_k (Right other) = of_same k n (known.theirs k n within (was_in k n is at_k other))
-    of_by k n within is (Left same) (Left own) = of_same k n (subst (λ m. IsOf names grains m k) (sym own) (subst (IsOf names grains i) (sym same) its))
-    of_by k n within is (Right other_k) (Left own) = of_same k n (known.theirs k n within (subst (λ (e : GrainId × PlainActivation). is_in e.1.subs n ≡ true) (there k other_k) is))
+    of_by k n within is at_k (Right other) = changed-of grains j (λ a. woken a d) names inside k n (known.theirs k n within (was_in k n is at_k other))
+    of_by k n within is (Left same) (Left own) = changed-of grains j (λ a. woken a d) names inside k n (subst (λ m. IsOf names grains m k) (sym own) (subst (IsOf names grains i) (sym same) its))
+    of_by k n within is (Right other_k) (Left own) = changed-of grains j (λ a. woken a d) names inside k n (known.theirs k n within (subst (λ (e : GrainId × PlainActivation). is_in e.1.subs n ≡ true) (changed-other (λ a. woken a d) j k grains no_grain other_k) is))
 
     not_in : (k n : ℕ) → is_in (activation_at New k).subs n ≡ false → Either (k ≡ j) (k ≢ j) → (b : Bool) → is_in (activation_at grains k).subs n ≡ b → b ≡ false
     not_in k n none at_k false is = refl
     not_in k n none (Left same) true is =
         absurd (false≢true (sym none ∙ ap (λ (subs : List ℕ). is_in subs n) (subs-here k same) ∙ with-number-more i n (activation_at grains k).subs is))
-    not_in k n none (Right other) true is = absurd (false≢true (sym none ∙ ap (λ (e : GrainId × PlainActivation). is_in e.1.subs n) (there k other) ∙ is))
+    not_in k n none (Right other) true is = absurd (false≢true (sym none ∙ ap (λ (e : GrainId × PlainActivation). is_in e.1.subs n) (changed-other (λ a. woken a d) j k grains no_grain other) ∙ is))
 
     held : (n k : ℕ) → n ≢ i → holds n (activation_at grains k) ≡ false → Either (k ≡ j) (k ≢ j) → holds n (activation_at New k) ≡ false
     held n k other was (Left same) =
         ap (λ m. holds n (activation_at New m)) same ∙ ap (λ (e : GrainId × PlainActivation). holds n e.1) here
         ∙ holds-woken n (activation_at grains j) d (λ is. other (is ∙ is_sub)) (ap (λ m. holds n (activation_at grains m)) (sym same) ∙ was)
-    held n k other was (Right other_k) = ap (λ (e : GrainId × PlainActivation). holds n e.1) (there k other_k) ∙ was
+    held n k other was (Right other_k) = ap (λ (e : GrainId × PlainActivation). holds n e.1) (changed-other (λ a. woken a d) j k grains no_grain other_k) ∙ was
 
     untouched_by : (n : ℕ) → n < length names → (get_or (set states i s) n no_state).is_open ≡ true → IsUnknown names New n → Either (n ≡ i) (n ≢ i) → IsUntouched names (set states i s) New n
     untouched_by n within is_open unknown (Left own) =
-        absurd (false≢true (sym (unknown j (forth j inside) (of_same j n (subst (λ m. IsOf names grains m j) (sym own) its)))
+        absurd (false≢true (sym (unknown j (changed-forth grains j (λ a. woken a d) j inside) (changed-of grains j (λ a. woken a d) names inside j n (subst (λ m. IsOf names grains m j) (sym own) its)))
         ∙ ap (λ (subs : List ℕ). is_in subs n) (subs-here j refl) ∙ ap (λ m. is_in (with_number i (activation_at grains j).subs) m) own ∙ with-number-in i (activation_at grains j).subs))
     untouched_by n within is_open unknown (Right other) =
         let kept : get_or (set states i s) n no_state ≡ get_or states n no_state = get_or-set_other states i n s no_state other in
-        let was = known.untouched n within (subst (λ t. t.is_open ≡ true) kept is_open) (λ k in_k of_k. not_in k n (unknown k (forth k in_k) (of_same k n of_k)) (same-or k j) (is_in (activation_at grains k).subs n) refl) in
+        let was = known.untouched n within (subst (λ t. t.is_open ≡ true) kept is_open) (λ k in_k of_k. not_in k n (unknown k (changed-forth grains j (λ a. woken a d) k in_k) (changed-of grains j (λ a. woken a d) names inside k n of_k)) (same-or k j) (is_in (activation_at grains k).subs n) refl) in
         record {
           at_resume = ap (λ t. t.cursor) kept ∙ was.at_resume ∙ sym (ap (λ t. t.resume) kept);
           unhandled = ap (λ t. t.handled) kept ∙ was.unhandled;
-          unheld = λ k in_k of_k. held n k other (was.unheld k (back k in_k) (of_back k n of_k)) (same-or k j);
+          unheld = λ k in_k of_k. held n k other (was.unheld k (changed-back grains j (λ a. woken a d) k in_k) (of-changed grains j (λ a. woken a d) names inside k n of_k)) (same-or k j);
         }
