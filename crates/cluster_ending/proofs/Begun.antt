@@ -32,7 +32,8 @@ use Rattle.cluster_ending.specs.Closing.{AreTraces, IsTraceOf}
 use Rattle.cluster_ending.specs.Finishing.{CallersAloneProduce, CameTo, HasBegun, HasSeenFront, HaveBegun, IsDone}
 use Rattle.cluster_ending.specs.Gathering.{Gathers, IsFirstOf, IsOtherIn, gathered}
 use Rattle.cluster_ending.proofs.Looking.{legal-last, look-keeps, look-replies}
-use Rattle.cluster_ending.proofs.Rows.{all-at, all-weaker, zip-at, zip-refl, zip-trans}
+use Rattle.stream_ident.proofs.EachOf.{All-weaken}
+use Rattle.cluster_ending.proofs.Rows.{all-at, zip-at, zip-refl, zip-trans}
 
 -- an entry of others, or a look for quiet by the pass itself
 abbrev IsLookOr : QueuePass → Entry Op Reply → Type 0
@@ -145,7 +146,7 @@ have-begun ls cs ps last asked histories partitions gathers came traces =
     record {
       of_lines = zip-trans IsFirstOf EndsAs HasSeenFront line-front ls ps histories gathers.first ends;
       of_callers =
-          all-weaker (λ (c : List QueuePass). AllZip IsOtherIn c ps) (λ (c : List QueuePass). AllZip HasBegun c histories)
+          All-weaken (λ (c : List QueuePass). AllZip IsOtherIn c ps) (λ (c : List QueuePass). AllZip HasBegun c histories)
           (λ c taken. zip-trans IsOtherIn EndsAs HasBegun begun-place c ps histories taken ends) cs gathers.others;
     }
 

@@ -1,5 +1,5 @@
 -- What holds of each two at one place, and of each in a list.
-use Rattle.std.proofs.Common.{◌≡◌, ℕ, zero, suc, ◌<◌, List, [], ◌∷◌, ◌++◌, length, get_or, Some, Result, Ok, Err, IfOk, arith, refl, subst}
+use Rattle.std.proofs.Common.{◌≡◌, ℕ, zero, suc, List, [], ◌∷◌, Some, Result, Ok, Err, IfOk, refl, subst}
 use Rattle.std.specs.List.{AllByRecursion, AllZip}
 use Rattle.std.specs.Prelude.{slice_get}
 
@@ -31,16 +31,6 @@ module _ {A : Type 0} (P : A → Type 0) where
   all-at [] k x all had = absurd (cc)
   all-at (z ∷ xs) zero x all had = let same : z ≡ x = cc in subst (λ (e : A). P e) same all.0
   all-at (z ∷ xs) (suc k) x all had = all-at xs k x all.1 had
-
-  -- the same by a place that there is
-  pub all-push : (xs : List A) (x : A) → AllByRecursion P xs → P x → AllByRecursion P (xs ++ x ∷ [])
-  all-push [] x all holds = (holds, tt)
-  all-push (z ∷ xs) x all holds = (all.0, all-push xs x all.1 holds)
-
-module _ {A : Type 0} (P Q : A → Type 0) where
-  pub all-weaker : ((x : A) → P x → Q x) → (xs : List A) → AllByRecursion P xs → AllByRecursion Q xs
-  all-weaker weak [] all = tt
-  all-weaker weak (x ∷ xs) all = (weak x all.0, all-weaker weak xs all.1)
 
 module _ {X E : Type 0} (P Q : X → Type 0) where
   pub if-ok : (r : Result X E) → ((x : X) → P x → Q x) → IfOk r P → IfOk r Q

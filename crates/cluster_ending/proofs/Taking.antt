@@ -1,6 +1,6 @@
 -- Passes that take in others, one after another.
 use Rattle.std.proofs.Common.{◌≡◌, ℕ, ◌<◌, List, [], ◌∷◌, ◌++◌, length, get_or, set, Contains, refl, sym, ap, subst, ◌∙◌, append_assoc, arith}
-use Rattle.std.proofs.lemmas.List.{append-nil, length-map, map-append}
+use Rattle.std.proofs.lemmas.List.{append-nil, map-append}
 use Rattle.std.proofs.lemmas.List.Elements.{Contains-append_left, Contains-append_right}
 use Rattle.std.specs.List.{AllByRecursion, AllZip}
 use Rattle.stream_model.specs.declared.op.Op.{Op}
@@ -15,7 +15,8 @@ use Rattle.cluster_callers.proofs.Splitting.{front-alike, turnstiles-joined}
 use Rattle.cluster_callers.proofs.Fronts.{front-last, front-set}
 use Rattle.cluster_ending.specs.Gathering.{AreAt, Gathers, IsFirstOf, IsOtherIn, IsPartOf, Joins, JoinsAll, JoinsEach, gathered, passes_of}
 use Rattle.cluster_ending.proofs.Looking.{turnstiles-length}
-use Rattle.cluster_ending.proofs.Rows.{all-push, zip-refl, zip-trans}
+use Rattle.stream_ident.proofs.EachOf.{All-push}
+use Rattle.cluster_ending.proofs.Rows.{zip-refl, zip-trans}
 use Rattle.stream_ident.proofs.WordLemmas.{All-at}
 
 -- who has none of more numbers has none of fewer
@@ -156,7 +157,7 @@ pub line-more : (ls : List LineView) (l : LineView) (ps new : List QueuePass) (p
     → (new ≡ passes_of (ls ++ l ∷ [])) × AllByRecursion NeverProduces new
 line-more ls l ps new p is all one never put = (
   put ∙ ap (λ (es : List QueuePass). es ++ p ∷ []) is ∙ ap (λ (e : QueuePass). passes_of ls ++ e ∷ []) one ∙ sym (map-append (λ (m : LineView). m.pass) ls (l ∷ [])),
-  subst (λ (es : List QueuePass). AllByRecursion NeverProduces es) (sym put) (all-push NeverProduces ps p all (subst (λ (e : QueuePass). NeverProduces e) (sym one) never)),
+  subst (λ (es : List QueuePass). AllByRecursion NeverProduces es) (sym put) (All-push NeverProduces ps p all (subst (λ (e : QueuePass). NeverProduces e) (sym one) never)),
 )
 
 -- callers at the turnstiles of lines are at those of their passes

@@ -20,7 +20,7 @@ use Rattle.cluster_ending.specs.declared.closing.Closing.TheVariants as closing
 use Rattle.cluster_ending.specs.declared.closing.End.{End}
 use Rattle.cluster_ending.specs.declared.closing.End.TheVariants as end
 use Rattle.cluster_ending.specs.Closing.{AreTraces, HasEnd, IsClosing, IsEnd, IsMissing, IsMissingFirst, IsTraceOf}
-use Rattle.cluster_ending.proofs.Rows.{all-push}
+use Rattle.stream_ident.proofs.EachOf.{All-push}
 
 -- a turnstile that was closed with one pass
 closed-trace : (t : Origin PlainPartition) (p : QueuePass) (history : List (Entry Op Reply)) (partition : PlainPartition) → OneHistory → IsOf t p → BeganEmpty t.start
@@ -63,7 +63,7 @@ closed-missing p (q ∷ qs) missing some counted =
 -- one more queue behind
 pub missing-more : (queue missing : ℕ) (ps : List QueuePass) (p : QueuePass) → IsMissingFirst queue missing ps → HasEnd p → IsMissingFirst queue missing (ps ++ p ∷ [])
 missing-more queue missing [] p first ends = absurd first
-missing-more zero missing (x ∷ ps) p first ends = (first.0, all-push HasEnd ps p first.1 ends)
+missing-more zero missing (x ∷ ps) p first ends = (first.0, All-push HasEnd ps p first.1 ends)
 missing-more (suc queue) missing (x ∷ ps) p first ends = (first.0, missing-more queue missing ps p first.1 ends)
 
 pub missing-here : (ps : List QueuePass) (histories : List (List (Entry Op Reply))) (partitions : List PlainPartition) (missing : ℕ) (p : QueuePass) → AreTraces ps histories partitions → IsMissing p missing

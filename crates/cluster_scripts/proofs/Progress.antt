@@ -12,7 +12,8 @@ use Rattle.silo_loops.specs.Lines.{QueuePass}
 use Rattle.silo_loops.proofs.Owning.{owns-foreign}
 use Rattle.cluster_callers.specs.Calls.{IsUnused, turnstiles}
 use Rattle.cluster_ending.proofs.Looking.{turnstiles-length}
-use Rattle.cluster_ending.proofs.Rows.{all-at, all-push, all-weaker, zip-refl, zip-trans}
+use Rattle.stream_ident.proofs.EachOf.{All-push, All-weaken}
+use Rattle.cluster_ending.proofs.Rows.{all-at, zip-refl, zip-trans}
 use Rattle.cluster_operator.specs.Operators.{OperatorGoesOn}
 use Rattle.stream_cluster.specs.Clusters.{ClusterView}
 use Rattle.cluster_operator.proofs.Changing.{op-trans}
@@ -74,7 +75,7 @@ abbrev AreUpTo : ℕ → List ℕ → Type 0
 AreUpTo last numbers = AllByRecursion (λ (number : ℕ). number ≤ last) numbers
 
 no-line : (number last : ℕ) (lines : List Line) → last < number → AreBelow last lines → HasNoLine number lines
-no-line number last lines above below = all-weaker (λ (line : Line). line.number ≤ last) (λ (line : Line). (number == line.number) ≡ false) (λ line less. ne_eqb number line.number (λ same. omega (arith, above, less, same))) lines below
+no-line number last lines above below = All-weaken (λ (line : Line). line.number ≤ last) (λ (line : Line). (number == line.number) ≡ false) (λ line less. ne_eqb number line.number (λ same. omega (arith, above, less, same))) lines below
 
 not-missed : (number last : ℕ) (missed : List ℕ) → last < number → AreUpTo last missed → script.is_among number missed ≡ false
 not-missed number last [] above below = refl
@@ -85,10 +86,10 @@ fresh-number : (number last : ℕ) (missed : List ℕ) (lines : List Line) → l
 fresh-number number last missed lines above below up = (no-line number last lines above below, not-missed number last missed above up)
 
 missed-up : (a : Answer) (number last : ℕ) (missed : List ℕ) → last < number → AreUpTo last missed → AreUpTo number (with_missed a number missed)
-missed-up answer.Missed number last missed above up = (omega arith, all-weaker (λ (m : ℕ). m ≤ last) (λ (m : ℕ). m ≤ number) (λ m less. omega (arith, above, less)) missed up)
-missed-up answer.Taken number last missed above up = all-weaker (λ (m : ℕ). m ≤ last) (λ (m : ℕ). m ≤ number) (λ m less. omega (arith, above, less)) missed up
-missed-up answer.Refused number last missed above up = all-weaker (λ (m : ℕ). m ≤ last) (λ (m : ℕ). m ≤ number) (λ m less. omega (arith, above, less)) missed up
-missed-up answer.Limit number last missed above up = all-weaker (λ (m : ℕ). m ≤ last) (λ (m : ℕ). m ≤ number) (λ m less. omega (arith, above, less)) missed up
+missed-up answer.Missed number last missed above up = (omega arith, All-weaken (λ (m : ℕ). m ≤ last) (λ (m : ℕ). m ≤ number) (λ m less. omega (arith, above, less)) missed up)
+missed-up answer.Taken number last missed above up = All-weaken (λ (m : ℕ). m ≤ last) (λ (m : ℕ). m ≤ number) (λ m less. omega (arith, above, less)) missed up
+missed-up answer.Refused number last missed above up = All-weaken (λ (m : ℕ). m ≤ last) (λ (m : ℕ). m ≤ number) (λ m less. omega (arith, above, less)) missed up
+missed-up answer.Limit number last missed above up = All-weaken (λ (m : ℕ). m ≤ last) (λ (m : ℕ). m ≤ number) (λ m less. omega (arith, above, less)) missed up
 
 -- ---- what a line more prints
 
@@ -174,7 +175,7 @@ does lines v old done found w now line a more u new far within is line_does prin
       whole = far.whole ∙ ap (λ (ls : List Line). done ++ ls) next.1 ∙ sym (append_assoc done (line ∷ []) next.0);
       last = number;
       rises = rises.1;
-      below = all-push (λ (l : Line). l.number ≤ number) done line (all-weaker (λ (l : Line). l.number ≤ far.last) (λ (l : Line). l.number ≤ number) (λ l less. omega (arith, rises.0, less)) done far.below) (omega arith);
+      below = All-push (λ (l : Line). l.number ≤ number) done line (All-weaken (λ (l : Line). l.number ≤ far.last) (λ (l : Line). l.number ≤ number) (λ l less. omega (arith, rises.0, less)) done far.below) (omega arith);
       missed = subst (λ (numbers : List ℕ). AllByRecursion (λ (m : ℕ). m ≤ number) numbers) (sym same) (missed-up a number far.last missed rises.0 far.missed);
       on = on-all old now new far.on on;
       at = at ∙ far.at;

@@ -1,10 +1,8 @@
 -- The ready ones after one grain was looked at.
-use Rattle.std.proofs.Common.{◌≡◌, ◌∙◌, ap, sym, refl, subst, ℕ, zero, suc, ◌+◌, ◌-◌, ◌<◌, ◌≤◌, Bool, true, false, not, List, [], ◌∷◌, ◌++◌, length, get_or, drop, filter, map, slice_get, slice_index, nat_lt, position, insert, remove, Option, Some, None, if◌then◌else◌, arith}
-use Rattle.std.proofs.lemmas.Bool.{cond-false, cond-true, false_from_ne_true, le-ltb, lt-ltb, ltb-false, ltb-true}
+use Rattle.std.proofs.Common.{◌≡◌, ◌∙◌, ap, sym, refl, subst, ℕ, zero, suc, ◌+◌, ◌-◌, ◌<◌, ◌≤◌, Bool, true, false, List, [], ◌∷◌, ◌++◌, length, get_or, drop, filter, map, slice_get, slice_index, insert, remove, Option, Some, None, if◌then◌else◌, arith}
+use Rattle.std.proofs.lemmas.Bool.{cond-false, cond-true, false_from_ne_true}
 use Rattle.std.proofs.lemmas.List.{get_or_default}
 use Rattle.std.proofs.lemmas.Option.{same_Some, slice_get-get_or}
-use Rattle.std.specs.List.{position_or_len}
-use Rattle.std.specs.Map.{keys_of}
 use Rattle.indexmap.specs.IndexMap.{insert_entry}
 use Rattle.stream_ident.specs.declared.ident.GrainId.{GrainId}
 use Rattle.stream_ident.specs.Name.{grain_lt, same_grain}
@@ -39,34 +37,6 @@ number_of-read grains grain number distinct within is =
   where
     zero_add : (n : ℕ) → 0 + n ≡ n
     zero_add n = omega arith
-
--- the place of a grain among the keys is its number
-abbrev place : GrainId → PlainGrains → ℕ
-place g grains = position_or_len (same_grain g) (keys_of grains)
-
-place-from : (g : GrainId) (n : ℕ) (grains : PlainGrains) → (if nat_lt (place g grains) (length (keys_of grains)) then Some (n + place g grains) else None) ≡ first_at (λ (e : GrainId × PlainActivation). same_grain g e.0) n grains
-place-from g n [] = refl
-place-from g n (e ∷ es) = by (same_grain g e.0) (place-from g (suc n) es)
-  where
-    by : (b : Bool) → (if nat_lt (place g es) (length (keys_of es)) then Some (suc n + place g es) else None) ≡ first_at (λ (e : GrainId × PlainActivation). same_grain g e.0) (suc n) es
-        → (if nat_lt (if not b then 1 + place g es else 0) (suc (length (keys_of es))) then Some (n + (if not b then 1 + place g es else 0)) else None)
-        ≡ (if b then Some n else first_at (λ (e : GrainId × PlainActivation). same_grain g e.0) (suc n) es)
-    by true rest = rw (lt-ltb 0 (suc (length (keys_of es))) (omega arith)) (ap Some (omega arith))
-    by false rest = count (nat_lt (place g es) (length (keys_of es))) refl ∙ rest
-      where
-        count : (b : Bool) → nat_lt (place g es) (length (keys_of es)) ≡ b
-            → (if nat_lt (1 + place g es) (suc (length (keys_of es))) then Some (n + (1 + place g es)) else None) ≡ (if nat_lt (place g es) (length (keys_of es)) then Some (suc n + place g es) else None)
-        count true is =
-            let within : place g es < length (keys_of es) = ltb-true _ _ is in
-            rw (is, lt-ltb (1 + place g es) (suc (length (keys_of es))) (omega arith)) (ap Some (omega arith))
-        count false is =
-            let past : length (keys_of es) ≤ place g es = ltb-false _ _ is in
-            rw (is, le-ltb (1 + place g es) (suc (length (keys_of es))) (omega arith)) refl
-
-pub number_of-place : (g : GrainId) (grains : PlainGrains) → position (same_grain g) (keys_of grains) ≡ number_of grains g
-number_of-place g grains =
-    let zero-more : place g grains ≡ 0 + place g grains = omega arith in
-    ap (λ n. if nat_lt (place g grains) (length (keys_of grains)) then Some n else None) zero-more ∙ place-from g 0 grains
 
 -- a grain that has no number is put behind the others
 inserted-from : (grains : PlainGrains) (g : GrainId) (a : PlainActivation) (n : ℕ) → first_at (λ (e : GrainId × PlainActivation). same_grain g e.0) n grains ≡ None → insert_entry same_grain grains g a ≡ grains ++ (g, a) ∷ []

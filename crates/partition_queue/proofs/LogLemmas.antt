@@ -1,32 +1,17 @@
 -- What a log keeps gives its events: those that it had, and those of one more batch.
-use Rattle.std.proofs.Common.{◌≡◌, ◌∙◌, ap, sym, subst, refl, ℕ, zero, suc, ◌+◌, ◌*◌, ◌<◌, ◌≤◌, Bool, true, not, List, [], ◌∷◌, ◌++◌, length, get_or, map, take, drop, None, append_assoc, length-append, arith, position}
-use Rattle.std.specs.List.{AllByRecursion, concat, list_all, position_or_len}
+use Rattle.std.proofs.Common.{◌≡◌, ◌∙◌, ap, sym, subst, refl, ℕ, zero, suc, ◌+◌, ◌*◌, ◌<◌, ◌≤◌, List, [], ◌∷◌, ◌++◌, length, get_or, map, take, drop, append_assoc, length-append, arith}
+use Rattle.std.specs.List.{AllByRecursion, concat}
 use Rattle.std.proofs.Math.Seq.{drop-append_seam, take-append_seam}
-use Rattle.std.proofs.lemmas.Bool.{and_parts, le-ltb}
 use Rattle.std.proofs.lemmas.List.{drop-append-le, take-append-le, length-drop, get_or_append_left, map-append}
 use Rattle.stream_ident.specs.declared.ident.StreamId.{StreamId}
 use Rattle.stream_ident.specs.declared.token.Token.{Token}
-use Rattle.stream_ident.specs.Alphabet.{IsPayload, is_printable, wrong_in_payload}
+use Rattle.stream_ident.specs.Alphabet.{IsPayload}
 use Rattle.stream_ident.specs.Event.{events_of}
-use Rattle.stream_ident.proofs.NameLemmas.{wrong_place-short}
-use Rattle.stream_ident.proofs.WordLemmas.{one-add}
+use Rattle.stream_ident.proofs.EachOf.{All-append}
 use Rattle.partition_queue.specs.declared.queue.Entry.{Entry}
 use Rattle.partition_queue.specs.Log.{entries_of, event_of, events_in, no_stream, payload_in, token_of, Grows, IsEntry, IsKept}
 
 -- ---- payloads
-
-bad_nowhere : (good : ℕ → Bool) (bytes : List ℕ) → list_all good bytes ≡ true → length bytes ≤ position_or_len (λ byte. not (good byte)) bytes
-bad_nowhere good [] all = omega arith
-bad_nowhere good (byte ∷ bytes) all =
-    let parts = and_parts (good byte) (list_all good bytes) all in
-    rw (parts.0, one-add) (omega (arith, bad_nowhere good bytes parts.1))
-
-position-none : (good : ℕ → Bool) (bytes : List ℕ) → list_all good bytes ≡ true → position (λ byte. not (good byte)) bytes ≡ None
-position-none good bytes all = rw (le-ltb (position_or_len (λ byte. not (good byte)) bytes) (length bytes) (bad_nowhere good bytes all)) refl
-
--- a payload is wrong nowhere
-pub right_payload : (bytes : List ℕ) → IsPayload bytes → wrong_in_payload bytes ≡ None
-right_payload bytes is = wrong_place-short is_printable 256 bytes is.short ∙ position-none is_printable bytes is.good
 
 pub length-payloads : (payloads : List (List ℕ)) → AllByRecursion IsPayload payloads → length (concat payloads) ≤ 256 * length payloads
 length-payloads [] all = omega arith
@@ -37,13 +22,6 @@ length-payloads (payload ∷ payloads) all =
     omega (arith, here, later, both)
 
 -- ---- the entries that were there
-
-all-append : {X : Type 0} (P : X → Type 0) (xs ys : List X) → AllByRecursion P xs → AllByRecursion P ys → AllByRecursion P (xs ++ ys)
-all-append P [] ys first second = second
-all-append P (x ∷ xs) ys first second = (first.0, all-append P xs ys first.1 second)
-
-pub all-push : {X : Type 0} (P : X → Type 0) (xs : List X) (y : X) → AllByRecursion P xs → P y → AllByRecursion P (xs ++ y ∷ [])
-all-push P xs y first second = all-append P xs (y ∷ []) first (second, tt)
 
 -- the token of the event that an entry at a place gives
 pub token_in : (streams : List StreamId) (bytes : List ℕ) (entries : List Entry) (i : ℕ) (d : Entry) (t : Token) → i < length entries → token_of (get_or entries i d) ≡ get_or (map (λ event. event.token) (events_in streams bytes entries)) i t
@@ -159,7 +137,7 @@ kept_with streams streams' bytes bytes' entries entries' number seq payloads gro
     let was = kept.short in
     let were = kept.few in
     record {
-      each = subst (AllByRecursion (IsEntry streams' bytes')) (sym more) (all-append (IsEntry streams' bytes') entries added old new);
+      each = subst (AllByRecursion (IsEntry streams' bytes')) (sym more) (All-append (IsEntry streams' bytes') entries added old new);
       short = omega (arith, many, size, short, was);
       few = omega (arith, many, names, one, were, some);
     }

@@ -24,7 +24,7 @@ use Rattle.stream_model.specs.Pulling.{caught_up, deliver, deliver_to, deliver_p
 use Rattle.stream_model.specs.Step.{takes_memory}
 use Rattle.stream_ident.specs.Words.{first_at, with_value}
 use Rattle.stream_model.proofs.Beginning.{grain_at-new}
-use Rattle.stream_model.proofs.EachOf.{All-weaken}
+use Rattle.stream_ident.proofs.EachOf.{All-weaken}
 
 -- what the cache has from a position on, by its first event
 between-more : (log : List Event) (from to : ℕ) (e : Event) → from < to → from < length log → e ≡ get_or log from e → between log from to ≡ e ∷ between log (from + 1) to

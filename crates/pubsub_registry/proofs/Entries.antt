@@ -1,14 +1,13 @@
 -- Subscriptions by name: their look-up, and their streams after a change.
-use Rattle.std.proofs.Common.{◌≡◌, ◌∙◌, ℕ, zero, suc, ◌+◌, ◌<◌, ◌≤◌, Bool, true, false, not, List, [], ◌∷◌, ◌++◌, length, Some, None, if◌then◌else◌, refl, sym, ap, subst, arith, Contains, true≢false}
-use Rattle.std.specs.Prelude.{◌⊎◌, position, nat_lt, slice_get}
-use Rattle.std.specs.List.{IsDistinct, AllByRecursion, position_or_len}
+use Rattle.std.proofs.Common.{◌≡◌, ◌∙◌, ℕ, zero, suc, ◌+◌, Bool, true, false, List, [], ◌∷◌, ◌++◌, length, Some, None, if◌then◌else◌, refl, sym, ap, subst, Contains, true≢false}
+use Rattle.std.specs.Prelude.{◌⊎◌, slice_get}
+use Rattle.std.specs.List.{IsDistinct, AllByRecursion}
 use Rattle.std.specs.Map.{keys_of, lookup, set_value}
-use Rattle.std.proofs.lemmas.Bool.{lt-ltb, le-ltb, ltb-true, ltb-false}
 use mathlib.Core.Logic.{inl, inr}
 use Rattle.indexmap.specs.IndexMap.{IndexMap, insert_entry}
 use Rattle.indexmap.proofs.CallerLemmas.{insert_entry-new}
 use Rattle.stream_ident.specs.SubName.{same_sub}
-use Rattle.stream_ident.specs.Words.{changed_value, first_at}
+use Rattle.stream_ident.specs.Words.{changed_value}
 use Rattle.stream_ident.specs.declared.ident.StreamId.{StreamId}
 use Rattle.stream_ident.specs.declared.ident.SubName.{SubName}
 use Rattle.stream_ident.proofs.WordLemmas.{changed_value-none}
@@ -100,34 +99,6 @@ pushed same is map now inside entries s registration seen kept none put =
     let gone = subst (λ (names : Names). lookup (same_sub s) names ≡ None) (sym (kept ∙ seen)) none in
     let new = subst (λ (same : SubName → SubName → Bool). lookup (same s) map.entries ≡ None) (sym is) gone in
     put ∙ insert_entry-new same map s registration new ∙ ap (λ (names : Names). names ++ (s, registration) ∷ []) kept
-
--- the first place of a name, counted among the keys
-abbrev place : SubName → Names → ℕ
-place s names = position_or_len (same_sub s) (keys_of names)
-
-first-from : (s : SubName) (n : ℕ) (names : Names) → (if nat_lt (place s names) (length (keys_of names)) then Some (n + place s names) else None) ≡ first_at (λ (entry : SubName × Registration). same_sub s entry.0) n names
-first-from s n [] = refl
-first-from s n (entry ∷ entries) = by (same_sub s entry.0) (first-from s (suc n) entries)
-  where
-    by : (b : Bool) → (if nat_lt (place s entries) (length (keys_of entries)) then Some (suc n + place s entries) else None) ≡ first_at (λ (entry : SubName × Registration). same_sub s entry.0) (suc n) entries
-        → (if nat_lt (if not b then 1 + place s entries else 0) (suc (length (keys_of entries))) then Some (n + (if not b then 1 + place s entries else 0)) else None)
-        ≡ (if b then Some n else first_at (λ (entry : SubName × Registration). same_sub s entry.0) (suc n) entries)
-    by true rest = rw (lt-ltb 0 (suc (length (keys_of entries))) (omega arith)) (ap Some (omega arith))
-    by false rest = count (nat_lt (place s entries) (length (keys_of entries))) refl ∙ rest
-      where
-        count : (b : Bool) → nat_lt (place s entries) (length (keys_of entries)) ≡ b
-            → (if nat_lt (1 + place s entries) (suc (length (keys_of entries))) then Some (n + (1 + place s entries)) else None) ≡ (if nat_lt (place s entries) (length (keys_of entries)) then Some (suc n + place s entries) else None)
-        count true is =
-            let within : place s entries < length (keys_of entries) = ltb-true _ _ is in
-            rw (is, lt-ltb (1 + place s entries) (suc (length (keys_of entries))) (omega arith)) (ap Some (omega arith))
-        count false is =
-            let past : length (keys_of entries) ≤ place s entries = ltb-false _ _ is in
-            rw (is, le-ltb (1 + place s entries) (suc (length (keys_of entries))) (omega arith)) refl
-
-pub first-is : (s : SubName) (names : Names) → position (same_sub s) (keys_of names) ≡ first_at (λ entry. same_sub s entry.0) 0 names
-first-is s names =
-    let zero-more : place s names ≡ 0 + place s names = omega arith in
-    ap (λ n. if nat_lt (place s names) (length (keys_of names)) then Some n else None) zero-more ∙ first-from s 0 names
 
 -- no name is twice among the keys of a map
 others-apart : (name : SubName) (names : Names) (i : ℕ) (entry : SubName × Registration) → AllByRecursion (λ other. same_sub name other ≡ false) (keys_of names) → slice_get names i ≡ Some entry → same_sub name entry.0 ≡ false

@@ -17,7 +17,7 @@ use Rattle.stream_model.specs.declared.plain.Subscription.{Subscription}
 use Rattle.stream_model.specs.NewestFirst.{Binding}
 use Rattle.stream_model.specs.Positions.{new_subscription}
 use Rattle.stream_model.specs.Pulling.{all_implied, implied}
-use Rattle.stream_model.proofs.EachOf.{All-append, All-weaken}
+use Rattle.stream_ident.proofs.EachOf.{All-append, All-weaken}
 use Rattle.stream_model.proofs.Values.{append-at}
 use Rattle.stream_laws.proofs.Invariant.{RulesDiffer, bound_by_rules}
 use Rattle.stream_laws.proofs.RuleLemmas.{IsFirstRule, RulesDiffer-first, implied-owed, or_else-left, or_else-some}

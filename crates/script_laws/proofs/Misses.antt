@@ -4,7 +4,7 @@ use Rattle.stream_model.specs.declared.op.Op.{Op}
 use Rattle.stream_model.specs.declared.op.Op.TheVariants.{Subscribe}
 use Rattle.stream_model.specs.declared.op.Start.TheVariants.{Latest, At}
 use Rattle.stream_model.specs.History.{Entry}
-use Rattle.stream_model.proofs.EachOf.{All-append}
+use Rattle.stream_ident.proofs.EachOf.{All-append}
 use Rattle.script_parser.specs.declared.command.Command.{Command}
 use Rattle.script_parser.specs.declared.command.Command.TheVariants as command
 use Rattle.script_parser.specs.Forms.{op_of}

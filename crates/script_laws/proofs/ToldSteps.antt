@@ -35,7 +35,7 @@ use Rattle.stream_model.specs.Positions.{between, empty, low_token, lower_bound,
 use Rattle.stream_model.specs.Publishing.{add_rule, subscribe, subscribe_at, unsubscribe, unsubscribe_from}
 use Rattle.stream_model.specs.Pulling.{all_implied, drops, is_stale, pull, pull_count, pull_events, pull_want, room, subs_with}
 use Rattle.stream_model.specs.Step.{Leads, Stands, step}
-use Rattle.stream_model.proofs.EachOf.{All-append, All-weaken}
+use Rattle.stream_ident.proofs.EachOf.{All-append, All-weaken}
 use Rattle.stream_laws.proofs.Invariant.{Fits}
 use Rattle.stream_laws.proofs.KeptStep.{kept-step}
 use Rattle.stream_laws.proofs.Legal.{fits-empty, fits-step}

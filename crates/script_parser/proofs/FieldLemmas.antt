@@ -1,11 +1,11 @@
 -- A field that is read is written so, and what is written so is read.
-use Rattle.std.specs.Prelude.{◌≡◌, ℕ, ◌^◌, ◌<◌, ◌≤◌, Bool, true, false, not, List, [], ◌∷◌, ◌++◌, length, Option, Some, None, Result, Ok, Err, position, nat_lt, ◌==◌, refl}
+use Rattle.std.specs.Prelude.{◌≡◌, ℕ, ◌^◌, ◌<◌, Bool, true, false, not, List, [], ◌∷◌, ◌++◌, Option, Some, None, Result, Ok, Err, nat_lt, ◌==◌, refl}
 use Rattle.std.specs.Fmt.{decimal}
-use Rattle.std.specs.List.{list_all, position_or_len}
+use Rattle.std.specs.List.{list_all}
 use Rattle.std.proofs.Common.{ap, ◌∙◌, subst, arith}
-use Rattle.std.proofs.lemmas.Bool.{and_parts, and_from, ltb-true, lt-ltb, le-ltb}
+use Rattle.std.proofs.lemmas.Bool.{and_parts, and_from, ltb-true, lt-ltb}
 use Rattle.std.proofs.lemmas.Bool.Decides.{nat_tests}
-use Rattle.stream_ident.proofs.NameLemmas.{IsName-from_right, IsPayload-from_right, wrong_in_name-short, wrong_place-short}
+use Rattle.stream_ident.proofs.NameLemmas.{IsName-from_right, IsPayload-from_right, wrong_in_name-none, wrong_in_payload-none}
 use Rattle.stream_ident.proofs.NumberLemmas.{number_of-decimal, decimal-number_of}
 use Rattle.stream_ident.proofs.SplitLemmas.{split_once-front, split_once-joined}
 use Rattle.stream_ident.proofs.TokenLemmas.{token_of-token_text, token_text-token_of}
@@ -16,8 +16,7 @@ use Rattle.stream_ident.specs.Name.{name_or, name_of, payload_or, payload_of, fi
 use Rattle.stream_ident.specs.Number.{number_of}
 use Rattle.stream_ident.specs.Text.{split_once}
 use Rattle.stream_ident.specs.Token.{token_of, token_text, IsToken}
-use Rattle.stream_ident.specs.Alphabet.{is_name_byte, IsName, IsPayload, wrong_in_name, wrong_in_payload, is_printable}
-use Rattle.stream_ident.proofs.WordLemmas.{one-add}
+use Rattle.stream_ident.specs.Alphabet.{is_name_byte, IsName, IsPayload, wrong_in_name, wrong_in_payload}
 use Rattle.script_parser.specs.declared.command.FaultKind.{FaultKind}
 use Rattle.script_parser.specs.declared.command.FaultKind.TheVariants as kind
 use Rattle.script_parser.specs.Fields.{or_fault, as_fault, guard, number_field, queue_field, stream_field, grain_field, token_field, payload_field, bare_name_field}
@@ -81,21 +80,6 @@ list_all-weaker p q weaker [] all = refl
 list_all-weaker p q weaker (x ∷ xs) all =
     let parts = and_parts (p x) (list_all p xs) all in
     and_from (q x) (list_all q xs) (weaker x parts.0) (list_all-weaker p q weaker xs parts.1)
-
-bad_nowhere : (good : ℕ → Bool) (bytes : List ℕ) → list_all good bytes ≡ true → length bytes ≤ position_or_len (λ byte. not (good byte)) bytes
-bad_nowhere good [] all = omega arith
-bad_nowhere good (byte ∷ bytes) all =
-    let parts = and_parts (good byte) (list_all good bytes) all in
-    rw (parts.0, one-add) (omega (arith, bad_nowhere good bytes parts.1))
-
-position-none : (good : ℕ → Bool) (bytes : List ℕ) → list_all good bytes ≡ true → position (λ byte. not (good byte)) bytes ≡ None
-position-none good bytes all = rw (le-ltb (position_or_len (λ byte. not (good byte)) bytes) (length bytes) (bad_nowhere good bytes all)) refl
-
-wrong_in_name-none : (bytes : List ℕ) → IsName bytes → wrong_in_name bytes ≡ None
-wrong_in_name-none bytes is = wrong_in_name-short bytes is.some is.short ∙ position-none is_name_byte bytes is.good
-
-wrong_in_payload-none : (bytes : List ℕ) → IsPayload bytes → wrong_in_payload bytes ≡ None
-wrong_in_payload-none bytes is = wrong_place-short is_printable 256 bytes is.short ∙ position-none is_printable bytes is.good
 
 name_or-ok : (bytes : List ℕ) (wrong : Option ℕ) (found : List ℕ) → name_or bytes wrong ≡ Ok found → (wrong ≡ None) × (bytes ≡ found)
 name_or-ok bytes None found e = (refl, cc)

@@ -9,6 +9,7 @@ use Rattle.script_parser.specs.declared.command.EachOp.TheVariants as each
 use Rattle.script_parser.specs.declared.command.Fault.{Fault}
 use Rattle.script_parser.specs.declared.command.Mode.TheVariants as mode
 use Rattle.script_parser.specs.declared.command.Parsed.TheVariants as parsed
+use Rattle.stream_ident.proofs.EachOf.{All-push}
 use Rattle.script_parser.specs.Grammar.{Reads}
 use Rattle.script_parser.specs.Reading.{IsWithin, reading}
 use Rattle.script_laws.specs.declared.line.Line.{Line}
@@ -50,10 +51,6 @@ behind-more : (found : List Line) (line : Line) (rest : Result (List Line) Fault
 behind-more found line (Ok lines) = ap Ok (sym (append_assoc found (line ∷ []) lines))
 behind-more found line (Err fault) = refl
 
-all-push : {A : Type 0} (P : A → Type 0) (xs : List A) (x : A) → AllByRecursion P xs → P x → AllByRecursion P (xs ++ x ∷ [])
-all-push P [] x all holds = (holds, tt)
-all-push P (z ∷ xs) x all holds = (all.0, all-push P xs x all.1 holds)
-
 all-later : (last : ℕ) (found : List Line) → AllByRecursion (λ (line : Line). line.number ≤ last) found → AllByRecursion (λ (line : Line). line.number ≤ last + 1) found
 all-later last [] all = tt
 all-later last (line ∷ found) all = let here : line.number ≤ last = all.0 in (omega (arith, here), all-later last found all.1)
@@ -69,9 +66,9 @@ finds queues all last line rest found more c was read runs grown =
     (let new : Line = record { number = last + 1; command = c } in
     record {
       whole = was.whole ∙ ap (λ p. behind found (with_parsed (last + 1) p (lines_after queues (last + 1) rest))) (sym read) ∙ behind-more found new (lines_after queues (last + 1) rest);
-      commands = all-push (λ (x : Line). IsRunCommand queues x.command) found new was.commands runs;
+      commands = All-push (λ (x : Line). IsRunCommand queues x.command) found new was.commands runs;
       rises = rises-push 0 last found new (omega arith) was.below (omega arith) was.rises;
-      below = all-push (λ (x : Line). x.number ≤ last + 1) found new (all-later last found was.below) (omega arith);
+      below = All-push (λ (x : Line). x.number ≤ last + 1) found new (all-later last found was.below) (omega arith);
     })
 
 pub skips : (queues : ℕ) (all : List (List ℕ)) (last : ℕ) (line : List ℕ) (rest : List (List ℕ)) (found : List Line) → Found queues all last (line ∷ rest) found → parsed.Skip ≡ reading queues mode.Run (last + 1) line → Found queues all (last + 1) rest found

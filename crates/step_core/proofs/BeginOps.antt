@@ -11,7 +11,7 @@ use Rattle.stream_model.specs.declared.reply.Reply.TheVariants as reply
 use Rattle.stream_model.specs.Bounds.{IsWithinLimits}
 use Rattle.stream_model.specs.Positions.{events_at, token_at}
 use Rattle.stream_model.specs.Turns as plain
-use Rattle.stream_model.proofs.EachOf.{All-drop}
+use Rattle.stream_ident.proofs.EachOf.{All-drop}
 use Rattle.stream_model.proofs.RecordBounds.{grain-fits}
 use Rattle.consumer_grain.specs.declared.mailbox.Delivery.{Delivery}
 use Rattle.consumer_grain.specs.declared.told.Begun.{Begun}

@@ -42,7 +42,7 @@ use Rattle.step_core.proofs.KnownOps.{known-state}
 use Rattle.step_core.proofs.NamesOps.{name-of-entry, name-of-place}
 use Rattle.step_core.proofs.Shared.{distinct-of-unique}
 use Rattle.step_core.proofs.SubscriberOps.{forgotten-is, unsubscribe-parts, with_closed}
-use Rattle.stream_model.proofs.EachOf.{All-filter}
+use Rattle.stream_ident.proofs.EachOf.{All-filter}
 
 -- ---- the grain forgets the record
 

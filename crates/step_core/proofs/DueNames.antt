@@ -19,7 +19,7 @@ use Rattle.stream_laws.proofs.KeyLists.{All-keys_where, any-in_order, any-keys_w
 use Rattle.stream_laws.proofs.NearSteps.{near-legal}
 use Rattle.stream_laws.proofs.Unique.{AreUnique}
 use Rattle.stream_laws.proofs.UniqueSteps.{steady-legal}
-use Rattle.stream_model.proofs.EachOf.{All-weaken}
+use Rattle.stream_ident.proofs.EachOf.{All-weaken}
 use Rattle.stream_model.specs.declared.plain.PlainPartition.{PlainPartition}
 use Rattle.stream_model.specs.declared.plain.Subscription.{Subscription}
 use Rattle.stream_model.specs.Draining as draining

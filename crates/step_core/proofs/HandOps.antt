@@ -21,7 +21,7 @@ use Rattle.stream_model.specs.Positions.{is_outstanding, is_spent, is_unacknowle
 use Rattle.stream_model.specs.Pulling as plain
 use Rattle.stream_model.specs.Memory.{is_untouched}
 use Rattle.stream_model.specs.Step.{takes_memory}
-use Rattle.stream_model.proofs.EachOf.{All-append}
+use Rattle.stream_ident.proofs.EachOf.{All-append}
 use Rattle.stream_ident.proofs.SameValues.{same_grain-refl}
 use Rattle.consumer_grain.specs.declared.mailbox.Delivery.{Delivery}
 use Rattle.consumer_grain.specs.declared.told.Offered.{Offered}

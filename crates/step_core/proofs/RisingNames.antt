@@ -8,7 +8,7 @@ use Rattle.stream_ident.proofs.SameValues.{IsEquality}
 use Rattle.stream_ident.specs.Words.{above, is_above, keys_where, least, lesser, value_at}
 use Rattle.stream_laws.proofs.KeyLists.{All-insert, any-in_order, least-none, least-of}
 use Rattle.stream_laws.proofs.Unique.{AreUnique, same-swap}
-use Rattle.stream_model.proofs.EachOf.{All-weaken}
+use Rattle.stream_ident.proofs.EachOf.{All-weaken}
 use Rattle.stream_model.specs.Draining.{in_order, insert_in_order}
 
 -- all pass

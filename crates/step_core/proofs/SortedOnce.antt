@@ -6,7 +6,7 @@ use Rattle.std.specs.Cmp.{IsStrictWeakOrder}
 use Rattle.std.specs.List.{AllByRecursion}
 use Rattle.std.specs.List.Sorted.{ties, IsSortedBy, IsStableBy}
 use Rattle.std.specs.Prelude.{⊤}
-use Rattle.stream_model.proofs.EachOf.{All-filter}
+use Rattle.stream_ident.proofs.EachOf.{All-filter}
 use Rattle.stream_model.specs.Draining.{in_order, insert_in_order}
 
 -- the first of what passes is the first element, where that passes

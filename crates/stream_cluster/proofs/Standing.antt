@@ -15,14 +15,14 @@ use Rattle.cluster_ending.specs.declared.ends.LoopEnds.{LoopEnds}
 use Rattle.cluster_ending.specs.declared.finishing.Finished.{Finished}
 use Rattle.cluster_ending.specs.Finishing.{CallersAloneProduce, HaveBegun, IsFinished, OnHistories}
 use Rattle.cluster_ending.specs.Gathering.{AreAt, gathered, passes_of}
-use Rattle.cluster_ending.proofs.Rows.{all-push}
+use Rattle.stream_ident.proofs.EachOf.{All-push}
 use Rattle.stream_ident.proofs.WordLemmas.{All-at}
 use Rattle.stream_model.specs.declared.op.Op.{Op}
 use Rattle.stream_model.specs.declared.reply.Reply.{Reply}
 use Rattle.turnstile.specs.declared.history.Entry.{Entry}
 use Rattle.silo_loops.specs.Lines.{DirectoryPass, LineView, QueuePass, places}
 use Rattle.silo_crew.specs.Silos.{GoOn, GoesOn, IsFresh, IsSameSilo, IsSilent, IsSiloAt, IsSplitLine, SiloView}
-use Rattle.silo_crew.proofs.Going.{goes-length, goes-places, goes-refl, goes-trans, on-refl, on-trans, still-at}
+use Rattle.silo_crew.proofs.Going.{goes-length, goes-places, goes-refl, goes-trans, on-refl, still-at}
 use Rattle.cluster_operator.specs.declared.halt.Halt.{Halt}
 use Rattle.cluster_operator.specs.declared.halt.Halt.TheVariants as halt
 use Rattle.cluster_operator.specs.Changes.{AreDeactivated, HasMade, HaveMoved, IsDeactivation, IsMove, IsNoneLeft, IsRelease}
@@ -196,7 +196,7 @@ pub started-more : (v w : OperatorView) (ss : List SiloView) (s : SiloView) (n :
     → AreStarted (n + 1) (ss ++ s ∷ []) × RunsOn w (ss ++ s ∷ [])
 started-more v w ss s n only started runs silo at = (
   map-append (λ (x : SiloView). x.silo) ss (s ∷ []) ∙ ap (λ (xs : List ℕ). xs ++ s.silo ∷ []) started ∙ ap (λ k. range_with_len 0 n ++ k ∷ []) silo ∙ range-next n,
-  all-push (IsSiloAt w.lines w.directory) ss s (sits-on v w ss only.on runs) at,
+  All-push (IsSiloAt w.lines w.directory) ss s (sits-on v w ss only.on runs) at,
 )
 
 -- the loops of the silo at a place come back where they were
@@ -324,7 +324,7 @@ pub made-more : (rounds : ℕ) (v w : OperatorView) (ss : List SiloView) (s : Si
     → AreStarted (n + 1) (ss ++ s ∷ []) × AreFresh rounds (ss ++ s ∷ []) × RunsOn w (ss ++ s ∷ [])
 made-more rounds v w ss s n only started fresh runs new at =
     let more = started-more v w ss s n only started runs new.0 at in
-    (more.0, all-push (λ (x : SiloView). IsFresh rounds x.silo x) ss s fresh (subst (λ k. IsFresh rounds k s) (sym new.0) new), more.1)
+    (more.0, All-push (λ (x : SiloView). IsFresh rounds x.silo x) ss s fresh (subst (λ k. IsFresh rounds k s) (sym new.0) new), more.1)
 
 -- one silo more of which it was noted how its loops have ended
 pub noted-push : (ends : LoopEnds) (ss : List SiloView) (s : SiloView) → all_noted ends (ss ++ s ∷ []) ≡ noted (all_noted ends ss) s

@@ -1,6 +1,9 @@
 -- The first element that passes, by its place.
-use Rattle.std.proofs.Common.{◌≡◌, ◌∙◌, ◌+◌, ◌<◌, ◌∷◌, ap, subst, refl, ℕ, zero, suc, Bool, true, false, List, [], length, get_or, Option, Some, None, arith}
-use Rattle.std.specs.Prelude.{if◌then◌else◌}
+use Rattle.std.proofs.Common.{◌≡◌, ◌∙◌, ◌+◌, ◌<◌, ◌≤◌, ◌∷◌, ap, subst, refl, ℕ, zero, suc, Bool, true, false, not, List, [], length, get_or, Option, Some, None, arith}
+use Rattle.std.proofs.lemmas.Bool.{lt-ltb, le-ltb, ltb-true, ltb-false}
+use Rattle.std.specs.List.{position_or_len}
+use Rattle.std.specs.Map.{keys_of}
+use Rattle.std.specs.Prelude.{if◌then◌else◌, nat_lt, position}
 use Rattle.stream_ident.specs.Words.{first_at, place_of}
 
 -- the place of the first element that passes
@@ -61,3 +64,32 @@ place_of-key {K} {V} same key entries d i found =
     let first = first_at-Some (λ (entry : K × V). same key entry.0) 0 entries d i found in
     let place : first.place ≡ i = omega (arith, first.at) in
     subst (λ (n : ℕ). same key (get_or entries n d).0 ≡ true) place first.is
+
+-- the first place of a key that passes, among the keys of entries that begin at a number
+keys_from : {K V : Type 0} (passes : K → Bool) (n : ℕ) (entries : List (K × V)) → (if nat_lt (position_or_len passes (keys_of entries)) (length (keys_of entries)) then Some (n + position_or_len passes (keys_of entries)) else None) ≡ first_at (λ (entry : K × V). passes entry.0) n entries
+keys_from passes n [] = refl
+keys_from {K} {V} passes n (entry ∷ entries) = by (passes entry.0) (keys_from passes (suc n) entries)
+  where
+    place : ℕ
+    place = position_or_len passes (keys_of entries)
+
+    by : (b : Bool) → (if nat_lt place (length (keys_of entries)) then Some (suc n + place) else None) ≡ first_at (λ (entry : K × V). passes entry.0) (suc n) entries
+        → (if nat_lt (if not b then 1 + place else 0) (suc (length (keys_of entries))) then Some (n + (if not b then 1 + place else 0)) else None) ≡ (if b then Some n else first_at (λ (entry : K × V). passes entry.0) (suc n) entries)
+    by true rest = rw (lt-ltb 0 (suc (length (keys_of entries))) (omega arith)) (ap Some (omega arith))
+    by false rest = count (nat_lt place (length (keys_of entries))) refl ∙ rest
+      where
+        count : (b : Bool) → nat_lt place (length (keys_of entries)) ≡ b
+            → (if nat_lt (1 + place) (suc (length (keys_of entries))) then Some (n + (1 + place)) else None) ≡ (if nat_lt place (length (keys_of entries)) then Some (suc n + place) else None)
+        count true is =
+            let within : place < length (keys_of entries) = ltb-true _ _ is in
+            rw (is, lt-ltb (1 + place) (suc (length (keys_of entries))) (omega arith)) (ap Some (omega arith))
+        count false is =
+            let past : length (keys_of entries) ≤ place = ltb-false _ _ is in
+            rw (is, le-ltb (1 + place) (suc (length (keys_of entries))) (omega arith)) refl
+
+-- the place of a key among the keys is that of its entry among the entries
+pub position-key : {K V : Type 0} (passes : K → Bool) (entries : List (K × V)) → position passes (keys_of entries) ≡ first_at (λ (entry : K × V). passes entry.0) 0 entries
+position-key passes entries =
+    let place = position_or_len passes (keys_of entries) in
+    let zero-more : place ≡ 0 + place = omega arith in
+    ap (λ n. if nat_lt place (length (keys_of entries)) then Some n else None) zero-more ∙ keys_from passes 0 entries

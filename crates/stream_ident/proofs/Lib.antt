@@ -1,3 +1,4 @@
+pub mod EachOf
 pub mod EventLemmas
 pub mod FirstLemmas
 pub mod NameLemmas

@@ -2,13 +2,13 @@
 use Rattle.std.specs.Prelude.{◌≡◌, ◌≢◌, ℕ, ◌-◌, zero, suc, ◌<◌, ◌≤◌, Bool, true, false, not, ◌||◌, ◌&&◌, ◌==◌, List, [], ◌∷◌, ◌++◌, length, Option, Some, None, position, take, replicate, nat_lt, nat_le, cond, refl}
 use Rattle.std.specs.List.{list_all, position_or_len}
 use Rattle.std.specs.Str.{IsAscii}
-use Rattle.std.proofs.Common.{ap, arith}
+use Rattle.std.proofs.Common.{ap, ◌∙◌, arith}
 use Rattle.std.proofs.lemmas.Bool.{not-false, le-ltb, ltb-false, ne_eqb, eqb-false, eqb-true, leb-true, and_parts}
 use Rattle.std.proofs.lemmas.List.{take_all, take_at, length-append, length-replicate}
 use Rattle.std.proofs.lemmas.List.Sums.{list_all-from_AllPass, fails_before_first}
 use Rattle.stream_ident.specs.Text.{wrong_place, IsPadded}
 use Rattle.stream_ident.specs.Alphabet.{is_name_byte, IsName, wrong_in_name, IsPayload, wrong_in_payload, is_printable}
-use Rattle.stream_ident.proofs.WordLemmas.{or_else-none, or_else-parts}
+use Rattle.stream_ident.proofs.WordLemmas.{one-add, or_else-none, or_else-parts}
 
 cond_none : {A : Type 0} (b : Bool) (x : A) (other : Option A) → cond b (Some x) other ≡ None → (b ≡ false) × (other ≡ None)
 cond_none true x other e = cc
@@ -48,6 +48,22 @@ pub IsPayload-from_right : (bytes : List ℕ) → wrong_in_payload bytes ≡ Non
 IsPayload-from_right bytes none =
     let parts = right_everywhere is_printable 256 bytes none in
     record { short = parts.0; good = parts.1 }
+
+-- where each byte is good no place is wrong
+good_past_the_end : (good : ℕ → Bool) (bytes : List ℕ) → list_all good bytes ≡ true → length bytes ≤ position_or_len (λ byte. not (good byte)) bytes
+good_past_the_end good [] all = omega arith
+good_past_the_end good (byte ∷ bytes) all =
+    let parts = and_parts (good byte) (list_all good bytes) all in
+    rw (parts.0, one-add) (omega (arith, good_past_the_end good bytes parts.1))
+
+position-good : (good : ℕ → Bool) (bytes : List ℕ) → list_all good bytes ≡ true → position (λ byte. not (good byte)) bytes ≡ None
+position-good good bytes all = rw (le-ltb (position_or_len (λ byte. not (good byte)) bytes) (length bytes) (good_past_the_end good bytes all)) refl
+
+pub wrong_in_name-none : (bytes : List ℕ) → IsName bytes → wrong_in_name bytes ≡ None
+wrong_in_name-none bytes is = wrong_in_name-short bytes is.some is.short ∙ position-good is_name_byte bytes is.good
+
+pub wrong_in_payload-none : (bytes : List ℕ) → IsPayload bytes → wrong_in_payload bytes ≡ None
+wrong_in_payload-none bytes is = wrong_place-short is_printable 256 bytes is.short ∙ position-good is_printable bytes is.good
 
 -- a row that is a text with zeros behind it holds the text
 pub IsPadded-from_row : (room : ℕ) (text row : List ℕ) → length text ≤ room → row ≡ text ++ replicate (room - length text) 0 → IsPadded room (length text) row × (take (length text) row ≡ text)

@@ -16,7 +16,7 @@ use Rattle.stream_laws.proofs.KeyLists.{All-in_order, All-keys_where, any-in_ord
 use Rattle.stream_laws.proofs.DrainMail.{EmptiedSound, meets-empty_mailboxes}
 use Rattle.stream_laws.proofs.DrainRule.{Meets, Tally, meets-and_then, meets-weaken}
 use Rattle.stream_laws.proofs.DrainServing.{IsSeen, IsServing, ServingSound, meets-deliver_all, serving-later}
-use Rattle.stream_model.proofs.EachOf.{All-weaken}
+use Rattle.stream_ident.proofs.EachOf.{All-weaken}
 use Rattle.stream_laws.proofs.Summary.{Summary}
 use Rattle.stream_laws.proofs.Unique.{AreUnique}
 use Rattle.stream_ident.proofs.SameValues.{same_sub-equal, sub_equality}

@@ -15,7 +15,7 @@ use Rattle.stream_model.specs.declared.plain.Subscription.{Subscription}
 use Rattle.stream_ident.specs.Event.{batch_token}
 use Rattle.stream_model.specs.Positions.{new_subscription, no_event}
 use Rattle.stream_ident.specs.Words.{or_else, value_at}
-use Rattle.stream_model.proofs.EachOf.{All-append}
+use Rattle.stream_ident.proofs.EachOf.{All-append}
 use Rattle.stream_ident.specs.Implying.{added}
 use Rattle.stream_model.specs.Pulling.{all_implied, implied}
 use Rattle.stream_laws.proofs.Invariant.{RulesDiffer, bound_by_rules}

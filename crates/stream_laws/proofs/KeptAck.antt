@@ -11,7 +11,7 @@ use Rattle.stream_model.specs.declared.plain.Subscription.{Subscription}
 use Rattle.stream_model.specs.Positions.{sub_at, token_at}
 use Rattle.stream_model.specs.Pulling.{ack, ack_of, ack_position, acknowledged, handled_at, is_stale}
 use Rattle.stream_ident.specs.Words.{past}
-use Rattle.stream_model.proofs.EachOf.{All-filter}
+use Rattle.stream_ident.proofs.EachOf.{All-filter}
 use Rattle.stream_laws.proofs.FitsOne.{Fits-sub}
 use Rattle.stream_laws.proofs.Invariant.{Fits, Kept, SubFits, marks_of, running_of, waiting_of}
 use Rattle.stream_laws.proofs.MarkLemmas.{marked_below-all, marked_below-within}

@@ -20,7 +20,7 @@ use Rattle.stream_ident.specs.Blocks.{turn_size}
 use Rattle.stream_ident.specs.Words.{past}
 use Rattle.stream_ident.proofs.WordLemmas.{none_from_is_some}
 use Rattle.stream_laws.proofs.BeginFront.{Fits-dropped, IsFront, is_front}
-use Rattle.stream_model.proofs.EachOf.{All-drop}
+use Rattle.stream_ident.proofs.EachOf.{All-drop}
 use Rattle.stream_laws.proofs.Deliveries.{front-length, front-next, front-other, front-rest, front-some}
 use Rattle.stream_laws.proofs.EventLemmas.{length-events_at, owed-next}
 use Rattle.stream_laws.proofs.FitsOne.{Fits-grain}

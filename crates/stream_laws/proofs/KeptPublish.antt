@@ -17,7 +17,7 @@ use Rattle.stream_laws.proofs.BatchTokens.{IsRising-grown, token_at-grown}
 use Rattle.stream_laws.proofs.Invariant.{Fits, GrainsFit, IsBoxed, IsRunning, Kept, LogFits, NamesFit, NumbersFit, SubsFit, UnmadeFit, marks_of, running_of, waiting_of}
 use Rattle.stream_laws.proofs.LogGrown.{IsInTurn-marks, IsServed-marks, events_at-grown, marks_of-append}
 use Rattle.stream_laws.proofs.RunningTurns.{handled-in_log, turn-in_log}
-use Rattle.stream_model.proofs.EachOf.{All-weaken}
+use Rattle.stream_ident.proofs.EachOf.{All-weaken}
 use Rattle.stream_laws.proofs.LogLemmas.{length-marks_of}
 use Rattle.stream_laws.proofs.MarkLemmas.{IsClear-marks}
 use Rattle.stream_laws.proofs.Marks.{IsClear, IsInTurn, IsServed}

@@ -18,7 +18,7 @@ use Rattle.stream_model.specs.declared.reply.Reply.TheVariants as reply
 use Rattle.stream_model.specs.Positions.{grain_at, new_grain, running_in, sub_at, waiting_in}
 use Rattle.stream_model.specs.Publishing.{unsubscribe, unsubscribe_from, unsubscribed, without}
 use Rattle.stream_ident.specs.Words.{value_at}
-use Rattle.stream_model.proofs.EachOf.{All-weaken}
+use Rattle.stream_ident.proofs.EachOf.{All-weaken}
 use Rattle.stream_laws.proofs.Invariant.{Fits, GrainFits, GrainsFit, IsBoxed, IsRunning, Kept, LogFits, NumbersFit, SubFits, marks_of, running_of, waiting_of}
 use Rattle.stream_laws.proofs.Marks.{IsInTurn}
 use Rattle.stream_laws.proofs.OneChanged.{IsGrainChanged, IsOneChanged, IsSeenAlike-grain, NamesFit-one, SubsFit-one, UnmadeFit-one}

@@ -9,8 +9,8 @@ use Rattle.stream_ident.specs.declared.token.Token.{Token}
 use Rattle.stream_model.specs.Bounds.{AreIn}
 use Rattle.stream_ident.specs.Event.{is_owed}
 use Rattle.stream_model.specs.Positions.{events_at, no_event}
-use Rattle.stream_ident.specs.Words.{past, past_from}
-use Rattle.stream_model.proofs.EachOf.{All-append}
+use Rattle.stream_ident.specs.Words.{past}
+use Rattle.stream_ident.proofs.EachOf.{All-append}
 use Rattle.stream_ident.proofs.WordLemmas.{past_from-within}
 use Rattle.stream_laws.proofs.Invariant.{marks_of}
 use Rattle.stream_laws.proofs.MarkLemmas.{IsClear-marks, IsCovering-marks, IsNext-marks, marked-within, marked_below-marks}

@@ -5,7 +5,7 @@ use Rattle.std.proofs.lemmas.List.{append-nil}
 use Rattle.std.proofs.lemmas.Bool.{cond-true, cond-false, false≢true}
 use Rattle.std.specs.List.{AllByRecursion}
 use Rattle.stream_ident.specs.Words.{past, past_from}
-use Rattle.stream_model.proofs.EachOf.{All-weaken, All-append}
+use Rattle.stream_ident.proofs.EachOf.{All-weaken, All-append}
 use Rattle.stream_laws.proofs.Marks.{IsClear, IsCovering, IsNext, marked_below, reach}
 use Rattle.stream_ident.proofs.WordLemmas.{past_from-append}
 

@@ -1,6 +1,6 @@
 -- Every step leaves the cursor of each open subscription at or before its resume or the end of the cache, whichever is
 -- further.
-use Rattle.std.proofs.Common.{◌≡◌, ℕ, suc, ◌+◌, ◌*◌, ◌<◌, ◌≤◌, max, min, ◌==◌, ◌&&◌, ◌||◌, not, nat_lt, nat_le, Bool, true, false, List, [], ◌∷◌, ◌++◌, length, fold, Option, Some, None, is_some, if◌then◌else◌, refl, sym, subst, arith}
+use Rattle.std.proofs.Common.{◌≡◌, ℕ, suc, ◌+◌, ◌*◌, ◌≤◌, max, ◌==◌, ◌&&◌, ◌||◌, not, nat_lt, nat_le, Bool, true, false, List, [], ◌∷◌, ◌++◌, length, fold, Option, Some, None, is_some, if◌then◌else◌, refl, sym, subst, arith}
 use Rattle.std.proofs.lemmas.Bool.{cond_both}
 use Rattle.std.specs.List.{AllByRecursion, list_any}
 use Rattle.stream_ident.specs.declared.event.Event.{Event}
@@ -31,10 +31,10 @@ use Rattle.stream_model.specs.declared.reply.Reply.{Reply}
 use Rattle.stream_model.specs.NewestFirst.{Entry}
 use Rattle.stream_model.specs.Positions.{between, empty, grain_at, is_outstanding, is_spent, low_token, lower_bound, new_subscription, next_position, sub_at, with_sub}
 use Rattle.stream_model.specs.Publishing.{add_rule, publish, subscribe, subscribe_at, unsubscribe, unsubscribe_from}
-use Rattle.stream_model.specs.Pulling.{ack, ack_of, ack_position, acknowledged, all_implied, caught_up, deliver, deliver_position, deliver_to, drops, handled_at, is_stale, move, move_to, pull, pull_count, pull_events, pull_want, purge, purge_to, retry, retry_of, rewound, rewound_where, starting, subs_with}
+use Rattle.stream_model.specs.Pulling.{ack, ack_of, ack_position, acknowledged, all_implied, caught_up, deliver, deliver_position, deliver_to, handled_at, is_stale, move, move_to, pull, pull_count, pull_events, pull_want, purge, purge_to, retry, retry_of, rewound, rewound_where, starting, subs_with}
 use Rattle.stream_model.specs.Step.{Leads, Stands, step}
 use Rattle.stream_model.specs.Turns.{begin, begin_for, begin_front, begin_in, begin_turn, commit, commit_for, commit_running, deactivate, deactivate_in}
-use Rattle.stream_model.proofs.EachOf.{All-append, All-flat_map, All-weaken}
+use Rattle.stream_ident.proofs.EachOf.{All-append, All-flat_map, All-weaken}
 use Rattle.stream_ident.proofs.SameValues.{sub_equality}
 use Rattle.stream_laws.proofs.DrainDeliver.{next-bounds}
 use Rattle.stream_laws.proofs.KeyLists.{entry-found}

@@ -15,7 +15,7 @@ use Rattle.stream_model.specs.declared.plain.RunningTurn.{RunningTurn}
 use Rattle.stream_model.specs.declared.plain.Subscription.{Subscription}
 use Rattle.stream_model.specs.NewestFirst.{Binding}
 use Rattle.stream_model.specs.Positions.{events_at, grain_at, running_in, sub_at, waiting_in}
-use Rattle.stream_model.proofs.EachOf.{All-weaken}
+use Rattle.stream_ident.proofs.EachOf.{All-weaken}
 use Rattle.stream_laws.proofs.Invariant.{GrainFits, GrainsFit, IsBoxed, IsRunning, IsUnmade, NamesFit, RulesDiffer, SubFits, SubsFit, UnmadeFit, bound_by_rules, marks_of, running_of, waiting_of}
 use Rattle.stream_laws.proofs.Marks.{IsClear}
 use Rattle.stream_laws.proofs.Summary.{Summary}

@@ -10,7 +10,7 @@ use Rattle.stream_model.specs.Bounds.{IsWithinLimits}
 use Rattle.stream_ident.specs.Event.{is_owed}
 use Rattle.stream_model.specs.Positions.{grain_at, is_spent, next_position, sub_at, with_grain, with_sub}
 use Rattle.stream_model.specs.Pulling.{caught_up, deliver, deliver_position, deliver_to, delivered, is_stale}
-use Rattle.stream_model.proofs.EachOf.{All-append}
+use Rattle.stream_ident.proofs.EachOf.{All-append}
 use Rattle.stream_model.proofs.RecordBounds.{GrainFits, found-in-log, grain-fits, grain-set, handled-in, sub-set, KeepsLimits}
 
 -- an activation costs a rise

@@ -6,7 +6,6 @@ pub mod ChangedValues
 pub mod Committing
 pub mod DeactivatingBounds
 pub mod DeliveringBounds
-pub mod EachOf
 pub mod EachValue
 pub mod LeastKey
 pub mod Looking

@@ -11,7 +11,7 @@ use Rattle.stream_model.specs.Bounds.{AreIn, IsGiven, IsWithinLimits}
 use Rattle.stream_model.specs.Positions.{is_spent, open_resumes}
 use Rattle.stream_model.specs.Pulling.{move, move_to, rewound_where}
 use Rattle.stream_ident.specs.Words.{each_value, least_with}
-use Rattle.stream_model.proofs.EachOf.{All-weaken}
+use Rattle.stream_ident.proofs.EachOf.{All-weaken}
 use Rattle.stream_model.proofs.EachValue.{All-each_value}
 use Rattle.stream_model.proofs.RecordBounds.{KeepsLimits}
 

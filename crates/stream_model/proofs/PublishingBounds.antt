@@ -21,7 +21,7 @@ use Rattle.stream_model.specs.Publishing.{publish, subscribe, subscribe_at}
 use Rattle.stream_ident.specs.Words.{with_value}
 use Rattle.stream_model.specs.declared.plain.Delivery.{Delivery}
 use Rattle.stream_model.specs.declared.plain.Grain.{Grain}
-use Rattle.stream_model.proofs.EachOf.{All-append, All-weaken}
+use Rattle.stream_ident.proofs.EachOf.{All-append, All-weaken}
 use Rattle.stream_ident.proofs.EventLemmas.{length-events_of}
 use Rattle.stream_model.proofs.PublishingSteps.{is_bad}
 use Rattle.stream_model.proofs.SubNames.{AreGiven, AreGiven-more, AreGiven-push, with_value-new}

@@ -24,7 +24,7 @@ use Rattle.stream_ident.specs.Blocks.{pull_size}
 use Rattle.stream_ident.specs.Words.{value_at}
 use Rattle.stream_model.proofs.PullingSteps.{subs_up_to}
 use Rattle.stream_model.proofs.SubNames.{AreGiven}
-use Rattle.stream_model.proofs.EachOf.{All-append, All-flat_map}
+use Rattle.stream_ident.proofs.EachOf.{All-append, All-flat_map}
 use Rattle.stream_model.proofs.RecordBounds.{KeepsLimits}
 
 -- what holds of each subscription that a rule makes

@@ -18,7 +18,7 @@ use Rattle.stream_model.specs.Bounds.{AreIn, IsWithinLimits, running_positions}
 use Rattle.stream_model.specs.Positions.{between, grain_at, new_grain, sub_at, no_event}
 use Rattle.stream_ident.specs.Words.{first_at, value_at, with_value}
 use Rattle.stream_model.proofs.Beginning.{All-value_at}
-use Rattle.stream_model.proofs.EachOf.{All-weaken}
+use Rattle.stream_ident.proofs.EachOf.{All-weaken}
 use Rattle.stream_model.proofs.SubNames.{AreGiven, AreGiven-with_value, length-with_value}
 
 -- what an operation leaves is within the limits

@@ -15,7 +15,7 @@ use Rattle.stream_model.specs.Turns.{begin, begin_for, begin_front, begin_in, be
 use Rattle.stream_ident.specs.Blocks.{turn_size}
 use Rattle.stream_ident.specs.Words.{past}
 use Rattle.stream_model.proofs.Beginning.{All-front_of}
-use Rattle.stream_model.proofs.EachOf.{All-append, All-drop}
+use Rattle.stream_ident.proofs.EachOf.{All-append, All-drop}
 use Rattle.stream_model.proofs.RecordBounds.{GrainFits, grain-fits, grain-set, handled-in, sub-set, KeepsLimits}
 
 bounds-begin_turn : (p : PlainPartition) (g : GrainId) (st : Grain) (s : SubName) (note : ℕ) (positions : List ℕ) → IsWithinLimits p → GrainFits p.log p.rises st → AreIn p.log positions → is_spent p ≡ false → IsWithinLimits (begin_turn p g st s note positions).0

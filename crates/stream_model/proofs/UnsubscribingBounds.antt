@@ -13,7 +13,7 @@ use Rattle.stream_model.specs.Positions.{sub_at, with_sub}
 use Rattle.stream_model.specs.Publishing.{unsubscribe, unsubscribe_from, unsubscribed, without}
 use Rattle.stream_ident.specs.Words.{changed_value}
 use Rattle.stream_model.proofs.ChangedValues.{All-changed}
-use Rattle.stream_model.proofs.EachOf.{All-filter}
+use Rattle.stream_ident.proofs.EachOf.{All-filter}
 use Rattle.stream_model.proofs.RecordBounds.{GrainFits, changed, grains-fit, handled-in, sub-set, KeepsLimits}
 
 bounds-unsubscribed : (p : PlainPartition) (s : SubName) (r : Subscription) → IsWithinLimits p → sub_at p s ≡ Some r → IsWithinLimits (unsubscribed p s r)

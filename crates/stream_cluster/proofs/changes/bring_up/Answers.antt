@@ -3,7 +3,7 @@ use Rattle.std.proofs.lemmas.Result.{on_ok_weaker}
 use Rattle.silo_crew.specs.Silos.{IsSiloAt, SiloView}
 use Rattle.cluster_operator.specs.Operators.{HasSpread, OperatorView}
 use Rattle.stream_cluster.specs.Clusters.{RunsOn}
-use Rattle.cluster_ending.proofs.Rows.{all-push}
+use Rattle.stream_ident.proofs.EachOf.{All-push}
 use Rattle.cluster_operator.proofs.Changing.{op-trans}
 use Rattle.stream_cluster.proofs.Standing.{op-refl, op-same, sits-on, spread-from}
 use Rattle.stream_cluster.proofs.changes.bring_up.Goals as goal
@@ -20,7 +20,7 @@ pub returns-in_err-enlist-clause-at : goal.returns-in_err-enlist-clause-at
 returns-in_err-enlist-clause-at g c =
     let started = c.in_ok-start_silo.ensures.started in
     let whole = c.push_reserved.ensures.items ∙ ap (λ (ss : List SiloView). ss ++ c.in_ok-start_silo.field-0 ∷ []) c.reserve.ensures.items in
-    let runs = all-push (IsSiloAt c.start_silo.new.operator.lines c.start_silo.new.operator.directory) c.args.silos.now.items c.in_ok-start_silo.field-0
+    let runs = All-push (IsSiloAt c.start_silo.new.operator.lines c.start_silo.new.operator.directory) c.args.silos.now.items c.in_ok-start_silo.field-0
     (sits-on c.args.operator.now c.start_silo.new.operator c.args.silos.now.items c.start_silo.ensures.only.on c.requires.at) started.1 in
     subst (λ (o : OperatorView). RunsOn o c.push_reserved.new.self.items) (sym c.in_err-enlist.ensures.err)
     (subst (λ (ss : List SiloView). RunsOn c.start_silo.new.operator ss) (sym whole) runs)
@@ -29,7 +29,7 @@ pub returns-clause-at : goal.returns-clause-at
 returns-clause-at g c =
     let started = c.in_ok-start_silo.ensures.started in
     let whole = c.push_reserved.ensures.items ∙ ap (λ (ss : List SiloView). ss ++ c.in_ok-start_silo.field-0 ∷ []) c.reserve.ensures.items in
-    let runs = all-push (IsSiloAt c.start_silo.new.operator.lines c.start_silo.new.operator.directory) c.args.silos.now.items c.in_ok-start_silo.field-0
+    let runs = All-push (IsSiloAt c.start_silo.new.operator.lines c.start_silo.new.operator.directory) c.args.silos.now.items c.in_ok-start_silo.field-0
     (sits-on c.args.operator.now c.start_silo.new.operator c.args.silos.now.items c.start_silo.ensures.only.on c.requires.at) started.1 in
     let same = op-same c.start_silo.new.operator c.enlist.new.self (ap (λ (o : OperatorView). o.lines) c.in_ok-enlist.ensures.ok) (ap (λ (o : OperatorView). o.directory) c.in_ok-enlist.ensures.ok) in
     sits-on c.start_silo.new.operator c.spread.new.self c.push_reserved.new.self.items (op-trans c.start_silo.new.operator c.enlist.new.self c.spread.new.self same c.spread.ensures.on)

@@ -4,7 +4,8 @@ use Rattle.std.specs.Map.{keys_of}
 use Rattle.stream_ident.specs.SubName.{same_sub}
 use Rattle.stream_ident.specs.Words.{first_at}
 use Rattle.stream_ident.specs.declared.ident.SubName.{SubName}
-use Rattle.pubsub_registry.proofs.Entries.{Names, first-is}
+use Rattle.pubsub_registry.proofs.Entries.{Names}
+use Rattle.stream_ident.proofs.FirstLemmas.{position-key}
 use Rattle.stream_ident.proofs.NameOrders.{sub_equal-is}
 use Rattle.pubsub_registry.proofs.indexed.Subscriptions.find.Goals as goal
 
@@ -13,4 +14,4 @@ returns-clause-place c =
     let sub = c.args.sub.now in
     let names = c.self.inside.names.entries in
     subst (λ (same : SubName → SubName → Bool). c.get_index_of.result ≡ position (same sub) (keys_of names)) sub_equal-is c.get_index_of.ensures.index
-    ∙ first-is sub names ∙ ap (λ (names : Names). first_at (λ entry. same_sub sub entry.0) 0 names) c.self.view_is
+    ∙ position-key (same_sub sub) names ∙ ap (λ (names : Names). first_at (λ entry. same_sub sub entry.0) 0 names) c.self.view_is

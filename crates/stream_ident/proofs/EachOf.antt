@@ -12,6 +12,9 @@ pub All-append : {X : Type 0} (Q : X → Type 0) (xs ys : List X) → AllByRecur
 All-append Q [] ys first second = second
 All-append Q (x ∷ xs) ys first second = (first.0, All-append Q xs ys first.1 second)
 
+pub All-push : {X : Type 0} (Q : X → Type 0) (xs : List X) (y : X) → AllByRecursion Q xs → Q y → AllByRecursion Q (xs ++ y ∷ [])
+All-push Q xs y first second = All-append Q xs (y ∷ []) first (second, tt)
+
 pub All-flat_map : {X Y : Type 0} (Q : Y → Type 0) (made : X → List Y) → ((x : X) → AllByRecursion Q (made x)) → (xs : List X) → AllByRecursion Q (flat_map made xs)
 All-flat_map Q made each [] = tt
 All-flat_map Q made each (x ∷ xs) = All-append Q (made x) (flat_map made xs) (each x) (All-flat_map Q made each xs)
