@@ -10,7 +10,6 @@ use stream_ident::{
 };
 
 /// What is read from bytes.
-#[derive(Clone, Copy)]
 enum Read {
     Name(&'static [u8]),
     Stream(&'static [u8], &'static [u8]),
@@ -62,8 +61,8 @@ fn write_parts(text: &mut String, bytes: &[u8]) -> Result<(), AllocError> {
 }
 
 /// Writes what is read, or what is wrong.
-fn write_read(text: &mut String, read: Read) -> Result<(), AllocError> {
-    match read {
+fn write_read(text: &mut String, read: &Read) -> Result<(), AllocError> {
+    match *read {
         Read::Name(bytes) => write_name(text, bytes),
         Read::Stream(namespace, key) => write_stream(text, namespace, key),
         Read::Grain(kind, key) => write_grain(text, kind, key),
@@ -206,7 +205,7 @@ fn values_and_errors_are_read_from_bytes(rt: HostRuntime) -> Result<(), Fail> {
     for (table, rows) in READS.iter().enumerate() {
         for (row, (read, expected)) in rows.iter().enumerate() {
             text.clear();
-            write_read(&mut text, *read)?;
+            write_read(&mut text, read)?;
             assert_row(&rt, table, row, text.as_str() == *expected);
         }
     }
@@ -288,7 +287,6 @@ fn subs_are_ordered(first: &SubName, second: &SubName, order: Ordering) -> bool 
 }
 
 /// What rises.
-#[derive(Clone, Copy)]
 enum Rising {
     Names,
     Ids,
@@ -310,7 +308,7 @@ fn name_of(place: usize) -> Result<Name, Fail> {
 }
 
 /// Whether the values of a kind at two places stand in this order.
-fn are_ordered(kind: Rising, i: usize, j: usize, order: Ordering) -> Result<bool, Fail> {
+fn are_ordered(kind: &Rising, i: usize, j: usize, order: Ordering) -> Result<bool, Fail> {
     match kind {
         Rising::Names => Ok(names_are_ordered(&name_of(i)?, &name_of(j)?, order)),
         Rising::Ids => Ok(ids_are_ordered(name_of(i)?, name_of(j)?, order)),
@@ -333,7 +331,7 @@ fn values_are_ordered(rt: HostRuntime) -> Result<(), Fail> {
     for (kind, rising) in KINDS.iter().enumerate() {
         for i in 0..4 {
             for j in 0..4 {
-                let so = are_ordered(*rising, i, j, i.cmp(&j))?;
+                let so = are_ordered(rising, i, j, i.cmp(&j))?;
                 assert_order(&rt, kind, i, j, so);
             }
         }

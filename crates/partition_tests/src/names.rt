@@ -1,13 +1,20 @@
 //! Names of one byte each.
 use std::process::Abort;
-use stream_ident::{GrainId, Name, StreamId, SubName};
+use stream_ident::{GrainId, Name, Payload, StreamId, SubName};
 
-pub(crate) fn name(rt: &impl Abort, byte: u8) -> Name {
+/// The name of a subscription: its number, or the kind of its rule and the namespace and the key of its stream.
+#[derive(Clone, Copy)]
+pub(crate) enum Sub {
+    Explicit(u32),
+    Implicit(u8, u8, u8),
+}
+
+pub(crate) fn name<R: Abort>(rt: &R, byte: u8) -> Name {
     Name::new(&[byte]).expect(rt, "a name")
 }
 
 /// The stream of this namespace and key.
-pub(crate) fn stream(rt: &impl Abort, namespace: u8, key: u8) -> StreamId {
+pub(crate) fn stream<R: Abort>(rt: &R, namespace: u8, key: u8) -> StreamId {
     StreamId {
         namespace: name(rt, namespace),
         key: name(rt, key),
@@ -15,17 +22,25 @@ pub(crate) fn stream(rt: &impl Abort, namespace: u8, key: u8) -> StreamId {
 }
 
 /// The grain of this kind and key.
-pub(crate) fn grain(rt: &impl Abort, kind: u8, key: u8) -> GrainId {
+pub(crate) fn grain<R: Abort>(rt: &R, kind: u8, key: u8) -> GrainId {
     GrainId {
         kind: name(rt, kind),
         key: name(rt, key),
     }
 }
 
-/// The name of the subscription that a rule for a kind makes of a stream.
-pub(crate) fn implicit(rt: &impl Abort, kind: u8, namespace: u8, key: u8) -> SubName {
-    SubName::Implicit {
-        kind: name(rt, kind),
-        stream: stream(rt, namespace, key),
+/// A subscription's name.
+pub(crate) fn sub_name<R: Abort>(rt: &R, sub: &Sub) -> SubName {
+    match *sub {
+        Sub::Explicit(number) => SubName::Explicit(number),
+        Sub::Implicit(kind, namespace, key) => SubName::Implicit {
+            kind: name(rt, kind),
+            stream: stream(rt, namespace, key),
+        },
     }
+}
+
+/// A payload of one byte.
+pub(crate) fn payload<R: Abort>(rt: &R, byte: u8) -> Payload {
+    Payload::new(&[byte]).expect(rt, "a payload")
 }

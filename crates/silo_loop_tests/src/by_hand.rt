@@ -1,7 +1,8 @@
 //! The loops of a silo over one queue, step by step.
-use crate::cluster::{Cluster, KEYS, Silos, compare, is_told, rest, settle};
+use crate::cluster::{Cluster, KEYS, Silos, is_told, rest, settle};
 use crate::fresh::{Asked, History};
 use crate::operations::{Call, Told};
+use crate::replay::Replayed;
 use crate::rows::assert_row;
 use crate::silo::Loop;
 use activation_directory::{DirectoryOp, DirectoryReply};
@@ -9,7 +10,6 @@ use silo_loops::Advance;
 use std::alloc::Global;
 use std::process::Abort;
 use std::sync::Wait;
-use step_core::{Op, Reply};
 use turnstile::StoredHistory;
 
 // What the gate was told: events, commits, and how much of it was out of order.
@@ -110,16 +110,17 @@ fn take<C: Silos, R: Wait + Abort>(
     }
 }
 
-// The histories after the steps of a case, over one queue, which the agent of the first silo has.
-fn played<
-    H: StoredHistory<Op, Reply>,
-    D: StoredHistory<DirectoryOp, DirectoryReply>,
-    R: Wait + Abort,
->(rt: &R, alloc: Global, case: usize, steps: &[Step]) -> Vec<H> {
+// Plays a case, over one queue, which the agent of the first silo has.
+fn play<H: Replayed, D: StoredHistory<DirectoryOp, DirectoryReply>, R: Wait + Abort>(
+    rt: &R,
+    alloc: Global,
+    case: usize,
+    steps: &[Step],
+) {
     let mut cluster = Cluster::<H, D>::new(rt, alloc, 1, 1_000_000);
     cluster.assign(true, 0, Some(0));
     take(rt, alloc, &mut cluster, case, steps);
-    cluster.into_histories(rt, alloc)
+    cluster.finish(rt, alloc);
 }
 
 // The first step of each case.
@@ -230,7 +231,6 @@ static CASES: [&[Step]; 5] = [&TURN, &LOST, &PRODUCED, &FULL, &STALE];
 #[test]
 fn steps_by_hand(rt: HostRuntime) {
     for (case, steps) in CASES.iter().enumerate() {
-        let histories = played::<History, Asked, HostRuntime>(&rt, rt.alloc(), case, steps);
-        compare(&rt, rt.alloc(), histories.as_slice());
+        play::<History, Asked, HostRuntime>(&rt, rt.alloc(), case, steps);
     }
 }

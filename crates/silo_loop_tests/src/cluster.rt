@@ -1,16 +1,15 @@
 //! Two silos over some queues, whose loops are called by hand or run in threads.
 ghost use Rattle.std.specs.Prelude.{◌≡◌};
 
-use crate::fresh;
-use crate::fresh::{Asked, History};
+use crate::fresh::directory_line;
 use crate::gate::Recorder;
 use crate::operations::{Call, Told, operation, reply};
-use crate::queue::Queue;
-use crate::replay::replay;
-use crate::silo::{Loop, Shared, Silo, StoredSilo, run_silo};
+use crate::queue::{Queue, open};
+use crate::replay::Replayed;
+use crate::silo::{Loop, Shared, Silo, run_silo};
 use activation_directory::{DirectoryOp, DirectoryReply};
 use shared_partition::Gate;
-use silo_loops::{Advance, DirectoryLine, Doorbell};
+use silo_loops::{Advance, Doorbell};
 use std::alloc::Global;
 use std::process::Abort;
 use std::sync::atomic::{AtomicBool, Ordering};
@@ -128,9 +127,6 @@ pub struct Cluster<H: StoredHistory<Op, Reply>, D: StoredHistory<DirectoryOp, Di
     ghost other_here: { other ≡ queues.items },
 }
 
-/// A cluster whose loops can run in threads: how its calls are stored is known.
-pub type StoredCluster = Cluster<History, Asked>;
-
 impl<H: StoredHistory<Op, Reply>, D: StoredHistory<DirectoryOp, DirectoryReply>> Cluster<H, D> {
     /// Empty queues, whose histories have at most so many calls each. The doorbell's count is about to wrap.
     pub fn new<R: Abort>(rt: &R, alloc: Global, queues: usize, calls: u64) -> Cluster<H, D> {
@@ -139,7 +135,7 @@ impl<H: StoredHistory<Op, Reply>, D: StoredHistory<DirectoryOp, DirectoryReply>>
         let mut shared = Shared {
             gate,
             doorbell: Arc::new(alloc, Doorbell::new(u64::MAX - 2)).expect(rt, "memory"),
-            directory: directory(rt, alloc),
+            directory: directory_line(rt, alloc, 4_000_000, 1_000_000),
         };
         let one = Silo::new(rt, alloc, &mut shared, &mut queues, 0);
         let other = Silo::new(rt, alloc, &mut shared, &mut queues, 1);
@@ -150,9 +146,11 @@ impl<H: StoredHistory<Op, Reply>, D: StoredHistory<DirectoryOp, DirectoryReply>>
             other,
         }
     }
+}
 
-    /// The histories of the queues, to which all passes come back.
-    pub fn into_histories<R: Abort>(self, rt: &R, alloc: Global) -> Vec<H> {
+impl<H: Replayed, D: StoredHistory<DirectoryOp, DirectoryReply>> Cluster<H, D> {
+    /// Closes each queue, to which all passes come back, and compares its history with the plain program.
+    pub fn finish<R: Abort>(self, rt: &R, alloc: Global) {
         let Cluster {
             shared: _,
             mut queues,
@@ -161,18 +159,9 @@ impl<H: StoredHistory<Op, Reply>, D: StoredHistory<DirectoryOp, DirectoryReply>>
         } = self;
         one.leave(&mut queues);
         other.leave(&mut queues);
-        let mut histories = Vec::with_capacity(alloc, queues.len()).expect(rt, "memory");
         for queue in queues {
-            histories.push(queue.finish(rt, alloc)).expect(rt, "memory");
+            queue.finish(rt, alloc).replay(rt, alloc);
         }
-        histories
-    }
-}
-
-/// Compares the history of each queue with the plain program.
-pub fn compare<R: Abort>(rt: &R, alloc: Global, histories: &[History]) {
-    for history in histories {
-        replay(rt, alloc, history.as_slice());
     }
 }
 
@@ -250,17 +239,9 @@ fn open_all<G: Gate, H: StoredHistory<Op, Reply>, R: Abort>(
 ) -> Vec<Queue<G, H>> {
     let mut queues = Vec::with_capacity(alloc, count).expect(rt, "memory");
     for queue in 0..count {
-        queues.push_reserved(Queue::open(rt, alloc, gate, queue, calls));
+        queues.push_reserved(Queue::new(rt, open(rt, alloc, gate, queue, calls)));
     }
     queues
-}
-
-fn directory<D: StoredHistory<DirectoryOp, DirectoryReply>, R: Abort>(
-    rt: &R,
-    alloc: Global,
-) -> DirectoryLine<D> {
-    let (turnstile, pass) = fresh::directory(alloc, 4_000_000, 1_000_000).expect(rt, "memory");
-    DirectoryLine::new(Arc::new(alloc, turnstile).expect(rt, "memory"), pass)
 }
 
 fn ask_at<G: Gate, H: StoredHistory<Op, Reply>, R: Wait + Abort>(
@@ -317,21 +298,35 @@ fn all_quiet<G: Gate, H: StoredHistory<Op, Reply>, R: Wait + Abort>(
     true
 }
 
-// Publishes so many events at each queue, and waits until all are handled.
-fn publish_all<G: Gate, H: StoredHistory<Op, Reply>, R: Wait + Abort>(
+// Publishes so many events at each queue, and waits until the gate was told of all, and each queue is quiet.
+fn publish_all<H: StoredHistory<Op, Reply>, R: Wait + Abort>(
     rt: &R,
     alloc: Global,
-    queues: &mut Vec<Queue<G, H>>,
+    queues: &mut Vec<Queue<Recorder, H>>,
+    gate: &Recorder,
     doorbell: &Doorbell,
     count: u32,
 )
     ensures { queues.new.items ≡ queues.old.items }
 {
+    let mut events = 0u64;
     for at in 0..queues.len() {
         publish_at(rt, alloc, queues, doorbell, at, count);
+        events = events.wrapping_add(u64::from(count));
     }
+    wait_until_handled(rt, gate, events);
     for _ in rt.forever() {
         if all_quiet(rt, alloc, queues, doorbell) {
+            break;
+        }
+        thread::yield_now();
+    }
+}
+
+// Waits until the gate was told of so many events.
+fn wait_until_handled<R: Wait>(rt: &R, gate: &Recorder, events: u64) {
+    for _ in rt.forever() {
+        if gate.handled() >= events {
             break;
         }
         thread::yield_now();
@@ -353,34 +348,38 @@ fn watch<R: Wait + Abort>(rt: &R, gate: &Recorder, calls: u64) {
 }
 
 // What is done beside the loops, and then tells them to stop.
-fn attend<R: Wait + Abort>(
+fn attend<H: StoredHistory<Op, Reply>, R: Wait + Abort>(
     rt: &R,
     alloc: Global,
-    mut queues: Vec<Queue<Recorder, History>>,
-    shared: &Shared<Recorder, Asked>,
+    mut queues: Vec<Queue<Recorder, H>>,
+    gate: &Recorder,
+    doorbell: &Doorbell,
     stop: &AtomicBool,
     beside: Beside,
-) -> Vec<Queue<Recorder, History>>
+) -> Vec<Queue<Recorder, H>>
     ensures { result.items ≡ queues.items }
 {
     match beside {
-        Beside::Publish(count) => {
-            publish_all(rt, alloc, &mut queues, &shared.doorbell, count);
-        }
-        Beside::Watch(calls) => watch(rt, &shared.gate, calls),
+        Beside::Publish(count) => publish_all(rt, alloc, &mut queues, gate, doorbell, count),
+        Beside::Watch(calls) => watch(rt, gate, calls),
     }
     stop.store(true, Ordering::SeqCst);
-    shared.doorbell.ring(rt);
+    doorbell.ring(rt);
     queues
 }
 
-fn run_silos<R: Threads + Wait + Sync>(
+fn run_silos<
+    G: Gate,
+    H: StoredHistory<Op, Reply> + Send,
+    D: StoredHistory<DirectoryOp, DirectoryReply> + Send,
+    R: Threads + Wait + Sync,
+>(
     rt: &R,
     alloc: Global,
-    one: StoredSilo,
-    other: StoredSilo,
+    one: Silo<G, H, D>,
+    other: Silo<G, H, D>,
     stop: &AtomicBool,
-) -> (StoredSilo, StoredSilo)
+) -> (Silo<G, H, D>, Silo<G, H, D>)
     ensures one { result.0 ≡ one }
     ensures other { result.1 ≡ other }
 {
@@ -392,23 +391,24 @@ fn run_silos<R: Threads + Wait + Sync>(
 }
 
 /// Runs each loop in a thread of its own, until the thread beside them tells them to stop.
-pub fn run<R: Threads + Wait + Abort + Sync>(
-    rt: &R,
-    alloc: Global,
-    cluster: StoredCluster,
-    beside: Beside,
-) -> StoredCluster {
+pub fn run<
+    H: StoredHistory<Op, Reply> + Send,
+    D: StoredHistory<DirectoryOp, DirectoryReply> + Send,
+    R: Threads + Wait + Abort + Sync,
+>(rt: &R, alloc: Global, cluster: Cluster<H, D>, beside: Beside) -> Cluster<H, D> {
     let Cluster {
         shared,
         queues,
         one,
         other,
     } = cluster;
+    let gate: &Recorder = &shared.gate;
+    let doorbell: &Doorbell = &shared.doorbell;
     let stop = AtomicBool::new(false);
     let ((one, other), queues) = join(
         rt,
         || run_silos(rt, alloc, one, other, &stop),
-        || attend(rt, alloc, queues, &shared, &stop, beside),
+        || attend(rt, alloc, queues, gate, doorbell, &stop, beside),
     );
     Cluster {
         shared,

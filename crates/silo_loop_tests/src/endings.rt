@@ -1,13 +1,13 @@
 //! How the loops of a silo end.
-use crate::cluster::{Cluster, Silos, compare, rest};
+use crate::cluster::{Cluster, Silos, rest};
 use crate::fresh::{Asked, History};
+use crate::replay::Replayed;
 use crate::silo::{Loop, MOST_ROUNDS};
 use activation_directory::{DirectoryOp, DirectoryReply};
 use silo_loops::{Advance, Over};
 use std::alloc::Global;
 use std::process::Abort;
 use std::sync::Wait;
-use step_core::{Op, Reply};
 use turnstile::StoredHistory;
 
 // The loop has ended so, for good: further steps answer the same, and neither call nor ring.
@@ -37,11 +37,10 @@ fn use_up<C: Silos, R: Wait + Abort>(rt: &R, alloc: Global, cluster: &mut C) {
 }
 
 // An agent that begins as many rounds as it may, at any kind of history.
-fn end_by_rounds<
-    H: StoredHistory<Op, Reply>,
-    D: StoredHistory<DirectoryOp, DirectoryReply>,
-    R: Wait + Abort,
->(rt: &R, alloc: Global) {
+fn end_by_rounds<H: Replayed, D: StoredHistory<DirectoryOp, DirectoryReply>, R: Wait + Abort>(
+    rt: &R,
+    alloc: Global,
+) {
     let mut cluster = Cluster::<H, D>::new(rt, alloc, 1, 100);
     use_up(rt, alloc, &mut cluster);
     has_ended(rt, alloc, &mut cluster, Loop::Agent, Over::Rounds);
@@ -61,25 +60,23 @@ fn run_against<C: Silos, R: Wait + Abort>(rt: &R, alloc: Global, cluster: &mut C
     has_ended(rt, alloc, cluster, which, Over::Limit);
 }
 
-// The histories after loops that a full one ends.
-fn end_by_history<
-    H: StoredHistory<Op, Reply>,
-    D: StoredHistory<DirectoryOp, DirectoryReply>,
-    R: Wait + Abort,
->(rt: &R, alloc: Global) -> Vec<H> {
+// Loops that a full history ends.
+fn end_by_history<H: Replayed, D: StoredHistory<DirectoryOp, DirectoryReply>, R: Wait + Abort>(
+    rt: &R,
+    alloc: Global,
+) {
     let mut cluster = Cluster::<H, D>::new(rt, alloc, 1, 10);
     cluster.assign(true, 0, Some(0));
     run_against(rt, alloc, &mut cluster, Loop::Agent);
     run_against(rt, alloc, &mut cluster, Loop::First);
     run_against(rt, alloc, &mut cluster, Loop::Second);
     assert!(rt; cluster.gate().calls() == 10);
-    cluster.into_histories(rt, alloc)
+    cluster.finish(rt, alloc);
 }
 
 // A loop makes so many rounds at most as it may, and a history that has as many calls as it may have ends each loop.
 #[test]
 fn no_round_and_no_call_is_left(rt: HostRuntime) {
     end_by_rounds::<History, Asked, HostRuntime>(&rt, rt.alloc());
-    let histories = end_by_history::<History, Asked, HostRuntime>(&rt, rt.alloc());
-    compare(&rt, rt.alloc(), histories.as_slice());
+    end_by_history::<History, Asked, HostRuntime>(&rt, rt.alloc());
 }

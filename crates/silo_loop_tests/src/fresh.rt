@@ -6,7 +6,9 @@ ghost use Rattle.shared_partition.specs.Partitions as partitions;
 
 use activation_directory::{DirectoryOp, DirectoryReply};
 use shared_partition::{Gate, SharedDirectory, SharedPartition};
+use silo_loops::DirectoryLine;
 use std::alloc::{AllocError, Global};
+use std::process::Abort;
 use std::sync::Arc;
 use step_core::{Limits, Op, Reply};
 use turnstile::{PassOf, PlainHistory, StoredHistory, Turnstile};
@@ -57,4 +59,17 @@ pub fn directory<D: StoredHistory<DirectoryOp, DirectoryReply>>(
     let shared = SharedDirectory::new(alloc, permits);
     let (turnstile, pass) = Turnstile::new(alloc, shared, calls)?;
     Ok((turnstile, pass))
+}
+
+/// The first line of an empty directory, which gives so many permits and has a history of at most so many calls.
+pub fn directory_line<D: StoredHistory<DirectoryOp, DirectoryReply>, R: Abort>(
+    rt: &R,
+    alloc: Global,
+    permits: u64,
+    calls: u64,
+) -> DirectoryLine<D>
+    requires { permits ≤ 4000000 }
+{
+    let (turnstile, pass) = directory(alloc, permits, calls).expect(rt, "memory");
+    DirectoryLine::new(Arc::new(alloc, turnstile).expect(rt, "memory"), pass)
 }

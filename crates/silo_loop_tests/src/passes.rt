@@ -7,8 +7,8 @@ use std::alloc::Global;
 use std::process::Abort;
 use turnstile::{Closed, PassOf, Replays, Traced, Turnstile};
 
-// Puts a value behind the others. A want of memory is answered by asking again.
-fn push<T, R: Abort>(rt: &R, values: &mut Vec<T>, value: T)
+/// Puts a value behind the others. A want of memory is answered by asking again.
+pub(crate) fn push<T, R: Abort>(rt: &R, values: &mut Vec<T>, value: T)
     ensures { values.new.items ≡ values.old.items ++ value ∷ [] }
 {
     if values.reserve(1).is_err() {

@@ -14,6 +14,40 @@ use std::sync::{Arc, Wait};
 use step_core::{Op, Reply};
 use turnstile::StoredHistory;
 
+/// The first line of an empty queue, whose history has at most so many calls.
+pub fn open<G: Gate, H: StoredHistory<Op, Reply>, R: Abort>(
+    rt: &R,
+    alloc: Global,
+    gate: &Arc<G, Global>,
+    queue: usize,
+    calls: u64,
+) -> Line<G, H> {
+    let gate = Arc::try_clone(gate).expect(rt, "memory");
+    let (turnstile, pass) = fresh::partition(alloc, gate, queue, BLOCKS, calls).expect(
+        rt, "memory",
+    );
+    Line::new(Arc::new(alloc, turnstile).expect(rt, "memory"), pass)
+}
+
+/// A caller with the pass of a line.
+pub fn caller_of<G: Gate, H: StoredHistory<Op, Reply>>(line: Line<G, H>) -> QueueCaller<G, H>
+    ensures { result.turnstile ≡ line.pass.turnstile }
+{
+    let (turnstile, pass) = line.into_parts();
+    QueueCaller::new(turnstile, pass)
+}
+
+/// The history of a queue. Each other pass of it has to be joined to that of the caller.
+pub fn close<G: Gate, H: StoredHistory<Op, Reply>, R: Abort>(
+    rt: &R,
+    alloc: Global,
+    caller: QueueCaller<G, H>,
+) -> H {
+    let (turnstile, pass) = caller.into_parts();
+    let turnstile = Arc::into_inner(turnstile).expect(rt, "no other has it");
+    finished(rt, turnstile, alone(rt, alloc, pass)).history
+}
+
 /// A queue with its producer, and a line from which those of loops are split.
 ///
 /// A contract sees which turnstile it is.
@@ -36,21 +70,12 @@ impl<G: Gate, H: StoredHistory<Op, Reply>> Model for Queue<G, H> {
 }
 
 impl<G: Gate, H: StoredHistory<Op, Reply>> Queue<G, H> {
-    /// An empty queue, whose history has at most so many calls.
-    pub fn open<R: Abort>(
-        rt: &R,
-        alloc: Global,
-        gate: &Arc<G, Global>,
-        queue: usize,
-        calls: u64,
-    ) -> Queue<G, H> {
-        let gate = Arc::try_clone(gate).expect(rt, "memory");
-        let (turnstile, pass) = fresh::partition(alloc, gate, queue, BLOCKS, calls).expect(
-            rt, "memory",
-        );
-        let mut line = Line::new(Arc::new(alloc, turnstile).expect(rt, "memory"), pass);
-        let (turnstile, pass) = line.split().expect(rt, "memory").into_parts();
-        let producer = QueueCaller::new(turnstile, pass);
+    /// A producer at the queue of a line.
+    pub fn new<R: Abort>(rt: &R, line: Line<G, H>) -> Queue<G, H>
+        ensures { result ≡ line.pass.turnstile }
+    {
+        let mut line = line;
+        let producer = caller_of(line.split().expect(rt, "memory"));
         Queue { producer, line }
     }
 
@@ -88,11 +113,8 @@ impl<G: Gate, H: StoredHistory<Op, Reply>> Queue<G, H> {
     /// The history of the queue. Each line has to be back.
     pub fn finish<R: Abort>(self, rt: &R, alloc: Global) -> H {
         let Queue { producer, line } = self;
-        let (turnstile, pass) = line.into_parts();
-        let mut whole = QueueCaller::new(turnstile, pass);
-        whole.join(producer);
-        let (turnstile, pass) = whole.into_parts();
-        let turnstile = Arc::into_inner(turnstile).expect(rt, "no loop has it");
-        finished(rt, turnstile, alone(rt, alloc, pass)).history
+        let mut producer = producer;
+        producer.join(caller_of(line));
+        close(rt, alloc, producer)
     }
 }

@@ -6,7 +6,8 @@ ghost use Rattle.turnstile.specs.declared.view.Start.{Start};
 mod objects;
 mod stored;
 
-use crate::passes::{alone, finished};
+use crate::passes::{alone, finished, push};
+use crate::rows::assert_at;
 use activation_directory::{DirectoryOp, DirectoryReply};
 use shared_partition::{Counting, SharedDirectory, SharedPartition};
 use std::alloc::{AllocError, Global};
@@ -104,53 +105,44 @@ fn insist<T: Tried, R: Wait + Abort>(
     }
 }
 
-// Makes a call at each of two turnstiles, which answer the same.
-fn ask_alike<T: Tried, R: Wait + Abort>(
+// The replies to all calls.
+fn ask_all<T: Tried, R: Wait + Abort>(
     rt: &R,
     alloc: Global,
-    one: &Turnstile<T>,
+    turnstile: &Turnstile<T>,
     pass: &mut PassOf<T>,
-    other: &Turnstile<T>,
-    twin: &mut PassOf<T>,
-    call: T::Call,
-)
-    requires one { IsOf one.now pass.old × T.began one.now.start }
-    requires other { IsOf other.now twin.old × T.began other.now.start }
-    ensures one { IsOf one.now pass.new }
-    ensures other { IsOf other.now twin.new }
+) -> Vec<T::Reply>
+    requires { IsOf turnstile.now pass.old × T.began turnstile.now.start }
+    ensures { IsOf turnstile.now pass.new }
 {
-    let reply = insist(rt, alloc, one, pass, call);
-    let same = insist(rt, alloc, other, twin, call);
-    assert!(rt; T::agree(&reply, &same) && pass.len() == twin.len());
+    let mut replies = Vec::new(alloc);
+    for call in T::calls() {
+        let reply = insist(rt, alloc, turnstile, pass, *call);
+        push(rt, &mut replies, reply);
+    }
+    replies
 }
 
-// Makes all calls at each of two turnstiles.
-fn ask_all_alike<T: Tried, R: Wait + Abort>(
-    rt: &R,
-    alloc: Global,
-    one: &Turnstile<T>,
-    pass: &mut PassOf<T>,
-    other: &Turnstile<T>,
-    twin: &mut PassOf<T>,
-)
-    requires one { IsOf one.now pass.old × T.began one.now.start }
-    requires other { IsOf other.now twin.old × T.began other.now.start }
-    ensures one { IsOf one.now pass.new }
-    ensures other { IsOf other.now twin.new }
-{
-    for call in T::calls() {
-        ask_alike(rt, alloc, one, pass, other, twin, *call);
+// The replies to all calls, and the trace of the turnstile.
+fn played<T: Tried, R: Wait + Abort>(rt: &R, alloc: Global) -> (Vec<T::Reply>, Traced<T>) {
+    let (turnstile, mut pass) = opened::<T>(alloc).expect(rt, "memory");
+    let replies = ask_all(rt, alloc, &turnstile, &mut pass);
+    assert!(rt; pass.len() == T::calls().len() as u64);
+    (replies, finished(rt, turnstile, alone(rt, alloc, pass)))
+}
+
+// Whether two turnstiles answer the same.
+fn agree<T: Tried, R: Abort>(rt: &R, replies: &[T::Reply], twins: &[T::Reply]) {
+    for (at, (reply, twin)) in replies.iter().zip(twins).enumerate() {
+        assert_at(rt, at, T::agree(reply, twin));
     }
 }
 
 // With any one allocation refused, of two turnstiles one is untouched, and they stay alike.
 fn stay_alike<T: Tried, R: Wait + Abort>(rt: &R, alloc: Global) {
-    let (one, mut pass) = opened::<T>(alloc).expect(rt, "memory");
-    let (other, mut twin) = opened::<T>(alloc).expect(rt, "memory");
-    ask_all_alike(rt, alloc, &one, &mut pass, &other, &mut twin);
-    assert!(rt; pass.len() == T::calls().len() as u64);
-    let done = finished(rt, one, alone(rt, alloc, pass));
-    let twin = finished(rt, other, alone(rt, alloc, twin));
+    let (replies, done) = played::<T, R>(rt, alloc);
+    let (twins, twin) = played::<T, R>(rt, alloc);
+    agree::<T, R>(rt, replies.as_slice(), twins.as_slice());
     T::compare(rt, alloc, done, twin);
 }
 

@@ -1,21 +1,24 @@
-ghost use Rattle.std.specs.Prelude.{IfOk};
-ghost use Rattle.turnstile.specs.Calls.{IsOf};
-ghost use Rattle.shared_partition.specs.Partitions.{BeganEmpty};
+//! Two threads that call one queue.
+ghost use Rattle.std.specs.Prelude.{◌≡◌, Option};
+ghost use Rattle.stream_model.specs.declared.plain.PlainPartition.{PlainPartition};
+ghost use Rattle.turnstile.specs.Passes.{Origin};
 
-use crate::fresh;
-use crate::fresh::{BLOCKS, History};
+use crate::fresh::History;
 use crate::operations::{Call, SUB, operation};
-use crate::passes::{finished, pair};
-use shared_partition::{Gate, SharedPartition};
-use std::alloc::{AllocError, Global};
+use crate::queue::{caller_of, close, open};
+use crate::replay::Replayed;
+use cluster_callers::QueueCaller;
+use shared_partition::Gate;
+use silo_loops::Doorbell;
+use std::alloc::Global;
 use std::process::Abort;
 use std::sync::atomic::{AtomicU64, Ordering};
 use std::sync::{Arc, Wait};
 use std::thread;
 use std::thread::{Threads, join};
-use step_core::{Limits, Op, Partition, Reply};
+use step_core::{Op, Reply};
 use stream_ident::{Event, GrainId, SubName, Token};
-use turnstile::{Entry, PassOf, StoredHistory, Turnstile};
+use turnstile::StoredHistory;
 
 const QUEUE: usize = 5;
 
@@ -41,31 +44,6 @@ impl Gate for Entered {
     fn handle(&self, _grain: &GrainId, _sub: &SubName, _event: &Event, note: u64) -> u64 {
         note
     }
-
-    fn done(&self, _grain: &GrainId, _sub: &SubName, _token: Token) {}
-}
-
-type Shared<H> = SharedPartition<Entered, H>;
-
-type Stored = Shared<History>;
-
-// A turnstile over an empty partition, with its gate and its first pass.
-fn opened<H: StoredHistory<Op, Reply>>(
-    alloc: Global,
-) -> Result<
-    (
-        Arc<Entered, Global>,
-        Turnstile<Shared<H>>,
-        PassOf<Shared<H>>,
-    ),
-    AllocError,
->
-    ensures { IfOk result (λ r. IsOf r.1 r.2 × BeganEmpty r.1.start) }
-{
-    let calls = AtomicU64::new(0);
-    let gate = Arc::new(alloc, Entered { calls })?;
-    let (turnstile, pass) = fresh::partition(alloc, Arc::try_clone(&gate)?, QUEUE, BLOCKS, 10_000)?;
-    Ok((gate, turnstile, pass))
 }
 
 // What of a reply matters here.
@@ -79,6 +57,8 @@ enum Told {
     // The last event of the turn.
     Committed(Token),
     Acked,
+    // How many events were handled.
+    Unsubscribed(usize),
     // Something else.
     Other,
 }
@@ -97,231 +77,193 @@ fn summary(reply: &Reply) -> Told {
         } => Told::Turn(*activation, *turn, note.wrapping_add(events.len() as u64)),
         Reply::Committed { sub, token } if *sub == SUB => Told::Committed(*token),
         Reply::Acked => Told::Acked,
+        Reply::Unsubscribed { handled } => Told::Unsubscribed(*handled),
         _ => Told::Other,
     }
 }
 
-// What is told to a call, which isn't refused.
-fn ask<H: StoredHistory<Op, Reply>, R: Wait + Abort>(
-    rt: &R,
-    alloc: Global,
-    turnstile: &Turnstile<Shared<H>>,
-    pass: &mut PassOf<Shared<H>>,
-    call: Call,
-) -> Told
-    requires { IsOf turnstile.now pass.old × BeganEmpty turnstile.now.start }
-    ensures { IsOf turnstile.now pass.new }
-{
-    let op = operation(rt, alloc, call).expect(rt, "memory");
-    let answer = SharedPartition::call(turnstile, rt, alloc, pass, op);
-    summary(&answer.expect(rt, "a reply"))
+// A caller of the queue.
+trait Asks: Send + Drop {
+    // Which turnstile it calls.
+    ghost place: { Self → Option (Origin PlainPartition) };
+
+    // What is told to a call, which isn't refused.
+    fn ask<R: Wait + Abort>(
+        &mut self,
+        rt: &R,
+        alloc: Global,
+        doorbell: &Doorbell,
+        call: Call,
+    ) -> Told
+        ensures { place self.new ≡ place self.old };
+}
+
+impl<H: StoredHistory<Op, Reply> + Send> Asks for QueueCaller<Entered, H> {
+    ghost place = { λ c. c.turnstile };
+
+    fn ask<R: Wait + Abort>(
+        &mut self,
+        rt: &R,
+        alloc: Global,
+        doorbell: &Doorbell,
+        call: Call,
+    ) -> Told {
+        let op = operation(rt, alloc, call).expect(rt, "memory");
+        summary(&self.call(rt, alloc, doorbell, op).expect(rt, "a reply"))
+    }
 }
 
 // Publishes so many events, each in a batch of its own.
-fn produce<H: StoredHistory<Op, Reply>, R: Wait + Abort>(
+fn produce<C: Asks, R: Wait + Abort>(
     rt: &R,
     alloc: Global,
-    turnstile: &Turnstile<Shared<H>>,
-    pass: &mut PassOf<Shared<H>>,
+    doorbell: &Doorbell,
+    caller: &mut C,
     count: u32,
 )
-    requires { IsOf turnstile.now pass.old × BeganEmpty turnstile.now.start }
-    ensures { IsOf turnstile.now pass.new }
+    ensures { C.place caller.new ≡ C.place caller.old }
 {
     for _ in 0..count {
-        let told = ask(rt, alloc, turnstile, pass, Call::Publish(STREAM));
+        let told = caller.ask(rt, alloc, doorbell, Call::Publish(STREAM));
         assert!(rt; matches!(told, Told::Published));
     }
 }
 
 // Runs a turn, where there is something to handle, and acknowledges it. Its note counts the events.
-fn work<H: StoredHistory<Op, Reply>, R: Wait + Abort>(
-    rt: &R,
-    alloc: Global,
-    turnstile: &Turnstile<Shared<H>>,
-    pass: &mut PassOf<Shared<H>>,
-)
-    requires { IsOf turnstile.now pass.old × BeganEmpty turnstile.now.start }
-    ensures { IsOf turnstile.now pass.new }
+fn work<C: Asks, R: Wait + Abort>(rt: &R, alloc: Global, doorbell: &Doorbell, caller: &mut C)
+    ensures { C.place caller.new ≡ C.place caller.old }
 {
-    let begun = ask(rt, alloc, turnstile, pass, Call::Begin(GRAIN));
+    let begun = caller.ask(rt, alloc, doorbell, Call::Begin(GRAIN));
     let Told::Turn(activation, turn, note) = begun else {
         return;
     };
     let commit = Call::Commit(GRAIN, activation, turn, note);
-    let Told::Committed(token) = ask(rt, alloc, turnstile, pass, commit) else {
+    let Told::Committed(token) = caller.ask(rt, alloc, doorbell, commit) else {
         panic!(rt; "the turn runs");
     };
-    let told = ask(rt, alloc, turnstile, pass, Call::Acknowledge(token));
+    let told = caller.ask(rt, alloc, doorbell, Call::Acknowledge(token));
     assert!(rt; matches!(told, Told::Acked));
 }
 
 // One round of an agent and a worker: some events are pulled, delivered and handled.
-fn serve<H: StoredHistory<Op, Reply>, R: Wait + Abort>(
-    rt: &R,
-    alloc: Global,
-    turnstile: &Turnstile<Shared<H>>,
-    pass: &mut PassOf<Shared<H>>,
-)
-    requires { IsOf turnstile.now pass.old × BeganEmpty turnstile.now.start }
-    ensures { IsOf turnstile.now pass.new }
+fn serve<C: Asks, R: Wait + Abort>(rt: &R, alloc: Global, doorbell: &Doorbell, caller: &mut C)
+    ensures { C.place caller.new ≡ C.place caller.old }
 {
-    let _pulled = ask(rt, alloc, turnstile, pass, Call::Pull);
+    let _pulled = caller.ask(rt, alloc, doorbell, Call::Pull);
     for _ in 0..32 {
-        let told = ask(rt, alloc, turnstile, pass, Call::Deliver);
+        let told = caller.ask(rt, alloc, doorbell, Call::Deliver);
         if !matches!(told, Told::Delivered) {
             break;
         }
     }
-    work(rt, alloc, turnstile, pass);
-    work(rt, alloc, turnstile, pass);
+    work(rt, alloc, doorbell, caller);
+    work(rt, alloc, doorbell, caller);
 }
 
 // Twenty rounds, each of which begins with so many new events.
-fn serve_rounds<H: StoredHistory<Op, Reply>, R: Wait + Abort>(
+fn serve_rounds<C: Asks, R: Wait + Abort>(
     rt: &R,
     alloc: Global,
-    turnstile: &Turnstile<Shared<H>>,
-    pass: &mut PassOf<Shared<H>>,
+    doorbell: &Doorbell,
+    caller: &mut C,
     count: u32,
 )
-    requires { IsOf turnstile.now pass.old × BeganEmpty turnstile.now.start }
-    ensures { IsOf turnstile.now pass.new }
+    ensures { C.place caller.new ≡ C.place caller.old }
 {
     for _ in 0..20 {
-        produce(rt, alloc, turnstile, pass, count);
-        serve(rt, alloc, turnstile, pass);
+        produce(rt, alloc, doorbell, caller, count);
+        serve(rt, alloc, doorbell, caller);
     }
 }
 
 // Publishes two hundred events, and serves as an agent and a worker in between.
-fn produce_and_serve<R: Wait + Abort>(
+fn produce_and_serve<C: Asks, R: Wait + Abort>(
     rt: &R,
     alloc: Global,
-    turnstile: &Turnstile<Stored>,
-    mut pass: PassOf<Stored>,
-) -> PassOf<Stored>
-    requires { IsOf turnstile.now pass × BeganEmpty turnstile.now.start }
-    ensures { IsOf turnstile.now result }
+    doorbell: &Doorbell,
+    mut caller: C,
+) -> C
+    ensures { C.place result ≡ C.place caller }
 {
-    serve_rounds(rt, alloc, turnstile, &mut pass, 10);
-    pass
+    serve_rounds(rt, alloc, doorbell, &mut caller, 10);
+    caller
 }
 
 // Publishes two hundred events.
-fn produce_alone<R: Wait + Abort>(
+fn produce_alone<C: Asks, R: Wait + Abort>(
     rt: &R,
     alloc: Global,
-    turnstile: &Turnstile<Stored>,
-    mut pass: PassOf<Stored>,
-) -> PassOf<Stored>
-    requires { IsOf turnstile.now pass × BeganEmpty turnstile.now.start }
-    ensures { IsOf turnstile.now result }
+    doorbell: &Doorbell,
+    mut caller: C,
+) -> C
+    ensures { C.place result ≡ C.place caller }
 {
-    produce(rt, alloc, turnstile, &mut pass, 200);
-    pass
+    produce(rt, alloc, doorbell, &mut caller, 200);
+    caller
 }
 
-// The replies are those of a partition that does the same operations in the order of the history.
-fn replay<R: Abort>(
+// The callers after two threads have published, one of which is an agent and a worker as well.
+fn in_two_threads<C: Asks, R: Threads + Wait + Abort + Sync>(
     rt: &R,
     alloc: Global,
-    partition: &mut Partition,
-    history: &[Entry<Op, Reply>],
-) {
-    for entry in history {
-        let reply = partition.apply(alloc, &entry.op);
-        assert!(rt; matches!(&reply, Ok(reply) if *reply == entry.reply));
-    }
-}
-
-// How many events the subscription has handled.
-fn count_handled<R: Abort>(rt: &R, alloc: Global, partition: &Partition) -> usize {
-    let handled = partition.handled(alloc, &SUB).expect(rt, "memory");
-    handled.len()
-}
-
-// All is handled, each event once, by a partition that does the operations of the history.
-fn compare_with<R: Abort>(
-    rt: &R,
-    alloc: Global,
-    twin: &mut Partition,
-    history: &[Entry<Op, Reply>],
-) {
-    replay(rt, alloc, twin, history);
-    assert!(rt; twin.quiet().is_none());
-    assert!(rt; count_handled(rt, alloc, twin) == 400);
-}
-
-// The history is what one partition answers, and each call of it has entered the gate.
-fn compare<R: Abort>(rt: &R, alloc: Global, gate: &Entered, history: &[Entry<Op, Reply>]) {
-    let entered = gate.calls.load(Ordering::SeqCst);
-    assert!(rt; entered == history.len() as u64);
-    let mut twin = Partition::new(alloc, BLOCKS, Limits::GREATEST).expect(rt, "memory");
-    compare_with(rt, alloc, &mut twin, history);
-}
-
-// The passes after two threads have published, one of which is an agent and a worker as well.
-fn in_two_threads<R: Threads + Wait + Abort + Sync>(
-    rt: &R,
-    alloc: Global,
-    turnstile: &Turnstile<Stored>,
-    first: PassOf<Stored>,
-    second: PassOf<Stored>,
-) -> (PassOf<Stored>, PassOf<Stored>)
-    requires empty { BeganEmpty turnstile.now.start }
-    requires first { IsOf turnstile.now first }
-    requires second { IsOf turnstile.now second }
-    ensures first { IsOf turnstile.now result.0 }
-    ensures second { IsOf turnstile.now result.1 }
+    doorbell: &Doorbell,
+    first: C,
+    second: C,
+) -> (C, C)
+    ensures first { C.place result.0 ≡ C.place first }
+    ensures second { C.place result.1 ≡ C.place second }
 {
     join(
         rt,
-        || produce_and_serve(rt, alloc, turnstile, first),
-        || produce_alone(rt, alloc, turnstile, second),
+        || produce_and_serve(rt, alloc, doorbell, first),
+        || produce_alone(rt, alloc, doorbell, second),
     )
 }
 
-// A second pass, beside one that has made the subscription.
-fn begun<H: StoredHistory<Op, Reply>, R: Wait + Abort>(
-    rt: &R,
-    alloc: Global,
-    turnstile: &Turnstile<Shared<H>>,
-    pass: &mut PassOf<Shared<H>>,
-) -> PassOf<Shared<H>>
-    requires { IsOf turnstile.now pass.old × BeganEmpty turnstile.now.start }
-    ensures first { IsOf turnstile.now pass.new }
-    ensures second { IsOf turnstile.now result }
+// A subscription is made.
+fn begin<C: Asks, R: Wait + Abort>(rt: &R, alloc: Global, doorbell: &Doorbell, caller: &mut C)
+    ensures { C.place caller.new ≡ C.place caller.old }
 {
-    let told = ask(rt, alloc, turnstile, pass, Call::Subscribe(STREAM, GRAIN));
+    let told = caller.ask(rt, alloc, doorbell, Call::Subscribe(STREAM, GRAIN));
     assert!(rt; matches!(told, Told::Subscribed(1)));
-    turnstile.split(pass).expect(rt, "a pass")
 }
 
-// The history after a pass has served what the passes have published.
-fn ended<H: StoredHistory<Op, Reply>, R: Wait + Abort>(
+// A caller serves what is left, and then the subscription has handled all events.
+fn end<C: Asks, R: Wait + Abort>(rt: &R, alloc: Global, doorbell: &Doorbell, caller: &mut C)
+    ensures { C.place caller.new ≡ C.place caller.old }
+{
+    serve_rounds(rt, alloc, doorbell, caller, 0);
+    let told = caller.ask(rt, alloc, doorbell, Call::Unsubscribe(1));
+    assert!(rt; matches!(told, Told::Unsubscribed(400)));
+}
+
+// The history of a queue that two threads call, one of which has made the subscription.
+fn called<H: StoredHistory<Op, Reply> + Send, R: Threads + Wait + Abort + Sync>(
     rt: &R,
     alloc: Global,
-    turnstile: Turnstile<Shared<H>>,
-    mut first: PassOf<Shared<H>>,
-    second: PassOf<Shared<H>>,
-) -> H
-    requires empty { BeganEmpty turnstile.start }
-    requires first { IsOf turnstile first }
-    requires second { IsOf turnstile second }
-{
-    serve_rounds(rt, alloc, &turnstile, &mut first, 0);
-    let passes = pair(rt, alloc, first, second);
-    finished(rt, turnstile, passes).history
+    gate: &Arc<Entered, Global>,
+) -> H {
+    let doorbell = Doorbell::new(0);
+    let mut first = caller_of(open::<Entered, H, R>(rt, alloc, gate, QUEUE, 10_000));
+    begin(rt, alloc, &doorbell, &mut first);
+    let second = first.split().expect(rt, "a pass");
+    let (mut first, second) = in_two_threads(rt, alloc, &doorbell, first, second);
+    end(rt, alloc, &doorbell, &mut first);
+    first.join(second);
+    close(rt, alloc, first)
 }
 
-// At the end all is handled, and the history is what one partition answers.
+// The history is what one queue answers, and each call of it has entered the gate.
+fn check<H: Replayed + Send, R: Threads + Wait + Abort + Sync>(rt: &R, alloc: Global) {
+    let calls = AtomicU64::new(0);
+    let gate = Arc::new(alloc, Entered { calls }).expect(rt, "memory");
+    let history = called::<H, R>(rt, alloc, &gate);
+    assert!(rt; gate.calls.load(Ordering::SeqCst) == history.len() as u64);
+    history.replay(rt, alloc);
+}
+
+// At the end all is handled, each event once, and the history is what one queue answers.
 #[test]
 fn two_threads_of_callers(rt: HostRuntime) {
-    let alloc = rt.alloc();
-    let (gate, turnstile, mut first) = opened::<History>(alloc).expect(&rt, "memory");
-    let second = begun(&rt, alloc, &turnstile, &mut first);
-    let (first, second) = in_two_threads(&rt, alloc, &turnstile, first, second);
-    let history = ended(&rt, alloc, turnstile, first, second);
-    compare(&rt, alloc, &gate, history.as_slice());
+    check::<History, HostRuntime>(&rt, rt.alloc());
 }

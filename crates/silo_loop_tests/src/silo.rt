@@ -3,8 +3,6 @@ ghost use Rattle.std.specs.Prelude.{◌≡◌};
 ghost use Rattle.silo_loops.specs.Lines.{places};
 ghost use Rattle.silo_loops.specs.Workers.{IsBeside};
 
-use crate::fresh::{Asked, History};
-use crate::gate::Recorder;
 use crate::queue::Queue;
 use activation_directory::{DirectoryOp, DirectoryReply};
 use shared_partition::Gate;
@@ -19,11 +17,6 @@ use std::sync::{Arc, Wait};
 use std::thread::{Threads, join};
 use step_core::{Op, Reply};
 use turnstile::StoredHistory;
-
-/// A silo whose loops can run in threads: how its calls are stored is known.
-pub type StoredSilo = Silo<Recorder, History, Asked>;
-
-type Worker = WorkerLoop<Recorder, History, Asked>;
 
 /// How many rounds each loop may begin.
 pub const MOST_ROUNDS: u64 = 1_000_000;
@@ -232,12 +225,12 @@ fn join_all<G: Gate, H: StoredHistory<Op, Reply>>(
 }
 
 /// Runs each loop of a silo in a thread of its own, until it is told to stop.
-pub fn run_silo<R: Threads + Wait + Sync>(
-    rt: &R,
-    alloc: Global,
-    silo: StoredSilo,
-    stop: &AtomicBool,
-) -> StoredSilo
+pub fn run_silo<
+    G: Gate,
+    H: StoredHistory<Op, Reply> + Send,
+    D: StoredHistory<DirectoryOp, DirectoryReply> + Send,
+    R: Threads + Wait + Sync,
+>(rt: &R, alloc: Global, silo: Silo<G, H, D>, stop: &AtomicBool) -> Silo<G, H, D>
     ensures { result ≡ silo }
 {
     let Silo {
@@ -259,13 +252,18 @@ pub fn run_silo<R: Threads + Wait + Sync>(
     }
 }
 
-fn run_workers<R: Threads + Wait + Sync>(
+fn run_workers<
+    G: Gate,
+    H: StoredHistory<Op, Reply> + Send,
+    D: StoredHistory<DirectoryOp, DirectoryReply> + Send,
+    R: Threads + Wait + Sync,
+>(
     rt: &R,
     alloc: Global,
-    first: Worker,
-    second: Worker,
+    first: WorkerLoop<G, H, D>,
+    second: WorkerLoop<G, H, D>,
     stop: &AtomicBool,
-) -> (Worker, Worker)
+) -> (WorkerLoop<G, H, D>, WorkerLoop<G, H, D>)
     ensures first { IsBeside first result.0 }
     ensures second { IsBeside second result.1 }
 {

@@ -2,28 +2,16 @@
 ghost use Rattle.turnstile.specs.Calls.{IsOf};
 
 use crate::passes::{alone, finished, pair};
-use crate::rows::assert_at;
-use crate::total::{Addition, EVERYTHING, Row, Total, expect, insist, opened};
+use crate::total::{
+    Addition, EVERYTHING, Noted, Row, Shown, Total, compare, expect, one_pass, opened, two_passes,
+};
 use std::alloc::Global;
-use std::ops::Range;
 use std::process::Abort;
 use std::sync::Wait;
 use std::thread::{Threads, join};
 use turnstile::{Closed, Entry, PassOf, PlainHistory, Refusal, StoredHistory, Traced, Turnstile};
 
 type Stored = PlainHistory<Addition, u64>;
-
-type Plain = Total<Stored>;
-
-// What a turnstile has at its end: the sum, and these entries, each by its number, its amount and its reply.
-fn compare<R: Abort>(rt: &R, done: &Traced<Plain>, sum: u64, wanted: &[(u64, u64, u64)]) {
-    let history = done.history.as_slice();
-    assert!(rt; done.object.sum == sum && history.len() == wanted.len());
-    for (at, (entry, row)) in history.iter().zip(wanted).enumerate() {
-        let is_so = entry.number == row.0 && entry.op.amount == row.1 && entry.reply == row.2;
-        assert_at(rt, at, is_so);
-    }
-}
 
 // Whether this is the number of a pass, and it has seen so many entries and knows of so many passes.
 fn is_seen<H: StoredHistory<Addition, u64>>(
@@ -36,13 +24,18 @@ fn is_seen<H: StoredHistory<Addition, u64>>(
 }
 
 // The calls of the first pass, of the second one, and of the first again.
-static FIRST: [Row; 1] = [(5, 0, Ok(5))];
+static FIRST: [Row; 1] = [("the first pass adds 5", 5, 0, Ok(5))];
 
-static SECOND: [Row; 1] = [(2, 0, Ok(7))];
+static SECOND: [Row; 1] = [("the second pass adds 2", 2, 0, Ok(7))];
 
-static BEHIND: [Row; 1] = [(1, 0, Err(Refusal::HistoryFull))];
+static BEHIND: [Row; 1] = [(
+    "the first pass calls at a full history",
+    1,
+    0,
+    Err(Refusal::HistoryFull),
+)];
 
-static AFTER: [Row; 1] = [(1, 0, Ok(8))];
+static AFTER: [Row; 1] = [("the first pass adds 1", 1, 0, Ok(8))];
 
 // Both passes make a call, and then the history is full. The first pass is then not enough to close the turnstile.
 fn two_passes_and_a_full_history<H: StoredHistory<Addition, u64>, R: Wait + Abort>(
@@ -67,20 +60,20 @@ fn two_passes_and_a_full_history<H: StoredHistory<Addition, u64>, R: Wait + Abor
 
 // A call that wants more memory than there is, one that is done, and one behind the last entry.
 static ONE: [Row; 3] = [
-    (1, EVERYTHING, Err(Refusal::Memory)),
-    (5, 0, Ok(5)),
-    (1, EVERYTHING, Err(Refusal::HistoryFull)),
+    (
+        "too much memory is asked for",
+        1,
+        EVERYTHING,
+        Err(Refusal::Memory),
+    ),
+    ("5 is added", 5, 0, Ok(5)),
+    (
+        "too much memory is asked for at a full history",
+        1,
+        EVERYTHING,
+        Err(Refusal::HistoryFull),
+    ),
 ];
-
-// A history of one entry.
-fn one_entry_and_no_room<H: StoredHistory<Addition, u64>, R: Wait + Abort>(
-    rt: &R,
-    alloc: Global,
-) -> Traced<Total<H>> {
-    let (turnstile, mut pass) = opened(rt, alloc, 1);
-    expect(rt, alloc, &turnstile, &mut pass, &ONE);
-    finished(rt, turnstile, alone(rt, alloc, pass))
-}
 
 // A pass that takes in another brings what both did.
 fn joined_passes<H: StoredHistory<Addition, u64>, R: Wait + Abort>(
@@ -98,76 +91,37 @@ fn joined_passes<H: StoredHistory<Addition, u64>, R: Wait + Abort>(
 }
 
 // The entries, of which one call leaves the first, two the first two, and three all.
-static ENTRIES: [(u64, u64, u64); 3] = [(0, 5, 5), (1, 2, 7), (0, 1, 8)];
+static ENTRIES: [Noted; 3] = [(0, 5, 5), (1, 2, 7), (0, 1, 8)];
+
+// One pass and two, at any kind of history.
+fn call_in_order<H: Shown, R: Wait + Abort>(rt: &R, alloc: Global) {
+    one_pass::<R, H>(rt, alloc, 1, &ONE, 5, &ENTRIES[..1]);
+    let done = two_passes_and_a_full_history::<H, R>(rt, alloc);
+    compare(rt, &done, 7, &ENTRIES[..2]);
+    let done = joined_passes::<H, R>(rt, alloc);
+    compare(rt, &done, 8, &ENTRIES);
+}
 
 #[test]
 fn calls_in_their_order(rt: HostRuntime) {
-    let alloc = rt.alloc();
-    let done = one_entry_and_no_room(&rt, alloc);
-    compare(&rt, &done, 5, &ENTRIES[..1]);
-    let done = two_passes_and_a_full_history(&rt, alloc);
-    compare(&rt, &done, 7, &ENTRIES[..2]);
-    let done = joined_passes(&rt, alloc);
-    compare(&rt, &done, 8, &ENTRIES);
+    call_in_order::<Stored, HostRuntime>(&rt, rt.alloc());
 }
 
-// Adds a number in each of two turnstiles, which answer the same.
-fn add_alike<H: StoredHistory<Addition, u64>, R: Wait + Abort>(
-    rt: &R,
-    alloc: Global,
-    one: &Turnstile<Total<H>>,
-    pass: &mut PassOf<Total<H>>,
-    other: &Turnstile<Total<H>>,
-    twin: &mut PassOf<Total<H>>,
-    amount: u64,
-)
-    requires one { IsOf one.now pass.old }
-    requires other { IsOf other.now twin.old }
-    ensures one { IsOf one.now pass.new }
-    ensures other { IsOf other.now twin.new }
-{
-    let answer = insist(rt, alloc, one, pass, amount);
-    assert!(rt; answer == insist(rt, alloc, other, twin, amount));
-    assert!(rt; pass.len() == twin.len());
-}
+// What two passes add, of which the history has the first six.
+static FOUR: [Row; 4] = [
+    ("the first pass adds 1", 1, 1, Ok(1)),
+    ("the first pass adds 2", 2, 1, Ok(3)),
+    ("the first pass adds 3", 3, 1, Ok(6)),
+    ("the first pass adds 4", 4, 1, Ok(10)),
+];
 
-// Adds the numbers of a range, one after another, in each of two turnstiles.
-fn add_all_alike<H: StoredHistory<Addition, u64>, R: Wait + Abort>(
-    rt: &R,
-    alloc: Global,
-    one: &Turnstile<Total<H>>,
-    pass: &mut PassOf<Total<H>>,
-    other: &Turnstile<Total<H>>,
-    twin: &mut PassOf<Total<H>>,
-    amounts: Range<u64>,
-)
-    requires one { IsOf one.now pass.old }
-    requires other { IsOf other.now twin.old }
-    ensures one { IsOf one.now pass.new }
-    ensures other { IsOf other.now twin.new }
-{
-    for amount in amounts {
-        add_alike(rt, alloc, one, pass, other, twin, amount);
-    }
-}
+static THREE: [Row; 3] = [
+    ("the second pass adds 5", 5, 1, Ok(15)),
+    ("the second pass adds 6", 6, 1, Ok(21)),
+    ("the second pass adds 7", 7, 1, Err(Refusal::HistoryFull)),
+];
 
-// The traces of two turnstiles, each of which has two passes that add the same.
-fn stay_alike<H: StoredHistory<Addition, u64>, R: Wait + Abort>(
-    rt: &R,
-    alloc: Global,
-) -> (Traced<Total<H>>, Traced<Total<H>>) {
-    let (one, mut first) = opened(rt, alloc, 6);
-    let (other, mut twin) = opened(rt, alloc, 6);
-    add_all_alike(rt, alloc, &one, &mut first, &other, &mut twin, 1..5);
-    let mut second = one.split(&mut first).expect(rt, "a pass");
-    let mut again = other.split(&mut twin).expect(rt, "a pass");
-    add_all_alike(rt, alloc, &one, &mut second, &other, &mut again, 5..8);
-    let done = finished(rt, one, pair(rt, alloc, first, second));
-    (done, finished(rt, other, pair(rt, alloc, twin, again)))
-}
-
-// What two passes have added, of which the history has the first six.
-static ADDED: [(u64, u64, u64); 6] = [
+static ADDED: [Noted; 6] = [
     (0, 1, 1),
     (0, 2, 3),
     (0, 3, 6),
@@ -176,22 +130,27 @@ static ADDED: [(u64, u64, u64); 6] = [
     (1, 6, 21),
 ];
 
-// With any one allocation refused, of two turnstiles one is untouched, and they stay alike. Run it with
-// each allocation failing in turn.
+// Two turnstiles, of which one is untouched where one allocation is refused, at any kind of history.
+fn stay_alike<H: Shown, R: Wait + Abort>(rt: &R, alloc: Global) {
+    let done = two_passes::<R, H>(rt, alloc, 6, &FOUR, &THREE, &[], &[]);
+    compare(rt, &done, 21, &ADDED);
+    let twin = two_passes::<R, H>(rt, alloc, 6, &FOUR, &THREE, &[], &[]);
+    compare(rt, &twin, 21, &ADDED);
+}
+
+// Run it with each allocation failing in turn.
 #[test]
 fn one_allocation_refused(rt: HostRuntime) {
-    let (done, twin) = stay_alike(&rt, rt.alloc());
-    compare(&rt, &done, 21, &ADDED);
-    compare(&rt, &twin, 21, &ADDED);
+    stay_alike::<Stored, HostRuntime>(&rt, rt.alloc());
 }
 
 // Adds 0, 1, 2 and so on up to 999.
-fn add_many<R: Wait>(
+fn add_many<H: StoredHistory<Addition, u64>, R: Wait>(
     rt: &R,
     alloc: Global,
-    turnstile: &Turnstile<Plain>,
-    mut pass: PassOf<Plain>,
-) -> PassOf<Plain>
+    turnstile: &Turnstile<Total<H>>,
+    mut pass: PassOf<Total<H>>,
+) -> PassOf<Total<H>>
     requires { IsOf turnstile.now pass }
     ensures { IsOf turnstile.now result }
 {
@@ -202,13 +161,13 @@ fn add_many<R: Wait>(
 }
 
 // The passes after each has added in a thread of its own.
-fn in_two_threads<R: Threads + Wait + Sync>(
+fn in_two_threads<H: StoredHistory<Addition, u64> + Send, R: Threads + Wait + Sync>(
     rt: &R,
     alloc: Global,
-    turnstile: &Turnstile<Plain>,
-    first: PassOf<Plain>,
-    second: PassOf<Plain>,
-) -> (PassOf<Plain>, PassOf<Plain>)
+    turnstile: &Turnstile<Total<H>>,
+    first: PassOf<Total<H>>,
+    second: PassOf<Total<H>>,
+) -> (PassOf<Total<H>>, PassOf<Total<H>>)
     requires first { IsOf turnstile.now first }
     requires second { IsOf turnstile.now second }
     ensures first { IsOf turnstile.now result.0 }
@@ -219,6 +178,19 @@ fn in_two_threads<R: Threads + Wait + Sync>(
         || add_many(rt, alloc, turnstile, first),
         || add_many(rt, alloc, turnstile, second),
     )
+}
+
+// The history after two passes have added in threads.
+fn added<H: StoredHistory<Addition, u64> + Send, R: Threads + Wait + Abort + Sync>(
+    rt: &R,
+    alloc: Global,
+) -> H {
+    let (turnstile, mut first) = opened::<R, H>(rt, alloc, 2000);
+    let second = turnstile.split(&mut first).expect(rt, "a pass");
+    let (first, second) = in_two_threads(rt, alloc, &turnstile, first, second);
+    let done = finished(rt, turnstile, pair(rt, alloc, second, first));
+    assert!(rt; done.object.sum == 999_000);
+    done.history
 }
 
 // The calls of each of two passes stand in their order, a thousand of each, and each reply is the sum.
@@ -242,11 +214,6 @@ fn in_order<R: Abort>(rt: &R, history: &[Entry<Addition, u64>]) {
 
 #[test]
 fn two_threads(rt: HostRuntime) {
-    let alloc = rt.alloc();
-    let (turnstile, mut first) = opened::<_, Stored>(&rt, alloc, 2000);
-    let second = turnstile.split(&mut first).expect(&rt, "a pass");
-    let (first, second) = in_two_threads(&rt, alloc, &turnstile, first, second);
-    let done = finished(&rt, turnstile, pair(&rt, alloc, second, first));
-    in_order(&rt, done.history.as_slice());
-    assert!(rt; done.object.sum == 999_000);
+    let history = added::<Stored, HostRuntime>(&rt, rt.alloc());
+    in_order(&rt, history.as_slice());
 }

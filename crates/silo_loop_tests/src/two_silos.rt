@@ -1,7 +1,9 @@
 //! Two silos over two queues, in pseudo-random orders and in threads.
-use crate::cluster::{Beside, Cluster, Silos, compare, is_told, key_of, run, settle_both};
+use crate::cluster::{Beside, Cluster, Silos, is_told, run, settle_both};
 use crate::fresh::{Asked, History};
 use crate::operations::{Call, Told};
+use crate::replay::Replayed;
+use crate::rows::assert_at;
 use crate::silo::Loop;
 use activation_directory::{DirectoryOp, DirectoryReply};
 use rand::rngs::SmallRng;
@@ -37,7 +39,7 @@ fn ask_all<C: Silos, R: Wait + Abort>(
 ) {
     for (row, (queue, call, told)) in rows.iter().enumerate() {
         let is_so = is_told(rt, alloc, cluster, *queue, *call, *told);
-        assert!(rt; is_so, "row {row}");
+        assert_at(rt, row, is_so);
     }
 }
 
@@ -125,18 +127,18 @@ fn is_done<C: Silos, R: Wait + Abort>(rt: &R, alloc: Global, cluster: &mut C, pu
     assert!(rt; first.wrapping_add(second) == published);
 }
 
-// The histories after calls in a pseudo-random order, and then the loops alone.
-fn settle_after<
-    H: StoredHistory<Op, Reply>,
-    D: StoredHistory<DirectoryOp, DirectoryReply>,
-    R: Wait + Abort,
->(rt: &R, alloc: Global, seed: u64) -> Vec<H> {
+// Calls in a pseudo-random order, and then the loops alone.
+fn settle_after<H: Replayed, D: StoredHistory<DirectoryOp, DirectoryReply>, R: Wait + Abort>(
+    rt: &R,
+    alloc: Global,
+    seed: u64,
+) {
     let mut cluster = two_queues::<H, D, R>(rt, alloc);
     let published = interleave(rt, alloc, &mut cluster, seed);
     assert!(rt; published > 1_000);
     settle_both(rt, alloc, &mut cluster);
     is_done(rt, alloc, &mut cluster, published);
-    cluster.into_histories(rt, alloc)
+    cluster.finish(rt, alloc);
 }
 
 static SEEDS: [u64; 2] = [7, 11];
@@ -145,8 +147,7 @@ static SEEDS: [u64; 2] = [7, 11];
 #[test]
 fn two_silos_in_random_orders(rt: HostRuntime) {
     for seed in &SEEDS {
-        let histories = settle_after::<History, Asked, HostRuntime>(&rt, rt.alloc(), *seed);
-        compare(&rt, rt.alloc(), histories.as_slice());
+        settle_after::<History, Asked, HostRuntime>(&rt, rt.alloc(), *seed);
     }
 }
 
@@ -166,13 +167,17 @@ fn has_served<C: Silos, R: Wait + Abort>(rt: &R, alloc: Global, cluster: &mut C,
     is_done(rt, alloc, cluster, 1_000);
 }
 
-// The histories after six loops and a producer in threads. Each loop comes back.
-fn run_beside<R: Threads + Wait + Abort + Sync>(rt: &R, alloc: Global) -> Vec<History> {
-    let cluster = two_queues::<History, Asked, R>(rt, alloc);
+// Six loops and a producer in threads. Each loop comes back.
+fn run_beside<
+    H: Replayed + Send,
+    D: StoredHistory<DirectoryOp, DirectoryReply> + Send,
+    R: Threads + Wait + Abort + Sync,
+>(rt: &R, alloc: Global) {
+    let cluster = two_queues::<H, D, R>(rt, alloc);
     let before = cluster.rung(rt);
     let mut cluster = run(rt, alloc, cluster, Beside::Publish(500));
     has_served(rt, alloc, &mut cluster, before);
-    cluster.into_histories(rt, alloc)
+    cluster.finish(rt, alloc);
 }
 
 // Each loop of a silo has begun one round.
@@ -182,23 +187,24 @@ fn has_looked<C: Silos, R: Abort>(rt: &R, cluster: &C, in_one: bool) {
     }
 }
 
-// The histories after six loops in threads that find nothing to do, and so wait: each begins one round. An agent has
-// pulled from its queue and asked for a due subscription there, and each worker has asked both queues for a ready
-// grain.
-fn run_idle<R: Threads + Wait + Abort + Sync>(rt: &R, alloc: Global) -> Vec<History> {
-    let cluster = two_queues::<History, Asked, R>(rt, alloc);
+// Six loops in threads that find nothing to do, and so wait: each begins one round. An agent has pulled from its queue
+// and asked for a due subscription there, and each worker has asked both queues for a ready grain.
+fn run_idle<
+    H: Replayed + Send,
+    D: StoredHistory<DirectoryOp, DirectoryReply> + Send,
+    R: Threads + Wait + Abort + Sync,
+>(rt: &R, alloc: Global) {
+    let cluster = two_queues::<H, D, R>(rt, alloc);
     let calls = cluster.gate().calls().wrapping_add(12);
     let cluster = run(rt, alloc, cluster, Beside::Watch(calls));
     has_looked(rt, &cluster, true);
     has_looked(rt, &cluster, false);
-    cluster.into_histories(rt, alloc)
+    cluster.finish(rt, alloc);
 }
 
 // Six loops in threads, with a producer and with nothing to do.
 #[test]
 fn two_silos_in_threads(rt: HostRuntime) {
-    let histories = run_beside(&rt, rt.alloc());
-    compare(&rt, rt.alloc(), histories.as_slice());
-    let histories = run_idle(&rt, rt.alloc());
-    compare(&rt, rt.alloc(), histories.as_slice());
+    run_beside::<History, Asked, HostRuntime>(&rt, rt.alloc());
+    run_idle::<History, Asked, HostRuntime>(&rt, rt.alloc());
 }

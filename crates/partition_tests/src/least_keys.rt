@@ -1,7 +1,7 @@
 ghost use Rattle.std.specs.Prelude.{◌+◌, ◌^◌, ◌<◌, ◌≤◌, length, IfSome};
 
 use crate::random::Random;
-use crate::rows::{assert_at, assert_row};
+use crate::rows::{Asked, ask, assert_at};
 use least_tree::LeastTree;
 use std::alloc::{AllocError, Global};
 use std::process::Abort;
@@ -27,7 +27,7 @@ fn first_at_most(keys: &[Option<usize>], from: usize, bound: usize) -> Option<us
 }
 
 /// The lesser of two keys.
-fn lesser(one: Option<usize>, other: Option<usize>) -> Option<usize> {
+pub(crate) fn lesser(one: Option<usize>, other: Option<usize>) -> Option<usize> {
     match (one, other) {
         (Some(one), Some(other)) => Some(one.min(other)),
         (None, other) => other,
@@ -80,7 +80,7 @@ fn are_first(tree: &LeastTree, keys: &[Option<usize>], any: usize, bound: usize)
 static BOUNDS: [usize; 5] = [0, 1, 3, 6, usize::MAX];
 
 /// Each answer of a tree is that of plain loops over its keys.
-fn assert_agree(rt: &impl Abort, tree: &LeastTree, keys: &[Option<usize>], random: &mut Random) {
+fn assert_agree<R: Abort>(rt: &R, tree: &LeastTree, keys: &[Option<usize>], random: &mut Random) {
     assert!(rt; has_keys(tree, keys));
     assert!(rt; tree.least_key() == least_key(keys) && tree.least() == least_place(keys));
     for bound in &BOUNDS {
@@ -90,8 +90,8 @@ fn assert_agree(rt: &impl Abort, tree: &LeastTree, keys: &[Option<usize>], rando
 }
 
 /// Inserts a key. Where that fails to allocate the tree is as before, and it is tried once more.
-fn insert(
-    rt: &impl Abort,
+fn insert<R: Abort>(
+    rt: &R,
     alloc: Global,
     tree: &mut LeastTree,
     place: usize,
@@ -109,8 +109,8 @@ fn insert(
 }
 
 /// Inserts any key at a place, into a tree and into a list.
-fn insert_any(
-    rt: &impl Abort,
+fn insert_any<R: Abort>(
+    rt: &R,
     alloc: Global,
     tree: &mut LeastTree,
     keys: &mut Vec<Option<usize>>,
@@ -128,8 +128,8 @@ fn insert_any(
 }
 
 /// Sets the key of any place, in a tree and in a list.
-fn set_any(
-    rt: &impl Abort,
+fn set_any<R: Abort>(
+    rt: &R,
     tree: &mut LeastTree,
     keys: &mut Vec<Option<usize>>,
     random: &mut Random,
@@ -142,14 +142,28 @@ fn set_any(
     keys[place] = key;
 }
 
-/// Inserts and sets keys, as they come.
-fn grow(
-    rt: &impl Abort,
+/// Removes the key of any place, from a tree and from a list.
+fn remove_any<R: Abort>(
+    rt: &R,
+    tree: &mut LeastTree,
+    keys: &mut Vec<Option<usize>>,
+    random: &mut Random,
+) {
+    assert!(rt; 0 < keys.len());
+    let place = random.below(keys.len());
+    assert!(rt; place < tree.len());
+    tree.remove(place);
+    keys.remove(place);
+}
+
+/// Inserts and sets keys, as they come, and removes them.
+fn grow_and_shrink<R: Abort>(
+    rt: &R,
     alloc: Global,
     tree: &mut LeastTree,
     keys: &mut Vec<Option<usize>>,
     random: &mut Random,
-) -> Result<(), Fail> {
+) -> Result<(), AllocError> {
     for size in 0..70 {
         assert_agree(rt, tree, keys.as_slice(), random);
         let place = match random.below(4) {
@@ -160,7 +174,12 @@ fn grow(
         insert_any(rt, alloc, tree, keys, random, place)?;
         set_any(rt, tree, keys, random);
     }
+    for _left in 0..70 {
+        assert_agree(rt, tree, keys.as_slice(), random);
+        remove_any(rt, tree, keys, random);
+    }
     assert_agree(rt, tree, keys.as_slice(), random);
+    assert!(rt; tree.is_empty());
     Ok(())
 }
 
@@ -169,12 +188,12 @@ fn agrees_with_plain_loops(rt: HostRuntime) -> Result<(), Fail> {
     let alloc = rt.alloc();
     let mut tree = LeastTree::new(alloc);
     let mut keys = Vec::new(alloc);
-    grow(&rt, alloc, &mut tree, &mut keys, &mut Random::new(7))
+    grow_and_shrink(&rt, alloc, &mut tree, &mut keys, &mut Random::new(7))?;
+    Ok(())
 }
 
 /// What is asked of a tree, and what it has to answer.
-#[derive(Clone, Copy)]
-enum Call {
+pub(crate) enum Call {
     /// A key is inserted at a place.
     Insert(usize, usize),
     /// A place without a key is inserted.
@@ -185,26 +204,28 @@ enum Call {
     First(usize, usize, Option<usize>),
 }
 
-/// Whether a call is answered so.
-fn is_so(
-    rt: &impl Abort,
-    alloc: Global,
-    tree: &mut LeastTree,
-    call: &Call,
-) -> Result<bool, AllocError> {
-    match *call {
-        Call::Insert(place, key) => {
-            assert!(rt; key < usize::MAX);
-            insert(rt, alloc, tree, place, Some(key))?;
+impl Asked for LeastTree {
+    type Call = Call;
+
+    fn is_so<R: Abort>(&mut self, rt: &R, alloc: Global, call: &Call) -> Result<bool, AllocError> {
+        match *call {
+            Call::Insert(place, key) => {
+                assert!(rt; key < usize::MAX);
+                insert(rt, alloc, self, place, Some(key))?;
+                Ok(true)
+            }
+            Call::InsertNone(place) => {
+                insert(rt, alloc, self, place, None)?;
+                Ok(true)
+            }
+            Call::Least(place, key) => Ok(self.least() == place && self.least_key() == key),
+            Call::First(from, bound, place) => Ok(self.first_at_most(from, bound) == place),
         }
-        Call::InsertNone(place) => insert(rt, alloc, tree, place, None)?,
-        Call::Least(place, key) => return Ok(tree.least() == place && tree.least_key() == key),
-        Call::First(from, bound, place) => return Ok(tree.first_at_most(from, bound) == place),
     }
-    Ok(true)
 }
 
-static EQUAL: [Call; 9] = [
+/// Equal keys give the first place.
+const EQUAL: [Call; 9] = [
     Call::Insert(0, 4),
     Call::Insert(0, 2),
     Call::InsertNone(0),
@@ -216,7 +237,8 @@ static EQUAL: [Call; 9] = [
     Call::First(4, 4, Some(4)),
 ];
 
-static NONE: [Call; 19] = [
+/// No key is found among none.
+const NONE: [Call; 19] = [
     Call::Least(None, None),
     Call::First(0, usize::MAX, None),
     Call::InsertNone(0),
@@ -238,60 +260,18 @@ static NONE: [Call; 19] = [
     Call::First(0, usize::MAX, Some(5)),
 ];
 
-/// Asks a new tree.
-fn check(rt: &impl Abort, alloc: Global, case: &str, calls: &[Call]) -> Result<(), AllocError> {
-    let mut tree = LeastTree::new(alloc);
-    for (row, call) in calls.iter().enumerate() {
-        assert_row(rt, case, row, is_so(rt, alloc, &mut tree, call)?);
-    }
-    Ok(())
-}
+static CASES: [&[Call]; 2] = [&EQUAL, &NONE];
 
 #[test]
 fn trees_are_asked(rt: HostRuntime) -> Result<(), Fail> {
-    check(&rt, rt.alloc(), "equal keys give the first place", &EQUAL)?;
-    check(&rt, rt.alloc(), "no key is found among none", &NONE)?;
-    Ok(())
-}
-
-/// Removes the key of any place, from a tree and from a list.
-fn remove_any(
-    rt: &impl Abort,
-    tree: &mut LeastTree,
-    keys: &mut Vec<Option<usize>>,
-    random: &mut Random,
-) {
-    assert!(rt; 0 < keys.len());
-    let place = random.below(keys.len());
-    assert!(rt; place < tree.len());
-    tree.remove(place);
-    keys.remove(place);
-    assert_agree(rt, tree, keys.as_slice(), random);
-}
-
-/// Inserts forty keys, and removes them.
-fn grow_and_shrink(
-    rt: &impl Abort,
-    alloc: Global,
-    tree: &mut LeastTree,
-    keys: &mut Vec<Option<usize>>,
-    random: &mut Random,
-) -> Result<(), Fail> {
-    for size in 0..40 {
-        let place = random.below(size + 1);
-        insert_any(rt, alloc, tree, keys, random, place)?;
+    for (case, calls) in CASES.iter().enumerate() {
+        ask(
+            &rt,
+            rt.alloc(),
+            &mut LeastTree::new(rt.alloc()),
+            case,
+            calls,
+        )?;
     }
-    for _left in 0..40 {
-        remove_any(rt, tree, keys, random);
-    }
-    assert!(rt; tree.is_empty());
     Ok(())
-}
-
-#[test]
-fn removed_places_close_up(rt: HostRuntime) -> Result<(), Fail> {
-    let alloc = rt.alloc();
-    let mut tree = LeastTree::new(alloc);
-    let mut keys = Vec::new(alloc);
-    grow_and_shrink(&rt, alloc, &mut tree, &mut keys, &mut Random::new(11))
 }

@@ -1,5 +1,5 @@
 use crate::rows::assert_at;
-use queue_mapper::{Place, place, tag};
+use queue_mapper::{Place, place};
 use std::alloc::Global;
 use std::test::Fail;
 use stream_ident::StreamId;
@@ -52,32 +52,25 @@ fn places_are_those_of_the_digest(rt: HostRuntime) -> Result<(), Fail> {
     Ok(())
 }
 
-#[test]
-fn a_hundred_streams_reach_each_of_seven_queues(rt: HostRuntime) -> Result<(), Fail> {
-    let mut is_reached = [false; 7];
-    for number in 0..100 {
-        let queue = place(&numbered(rt.alloc(), number)?, 7).queue;
-        assert!(rt; queue < 7);
-        is_reached[queue] = true;
-    }
-    assert!(rt; is_reached == [true; 7]);
-    Ok(())
-}
-
 /// Of 257 streams two have equal tags, since there are 256 tags. By `sha256sum` the first two are o/1 and
-/// o/2.
+/// o/2. The first hundred reach each of seven queues.
 #[test]
-fn two_of_257_streams_have_equal_tags(rt: HostRuntime) -> Result<(), Fail> {
+fn streams_share_tags_and_reach_all_queues(rt: HostRuntime) -> Result<(), Fail> {
     let mut holders = [None; 256];
     let mut pair = None;
+    let mut is_reached = [false; 7];
     for number in 0..257 {
-        let tag = tag(&numbered(rt.alloc(), number)?) as usize;
+        let Place { queue, tag } = place(&numbered(rt.alloc(), number)?, 7);
+        let tag = tag as usize;
         if let (None, Some(holder)) = (pair, holders[tag]) {
             pair = Some((holder, number));
         }
         holders[tag] = Some(number);
+        assert!(rt; queue < 7);
+        is_reached[queue] |= number < 100;
     }
     assert!(rt; pair == Some((1, 2)));
+    assert!(rt; is_reached == [true; 7]);
     Ok(())
 }
 
