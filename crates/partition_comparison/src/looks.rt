@@ -62,7 +62,7 @@ impl Looks {
     ) -> Result<Looks, AllocError> {
         let plain = reference.plain();
         let subs = plain_subs(alloc, plain)?;
-        let handled = plain_handled(alloc, plain, subs.as_slice())?;
+        let handled = plain_handled(alloc, plain, subs.as_slice(), false)?;
         Ok(Looks {
             agent: (plain.generation, plain.silo),
             low: plain_token(plain, plain.low),
@@ -108,15 +108,25 @@ fn summary(name: &SubName, record: &Subscription) -> SubSummary {
     }
 }
 
-/// What each of these subscriptions has handled in the plain program.
-fn plain_handled(
+/// What each of these subscriptions has handled in the plain program. Once nothing is left to do, an open one
+/// has handled all that it is owed.
+///
+/// # Errors
+/// The call failed to allocate.
+pub fn plain_handled(
     alloc: Global,
     plain: &PlainPartition,
     subs: &[SubSummary],
+    is_done: bool,
 ) -> Result<Vec<Vec<Event>>, AllocError> {
     let mut all = Vec::new(alloc);
     for sub in subs {
-        all.push(plain_events(alloc, plain, &sub.name)?)?;
+        let events = if is_done && sub.is_open {
+            owed(alloc, plain, sub)?
+        } else {
+            plain_events(alloc, plain, &sub.name)?
+        };
+        all.push(events)?;
     }
     Ok(all)
 }
@@ -147,28 +157,6 @@ fn record_of<'a>(plain: &'a PlainPartition, name: &SubName) -> Option<&'a Subscr
         }
     }
     None
-}
-
-/// What each of these subscriptions has handled once nothing is left to do: an open one all that it is
-/// owed, and a closed one what it had handled before.
-///
-/// # Errors
-/// The call failed to allocate.
-pub fn all_owed(
-    alloc: Global,
-    plain: &PlainPartition,
-    subs: &[SubSummary],
-) -> Result<Vec<Vec<Event>>, AllocError> {
-    let mut all = Vec::new(alloc);
-    for sub in subs {
-        let events = if sub.is_open {
-            owed(alloc, plain, sub)?
-        } else {
-            plain_events(alloc, plain, &sub.name)?
-        };
-        all.push(events)?;
-    }
-    Ok(all)
 }
 
 /// The events of a subscription's stream from its start on.

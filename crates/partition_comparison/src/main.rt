@@ -62,7 +62,9 @@ fn plan(rt: &HostRuntime) -> Result<Plan, Fault> {
 /// The plan that the command line says.
 fn asked(rt: &HostRuntime) -> Result<Plan, Fault> {
     let alloc = rt.alloc();
-    let words = std::env::args(rt).map_err(|_| Fault::Memory)?;
+    let Ok(words) = std::env::args(rt) else {
+        return Err(Fault::Memory);
+    };
     let words = words.skip(1).collect::<Vec<String>>(alloc)?;
     parse(words.as_slice())
 }

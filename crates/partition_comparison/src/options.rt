@@ -21,16 +21,25 @@ pub struct Plan {
 /// # Errors
 /// More words, one that is no number, and another than `retry` behind the numbers.
 pub fn parse(words: &[String]) -> Result<Plan, Fault> {
-    let retries = words.get(3).map(|word| word.as_str() == "retry");
-    if words.len() > 4 || retries == Some(false) {
+    let retries = is_retry(words.get(3))?;
+    if words.len() > 4 {
         return Err(Fault::CommandLine);
     }
     Ok(Plan {
         runs: number(words.first(), 300)?,
         rounds: number(words.get(1), 128)?,
         seed: number(words.get(2), 0)?,
-        retries: retries.is_some(),
+        retries,
     })
+}
+
+/// Whether there is this word, which has to be `retry`.
+fn is_retry(word: Option<&String>) -> Result<bool, Fault> {
+    match word {
+        Some(word) if word.as_str() == "retry" => Ok(true),
+        Some(_) => Err(Fault::CommandLine),
+        None => Ok(false),
+    }
 }
 
 /// The number that a word says, or this one where there is no word.

@@ -4,7 +4,7 @@ ghost use Rattle.stream_model.specs.Bounds.{AreLimits};
 
 use crate::draining::{Drained, drain};
 use crate::fault::Fault;
-use crate::looks::{Looks, all_owed};
+use crate::looks::{Looks, plain_handled};
 use crate::memory::Memory;
 use crate::place::Place;
 use crate::stepping::{compare_looks, step_partition, step_reference};
@@ -83,19 +83,25 @@ impl SideBySide {
         let mut replies = Vec::new(alloc);
         let is_done = self.partition.run(alloc, copies, &mut replies).is_ok();
         self.follow_all(ops, replies.as_slice(), tally)?;
-        if is_done {
-            self.place.compare(&replies.len(), &ops.len())?;
-        } else {
-            self.stop_run(replies.len() < ops.len(), tally)?;
-        }
+        self.end_run(is_done, replies.len(), ops.len(), tally)?;
         Ok(replies)
     }
 
-    /// Goes on after a run that failed to allocate, and so has to leave something to do.
-    fn stop_run(&self, leaves_some: bool, tally: &mut Tally) -> Result<(), Fault> {
+    /// Compares how many operations a run has done with how many it was given. One that failed to allocate has
+    /// to leave something to do.
+    fn end_run(
+        &self,
+        is_done: bool,
+        done: usize,
+        given: usize,
+        tally: &mut Tally,
+    ) -> Result<(), Fault> {
+        if is_done {
+            return self.place.compare(&done, &given);
+        }
         self.place.memory.go_on()?;
         tally.want_run();
-        self.place.compare(&leaves_some, &true)?;
+        self.place.compare(&(done < given), &true)?;
         self.compare_looks()
     }
 
@@ -176,7 +182,7 @@ impl SideBySide {
     /// Where nothing is left to do, each subscription has handled what it is owed.
     fn compare_owed(&self, looks: &Looks) -> Result<(), Fault> {
         let plain = self.reference.plain();
-        let owed = all_owed(self.place.memory.alloc, plain, looks.subs.as_slice())?;
+        let owed = plain_handled(self.place.memory.alloc, plain, looks.subs.as_slice(), true)?;
         self.place.compare(&looks.pending, &None)?;
         self.place.compare(&looks.handled, &owed)
     }

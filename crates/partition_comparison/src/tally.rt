@@ -86,13 +86,23 @@ impl Tally {
 
     /// How many kinds of reply came.
     pub fn kinds(&self) -> usize {
-        (0..REPLIES.len()).filter(|kind| self.came(*kind)).count()
+        let mut kinds = 0usize;
+        for kind in 0..REPLIES.len() {
+            if self.came(kind) {
+                kinds = kinds.saturating_add(1);
+            }
+        }
+        kinds
     }
 
     /// Whether a kind of reply came.
     fn came(&self, kind: usize) -> bool {
-        let mut counts = self.replies.iter().skip(kind).step_by(REPLIES.len());
-        counts.any(|count| *count > 0)
+        for counts in self.replies.chunks_exact(REPLIES.len()) {
+            if is_counted(counts, kind) {
+                return true;
+            }
+        }
+        false
     }
 
     /// Prints a line for each operation, with the replies that it had.
@@ -127,6 +137,14 @@ fn count_at(counts: &mut [u64], place: usize) {
     }
 }
 
+/// Whether what has this place was counted.
+fn is_counted(counts: &[u64], place: usize) -> bool {
+    match counts.get(place) {
+        Some(count) => *count > 0,
+        None => false,
+    }
+}
+
 /// Prints how often something failed to allocate, if it did.
 fn tell_want(rt: &impl Eprint, name: &str, count: u64) -> io::Result<()> {
     if count == 0 {
@@ -139,9 +157,15 @@ fn tell_want(rt: &impl Eprint, name: &str, count: u64) -> io::Result<()> {
 fn print_counts(rt: &impl Print, name: &str, replies: &[&str], counts: &[u64]) -> io::Result<()> {
     print!(rt; "{name:<12}")?;
     for (reply, count) in replies.iter().zip(counts.iter()) {
-        if *count > 0 {
-            print!(rt; " {reply} {count}")?;
-        }
+        print_count(rt, reply, *count)?;
     }
     println!(rt; "")
+}
+
+/// Prints what came, with its count, if it did.
+fn print_count(rt: &impl Print, reply: &str, count: u64) -> io::Result<()> {
+    if count == 0 {
+        return Ok(());
+    }
+    print!(rt; " {reply} {count}")
 }
