@@ -7,14 +7,12 @@ use std::test::Fail;
 use stream_script::{FaultKind, SimError};
 
 /// How a script ends that is cut inside a line: with the fault of what is left of it, or with its reply.
-#[derive(Clone, Copy)]
 enum Ending {
     Fault(FaultKind),
     Reply(&'static str),
 }
 
 /// A line, and how it ends where it is cut at a length up to each of these.
-#[derive(Clone, Copy)]
 struct Line {
     number: usize,
     text: &'static str,
@@ -94,14 +92,17 @@ static LINES: [Line; 6] = [
     },
 ];
 
+/// A cut that leaves nothing.
+static NOTHING: Ending = Ending::Reply("");
+
 /// How a line ends that is cut to this length.
-fn ending_of(line: &Line, len: usize) -> Ending {
+fn ending_of(line: &Line, len: usize) -> &'static Ending {
     for (most, ending) in line.cuts {
         if len <= *most {
-            return *ending;
+            return ending;
         }
     }
-    Ending::Reply("")
+    &NOTHING
 }
 
 /// Whether the script that is cut to this length of a line ends so, behind the replies to whole lines.
@@ -111,11 +112,11 @@ fn ends_so(
     replies: &[u8],
     number: usize,
     part: &[u8],
-    ending: Ending,
+    ending: &Ending,
 ) -> Result<bool, AllocError> {
     let script = joined(alloc, whole, part)?;
     match ending {
-        Ending::Fault(kind) => Ok(does(alloc, &script, &faulty(number, kind), replies)),
+        Ending::Fault(kind) => Ok(does(alloc, &script, &faulty(number, *kind), replies)),
         Ending::Reply(reply) => {
             let wanted = joined(alloc, replies, reply.as_bytes())?;
             Ok(does(alloc, &script, &Ok(()), &wanted))

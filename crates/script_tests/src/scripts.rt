@@ -52,43 +52,49 @@ impl Script {
         Ok(())
     }
 
-    /// Whether it gives its replies, on one queue whose cache has so many blocks.
-    fn holds(&self, alloc: Global, blocks: usize, limits: Limits) -> bool
-        requires some_blocks { 1 ≤ blocks }
-        requires blocks { blocks ≤ 64 }
-        requires limits { AreLimits limits }
+    /// Whether it gives its replies.
+    fn holds(&self, alloc: Global, config: SimConfig) -> bool
+        requires { IsSimConfig config }
     {
         let mut source = Counted::new(self.lines.as_slice());
         let mut sink = Counted::new(Vec::new(alloc));
-        let config = config(blocks, limits);
         let outcome: Result<(), SimError> = sim(alloc, config, &mut source, &mut sink);
         outcome.is_ok() && sink.into_inner().as_slice() == self.replies.as_slice()
     }
 }
 
 /// One queue whose cache has so many blocks.
-fn config(blocks: usize, limits: Limits) -> SimConfig
+fn blocks(blocks: usize) -> SimConfig
     requires some_blocks { 1 ≤ blocks }
     requires blocks { blocks ≤ 64 }
-    requires limits { AreLimits limits }
     ensures { IsSimConfig result }
 {
     SimConfig {
         queues: 1,
         blocks,
+        limits: Limits::GREATEST,
+    }
+}
+
+/// One queue whose cache has four blocks, and a partition with these limits.
+fn limited(limits: Limits) -> SimConfig
+    requires { AreLimits limits }
+    ensures { IsSimConfig result }
+{
+    SimConfig {
+        queues: 1,
+        blocks: 4,
         limits,
     }
 }
 
 /// Whether the lines give their replies.
-fn gives(alloc: Global, rows: &[Row], blocks: usize, limits: Limits) -> Result<bool, AllocError>
-    requires some_blocks { 1 ≤ blocks }
-    requires blocks { blocks ≤ 64 }
-    requires limits { AreLimits limits }
+fn gives(alloc: Global, rows: &[Row], config: SimConfig) -> Result<bool, AllocError>
+    requires { IsSimConfig config }
 {
     let mut script = Script::new(alloc);
     script.table(rows)?;
-    Ok(script.holds(alloc, blocks, limits))
+    Ok(script.holds(alloc, config))
 }
 
 /// A batch of 48 events.
@@ -156,11 +162,13 @@ static SMALL_CACHES: &[&[Row]] = &[
 
 #[test]
 fn examples(rt: HostRuntime) -> Result<(), Fail> {
+    let config = blocks(4);
     for (at, rows) in EXAMPLES.iter().enumerate() {
-        assert_at(&rt, at, gives(rt.alloc(), rows, 4, Limits::GREATEST)?);
+        assert_at(&rt, at, gives(rt.alloc(), rows, config)?);
     }
+    let config = blocks(1);
     for (at, rows) in SMALL_CACHES.iter().enumerate() {
-        assert_at(&rt, at, gives(rt.alloc(), rows, 1, Limits::GREATEST)?);
+        assert_at(&rt, at, gives(rt.alloc(), rows, config)?);
     }
     Ok(())
 }
@@ -281,24 +289,26 @@ static TWO_BLOCKS: &[FullCache] = &[
     },
 ];
 
-/// The script of it.
-fn script_of(alloc: Global, cache: &FullCache) -> Result<Script, AllocError> {
+/// Whether the lines and the batches between them give their replies.
+fn comes_to(alloc: Global, cache: &FullCache, config: SimConfig) -> Result<bool, AllocError>
+    requires { IsSimConfig config }
+{
     let mut script = Script::new(alloc);
     script.table(cache.before)?;
     script.batches(alloc, cache.batches)?;
     script.table(cache.after)?;
-    Ok(script)
+    Ok(script.holds(alloc, config))
 }
 
 #[test]
 fn full_caches(rt: HostRuntime) -> Result<(), Fail> {
+    let config = blocks(1);
     for (at, cache) in ONE_BLOCK.iter().enumerate() {
-        let script = script_of(rt.alloc(), cache)?;
-        assert_at(&rt, at, script.holds(rt.alloc(), 1, Limits::GREATEST));
+        assert_at(&rt, at, comes_to(rt.alloc(), cache, config)?);
     }
+    let config = blocks(2);
     for (at, cache) in TWO_BLOCKS.iter().enumerate() {
-        let script = script_of(rt.alloc(), cache)?;
-        assert_at(&rt, at, script.holds(rt.alloc(), 2, Limits::GREATEST));
+        assert_at(&rt, at, comes_to(rt.alloc(), cache, config)?);
     }
     Ok(())
 }
@@ -340,13 +350,13 @@ fn limits_are_reached(rt: HostRuntime) -> Result<(), Fail> {
         rules: 1,
         rises: 1,
     };
-    assert!(rt; gives(rt.alloc(), LIMITED, 4, limits)?);
+    assert!(rt; gives(rt.alloc(), LIMITED, limited(limits))?);
     let limits = Limits {
         events: 9,
         subs: 1,
         rules: 1,
         rises: 1,
     };
-    assert!(rt; gives(rt.alloc(), LIMITED_IMPLICIT, 4, limits)?);
+    assert!(rt; gives(rt.alloc(), LIMITED_IMPLICIT, limited(limits))?);
     Ok(())
 }
