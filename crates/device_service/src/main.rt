@@ -7,8 +7,9 @@ mod service;
 use anyhow::{Result, ensure};
 use monitors::{Monitors, reading_of};
 use service::DeviceService;
+use std::alloc::{AllocError, Global};
 use std::sync::Arc;
-use streams::{Closed, Host, Partition};
+use streams::{Closed, Host, Partition, SubSummary};
 
 const DEVICES: usize = 2_000;
 
@@ -21,11 +22,17 @@ const LIMIT: u64 = 895;
 fn main(rt: HostRuntime) -> Result<()> {
     let alloc = rt.alloc();
     let monitors = Arc::new(alloc, Monitors::new(rt, alloc, DEVICES)?)?;
-    let mut service = DeviceService::open(rt, Arc::try_clone(&monitors)?)?;
-    wait_for_the_archive(&rt, &mut service, &monitors)?;
-    take_a_silo_down(&rt, &mut service)?;
-    print_table(&rt, &service.close()?)?;
+    let service = DeviceService::open(rt, Arc::try_clone(&monitors)?)?;
+    print_table(&rt, &watch(&rt, service, &monitors)?)?;
     print_alarms(&rt, &monitors)
+}
+
+// All devices send two readings each. It gives what is left of the service.
+fn watch<R: Host>(rt: &R, mut service: DeviceService<R>, monitors: &Monitors<R>) -> Result<Closed> {
+    wait_for_the_archive(rt, &mut service, monitors)?;
+    take_a_silo_down(rt, &mut service)?;
+    send_the_others(rt, &mut service)?;
+    service.close()
 }
 
 // A slow archive holds up its own queue and no other.
@@ -35,17 +42,29 @@ fn wait_for_the_archive<R: Host>(
     monitors: &Monitors<R>,
 ) -> Result<()> {
     let slow = service.archive(BOILER)?;
+    send_first_readings(rt, service)?;
+    see_others_quiet(rt, service, slow)?;
+    monitors.let_archive_go_on();
+    service.settle()?;
+    println!(rt; "the archive goes on: all readings are handled")?;
+    Ok(())
+}
+
+// Each device sends its first reading.
+fn send_first_readings<R: Host>(rt: &R, service: &mut DeviceService<R>) -> Result<()> {
     send_round(rt, service, 0, 0, DEVICES)?;
     println!(rt; "{DEVICES} devices have sent a reading")?;
+    Ok(())
+}
+
+// Sees that the queue of the archive is behind, and that all others get quiet.
+fn see_others_quiet<R: Host>(rt: &R, service: &mut DeviceService<R>, slow: usize) -> Result<()> {
     service.settle_others(slow)?;
     ensure!(
         !service.is_quiet(slow)?,
         "the archive is faster than it can be"
     );
     println!(rt; "the archive is slow: queue {slow} is behind, and all others are quiet")?;
-    monitors.let_archive_go_on();
-    service.settle()?;
-    println!(rt; "the archive goes on: all readings are handled")?;
     Ok(())
 }
 
@@ -54,6 +73,11 @@ fn take_a_silo_down<R: Host>(rt: &R, service: &mut DeviceService<R>) -> Result<(
     send_round(rt, service, 1, 0, DEVICES / 2)?;
     service.silo_goes(2)?;
     println!(rt; "silo 2 has gone while readings came in")?;
+    Ok(())
+}
+
+// The devices that haven't yet sent their second reading do so.
+fn send_the_others<R: Host>(rt: &R, service: &mut DeviceService<R>) -> Result<()> {
     send_round(rt, service, 1, DEVICES / 2, DEVICES)?;
     service.settle()?;
     println!(rt; "{DEVICES} devices have sent another one: all readings are handled")?;
@@ -89,19 +113,29 @@ fn print_table<R: Host>(rt: &R, closed: &Closed) -> Result<()> {
 fn print_row<R: Host>(rt: &R, queue: usize, partition: &Partition) -> Result<()> {
     let (_generation, silo) = partition.agent();
     let subs = partition.subs(rt.alloc())?;
+    let (readings, highest) = sum_up(rt.alloc(), partition, &subs)?;
+    let monitors = subs.len();
+    let (degrees, tenths) = (highest / 10, highest % 10);
+    println!(rt; "{queue:>5} {silo:>5} {monitors:>9} {readings:>9} {degrees:>6}.{tenths}")?;
+    Ok(())
+}
+
+// How many readings these subscriptions have handled, and the highest of them.
+fn sum_up(
+    alloc: Global,
+    partition: &Partition,
+    subs: &[SubSummary],
+) -> Result<(usize, u64), AllocError> {
     let mut readings = 0usize;
     let mut highest = 0u64;
-    for sub in &subs {
-        let events = partition.handled(rt.alloc(), &sub.name)?;
+    for sub in subs {
+        let events = partition.handled(alloc, &sub.name)?;
         readings = readings.saturating_add(events.len());
         for event in &events {
             highest = highest.max(reading_of(event).unwrap_or(0));
         }
     }
-    let monitors = subs.len();
-    let highest = format!(in rt.alloc(); "{}.{}", highest / 10, highest % 10)?;
-    println!(rt; "{queue:>5} {silo:>5} {monitors:>9} {readings:>9} {highest:>8}")?;
-    Ok(())
+    Ok((readings, highest))
 }
 
 // Prints which devices have sent a reading above the limit.

@@ -40,9 +40,10 @@ impl<C: Clock + Copy> Monitors<C> {
 
     /// The highest reading of a device that was handled, in tenths of a degree, and 0 where there is none.
     pub fn highest(&self, device: usize) -> u64 {
-        self.highest
-            .get(device)
-            .map_or(0, |highest| highest.load(Ordering::SeqCst))
+        match self.highest.get(device) {
+            Some(highest) => highest.load(Ordering::SeqCst),
+            None => 0,
+        }
     }
 
     // A monitor notes the reading of its device, whose name is the key of the monitor. It may see a reading twice, so it

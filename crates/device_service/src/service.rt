@@ -5,7 +5,9 @@ use std::alloc::Global;
 use std::sync::Arc;
 use std::thread;
 use std::time::Duration;
-use streams::{CallError, Closed, Config, GrainId, Host, Name, Payload, Service, Start, StreamId};
+use streams::{
+    BadName, CallError, Closed, Config, GrainId, Host, Name, Payload, Service, Start, StreamId,
+};
 
 // How often a queue is looked at before it is given up, once in a millisecond.
 const MOST_LOOKS: u32 = 60_000;
@@ -26,8 +28,9 @@ impl<R: Host> DeviceService<R> {
             blocks: 1,
             ..Config::new(16, 4)
         };
+        let (monitor, readings) = (Name::new(b"monitor")?, Name::new(b"readings")?);
         let mut service = Service::open(rt, &config, monitors)?;
-        service.add_rule(Name::new(b"monitor")?, Name::new(b"readings")?)?;
+        service.add_rule(monitor, readings)?;
         Ok(DeviceService { rt, service })
     }
 
@@ -42,8 +45,7 @@ impl<R: Host> DeviceService<R> {
 
     /// A device sends a reading, in tenths of a degree.
     pub fn send(&mut self, device: &str, tenths: u64) -> Result<()> {
-        let text = format!(in self.rt.alloc(); "{tenths}")?;
-        let reading = Payload::new(text.as_bytes())?;
+        let reading = payload_of(self.rt.alloc(), tenths)?;
         self.service.publish(readings_of(device)?, &[reading])?;
         Ok(())
     }
@@ -91,7 +93,13 @@ impl<R: Host> DeviceService<R> {
     }
 }
 
+// A reading as the payload of an event.
+fn payload_of(alloc: Global, tenths: u64) -> Result<Payload> {
+    let text = format!(in alloc; "{tenths}")?;
+    Ok(Payload::new(text.as_bytes())?)
+}
+
 // The stream of a device's readings.
-fn readings_of(device: &str) -> Result<StreamId> {
-    Ok(StreamId::new(b"readings", device.as_bytes())?)
+fn readings_of(device: &str) -> Result<StreamId, BadName> {
+    StreamId::new(b"readings", device.as_bytes())
 }

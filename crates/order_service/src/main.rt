@@ -2,74 +2,31 @@
 #![tactic(auto)]
 
 mod accounts;
+mod day;
 mod service;
 
 use accounts::{Accounts, price};
 use anyhow::Result;
-use service::{Desk, OrderService};
+use day::DAY;
+use service::OrderService;
 use std::sync::Arc;
-use streams::{Closed, Host, Partition, SubSummary, Token};
-
-// The first order of a stream.
-const FIRST: Token = Token { seq: 0, idx: 0 };
+use streams::{Closed, Event, Host, Partition, SubSummary};
 
 fn main(rt: HostRuntime) -> Result<()> {
     let alloc = rt.alloc();
     let accounts = Accounts::open(alloc, &["ann", "bob", "carla", "dora"])?;
     let accounts = Arc::new(alloc, accounts)?;
-    let mut service = OrderService::open(rt, Arc::try_clone(&accounts)?)?;
-    let carla = open_desks(&mut service)?;
-    order_in_the_morning(&mut service)?;
-    audit_and_close(&mut service, &carla)?;
-    replace_a_silo(&mut service)?;
-    order_in_the_evening(&mut service, &carla)?;
-    print_table(&rt, &service.close()?)?;
+    let service = OrderService::open(rt, Arc::try_clone(&accounts)?)?;
+    print_table(&rt, &spend_the_day(service)?)?;
     print_bills(&rt, &accounts)
 }
 
-/// Each customer gets a desk. It gives Carla's.
-fn open_desks<R: Host>(service: &mut OrderService<R>) -> Result<Desk> {
-    service.open_desk("ann")?;
-    service.open_desk("bob")?;
-    service.open_desk("dora")?;
-    service.open_desk("carla")
-}
-
-/// The first orders come in, and two that are refused.
-fn order_in_the_morning<R: Host>(service: &mut OrderService<R>) -> Result<()> {
-    service.order("ann", &["1250 tea", "300 milk"])?;
-    service.order("bob", &["4000 a coat"])?;
-    service.order("carla", &["800 a book"])?;
-    service.order("carla", &["2500 a lamp"])?;
-    service.order("dora", &[])?;
-    service.order("dora", &["bread"])
-}
-
-/// Carla leaves, and an auditor looks at all that Ann has ordered.
-fn audit_and_close<R: Host>(service: &mut OrderService<R>, carla: &Desk) -> Result<()> {
-    service.settle()?;
-    service.close_desk(carla)?;
-    service.audit("ann", FIRST)
-}
-
-/// A silo goes and another one comes, while orders come in. Somebody else takes the first one down too.
-fn replace_a_silo<R: Host>(service: &mut OrderService<R>) -> Result<()> {
-    service.order("ann", &["450 sugar"])?;
-    service.order("bob", &["1500 gloves", "2200 a hat"])?;
-    service.silo_goes(0)?;
-    service.silo_goes(1)?;
-    service.order("dora", &["275 bread"])?;
-    service.silo_comes(0)?;
-    service.order("bob", &["900 socks"])
-}
-
-/// An auditor asks for orders of Carla's that are gone. What she orders now, nobody handles but the auditor.
-fn order_in_the_evening<R: Host>(service: &mut OrderService<R>, carla: &Desk) -> Result<()> {
-    service.audit("carla", FIRST)?;
-    service.close_desk(carla)?;
-    service.order("carla", &["1100 a scarf"])?;
-    service.order("dora", &["325 butter"])?;
-    service.settle()
+/// Asks the service for all that is asked in the day, and ends it.
+fn spend_the_day<R: Host>(mut service: OrderService<R>) -> Result<Closed> {
+    for request in &DAY {
+        service.serve(request)?;
+    }
+    service.close()
 }
 
 /// Prints a line for each subscription.
@@ -89,15 +46,21 @@ fn print_row<R: Host>(rt: &R, partition: &Partition, sub: &SubSummary) -> Result
     let grain = format!(in alloc; "{}", sub.grain)?;
     let from = format!(in alloc; "{}", sub.start)?;
     let orders = partition.handled(alloc, &sub.name)?;
-    let prices = orders
-        .iter()
-        .filter_map(|order| price(order.payload.as_str()));
-    let cents = prices.fold(0u64, |sum, price| sum.saturating_add(price));
-    let total = format!(in alloc; "{}.{:02}", cents / 100, cents % 100)?;
+    let total = total_of(&orders);
+    let (dollars, cents) = (total / 100, total % 100);
     let many = orders.len();
     let closed = if sub.is_open { "" } else { "  closed" };
-    println!(rt; "{grain:<12} {from:>5} {many:>7} {total:>7}{closed}")?;
+    println!(rt; "{grain:<12} {from:>5} {many:>7} {dollars:>4}.{cents:02}{closed}")?;
     Ok(())
+}
+
+/// The prices of these orders together, in cents.
+fn total_of(orders: &[Event]) -> u64 {
+    let mut total = 0u64;
+    for order in orders {
+        total = total.saturating_add(price(order.payload.as_str()).unwrap_or(0));
+    }
+    total
 }
 
 /// Prints what each customer has to pay.

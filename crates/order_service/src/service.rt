@@ -1,16 +1,20 @@
 //! The streams of orders, and what is asked of them.
 use crate::accounts::{Accounts, price};
+use crate::day::Request;
 use anyhow::Result;
 use std::alloc::Global;
 use std::sync::Arc;
 use streams::{
-    Closed, Config, GrainId, Host, Payload, PublishError, Service, SiloError, Start, StreamId,
-    SubscribeError, Subscription, Token, UnsubscribeError,
+    BadName, Closed, Config, GrainId, Host, Payload, PublishError, Service, SiloError, Start,
+    StreamId, SubscribeError, Subscription, Token, UnsubscribeError,
 };
 
+// The first order of a stream.
+const FIRST: Token = Token { seq: 0, idx: 0 };
+
 /// The desk of a customer: the subscription of a grain to the stream of the customer's orders.
-#[derive(Clone, Copy, Debug)]
-pub struct Desk {
+#[derive(Clone, Copy)]
+struct Desk {
     customer: &'static str,
     subscription: Subscription,
 }
@@ -23,32 +27,59 @@ pub struct Desk {
 pub struct OrderService<R: Host> {
     rt: R,
     service: Service<R, Accounts>,
+    // the desks that were opened
+    desks: Vec<Desk>,
 }
 
 impl<R: Host> OrderService<R> {
     /// A service on four queues and two silos, whose orders these accounts handle.
     pub fn open(rt: R, accounts: Arc<Accounts, Global>) -> Result<OrderService<R>> {
         let service = Service::open(rt, &Config::new(4, 2), accounts)?;
-        Ok(OrderService { rt, service })
+        let desks = Vec::new(rt.alloc());
+        Ok(OrderService { rt, service, desks })
     }
 
-    /// A customer gets a desk, which handles what is ordered from now on.
-    pub fn open_desk(&mut self, customer: &'static str) -> Result<Desk> {
-        let grain = GrainId::new(b"desk", customer.as_bytes())?;
-        let subscription = self
-            .service
-            .subscribe(orders_of(customer)?, grain, Start::Latest)?;
-        println!(self.rt; "{customer} has a desk")?;
-        Ok(Desk {
+    /// Does what is asked.
+    pub fn serve(&mut self, request: &Request) -> Result<()> {
+        match *request {
+            Request::OpenDesk(customer) => self.open_desk(customer),
+            Request::CloseDesk(customer) => self.close_desk(customer),
+            Request::Order(customer, orders) => self.order(customer, orders),
+            Request::Audit(customer) => self.audit(customer),
+            Request::Settle => self.settle(),
+            Request::StartSilo(silo) => self.start_silo(silo),
+            Request::TakeSiloDown(silo) => self.take_silo_down(silo),
+        }
+    }
+
+    /// Ends the service, and gives what is left of it.
+    pub fn close(self) -> Result<Closed> {
+        let OrderService {
+            rt: _,
+            service,
+            desks: _,
+        } = self;
+        Ok(service.close()?)
+    }
+
+    // A customer gets a desk, which handles what is ordered from now on.
+    fn open_desk(&mut self, customer: &'static str) -> Result<()> {
+        let subscription = self.subscribe(b"desk", customer, Start::Latest)??;
+        self.desks.push(Desk {
             customer,
             subscription,
-        })
+        })?;
+        println!(self.rt; "{customer} has a desk")?;
+        Ok(())
     }
 
-    /// A desk handles nothing more.
-    pub fn close_desk(&mut self, desk: &Desk) -> Result<()> {
-        let customer = desk.customer;
-        match self.service.unsubscribe(&desk.subscription) {
+    // A desk handles nothing more.
+    fn close_desk(&mut self, customer: &str) -> Result<()> {
+        let Some(subscription) = self.desk_of(customer) else {
+            println!(self.rt; "refused: {customer} has no desk")?;
+            return Ok(());
+        };
+        match self.service.unsubscribe(&subscription) {
             Ok(handled) => println!(self.rt; "{customer}'s desk closes after {handled} orders")?,
             Err(UnsubscribeError::Closed) => {
                 println!(self.rt; "refused: {customer}'s desk is closed")?;
@@ -58,14 +89,30 @@ impl<R: Host> OrderService<R> {
         Ok(())
     }
 
-    /// A customer orders. An order is its price in cents, a space, and what it is.
-    pub fn order(&mut self, customer: &str, orders: &[&str]) -> Result<()> {
-        if let Some(order) = orders.iter().find(|order| price(order).is_none()) {
+    // The subscription of a customer's desk, where there is one.
+    fn desk_of(&self, customer: &str) -> Option<Subscription> {
+        for desk in &self.desks {
+            if desk.customer == customer {
+                return Some(desk.subscription);
+            }
+        }
+        None
+    }
+
+    // A customer orders.
+    fn order(&mut self, customer: &str, orders: &[&str]) -> Result<()> {
+        if let Some(order) = without_price(orders) {
             println!(self.rt; "refused: {customer} orders {order}, which has no price")?;
             return Ok(());
         }
         let orders = payloads_of(self.rt.alloc(), orders)?;
-        match self.service.publish(orders_of(customer)?, &orders) {
+        let published = self.service.publish(orders_of(customer)?, &orders);
+        self.tell_order(customer, published)
+    }
+
+    // Prints what became of an order.
+    fn tell_order(&self, customer: &str, published: Result<Token, PublishError>) -> Result<()> {
+        match published {
             Ok(first) => println!(self.rt; "{customer} orders: from {first}")?,
             Err(PublishError::BadBatch) => println!(self.rt; "refused: {customer} orders nothing")?,
             Err(error) => return Err(error.into()),
@@ -73,45 +120,50 @@ impl<R: Host> OrderService<R> {
         Ok(())
     }
 
-    /// An auditor looks at the orders of a customer from a token on, or else from the first that is kept.
-    pub fn audit(&mut self, customer: &str, start: Token) -> Result<()> {
-        match self.subscribe_auditor(customer, start)? {
+    // An auditor looks at the orders of a customer from the first one on, or else from the first that is kept.
+    fn audit(&mut self, customer: &str) -> Result<()> {
+        match self.subscribe(b"audit", customer, Start::At(FIRST))? {
             Ok(_) => println!(self.rt; "{customer} is audited")?,
-            Err(SubscribeError::Miss { low, .. }) => {
-                println!(self.rt; "missed: {customer}'s orders before {low} are gone")?;
-                self.subscribe_auditor(customer, low)??;
-            }
+            Err(SubscribeError::Miss { low, .. }) => self.audit_what_is_kept(customer, low)?,
             Err(error) => return Err(error.into()),
         }
         Ok(())
     }
 
-    fn subscribe_auditor(
+    // An auditor looks at the orders of a customer that are kept, which begin here.
+    fn audit_what_is_kept(&mut self, customer: &str, low: Token) -> Result<()> {
+        println!(self.rt; "missed: {customer}'s orders before {low} are gone")?;
+        self.subscribe(b"audit", customer, Start::At(low))??;
+        Ok(())
+    }
+
+    // A grain of this kind, whose key is the customer, subscribes to the stream of the customer's orders.
+    fn subscribe(
         &mut self,
+        kind: &[u8],
         customer: &str,
-        start: Token,
-    ) -> Result<Result<Subscription, SubscribeError>> {
-        let grain = GrainId::new(b"audit", customer.as_bytes())?;
-        let start = Start::At(start);
+        start: Start,
+    ) -> Result<Result<Subscription, SubscribeError>, BadName> {
+        let grain = GrainId::new(kind, customer.as_bytes())?;
         Ok(self.service.subscribe(orders_of(customer)?, grain, start))
     }
 
-    /// Waits until all orders are handled.
-    pub fn settle(&mut self) -> Result<()> {
+    // Waits until all orders are handled.
+    fn settle(&mut self) -> Result<()> {
         self.service.settle()?;
         println!(self.rt; "all orders are handled")?;
         Ok(())
     }
 
-    /// A silo comes.
-    pub fn silo_comes(&mut self, silo: u8) -> Result<()> {
+    // A silo comes.
+    fn start_silo(&mut self, silo: u8) -> Result<()> {
         self.service.silo_up(silo)?;
         println!(self.rt; "silo {silo} has come")?;
         Ok(())
     }
 
-    /// A silo goes. What waits or runs there is handled elsewhere.
-    pub fn silo_goes(&mut self, silo: u8) -> Result<()> {
+    // A silo goes. What waits or runs there is handled elsewhere.
+    fn take_silo_down(&mut self, silo: u8) -> Result<()> {
         match self.service.silo_down(silo) {
             Ok(()) => println!(self.rt; "silo {silo} has gone")?,
             Err(SiloError::LastSilo) => println!(self.rt; "refused: silo {silo} is the last one")?,
@@ -119,17 +171,21 @@ impl<R: Host> OrderService<R> {
         }
         Ok(())
     }
-
-    /// Ends the service, and gives what is left of it.
-    pub fn close(self) -> Result<Closed> {
-        let OrderService { rt: _, service } = self;
-        Ok(service.close()?)
-    }
 }
 
 // The stream of a customer's orders.
-fn orders_of(customer: &str) -> Result<StreamId> {
-    Ok(StreamId::new(b"orders", customer.as_bytes())?)
+fn orders_of(customer: &str) -> Result<StreamId, BadName> {
+    StreamId::new(b"orders", customer.as_bytes())
+}
+
+// The first of these orders that has no price.
+fn without_price<'a>(orders: &[&'a str]) -> Option<&'a str> {
+    for order in orders {
+        if price(order).is_none() {
+            return Some(*order);
+        }
+    }
+    None
 }
 
 fn payloads_of(alloc: Global, orders: &[&str]) -> Result<Vec<Payload>> {
