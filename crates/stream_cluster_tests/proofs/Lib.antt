@@ -1,2 +1,3 @@
-mod Crew
+mod Standing
+pub mod Turnstiles
 mod Whole

@@ -15,7 +15,7 @@ use Rattle.stream_cluster.specs.declared.cluster.Retired.{Retired}
 use Rattle.stream_cluster.specs.declared.cluster.Retired.TheVariants as retired
 use Rattle.stream_cluster.proofs.Standing.{all-remove, lives-at, map-remove, same-at, silo-place, sits-on}
 use Rattle.stream_cluster_tests.specs.Parked.{IsLeft, IsWhole, silos_of}
-use Rattle.stream_cluster_tests.proofs.Crew.{all-set, insert-remove, one-place, silos-set}
+use Rattle.stream_cluster_tests.proofs.Standing.{all-set, insert-remove, one-place, silos-set}
 
 -- the loops of one silo at a place
 runs-at : (c : ClusterView) (crew : List SiloView) (at : ℕ) (s : SiloView) → at < length crew → s ≡ get_or crew at s → RunsOn c.operator crew → IsSiloAt c.operator.lines c.operator.directory s

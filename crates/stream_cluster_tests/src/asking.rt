@@ -1,6 +1,7 @@
 //! What is asked at a queue, and how it is answered.
-ghost use Rattle.std.specs.Prelude.{◌≡◌};
+ghost use Rattle.std.specs.Prelude.{◌≡◌, true, IfOk};
 ghost use Rattle.cluster_callers.specs.Calls.{turnstiles};
+ghost use Rattle.stream_model.specs.Producers.{is_producer};
 
 use crate::names::{grain, stream};
 use cluster_callers::Caller;
@@ -8,16 +9,17 @@ use shared_partition::Gate;
 use std::alloc::{AllocError, Global};
 use std::process::Abort;
 use std::sync::Wait;
-use step_core::{Op, Reply};
-use stream_ident::{Batch, Payload, SubName};
-use stream_model::Start;
+use stream_ident::{Batch, Payload, SubName, Token};
+use stream_model::{Op, Pending, Reply, Start};
 use turnstile::{Refusal, StoredHistory};
 
-/// What is asked. Streams are of the namespace `o`, and grains of the kind `g`.
+/// What a producer asks. Streams are of the namespace `o`, and grains of the kind `g`.
 #[derive(Clone, Copy)]
-pub enum Ask<'a> {
+pub enum Produced<'a> {
     /// The grain of the second key subscribes to the stream of the first, from the next batch on.
     Subscribe(&'a [u8], &'a [u8]),
+    /// The same, from the batch with this number on.
+    SubscribeFrom(&'a [u8], &'a [u8], u64),
     /// The grain of each key shall consume the stream of the key.
     Rule,
     /// An event for the stream of this key, with this payload.
@@ -26,19 +28,56 @@ pub enum Ask<'a> {
     PublishEach(&'a [u8], &'a [u8]),
     /// The subscription with this number ends.
     Unsubscribe(u32),
+}
+
+/// What is asked at a queue. An agent asks under its first generation.
+#[derive(Clone, Copy)]
+pub enum Ask<'a> {
+    By(Produced<'a>),
+    /// An agent takes so many events.
+    Pull(u32),
+    /// An agent brings the next event of the first subscription.
+    Deliver,
+    /// An agent drops what nobody needs.
+    Purge,
     Quiet,
 }
 
-/// How it is answered.
-#[derive(Clone, Copy)]
-pub enum Told {
+/// What the answer is.
+#[derive(Clone, Copy, PartialEq, Eq)]
+pub enum What {
+    /// The subscription has this number.
     Subscribed,
     /// The batch has this number.
-    Published(u64),
+    Published,
     /// The subscription has handled so many events.
-    Unsubscribed(usize),
+    Unsubscribed,
+    /// So many events were taken.
+    Pulled,
+    /// The event is in the mailbox.
+    Delivered,
+    /// The cache begins with the batch of this number.
+    Purged,
+    Quiet,
+    /// An event isn't pulled.
+    Behind,
     Other,
 }
+
+/// How it is answered, with a number, which is 0 where the answer has none.
+#[derive(Clone, Copy)]
+pub struct Told(pub What, pub u64);
+
+impl Told {
+    /// Whether it is answered so.
+    pub fn is(&self, what: What, number: u64) -> bool {
+        self.0 == what && self.1 == number
+    }
+}
+
+/// A call at this queue, and how it is answered.
+#[derive(Clone, Copy)]
+pub struct Call(pub usize, pub Ask<'static>, pub What, pub u64);
 
 fn payload<R: Abort>(rt: &R, text: &[u8]) -> Payload {
     Payload::new(text).expect(rt, "a payload")
@@ -58,38 +97,70 @@ fn each<R: Abort>(rt: &R, alloc: Global, bytes: &[u8]) -> Result<Batch, AllocErr
     Ok(Batch::of(payloads))
 }
 
-fn operation<R: Abort>(rt: &R, alloc: Global, ask: &Ask) -> Result<Op, AllocError> {
-    Ok(match *ask {
-        Ask::Subscribe(from, to) => Op::Subscribe {
+/// The operation of a producer.
+///
+/// # Errors
+/// The call failed to allocate.
+pub fn production<R: Abort>(rt: &R, alloc: Global, asked: &Produced) -> Result<Op, AllocError>
+    ensures { IfOk result (λ op. is_producer op ≡ true) }
+{
+    match *asked {
+        Produced::Subscribe(from, to) => Ok(Op::Subscribe {
             stream: stream(rt, from),
             grain: grain(rt, to),
             start: Start::Latest,
-        },
-        Ask::Rule => Op::AddRule {
+        }),
+        Produced::SubscribeFrom(from, to, seq) => Ok(Op::Subscribe {
+            stream: stream(rt, from),
+            grain: grain(rt, to),
+            start: Start::At(Token { seq, idx: 0 }),
+        }),
+        Produced::Rule => Ok(Op::AddRule {
             kind: grain(rt, b"k").kind,
             namespace: stream(rt, b"k").namespace,
-        },
-        Ask::Publish(key, text) => Op::Publish {
+        }),
+        Produced::Publish(key, text) => Ok(Op::Publish {
             stream: stream(rt, key),
             payloads: one(rt, alloc, text)?,
-        },
-        Ask::PublishEach(key, bytes) => Op::Publish {
+        }),
+        Produced::PublishEach(key, bytes) => Ok(Op::Publish {
             stream: stream(rt, key),
             payloads: each(rt, alloc, bytes)?,
-        },
-        Ask::Unsubscribe(number) => Op::Unsubscribe {
+        }),
+        Produced::Unsubscribe(number) => Ok(Op::Unsubscribe {
             sub: SubName::Explicit(number),
-        },
-        Ask::Quiet => Op::Quiet,
-    })
+        }),
+    }
+}
+
+fn operation<R: Abort>(rt: &R, alloc: Global, ask: &Ask) -> Result<Op, AllocError> {
+    let generation = 0;
+    match *ask {
+        Ask::By(ref asked) => production(rt, alloc, asked),
+        Ask::Pull(max) => Ok(Op::Pull { generation, max }),
+        Ask::Deliver => Ok(Op::Deliver {
+            generation,
+            sub: SubName::Explicit(1),
+        }),
+        Ask::Purge => Ok(Op::Purge {
+            generation,
+            keep: 0,
+        }),
+        Ask::Quiet => Ok(Op::Quiet),
+    }
 }
 
 fn told_by(reply: &Reply) -> Told {
     match reply {
-        Reply::Subscribed { .. } => Told::Subscribed,
-        Reply::Published { seq } => Told::Published(*seq),
-        Reply::Unsubscribed { handled } => Told::Unsubscribed(*handled),
-        _ => Told::Other,
+        Reply::Subscribed { number } => Told(What::Subscribed, u64::from(*number)),
+        Reply::Published { seq } => Told(What::Published, *seq),
+        Reply::Unsubscribed { handled } => Told(What::Unsubscribed, *handled as u64),
+        Reply::Pulled { count, .. } => Told(What::Pulled, *count as u64),
+        Reply::Delivered { .. } => Told(What::Delivered, 0),
+        Reply::Purged { low } if low.idx == 0 => Told(What::Purged, low.seq),
+        Reply::IsQuiet => Told(What::Quiet, 0),
+        Reply::NotQuiet(Pending::Behind) => Told(What::Behind, 0),
+        _ => Told(What::Other, 0),
     }
 }
 
@@ -113,6 +184,37 @@ pub fn ask_at<G: Gate, H: StoredHistory<Op, Reply>, R: Wait + Abort>(
     match caller.call(rt, alloc, queue, op) {
         Ok(reply) => Ok(told_by(&reply)),
         Err(refusal) => Err(refusal),
+    }
+}
+
+/// Whether a call is answered so.
+pub fn is_told<G: Gate, H: StoredHistory<Op, Reply>, R: Wait + Abort>(
+    rt: &R,
+    alloc: Global,
+    caller: &mut Caller<G, H>,
+    call: &Call,
+) -> bool
+    ensures { turnstiles caller.new ≡ turnstiles caller.old }
+{
+    match ask_at(rt, alloc, caller, call.0, &call.1) {
+        Ok(told) => told.is(call.2, call.3),
+        Err(_) => false,
+    }
+}
+
+/// Makes the calls of a table in order.
+pub fn call_all<G: Gate, H: StoredHistory<Op, Reply>, R: Wait + Abort>(
+    rt: &R,
+    alloc: Global,
+    caller: &mut Caller<G, H>,
+    table: usize,
+    calls: &[Call],
+)
+    ensures { turnstiles caller.new ≡ turnstiles caller.old }
+{
+    for (row, call) in calls.iter().enumerate() {
+        let told = is_told(rt, alloc, caller, call);
+        holds(rt, told, table, row);
     }
 }
 

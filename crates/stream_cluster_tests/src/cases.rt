@@ -3,7 +3,7 @@ ghost use Rattle.std.specs.Prelude.{◌≡◌};
 
 use crate::asking::holds;
 use crate::producer::Producer;
-use crate::running::{Calls, End, Ended, Places, Running, Size, is_so, start};
+use crate::running::{Calls, End, Places, Running, Size, is_so, start};
 use activation_directory::{DirectoryOp, DirectoryReply};
 use shared_partition::{Counting, Gate};
 use std::alloc::Global;
@@ -73,56 +73,57 @@ fn is_met<
         Step::Up(silo, wanted) => running.up(rt, alloc, silo).expect(rt, "memory") == wanted,
         Step::Down(silo, wanted) => running.down(rt, alloc, silo).expect(rt, "memory") == wanted,
         Step::Settle => producer.is_quiet(rt, alloc),
-        Step::Fill(queue) => producer.fills(rt, alloc, queue, FEW),
+        Step::Fill(queue) => producer.fills(rt, alloc, queue, FEW + 1),
     }
 }
 
-// How a cluster ends.
-fn finish<
-    G: Gate + 'static,
-    H: StoredHistory<Op, Reply> + Send + 'static,
-    D: StoredHistory<DirectoryOp, DirectoryReply> + Send + 'static,
-    R: Threads + Wait + Abort,
->(
-    rt: &R,
-    alloc: Global,
-    running: Running<G, H, D>,
-    producer: Producer<G, H>,
-    second: Second,
-) -> Ended<H>
-    requires { producer ≡ running }
-{
-    let mut producer = producer;
-    match second {
-        Second::None => running.finish(rt, alloc, producer),
-        Second::IsLost => {
-            drop(producer.split(alloc, 0).expect(rt, "memory"));
-            running.finish(rt, alloc, producer)
-        }
-        Second::Stays => {
-            let other = producer.split(alloc, 0).expect(rt, "memory");
-            let ended = running.finish(rt, alloc, producer);
-            drop(other);
-            ended
-        }
-    }
-}
-
-/// Whether a cluster with this gate ends as its case says.
-pub fn is_case<
+/// A cluster of a case, to which its steps are done, and a producer of it.
+pub fn prepare<
     G: Gate + 'static,
     H: StoredHistory<Op, Reply> + Send + 'static,
     D: StoredHistory<DirectoryOp, DirectoryReply> + Send + 'static,
     R: Threads + Wait + Abort + Copy + Send + 'static,
->(rt: &R, alloc: Global, gate: Arc<G, Global>, table: usize, case: &Case) -> bool {
+>(
+    rt: &R,
+    alloc: Global,
+    gate: Arc<G, Global>,
+    table: usize,
+    case: &Case,
+) -> (Running<G, H, D>, Producer<G, H>)
+    ensures { result.1 ≡ result.0 }
+{
     let started = start::<G, H, D, R>(rt, alloc, &case.size, gate);
     let (mut running, mut producer) = started.expect(rt, "memory");
     for (row, step) in case.steps.iter().enumerate() {
         let is_met = is_met(rt, alloc, &mut running, &mut producer, step);
         holds(rt, is_met, table, row);
     }
-    let ended = finish(rt, alloc, running, producer, case.second);
-    is_so(&ended, case.end)
+    (running, producer)
+}
+
+/// Whether a cluster ends as its case says.
+pub fn ends<
+    G: Gate + 'static,
+    H: StoredHistory<Op, Reply> + Send + 'static,
+    D: StoredHistory<DirectoryOp, DirectoryReply> + Send + 'static,
+    R: Threads + Wait + Abort,
+>(rt: &R, alloc: Global, running: Running<G, H, D>, producer: Producer<G, H>, case: &Case) -> bool
+    requires { producer ≡ running }
+{
+    let mut producer = producer;
+    match case.second {
+        Second::None => is_so(&running.finish(rt, alloc, producer).0, case.end),
+        Second::IsLost => {
+            drop(producer.split(alloc, 0).expect(rt, "memory"));
+            is_so(&running.finish(rt, alloc, producer).0, case.end)
+        }
+        Second::Stays => {
+            let other = producer.split(alloc, 0).expect(rt, "memory");
+            let ended = running.finish(rt, alloc, producer).0;
+            drop(other);
+            is_so(&ended, case.end)
+        }
+    }
 }
 
 // How many calls each history of a small cluster has.
@@ -213,15 +214,17 @@ static CASES: [Case; 5] = [
     },
 ];
 
-fn check<
+/// Does what each case says, and sees how it ends.
+pub fn check<
     H: StoredHistory<Op, Reply> + Send + 'static,
     D: StoredHistory<DirectoryOp, DirectoryReply> + Send + 'static,
     R: Threads + Wait + Abort + Copy + Send + 'static,
 >(rt: &R, alloc: Global) {
     for (table, case) in CASES.iter().enumerate() {
         let gate = Arc::new(alloc, Counting).expect(rt, "memory");
-        let is_case = is_case::<Counting, H, D, R>(rt, alloc, gate, table, case);
-        holds(rt, is_case, table, case.steps.len());
+        let (running, producer) = prepare::<Counting, H, D, R>(rt, alloc, gate, table, case);
+        let ends = ends(rt, alloc, running, producer, case);
+        holds(rt, ends, table, case.steps.len());
     }
 }
 

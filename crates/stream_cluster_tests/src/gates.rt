@@ -7,8 +7,8 @@ use stream_ident::{Event, GrainId, SubName, Token};
 // Looks so often at most.
 const LOOKS: u32 = 10_000_000;
 
-// Waits until the flag is set, and tells whether it was.
-fn wait_for(flag: &AtomicBool) -> bool {
+/// Waits until the flag is set, and tells whether it was.
+pub fn wait_for(flag: &AtomicBool) -> bool {
     let backoff = Backoff::new();
     for _ in 0..LOOKS {
         if flag.load(Ordering::SeqCst) {
@@ -23,11 +23,16 @@ fn wait_for(flag: &AtomicBool) -> bool {
 /// event was handled and committed, or a call of another queue was answered.
 #[derive(Drop)]
 pub struct Meeting {
-    event_waits: AtomicBool,
-    call_waits: AtomicBool,
-    came: AtomicBool,
-    done: AtomicBool,
-    saw: AtomicBool,
+    /// Whether the next event is to wait.
+    pub event_waits: AtomicBool,
+    /// Whether the next call of the first queue is to wait.
+    pub call_waits: AtomicBool,
+    /// Whether somebody waits.
+    pub came: AtomicBool,
+    /// Whether something else was done.
+    pub done: AtomicBool,
+    /// Whether the one that waited has seen that.
+    pub saw: AtomicBool,
 }
 
 impl Meeting {
@@ -40,26 +45,6 @@ impl Meeting {
             done: AtomicBool::new(false),
             saw: AtomicBool::new(false),
         }
-    }
-
-    /// The next call of the first queue is to wait.
-    pub fn wait(&self) {
-        self.call_waits.store(true, Ordering::SeqCst);
-    }
-
-    /// Waits until somebody waits, and tells whether one does.
-    pub fn comes(&self) -> bool {
-        wait_for(&self.came)
-    }
-
-    /// The call of another queue was answered.
-    pub fn answered(&self) {
-        self.done.store(true, Ordering::SeqCst);
-    }
-
-    /// Whether the one that waited has seen that the other was done.
-    pub fn saw(&self) -> bool {
-        self.saw.load(Ordering::SeqCst)
     }
 
     fn meet(&self) {

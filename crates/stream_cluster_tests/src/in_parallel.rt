@@ -1,13 +1,14 @@
+//! Two grains, and two queues, at once.
 ghost use Rattle.std.specs.Prelude.{◌≡◌};
 
-use crate::cases::{Case, Second, Step, is_case};
-use crate::gates::Meeting;
+use crate::cases::{Case, Second, Step, ends, prepare};
+use crate::gates::{Meeting, wait_for};
 use crate::producer::Producer;
-use crate::running::{Calls, End, Places, Running, Size, is_so, start};
+use crate::running::{Calls, End, Places, Size};
 use activation_directory::{DirectoryOp, DirectoryReply};
-use shared_partition::Gate;
 use std::alloc::Global;
 use std::process::Abort;
+use std::sync::atomic::Ordering;
 use std::sync::{Arc, Wait};
 use std::thread::{Threads, join};
 use step_core::{Op, Reply};
@@ -34,7 +35,7 @@ static CROSSED: Case = Case {
     end: End::Report(b"report\n0:1 o/0 g/5 0.0 1\n  0.0 \"7\"\n0:2 o/0 g/6 0.0 1\n  0.0 \"7\"\n"),
 };
 
-// Whether the first of two events has seen the other one committed, at any kind of history.
+// Two grains handle an event each. The one that comes first waits until the other has committed.
 fn cross<
     H: StoredHistory<Op, Reply> + Send + 'static,
     D: StoredHistory<DirectoryOp, DirectoryReply> + Send + 'static,
@@ -42,126 +43,82 @@ fn cross<
 >(rt: &R, alloc: Global) {
     let gate = Arc::new(alloc, Meeting::new(true)).expect(rt, "memory");
     let shared = Arc::try_clone(&gate).expect(rt, "it is shared a few times");
-    assert!(rt; is_case::<Meeting, H, D, R>(rt, alloc, shared, 0, &CROSSED));
-    assert!(rt; gate.saw());
+    let (running, producer) = prepare::<Meeting, H, D, R>(rt, alloc, shared, 0, &CROSSED);
+    assert!(rt; ends(rt, alloc, running, producer, &CROSSED));
+    assert!(rt; gate.saw.load(Ordering::SeqCst));
 }
 
-// Two grains handle an event each. The one that comes first waits until the other has committed.
-#[test]
-fn two_grains_at_once(rt: HostRuntime) {
-    cross::<Calls, Places, HostRuntime>(&rt, rt.alloc());
-}
+const SUBSCRIBED: [Step; 2] = [Step::Subscribe(0, 5), Step::Subscribe(1, 6)];
 
-static TWO: Size = Size {
-    queues: 2,
-    silos: 1,
-    history: 1_000_000,
-    room: 0,
+static BESIDE: Case = Case {
+    size: Size {
+        queues: 2,
+        silos: 1,
+        ..ONE
+    },
+    steps: &SUBSCRIBED,
+    second: Second::None,
+    end: End::Report(b"report\n0:1 o/0 g/5 0.0 1\n  0.0 \"7\"\n1:1 o/1 g/6 0.0 1\n  0.0 \"8\"\n"),
 };
 
-const BESIDE: &[u8] = b"report\n0:1 o/0 g/5 0.0 1\n  0.0 \"7\"\n1:1 o/1 g/6 0.0 1\n  0.0 \"8\"\n";
-
-// A cluster of two queues, at each of which a grain subscribes, and two producers.
-fn opened<
-    G: Gate + 'static,
-    H: StoredHistory<Op, Reply> + Send + 'static,
-    D: StoredHistory<DirectoryOp, DirectoryReply> + Send + 'static,
-    R: Threads + Wait + Abort + Copy + Send + 'static,
->(
-    rt: &R,
-    alloc: Global,
-    gate: &Arc<G, Global>,
-) -> (Running<G, H, D>, Producer<G, H>, Producer<G, H>)
-    ensures first { result.1 ≡ result.0 }
-    ensures second { result.2 ≡ result.0 }
-{
-    let shared = Arc::try_clone(gate).expect(rt, "it is shared a few times");
-    let started = start::<G, H, D, R>(rt, alloc, &TWO, shared);
-    let (running, mut first) = started.expect(rt, "memory");
-    first.subscribe(rt, alloc, 0, 5).expect(rt, "memory");
-    first.subscribe(rt, alloc, 1, 6).expect(rt, "memory");
-    let second = first.split(alloc, 0).expect(rt, "memory");
-    (running, first, second)
-}
-
-fn publish_first<G: Gate, H: StoredHistory<Op, Reply>, R: Wait + Abort>(
-    rt: &R,
-    alloc: Global,
-    producer: Producer<G, H>,
-) -> Producer<G, H>
-    ensures { result ≡ producer }
-{
-    let mut producer = producer;
-    producer.publish(rt, alloc, 0, 7).expect(rt, "memory");
-    producer
-}
-
-// Publishes to the second queue while a call of the first one waits.
-fn publish_second<G: Gate, H: StoredHistory<Op, Reply>, R: Wait + Abort>(
+// Publishes to a queue: to the second one while a call of the first one waits.
+fn publish<H: StoredHistory<Op, Reply>, R: Wait + Abort>(
     rt: &R,
     alloc: Global,
     gate: &Meeting,
-    producer: Producer<G, H>,
-) -> Producer<G, H>
+    producer: Producer<Meeting, H>,
+    queue: usize,
+) -> Producer<Meeting, H>
     ensures { result ≡ producer }
 {
     let mut producer = producer;
-    assert!(rt; gate.comes());
-    producer.publish(rt, alloc, 1, 8).expect(rt, "memory");
-    gate.answered();
+    assert!(rt; queue == 0 || wait_for(&gate.came));
+    let payload = (queue as u64).wrapping_add(7);
+    producer
+        .publish(rt, alloc, queue, payload)
+        .expect(rt, "room");
+    gate.done.store(true, Ordering::SeqCst);
     producer
 }
-
-type Sent = Producer<Meeting, Calls>;
 
 // Publishes to the first queue, whose next call waits until a call of the second queue was answered.
-fn publish_beside<R: Threads + Wait + Abort + Sync>(
+fn publish_beside<H: StoredHistory<Op, Reply> + Send + 'static, R: Threads + Wait + Abort + Sync>(
     rt: &R,
     alloc: Global,
     gate: &Meeting,
-    first: Sent,
-    second: Sent,
-) -> (Sent, Sent)
+    first: Producer<Meeting, H>,
+    second: Producer<Meeting, H>,
+) -> (Producer<Meeting, H>, Producer<Meeting, H>)
     ensures first { result.0 ≡ first }
     ensures second { result.1 ≡ second }
 {
-    gate.wait();
+    gate.call_waits.store(true, Ordering::SeqCst);
     join(
         rt,
-        || publish_first(rt, alloc, first),
-        || publish_second(rt, alloc, gate, second),
+        || publish(rt, alloc, gate, first, 0),
+        || publish(rt, alloc, gate, second, 1),
     )
 }
 
-// Whether all is reported once both producers came back.
-fn is_reported<
-    G: Gate + 'static,
+// A call of the second queue is answered while one of the first holds its turn.
+fn call_beside<
     H: StoredHistory<Op, Reply> + Send + 'static,
     D: StoredHistory<DirectoryOp, DirectoryReply> + Send + 'static,
-    R: Threads + Wait + Abort,
->(
-    rt: &R,
-    alloc: Global,
-    running: Running<G, H, D>,
-    first: Producer<G, H>,
-    second: Producer<G, H>,
-) -> bool
-    requires first { first ≡ running }
-    requires second { second ≡ running }
-{
-    let mut first = first;
+    R: Threads + Wait + Abort + Copy + Send + Sync + 'static,
+>(rt: &R, alloc: Global) {
+    let gate = Arc::new(alloc, Meeting::new(false)).expect(rt, "memory");
+    let shared = Arc::try_clone(&gate).expect(rt, "it is shared a few times");
+    let (running, mut first) = prepare::<Meeting, H, D, R>(rt, alloc, shared, 1, &BESIDE);
+    let second = first.split(alloc, 0).expect(rt, "memory");
+    let (mut first, second) = publish_beside(rt, alloc, &gate, first, second);
+    first.join(rt, second);
     assert!(rt; first.is_quiet(rt, alloc));
-    let (ended, _told) = running.finish_both(rt, alloc, first, second);
-    is_so(&ended, End::Report(BESIDE))
+    assert!(rt; ends(rt, alloc, running, first, &BESIDE));
+    assert!(rt; gate.saw.load(Ordering::SeqCst));
 }
 
-// A call of the second queue is answered while one of the first holds its turn.
 #[test]
-fn two_queues_at_once(rt: HostRuntime) {
-    let alloc = rt.alloc();
-    let gate = Arc::new(alloc, Meeting::new(false)).expect(&rt, "memory");
-    let (running, first, second) = opened::<Meeting, Calls, Places, HostRuntime>(&rt, alloc, &gate);
-    let (first, second) = publish_beside(&rt, alloc, &gate, first, second);
-    assert!(rt; is_reported(&rt, alloc, running, first, second));
-    assert!(rt; gate.saw());
+fn at_once(rt: HostRuntime) {
+    cross::<Calls, Places, HostRuntime>(&rt, rt.alloc());
+    call_beside::<Calls, Places, HostRuntime>(&rt, rt.alloc());
 }

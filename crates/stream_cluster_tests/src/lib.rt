@@ -1,10 +1,18 @@
-//! Tests of a cluster, through its public calls: in threads, refused memory and threads, under load, and parked.
+//! Tests of a cluster, through its public calls: in threads, refused memory and threads, under load, and parked. And
+//! tests of the parts that it is made of beside its partitions and its loops: its callers, the crew of a silo, the
+//! operator, the end, and the producer of a script.
 #![tactic(auto)]
 
 #[cfg(test)]
 mod asking;
 #[cfg(test)]
 mod cases;
+#[cfg(test)]
+mod crew;
+#[cfg(test)]
+mod directories;
+#[cfg(test)]
+mod ending;
 #[cfg(test)]
 mod gates;
 #[cfg(test)]
@@ -14,6 +22,8 @@ mod load;
 #[cfg(test)]
 mod names;
 #[cfg(test)]
+mod operator;
+#[cfg(test)]
 mod parked;
 #[cfg(test)]
 mod parked_ends;
@@ -22,11 +32,15 @@ mod parked_refusals;
 #[cfg(test)]
 mod producer;
 #[cfg(test)]
+mod queues;
+#[cfg(test)]
 mod refusals;
 #[cfg(test)]
 mod running;
 #[cfg(test)]
 mod scarce;
+#[cfg(test)]
+mod script;
 #[cfg(test)]
 mod stops;
 #[cfg(test)]

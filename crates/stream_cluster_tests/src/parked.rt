@@ -4,7 +4,6 @@ ghost use Rattle.silo_crew.specs.Silos.{IsSameSilo};
 ghost use Rattle.stream_cluster_tests.specs.Parked.{IsLeft};
 
 use crate::asking::{Ask, ask_at};
-use crate::producer::fills;
 use crate::running::Ended;
 use activation_directory::{DirectoryOp, DirectoryReply};
 use cluster_callers::Caller;
@@ -20,7 +19,8 @@ use step_core::{Limits, Op, Reply};
 use stream_cluster::{Cluster, Config, Retired, SiloDown, SiloUp};
 use turnstile::StoredHistory;
 
-type Loops<H, D> = SiloLoops<Counting, H, D>;
+/// The loops of a silo.
+pub type Loops<H, D> = SiloLoops<Counting, H, D>;
 
 /// How many queues a cluster has.
 pub const QUEUES: usize = 3;
@@ -55,8 +55,8 @@ pub enum Astray {
 /// A contract sees of how many silos it has the loops.
 pub struct Parked<H: StoredHistory<Op, Reply>, D: StoredHistory<DirectoryOp, DirectoryReply>> {
     cluster: Cluster<Counting, H, D>,
-    caller: Caller<Counting, H>,
-    crew: Vec<Loops<H, D>>,
+    pub caller: Caller<Counting, H>,
+    pub crew: Vec<Loops<H, D>>,
 }
 
 impl<H: StoredHistory<Op, Reply> + Drop, D: StoredHistory<DirectoryOp, DirectoryReply> + Drop> Drop
@@ -162,18 +162,6 @@ impl<H: StoredHistory<Op, Reply>, D: StoredHistory<DirectoryOp, DirectoryReply>>
         })
     }
 
-    /// How many silos there are whose loops weren't given back.
-    pub fn silos(&self) -> usize
-        ensures { result ≡ self.now }
-    {
-        self.crew.len()
-    }
-
-    /// How often the doorbell was rung.
-    pub fn rung<R: Wait>(&self, rt: &R) -> u64 {
-        self.caller.doorbell().now(rt)
-    }
-
     /// Whether a producer is answered, or is refused.
     pub fn answers<R: Wait + Abort>(
         &mut self,
@@ -183,17 +171,6 @@ impl<H: StoredHistory<Op, Reply>, D: StoredHistory<DirectoryOp, DirectoryReply>>
         ask: &Ask,
     ) -> bool {
         ask_at(rt, alloc, &mut self.caller, queue, ask).is_ok()
-    }
-
-    /// Asks a queue so often whether it is quiet, and once more. Whether it is refused at some time.
-    pub fn fills<R: Wait + Abort>(
-        &mut self,
-        rt: &R,
-        alloc: Global,
-        queue: usize,
-        calls: u64,
-    ) -> bool {
-        fills(rt, alloc, &mut self.caller, queue, calls)
     }
 
     /// One step of a loop of the silo at this place.

@@ -1,4 +1,5 @@
 //! The ends of parked clusters.
+use crate::asking::Ask;
 use crate::parked::{Astray, Parked, QUEUES, Went};
 use crate::running::{Calls, End, Places, is_so};
 use crate::story::{REPORT, begin, tell_the_rest};
@@ -62,7 +63,10 @@ fn fill_all<
 >(rt: &R, alloc: Global) {
     let mut parked = Parked::<H, D>::new(rt, alloc, 2, HISTORY).expect(rt, "memory");
     for queue in 0..QUEUES {
-        assert!(rt; parked.fills(rt, alloc, queue, HISTORY));
+        for _ in 0..HISTORY {
+            let _ = parked.answers(rt, alloc, queue, &Ask::Quiet);
+        }
+        assert!(rt; !parked.answers(rt, alloc, queue, &Ask::Quiet));
     }
     assert!(rt; parked.retire(rt, alloc, 0) == Went::Limit);
     assert!(rt; parked.retire(rt, alloc, 0) == Went::Halted);
@@ -71,16 +75,8 @@ fn fill_all<
 }
 
 #[test]
-fn all_but_the_last(rt: HostRuntime) {
+fn parked_clusters_end(rt: HostRuntime) {
     retire_all::<Calls, Places, HostRuntime>(&rt, rt.alloc());
-}
-
-#[test]
-fn loops_that_are_missing(rt: HostRuntime) {
     go_astray::<Calls, Places, HostRuntime>(&rt, rt.alloc());
-}
-
-#[test]
-fn full_histories(rt: HostRuntime) {
     fill_all::<Calls, Places, HostRuntime>(&rt, rt.alloc());
 }

@@ -2,7 +2,7 @@
 ghost use Rattle.std.specs.Prelude.{◌≡◌, IfOk};
 ghost use Rattle.cluster_callers.specs.Calls.{turnstiles};
 
-use crate::asking::{Ask, Told as Answer, ask_at};
+use crate::asking::{Ask, Produced, Told as Answer, What, ask_at};
 use crate::names::digits;
 use crate::told::Told;
 use cluster_callers::Caller;
@@ -17,8 +17,8 @@ use turnstile::{Refusal, StoredHistory};
 
 /// A caller of a cluster, and what it was told was published. A contract sees the turnstiles of its passes.
 pub struct Producer<G: Gate, H: StoredHistory<Op, Reply>> {
-    caller: Caller<G, H>,
-    told: Vec<Told>,
+    pub caller: Caller<G, H>,
+    pub told: Vec<Told>,
 }
 
 impl<G: Gate + Drop, H: StoredHistory<Op, Reply> + Drop> Drop for Producer<G, H> {
@@ -39,13 +39,6 @@ impl<G: Gate, H: StoredHistory<Op, Reply>> Model for Producer<G, H> {
 }
 
 impl<G: Gate, H: StoredHistory<Op, Reply>> Producer<G, H> {
-    /// One that was told nothing yet, and has room to be told.
-    pub fn new(caller: Caller<G, H>, told: Vec<Told>) -> Producer<G, H>
-        ensures { result ≡ turnstiles caller }
-    {
-        Producer { caller, told }
-    }
-
     /// Another one of the same queues, which was told nothing yet.
     ///
     /// # Errors
@@ -55,7 +48,8 @@ impl<G: Gate, H: StoredHistory<Op, Reply>> Producer<G, H> {
         ensures other { IfOk result (λ other. other ≡ self.old) }
     {
         let told = Vec::with_capacity(alloc, room)?;
-        Ok(Producer::new(self.caller.split(alloc)?, told))
+        let caller = self.caller.split(alloc)?;
+        Ok(Producer { caller, told })
     }
 
     /// Takes in another one of the same queues, with what it was told, for which there is room.
@@ -82,11 +76,11 @@ impl<G: Gate, H: StoredHistory<Op, Reply>> Producer<G, H> {
         rt: &R,
         alloc: Global,
         queue: usize,
-        ask: &Ask,
+        asked: Produced,
     ) -> Result<Answer, AllocError>
         ensures { self.new ≡ self.old }
     {
-        match ask_at(rt, alloc, &mut self.caller, queue, ask) {
+        match ask_at(rt, alloc, &mut self.caller, queue, &Ask::By(asked)) {
             Ok(answer) => Ok(answer),
             Err(Refusal::Memory) => Err(AllocError),
             Err(Refusal::HistoryFull) => panic!(rt; "there is room"),
@@ -108,9 +102,9 @@ impl<G: Gate, H: StoredHistory<Op, Reply>> Producer<G, H> {
     {
         let from = digits(alloc, queue as u64)?;
         let to = digits(alloc, to as u64)?;
-        let ask = Ask::Subscribe(from.as_bytes(), to.as_bytes());
-        let answer = self.ask(rt, alloc, queue, &ask)?;
-        assert!(rt; matches!(answer, Answer::Subscribed));
+        let asked = Produced::Subscribe(from.as_bytes(), to.as_bytes());
+        let answer = self.ask(rt, alloc, queue, asked)?;
+        assert!(rt; answer.0 == What::Subscribed);
         Ok(())
     }
 
@@ -129,14 +123,12 @@ impl<G: Gate, H: StoredHistory<Op, Reply>> Producer<G, H> {
     {
         let key = digits(alloc, queue as u64)?;
         let text = digits(alloc, payload)?;
-        let ask = Ask::Publish(key.as_bytes(), text.as_bytes());
-        let Answer::Published(seq) = self.ask(rt, alloc, queue, &ask)? else {
-            panic!(rt; "the event is published");
-        };
-        let seq = seq as usize;
+        let asked = Produced::Publish(key.as_bytes(), text.as_bytes());
+        let answer = self.ask(rt, alloc, queue, asked)?;
+        assert!(rt; answer.0 == What::Published);
         let told = Told {
             queue,
-            seq,
+            seq: answer.1 as usize,
             payload,
         };
         self.told.push(told).expect(rt, "room");
@@ -154,11 +146,6 @@ impl<G: Gate, H: StoredHistory<Op, Reply>> Producer<G, H> {
         count
     }
 
-    /// Whether a loop of the cluster has ended by itself.
-    pub fn sees_an_end(&self) -> bool {
-        self.caller.doorbell().has_ended()
-    }
-
     /// Ends the subscription with this number at a queue, and gives how many events it has handled.
     pub fn unsubscribe<R: Wait + Abort>(
         &mut self,
@@ -169,14 +156,13 @@ impl<G: Gate, H: StoredHistory<Op, Reply>> Producer<G, H> {
     ) -> usize
         ensures { self.new ≡ self.old }
     {
-        let answer = self.ask(rt, alloc, queue, &Ask::Unsubscribe(number));
-        match answer.expect(rt, "it takes no memory") {
-            Answer::Unsubscribed(handled) => handled,
-            _ => panic!(rt; "it is subscribed"),
-        }
+        let answer = self.ask(rt, alloc, queue, Produced::Unsubscribe(number));
+        let answer = answer.expect(rt, "it takes no memory");
+        assert!(rt; answer.0 == What::Unsubscribed);
+        answer.1 as usize
     }
 
-    /// Asks a queue so often whether it is quiet, and once more. Whether it is refused at some time.
+    /// Asks a queue so often whether it is quiet. Whether the last of that is refused.
     pub fn fills<R: Wait + Abort>(
         &mut self,
         rt: &R,
@@ -198,8 +184,8 @@ impl<G: Gate, H: StoredHistory<Op, Reply>> Producer<G, H> {
     }
 }
 
-/// Asks a queue so often whether it is quiet, and once more. Whether that is refused at some time.
-pub fn fills<G: Gate, H: StoredHistory<Op, Reply>, R: Wait + Abort>(
+// Asks a queue so often whether it is quiet. Whether the last of that is refused.
+fn fills<G: Gate, H: StoredHistory<Op, Reply>, R: Wait + Abort>(
     rt: &R,
     alloc: Global,
     caller: &mut Caller<G, H>,
@@ -208,10 +194,9 @@ pub fn fills<G: Gate, H: StoredHistory<Op, Reply>, R: Wait + Abort>(
 ) -> bool
     ensures { turnstiles caller.new ≡ turnstiles caller.old }
 {
+    let mut refused = false;
     for _ in 0..calls {
-        if ask_at(rt, alloc, caller, queue, &Ask::Quiet).is_err() {
-            return true;
-        }
+        refused = ask_at(rt, alloc, caller, queue, &Ask::Quiet).is_err();
     }
-    ask_at(rt, alloc, caller, queue, &Ask::Quiet).is_err()
+    refused
 }

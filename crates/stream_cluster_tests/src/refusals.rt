@@ -1,5 +1,6 @@
 ghost use Rattle.std.specs.Prelude.{◌≡◌};
 
+use crate::asking::holds;
 use crate::names::{digits, grain};
 use crate::producer::Producer;
 use crate::running::{Ended, Running, Size, start};
@@ -52,11 +53,6 @@ fn shared_gate<R: Abort>(rt: &R, alloc: Global) -> Arc<Counting, Global> {
     }
 }
 
-// The same gate once more, for a cluster. It takes no memory.
-fn again<R: Abort>(rt: &R, gate: &Arc<Counting, Global>) -> Arc<Counting, Global> {
-    Arc::try_clone(gate).expect(rt, "it is shared a few times")
-}
-
 // A cluster of so many silos, asked for once more where it was refused: nothing is left of the first one then. Whether
 // it was refused.
 fn opened<
@@ -71,12 +67,13 @@ fn opened<
 ) -> (Silos<H, D>, Publisher<H>, bool)
     ensures { result.1 ≡ result.0 }
 {
-    match start(rt, alloc, size, again(rt, gate)) {
+    let shared = Arc::try_clone(gate).expect(rt, "it is shared a few times");
+    match start(rt, alloc, size, shared) {
         Ok((running, producer)) => (running, producer, false),
         Err(AllocError) => {
             assert!(rt; Arc::strong_count(gate) == 1);
-            let second = start(rt, alloc, size, again(rt, gate));
-            let (running, producer) = second.expect(rt, "memory");
+            let shared = Arc::try_clone(gate).expect(rt, "it is shared a few times");
+            let (running, producer) = start(rt, alloc, size, shared).expect(rt, "memory");
             (running, producer, true)
         }
     }
@@ -296,7 +293,7 @@ fn is_undisturbed<
     let subscribed = subscribe_all(rt, alloc, &mut first, QUEUES);
     let (mut second, split) = split(rt, alloc, &mut first);
     let mut course = change(rt, alloc, &mut running, &mut first, &mut second);
-    if first.sees_an_end() {
+    if first.caller.doorbell().has_ended() {
         have_fronts(rt, alloc, &mut first, &second);
     }
     let (mut ended, told) = running.finish_both(rt, alloc, first, second);
@@ -325,39 +322,42 @@ const HALF_GONE: Course = Course {
     half_gone: true,
 };
 
-// The first silo goes, and its directory is of a kind that refuses a call of that.
-fn go_by_half<
+// The first silo goes, and its directory is of a kind that refuses a call of that. Whether it does, and something is
+// left to do.
+fn goes_by_half<
     H: StoredHistory<Op, Reply> + Send + 'static,
     D: StoredHistory<DirectoryOp, DirectoryReply> + Send + 'static,
     R: Threads + Wait + Abort + Copy + Send + 'static,
->(rt: &R, alloc: Global) {
+>(rt: &R, alloc: Global) -> bool {
     let gate = shared_gate(rt, alloc);
     let (mut running, mut first, _anew) = opened::<H, D, R>(rt, alloc, &ONE, &gate);
     subscribe_all(rt, alloc, &mut first, QUEUES);
     publish_all(rt, alloc, &mut first, 1);
     assert!(rt; first.is_quiet(rt, alloc));
     assert!(rt; matches!(running.up(rt, alloc, 1), Ok(SiloUp::Up)));
-    assert!(rt; running.down(rt, alloc, 0).is_err());
+    if running.down(rt, alloc, 0).is_ok() {
+        return false;
+    }
     stands_still(rt, alloc, &mut running);
     let (mut second, _split) = split(rt, alloc, &mut first);
     publish_all(rt, alloc, &mut second, 2);
     let (mut ended, told) = running.finish_both(rt, alloc, first, second);
     assert!(rt; Arc::strong_count(&gate) == 1);
-    assert!(rt; !is_reported(rt, alloc, &mut ended, &told, HALF_GONE));
-}
-
-fn go_by_each_half<
-    H: StoredHistory<Op, Reply> + Send + 'static,
-    R: Threads + Wait + Abort + Copy + Send + 'static,
->(rt: &R, alloc: Global) {
-    go_by_half::<H, Scarce<1>, R>(rt, alloc);
-    go_by_half::<H, Scarce<2>, R>(rt, alloc);
-    go_by_half::<H, Scarce<3>, R>(rt, alloc);
-    go_by_half::<H, Scarce<4>, R>(rt, alloc);
+    !is_reported(rt, alloc, &mut ended, &told, HALF_GONE)
 }
 
 // Four grains are on a silo that goes, and the directory refuses the call after each of them in turn. The silo's queues
 // have no agent then, and what is published to them is left to do.
+fn go_by_each_half<
+    H: StoredHistory<Op, Reply> + Send + 'static,
+    R: Threads + Wait + Abort + Copy + Send + 'static,
+>(rt: &R, alloc: Global) {
+    holds(rt, goes_by_half::<H, Scarce<1>, R>(rt, alloc), 0, 1);
+    holds(rt, goes_by_half::<H, Scarce<2>, R>(rt, alloc), 0, 2);
+    holds(rt, goes_by_half::<H, Scarce<3>, R>(rt, alloc), 0, 3);
+    holds(rt, goes_by_half::<H, Scarce<4>, R>(rt, alloc), 0, 4);
+}
+
 #[test]
 fn gone_by_half(rt: HostRuntime) {
     go_by_each_half::<Calls, HostRuntime>(&rt, rt.alloc());

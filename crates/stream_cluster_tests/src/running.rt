@@ -104,7 +104,7 @@ pub fn start<
     };
     let told = Vec::with_capacity(alloc, room)?;
     let (cluster, caller) = Cluster::new(rt, alloc, &config, gate)?;
-    Ok((Running { cluster }, Producer::new(caller, told)))
+    Ok((Running { cluster }, Producer { caller, told }))
 }
 
 impl<
@@ -144,20 +144,20 @@ impl<G: Gate, H: StoredHistory<Op, Reply>, D: StoredHistory<DirectoryOp, Directo
         self.cluster.silo_down(rt, alloc, silo)
     }
 
-    /// Ends with this producer.
+    /// Ends with this producer, and gives what it was told.
     pub fn finish<R: Threads + Wait + Abort>(
         self,
         rt: &R,
         alloc: Global,
         producer: Producer<G, H>,
-    ) -> Ended<H>
+    ) -> (Ended<H>, Vec<Told>)
         requires { producer ≡ self }
     {
         let Running { cluster } = self;
-        let (caller, _told) = producer.into_parts();
+        let (caller, told) = producer.into_parts();
         let mut callers = Vec::with_capacity(alloc, 1).expect(rt, "memory");
         callers.push_reserved(caller);
-        cluster.finish(rt, alloc, callers)
+        (cluster.finish(rt, alloc, callers), told)
     }
 
     /// Ends with these producers, and gives what they were told.

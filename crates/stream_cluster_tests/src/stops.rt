@@ -1,9 +1,10 @@
 //! Parked clusters: a silo is stopped after any number of steps, or none is.
 use crate::asking::holds;
 use crate::parked::{Parked, Went};
-use crate::running::{Calls, Ended, Places, is_reported};
-use crate::story::{Order, REPORT, advance, begin, lost, tell_the_rest};
+use crate::running::{Calls, Ended, Places};
+use crate::story::{Order, REPORT, advance, begin, lost_in, tell_the_rest};
 use activation_directory::{DirectoryOp, DirectoryReply};
+use cluster_ending::Finished;
 use std::alloc::Global;
 use std::process::Abort;
 use std::sync::Wait;
@@ -94,69 +95,62 @@ static ROWS: [Row; 12] = [
     },
 ];
 
-// How a cluster ends in which the silo at a place is stopped after so many steps, where one is.
+// How a cluster of a row ends in which the silo at a place is stopped after so many steps, where one is.
 fn told<
     H: StoredHistory<Op, Reply>,
     D: StoredHistory<DirectoryOp, DirectoryReply>,
     R: Wait + Abort,
->(rt: &R, alloc: Global, row: &Row, steps: usize, at: usize) -> Ended<H> {
+>(rt: &R, alloc: Global, table: usize, row: &Row, steps: usize, at: usize) -> Ended<H> {
     let made = Parked::<H, D>::new(rt, alloc, row.silos, 1_000_000);
     let mut parked = made.expect(rt, "memory");
     begin(rt, alloc, &mut parked);
     advance(rt, alloc, &mut parked, row.order, steps);
     if let Some(went) = row.went {
-        assert!(rt; parked.retire(rt, alloc, at) == went);
+        holds(rt, parked.retire(rt, alloc, at) == went, table, steps);
     }
     tell_the_rest(rt, alloc, parked)
 }
 
-// How often deliveries were lost where each silo in turn is stopped, or none is.
-fn losses<R: Wait + Abort>(rt: &R, alloc: Global, table: usize, row: &Row) -> usize {
-    let mut losses = 0usize;
+// Whether it ended with the report of the story, and whether deliveries were lost to deactivations.
+fn is_told(ended: &Ended<Calls>) -> (bool, bool) {
+    match ended {
+        Ok(Finished::Report { text, traces }) => (text.as_slice() == REPORT, lost_in(traces) > 0),
+        _ => (false, false),
+    }
+}
+
+// Whether deliveries were lost at some time where each silo in turn is stopped, or none is.
+fn loses<R: Wait + Abort>(rt: &R, alloc: Global, table: usize, row: &Row) -> bool {
+    let mut loses = false;
     let stopped = if row.went.is_some() { row.silos } else { 1 };
     for steps in row.steps..STEPS + 1 {
         for at in 0..usize::from(stopped) {
-            let ended = told::<Calls, Places, R>(rt, alloc, row, steps, at);
-            holds(rt, is_reported(&ended, REPORT), table, steps);
-            if lost(&ended) > 0 {
-                losses = losses.wrapping_add(1);
-            }
+            let ended = told::<Calls, Places, R>(rt, alloc, table, row, steps, at);
+            let (is_told, has_lost) = is_told(&ended);
+            holds(rt, is_told, table, steps);
+            loses |= has_lost;
         }
     }
-    losses
+    loses
 }
 
-// The rows from one to another.
+// What becomes of the rows from one to another.
 fn check<R: Wait + Abort>(rt: &R, alloc: Global, from: usize, to: usize) {
     for (table, row) in ROWS.iter().enumerate() {
         if from <= table && table < to {
-            let losses = losses(rt, alloc, table, row);
-            holds(rt, (losses > 0) == row.loses, table, STEPS + 1);
+            let loses = loses(rt, alloc, table, row);
+            holds(rt, loses == row.loses, table, STEPS + 1);
         }
     }
 }
 
 #[test]
-fn no_silo_goes(rt: HostRuntime) {
-    check(&rt, rt.alloc(), 0, 8);
+fn silos_stop(rt: HostRuntime) {
+    check(&rt, rt.alloc(), 0, 10);
 }
 
+// The last two rows run longest, and a test has a minute.
 #[test]
-fn two_silos(rt: HostRuntime) {
-    check(&rt, rt.alloc(), 8, 9);
-}
-
-#[test]
-fn two_silos_back(rt: HostRuntime) {
-    check(&rt, rt.alloc(), 9, 10);
-}
-
-#[test]
-fn three_silos(rt: HostRuntime) {
-    check(&rt, rt.alloc(), 10, 11);
-}
-
-#[test]
-fn three_silos_back(rt: HostRuntime) {
-    check(&rt, rt.alloc(), 11, 12);
+fn one_of_three_stops(rt: HostRuntime) {
+    check(&rt, rt.alloc(), 10, 12);
 }

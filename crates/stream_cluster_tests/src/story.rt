@@ -1,9 +1,9 @@
 //! What producers ask of a cluster, and how its loops get on.
-use crate::asking::Ask;
+use crate::asking::{Ask, Produced};
 use crate::parked::{Loop, Parked};
 use crate::running::{Calls, Ended};
 use activation_directory::{DirectoryOp, DirectoryReply};
-use cluster_ending::{Finished, Traces};
+use cluster_ending::Traces;
 use silo_loops::Advance;
 use std::alloc::Global;
 use std::process::Abort;
@@ -12,25 +12,25 @@ use step_core::{Op, Reply};
 use turnstile::StoredHistory;
 
 // What is asked before the loops have done anything: at which queue, and what.
-static FIRST: [(usize, Ask); 11] = [
-    (0, Ask::Subscribe(b"x", b"x")),
-    (0, Ask::PublishEach(b"x", b"ab")),
-    (0, Ask::Subscribe(b"x", b"w")),
-    (0, Ask::PublishEach(b"x", b"c")),
-    (1, Ask::Rule),
-    (1, Ask::Subscribe(b"y", b"x")),
-    (1, Ask::PublishEach(b"y", b"a")),
-    (1, Ask::PublishEach(b"z", b"b")),
-    (2, Ask::Subscribe(b"u", b"u")),
-    (2, Ask::Rule),
-    (2, Ask::PublishEach(b"u", b"a")),
+static FIRST: [(usize, Produced); 11] = [
+    (0, Produced::Subscribe(b"x", b"x")),
+    (0, Produced::PublishEach(b"x", b"ab")),
+    (0, Produced::Subscribe(b"x", b"w")),
+    (0, Produced::PublishEach(b"x", b"c")),
+    (1, Produced::Rule),
+    (1, Produced::Subscribe(b"y", b"x")),
+    (1, Produced::PublishEach(b"y", b"a")),
+    (1, Produced::PublishEach(b"z", b"b")),
+    (2, Produced::Subscribe(b"u", b"u")),
+    (2, Produced::Rule),
+    (2, Produced::PublishEach(b"u", b"a")),
 ];
 
 // What is asked later.
-static LATER: [(usize, Ask); 3] = [
-    (0, Ask::PublishEach(b"x", b"d")),
-    (1, Ask::PublishEach(b"y", b"c")),
-    (2, Ask::PublishEach(b"u", b"b")),
+static LATER: [(usize, Produced); 3] = [
+    (0, Produced::PublishEach(b"x", b"d")),
+    (1, Produced::PublishEach(b"y", b"c")),
+    (2, Produced::PublishEach(b"u", b"b")),
 ];
 
 /// What is reported of all that.
@@ -64,10 +64,11 @@ fn ask_all<
     H: StoredHistory<Op, Reply>,
     D: StoredHistory<DirectoryOp, DirectoryReply>,
     R: Wait + Abort,
->(rt: &R, alloc: Global, parked: &mut Parked<H, D>, asks: &[(usize, Ask)]) {
-    for (queue, ask) in asks {
-        let is_answered = parked.answers(rt, alloc, *queue, ask);
-        assert!(rt; is_answered || parked.answers(rt, alloc, *queue, ask));
+>(rt: &R, alloc: Global, parked: &mut Parked<H, D>, asks: &[(usize, Produced)]) {
+    for (queue, asked) in asks {
+        let ask = Ask::By(*asked);
+        let is_answered = parked.answers(rt, alloc, *queue, &ask);
+        assert!(rt; is_answered || parked.answers(rt, alloc, *queue, &ask));
     }
 }
 
@@ -89,17 +90,6 @@ pub enum Order {
     Back,
 }
 
-impl Order {
-    // Which of so many loops takes a step.
-    fn loop_of(self, step: usize, loops: usize) -> usize {
-        let place = match self {
-            Order::Around => step,
-            Order::Back => (step / 5).wrapping_mul(loops.wrapping_sub(1)),
-        };
-        place.checked_rem(loops).unwrap_or(0)
-    }
-}
-
 static LOOPS: [Loop; 3] = [Loop::Agent, Loop::First, Loop::Second];
 
 /// Advances the loops by so many steps in all.
@@ -108,9 +98,13 @@ pub fn advance<
     D: StoredHistory<DirectoryOp, DirectoryReply>,
     R: Wait + Abort,
 >(rt: &R, alloc: Global, parked: &mut Parked<H, D>, order: Order, steps: usize) {
-    let loops = parked.silos().wrapping_mul(3);
+    let loops = parked.crew.len().wrapping_mul(3);
     for step in 0..steps {
-        let which = order.loop_of(step, loops);
+        let place = match order {
+            Order::Around => step,
+            Order::Back => (step / 5).wrapping_mul(loops.wrapping_sub(1)),
+        };
+        let which = place.checked_rem(loops).unwrap_or(0);
         let _did = parked.advance(rt, alloc, which / 3, LOOPS[which % 3]);
     }
 }
@@ -136,13 +130,13 @@ fn settle<
     R: Wait + Abort,
 >(rt: &R, alloc: Global, parked: &mut Parked<H, D>) {
     for _ in 0..1_000 {
-        let seen = parked.rung(rt);
-        for at in 0..parked.silos() {
+        let seen = parked.caller.doorbell().now(rt);
+        for at in 0..parked.crew.len() {
             for which in &LOOPS {
                 rest(rt, alloc, parked, at, *which);
             }
         }
-        if parked.rung(rt) == seen {
+        if parked.caller.doorbell().now(rt) == seen {
             return;
         }
     }
@@ -161,8 +155,8 @@ pub fn tell_the_rest<
     parked.finish(rt, alloc)
 }
 
-// How many deliveries were lost to deactivations.
-fn lost_in(traces: &Traces<Calls>) -> usize {
+/// How many deliveries were lost to deactivations.
+pub fn lost_in(traces: &Traces<Calls>) -> usize {
     let mut lost = 0usize;
     for history in &traces.histories {
         for entry in history.as_slice() {
@@ -172,12 +166,4 @@ fn lost_in(traces: &Traces<Calls>) -> usize {
         }
     }
     lost
-}
-
-/// How many deliveries were lost to deactivations, in a cluster that ended with a report.
-pub fn lost(ended: &Ended<Calls>) -> usize {
-    match ended {
-        Ok(Finished::Report { traces, .. }) => lost_in(traces),
-        _ => 0,
-    }
 }

@@ -81,25 +81,6 @@ pub fn report_of(
     Ok(if all == told.len() { Some(text) } else { None })
 }
 
-// A grain subscribes at a queue, and asks once more where that was refused. Whether it was.
-fn subscribe<G: Gate, H: StoredHistory<Op, Reply>, R: Wait + Abort>(
-    rt: &R,
-    alloc: Global,
-    producer: &mut Producer<G, H>,
-    queue: usize,
-    to: usize,
-) -> bool
-    ensures { producer.new ≡ producer.old }
-{
-    let refused = producer.subscribe(rt, alloc, queue, to).is_err();
-    if refused {
-        producer
-            .subscribe(rt, alloc, queue, to)
-            .expect(rt, "memory");
-    }
-    refused
-}
-
 /// Two grains subscribe at each queue. Whether that was refused somewhere; then it was asked for once more.
 pub fn subscribe_all<G: Gate, H: StoredHistory<Op, Reply>, R: Wait + Abort>(
     rt: &R,
@@ -110,10 +91,14 @@ pub fn subscribe_all<G: Gate, H: StoredHistory<Op, Reply>, R: Wait + Abort>(
     ensures { producer.new ≡ producer.old }
 {
     let mut refused = false;
-    for queue in 0..queues {
-        let [one, two] = grains(queue);
-        refused |= subscribe(rt, alloc, producer, queue, one);
-        refused |= subscribe(rt, alloc, producer, queue, two);
+    for at in 0..queues.wrapping_mul(2) {
+        let queue = at / 2;
+        let to = grains(queue)[at % 2];
+        if producer.subscribe(rt, alloc, queue, to).is_err() {
+            refused = true;
+            let again = producer.subscribe(rt, alloc, queue, to);
+            again.expect(rt, "memory");
+        }
     }
     refused
 }
