@@ -1,12 +1,20 @@
-//! The tests of scripts: what lines are read as, how replies and operations are written, the lines of a script that
-//! is to be run, and whole scripts from a reader to a writer, with each fault that can come. They stand in a crate of
-//! their own, since a crate with tests is proved twice.
+//! The tests of scripts and of the program `streams`: what lines are read as, what a failing reader or writer
+//! leads to, and limits that are reached; and through the public calls of `script_tasks` what the words of a
+//! command line ask for, scripts in files, the examples in its help, what runs on silos print, runs that meet a limit,
+//! traces that are simulated again, and the text and the status of each fault. What whole scripts print is shown by
+//! `stream_examples`. They stand in a crate of their own, since a crate with tests is proved twice.
 #![tactic(auto)]
 
 #[cfg(test)]
-mod cut;
+mod ends;
 #[cfg(test)]
 mod examples;
+#[cfg(test)]
+mod faults;
+#[cfg(test)]
+mod files;
+#[cfg(test)]
+mod outputs;
 #[cfg(test)]
 mod parse;
 #[cfg(test)]
@@ -18,6 +26,8 @@ mod scripts;
 #[cfg(test)]
 mod sim;
 #[cfg(test)]
-mod text;
+mod tasks;
 #[cfg(test)]
-mod writing;
+mod traces;
+#[cfg(test)]
+mod words;

@@ -144,115 +144,6 @@ fn commands(rt: HostRuntime) -> Result<(), Fail> {
     Ok(())
 }
 
-/// Faults, and lines of a script that is simulated on one queue which have them.
-static FAULTS: &[(FaultKind, &str)] = &[
-    (
-        FaultKind::BadByte,
-        "pub o/k\t\"a\"\n\
-         fly \"\x7f",
-    ),
-    (
-        FaultKind::BadText,
-        "pub o/k \"a\n\
-         pub o/k \"a\\\n\
-         pub o/k \"a\\x\"\n\
-         pub o/k a\"b\"\n\
-         pub o/k \"a\"b\n\
-         pub o/k \"a\"\"b\"",
-    ),
-    (
-        FaultKind::BadCommand,
-        "fly\n\x20# pub\n\
-         \"pub\"\n\
-         Pub o/k\n\
-         sub o/k g/x later\n\
-         sub o/k g/x latest 7.2\n\
-         sub o/k g/x from\n\
-         upp 0",
-    ),
-    (
-        FaultKind::NotInSim,
-        "up 1\n\
-         down\n\
-         up \"x\" 99",
-    ),
-    (
-        FaultKind::WordCount,
-        "pub\n\
-         pub \"a\"\n\
-         pub o!k a\n\
-         sub o/k g/x\n\
-         pull 0 0 \"32\"\n\
-         pull 0 0\n\
-         begin 0 g/x 1 1",
-    ),
-    (
-        FaultKind::BadName,
-        "pub o/k! \"b\"\n\
-         pub ok \"b\"\n\
-         pub o/k/l \"b\"\n\
-         sub o/k gx later\n\
-         deliver 0 01\n\
-         deliver 0 0:1:2\n\
-         deliver 0 0:k@o\n\
-         deliver 0 0:k@o/k@l",
-    ),
-    (
-        FaultKind::BadNumber,
-        "pull 0 00 32\n\
-         pull 0 0 4294967296\n\
-         pull 4294967296 0 32\n\
-         pull 0 18446744073709551616 32\n\
-         deliver 0 0:0\n\
-         deliver 0 0:01",
-    ),
-    (FaultKind::BadToken, "sub o/k g/x from 7.02"),
-    (
-        FaultKind::NoQueue,
-        "deliver 0 1:1\n\
-         deliver 0 1:0\n\
-         pull 1 x 32",
-    ),
-];
-
-/// Faults, and lines of a script that is simulated on two queues which have them.
-static FAULTS_OF_TWO: &[(FaultKind, &str)] = &[
-    (
-        FaultKind::WordCount,
-        "unsub\n\
-         unsub 0:1 0:2\n\
-         rule g\n\
-         quiet 0\n\
-         drain x\n\
-         report 0\n\
-         ready\n\
-         due 0 0:1 0:2\n\
-         move 0 \"1\"",
-    ),
-    (
-        FaultKind::NoQueue,
-        "unsub 2:0\n\
-         move 2 16\n\
-         due 1 0:0\n\
-         due 1 2:0",
-    ),
-    (
-        FaultKind::BadNumber,
-        "move 0 16\n\
-         purge 0 0 4294967296\n\
-         retry x 0\n\
-         due 1 1:0",
-    ),
-    (
-        FaultKind::BadName,
-        "due 1 0:1:1\n\
-         ack 0 0:k@o x\n\
-         deactivate 0 gx\n\
-         rule g o!",
-    ),
-    (FaultKind::BadToken, "ack 0 0:1 7"),
-];
-
 /// Faults, and lines of a script that is run which have them.
 static RUN_FAULTS: &[(FaultKind, &str)] = &[
     (
@@ -276,52 +167,19 @@ static RUN_FAULTS: &[(FaultKind, &str)] = &[
     ),
 ];
 
-/// Whether a line has such a fault in a script on so many queues.
-fn is_faulty(
-    alloc: Global,
-    line: &str,
-    queues: usize,
-    mode: Mode,
-    kind: FaultKind,
-) -> Result<bool, AllocError> {
-    if queues == 0 {
-        return Ok(false);
-    }
-    let parsed = parse_line(alloc, line.as_bytes(), 7, queues, mode)?;
+/// Whether a line of a script that is run on one queue has such a fault.
+fn is_faulty(alloc: Global, line: &str, kind: FaultKind) -> Result<bool, AllocError> {
+    let parsed = parse_line(alloc, line.as_bytes(), 7, 1, Mode::Run)?;
     Ok(is_fault(&parsed, kind))
 }
 
-fn check_lines(
-    rt: &impl Abort,
-    alloc: Global,
-    queues: usize,
-    mode: Mode,
-    (kind, lines): &(FaultKind, &str),
-) -> Result<(), AllocError> {
-    for line in lines.lines() {
-        assert_line(rt, line, is_faulty(alloc, line, queues, mode, *kind)?);
-    }
-    Ok(())
-}
-
-fn check_faults(
-    rt: &impl Abort,
-    alloc: Global,
-    queues: usize,
-    mode: Mode,
-    rows: &[(FaultKind, &str)],
-) -> Result<(), AllocError> {
-    for row in rows {
-        check_lines(rt, alloc, queues, mode, row)?;
-    }
-    Ok(())
-}
-
 #[test]
-fn faults(rt: HostRuntime) -> Result<(), Fail> {
-    check_faults(&rt, rt.alloc(), 1, Mode::Sim, FAULTS)?;
-    check_faults(&rt, rt.alloc(), 2, Mode::Sim, FAULTS_OF_TWO)?;
-    check_faults(&rt, rt.alloc(), 1, Mode::Run, RUN_FAULTS)?;
+fn faults_of_a_run(rt: HostRuntime) -> Result<(), Fail> {
+    for (kind, lines) in RUN_FAULTS {
+        for line in lines.lines() {
+            assert_line(&rt, line, is_faulty(rt.alloc(), line, *kind)?);
+        }
+    }
     Ok(())
 }
 
@@ -331,22 +189,4 @@ fn is_fault(parsed: &Parsed, kind: FaultKind) -> bool {
         Parsed::Fault(fault) => *fault == Fault { line: 7, kind },
         _ => false,
     }
-}
-
-/// Whether the line whose text has so many quotes has a faulty text.
-fn is_too_long(alloc: Global, len: usize) -> Result<bool, AllocError> {
-    let mut line = Vec::from_slice(alloc, b"pub o/k \"")?;
-    for _ in 0..len {
-        line.extend_from_slice(b"\\\"")?;
-    }
-    line.push(b'"')?;
-    let parsed = parse_line(alloc, &line, 7, 1, Mode::Sim)?;
-    Ok(is_fault(&parsed, FaultKind::BadText))
-}
-
-#[test]
-fn long_texts(rt: HostRuntime) -> Result<(), Fail> {
-    assert!(rt; !is_too_long(rt.alloc(), 256)?);
-    assert!(rt; is_too_long(rt.alloc(), 257)?);
-    Ok(())
 }

@@ -1,5 +1,7 @@
 //! What no clause says of the simulator: that it succeeds, what whole scripts print, and what a failing
 //! reader or writer leads to.
+ghost use Rattle.std.specs.Prelude.{◌≤◌};
+ghost use Rattle.stream_script.specs.Bounds.{AreLimits};
 ghost use Rattle.stream_script.specs.Simulation.{IsSimConfig};
 
 use crate::rows::assert_at;
@@ -69,13 +71,15 @@ impl<W: Write> Write for Flaky<W> {
     }
 }
 
-fn one_queue() -> SimConfig
+/// One queue with these limits.
+fn one_queue(limits: Limits) -> SimConfig
+    requires { AreLimits limits }
     ensures { IsSimConfig result }
 {
     SimConfig {
         queues: 1,
         blocks: 2,
-        limits: Limits::GREATEST,
+        limits,
     }
 }
 
@@ -103,7 +107,7 @@ fn simulate_over(alloc: Global, script: &[u8], reads: Calls, writes: Calls) -> E
         inner: Vec::new(alloc),
         calls: writes,
     });
-    let outcome = sim(alloc, one_queue(), &mut source, &mut sink);
+    let outcome = sim(alloc, one_queue(Limits::GREATEST), &mut source, &mut sink);
     End {
         outcome,
         reads: source.failures(),
@@ -113,17 +117,12 @@ fn simulate_over(alloc: Global, script: &[u8], reads: Calls, writes: Calls) -> E
 }
 
 /// Whether a script ends so, and writes these replies.
-pub(crate) fn does(
-    alloc: Global,
-    script: &[u8],
-    outcome: &Result<(), SimError>,
-    replies: &[u8],
-) -> bool {
+fn does(alloc: Global, script: &[u8], outcome: &Result<(), SimError>, replies: &[u8]) -> bool {
     let end = simulate_over(alloc, script, SOUND, SOUND);
     end.outcome == *outcome && end.text.as_slice() == replies
 }
 
-pub(crate) fn faulty(line: usize, kind: FaultKind) -> Result<(), SimError> {
+fn faulty(line: usize, kind: FaultKind) -> Result<(), SimError> {
     Err(SimError::ScriptFault(Fault { line, kind }))
 }
 
@@ -133,40 +132,40 @@ const SCRIPT: &[u8] =
 const REPLIES: &[u8] =
     b"0 subscribed 1\n0 published 0\n0 pulled 1 low 0.0 high 1.0\n0 delivered 0.0\n0 turn 1 sub 1 activation 1 event 0.0 \"a\" note 0\n0 committed 1 0.0\n";
 
-/// Scripts, how they end, and what they write.
-static SCRIPTS: &[(&[u8], Result<(), SimError>, &[u8])] = &[
-    (b"", Ok(()), b""),
-    (SCRIPT, Ok(()), REPLIES),
-    // comments, returns, and a last line without a feed
-    (
-        b"# none\n\n  \r\npub o/k \"\" \"\\\\\"\r\npull 0 0 1",
-        Ok(()),
-        b"0 published 0\n0 pulled 1 low 0.0 high 0.1\n",
-    ),
-    // a fault ends the script
-    (
-        b"nonsense\npull 0 0 1\n",
-        Err(SimError::ScriptFault(Fault {
-            line: 1,
-            kind: FaultKind::BadCommand,
-        })),
-        b"",
-    ),
-    (
-        b"pull 0 0 1\npull 1 0 1\npull 0 0 1\n",
-        Err(SimError::ScriptFault(Fault {
-            line: 2,
-            kind: FaultKind::NoQueue,
-        })),
-        b"0 dry\n",
-    ),
-];
+/// A script for which the log has room for two events, and its replies.
+const LIMITED: &[u8] =
+    b"pub o/k \"a\" \"b\" \"c\"\npub o/k\npub o/k \"a\" \"b\"\npub o/k \"c\"\nsub o/k g/x from 0.0\nsub o/k g/x from 0.0\nrule log o\nrule log o\nrule log p\npull 0 0 32\ndeliver 0 0:1\nbegin 0 g/x\nmove 0 1\ndrain\nquiet\n";
+
+const LIMITED_REPLIES: &[u8] =
+    b"0 queue-full\n0 bad-batch\n0 published 0\n0 queue-full\n0 subscribed 1\n0 too-many\n0 rule-added 1\n0 rule-there\n0 too-many\n0 pulled 2 low 0.0 high 1.0\n0 delivered 0.0\n0 spent\n0 spent\n0 spent\n0 deliverable 1\n";
+
+/// A script for which there is room for one subscription, and its replies.
+const LIMITED_IMPLICIT: &[u8] =
+    b"sub o/k g/x latest\nrule log o\npub o/a \"a\"\npull 0 0 32\ndrain\nquiet\n";
+
+const LIMITED_IMPLICIT_REPLIES: &[u8] =
+    b"0 subscribed 1\n0 rule-added 0\n0 published 0\n0 too-many\n0 too-many\n0 behind\n";
+
+/// Whether a script gives these replies where there may be so many events, and one subscription, rule and rise.
+fn gives(alloc: Global, events: usize, script: &[u8], replies: &[u8]) -> bool
+    requires { events ≤ 9 }
+{
+    let limits = Limits {
+        events,
+        subs: 1,
+        rules: 1,
+        rises: 1,
+    };
+    let mut source = Counted::new(script);
+    let mut sink = Counted::new(Vec::new(alloc));
+    let outcome = sim(alloc, one_queue(limits), &mut source, &mut sink);
+    outcome.is_ok() && sink.into_inner().as_slice() == replies
+}
 
 #[test]
-fn scripts_are_done_line_by_line(rt: HostRuntime) {
-    for (row, (script, outcome, replies)) in SCRIPTS.iter().enumerate() {
-        assert_at(&rt, row, does(rt.alloc(), script, outcome, replies));
-    }
+fn limits_are_reached(rt: HostRuntime) {
+    assert!(rt; gives(rt.alloc(), 2, LIMITED, LIMITED_REPLIES));
+    assert!(rt; gives(rt.alloc(), 9, LIMITED_IMPLICIT, LIMITED_IMPLICIT_REPLIES));
 }
 
 #[test]

@@ -1,5 +1,7 @@
 //! Runs the example scripts, and says of each whether it gives the replies that stand beside it, and of the one that is
-//! run on silos also whether its trace gives the same replies when it is simulated.
+//! run on silos also whether its trace gives the same replies when it is simulated. Of the worked examples, which have
+//! their replies in comments, it says how many of each file give them. Then it goes to the limits: 10,000 subscriptions
+//! and grains, a cache of 64 blocks, a log of 10,048 events, 64 queues, a turn of sixteen, 256 queues for the balancer.
 #![tactic(auto)]
 
 ghost use Rattle.std.specs.Prelude.{◌≤◌, IfOk};
@@ -10,6 +12,9 @@ ghost use Rattle.shared_partition.specs.Partitions.{after, replied};
 ghost use Rattle.cluster_scripts.specs.Runs.{AreLegal, LeavesLegalTraces};
 ghost use Rattle.stream_cluster.specs.Clusters.{IsConfig};
 ghost use Rattle.stream_script.specs.Simulation.{IsSimConfig};
+
+mod balancing;
+mod limits;
 
 use activation_directory::{DirectoryOp, DirectoryReply};
 use cluster_ending::Traces;
@@ -29,6 +34,17 @@ use stream_script::{Counted, SimConfig, read_script, sim};
 use trace_printer::queue_trace;
 use turnstile::{AskedHistory, ProofHistory, StoredHistory};
 
+/// Files of worked examples, how many queues they have and how many blocks the cache of each, and how many of the examples
+/// don't give their replies then. Those of a cache of one block show in a larger one that a difference is seen.
+static WORKED: [(&str, usize, usize, u64); 6] = [
+    ("one_block", 1, 1, 0),
+    ("one_block", 1, 4, 4),
+    ("two_blocks", 1, 2, 0),
+    ("four_blocks", 1, 4, 0),
+    ("two_queues", 2, 4, 0),
+    ("faulty_lines", 1, 4, 0),
+];
+
 /// Status 0 where each example gives its replies.
 fn main(rt: HostRuntime) -> anyhow::Result<ExitCode> {
     let mut all = true;
@@ -38,6 +54,12 @@ fn main(rt: HostRuntime) -> anyhow::Result<ExitCode> {
     all &= differs(&rt, "device_readings", sim_config(1, 4))?;
     all &= runs(&rt, "auctions", &run_config(2, 4, u64::MAX))?;
     all &= repeats(&rt, "auctions", &run_config(2, 4, 100_000))?;
+    for (name, queues, blocks, wrong) in &WORKED {
+        let config = sim_config((*queues).max(1).min(64), (*blocks).max(1).min(64));
+        all &= works(&rt, name, config, *wrong)?;
+    }
+    limits::print_all(&rt, rt.alloc())?;
+    balancing::print(&rt, rt.alloc())?;
     Ok(if all {
         ExitCode::SUCCESS
     } else {
@@ -112,6 +134,59 @@ fn simulated(rt: &HostRuntime, name: &str, config: SimConfig) -> anyhow::Result<
     let mut sink = Counted::new(Vec::new(alloc));
     sim(alloc, config, &mut source, &mut sink)?;
     Ok(sink.into_inner())
+}
+
+/// Whether so many examples of a file don't give the replies in their comments. How many do is printed.
+fn works<R: Files + Print + AllocGlobal>(
+    rt: &R,
+    name: &str,
+    config: SimConfig,
+    wrong: u64,
+) -> anyhow::Result<bool>
+    requires { IsSimConfig config }
+{
+    let text = fs::read(rt, format!(in rt.alloc(); "worked/{name}.script")?)?;
+    let (examples, others) = count_worked(rt.alloc(), &text, config)?;
+    let blocks = config.blocks;
+    println!(rt; "{name}, blocks {blocks}: {examples} as expected, {others} not")?;
+    Ok(examples > 0 && others == wrong)
+}
+
+/// How many examples of a text give the replies in their comments, and how many don't. An example ends at an empty line.
+fn count_worked(alloc: Global, text: &[u8], config: SimConfig) -> anyhow::Result<(u64, u64)>
+    requires { IsSimConfig config }
+{
+    let mut worked = 0u64;
+    let mut others = 0u64;
+    let mut example = Vec::new(alloc);
+    for line in text.split(|byte| *byte == b'\n') {
+        if !line.is_empty() {
+            example.extend_from_slice(line)?;
+            example.push(b'\n')?;
+        } else if !example.is_empty() {
+            if is_worked(alloc, &example, config)? {
+                worked = worked.saturating_add(1);
+            } else {
+                others = others.saturating_add(1);
+            }
+            example.clear();
+        }
+    }
+    Ok((worked, others))
+}
+
+/// Whether an example gives the replies in its comments, behind which stands the fault that it ends with.
+fn is_worked(alloc: Global, example: &[u8], config: SimConfig) -> Result<bool, AllocError>
+    requires { IsSimConfig config }
+{
+    let mut source = Counted::new(example);
+    let mut sink = Counted::new(Vec::new(alloc));
+    let ended = sim(alloc, config, &mut source, &mut sink);
+    let mut printed = sink.into_inner();
+    if let Err(fault) = ended {
+        printed.extend_from_slice(format!(in alloc; "{fault}\n")?.as_bytes())?;
+    }
+    Ok(printed.as_slice() == lines_behind(alloc, example, b"# ")?.as_slice())
 }
 
 /// Whether an example that is run on silos gives its replies, which is also printed.

@@ -1,1 +1,5 @@
+pub mod Again
+pub mod Joining
+pub mod OpPieces
+pub mod Printable
 pub mod Printing

@@ -6,7 +6,7 @@ use Rattle.stream_model.specs.declared.op.Op.{Op}
 use Rattle.stream_model.specs.declared.reply.Reply.{Reply}
 use Rattle.turnstile.specs.declared.history.Entry.{Entry}
 use Rattle.script_printer.specs.Replies.{reply_line}
-use Rattle.script_writer.specs.OpLine.{op_line}
+use Rattle.trace_printer.specs.OpLine.{op_line}
 
 -- a call: the line that asks for it, and the line of its reply in a comment
 abbrev pub call_text : ℕ → Op → Reply → List ℕ

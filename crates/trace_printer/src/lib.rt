@@ -1,9 +1,13 @@
 //! What was done at a queue as a script, which a simulation does again on one thread.
 //!
 //! [`queue_trace`] writes each call of a history as the line that asks for it, and its reply in a comment behind it.
-//! Simulated, the script gives just these replies at its queue.
+//! Simulated, the script gives just these replies at its queue. [`write_op`] writes the line of one operation.
 #![tactic(auto)]
 
+mod fields;
+pub mod laws;
 mod trace;
+mod write;
 
 pub use trace::queue_trace;
+pub use write::write_op;

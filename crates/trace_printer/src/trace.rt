@@ -5,9 +5,9 @@ ghost use Rattle.turnstile.specs.History.{IsLegal};
 ghost use Rattle.shared_partition.specs.Partitions.{after, replied};
 ghost use Rattle.trace_printer.specs.Traces.{call_text, heading, trace_text};
 
+use crate::write::write_op;
 use itoa::Buffer;
 use script_printer::reply_line;
-use script_writer::write_op;
 use std::alloc::{AllocError, Global};
 use step_core::Partition;
 use stream_model::{Op, Reply};

@@ -1,4 +1,0 @@
-pub mod Again
-pub mod Joining
-pub mod OpPieces
-pub mod Printable

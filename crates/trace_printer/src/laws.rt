@@ -1,0 +1,16 @@
+//! What holds of the line of an operation.
+//!
+//! Each function has no parameter and no effect: its contract is the law, which its proof shows of the
+//! definitions alone.
+ghost use Rattle.trace_printer.specs.OpLine.{ReadsAgain, LinesArePrintable};
+
+/// Where the grammar of scripts has an operation's command, its line is read as that command: the operation on
+/// its queue, or for a rule and for the question whether all is quiet the operation on each queue.
+pub fn reads_again()
+    ensures { ReadsAgain }
+{}
+
+/// Each byte of such a line is printable, so that a line feed behind it ends the line and nothing else does.
+pub fn lines_are_printable()
+    ensures { LinesArePrintable }
+{}
