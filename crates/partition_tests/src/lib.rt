@@ -1,23 +1,15 @@
-//! Tests of a partition and its parts, through their public calls: names, the queue of a stream, the log, the cache
-//! with its agent and its cursor, searches of tags, keys and resumes, whose answers are compared with those of plain
-//! loops, the registry, subscriptions, mailboxes and turns, and a partition as a whole with its runs of operations, its
-//! drains, and each of its limits.
+//! Tests of a partition and its parts, through their public calls: names, the queue of a stream, the log, searches of
+//! tags, whose answers are compared with those of plain loops, the registry, subscriptions, mailboxes and turns, and a
+//! partition as a whole with its runs of operations, its drains, and each of its limits. What is asked of the other parts
+//! is asked through these; whole scripts are done by `stream_examples`.
 #![tactic(auto)]
 
 #[cfg(test)]
 mod activations;
 #[cfg(test)]
-mod agent;
-#[cfg(test)]
-mod cache;
-#[cfg(test)]
-mod cursor;
-#[cfg(test)]
 mod grains;
 #[cfg(test)]
 mod identities;
-#[cfg(test)]
-mod least_keys;
 #[cfg(test)]
 mod log;
 #[cfg(test)]
@@ -33,11 +25,7 @@ mod random;
 #[cfg(test)]
 mod registry;
 #[cfg(test)]
-mod resumes;
-#[cfg(test)]
 mod rows;
-#[cfg(test)]
-mod sub_states;
 #[cfg(test)]
 mod subscriptions;
 #[cfg(test)]

@@ -10,9 +10,6 @@ use stream_ident::Batch;
 /// The payloads of a batch.
 static BYTES: [u8; 64] = *b" !\"#$%&'()*+,-./0123456789:;<=>?@ABCDEFGHIJKLMNOPQRSTUVWXYZ[\\]^_";
 
-/// The keys of ten streams.
-static KEYS: [u8; 10] = *b"0123456789";
-
 /// A batch of so many payloads of one byte each, of which no two of the first 64 are equal.
 pub(crate) fn batch<R: Abort>(rt: &R, alloc: Global, count: usize) -> Result<Batch, AllocError> {
     let mut payloads = Vec::with_capacity(alloc, count)?;
@@ -64,19 +61,6 @@ impl Log {
         let mut log = Log::new(rt, alloc, 256)?;
         for (key, count) in batches {
             log.insist(rt, alloc, *key, *count)?;
-        }
-        Ok(log)
-    }
-
-    /// A log of so many batches of one event each, which go to ten streams in turn.
-    pub(crate) fn in_turn<R: Abort>(
-        rt: &R,
-        alloc: Global,
-        count: usize,
-    ) -> Result<Log, AllocError> {
-        let mut log = Log::new(rt, alloc, count)?;
-        for number in 0..count {
-            log.insist(rt, alloc, KEYS[number % 10], 1)?;
         }
         Ok(log)
     }

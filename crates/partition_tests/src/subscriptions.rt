@@ -4,7 +4,6 @@ ghost use Rattle.std.specs.Prelude.{◌≡◌, ◌<◌, ◌≤◌, ◌↔◌, Al
 use crate::log::Log;
 use crate::names::{Sub, grain, name, stream, sub_name};
 use crate::rows::{Asked, Twin, ask, ask_both};
-use crate::sub_states::are_alike;
 use consumer_grain::SubState;
 use pubsub_registry::{Added, Closing, Implied, Registration, RuleAdded};
 use queue_cache::QueueCache;
@@ -308,6 +307,17 @@ impl Asked for Counted {
             _ => is_seen(rt, &self.table, call),
         })
     }
+}
+
+/// Whether what is seen of two states is equal.
+fn are_alike(one: &SubState, other: &SubState) -> bool {
+    one.note() == other.note()
+        && one.past() == other.past()
+        && one.resume() == other.resume()
+        && one.cursor() == other.cursor()
+        && one.start() == other.start()
+        && one.is_open() == other.is_open()
+        && one.handled() == other.handled()
 }
 
 /// Whether what two tables tell of a number is equal.
