@@ -2,7 +2,6 @@
 ghost use Rattle.std.specs.Prelude.{◌<◌};
 
 use crate::heard::Heard;
-use crate::memory::Memory;
 use crate::names::Names;
 use rand::rngs::SmallRng;
 use rand::{RngExt, SeedableRng};
@@ -92,13 +91,13 @@ impl Draws {
     }
 
     /// A batch of 0 to 5 payloads, and now and then one of up to 69.
-    fn publication(&mut self, memory: Memory) -> Result<Op, AllocError> {
+    fn publication(&mut self, alloc: Global) -> Result<Op, AllocError> {
         let count = match self.below(12) {
             0 => self.below(70),
             _ => self.below(6),
         };
         let stream = self.stream();
-        let payloads = batch(memory, &self.names.payloads, count)?;
+        let payloads = batch(alloc, &self.names.payloads, count)?;
         Ok(Op::Publish { stream, payloads })
     }
 
@@ -209,12 +208,12 @@ impl Draws {
     /// The call failed to allocate.
     pub fn operation(
         &mut self,
-        memory: Memory,
+        alloc: Global,
         heard: &Heard,
         idle: Idle,
     ) -> Result<Op, AllocError> {
         match (self.below(20), idle) {
-            (0 | 1, Idle::Nobody | Idle::Workers) => self.publication(memory),
+            (0 | 1, Idle::Nobody | Idle::Workers) => self.publication(alloc),
             (2, Idle::Nobody | Idle::Workers) => Ok(self.subscriber(heard)),
             (3, _) => Ok(self.operator(heard)),
             (4..=10, Idle::Nobody | Idle::Producers) => Ok(self.worker(heard)),
@@ -224,14 +223,7 @@ impl Draws {
 }
 
 /// A batch of so many payloads, which take turns.
-fn batch(memory: Memory, payloads: &[Payload; 3], count: u32) -> Result<Batch, AllocError> {
-    match batch_once(memory.alloc, payloads, count) {
-        Err(_) if memory.retries => batch_once(memory.alloc, payloads, count),
-        batch => batch,
-    }
-}
-
-fn batch_once(alloc: Global, payloads: &[Payload; 3], count: u32) -> Result<Batch, AllocError> {
+fn batch(alloc: Global, payloads: &[Payload; 3], count: u32) -> Result<Batch, AllocError> {
     let mut batch = Vec::new(alloc);
     for place in 0..count {
         batch.push(payloads[place as usize % 3])?;

@@ -13,7 +13,7 @@ pub enum Fault {
     Different(String),
     /// A partition that differs was taken for the same.
     Untold,
-    /// A call failed to allocate, twice where that was meant.
+    /// A call failed to allocate.
     Memory,
     /// The output couldn't be written.
     Write,
@@ -31,8 +31,7 @@ impl Fault {
 
     fn text(&self) -> &str {
         match self {
-            Fault::CommandLine =>
-                "partition_comparison [RUNS [ROUNDS [SEED [retry]]]], three numbers",
+            Fault::CommandLine => "partition_comparison [RUNS [ROUNDS [SEED]]], three numbers",
             Fault::Different(text) => text.as_str(),
             Fault::Untold => "a partition with more blocks was taken for the same",
             Fault::Memory => "out of memory",

@@ -5,12 +5,11 @@ ghost use Rattle.stream_model.specs.Bounds.{AreLimits};
 use crate::draws::{Draws, Idle};
 use crate::fault::Fault;
 use crate::heard::Heard;
-use crate::memory::Memory;
 use crate::names::Names;
 use crate::options::Plan;
 use crate::side_by_side::SideBySide;
 use crate::tally::Tally;
-use std::alloc::AllocError;
+use std::alloc::{AllocError, Global};
 use step_core::{DrainEnd, Limits, Op, Reply};
 
 /// How many operations a round has.
@@ -23,22 +22,22 @@ const DRAINS: usize = 5;
 ///
 /// # Errors
 /// There is a difference, or the call failed to allocate.
-pub fn compare(memory: Memory, plan: Plan) -> Result<Tally, Fault> {
-    let mut tally = Tally::new(memory)?;
-    see_difference(memory)?;
+pub fn compare(alloc: Global, plan: Plan) -> Result<Tally, Fault> {
+    let mut tally = Tally::new(alloc)?;
+    see_difference(alloc)?;
     for run in 0..plan.runs {
         let seed = plan.seed.wrapping_add(run);
         let rounds = plan.rounds;
-        compare_history(memory, Like { seed, more: 0 }, rounds, &mut tally)?;
+        compare_history(alloc, Like { seed, more: 0 }, rounds, &mut tally)?;
     }
     Ok(tally)
 }
 
 /// Sees that a difference is told: a short history beside a plain program with a block more has to end with
 /// one.
-fn see_difference(memory: Memory) -> Result<(), Fault> {
-    let mut tally = Tally::new(memory)?;
-    match compare_history(memory, Like { seed: 3, more: 1 }, 64, &mut tally) {
+fn see_difference(alloc: Global) -> Result<(), Fault> {
+    let mut tally = Tally::new(alloc)?;
+    match compare_history(alloc, Like { seed: 3, more: 1 }, 64, &mut tally) {
         Err(Fault::Different(_)) => Ok(()),
         Err(fault) => Err(fault),
         Ok(()) => Err(Fault::Untold),
@@ -53,16 +52,16 @@ struct Like {
 }
 
 /// Compares the history of a seed.
-fn compare_history(memory: Memory, like: Like, rounds: u64, tally: &mut Tally) -> Result<(), Fault>
+fn compare_history(alloc: Global, like: Like, rounds: u64, tally: &mut Tally) -> Result<(), Fault>
     requires { like.more ≤ 1 }
 {
     let seed = like.seed;
     let names = Names::new()?;
-    let both = SideBySide::new(memory, seed, blocks(seed), like.more, limits(seed))?;
+    let both = SideBySide::new(alloc, seed, blocks(seed), like.more, limits(seed))?;
     let heard = Heard::nothing(&names.grains[0]);
     let draws = Draws::new(seed, names);
     let mut history = History {
-        memory,
+        alloc,
         both,
         heard,
         draws,
@@ -72,7 +71,7 @@ fn compare_history(memory: Memory, like: Like, rounds: u64, tally: &mut Tally) -
 
 /// A history that is made.
 struct History {
-    memory: Memory,
+    alloc: Global,
     both: SideBySide,
     heard: Heard,
     draws: Draws,
@@ -81,7 +80,7 @@ struct History {
 impl Drop for History {
     fn drop(self) {
         let Self {
-            memory: _,
+            alloc: _,
             both: _,
             heard: _,
             draws: _,
@@ -104,7 +103,7 @@ impl History {
             return self.run_round(idle(round), tally);
         }
         for _ in 0..ROUND {
-            let op = self.draws.operation(self.memory, &self.heard, idle(round))?;
+            let op = self.draws.operation(self.alloc, &self.heard, idle(round))?;
             self.step(&op, tally)?;
         }
         Ok(())
@@ -112,48 +111,28 @@ impl History {
 
     /// One operation.
     fn step(&mut self, op: &Op, tally: &mut Tally) -> Result<(), Fault> {
-        let reply = self.both.step(op, tally)?;
+        let reply = self.both.step(op)?;
         self.note(op, &reply, tally);
         Ok(())
     }
 
-    /// Does the operations of a round at once. Where that fails to allocate, the first of them are done, and
-    /// the others are done after it.
+    /// Does the operations of a round at once.
     fn run_round(&mut self, idle: Idle, tally: &mut Tally) -> Result<(), Fault> {
         let ops = self.draw_round(idle)?;
-        let done = self.run(ops.as_slice(), tally)?;
-        match ops.as_slice().get(done..) {
-            Some(others) if !others.is_empty() => self.run_others(others, tally),
-            _ => Ok(()),
+        let replies = self.both.run(ops.as_slice())?;
+        for (op, reply) in ops.as_slice().iter().zip(replies.as_slice().iter()) {
+            self.note(op, reply, tally);
         }
-    }
-
-    /// Does those at once that a run left.
-    fn run_others(&mut self, others: &[Op], tally: &mut Tally) -> Result<(), Fault> {
-        if self.run(others, tally)? == others.len() {
-            Ok(())
-        } else {
-            Err(Fault::Memory)
-        }
+        Ok(())
     }
 
     /// The operations of a round, drawn one after another.
     fn draw_round(&mut self, idle: Idle) -> Result<Vec<Op>, AllocError> {
-        let memory = self.memory;
-        let mut ops = room(memory)?;
+        let mut ops = Vec::new(self.alloc);
         for _ in 0..ROUND {
-            ops.push(self.draws.operation(memory, &self.heard, idle)?)?;
+            ops.push(self.draws.operation(self.alloc, &self.heard, idle)?)?;
         }
         Ok(ops)
-    }
-
-    /// Does operations at once, and gives how many of them are done.
-    fn run(&mut self, ops: &[Op], tally: &mut Tally) -> Result<usize, Fault> {
-        let replies = self.both.run(ops, tally)?;
-        for (op, reply) in ops.iter().zip(replies.as_slice().iter()) {
-            self.note(op, reply, tally);
-        }
-        Ok(replies.len())
     }
 
     /// Hears and counts a reply.
@@ -166,7 +145,7 @@ impl History {
     fn end(&mut self, tally: &mut Tally) -> Result<(), Fault> {
         self.both.compare_looks()?;
         for _ in 0..DRAINS {
-            let end = self.both.drain(tally)?;
+            let end = self.both.drain()?;
             tally.count_end(&end);
             let DrainEnd::Stuck { grain } = end else {
                 return Ok(());
@@ -174,14 +153,6 @@ impl History {
             self.step(&Op::Deactivate { grain }, tally)?;
         }
         Ok(())
-    }
-}
-
-/// Room for the operations of a round.
-fn room(memory: Memory) -> Result<Vec<Op>, AllocError> {
-    match Vec::with_capacity(memory.alloc, ROUND) {
-        Err(_) if memory.retries => Vec::with_capacity(memory.alloc, ROUND),
-        room => room,
     }
 }
 

@@ -47,33 +47,6 @@ pub fn operation_kind(op: &Op) -> usize
     }
 }
 
-/// Whether an operation may fail to allocate.
-pub fn takes_memory(op: &Op) -> bool {
-    matches!(
-        op,
-        Op::Publish { .. }
-            | Op::Subscribe { .. }
-            | Op::AddRule { .. }
-            | Op::Pull { .. }
-            | Op::Deliver { .. }
-            | Op::Commit { .. }
-    )
-}
-
-/// Whether the partition keeps more after this reply than before, so that the operation may have failed to
-/// allocate.
-pub fn keeps_more(reply: &Reply) -> bool {
-    matches!(
-        reply,
-        Reply::Published { .. }
-            | Reply::Subscribed { .. }
-            | Reply::RuleAdded { .. }
-            | Reply::Pulled { .. }
-            | Reply::Delivered { .. }
-            | Reply::Committed { .. }
-    )
-}
-
 /// The names of the replies. Each reason why a partition isn't quiet has one of its own.
 pub static REPLIES: [&str; 42] = [
     "Published",

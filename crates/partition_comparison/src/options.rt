@@ -11,35 +11,21 @@ pub struct Plan {
     pub rounds: u64,
     /// The seed of the first: each has one more than that before.
     pub seed: u64,
-    /// Whether some call is meant to fail to allocate, and is then made once more.
-    pub retries: bool,
 }
 
-/// The plan that the words ask for: `RUNS`, `ROUNDS`, `SEED` and `retry`, of which the last ones may be left
-/// out.
+/// The plan that the words ask for: `RUNS`, `ROUNDS` and `SEED`, of which the last ones may be left out.
 ///
 /// # Errors
-/// More words, one that is no number, and another than `retry` behind the numbers.
+/// More words, and one that is no number.
 pub fn parse(words: &[String]) -> Result<Plan, Fault> {
-    let retries = is_retry(words.get(3))?;
-    if words.len() > 4 {
+    if words.len() > 3 {
         return Err(Fault::CommandLine);
     }
     Ok(Plan {
         runs: number(words.first(), 300)?,
         rounds: number(words.get(1), 128)?,
         seed: number(words.get(2), 0)?,
-        retries,
     })
-}
-
-/// Whether there is this word, which has to be `retry`.
-fn is_retry(word: Option<&String>) -> Result<bool, Fault> {
-    match word {
-        Some(word) if word.as_str() == "retry" => Ok(true),
-        Some(_) => Err(Fault::CommandLine),
-        None => Ok(false),
-    }
 }
 
 /// The number that a word says, or this one where there is no word.

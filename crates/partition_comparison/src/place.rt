@@ -1,14 +1,13 @@
 //! Places in a history, where a difference may be found.
 use crate::fault::Fault;
-use crate::memory::Memory;
-use std::alloc::AllocError;
+use std::alloc::{AllocError, Global};
 use std::fmt::Debug;
 
 /// A place in a history.
 #[derive(Clone, Copy)]
 pub struct Place {
     /// The allocator.
-    pub memory: Memory,
+    pub alloc: Global,
     /// The seed of the history.
     pub seed: u64,
     /// How many operations have been done.
@@ -24,24 +23,13 @@ impl Place {
         if found == expected {
             return Ok(());
         }
-        Err(self.difference(found, expected))
+        Err(Fault::Different(self.difference(found, expected)?))
     }
 
-    /// The fault that reports two values which should be the same, or a failure to allocate its text.
-    pub fn difference<F: Debug, E: Debug>(self, found: &F, expected: &E) -> Fault {
-        let told = match self.tell(found, expected) {
-            Err(_) if self.memory.retries => self.tell(found, expected),
-            told => told,
-        };
-        match told {
-            Ok(text) => Fault::Different(text),
-            Err(_) => Fault::Memory,
-        }
-    }
-
-    fn tell<F: Debug, E: Debug>(self, found: &F, expected: &E) -> Result<String, AllocError> {
-        let (alloc, seed, operation) = (self.memory.alloc, self.seed, self.operation);
-        format!(in alloc;
+    /// The text that tells of two values which should be the same.
+    fn difference<T: Debug>(self, found: &T, expected: &T) -> Result<String, AllocError> {
+        let (seed, operation) = (self.seed, self.operation);
+        format!(in self.alloc;
             "seed {seed}, operation {operation}: {found:?}, where {expected:?} was expected"
         )
     }

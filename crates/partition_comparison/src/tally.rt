@@ -1,18 +1,14 @@
 //! How often each operation had each reply.
 use crate::kinds::{ENDS, OPERATIONS, REPLIES, end_kind, operation_kind, reply_kind};
-use crate::memory::Memory;
 use std::alloc::{AllocError, Global};
 use std::io;
 use step_core::{DrainEnd, Op, Reply};
 
-/// How often each operation had each reply, and which of them failed to allocate.
+/// How often each operation had each reply, and each end of a drain came.
 pub struct Tally {
     /// The counts of the first operation's replies, then those of the next.
     replies: Vec<u64>,
     ends: Vec<u64>,
-    wants: Vec<u64>,
-    runs: u64,
-    drains: u64,
 }
 
 impl Drop for Tally {
@@ -20,9 +16,6 @@ impl Drop for Tally {
         let Self {
             replies: _,
             ends: _,
-            wants: _,
-            runs: _,
-            drains: _,
         } = self;
     }
 }
@@ -32,20 +25,10 @@ impl Tally {
     ///
     /// # Errors
     /// The call failed to allocate.
-    pub fn new(memory: Memory) -> Result<Tally, AllocError> {
-        match Tally::new_once(memory.alloc) {
-            Err(_) if memory.retries => Tally::new_once(memory.alloc),
-            tally => tally,
-        }
-    }
-
-    fn new_once(alloc: Global) -> Result<Tally, AllocError> {
+    pub fn new(alloc: Global) -> Result<Tally, AllocError> {
         Ok(Tally {
             replies: vec![in alloc; 0; OPERATIONS.len() * REPLIES.len()]?,
             ends: vec![in alloc; 0; ENDS.len()]?,
-            wants: vec![in alloc; 0; OPERATIONS.len()]?,
-            runs: 0,
-            drains: 0,
         })
     }
 
@@ -58,21 +41,6 @@ impl Tally {
     /// Counts the end of a drain.
     pub fn count_end(&mut self, end: &DrainEnd) {
         count_at(&mut self.ends, end_kind(end));
-    }
-
-    /// Counts an operation that failed to allocate.
-    pub fn want(&mut self, op: &Op) {
-        count_at(&mut self.wants, operation_kind(op));
-    }
-
-    /// Counts a run that failed to allocate.
-    pub fn want_run(&mut self) {
-        self.runs = self.runs.saturating_add(1);
-    }
-
-    /// Counts a drain that failed to allocate.
-    pub fn want_drain(&mut self) {
-        self.drains = self.drains.saturating_add(1);
     }
 
     /// How many operations were counted.
@@ -116,18 +84,6 @@ impl Tally {
         }
         print_counts(rt, "drain", ENDS.as_slice(), self.ends.as_slice())
     }
-
-    /// Prints what failed to allocate on standard error, since the output is the same as if nothing had.
-    ///
-    /// # Errors
-    /// The output couldn't be written.
-    pub fn tell_wants(&self, rt: &impl Eprint) -> io::Result<()> {
-        for (name, count) in OPERATIONS.iter().zip(self.wants.iter()) {
-            tell_want(rt, name, *count)?;
-        }
-        tell_want(rt, "a run", self.runs)?;
-        tell_want(rt, "a drain", self.drains)
-    }
 }
 
 /// Counts what has this place.
@@ -143,14 +99,6 @@ fn is_counted(counts: &[u64], place: usize) -> bool {
         Some(count) => *count > 0,
         None => false,
     }
-}
-
-/// Prints how often something failed to allocate, if it did.
-fn tell_want(rt: &impl Eprint, name: &str, count: u64) -> io::Result<()> {
-    if count == 0 {
-        return Ok(());
-    }
-    eprintln!(rt; "{name} failed to allocate, so often: {count}")
 }
 
 /// Prints a line: a name, and behind it what came, with the counts.

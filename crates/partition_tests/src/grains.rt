@@ -1,12 +1,57 @@
-use crate::activations::{Began, are_alike, is_begun};
 use crate::names::grain;
 use crate::rows::{Asked, Twin, ask, ask_both};
-use consumer_grain::{Delivery, Offered};
+use consumer_grain::{Activation, Begun, Delivery, Offered};
 use grain_table::GrainTable;
 use std::alloc::{AllocError, Global};
 use std::process::Abort;
 use std::test::Fail;
 use stream_ident::GrainId;
+
+/// What becomes of a turn that shall begin.
+pub(crate) enum Began {
+    /// The turn has these positions of a subscription.
+    Turn(usize, &'static [usize]),
+    /// The delivery of a position to a subscription is a repeat.
+    Dropped(usize, usize),
+    Spent,
+    Busy,
+    Empty,
+}
+
+fn is_turn(sub: usize, positions: &[usize], wanted: &Began) -> bool {
+    match wanted {
+        Began::Turn(of, these) => sub == *of && positions == *these,
+        _ => false,
+    }
+}
+
+fn is_dropped(delivery: &Delivery, wanted: &Began) -> bool {
+    match wanted {
+        Began::Dropped(sub, position) => delivery.sub == *sub && delivery.position == *position,
+        _ => false,
+    }
+}
+
+/// Whether this became of a turn that should begin.
+fn is_begun(begun: &Begun, wanted: &Began) -> bool {
+    match begun {
+        Begun::Turn { sub, positions } => is_turn(*sub, positions.as_slice(), wanted),
+        Begun::Dropped(delivery) => is_dropped(delivery, wanted),
+        Begun::Spent => matches!(wanted, Began::Spent),
+        Begun::Busy => matches!(wanted, Began::Busy),
+        Begun::Empty => matches!(wanted, Began::Empty),
+    }
+}
+
+/// Whether what is seen of two grains is equal.
+fn are_alike(one: &Activation, other: &Activation) -> bool {
+    one.number() == other.number()
+        && one.is_active() == other.is_active()
+        && one.waiting() == other.waiting()
+        && one.front() == other.front()
+        && one.subs() == other.subs()
+        && one.running().is_some() == other.running().is_some()
+}
 
 /// What is asked of a table, and what it has to answer. A grain is named by its number, or by the byte that is its key.
 pub(crate) enum Call {

@@ -5,8 +5,6 @@
 #![tactic(auto)]
 
 #[cfg(test)]
-mod activations;
-#[cfg(test)]
 mod grains;
 #[cfg(test)]
 mod identities;
