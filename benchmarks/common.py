@@ -1,4 +1,4 @@
-"""What both servers are measured with: a load, a server of its own for each run, and two clients."""
+"""What both servers are measured with: a load, a server of its own for each run, and two clients; and a table."""
 import multiprocessing
 import os
 import shutil
@@ -157,3 +157,12 @@ def measure(server, produce, consume, load):
     clients = consumer.end()
     seconds, spent = time.monotonic() - start, server.processor() - before
     return Run(seconds, spent, clients + producer.end())
+
+
+def print_table(head, rows):
+    """A table, as Markdown."""
+    print("| " + " | ".join(head) + " |")
+    print("|" + "---|" * len(head))
+    for row in rows:
+        print("| " + " | ".join(row) + " |")
+    print()

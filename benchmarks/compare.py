@@ -18,7 +18,7 @@ from dataclasses import dataclass
 import chart
 import nats_jetstream
 import redis_streams
-from common import Load, Run
+from common import Load, Run, print_table
 
 TURNS = 5
 CHART = os.path.join(os.path.dirname(os.path.abspath(__file__)), "..", "docs", "benchmarks.svg")
@@ -132,14 +132,6 @@ def rows_of(load, runs):
 HEAD = [
     "Way", "Events a second", "Least to most", "To Redis", "To JetStream", "Processor µs an event", "Its clients' µs",
 ]  # fmt: skip
-
-
-def print_table(head, rows):
-    print("| " + " | ".join(head) + " |")
-    print("|" + "---|" * len(head))
-    for row in rows:
-        print("| " + " | ".join(row) + " |")
-    print()
 
 
 def first_line(*words):

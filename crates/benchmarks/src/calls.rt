@@ -1,5 +1,5 @@
 //! Measures a call of a shared partition: how many times as long it takes as the same operation on a partition that
-//! nobody shares, and how much memory it takes.
+//! nobody shares.
 mod asking;
 mod seat;
 mod ways;
@@ -8,21 +8,16 @@ use crate::calls::asking::{Asking, askings};
 use crate::calls::ways::{Told, agree, alone, shared};
 use anyhow::{Result, ensure};
 use std::alloc::Global;
-use std::mem::size_of;
 use std::rt::Clock;
 use std::sync::Wait;
 use std::thread::Threads;
-use stream_ident::Payload;
 use stream_model::{Op, Reply};
-use turnstile::{Asked, AskedHistory, Entry, PlainHistory, ProofHistory, StoredHistory};
+use turnstile::{AskedHistory, ProofHistory, StoredHistory};
 
-/// A history that stores every call with its reply.
-type WithReplies = PlainHistory<Op, Reply>;
-
-/// One that stores every call without its reply.
+/// A history that stores what was asked, as that of a trace.
 type WithoutReplies = AskedHistory<Op, Reply>;
 
-/// One that stores how many calls there were.
+/// One that stores how many calls there were, as that of a service.
 type Number = ProofHistory<Op, Reply>;
 
 /// How many calls are made where nothing is measured.
@@ -34,11 +29,9 @@ const MANY: usize = 20_000;
 /// How often each way is measured, in turns: the best time counts.
 const TRIES: usize = 5;
 
-/// Prints how many bytes an entry takes, and how many times as long as an operation alone a call takes.
+/// Prints how many times as long as an operation alone a call takes.
 pub fn time<R: Print + Clock + Threads + Wait + Sync>(rt: &R, alloc: Global) -> Result<()> {
-    print_sizes(rt)?;
     for asking in &askings()? {
-        print_row::<WithReplies, R>(rt, alloc, asking, "plain")?;
         print_row::<WithoutReplies, R>(rt, alloc, asking, "asked")?;
         print_row::<Number, R>(rt, alloc, asking, "proof")?;
     }
@@ -48,7 +41,6 @@ pub fn time<R: Print + Clock + Threads + Wait + Sync>(rt: &R, alloc: Global) -> 
 /// Sees that shared calls are told the same as a partition alone, and that a difference is told.
 pub fn check<R: Print + Clock + Threads + Wait + Sync>(rt: &R, alloc: Global) -> Result<()> {
     for asking in &askings()? {
-        go::<WithReplies, R>(rt, alloc, asking, FEW)?;
         go::<WithoutReplies, R>(rt, alloc, asking, FEW)?;
         go::<Number, R>(rt, alloc, asking, FEW)?;
         see_difference(rt, alloc, asking)?;
@@ -71,17 +63,6 @@ fn see_difference<R: Clock + Threads + Wait + Sync>(
     };
     let is_told = !agree(told, fewer) && !agree(told, other);
     ensure!(is_told, "fewer calls were taken for the same");
-    Ok(())
-}
-
-/// A line: how many bytes an entry takes in each kind of history.
-fn print_sizes(rt: &impl Print) -> Result<()> {
-    let plain = size_of::<Entry<Op, Reply>>();
-    let asked = size_of::<Asked<Op>>();
-    let payload = size_of::<Payload>();
-    println!(rt;
-        "an entry takes {plain} bytes in a plain history, {asked} in an asked one and 0 in a proof one, and each payload of a Publish {payload} more"
-    )?;
     Ok(())
 }
 

@@ -5,7 +5,7 @@ use std::rt::Clock;
 use std::sync::atomic::{AtomicBool, AtomicU64, Ordering};
 use std::thread;
 use std::time::Duration;
-use streams::{Event, Gate, GrainId, Name, SubName};
+use streams::{Event, Gate, GrainId, SubName};
 
 // How often the archive looks at most whether it may go on, once in a millisecond.
 const MOST_LOOKS: u32 = 60_000;
@@ -22,7 +22,7 @@ pub struct Monitors<C> {
 impl<C: Clock + Copy> Monitors<C> {
     /// Monitors of so many devices, none of which has sent a reading.
     pub fn new(clock: C, alloc: Global, devices: usize) -> Result<Monitors<C>> {
-        let mut highest = Vec::with_capacity(alloc, devices)?;
+        let mut highest = Vec::new(alloc);
         for _ in 0..devices {
             highest.push(AtomicU64::new(0))?;
         }
@@ -46,18 +46,12 @@ impl<C: Clock + Copy> Monitors<C> {
         }
     }
 
-    // A monitor notes the reading of its device, whose name is the key of the monitor. It may see a reading twice, so it
-    // keeps the highest, and counts nothing.
-    fn note(&self, monitor: &GrainId, event: &Event) {
-        let Some(device) = number_of(&monitor.key) else {
-            return;
-        };
-        let Some(tenths) = reading_of(event) else {
-            return;
-        };
-        if let Some(highest) = self.highest.get(device) {
-            highest.fetch_max(tenths, Ordering::SeqCst);
-        }
+    // A monitor notes the reading of its device: that of `d0017` is the one with number 17. It may see a reading twice,
+    // so it keeps the highest, and counts nothing.
+    fn note(&self, monitor: &GrainId, event: &Event) -> Option<u64> {
+        let device: usize = monitor.key.as_str().strip_prefix('d')?.parse().ok()?;
+        let highest = self.highest.get(device)?;
+        Some(highest.fetch_max(tenths_of(event)?, Ordering::SeqCst))
     }
 
     // The archive waits for its disk.
@@ -75,19 +69,16 @@ impl<C: Clock + Copy + Send + Sync> Gate for Monitors<C> {
     /// The note counts the readings of a subscription.
     fn handle(&self, grain: &GrainId, sub: &SubName, event: &Event, note: u64) -> u64 {
         match sub {
-            SubName::Implicit { .. } => self.note(grain, event),
+            SubName::Implicit { .. } => {
+                let _before = self.note(grain, event);
+            }
             SubName::Explicit(_) => self.store(),
         }
         note.saturating_add(1)
     }
 }
 
-/// The number of the device with this name: 17 of `d0017`.
-pub fn number_of(device: &Name) -> Option<usize> {
-    device.as_str().strip_prefix('d')?.parse().ok()
-}
-
 /// The reading of an event, in tenths of a degree.
-pub fn reading_of(event: &Event) -> Option<u64> {
+pub fn tenths_of(event: &Event) -> Option<u64> {
     event.payload.as_str().parse().ok()
 }

@@ -1,13 +1,12 @@
 //! The streams of readings, and what is asked of them.
 use crate::monitors::Monitors;
-use anyhow::{Result, bail};
+use crate::story::Step;
+use anyhow::{Result, bail, ensure};
 use std::alloc::Global;
 use std::sync::Arc;
 use std::thread;
 use std::time::Duration;
-use streams::{
-    BadName, CallError, Closed, Config, GrainId, Host, Name, Payload, Service, Start, StreamId,
-};
+use streams::{Closed, Config, GrainId, Host, Name, Payload, Service, Start, StreamId};
 
 // How often a queue is looked at before it is given up, once in a millisecond.
 const MOST_LOOKS: u32 = 60_000;
@@ -17,6 +16,8 @@ const MOST_LOOKS: u32 = 60_000;
 pub struct DeviceService<R: Host> {
     rt: R,
     service: Service<R, Monitors<R>>,
+    // the queue of the device that is archived
+    slow: usize,
 }
 
 impl<R: Host> DeviceService<R> {
@@ -31,60 +32,69 @@ impl<R: Host> DeviceService<R> {
         let (monitor, readings) = (Name::new(b"monitor")?, Name::new(b"readings")?);
         let mut service = Service::open(rt, &config, monitors)?;
         service.add_rule(monitor, readings)?;
-        Ok(DeviceService { rt, service })
+        let slow = 0;
+        Ok(DeviceService { rt, service, slow })
     }
 
-    /// The archive subscribes to one device by itself. It gives the queue of the device.
-    pub fn archive(&mut self, device: &str) -> Result<usize> {
-        let grain = GrainId::new(b"archive", device.as_bytes())?;
-        let archive = self
-            .service
-            .subscribe(readings_of(device)?, grain, Start::Latest)?;
-        Ok(archive.queue)
-    }
-
-    /// A device sends a reading, in tenths of a degree.
-    pub fn send(&mut self, device: &str, tenths: u64) -> Result<()> {
-        let reading = payload_of(self.rt.alloc(), tenths)?;
-        self.service.publish(readings_of(device)?, &[reading])?;
-        Ok(())
-    }
-
-    /// Whether all readings of a queue are handled.
-    pub fn is_quiet(&mut self, queue: usize) -> Result<bool, CallError> {
-        Ok(self.service.pending(queue)?.is_none())
-    }
-
-    /// Waits until all readings are handled, save those of one queue.
-    pub fn settle_others(&mut self, slow: usize) -> Result<()> {
-        for queue in 0..self.service.queues() {
-            if queue != slow {
-                self.settle_queue(queue)?;
+    /// Does a step of the story.
+    pub fn go(&mut self, step: &Step, monitors: &Monitors<R>) -> Result<()> {
+        match *step {
+            Step::Archive(device) => self.archive(device),
+            Step::Send { round, from, to } => self.send(round, from, to),
+            Step::SettleOthers => self.settle_others(),
+            Step::LetArchiveGoOn => {
+                monitors.let_archive_go_on();
+                Ok(())
             }
+            Step::Settle => Ok(self.service.settle()?),
+            Step::TakeSiloDown(silo) => Ok(self.service.silo_down(silo)?),
         }
-        Ok(())
-    }
-
-    /// Waits until all readings are handled.
-    pub fn settle(&mut self) -> Result<()> {
-        Ok(self.service.settle()?)
-    }
-
-    /// A silo goes. What waits or runs there is handled elsewhere.
-    pub fn silo_goes(&mut self, silo: u8) -> Result<()> {
-        Ok(self.service.silo_down(silo)?)
     }
 
     /// Ends the service, and gives what is left of it.
     pub fn close(self) -> Result<Closed> {
-        let DeviceService { rt: _, service } = self;
+        let DeviceService {
+            rt: _,
+            service,
+            slow: _,
+        } = self;
         Ok(service.close()?)
+    }
+
+    // The archive subscribes to a device. Its queue is slow from now on.
+    fn archive(&mut self, device: &str) -> Result<()> {
+        let stream = StreamId::new(b"readings", device.as_bytes())?;
+        let grain = GrainId::new(b"archive", device.as_bytes())?;
+        let archive = self.service.subscribe(stream, grain, Start::Latest)?;
+        self.slow = archive.queue;
+        Ok(())
+    }
+
+    // Each of these devices sends a reading.
+    fn send(&mut self, round: usize, from: usize, to: usize) -> Result<()> {
+        for number in from..to {
+            let (stream, reading) = reading_of(self.rt.alloc(), number, round)?;
+            self.service.publish(stream, &[reading])?;
+        }
+        Ok(())
+    }
+
+    // Waits until all queues are quiet but that of the archive, and sees that it is behind.
+    fn settle_others(&mut self) -> Result<()> {
+        for queue in 0..self.service.queues() {
+            if queue != self.slow {
+                self.settle_queue(queue)?;
+            }
+        }
+        let pending = self.service.pending(self.slow)?;
+        ensure!(pending.is_some(), "the archive is faster than it can be");
+        Ok(())
     }
 
     // Waits until all readings of a queue are handled.
     fn settle_queue(&mut self, queue: usize) -> Result<()> {
         for _ in 0..MOST_LOOKS {
-            if self.is_quiet(queue)? {
+            if self.service.pending(queue)?.is_none() {
                 return Ok(());
             }
             thread::sleep(&self.rt, Duration::from_millis(1));
@@ -93,13 +103,11 @@ impl<R: Host> DeviceService<R> {
     }
 }
 
-// A reading as the payload of an event.
-fn payload_of(alloc: Global, tenths: u64) -> Result<Payload> {
+// The stream of a device, and what it sends in a round: tenths of a degree.
+fn reading_of(alloc: Global, device: usize, round: usize) -> Result<(StreamId, Payload)> {
+    let name = format!(in alloc; "d{device:04}")?;
+    let tenths = device.wrapping_mul(37).wrapping_add(round.wrapping_mul(11)) % 700 + 200;
     let text = format!(in alloc; "{tenths}")?;
-    Ok(Payload::new(text.as_bytes())?)
-}
-
-// The stream of a device's readings.
-fn readings_of(device: &str) -> Result<StreamId, BadName> {
-    StreamId::new(b"readings", device.as_bytes())
+    let stream = StreamId::new(b"readings", name.as_bytes())?;
+    Ok((stream, Payload::new(text.as_bytes())?))
 }

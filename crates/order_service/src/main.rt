@@ -5,52 +5,63 @@ mod accounts;
 mod day;
 mod service;
 
-use accounts::{Accounts, price};
+use accounts::{Accounts, CUSTOMERS, price};
 use anyhow::Result;
 use day::DAY;
-use service::OrderService;
+use service::{Answer, OrderService};
+use std::alloc::Global;
 use std::sync::Arc;
 use streams::{Closed, Event, Host, Partition, SubSummary};
 
 fn main(rt: HostRuntime) -> Result<()> {
     let alloc = rt.alloc();
-    let accounts = Accounts::open(alloc, &["ann", "bob", "carla", "dora"])?;
-    let accounts = Arc::new(alloc, accounts)?;
+    let accounts = Arc::new(alloc, Accounts::new())?;
     let service = OrderService::open(rt, Arc::try_clone(&accounts)?)?;
-    print_table(&rt, &spend_the_day(service)?)?;
+    let closed = spend_the_day(&rt, service)?;
+    for partition in &closed.partitions {
+        print_partition(&rt, alloc, partition)?;
+    }
     print_bills(&rt, &accounts)
 }
 
-/// Asks the service for all that is asked in the day, and ends it.
-fn spend_the_day<R: Host>(mut service: OrderService<R>) -> Result<Closed> {
-    for request in &DAY {
-        service.serve(request)?;
+/// Asks the service for all that is asked in the day, prints what becomes of it, and ends the service.
+fn spend_the_day<R: Host>(rt: &R, mut service: OrderService<R>) -> Result<Closed> {
+    for (who, request) in &DAY {
+        let answer = service.serve(who, request)?;
+        print_answer(rt, who, answer)?;
     }
     service.close()
 }
 
-/// Prints a line for each subscription.
-fn print_table<R: Host>(rt: &R, closed: &Closed) -> Result<()> {
-    println!(rt; "grain         from  orders   total")?;
-    for partition in &closed.partitions {
-        for sub in partition.subs(rt.alloc())? {
-            print_row(rt, partition, &sub)?;
-        }
+/// Prints what has become of a request.
+fn print_answer(rt: &impl Print, who: &str, answer: Answer) -> Result<()> {
+    match answer {
+        Answer::Done(what) => println!(rt; "{who}{what}")?,
+        Answer::Refused(why) => println!(rt; "refused: {who}{why}")?,
+        Answer::Closed(orders) => println!(rt; "{who}'s desk closes after {orders} orders")?,
+        Answer::Ordered(first) => println!(rt; "{who} orders: from {first}")?,
+        Answer::NoPrice(order) => println!(rt;
+            "refused: {who} orders {order}, which has no price"
+        )?,
+        Answer::Missed(low) => println!(rt; "missed: {who}'s orders before {low} are gone")?,
     }
     Ok(())
 }
 
-/// Prints what a subscription has handled.
-fn print_row<R: Host>(rt: &R, partition: &Partition, sub: &SubSummary) -> Result<()> {
-    let alloc = rt.alloc();
-    let grain = format!(in alloc; "{}", sub.grain)?;
-    let from = format!(in alloc; "{}", sub.start)?;
-    let orders = partition.handled(alloc, &sub.name)?;
-    let total = total_of(&orders);
+/// Prints what each subscription of a partition has handled.
+fn print_partition(rt: &impl Print, alloc: Global, partition: &Partition) -> Result<()> {
+    for sub in partition.subs(alloc)? {
+        print_row(rt, &sub, &partition.handled(alloc, &sub.name)?)?;
+    }
+    Ok(())
+}
+
+/// Prints how many orders a subscription has handled, from which on, and what they come to.
+fn print_row(rt: &impl Print, sub: &SubSummary, orders: &[Event]) -> Result<()> {
+    let (grain, start, count, total) = (sub.grain, sub.start, orders.len(), total_of(orders));
     let (dollars, cents) = (total / 100, total % 100);
-    let many = orders.len();
-    let closed = if sub.is_open { "" } else { "  closed" };
-    println!(rt; "{grain:<12} {from:>5} {many:>7} {dollars:>4}.{cents:02}{closed}")?;
+    let closed = if sub.is_open { "" } else { ", closed" };
+    println!(rt; "{grain} from {start}, {count} handled: {dollars}.{cents:02}{closed}")?;
     Ok(())
 }
 
@@ -64,11 +75,10 @@ fn total_of(orders: &[Event]) -> u64 {
 }
 
 /// Prints what each customer has to pay.
-fn print_bills<R: Host>(rt: &R, accounts: &Accounts) -> Result<()> {
-    for account in accounts.as_slice() {
-        let customer = account.customer;
-        let cents = account.cents();
-        println!(rt; "{customer} has to pay {}.{:02}", cents / 100, cents % 100)?;
+fn print_bills(rt: &impl Print, accounts: &Accounts) -> Result<()> {
+    for (customer, name) in CUSTOMERS.iter().enumerate() {
+        let cents = accounts.cents(customer);
+        println!(rt; "{name} has to pay {}.{:02}", cents / 100, cents % 100)?;
     }
     Ok(())
 }

@@ -12,6 +12,23 @@ use streams::{
 // The first order of a stream.
 const FIRST: Token = Token { seq: 0, idx: 0 };
 
+/// What becomes of a request.
+#[derive(Clone, Copy)]
+pub enum Answer {
+    /// It is done.
+    Done(&'static str),
+    /// It is refused.
+    Refused(&'static str),
+    /// The desk has closed after so many orders.
+    Closed(usize),
+    /// The orders are taken, the first of them under this token.
+    Ordered(Token),
+    /// An order is refused, since it has no price.
+    NoPrice(&'static str),
+    /// The orders before this token are gone.
+    Missed(Token),
+}
+
 /// The desk of a customer: the subscription of a grain to the stream of the customer's orders.
 #[derive(Clone, Copy)]
 struct Desk {
@@ -21,11 +38,11 @@ struct Desk {
 
 /// What customers, auditors and operators may ask.
 ///
-/// Each call prints what became of it. It fails where it fails to allocate or to print, where a name or an order isn't
-/// one, and where the streams have come to a limit.
+/// A call fails where it fails to allocate, where a name or an order isn't one, and where the streams have come to a
+/// limit.
 #[derive(Drop)]
 pub struct OrderService<R: Host> {
-    rt: R,
+    alloc: Global,
     service: Service<R, Accounts>,
     // the desks that were opened
     desks: Vec<Desk>,
@@ -34,18 +51,21 @@ pub struct OrderService<R: Host> {
 impl<R: Host> OrderService<R> {
     /// A service on four queues and two silos, whose orders these accounts handle.
     pub fn open(rt: R, accounts: Arc<Accounts, Global>) -> Result<OrderService<R>> {
-        let service = Service::open(rt, &Config::new(4, 2), accounts)?;
-        let desks = Vec::new(rt.alloc());
-        Ok(OrderService { rt, service, desks })
+        let alloc = rt.alloc();
+        Ok(OrderService {
+            alloc,
+            service: Service::open(rt, &Config::new(4, 2), accounts)?,
+            desks: Vec::new(alloc),
+        })
     }
 
-    /// Does what is asked.
-    pub fn serve(&mut self, request: &Request) -> Result<()> {
+    /// Does what is asked, which is about this customer or silo.
+    pub fn serve(&mut self, who: &'static str, request: &Request) -> Result<Answer> {
         match *request {
-            Request::OpenDesk(customer) => self.open_desk(customer),
-            Request::CloseDesk(customer) => self.close_desk(customer),
-            Request::Order(customer, orders) => self.order(customer, orders),
-            Request::Audit(customer) => self.audit(customer),
+            Request::OpenDesk => self.open_desk(who),
+            Request::CloseDesk => self.close_desk(who),
+            Request::Order(orders) => self.order(who, orders),
+            Request::Audit => self.audit(who),
             Request::Settle => self.settle(),
             Request::StartSilo(silo) => self.start_silo(silo),
             Request::TakeSiloDown(silo) => self.take_silo_down(silo),
@@ -55,7 +75,7 @@ impl<R: Host> OrderService<R> {
     /// Ends the service, and gives what is left of it.
     pub fn close(self) -> Result<Closed> {
         let OrderService {
-            rt: _,
+            alloc: _,
             service,
             desks: _,
         } = self;
@@ -63,78 +83,50 @@ impl<R: Host> OrderService<R> {
     }
 
     // A customer gets a desk, which handles what is ordered from now on.
-    fn open_desk(&mut self, customer: &'static str) -> Result<()> {
+    fn open_desk(&mut self, customer: &'static str) -> Result<Answer> {
         let subscription = self.subscribe(b"desk", customer, Start::Latest)??;
         self.desks.push(Desk {
             customer,
             subscription,
         })?;
-        println!(self.rt; "{customer} has a desk")?;
-        Ok(())
+        Ok(Answer::Done(" has a desk"))
     }
 
     // A desk handles nothing more.
-    fn close_desk(&mut self, customer: &str) -> Result<()> {
-        let Some(subscription) = self.desk_of(customer) else {
-            println!(self.rt; "refused: {customer} has no desk")?;
-            return Ok(());
+    fn close_desk(&mut self, customer: &str) -> Result<Answer> {
+        let Some(subscription) = desk_of(&self.desks, customer) else {
+            return Ok(Answer::Refused(" has no desk"));
         };
         match self.service.unsubscribe(&subscription) {
-            Ok(handled) => println!(self.rt; "{customer}'s desk closes after {handled} orders")?,
-            Err(UnsubscribeError::Closed) => {
-                println!(self.rt; "refused: {customer}'s desk is closed")?;
-            }
-            Err(error) => return Err(error.into()),
+            Ok(handled) => Ok(Answer::Closed(handled)),
+            Err(UnsubscribeError::Closed) => Ok(Answer::Refused("'s desk is closed")),
+            Err(error) => Err(error.into()),
         }
-        Ok(())
-    }
-
-    // The subscription of a customer's desk, where there is one.
-    fn desk_of(&self, customer: &str) -> Option<Subscription> {
-        for desk in &self.desks {
-            if desk.customer == customer {
-                return Some(desk.subscription);
-            }
-        }
-        None
     }
 
     // A customer orders.
-    fn order(&mut self, customer: &str, orders: &[&str]) -> Result<()> {
+    fn order(&mut self, customer: &str, orders: &'static [&'static str]) -> Result<Answer> {
         if let Some(order) = without_price(orders) {
-            println!(self.rt; "refused: {customer} orders {order}, which has no price")?;
-            return Ok(());
+            return Ok(Answer::NoPrice(order));
         }
-        let orders = payloads_of(self.rt.alloc(), orders)?;
-        let published = self.service.publish(orders_of(customer)?, &orders);
-        self.tell_order(customer, published)
-    }
-
-    // Prints what became of an order.
-    fn tell_order(&self, customer: &str, published: Result<Token, PublishError>) -> Result<()> {
-        match published {
-            Ok(first) => println!(self.rt; "{customer} orders: from {first}")?,
-            Err(PublishError::BadBatch) => println!(self.rt; "refused: {customer} orders nothing")?,
-            Err(error) => return Err(error.into()),
+        let batch = batch_of(self.alloc, orders)?;
+        match self.service.publish(orders_of(customer)?, &batch) {
+            Ok(first) => Ok(Answer::Ordered(first)),
+            Err(PublishError::BadBatch) => Ok(Answer::Refused(" orders nothing")),
+            Err(error) => Err(error.into()),
         }
-        Ok(())
     }
 
     // An auditor looks at the orders of a customer from the first one on, or else from the first that is kept.
-    fn audit(&mut self, customer: &str) -> Result<()> {
+    fn audit(&mut self, customer: &str) -> Result<Answer> {
         match self.subscribe(b"audit", customer, Start::At(FIRST))? {
-            Ok(_) => println!(self.rt; "{customer} is audited")?,
-            Err(SubscribeError::Miss { low, .. }) => self.audit_what_is_kept(customer, low)?,
-            Err(error) => return Err(error.into()),
+            Ok(_) => Ok(Answer::Done(" is audited")),
+            Err(SubscribeError::Miss { low, .. }) => {
+                self.subscribe(b"audit", customer, Start::At(low))??;
+                Ok(Answer::Missed(low))
+            }
+            Err(error) => Err(error.into()),
         }
-        Ok(())
-    }
-
-    // An auditor looks at the orders of a customer that are kept, which begin here.
-    fn audit_what_is_kept(&mut self, customer: &str, low: Token) -> Result<()> {
-        println!(self.rt; "missed: {customer}'s orders before {low} are gone")?;
-        self.subscribe(b"audit", customer, Start::At(low))??;
-        Ok(())
     }
 
     // A grain of this kind, whose key is the customer, subscribes to the stream of the customer's orders.
@@ -149,28 +141,35 @@ impl<R: Host> OrderService<R> {
     }
 
     // Waits until all orders are handled.
-    fn settle(&mut self) -> Result<()> {
+    fn settle(&mut self) -> Result<Answer> {
         self.service.settle()?;
-        println!(self.rt; "all orders are handled")?;
-        Ok(())
+        Ok(Answer::Done(" are handled"))
     }
 
     // A silo comes.
-    fn start_silo(&mut self, silo: u8) -> Result<()> {
+    fn start_silo(&mut self, silo: u8) -> Result<Answer> {
         self.service.silo_up(silo)?;
-        println!(self.rt; "silo {silo} has come")?;
-        Ok(())
+        Ok(Answer::Done(" has come"))
     }
 
     // A silo goes. What waits or runs there is handled elsewhere.
-    fn take_silo_down(&mut self, silo: u8) -> Result<()> {
+    fn take_silo_down(&mut self, silo: u8) -> Result<Answer> {
         match self.service.silo_down(silo) {
-            Ok(()) => println!(self.rt; "silo {silo} has gone")?,
-            Err(SiloError::LastSilo) => println!(self.rt; "refused: silo {silo} is the last one")?,
-            Err(error) => return Err(error.into()),
+            Ok(()) => Ok(Answer::Done(" has gone")),
+            Err(SiloError::LastSilo) => Ok(Answer::Refused(" is the last one")),
+            Err(error) => Err(error.into()),
         }
-        Ok(())
     }
+}
+
+// The subscription of a customer's desk, where there is one.
+fn desk_of(desks: &[Desk], customer: &str) -> Option<Subscription> {
+    for desk in desks {
+        if desk.customer == customer {
+            return Some(desk.subscription);
+        }
+    }
+    None
 }
 
 // The stream of a customer's orders.
@@ -179,7 +178,7 @@ fn orders_of(customer: &str) -> Result<StreamId, BadName> {
 }
 
 // The first of these orders that has no price.
-fn without_price<'a>(orders: &[&'a str]) -> Option<&'a str> {
+fn without_price(orders: &[&'static str]) -> Option<&'static str> {
     for order in orders {
         if price(order).is_none() {
             return Some(*order);
@@ -188,10 +187,11 @@ fn without_price<'a>(orders: &[&'a str]) -> Option<&'a str> {
     None
 }
 
-fn payloads_of(alloc: Global, orders: &[&str]) -> Result<Vec<Payload>> {
-    let mut payloads = Vec::with_capacity(alloc, orders.len())?;
+// Orders as the payloads of a batch.
+fn batch_of(alloc: Global, orders: &[&str]) -> Result<Vec<Payload>> {
+    let mut batch = Vec::new(alloc);
     for order in orders {
-        payloads.push(Payload::new(order.as_bytes())?)?;
+        batch.push(Payload::new(order.as_bytes())?)?;
     }
-    Ok(payloads)
+    Ok(batch)
 }

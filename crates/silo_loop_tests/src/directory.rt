@@ -1,12 +1,13 @@
+//! What a directory answers, as text.
 use crate::rows::assert_row;
-use activation_directory::{Directory, DirectoryOp as Op, DirectoryReply};
+use activation_directory::{Directory, DirectoryOp as Op};
 use std::alloc::{AllocError, Global};
 use std::process::Abort;
 use stream_ident::GrainId;
 
 /// What is asked of a directory. A grain is named by two bytes: its kind and its key.
 #[derive(Clone, Copy)]
-pub enum Call {
+enum Call {
     /// A silo enters a grain.
     Enter(&'static [u8; 2], u8),
     /// A permit for a grain is given back.
@@ -22,7 +23,7 @@ fn grain(rt: &impl Abort, name: &[u8; 2]) -> GrainId {
 }
 
 /// The operation of a call.
-pub fn op(rt: &impl Abort, call: Call) -> Op {
+fn op(rt: &impl Abort, call: Call) -> Op {
     match call {
         Call::Enter(name, silo) => Op::Enter {
             grain: grain(rt, name),
@@ -39,15 +40,7 @@ pub fn op(rt: &impl Abort, call: Call) -> Op {
     }
 }
 
-/// The reply to a call. One want of memory is answered by asking again.
-fn ask(rt: &impl Abort, alloc: Global, directory: &mut Directory, call: Call) -> DirectoryReply {
-    match directory.step(alloc, op(rt, call)) {
-        Ok(reply) => reply,
-        Err(AllocError) => directory.step(alloc, op(rt, call)).expect(rt, "memory"),
-    }
-}
-
-/// Whether the reply to a call reads so.
+/// Whether the reply to a call reads so. One want of memory is answered by asking again.
 fn is_told(
     rt: &impl Abort,
     alloc: Global,
@@ -55,7 +48,10 @@ fn is_told(
     call: Call,
     wanted: &str,
 ) -> bool {
-    let reply = ask(rt, alloc, directory, call);
+    let reply = match directory.step(alloc, op(rt, call)) {
+        Ok(reply) => reply,
+        Err(AllocError) => directory.step(alloc, op(rt, call)).expect(rt, "memory"),
+    };
     let text = format!(in alloc; "{reply:?}").expect(rt, "memory");
     text.as_str() == wanted
 }

@@ -1,30 +1,31 @@
-//! Turnstiles over an empty partition and an empty directory, and how their calls are stored.
+//! Lines of an empty queue and of an empty directory, and how their calls are stored.
 ghost use Rattle.std.specs.Prelude.{◌≡◌, ◌≤◌, [], IfOk};
 ghost use Rattle.turnstile.specs.Calls.{IsOf};
 ghost use Rattle.shared_partition.specs.Directories as directories;
 ghost use Rattle.shared_partition.specs.Partitions as partitions;
 
 use activation_directory::{DirectoryOp, DirectoryReply};
+use cluster_callers::QueueCaller;
 use shared_partition::{Gate, SharedDirectory, SharedPartition};
-use silo_loops::DirectoryLine;
+use silo_loops::{DirectoryLine, Line};
 use std::alloc::{AllocError, Global};
 use std::process::Abort;
 use std::sync::Arc;
 use step_core::{Limits, Op, Reply};
 use turnstile::{PassOf, PlainHistory, StoredHistory, Turnstile};
 
-/// How the calls of a partition are stored, where they are compared at the end.
+/// How the calls of a partition are stored.
 pub type History = PlainHistory<Op, Reply>;
 
-/// How the calls of a directory are stored, where they are compared at the end.
+/// How the calls of a directory are stored.
 pub type Asked = PlainHistory<DirectoryOp, DirectoryReply>;
 
-/// How many blocks of 64 events the cache of each queue has.
-pub const BLOCKS: usize = 4;
+// How many blocks of 64 events the cache of a queue has.
+const BLOCKS: usize = 4;
 
-/// A turnstile over an empty partition whose cache has so many blocks, and its first pass. The history has at most so
-/// many calls.
-pub fn partition<G: Gate, H: StoredHistory<Op, Reply>>(
+// A turnstile over an empty partition whose cache has so many blocks, and its first pass. The history has at most so
+// many calls.
+fn partition<G: Gate, H: StoredHistory<Op, Reply>>(
     alloc: Global,
     gate: Arc<G, Global>,
     queue: usize,
@@ -46,9 +47,26 @@ pub fn partition<G: Gate, H: StoredHistory<Op, Reply>>(
     Ok((turnstile, pass))
 }
 
-/// A turnstile over an empty directory, which gives so many permits, and its first pass. The history has at most so
-/// many calls.
-pub fn directory<D: StoredHistory<DirectoryOp, DirectoryReply>>(
+/// The first line of an empty queue, whose history has at most so many calls.
+pub fn line<G: Gate, H: StoredHistory<Op, Reply>>(
+    alloc: Global,
+    gate: Arc<G, Global>,
+    queue: usize,
+    calls: u64,
+) -> Result<Line<G, H>, AllocError> {
+    let (turnstile, pass) = partition(alloc, gate, queue, BLOCKS, calls)?;
+    Ok(Line::new(Arc::new(alloc, turnstile)?, pass))
+}
+
+/// A caller with the pass of a line.
+pub fn caller_of<G: Gate, H: StoredHistory<Op, Reply>>(line: Line<G, H>) -> QueueCaller<G, H> {
+    let (turnstile, pass) = line.into_parts();
+    QueueCaller::new(turnstile, pass)
+}
+
+// A turnstile over an empty directory, which gives so many permits, and its first pass. The history has at most so
+// many calls.
+fn directory<D: StoredHistory<DirectoryOp, DirectoryReply>>(
     alloc: Global,
     permits: u64,
     calls: u64,
@@ -61,15 +79,11 @@ pub fn directory<D: StoredHistory<DirectoryOp, DirectoryReply>>(
     Ok((turnstile, pass))
 }
 
-/// The first line of an empty directory, which gives so many permits and has a history of at most so many calls.
+/// The first line of an empty directory.
 pub fn directory_line<D: StoredHistory<DirectoryOp, DirectoryReply>, R: Abort>(
     rt: &R,
     alloc: Global,
-    permits: u64,
-    calls: u64,
-) -> DirectoryLine<D>
-    requires { permits ≤ 4000000 }
-{
-    let (turnstile, pass) = directory(alloc, permits, calls).expect(rt, "memory");
+) -> DirectoryLine<D> {
+    let (turnstile, pass) = directory(alloc, 4_000_000, 1_000_000).expect(rt, "memory");
     DirectoryLine::new(Arc::new(alloc, turnstile).expect(rt, "memory"), pass)
 }

@@ -73,15 +73,10 @@ impl Recorder {
         self.calls.load(Ordering::SeqCst)
     }
 
-    /// How many events were handled.
-    pub fn handled(&self) -> u64 {
-        self.handled.load(Ordering::SeqCst)
-    }
-
     /// How many events were handled, how many commits were told of, and how much of that was out of order.
     pub fn work(&self) -> (u64, u64, u64) {
         (
-            self.handled(),
+            self.handled.load(Ordering::SeqCst),
             self.done.load(Ordering::SeqCst),
             self.astray.load(Ordering::SeqCst),
         )

@@ -7,38 +7,26 @@ mod balancer;
 #[cfg(test)]
 mod by_hand;
 #[cfg(test)]
-mod cluster;
-#[cfg(test)]
 mod directory;
-#[cfg(test)]
-mod endings;
 #[cfg(test)]
 mod fresh;
 #[cfg(test)]
 mod gate;
 #[cfg(test)]
-mod histories;
+mod in_threads;
 #[cfg(test)]
 mod operations;
 #[cfg(test)]
 mod passes;
 #[cfg(test)]
-mod queue;
-#[cfg(test)]
 mod refusals;
-#[cfg(test)]
-mod replay;
 #[cfg(test)]
 mod rows;
 #[cfg(test)]
 mod shared;
-#[cfg(test)]
-mod shared_directory;
 #[cfg(test)]
 mod silo;
 #[cfg(test)]
 mod total;
 #[cfg(test)]
 mod turns;
-#[cfg(test)]
-mod two_silos;

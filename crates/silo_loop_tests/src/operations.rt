@@ -4,8 +4,8 @@ use std::process::Abort;
 use step_core::{Op, Reply, Start};
 use stream_ident::{Batch, GrainId, Payload, StreamId, SubName, Token};
 
-/// The first subscription.
-pub const SUB: SubName = SubName::Explicit(1);
+// The first subscription.
+const SUB: SubName = SubName::Explicit(1);
 
 /// What is asked. A grain and a stream are named by their keys.
 #[derive(Clone, Copy)]
@@ -21,8 +21,6 @@ pub enum Call {
     Pull,
     /// The next event goes to the first subscription.
     Deliver,
-    /// The next event of the stream goes to the grain that the rule names.
-    DeliverByRule(u8),
     /// The grain begins a turn.
     Begin(u8),
     /// A turn of an activation of the grain ends, and leaves a note.
@@ -69,14 +67,6 @@ fn add_rule(rt: &impl Abort) -> Op {
     }
 }
 
-// The name of the subscription that the rule makes.
-fn implied(rt: &impl Abort, key: u8) -> SubName {
-    SubName::Implicit {
-        kind: grain(rt, key).kind,
-        stream: stream(rt, key),
-    }
-}
-
 /// The operation of a call.
 pub fn operation(rt: &impl Abort, alloc: Global, call: Call) -> Result<Op, AllocError> {
     let generation = 0;
@@ -94,10 +84,6 @@ pub fn operation(rt: &impl Abort, alloc: Global, call: Call) -> Result<Op, Alloc
         Call::Deliver => Op::Deliver {
             generation,
             sub: SUB,
-        },
-        Call::DeliverByRule(key) => Op::Deliver {
-            generation,
-            sub: implied(rt, key),
         },
         Call::Begin(key) => Op::Begin {
             grain: grain(rt, key),

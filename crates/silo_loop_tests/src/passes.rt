@@ -26,15 +26,6 @@ pub(crate) fn alone<T, R: Abort>(rt: &R, alloc: Global, value: T) -> Vec<T>
     values
 }
 
-/// A vector of two values. A want of memory is answered by asking again.
-pub(crate) fn pair<T, R: Abort>(rt: &R, alloc: Global, first: T, second: T) -> Vec<T>
-    ensures { result.items ≡ first ∷ second ∷ [] }
-{
-    let mut values = alone(rt, alloc, first);
-    push(rt, &mut values, second);
-    values
-}
-
 /// The trace of a turnstile to which all passes are given. Its history is legal.
 pub(crate) fn finished<R: Abort, T: Replays>(
     rt: &R,

@@ -10,8 +10,3 @@ pub(crate) fn assert_row(rt: &impl Abort, case: usize, row: usize, is_so: bool) 
 pub(crate) fn assert_at(rt: &impl Abort, place: usize, is_so: bool) {
     assert!(rt; is_so, "at {place}");
 }
-
-/// Stops at a row that isn't answered so, and says what it asks.
-pub(crate) fn assert_told(rt: &impl Abort, what: &str, is_so: bool) {
-    assert!(rt; is_so, "{what}");
-}

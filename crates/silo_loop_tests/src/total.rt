@@ -3,16 +3,13 @@ ghost use Rattle.std.specs.Prelude.{◌≡◌, ◌+◌, ◌%◌, ◌^◌};
 ghost use Rattle.turnstile.specs.Calls.{IsOf};
 ghost use Rattle.turnstile.specs.History.{IsLegal};
 
-use crate::passes::{alone, finished, pair};
-use crate::rows::{assert_at, assert_told};
+use crate::passes::{alone, finished, push};
+use crate::rows::assert_at;
 use std::alloc::{AllocError, Global};
 use std::marker::PhantomData;
 use std::process::Abort;
 use std::sync::Wait;
-use turnstile::{
-    AskedHistory, PassOf, PlainHistory, ProofHistory, Refusal, Replays, StoredHistory, Traced,
-    Turnstile,
-};
+use turnstile::{Closed, PassOf, Refusal, Replays, StoredHistory, Traced, Turnstile};
 
 // A running total, whose calls are stored as H does.
 #[derive(Drop)]
@@ -65,50 +62,16 @@ impl<H: StoredHistory<Addition, u64>> Replays for Total<H> {
     }
 }
 
-/// An entry of a history: its number, its amount and its reply.
-pub type Noted = (u64, u64, u64);
-
-/// A history of additions, as it can be compared at the end.
-pub trait Shown: StoredHistory<Addition, u64> {
-    /// Whether what it stores of an entry is so.
-    fn has(&self, at: usize, entry: &Noted) -> bool;
+/// A pass: the first one, or the one that is split off it.
+#[derive(Clone, Copy)]
+pub enum By {
+    First,
+    Second,
 }
 
-impl Shown for PlainHistory<Addition, u64> {
-    fn has(&self, at: usize, entry: &Noted) -> bool {
-        match self.as_slice().get(at) {
-            Some(it) => it.number == entry.0 && it.op.amount == entry.1 && it.reply == entry.2,
-            None => false,
-        }
-    }
-}
-
-impl Shown for AskedHistory<Addition, u64> {
-    fn has(&self, at: usize, entry: &Noted) -> bool {
-        match self.as_slice().get(at) {
-            Some(it) => it.number == entry.0 && it.op.amount == entry.1,
-            None => false,
-        }
-    }
-}
-
-impl Shown for ProofHistory<Addition, u64> {
-    fn has(&self, at: usize, _entry: &Noted) -> bool {
-        at < self.len()
-    }
-}
-
-/// What a turnstile has at its end: the sum, and these entries.
-pub fn compare<R: Abort, H: Shown>(rt: &R, done: &Traced<Total<H>>, sum: u64, entries: &[Noted]) {
-    assert!(rt; done.object.sum == sum && done.history.len() == entries.len());
-    for (at, entry) in entries.iter().enumerate() {
-        assert_at(rt, at, done.history.has(at, entry));
-    }
-}
-
-/// A call: what it is, how much is added, for how many more there has to be room, and the answer, which is the sum or
+/// A call: whose it is, how much is added, for how many more there has to be room, and the answer, which is the sum or
 /// why the call was refused.
-pub type Row = (&'static str, u64, usize, Result<u64, Refusal>);
+pub type Row = (By, u64, usize, Result<u64, Refusal>);
 
 /// More room than there ever is.
 pub const EVERYTHING: usize = usize::MAX;
@@ -127,8 +90,7 @@ pub fn opened<R: Abort, H: StoredHistory<Addition, u64>>(
     }
 }
 
-// Whether a call is answered so. Where memory was refused that is to be there, no entry was added, and it is asked
-// once more.
+// Whether a call is answered so. Where memory was refused that is to be there, it is asked once more.
 fn is_told<R: Wait, H: StoredHistory<Addition, u64>>(
     rt: &R,
     alloc: Global,
@@ -143,64 +105,52 @@ fn is_told<R: Wait, H: StoredHistory<Addition, u64>>(
         amount: row.1,
         room: row.2,
     };
-    let seen = pass.len();
     let answer = turnstile.call(rt, alloc, pass, op);
-    if answer == row.3 || answer != Err(Refusal::Memory) || pass.len() != seen {
+    if answer == row.3 || answer != Err(Refusal::Memory) {
         return answer == row.3;
     }
     turnstile.call(rt, alloc, pass, op) == row.3
 }
 
-/// Makes a pass's calls, each of which has to be answered as its row says.
-pub fn expect<R: Wait + Abort, H: StoredHistory<Addition, u64>>(
+/// The trace of a turnstile with two passes, of which the first isn't enough to close it.
+pub fn ended<R: Abort, H: StoredHistory<Addition, u64>>(
     rt: &R,
     alloc: Global,
-    turnstile: &Turnstile<Total<H>>,
-    pass: &mut PassOf<Total<H>>,
-    rows: &[Row],
-)
-    requires { IsOf turnstile.now pass.old }
-    ensures { IsOf turnstile.now pass.new }
+    turnstile: Turnstile<Total<H>>,
+    first: PassOf<Total<H>>,
+    second: PassOf<Total<H>>,
+) -> Traced<Total<H>>
+    requires first { IsOf turnstile first }
+    requires second { IsOf turnstile second }
+    ensures { IsLegal (λ s op. (s + op.amount) % 2 ^ 64) (λ s op. (s + op.amount) % 2 ^ 64) turnstile.start.state (H.entries result.history) }
 {
-    for row in rows {
-        assert_told(rt, row.0, is_told(rt, alloc, turnstile, pass, row));
-    }
+    let Closed::NotAll(back) = turnstile.close(alone(rt, alloc, first)) else {
+        panic!(rt; "a pass is missing");
+    };
+    assert!(rt; back.missing == 1);
+    let mut passes = back.passes;
+    push(rt, &mut passes, second);
+    finished(rt, back.turnstile, passes)
 }
 
-/// The calls of one pass, and what the turnstile has at its end.
-pub fn one_pass<R: Wait + Abort, H: Shown>(
+/// The trace of a turnstile whose history has so many entries at most, after these calls of two passes. Each of them
+/// has to be answered as its row says.
+pub fn played<R: Wait + Abort, H: StoredHistory<Addition, u64>>(
     rt: &R,
     alloc: Global,
-    limit: u64,
+    entries: u64,
     rows: &[Row],
-    sum: u64,
-    entries: &[Noted],
-) {
-    let (turnstile, mut pass) = opened::<R, H>(rt, alloc, limit);
-    expect(rt, alloc, &turnstile, &mut pass, rows);
-    assert!(rt; pass.len() == entries.len() as u64);
-    let done = finished(rt, turnstile, alone(rt, alloc, pass));
-    compare(rt, &done, sum, entries);
-}
-
-/// The trace of the calls of two passes. The second is split off after the first calls of the first one, and calls
-/// before and after the further ones of the first one.
-pub fn two_passes<R: Wait + Abort, H: StoredHistory<Addition, u64>>(
-    rt: &R,
-    alloc: Global,
-    limit: u64,
-    begun: &[Row],
-    split: &[Row],
-    again: &[Row],
-    last: &[Row],
 ) -> Traced<Total<H>>
     ensures { IsLegal (λ s op. (s + op.amount) % 2 ^ 64) (λ s op. (s + op.amount) % 2 ^ 64) 0 (H.entries result.history) }
 {
-    let (turnstile, mut first) = opened::<R, H>(rt, alloc, limit);
-    expect(rt, alloc, &turnstile, &mut first, begun);
+    let (turnstile, mut first) = opened::<R, H>(rt, alloc, entries);
     let mut second = turnstile.split(&mut first).expect(rt, "a pass");
-    expect(rt, alloc, &turnstile, &mut second, split);
-    expect(rt, alloc, &turnstile, &mut first, again);
-    expect(rt, alloc, &turnstile, &mut second, last);
-    finished(rt, turnstile, pair(rt, alloc, first, second))
+    for (at, row) in rows.iter().enumerate() {
+        let is_so = match row.0 {
+            By::First => is_told(rt, alloc, &turnstile, &mut first, row),
+            By::Second => is_told(rt, alloc, &turnstile, &mut second, row),
+        };
+        assert_at(rt, at, is_so);
+    }
+    ended(rt, alloc, turnstile, first, second)
 }

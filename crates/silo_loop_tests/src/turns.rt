@@ -1,147 +1,56 @@
-//! A turnstile, one or two of its passes, and what it gives at the end.
+//! A turnstile, two of its passes, and what it gives at the end.
 ghost use Rattle.turnstile.specs.Calls.{IsOf};
 
-use crate::passes::{alone, finished, pair};
-use crate::total::{
-    Addition, EVERYTHING, Noted, Row, Shown, Total, compare, expect, one_pass, opened, two_passes,
-};
+use crate::rows::assert_at;
+use crate::total::{Addition, By, EVERYTHING, Row, Total, ended, opened, played};
 use std::alloc::Global;
 use std::process::Abort;
 use std::sync::Wait;
 use std::thread::{Threads, join};
-use turnstile::{Closed, Entry, PassOf, PlainHistory, Refusal, StoredHistory, Traced, Turnstile};
+use turnstile::{AskedHistory, Entry, PassOf, PlainHistory, Refusal, StoredHistory, Turnstile};
 
 type Stored = PlainHistory<Addition, u64>;
 
-// Whether this is the number of a pass, and it has seen so many entries and knows of so many passes.
-fn is_seen<H: StoredHistory<Addition, u64>>(
-    pass: &PassOf<Total<H>>,
-    number: u64,
-    entries: u64,
-    made: u64,
-) -> bool {
-    pass.number() == number && pass.len() == entries && pass.made() == made
-}
+type Unanswered = AskedHistory<Addition, u64>;
 
-// The calls of the first pass, of the second one, and of the first again.
-static FIRST: [Row; 1] = [("the first pass adds 5", 5, 0, Ok(5))];
-
-static SECOND: [Row; 1] = [("the second pass adds 2", 2, 0, Ok(7))];
-
-static BEHIND: [Row; 1] = [(
-    "the first pass calls at a full history",
-    1,
-    0,
-    Err(Refusal::HistoryFull),
-)];
-
-static AFTER: [Row; 1] = [("the first pass adds 1", 1, 0, Ok(8))];
-
-// Both passes make a call, and then the history is full. The first pass is then not enough to close the turnstile.
-fn two_passes_and_a_full_history<H: StoredHistory<Addition, u64>, R: Wait + Abort>(
-    rt: &R,
-    alloc: Global,
-) -> Traced<Total<H>> {
-    let (turnstile, mut first) = opened(rt, alloc, 2);
-    expect(rt, alloc, &turnstile, &mut first, &FIRST);
-    let mut second = turnstile.split(&mut first).expect(rt, "a pass");
-    assert!(rt; second.number() == 1 && second.len() == 1);
-    expect(rt, alloc, &turnstile, &mut second, &SECOND);
-    expect(rt, alloc, &turnstile, &mut first, &BEHIND);
-    assert!(rt; is_seen(&first, 0, 2, 1));
-    let Closed::NotAll(back) = turnstile.close(alone(rt, alloc, first)) else {
-        panic!(rt; "a pass is missing");
-    };
-    assert!(rt; back.missing == 1);
-    let mut passes = back.passes;
-    passes.push(second).expect(rt, "memory");
-    finished(rt, back.turnstile, passes)
-}
-
-// A call that wants more memory than there is, one that is done, and one behind the last entry.
-static ONE: [Row; 3] = [
-    (
-        "too much memory is asked for",
-        1,
-        EVERYTHING,
-        Err(Refusal::Memory),
-    ),
-    ("5 is added", 5, 0, Ok(5)),
-    (
-        "too much memory is asked for at a full history",
-        1,
-        EVERYTHING,
-        Err(Refusal::HistoryFull),
-    ),
+// The calls of two passes at a history of five entries: two that want more memory than there is, and two at a full
+// history.
+static CALLS: [Row; 9] = [
+    (By::First, 1, EVERYTHING, Err(Refusal::Memory)),
+    (By::First, 5, 1, Ok(5)),
+    (By::Second, 2, 1, Ok(7)),
+    (By::Second, 1, EVERYTHING, Err(Refusal::Memory)),
+    (By::First, 1, 0, Ok(8)),
+    (By::First, 4, 1, Ok(12)),
+    (By::Second, 3, 1, Ok(15)),
+    (By::Second, 1, EVERYTHING, Err(Refusal::HistoryFull)),
+    (By::First, 1, 0, Err(Refusal::HistoryFull)),
 ];
 
-// A pass that takes in another brings what both did.
-fn joined_passes<H: StoredHistory<Addition, u64>, R: Wait + Abort>(
-    rt: &R,
-    alloc: Global,
-) -> Traced<Total<H>> {
-    let (turnstile, mut first) = opened(rt, alloc, 3);
-    let mut second = turnstile.split(&mut first).expect(rt, "a pass");
-    expect(rt, alloc, &turnstile, &mut first, &FIRST);
-    expect(rt, alloc, &turnstile, &mut second, &SECOND);
-    turnstile.join(&mut first, second);
-    assert!(rt; is_seen(&first, 0, 2, 2));
-    expect(rt, alloc, &turnstile, &mut first, &AFTER);
-    finished(rt, turnstile, alone(rt, alloc, first))
-}
-
-// The entries, of which one call leaves the first, two the first two, and three all.
-static ENTRIES: [Noted; 3] = [(0, 5, 5), (1, 2, 7), (0, 1, 8)];
-
-// One pass and two, at any kind of history.
-fn call_in_order<H: Shown, R: Wait + Abort>(rt: &R, alloc: Global) {
-    one_pass::<R, H>(rt, alloc, 1, &ONE, 5, &ENTRIES[..1]);
-    let done = two_passes_and_a_full_history::<H, R>(rt, alloc);
-    compare(rt, &done, 7, &ENTRIES[..2]);
-    let done = joined_passes::<H, R>(rt, alloc);
-    compare(rt, &done, 8, &ENTRIES);
-}
-
-#[test]
-fn calls_in_their_order(rt: HostRuntime) {
-    call_in_order::<Stored, HostRuntime>(&rt, rt.alloc());
-}
-
-// What two passes add, of which the history has the first six.
-static FOUR: [Row; 4] = [
-    ("the first pass adds 1", 1, 1, Ok(1)),
-    ("the first pass adds 2", 2, 1, Ok(3)),
-    ("the first pass adds 3", 3, 1, Ok(6)),
-    ("the first pass adds 4", 4, 1, Ok(10)),
-];
-
-static THREE: [Row; 3] = [
-    ("the second pass adds 5", 5, 1, Ok(15)),
-    ("the second pass adds 6", 6, 1, Ok(21)),
-    ("the second pass adds 7", 7, 1, Err(Refusal::HistoryFull)),
-];
-
-static ADDED: [Noted; 6] = [
-    (0, 1, 1),
-    (0, 2, 3),
-    (0, 3, 6),
-    (0, 4, 10),
-    (1, 5, 15),
-    (1, 6, 21),
-];
-
-// Two turnstiles, of which one is untouched where one allocation is refused, at any kind of history.
-fn stay_alike<H: Shown, R: Wait + Abort>(rt: &R, alloc: Global) {
-    let done = two_passes::<R, H>(rt, alloc, 6, &FOUR, &THREE, &[], &[]);
-    compare(rt, &done, 21, &ADDED);
-    let twin = two_passes::<R, H>(rt, alloc, 6, &FOUR, &THREE, &[], &[]);
-    compare(rt, &twin, 21, &ADDED);
-}
+// The number, the amount and the reply of each entry.
+static ENTRIES: [(u64, u64, u64); 5] = [(0, 5, 5), (1, 2, 7), (0, 1, 8), (0, 4, 12), (1, 3, 15)];
 
 // Run it with each allocation failing in turn.
 #[test]
-fn one_allocation_refused(rt: HostRuntime) {
-    stay_alike::<Stored, HostRuntime>(&rt, rt.alloc());
+fn calls_in_their_order(rt: HostRuntime) {
+    let done = played::<HostRuntime, Stored>(&rt, rt.alloc(), 5, &CALLS);
+    assert!(rt; done.object.sum == 15 && done.history.len() == ENTRIES.len());
+    for (at, (entry, wanted)) in done.history.as_slice().iter().zip(&ENTRIES).enumerate() {
+        let is_so = entry.number == wanted.0 && entry.op.amount == wanted.1;
+        assert_at(&rt, at, is_so && entry.reply == wanted.2);
+    }
+}
+
+// A history stores what was asked, and a fresh object gives again what the passes were told.
+#[test]
+fn a_fresh_object_gives_the_replies_again(rt: HostRuntime) {
+    let done = played::<HostRuntime, Unanswered>(&rt, rt.alloc(), 5, &CALLS);
+    let mut fresh = Total::<Unanswered>::new();
+    let replies = done
+        .history
+        .replay(rt.alloc(), &mut fresh)
+        .expect(&rt, "memory");
+    assert!(rt; replies.as_slice() == [5, 7, 8, 12, 15].as_slice());
 }
 
 // Adds 0, 1, 2 and so on up to 999.
@@ -188,7 +97,7 @@ fn added<H: StoredHistory<Addition, u64> + Send, R: Threads + Wait + Abort + Syn
     let (turnstile, mut first) = opened::<R, H>(rt, alloc, 2000);
     let second = turnstile.split(&mut first).expect(rt, "a pass");
     let (first, second) = in_two_threads(rt, alloc, &turnstile, first, second);
-    let done = finished(rt, turnstile, pair(rt, alloc, second, first));
+    let done = ended(rt, alloc, turnstile, first, second);
     assert!(rt; done.object.sum == 999_000);
     done.history
 }

@@ -1,3 +1,2 @@
 mod Standing
-pub mod Turnstiles
 mod Whole

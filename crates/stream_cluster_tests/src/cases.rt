@@ -11,7 +11,6 @@ use std::process::Abort;
 use std::sync::{Arc, Wait};
 use std::thread::Threads;
 use step_core::{Op, Reply};
-use stream_cluster::{SiloDown, SiloUp};
 use turnstile::StoredHistory;
 
 /// What is done to a cluster.
@@ -19,16 +18,12 @@ use turnstile::StoredHistory;
 pub enum Step {
     /// A grain subscribes at a queue.
     Subscribe(usize, usize),
-    /// An event of this payload is published to a queue.
-    Publish(usize, u64),
-    /// A silo comes, and is answered so.
-    Up(u8, SiloUp),
-    /// A silo goes, and is answered so.
-    Down(u8, SiloDown),
+    /// An event is published to each queue.
+    Publish,
+    /// A silo comes or goes.
+    Change(u8, bool),
     /// All is handled.
     Settle,
-    /// A queue is asked until its history is full.
-    Fill(usize),
 }
 
 /// What becomes of a second caller.
@@ -51,7 +46,7 @@ pub struct Case {
     pub end: End,
 }
 
-// Whether a step is done, and answered so.
+// Whether a step is done.
 fn is_met<
     G: Gate + 'static,
     H: StoredHistory<Op, Reply> + Send + 'static,
@@ -69,11 +64,9 @@ fn is_met<
 {
     match *step {
         Step::Subscribe(queue, to) => producer.subscribe(rt, alloc, queue, to).is_ok(),
-        Step::Publish(queue, payload) => producer.publish(rt, alloc, queue, payload).is_ok(),
-        Step::Up(silo, wanted) => running.up(rt, alloc, silo).expect(rt, "memory") == wanted,
-        Step::Down(silo, wanted) => running.down(rt, alloc, silo).expect(rt, "memory") == wanted,
+        Step::Publish => !producer.publish_all(rt, alloc, 7),
+        Step::Change(silo, comes) => running.change(rt, alloc, silo, comes).expect(rt, "memory"),
         Step::Settle => producer.is_quiet(rt, alloc),
-        Step::Fill(queue) => producer.fills(rt, alloc, queue, FEW + 1),
     }
 }
 
@@ -126,96 +119,42 @@ pub fn ends<
     }
 }
 
-// How many calls each history of a small cluster has.
-const FEW: u64 = 100;
-
-const TWO: Size = Size {
-    queues: 2,
-    silos: 2,
+/// A cluster of one queue and one silo.
+pub const ONE: Size = Size {
+    queues: 1,
+    silos: 1,
     history: 1_000_000,
     room: 0,
 };
 
-// Silos come and go while events are published to two queues. Each is handled once.
-const CHANGES: [Step; 22] = [
-    Step::Subscribe(0, 5),
-    Step::Subscribe(1, 6),
-    Step::Publish(0, 7),
-    Step::Publish(1, 8),
-    Step::Up(1, SiloUp::Up),
-    Step::Up(1, SiloUp::Already),
-    Step::Down(0, SiloDown::Down),
-    Step::Down(0, SiloDown::NotLive),
-    Step::Publish(0, 7),
-    Step::Publish(1, 8),
-    Step::Up(2, SiloUp::Up),
-    Step::Up(2, SiloUp::Already),
-    Step::Down(1, SiloDown::Down),
-    Step::Down(1, SiloDown::NotLive),
-    Step::Publish(0, 7),
-    Step::Publish(1, 8),
-    Step::Up(3, SiloUp::Up),
-    Step::Up(3, SiloUp::Already),
-    Step::Down(2, SiloDown::Down),
-    Step::Down(2, SiloDown::NotLive),
-    Step::Down(3, SiloDown::LastSilo),
-    Step::Settle,
-];
+const PUBLISHED: [Step; 2] = [Step::Subscribe(0, 5), Step::Publish];
 
-const CHANGED: &[u8] =
-    b"report\n0:1 o/0 g/5 0.0 3\n  0.0 \"7\"\n  1.0 \"7\"\n  2.0 \"7\"\n1:1 o/1 g/6 0.0 3\n  0.0 \"8\"\n  1.0 \"8\"\n  2.0 \"8\"\n";
-
-const PUBLISHED: [Step; 2] = [Step::Subscribe(0, 5), Step::Publish(0, 7)];
-
-const FILLED: [Step; 1] = [Step::Fill(1)];
-
-static CASES: [Case; 5] = [
-    Case {
-        size: Size { silos: 1, ..TWO },
-        steps: &CHANGES,
-        second: Second::None,
-        end: End::Report(CHANGED),
-    },
+static CASES: [Case; 3] = [
     // Another caller still has the turnstiles.
     Case {
-        size: TWO,
+        size: ONE,
         steps: &[],
         second: Second::Stays,
         end: End::InUse,
     },
     // Another caller was lost, and its passes are missing.
     Case {
-        size: TWO,
+        size: ONE,
         steps: &[],
         second: Second::IsLost,
         end: End::Missing(1),
     },
-    // The history of a queue is full.
-    Case {
-        size: Size {
-            silos: 1,
-            history: FEW,
-            ..TWO
-        },
-        steps: &FILLED,
-        second: Second::None,
-        end: End::Full(FEW as usize, 2),
-    },
     // A cluster that ends at once after a publish has handled the event or not, and says so.
     Case {
-        size: Size {
-            queues: 1,
-            silos: 1,
-            ..TWO
-        },
+        size: ONE,
         steps: &PUBLISHED,
         second: Second::None,
         end: End::LeftOr(b"report\n0:1 o/0 g/5 0.0 1\n  0.0 \"7\"\n"),
     },
 ];
 
-/// Does what each case says, and sees how it ends.
-pub fn check<
+// Does what each case says, and sees how it ends.
+fn check<
     H: StoredHistory<Op, Reply> + Send + 'static,
     D: StoredHistory<DirectoryOp, DirectoryReply> + Send + 'static,
     R: Threads + Wait + Abort + Copy + Send + 'static,

@@ -1,7 +1,7 @@
 //! Two grains, and two queues, at once.
 ghost use Rattle.std.specs.Prelude.{◌≡◌};
 
-use crate::cases::{Case, Second, Step, ends, prepare};
+use crate::cases::{Case, ONE, Second, Step, ends, prepare};
 use crate::gates::{Meeting, wait_for};
 use crate::producer::Producer;
 use crate::running::{Calls, End, Places, Size};
@@ -14,22 +14,15 @@ use std::thread::{Threads, join};
 use step_core::{Op, Reply};
 use turnstile::StoredHistory;
 
-const ONE: Size = Size {
-    queues: 1,
-    silos: 2,
-    history: 1_000_000,
-    room: 0,
-};
-
 const STEPS: [Step; 4] = [
     Step::Subscribe(0, 5),
     Step::Subscribe(0, 6),
-    Step::Publish(0, 7),
+    Step::Publish,
     Step::Settle,
 ];
 
 static CROSSED: Case = Case {
-    size: ONE,
+    size: Size { silos: 2, ..ONE },
     steps: &STEPS,
     second: Second::None,
     end: End::Report(b"report\n0:1 o/0 g/5 0.0 1\n  0.0 \"7\"\n0:2 o/0 g/6 0.0 1\n  0.0 \"7\"\n"),
@@ -51,11 +44,7 @@ fn cross<
 const SUBSCRIBED: [Step; 2] = [Step::Subscribe(0, 5), Step::Subscribe(1, 6)];
 
 static BESIDE: Case = Case {
-    size: Size {
-        queues: 2,
-        silos: 1,
-        ..ONE
-    },
+    size: Size { queues: 2, ..ONE },
     steps: &SUBSCRIBED,
     second: Second::None,
     end: End::Report(b"report\n0:1 o/0 g/5 0.0 1\n  0.0 \"7\"\n1:1 o/1 g/6 0.0 1\n  0.0 \"8\"\n"),

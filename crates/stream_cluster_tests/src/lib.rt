@@ -1,5 +1,5 @@
-//! Tests of a cluster, through its public calls: in threads, refused memory and threads, under load, and parked. And
-//! tests of the parts that it is made of beside its partitions and its loops: its callers, the crew of a silo, the
+//! Tests of a cluster, through its public calls: in threads, refused memory and threads, under load, and parked. With it
+//! they test the parts that it is made of beside its partitions and its loops: its callers, the crew of a silo, the
 //! operator, the end, and the producer of a script.
 #![tactic(auto)]
 
@@ -8,21 +8,11 @@ mod asking;
 #[cfg(test)]
 mod cases;
 #[cfg(test)]
-mod crew;
-#[cfg(test)]
-mod directories;
-#[cfg(test)]
-mod ending;
-#[cfg(test)]
 mod gates;
 #[cfg(test)]
 mod in_parallel;
 #[cfg(test)]
 mod load;
-#[cfg(test)]
-mod names;
-#[cfg(test)]
-mod operator;
 #[cfg(test)]
 mod parked;
 #[cfg(test)]
@@ -32,15 +22,13 @@ mod parked_refusals;
 #[cfg(test)]
 mod producer;
 #[cfg(test)]
-mod queues;
-#[cfg(test)]
 mod refusals;
 #[cfg(test)]
 mod running;
 #[cfg(test)]
 mod scarce;
 #[cfg(test)]
-mod script;
+mod spread;
 #[cfg(test)]
 mod stops;
 #[cfg(test)]

@@ -13,29 +13,28 @@ use std::sync::{Arc, Barrier, Wait};
 use std::thread;
 use std::thread::{Promise, PromisedHandle, Threads};
 use step_core::{Op, Reply};
-use stream_cluster::{SiloDown, SiloUp};
 use turnstile::{ProofHistory, StoredHistory};
 
-// How many clusters there are in each test. A test has a minute, on a machine that has other work too.
-const CLUSTERS: usize = 10;
+// How many clusters there are, one after another.
+const CLUSTERS: usize = 2;
 
 // How often the silos of a cluster go and come.
 const ROUNDS: usize = 2;
 
 // How often a silo goes or comes in a round: all but one go, and come again.
-const CHANGES: usize = 30;
+const CHANGES: usize = 14;
 
-// How many events each of the four producers publishes beside that, in a round.
-const EVENTS: usize = 8;
+// How many events each of two producers publishes beside that, in a round.
+const EVENTS: usize = 16;
 
-// How many events all four publish.
-const ROOM: usize = 4 * ROUNDS * EVENTS;
+// How many events both publish.
+const ROOM: usize = 2 * ROUNDS * EVENTS;
 
-const QUEUES: usize = 64;
+const QUEUES: usize = 16;
 
 static SIZE: Size = Size {
     queues: QUEUES,
-    silos: 16,
+    silos: 8,
     history: 1_000_000_000,
     room: ROOM,
 };
@@ -43,21 +42,6 @@ static SIZE: Size = Size {
 type Publisher<H> = Producer<Counting, H>;
 
 type Silos<H, D> = Running<Counting, H, D>;
-
-// A silo goes or comes.
-fn change_silo<
-    H: StoredHistory<Op, Reply> + Send + 'static,
-    D: StoredHistory<DirectoryOp, DirectoryReply> + Send + 'static,
-    R: Threads + Wait + Abort + Copy + Send + 'static,
->(rt: &R, alloc: Global, running: &mut Silos<H, D>, silo: u8, comes: bool)
-    ensures { running.new ≡ running.old }
-{
-    if comes {
-        assert!(rt; matches!(running.up(rt, alloc, silo), Ok(SiloUp::Up)));
-    } else {
-        assert!(rt; matches!(running.down(rt, alloc, silo), Ok(SiloDown::Down)));
-    }
-}
 
 // In each round all silos but one go, and come again. The one that stays is another one in each round.
 fn change_silos<
@@ -72,8 +56,9 @@ fn change_silos<
         if change == 0 {
             let _ = rounds.wait(rt);
         }
-        let silo = from.wrapping_add(at / CHANGES).wrapping_add(change % 15) % 16;
-        change_silo(rt, alloc, running, silo as u8, change >= 15);
+        let silo = from.wrapping_add(at / CHANGES).wrapping_add(change % 7) % 8;
+        let changed = running.change(rt, alloc, silo as u8, change >= 7);
+        assert!(rt; changed.expect(rt, "memory"));
     }
 }
 
@@ -92,7 +77,7 @@ fn publish<H: StoredHistory<Op, Reply>, R: Wait + Abort>(
         if at % EVENTS == 0 {
             let _ = rounds.wait(rt);
         }
-        let queue = number.wrapping_mul(16).wrapping_add(at.wrapping_mul(5)) % QUEUES;
+        let queue = number.wrapping_mul(8).wrapping_add(at.wrapping_mul(5)) % QUEUES;
         let payload = number.wrapping_mul(1_000_000).wrapping_add(at) as u64;
         let published = producer.publish(rt, alloc, queue, payload);
         published.expect(rt, "memory");
@@ -135,7 +120,7 @@ fn spawn<
     }
 }
 
-// The silos change beside four producers in threads, which are taken in when they come back.
+// The silos change beside two producers in threads, which are taken in when they come back.
 fn publish_beside<
     H: StoredHistory<Op, Reply> + Send + 'static,
     D: StoredHistory<DirectoryOp, DirectoryReply> + Send + 'static,
@@ -144,16 +129,12 @@ fn publish_beside<
     ensures running { running.new ≡ running.old }
     ensures producer { producer.new ≡ producer.old }
 {
-    let rounds = Arc::new(alloc, Barrier::new(5)).expect(rt, "memory");
+    let rounds = Arc::new(alloc, Barrier::new(3)).expect(rt, "memory");
     let first = spawn(rt, alloc, &rounds, producer, 0);
     let second = spawn(rt, alloc, &rounds, producer, 1);
-    let third = spawn(rt, alloc, &rounds, producer, 2);
-    let fourth = spawn(rt, alloc, &rounds, producer, 3);
     change_silos(rt, alloc, &rounds, running, from);
     producer.join(rt, first.join(rt));
     producer.join(rt, second.join(rt));
-    producer.join(rt, third.join(rt));
-    producer.join(rt, fourth.join(rt));
 }
 
 // Whether all events that were told of are reported of each subscription, in their order.
@@ -180,47 +161,26 @@ fn run<
     is_whole(rt, alloc, &ended, &told)
 }
 
-// Sixteen silos go and come under four producers in threads, in one cluster after another. In the first round they go
-// from one silo on, and the one before it stays. Nothing that the producers were told was published is lost, and
-// nothing is left of a cluster.
+// Eight silos go and come under two producers in threads, in one cluster after another. In the first round they go
+// from one silo on, which is another one in each cluster, and the one before it stays. Nothing that the producers were
+// told was published is lost, and nothing is left of a cluster.
 fn run_each<
     H: StoredHistory<Op, Reply> + Send + 'static,
     D: StoredHistory<DirectoryOp, DirectoryReply> + Send + 'static,
     R: Threads + Wait + Abort + Copy + Send + 'static,
->(rt: &R, alloc: Global, from: usize) {
+>(rt: &R, alloc: Global) {
     let gate = Arc::new(alloc, Counting).expect(rt, "memory");
-    for _ in 0..CLUSTERS {
+    for cluster in 0..CLUSTERS {
         let shared = Arc::try_clone(&gate).expect(rt, "it is shared a few times");
-        let is_whole = run::<H, D, R>(rt, alloc, shared, from);
+        let is_whole = run::<H, D, R>(rt, alloc, shared, cluster.wrapping_mul(3));
         assert!(rt; is_whole && Arc::strong_count(&gate) == 1);
     }
 }
 
-type Calls = ProofHistory<Op, Reply>;
-
-type Places = ProofHistory<DirectoryOp, DirectoryReply>;
-
 #[test]
-fn silos_from_1_go(rt: HostRuntime) {
-    run_each::<Calls, Places, HostRuntime>(&rt, rt.alloc(), 1);
-}
-
-#[test]
-fn silos_from_4_go(rt: HostRuntime) {
-    run_each::<Calls, Places, HostRuntime>(&rt, rt.alloc(), 4);
-}
-
-#[test]
-fn silos_from_7_go(rt: HostRuntime) {
-    run_each::<Calls, Places, HostRuntime>(&rt, rt.alloc(), 7);
-}
-
-#[test]
-fn silos_from_10_go(rt: HostRuntime) {
-    run_each::<Calls, Places, HostRuntime>(&rt, rt.alloc(), 10);
-}
-
-#[test]
-fn silos_from_13_go(rt: HostRuntime) {
-    run_each::<Calls, Places, HostRuntime>(&rt, rt.alloc(), 13);
+fn silos_go_and_come(rt: HostRuntime) {
+    run_each::<ProofHistory<Op, Reply>, ProofHistory<DirectoryOp, DirectoryReply>, HostRuntime>(
+        &rt,
+        rt.alloc(),
+    );
 }

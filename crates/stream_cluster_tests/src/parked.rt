@@ -3,10 +3,11 @@ ghost use Rattle.std.specs.Prelude.{◌≡◌};
 ghost use Rattle.silo_crew.specs.Silos.{IsSameSilo};
 ghost use Rattle.stream_cluster_tests.specs.Parked.{IsLeft};
 
-use crate::asking::{Ask, ask_at};
+use crate::asking::{Produced, production};
 use crate::running::Ended;
 use activation_directory::{DirectoryOp, DirectoryReply};
 use cluster_callers::Caller;
+use script_producer::Answer;
 use shared_partition::Counting;
 use silo_crew::SiloLoops;
 use silo_loops::Advance;
@@ -14,9 +15,8 @@ use std::alloc::{AllocError, Global};
 use std::marker::Model;
 use std::process::Abort;
 use std::sync::{Arc, Wait};
-use std::thread::Threads;
 use step_core::{Limits, Op, Reply};
-use stream_cluster::{Cluster, Config, Retired, SiloDown, SiloUp};
+use stream_cluster::{Cluster, Config, Retired};
 use turnstile::StoredHistory;
 
 /// The loops of a silo.
@@ -135,20 +135,26 @@ fn sort_out<H: StoredHistory<Op, Reply>, D: StoredHistory<DirectoryOp, Directory
 }
 
 impl<H: StoredHistory<Op, Reply>, D: StoredHistory<DirectoryOp, DirectoryReply>> Parked<H, D> {
-    /// A parked cluster of so many silos, whose histories have at most so many calls each.
+    /// A parked cluster of so many silos, whose histories have at most so many calls each, and at whose queues there are
+    /// at most so many moves and turns.
     pub fn new<R: Wait + Abort>(
         rt: &R,
         alloc: Global,
         silos: u8,
         history: u64,
+        rises: u64,
     ) -> Result<Parked<H, D>, AllocError> {
         assert!(rt; 1 <= silos && silos <= 16);
         assert!(rt; 1 <= history);
+        assert!(rt; 1 <= rises && rises <= 1_000);
         let config = Config {
             queues: QUEUES,
             blocks: 1,
             silos,
-            limits: Limits::GREATEST,
+            limits: Limits {
+                rises,
+                ..Limits::GREATEST
+            },
             history,
             rounds: 1_000_000,
             looks: 100_000,
@@ -162,15 +168,20 @@ impl<H: StoredHistory<Op, Reply>, D: StoredHistory<DirectoryOp, DirectoryReply>>
         })
     }
 
-    /// Whether a producer is answered, or is refused.
-    pub fn answers<R: Wait + Abort>(
+    /// How the producer of a script is answered at a queue.
+    ///
+    /// # Errors
+    /// The call failed to allocate.
+    pub fn ask<R: Wait + Abort>(
         &mut self,
         rt: &R,
         alloc: Global,
         queue: usize,
-        ask: &Ask,
-    ) -> bool {
-        ask_at(rt, alloc, &mut self.caller, queue, ask).is_ok()
+        asked: &Produced,
+    ) -> Result<Answer, AllocError> {
+        assert!(rt; queue < self.caller.queues());
+        let op = production(rt, alloc, asked)?;
+        script_producer::ask(rt, alloc, &mut self.caller, queue, op)
     }
 
     /// One step of a loop of the silo at this place.
@@ -196,17 +207,6 @@ impl<H: StoredHistory<Op, Reply>, D: StoredHistory<DirectoryOp, DirectoryReply>>
             at,
             self.cluster.retire(rt, alloc, loops),
         )
-    }
-
-    /// A silo is to go.
-    pub fn down<R: Threads + Wait + Abort>(
-        &mut self,
-        rt: &R,
-        alloc: Global,
-        silo: u8,
-    ) -> Result<SiloDown, AllocError> {
-        assert!(rt; silo < 16);
-        self.cluster.silo_down(rt, alloc, silo)
     }
 
     /// Ends the cluster, to which all loops come back.
@@ -239,21 +239,5 @@ impl<H: StoredHistory<Op, Reply>, D: StoredHistory<DirectoryOp, DirectoryReply>>
         let mut callers = Vec::with_capacity(alloc, 1)?;
         callers.push_reserved(caller);
         cluster.finish_parked(rt, alloc, callers, crew)
-    }
-}
-
-impl<
-    H: StoredHistory<Op, Reply> + Send + 'static,
-    D: StoredHistory<DirectoryOp, DirectoryReply> + Send + 'static,
-> Parked<H, D> {
-    /// A silo is to come.
-    pub fn up<R: Threads + Wait + Abort + Copy + Send + 'static>(
-        &mut self,
-        rt: &R,
-        alloc: Global,
-        silo: u8,
-    ) -> Result<SiloUp, AllocError> {
-        assert!(rt; silo < 16);
-        self.cluster.silo_up(rt, alloc, silo)
     }
 }

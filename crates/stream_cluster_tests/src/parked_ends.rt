@@ -1,31 +1,27 @@
 //! The ends of parked clusters.
-use crate::asking::Ask;
+use crate::asking::{Produced, holds};
 use crate::parked::{Astray, Parked, QUEUES, Went};
 use crate::running::{Calls, End, Places, is_so};
 use crate::story::{REPORT, begin, tell_the_rest};
 use activation_directory::{DirectoryOp, DirectoryReply};
+use script_producer::Answer;
 use std::alloc::Global;
 use std::process::Abort;
 use std::sync::Wait;
-use std::thread::Threads;
 use step_core::{Op, Reply};
-use stream_cluster::{SiloDown, SiloUp};
 use turnstile::StoredHistory;
 
 static WENT: [Went; 3] = [Went::Down, Went::Down, Went::LastSilo];
 
-// Silos are retired one after another, up to the last, whose loops are handed out again. None comes, and none goes by
-// itself.
+// Silos are retired one after another, up to the last, whose loops are handed out again.
 fn retire_all<
-    H: StoredHistory<Op, Reply> + Send + 'static,
-    D: StoredHistory<DirectoryOp, DirectoryReply> + Send + 'static,
-    R: Threads + Wait + Abort + Copy + Send + 'static,
+    H: StoredHistory<Op, Reply>,
+    D: StoredHistory<DirectoryOp, DirectoryReply>,
+    R: Wait + Abort,
 >(rt: &R, alloc: Global) {
-    let mut parked = Parked::<H, D>::new(rt, alloc, 3, 1_000_000).expect(rt, "memory");
+    let mut parked = Parked::<H, D>::new(rt, alloc, 3, 1_000_000, 1_000).expect(rt, "memory");
     begin(rt, alloc, &mut parked);
     for wanted in &WENT {
-        assert!(rt; matches!(parked.up(rt, alloc, 3), Ok(SiloUp::Halted)));
-        assert!(rt; matches!(parked.down(rt, alloc, 2), Ok(SiloDown::Halted)));
         assert!(rt; parked.retire(rt, alloc, 0) == *wanted);
     }
     let ended = tell_the_rest(rt, alloc, parked);
@@ -46,37 +42,51 @@ fn go_astray<
     R: Wait + Abort,
 >(rt: &R, alloc: Global) {
     for (at, astray, end) in &ASTRAY {
-        let parked = Parked::<H, D>::new(rt, alloc, 2, 1_000_000).expect(rt, "memory");
+        let parked = Parked::<H, D>::new(rt, alloc, 2, 1_000_000, 1_000).expect(rt, "memory");
         let ended = parked.finish_without(rt, alloc, *at, *astray);
         assert!(rt; is_so(&ended, *end), "the silo at {at}");
     }
 }
 
-// How many calls each history of a small cluster has.
-const HISTORY: u64 = 20;
+// How often a batch of no event is published to each queue.
+const CALLS: usize = 20;
 
-// The histories are full, so that no queue can leave its silo. The silos don't change any more then.
-fn fill_all<
+// How many calls a history has at most, how often a queue moves, how a producer is answered in the end, and how the
+// cluster ends.
+static LIMITED: [(u64, u64, Answer, End); 2] = [
+    (CALLS as u64, 1_000, Answer::Limit, End::Full(CALLS, QUEUES)),
+    (1_000, 1, Answer::Refused, End::Report(b"report\n")),
+];
+
+// A queue can't leave its silo, as its history is full or it has moved as often as it may. The silos don't change any
+// more then.
+fn stay<
     H: StoredHistory<Op, Reply>,
     D: StoredHistory<DirectoryOp, DirectoryReply>,
     R: Wait + Abort,
 >(rt: &R, alloc: Global) {
-    let mut parked = Parked::<H, D>::new(rt, alloc, 2, HISTORY).expect(rt, "memory");
-    for queue in 0..QUEUES {
-        for _ in 0..HISTORY {
-            let _ = parked.answers(rt, alloc, queue, &Ask::Quiet);
+    for (row, (history, rises, wanted, end)) in LIMITED.iter().enumerate() {
+        let mut parked = Parked::<H, D>::new(rt, alloc, 2, *history, *rises).expect(rt, "memory");
+        for call in 0..QUEUES * CALLS {
+            let asked = Produced::Publish(b"x", &[]);
+            let _ = parked.ask(rt, alloc, call % QUEUES, &asked);
         }
-        assert!(rt; !parked.answers(rt, alloc, queue, &Ask::Quiet));
+        let answer = parked.ask(rt, alloc, 1, &Produced::Publish(b"x", &[]));
+        holds(
+            rt,
+            matches!(answer, Ok(answer) if answer == *wanted),
+            0,
+            row,
+        );
+        holds(rt, parked.retire(rt, alloc, 1) == Went::Limit, 1, row);
+        holds(rt, parked.retire(rt, alloc, 0) == Went::Halted, 2, row);
+        holds(rt, is_so(&parked.finish(rt, alloc), *end), 3, row);
     }
-    assert!(rt; parked.retire(rt, alloc, 0) == Went::Limit);
-    assert!(rt; parked.retire(rt, alloc, 0) == Went::Halted);
-    let ended = parked.finish(rt, alloc);
-    assert!(rt; is_so(&ended, End::Full(HISTORY as usize, QUEUES)));
 }
 
 #[test]
 fn parked_clusters_end(rt: HostRuntime) {
     retire_all::<Calls, Places, HostRuntime>(&rt, rt.alloc());
     go_astray::<Calls, Places, HostRuntime>(&rt, rt.alloc());
-    fill_all::<Calls, Places, HostRuntime>(&rt, rt.alloc());
+    stay::<Calls, Places, HostRuntime>(&rt, rt.alloc());
 }

@@ -1,3 +1,4 @@
+//! A parked cluster in which memory is refused.
 use crate::parked::{Parked, Went};
 use crate::running::{Calls, Ended, Places, is_reported};
 use crate::story::{Order, REPORT, advance, begin, tell_the_rest};
@@ -15,9 +16,9 @@ fn opened<
     D: StoredHistory<DirectoryOp, DirectoryReply>,
     R: Wait + Abort,
 >(rt: &R, alloc: Global) -> Parked<H, D> {
-    match Parked::new(rt, alloc, 3, 1_000_000) {
+    match Parked::new(rt, alloc, 3, 1_000_000, 1_000) {
         Ok(parked) => parked,
-        Err(AllocError) => Parked::new(rt, alloc, 3, 1_000_000).expect(rt, "memory"),
+        Err(AllocError) => Parked::new(rt, alloc, 3, 1_000_000, 1_000).expect(rt, "memory"),
     }
 }
 
@@ -49,7 +50,7 @@ fn retire_after<
     assert!(rt; is_reported(&ended, REPORT) || is_otherwise(&ended, went));
 }
 
-static STEPS: [usize; 4] = [0, 30, 60, 90];
+static STEPS: [usize; 2] = [0, 60];
 
 fn retire_each<
     H: StoredHistory<Op, Reply>,

@@ -2,8 +2,7 @@
 ghost use Rattle.std.specs.Prelude.{◌≡◌, IfOk};
 ghost use Rattle.cluster_callers.specs.Calls.{turnstiles};
 
-use crate::asking::{Ask, Produced, Told as Answer, What, ask_at};
-use crate::names::digits;
+use crate::asking::{Produced, production};
 use crate::told::Told;
 use cluster_callers::Caller;
 use script_producer::{Drained, drain};
@@ -17,8 +16,8 @@ use turnstile::{Refusal, StoredHistory};
 
 /// A caller of a cluster, and what it was told was published. A contract sees the turnstiles of its passes.
 pub struct Producer<G: Gate, H: StoredHistory<Op, Reply>> {
-    pub caller: Caller<G, H>,
-    pub told: Vec<Told>,
+    caller: Caller<G, H>,
+    told: Vec<Told>,
 }
 
 impl<G: Gate + Drop, H: StoredHistory<Op, Reply> + Drop> Drop for Producer<G, H> {
@@ -38,7 +37,42 @@ impl<G: Gate, H: StoredHistory<Op, Reply>> Model for Producer<G, H> {
     ghost view = { λ p. turnstiles p.caller };
 }
 
+// The number that a reply gives to a subscription or a batch.
+fn number_of(reply: &Reply) -> Option<u64> {
+    match reply {
+        Reply::Subscribed { number } => Some(u64::from(*number)),
+        Reply::Published { seq } => Some(*seq),
+        _ => None,
+    }
+}
+
+// The number that a queue answers. It is refused only for want of memory.
+fn ask<G: Gate, H: StoredHistory<Op, Reply>, R: Wait + Abort>(
+    rt: &R,
+    alloc: Global,
+    caller: &mut Caller<G, H>,
+    queue: usize,
+    asked: &Produced,
+) -> Result<u64, AllocError>
+    ensures { turnstiles caller.new ≡ turnstiles caller.old }
+{
+    assert!(rt; queue < caller.queues());
+    let op = production(rt, alloc, asked)?;
+    match caller.call(rt, alloc, queue, op) {
+        Ok(reply) => Ok(number_of(&reply).expect(rt, "it is taken")),
+        Err(Refusal::Memory) => Err(AllocError),
+        Err(Refusal::HistoryFull) => panic!(rt; "there is room"),
+    }
+}
+
 impl<G: Gate, H: StoredHistory<Op, Reply>> Producer<G, H> {
+    /// A producer with this caller, which was told nothing yet, and has room to be told of so many events.
+    pub fn new(caller: Caller<G, H>, told: Vec<Told>) -> Producer<G, H>
+        ensures { result ≡ turnstiles caller }
+    {
+        Producer { caller, told }
+    }
+
     /// Another one of the same queues, which was told nothing yet.
     ///
     /// # Errors
@@ -70,23 +104,6 @@ impl<G: Gate, H: StoredHistory<Op, Reply>> Producer<G, H> {
         (caller, told)
     }
 
-    // How it is answered at a queue. It is refused only for want of memory.
-    fn ask<R: Wait + Abort>(
-        &mut self,
-        rt: &R,
-        alloc: Global,
-        queue: usize,
-        asked: Produced,
-    ) -> Result<Answer, AllocError>
-        ensures { self.new ≡ self.old }
-    {
-        match ask_at(rt, alloc, &mut self.caller, queue, &Ask::By(asked)) {
-            Ok(answer) => Ok(answer),
-            Err(Refusal::Memory) => Err(AllocError),
-            Err(Refusal::HistoryFull) => panic!(rt; "there is room"),
-        }
-    }
-
     /// A grain subscribes to the stream of a queue.
     ///
     /// # Errors
@@ -103,8 +120,7 @@ impl<G: Gate, H: StoredHistory<Op, Reply>> Producer<G, H> {
         let from = digits(alloc, queue as u64)?;
         let to = digits(alloc, to as u64)?;
         let asked = Produced::Subscribe(from.as_bytes(), to.as_bytes());
-        let answer = self.ask(rt, alloc, queue, asked)?;
-        assert!(rt; answer.0 == What::Subscribed);
+        let _number = ask(rt, alloc, &mut self.caller, queue, &asked)?;
         Ok(())
     }
 
@@ -123,56 +139,30 @@ impl<G: Gate, H: StoredHistory<Op, Reply>> Producer<G, H> {
     {
         let key = digits(alloc, queue as u64)?;
         let text = digits(alloc, payload)?;
-        let asked = Produced::Publish(key.as_bytes(), text.as_bytes());
-        let answer = self.ask(rt, alloc, queue, asked)?;
-        assert!(rt; answer.0 == What::Published);
+        let texts = [text.as_bytes()];
+        let asked = Produced::Publish(key.as_bytes(), &texts);
+        let seq = ask(rt, alloc, &mut self.caller, queue, &asked)? as usize;
         let told = Told {
             queue,
-            seq: answer.1 as usize,
+            seq,
             payload,
         };
         self.told.push(told).expect(rt, "room");
         Ok(())
     }
 
-    /// How many events of a queue it was told of.
-    pub fn told_of(&self, queue: usize) -> usize {
-        let mut count = 0usize;
-        for it in &self.told {
-            if it.queue == queue {
-                count = count.wrapping_add(1);
+    /// Publishes an event to each queue. Whether that was refused somewhere; then it was asked for once more.
+    pub fn publish_all<R: Wait + Abort>(&mut self, rt: &R, alloc: Global, payload: u64) -> bool
+        ensures { self.new ≡ self.old }
+    {
+        let mut refused = false;
+        for queue in 0..self.caller.queues() {
+            if self.publish(rt, alloc, queue, payload).is_err() {
+                refused = true;
+                self.publish(rt, alloc, queue, payload).expect(rt, "memory");
             }
         }
-        count
-    }
-
-    /// Ends the subscription with this number at a queue, and gives how many events it has handled.
-    pub fn unsubscribe<R: Wait + Abort>(
-        &mut self,
-        rt: &R,
-        alloc: Global,
-        queue: usize,
-        number: u32,
-    ) -> usize
-        ensures { self.new ≡ self.old }
-    {
-        let answer = self.ask(rt, alloc, queue, Produced::Unsubscribe(number));
-        let answer = answer.expect(rt, "it takes no memory");
-        assert!(rt; answer.0 == What::Unsubscribed);
-        answer.1 as usize
-    }
-
-    /// Asks a queue so often whether it is quiet. Whether the last of that is refused.
-    pub fn fills<R: Wait + Abort>(
-        &mut self,
-        rt: &R,
-        alloc: Global,
-        queue: usize,
-        calls: u64,
-    ) -> bool
-        ensures { self.new ≡ self.old }
-    {
-        fills(rt, alloc, &mut self.caller, queue, calls)
+        refused
     }
 
     /// Waits until all queues are quiet, and tells whether they are: a loop may have ended.
@@ -184,19 +174,7 @@ impl<G: Gate, H: StoredHistory<Op, Reply>> Producer<G, H> {
     }
 }
 
-// Asks a queue so often whether it is quiet. Whether the last of that is refused.
-fn fills<G: Gate, H: StoredHistory<Op, Reply>, R: Wait + Abort>(
-    rt: &R,
-    alloc: Global,
-    caller: &mut Caller<G, H>,
-    queue: usize,
-    calls: u64,
-) -> bool
-    ensures { turnstiles caller.new ≡ turnstiles caller.old }
-{
-    let mut refused = false;
-    for _ in 0..calls {
-        refused = ask_at(rt, alloc, caller, queue, &Ask::Quiet).is_err();
-    }
-    refused
+// The key or the payload of this number.
+fn digits(alloc: Global, number: u64) -> Result<String, AllocError> {
+    format!(in alloc; "{number}")
 }

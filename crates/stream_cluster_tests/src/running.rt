@@ -104,7 +104,27 @@ pub fn start<
     };
     let told = Vec::with_capacity(alloc, room)?;
     let (cluster, caller) = Cluster::new(rt, alloc, &config, gate)?;
-    Ok((Running { cluster }, Producer { caller, told }))
+    Ok((Running { cluster }, Producer::new(caller, told)))
+}
+
+// Whether a silo came; else no silo comes or goes any more.
+fn came<R: Abort>(rt: &R, answer: Result<SiloUp, AllocError>) -> Result<bool, AllocError> {
+    match answer {
+        Ok(SiloUp::Up) => Ok(true),
+        Ok(SiloUp::Halted) => Ok(false),
+        Ok(_) => panic!(rt; "it comes"),
+        Err(AllocError) => Err(AllocError),
+    }
+}
+
+// Whether a silo went; else no silo comes or goes any more.
+fn went<R: Abort>(rt: &R, answer: Result<SiloDown, AllocError>) -> Result<bool, AllocError> {
+    match answer {
+        Ok(SiloDown::Down) => Ok(true),
+        Ok(SiloDown::Halted) => Ok(false),
+        Ok(_) => panic!(rt; "it goes"),
+        Err(AllocError) => Err(AllocError),
+    }
 }
 
 impl<
@@ -112,8 +132,7 @@ impl<
     H: StoredHistory<Op, Reply> + Send + 'static,
     D: StoredHistory<DirectoryOp, DirectoryReply> + Send + 'static,
 > Running<G, H, D> {
-    /// A silo comes.
-    pub fn up<R: Threads + Wait + Abort + Copy + Send + 'static>(
+    fn up<R: Threads + Wait + Abort + Copy + Send + 'static>(
         &mut self,
         rt: &R,
         alloc: Global,
@@ -124,15 +143,8 @@ impl<
         assert!(rt; silo < 16);
         self.cluster.silo_up(rt, alloc, silo)
     }
-}
 
-impl<G: Gate, H: StoredHistory<Op, Reply>, D: StoredHistory<DirectoryOp, DirectoryReply>> Running<
-    G,
-    H,
-    D,
-> {
-    /// A silo goes.
-    pub fn down<R: Threads + Wait + Abort>(
+    fn down<R: Threads + Wait + Abort>(
         &mut self,
         rt: &R,
         alloc: Global,
@@ -144,6 +156,32 @@ impl<G: Gate, H: StoredHistory<Op, Reply>, D: StoredHistory<DirectoryOp, Directo
         self.cluster.silo_down(rt, alloc, silo)
     }
 
+    /// A silo comes or goes. Whether it did; else no silo comes or goes any more.
+    ///
+    /// # Errors
+    /// The call failed to allocate.
+    pub fn change<R: Threads + Wait + Abort + Copy + Send + 'static>(
+        &mut self,
+        rt: &R,
+        alloc: Global,
+        silo: u8,
+        comes: bool,
+    ) -> Result<bool, AllocError>
+        ensures { self.new ≡ self.old }
+    {
+        if comes {
+            came(rt, self.up(rt, alloc, silo))
+        } else {
+            went(rt, self.down(rt, alloc, silo))
+        }
+    }
+}
+
+impl<G: Gate, H: StoredHistory<Op, Reply>, D: StoredHistory<DirectoryOp, DirectoryReply>> Running<
+    G,
+    H,
+    D,
+> {
     /// Ends with this producer, and gives what it was told.
     pub fn finish<R: Threads + Wait + Abort>(
         self,

@@ -2,7 +2,7 @@
 use crate::asking::holds;
 use crate::parked::{Parked, Went};
 use crate::running::{Calls, Ended, Places};
-use crate::story::{Order, REPORT, advance, begin, lost_in, tell_the_rest};
+use crate::story::{Order, REPORT, advance, begin, lost_in, stale_in, tell_the_rest};
 use activation_directory::{DirectoryOp, DirectoryReply};
 use cluster_ending::Finished;
 use std::alloc::Global;
@@ -11,87 +11,45 @@ use std::sync::Wait;
 use step_core::{Op, Reply};
 use turnstile::StoredHistory;
 
-// How many steps the loops make at most before a silo is stopped.
-const STEPS: usize = 200;
+// How many steps the loops make at most before a silo is stopped, in fours.
+const FOURS: usize = 50;
 
-// So many silos, whose loops make so many steps or more, up to the most. Then each silo in turn is stopped, and the
-// rest of the story is told.
+// So many silos, whose loops make each of these numbers of steps. Then each silo in turn is stopped, and the rest of the
+// story is told.
 #[derive(Clone, Copy)]
 struct Row {
     silos: u8,
     order: Order,
-    steps: usize,
     // what becomes of a silo that is stopped, where one is
     went: Option<Went>,
-    // whether deliveries are lost to that at some time
-    loses: bool,
 }
 
-const UNDISTURBED: Row = Row {
-    silos: 1,
-    order: Order::Around,
-    steps: STEPS,
-    went: None,
-    loses: false,
-};
-
-// The only silo isn't stopped: its loops are handed out again, and go on.
-const ONLY: Row = Row {
-    steps: 0,
-    went: Some(Went::LastSilo),
-    ..UNDISTURBED
-};
-
-const STOPPED: Row = Row {
-    silos: 2,
-    steps: 0,
-    went: Some(Went::Down),
-    loses: true,
-    ..UNDISTURBED
-};
-
-static ROWS: [Row; 12] = [
-    UNDISTURBED,
+static ROWS: [Row; 5] = [
     Row {
+        silos: 1,
+        order: Order::Around,
+        went: None,
+    },
+    Row {
+        silos: 3,
         order: Order::Back,
-        ..UNDISTURBED
+        went: None,
+    },
+    // The only silo isn't stopped: its loops are handed out again, and go on.
+    Row {
+        silos: 1,
+        order: Order::Back,
+        went: Some(Went::LastSilo),
     },
     Row {
         silos: 2,
-        ..UNDISTURBED
-    },
-    Row {
-        silos: 2,
-        order: Order::Back,
-        ..UNDISTURBED
-    },
-    Row {
-        silos: 3,
-        ..UNDISTURBED
+        order: Order::Around,
+        went: Some(Went::Down),
     },
     Row {
         silos: 3,
         order: Order::Back,
-        ..UNDISTURBED
-    },
-    ONLY,
-    Row {
-        order: Order::Back,
-        ..ONLY
-    },
-    STOPPED,
-    Row {
-        order: Order::Back,
-        ..STOPPED
-    },
-    Row {
-        silos: 3,
-        ..STOPPED
-    },
-    Row {
-        silos: 3,
-        order: Order::Back,
-        ..STOPPED
+        went: Some(Went::Down),
     },
 ];
 
@@ -101,7 +59,7 @@ fn told<
     D: StoredHistory<DirectoryOp, DirectoryReply>,
     R: Wait + Abort,
 >(rt: &R, alloc: Global, table: usize, row: &Row, steps: usize, at: usize) -> Ended<H> {
-    let made = Parked::<H, D>::new(rt, alloc, row.silos, 1_000_000);
+    let made = Parked::<H, D>::new(rt, alloc, row.silos, 1_000_000, 1_000);
     let mut parked = made.expect(rt, "memory");
     begin(rt, alloc, &mut parked);
     advance(rt, alloc, &mut parked, row.order, steps);
@@ -111,46 +69,37 @@ fn told<
     tell_the_rest(rt, alloc, parked)
 }
 
-// Whether it ended with the report of the story, and whether deliveries were lost to deactivations.
-fn is_told(ended: &Ended<Calls>) -> (bool, bool) {
-    match ended {
-        Ok(Finished::Report { text, traces }) => (text.as_slice() == REPORT, lost_in(traces) > 0),
-        _ => (false, false),
-    }
+// How many deliveries were lost to deactivations in a cluster that ended with the report of the story. Where no silo
+// went, there are none, and no agent has called at a queue that another agent has.
+fn lost<R: Abort>(rt: &R, ended: &Ended<Calls>, row: &Row) -> usize {
+    let Ok(Finished::Report { text, traces }) = ended else {
+        panic!(rt; "it reports");
+    };
+    assert!(rt; text.as_slice() == REPORT);
+    let lost = lost_in(traces);
+    let went = matches!(row.went, Some(Went::Down));
+    assert!(rt; went || (lost == 0 && stale_in(traces) == 0));
+    lost
 }
 
-// Whether deliveries were lost at some time where each silo in turn is stopped, or none is.
-fn loses<R: Wait + Abort>(rt: &R, alloc: Global, table: usize, row: &Row) -> bool {
-    let mut loses = false;
+// How many deliveries were lost where each silo in turn is stopped, or none is.
+fn all_lost<R: Wait + Abort>(rt: &R, alloc: Global, table: usize, row: &Row) -> usize {
+    let mut all: usize = 0;
     let stopped = if row.went.is_some() { row.silos } else { 1 };
-    for steps in row.steps..STEPS + 1 {
+    for fours in 0..FOURS + 1 {
         for at in 0..usize::from(stopped) {
+            let steps = fours.wrapping_mul(4);
             let ended = told::<Calls, Places, R>(rt, alloc, table, row, steps, at);
-            let (is_told, has_lost) = is_told(&ended);
-            holds(rt, is_told, table, steps);
-            loses |= has_lost;
+            all = all.wrapping_add(lost(rt, &ended, row));
         }
     }
-    loses
-}
-
-// What becomes of the rows from one to another.
-fn check<R: Wait + Abort>(rt: &R, alloc: Global, from: usize, to: usize) {
-    for (table, row) in ROWS.iter().enumerate() {
-        if from <= table && table < to {
-            let loses = loses(rt, alloc, table, row);
-            holds(rt, loses == row.loses, table, STEPS + 1);
-        }
-    }
+    all
 }
 
 #[test]
 fn silos_stop(rt: HostRuntime) {
-    check(&rt, rt.alloc(), 0, 10);
-}
-
-// The last two rows run longest, and a test has a minute.
-#[test]
-fn one_of_three_stops(rt: HostRuntime) {
-    check(&rt, rt.alloc(), 10, 12);
+    for (table, row) in ROWS.iter().enumerate() {
+        let lost = all_lost(&rt, rt.alloc(), table, row);
+        assert!(rt; (lost > 0) == matches!(row.went, Some(Went::Down)));
+    }
 }

@@ -1,36 +1,42 @@
 //! What producers ask of a cluster, and how its loops get on.
-use crate::asking::{Ask, Produced};
+use crate::asking::Produced;
 use crate::parked::{Loop, Parked};
 use crate::running::{Calls, Ended};
 use activation_directory::{DirectoryOp, DirectoryReply};
 use cluster_ending::Traces;
+use script_producer::Answer;
 use silo_loops::Advance;
-use std::alloc::Global;
+use std::alloc::{AllocError, Global};
 use std::process::Abort;
 use std::sync::Wait;
 use step_core::{Op, Reply};
 use turnstile::StoredHistory;
 
-// What is asked before the loops have done anything: at which queue, and what.
-static FIRST: [(usize, Produced); 11] = [
-    (0, Produced::Subscribe(b"x", b"x")),
-    (0, Produced::PublishEach(b"x", b"ab")),
-    (0, Produced::Subscribe(b"x", b"w")),
-    (0, Produced::PublishEach(b"x", b"c")),
-    (1, Produced::Rule),
-    (1, Produced::Subscribe(b"y", b"x")),
-    (1, Produced::PublishEach(b"y", b"a")),
-    (1, Produced::PublishEach(b"z", b"b")),
-    (2, Produced::Subscribe(b"u", b"u")),
-    (2, Produced::Rule),
-    (2, Produced::PublishEach(b"u", b"a")),
+// What is asked at a queue, and how the producer of a script is answered.
+type Asked = (usize, Produced<'static>, Answer);
+
+// What is asked before the loops have done anything.
+static FIRST: [Asked; 13] = [
+    (0, Produced::Subscribe(b"x", b"x"), Answer::Taken),
+    (0, Produced::Publish(b"x", &[b"a", b"b"]), Answer::Taken),
+    (0, Produced::Publish(b"x", &[]), Answer::Refused),
+    (0, Produced::Subscribe(b"x", b"w"), Answer::Taken),
+    (0, Produced::Publish(b"x", &[b"c"]), Answer::Taken),
+    (1, Produced::Rule, Answer::Taken),
+    (1, Produced::Rule, Answer::Refused),
+    (1, Produced::Subscribe(b"y", b"x"), Answer::Taken),
+    (1, Produced::Publish(b"y", &[b"a"]), Answer::Taken),
+    (1, Produced::Publish(b"z", &[b"b"]), Answer::Taken),
+    (2, Produced::Subscribe(b"u", b"u"), Answer::Taken),
+    (2, Produced::Rule, Answer::Taken),
+    (2, Produced::Publish(b"u", &[b"a"]), Answer::Taken),
 ];
 
 // What is asked later.
-static LATER: [(usize, Produced); 3] = [
-    (0, Produced::PublishEach(b"x", b"d")),
-    (1, Produced::PublishEach(b"y", b"c")),
-    (2, Produced::PublishEach(b"u", b"b")),
+static LATER: [Asked; 3] = [
+    (0, Produced::Publish(b"x", &[b"d"]), Answer::Taken),
+    (1, Produced::Publish(b"y", &[b"c"]), Answer::Taken),
+    (2, Produced::Publish(b"u", &[b"b"]), Answer::Taken),
 ];
 
 /// What is reported of all that.
@@ -59,16 +65,26 @@ pub const REPORT: &[u8] = b"report
   1.0 \"b\"
 ";
 
-// Asks for each of these, and once more where memory was refused.
+// The answer at a queue. It is asked for once more where memory was refused.
+fn answer<
+    H: StoredHistory<Op, Reply>,
+    D: StoredHistory<DirectoryOp, DirectoryReply>,
+    R: Wait + Abort,
+>(rt: &R, alloc: Global, parked: &mut Parked<H, D>, queue: usize, asked: &Produced) -> Answer {
+    match parked.ask(rt, alloc, queue, asked) {
+        Ok(answer) => answer,
+        Err(AllocError) => parked.ask(rt, alloc, queue, asked).expect(rt, "memory"),
+    }
+}
+
+// Asks for each of these.
 fn ask_all<
     H: StoredHistory<Op, Reply>,
     D: StoredHistory<DirectoryOp, DirectoryReply>,
     R: Wait + Abort,
->(rt: &R, alloc: Global, parked: &mut Parked<H, D>, asks: &[(usize, Produced)]) {
-    for (queue, asked) in asks {
-        let ask = Ask::By(*asked);
-        let is_answered = parked.answers(rt, alloc, *queue, &ask);
-        assert!(rt; is_answered || parked.answers(rt, alloc, *queue, &ask));
+>(rt: &R, alloc: Global, parked: &mut Parked<H, D>, asks: &[Asked]) {
+    for (queue, asked, wanted) in asks {
+        assert!(rt; answer(rt, alloc, parked, *queue, asked) == *wanted);
     }
 }
 
@@ -166,4 +182,17 @@ pub fn lost_in(traces: &Traces<Calls>) -> usize {
         }
     }
     lost
+}
+
+/// How often an agent has called at a queue that another agent has.
+pub fn stale_in(traces: &Traces<Calls>) -> usize {
+    let mut stale = 0usize;
+    for history in &traces.histories {
+        for entry in history.as_slice() {
+            if matches!(entry.reply, Reply::StaleAgent { .. }) {
+                stale = stale.wrapping_add(1);
+            }
+        }
+    }
+    stale
 }

@@ -39,12 +39,12 @@ impl Asking {
     }
 }
 
-/// A number for a reply, where what was asked for is done: the number of the batch and one more, or one. So the sum of
-/// all replies is the same in whatever order they come.
-pub fn number(reply: &Reply) -> Option<u64> {
+/// A number for a reply: the number of the batch and one more, or one, and 0 where what was asked for isn't done. So the
+/// sum of all replies is the same in whatever order they come.
+pub fn number(reply: &Reply) -> u64 {
     match reply {
-        Reply::Published { seq } => Some(seq.wrapping_add(1)),
-        Reply::IsQuiet => Some(1),
-        _ => None,
+        Reply::Published { seq } => seq.wrapping_add(1),
+        Reply::IsQuiet => 1,
+        _ => 0,
     }
 }

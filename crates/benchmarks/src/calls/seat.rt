@@ -67,10 +67,10 @@ impl<H: StoredHistory<Op, Reply>> Seat<H> {
     /// Another pass at the same partition.
     pub fn split(&mut self) -> Result<Seat<H>> {
         let turnstile = Arc::try_clone(&self.turnstile)?;
-        match turnstile.split(&mut self.pass) {
-            Ok(pass) => Ok(Seat { turnstile, pass }),
-            Err(_) => bail!("no pass is left"),
-        }
+        let Ok(pass) = turnstile.split(&mut self.pass) else {
+            bail!("no pass is left");
+        };
+        Ok(Seat { turnstile, pass })
     }
 
     /// So many other passes at the same partition.
@@ -82,26 +82,29 @@ impl<H: StoredHistory<Op, Reply>> Seat<H> {
         Ok(seats)
     }
 
-    /// The number of a reply, where what was asked for is done.
-    fn ask<R: Wait>(&mut self, rt: &R, alloc: Global, op: Op) -> Option<u64> {
-        let answer = SharedPartition::call(&self.turnstile, rt, alloc, &mut self.pass, op);
-        number(&answer.ok()?)
+    /// The number of a reply.
+    fn ask<R: Wait>(&mut self, rt: &R, alloc: Global, op: Op) -> u64 {
+        match SharedPartition::call(&self.turnstile, rt, alloc, &mut self.pass, op) {
+            Ok(reply) => number(&reply),
+            Err(_) => 0,
+        }
     }
 
-    /// The sum of the numbers of so many replies, where all that was asked for is done.
+    /// The sum of the numbers of so many replies.
     pub fn ask_all<R: Wait>(
         &mut self,
         rt: &R,
         alloc: Global,
         asking: &Asking,
         calls: usize,
-    ) -> Option<u64> {
+    ) -> u64 {
         let mut sum = 0u64;
         for _ in 0..calls {
-            let op = asking.operation(alloc).ok()?;
-            sum = sum.wrapping_add(self.ask(rt, alloc, op)?);
+            if let Ok(op) = asking.operation(alloc) {
+                sum = sum.wrapping_add(self.ask(rt, alloc, op));
+            }
         }
-        Some(sum)
+        sum
     }
 
     /// How many calls of all passes are in the history, which takes one more.

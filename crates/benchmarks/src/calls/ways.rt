@@ -1,7 +1,7 @@
 //! The ways to the same replies: a partition alone, and shared ones.
 use crate::calls::asking::{Asking, number};
 use crate::calls::seat::Seat;
-use anyhow::{Result, bail, ensure};
+use anyhow::{Result, ensure};
 use std::alloc::Global;
 use std::rt::Clock;
 use std::sync::Wait;
@@ -28,32 +28,18 @@ pub fn agree(one: Told, other: Told) -> bool {
 /// A partition that nobody shares does all.
 pub fn alone<C: Clock>(clock: &C, alloc: Global, asking: &Asking, calls: usize) -> Result<Told> {
     let mut partition = Partition::new(alloc, 4, Limits::GREATEST)?;
+    let mut sum = 0u64;
     let start = Instant::now(clock)?;
-    let sum = apply_all(alloc, &mut partition, asking, calls)?;
+    for _ in 0..calls {
+        let op = asking.operation(alloc)?;
+        sum = sum.wrapping_add(number(&partition.apply(alloc, &op)?));
+    }
     let seconds = start.elapsed(clock)?.as_secs_f64();
     Ok(Told {
         calls,
         sum,
         seconds,
     })
-}
-
-/// The sum of the numbers of so many replies of a partition.
-fn apply_all(
-    alloc: Global,
-    partition: &mut Partition,
-    asking: &Asking,
-    calls: usize,
-) -> Result<u64> {
-    let mut sum = 0u64;
-    for _ in 0..calls {
-        let op = asking.operation(alloc)?;
-        let Some(number) = number(&partition.apply(alloc, &op)?) else {
-            bail!("what was asked for isn't done");
-        };
-        sum = sum.wrapping_add(number);
-    }
-    Ok(sum)
 }
 
 /// So many threads make the calls at a shared partition, each as many as the others, and then all of them are in its
@@ -92,31 +78,12 @@ fn ask_in_threads<H: StoredHistory<Op, Reply> + Send, R: Clock + Threads + Wait 
     let sums = map_vec(
         rt,
         seats,
-        &|seat: Seat<H>| { ask_all(rt, alloc, seat, asking, calls) },
+        &|mut seat: Seat<H>| { seat.ask_all(rt, alloc, asking, calls) },
     )?;
     let seconds = start.elapsed(rt)?.as_secs_f64();
-    Ok((seconds, sum_of(&sums)?))
-}
-
-/// The sum of what all threads were told.
-fn sum_of(sums: &[Option<u64>]) -> Result<u64> {
     let mut all = 0u64;
-    for sum in sums {
-        let Some(sum) = sum else {
-            bail!("a shared call isn't done");
-        };
+    for sum in &sums {
         all = all.wrapping_add(*sum);
     }
-    Ok(all)
-}
-
-/// The sum of the numbers of the replies to so many calls of a pass.
-fn ask_all<H: StoredHistory<Op, Reply>, R: Wait>(
-    rt: &R,
-    alloc: Global,
-    mut seat: Seat<H>,
-    asking: &Asking,
-    calls: usize,
-) -> Option<u64> {
-    seat.ask_all(rt, alloc, asking, calls)
+    Ok((seconds, all))
 }

@@ -1,9 +1,10 @@
 //! What a partition is asked, and the number of each reply.
-use anyhow::{Result, bail, ensure};
+use crate::partition::cases::{BLOCKS, Work};
+use anyhow::{Result, bail};
 use std::alloc::Global;
 use step_core::Partition;
-use stream_ident::{Batch, GrainId, Payload, StreamId, SubName, parse_number};
-use stream_model::{Op, Reply, Start};
+use stream_ident::{GrainId, SubName, parse_number};
+use stream_model::{Op, Reply};
 
 /// Asks for an operation, which is to be done, and gives the number of the reply.
 pub fn ask(partition: &mut Partition, alloc: Global, op: &Op) -> Result<u64> {
@@ -20,7 +21,6 @@ fn number_of(reply: &Reply) -> Option<u64> {
         Reply::Subscribed { number } => Some(u64::from(*number)),
         Reply::Pulled { count, .. } => Some(*count as u64),
         Reply::Delivered { token } => Some(token.seq),
-        Reply::Acked => Some(0),
         Reply::Purged { low } => Some(low.seq),
         Reply::Next(grain) => parse_number(grain.key.as_bytes()),
         Reply::DueSub {
@@ -31,41 +31,53 @@ fn number_of(reply: &Reply) -> Option<u64> {
     }
 }
 
-/// A grain subscribes to a stream, from the next batch on. The result is the number of the subscription.
-pub fn subscribe(
+/// Asks so many times for one operation after another, each for what follows the one before, and gives the sum of the
+/// numbers that are answered.
+pub fn ask_in_turn(
     partition: &mut Partition,
     alloc: Global,
-    stream: StreamId,
-    grain: GrainId,
-) -> Result<u32> {
-    let start = Start::Latest;
-    let subscribe = Op::Subscribe {
-        stream,
-        grain,
-        start,
-    };
-    Ok(u32::try_from(ask(partition, alloc, &subscribe)?)?)
+    grains: &[GrainId],
+    work: Work,
+    times: usize,
+) -> Result<u64> {
+    let mut sum = 0u64;
+    // What comes after the last one is the first.
+    let mut before = grains.len().saturating_sub(1);
+    for round in 0..times {
+        let op = operation(work, grains, before, round);
+        sum = sum.wrapping_add(ask(partition, alloc, &op)?);
+        before = round % grains.len().max(1);
+    }
+    Ok(sum)
 }
 
-/// Publishes a batch of so many equal events.
-pub fn publish(
-    partition: &mut Partition,
-    alloc: Global,
-    stream: StreamId,
-    payload: Payload,
-    count: usize,
-) -> Result<()> {
-    let payloads = Batch::of(vec![in alloc; payload; count]?);
-    ask(partition, alloc, &Op::Publish { stream, payloads })?;
-    Ok(())
+/// The operation of a round: for what follows this subscription or its grain, or to drop one more block.
+fn operation(work: Work, grains: &[GrainId], before: usize, round: usize) -> Op {
+    let generation = 0;
+    match work {
+        Work::Due => Op::Due {
+            after: Some(sub(before)),
+        },
+        Work::Ready => Op::Ready {
+            after: grains.get(before).copied(),
+        },
+        Work::Purge => Op::Purge {
+            generation,
+            keep: (BLOCKS - 1).saturating_sub(round) as u32,
+        },
+        _ => Op::Pull { generation, max: 1 },
+    }
 }
 
-/// The agent pulls so many events, which are there.
-pub fn pull(partition: &mut Partition, alloc: Global, max: u32) -> Result<()> {
-    let pull = Op::Pull { generation: 0, max };
-    ensure!(
-        ask(partition, alloc, &pull)? == u64::from(max),
-        "an event is missing"
-    );
-    Ok(())
+/// To deliver an event to the subscription at this place.
+pub fn deliver(place: usize) -> Op {
+    Op::Deliver {
+        generation: 0,
+        sub: sub(place),
+    }
+}
+
+/// The name of the subscription at this place: they are numbered from 1 on.
+fn sub(place: usize) -> SubName {
+    SubName::Explicit(u32::try_from(place).unwrap_or(0).saturating_add(1))
 }

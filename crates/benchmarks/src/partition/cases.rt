@@ -1,13 +1,7 @@
 //! What is measured.
-use crate::partition::lagging::CONSUMERS;
 
-/// How often an operation is asked for, but for a Purge.
-const TIMES: usize = 1_024;
-
-/// The blocks of a full cache, each of which a Purge drops, and its events.
+/// The blocks of a cache. A Purge drops each of them.
 pub const BLOCKS: usize = 64;
-
-const CACHED: usize = 4_096;
 
 /// What is measured, in which sizes, and what has to be answered.
 pub struct Case {
@@ -19,18 +13,24 @@ pub struct Case {
     /// subscriptions from 1 on, or the keys of the grains from 10,000 on, over and over; the numbers of the batches with
     /// which the cache begins, of which a block has 16.
     pub sums: [u64; 4],
+    /// How many events are in the cache when the subscriptions come, which need none of them.
+    pub early: usize,
+    /// How many events come after the subscriptions, but for a drain, which has as many as its size says.
+    pub late: usize,
+    /// How many of these are in the cache.
+    pub pulled: usize,
+    /// How often the operation is asked for.
+    pub times: usize,
 }
 
-/// What is done. The first two cost so much for each event, the others for each operation.
+/// What is done. A drain costs so much for each event, the others for each operation.
 #[derive(Clone, Copy)]
 pub enum Work {
     /// A drain of so many events.
     Drain,
-    /// So many events, of which some are handled late.
-    Lag,
     /// A Due among so many subscriptions.
     Due,
-    /// A Ready among so many grains.
+    /// A Ready among so many grains, to each of which an event is delivered.
     Ready,
     /// A Pull of one event beside so many subscriptions.
     Pull,
@@ -38,89 +38,55 @@ pub enum Work {
     Purge,
 }
 
-pub static CASES: [Case; 6] = [
+pub static CASES: [Case; 5] = [
     Case {
         name: "drain, an event of",
         work: Work::Drain,
         sizes: [100, 1_000, 10_000, 100_000],
         sums: [100, 1_000, 10_000, 100_000],
-    },
-    Case {
-        name: "lag, an event of",
-        work: Work::Lag,
-        sizes: [128, 1_280, 12_800, 128_000],
-        sums: [128, 1_280, 12_800, 128_000],
+        early: 0,
+        late: 0,
+        pulled: 0,
+        times: 0,
     },
     Case {
         name: "Due, subscriptions",
         work: Work::Due,
         sizes: [10, 100, 1_000, 10_000],
         sums: [5_620, 50_800, 500_800, 524_800],
+        early: 0,
+        late: 4,
+        pulled: 4,
+        times: 1_024,
     },
     Case {
         name: "Ready, grains",
         work: Work::Ready,
         sizes: [10, 100, 1_000, 10_000],
         sums: [10_244_596, 10_289_776, 10_739_776, 10_763_776],
+        early: 0,
+        late: 4,
+        pulled: 4,
+        times: 1_024,
     },
     Case {
         name: "Pull, subscriptions",
         work: Work::Pull,
         sizes: [10, 100, 1_000, 10_000],
         sums: [1_024; 4],
+        early: 0,
+        late: 1_024,
+        pulled: 0,
+        times: 1_024,
     },
     Case {
         name: "Purge, subscriptions",
         work: Work::Purge,
         sizes: [10, 100, 1_000, 10_000],
         sums: [33_280; 4],
+        early: 4_096,
+        late: 0,
+        pulled: 0,
+        times: 64,
     },
 ];
-
-/// What a partition has when a case begins.
-#[derive(Clone, Copy)]
-pub struct Before {
-    /// How many events are in the cache when the subscriptions come, which need none of them.
-    pub early: usize,
-    pub subs: usize,
-    pub streams: usize,
-    /// How many events come after the subscriptions.
-    pub late: usize,
-    /// How many of these are in the cache.
-    pub pulled: usize,
-    /// Whether one is delivered to each subscription.
-    pub is_delivered: bool,
-}
-
-impl Work {
-    /// How many events or operations are measured.
-    pub fn units(self, size: usize) -> usize {
-        match self {
-            Work::Drain | Work::Lag => size,
-            Work::Purge => BLOCKS,
-            _ => TIMES,
-        }
-    }
-
-    pub fn before(self, size: usize) -> Before {
-        let (early, subs, streams) = match self {
-            Work::Drain | Work::Lag => (0, CONSUMERS, CONSUMERS),
-            Work::Purge => (CACHED, size, 1),
-            _ => (0, size, 1),
-        };
-        let (late, pulled) = match self {
-            Work::Drain | Work::Lag => (size, 0),
-            Work::Due | Work::Ready => (4, 4),
-            Work::Pull => (TIMES, 0),
-            Work::Purge => (0, 0),
-        };
-        Before {
-            early,
-            subs,
-            streams,
-            late,
-            pulled,
-            is_delivered: matches!(self, Work::Ready),
-        }
-    }
-}

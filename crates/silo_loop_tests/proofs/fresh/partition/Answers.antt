@@ -1,4 +1,4 @@
-use Rattle.std.proofs.Common.{◌∙◌, ap, arith}
+use Rattle.std.proofs.Common.{◌∙◌, ap}
 use Rattle.silo_loop_tests.proofs.fresh.partition.Goals as goal
 
 pub returns : goal.returns

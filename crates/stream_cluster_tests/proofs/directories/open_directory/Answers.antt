@@ -1,7 +1,0 @@
-use Rattle.std.proofs.Common.{◌∙◌, ap}
-use Rattle.stream_cluster_tests.proofs.directories.open_directory.Goals as goal
-
-pub returns : goal.returns
-returns g c =
-    let made = c.in_ok-turnstile.ensures in
-    (ap (λ p. p.turnstile) made.pass, (1000, ap (λ x. x.state) made.start ∙ c.new-shared.ensures))

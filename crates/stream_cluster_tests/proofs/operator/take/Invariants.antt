@@ -1,6 +1,0 @@
-use Rattle.std.proofs.Common.{◌≡◌}
-use Rattle.cluster_callers.specs.Calls.{turnstiles}
-use Rattle.stream_cluster_tests.proofs.operator.take.Given as goal
-
-abbrev pub invariant-loop-row : goal.invariant-loop-row
-invariant-loop-row g l = turnstiles l.caller ≡ l.cluster.0

@@ -1,5 +1,0 @@
-use Rattle.std.proofs.Common.{◌≡◌}
-use Rattle.stream_cluster_tests.proofs.refusals.have_fronts.Given as goal
-
-abbrev pub invariant-loop-queue : goal.invariant-loop-queue
-invariant-loop-queue g l = l.first ≡ l.fn.first
