@@ -2,7 +2,8 @@
 use crate::tasks::{Doing, task_of};
 use script_tasks::perform_task;
 
-/// Two streams, a rule, silos that come and go, and lines that are refused.
+/// Two streams, a rule, silos that come and go, and lines that are refused. A start lies past all that was published:
+/// which earlier ones are gone depends on how far the silos are when the queue moves.
 const STORY: &[u8] = b"sub o/k g/x latest
 rule log o
 rule log o
@@ -15,7 +16,7 @@ pub o/k
 unsub 0:2
 unsub 0:7
 drain
-sub o/k g/y from 0.1
+sub o/k g/y from 2.0
 unsub 0:1
 unsub 0:1
 down 9
@@ -31,8 +32,7 @@ refused 15
 refused 16
 report
 0:1 closed
-0:2 o/k g/y 0.1 2
-  0.1 \"b\"
+0:2 o/k g/y 2.0 1
   2.0 \"d\"
 0:log@o/k o/k log/k 0.0 3
   0.0 \"a\"
