@@ -16,8 +16,8 @@ use Rattle.stream_cluster.specs.declared.cluster.SiloUp.TheVariants as up
 use Rattle.stream_cluster.specs.Clusters.{AnswersDown, AnswersUp, ClusterView, IsDown, IsUp, MayGo}
 use Rattle.stream_cluster.proofs.Standing.{lives-at, op-refl}
 use Rattle.script_parser.specs.declared.command.Command.TheVariants as command
-use Rattle.script_laws.specs.ScriptReport.{refused_where}
-use Rattle.script_laws.specs.Told.{is_among}
+use Rattle.script_reader.specs.ScriptReport.{refused_where}
+use Rattle.script_reader.specs.Told.{is_among}
 use Rattle.script_producer.specs.declared.answer.Answer.TheVariants as answer
 use Rattle.cluster_scripts.specs.Lines.{ChangesBy}
 

@@ -5,9 +5,9 @@ use Rattle.stream_model.specs.declared.op.Op.{Op}
 use Rattle.silo_loops.specs.Lines.{QueuePass}
 use Rattle.stream_cluster.specs.Clusters.{ClusterView}
 use Rattle.script_parser.specs.declared.command.Command.{Command}
-use Rattle.script_laws.specs.ScriptReport.{live_after}
-use Rattle.script_laws.specs.Told as script
-use Rattle.script_laws.proofs.Growing.{scripts-grow}
+use Rattle.script_reader.specs.ScriptReport.{live_after}
+use Rattle.script_reader.specs.Told as script
+use Rattle.script_reader.proofs.Growing.{scripts-grow}
 use Rattle.script_producer.specs.declared.answer.Answer.{Answer}
 use Rattle.script_producer.specs.declared.answer.Answer.TheVariants as answer
 use Rattle.script_producer.specs.Telling.{Tells, TellsUnlessLimit, with_missed}

@@ -20,14 +20,14 @@ use Rattle.cluster_operator.proofs.Changing.{op-trans}
 use Rattle.stream_cluster.proofs.Standing.{op-refl}
 use Rattle.stream_ident.proofs.WordLemmas.{All-at}
 use Rattle.script_parser.specs.declared.command.Command.TheVariants as command
-use Rattle.script_laws.specs.declared.line.Line.{Line}
-use Rattle.script_laws.specs.declared.script_line.ScriptLine.{ScriptLine}
-use Rattle.script_laws.specs.declared.script_line.ScriptLine.TheVariants as printed
-use Rattle.script_laws.specs.ScriptLaws.{HasNoLine}
-use Rattle.script_laws.specs.ScriptReport.{command_printed, live_after, live_silos, script_lines}
-use Rattle.script_laws.specs.Told as script
-use Rattle.script_laws.proofs.Growing.{scripts-grow}
-use Rattle.script_laws.proofs.Misses.{misses-change-no-other}
+use Rattle.script_reader.specs.declared.line.Line.{Line}
+use Rattle.script_reader.specs.declared.script_line.ScriptLine.{ScriptLine}
+use Rattle.script_reader.specs.declared.script_line.ScriptLine.TheVariants as printed
+use Rattle.script_reader.specs.ScriptLaws.{HasNoLine}
+use Rattle.script_reader.specs.ScriptReport.{command_printed, live_after, live_silos, script_lines}
+use Rattle.script_reader.specs.Told as script
+use Rattle.script_reader.proofs.Growing.{scripts-grow}
+use Rattle.script_reader.proofs.Misses.{misses-change-no-other}
 use Rattle.script_producer.specs.declared.answer.Answer.{Answer}
 use Rattle.script_producer.specs.declared.answer.Answer.TheVariants as answer
 use Rattle.script_producer.specs.Telling.{AloneProduces, BeginsEmpty, HasGoneOn, HasTold, IsNewNumber, LooksQuiet, ProducesAlone, Tells, printed_lines, told_at, with_missed}

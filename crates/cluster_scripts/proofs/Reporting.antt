@@ -25,11 +25,11 @@ use Rattle.cluster_ending.proofs.Rows.{zip-at}
 use Rattle.script_printer.specs.Report.{queue_report, report_from}
 use Rattle.stream_cluster.specs.declared.config.Config.{Config}
 use Rattle.stream_cluster.specs.Clusters.{ClusterView, HasFinished, IsAtQueue, IsConfig, IsNew}
-use Rattle.script_laws.specs.declared.line.Line.{Line}
-use Rattle.script_laws.specs.declared.script_line.ScriptLine.{ScriptLine}
-use Rattle.script_laws.specs.ScriptReport.{told_report}
-use Rattle.script_laws.specs.Told as script
-use Rattle.script_laws.proofs.QuietReports.{script-told}
+use Rattle.script_reader.specs.declared.line.Line.{Line}
+use Rattle.script_reader.specs.declared.script_line.ScriptLine.{ScriptLine}
+use Rattle.script_reader.specs.ScriptReport.{told_report}
+use Rattle.script_reader.specs.Told as script
+use Rattle.script_reader.proofs.QuietReports.{script-told}
 use Rattle.script_producer.specs.Telling.{AloneProduces, BeginsEmpty, HasGoneOn, HasTold, ProducesAlone}
 use Rattle.script_producer.proofs.Seen.{none-told}
 use Rattle.cluster_scripts.specs.declared.running.ScriptEnd.{ScriptEnd}

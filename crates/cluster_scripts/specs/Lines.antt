@@ -6,8 +6,8 @@ use Rattle.silo_loops.specs.Lines.{QueuePass}
 use Rattle.cluster_operator.specs.Operators.{OperatorGoesOn}
 use Rattle.stream_cluster.specs.Clusters.{ClusterView}
 use Rattle.script_parser.specs.declared.command.Command.{Command}
-use Rattle.script_laws.specs.declared.line.Line.{Line}
-use Rattle.script_laws.specs.ScriptReport.{command_printed, live_after, live_silos}
+use Rattle.script_reader.specs.declared.line.Line.{Line}
+use Rattle.script_reader.specs.ScriptReport.{command_printed, live_after, live_silos}
 use Rattle.script_producer.specs.declared.answer.Answer.{Answer}
 use Rattle.script_producer.specs.Telling.{AloneProduces, BeginsEmpty, HasTold, IsNewNumber, printed_lines, with_missed}
 

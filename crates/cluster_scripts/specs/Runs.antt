@@ -15,11 +15,11 @@ use Rattle.cluster_ending.specs.declared.finishing.Finished.{Finished}
 use Rattle.cluster_ending.specs.declared.finishing.Finished.TheVariants as finished
 use Rattle.stream_cluster.specs.declared.config.Config.{Config}
 use Rattle.stream_cluster.specs.Clusters.{ClusterView, is_fixed}
-use Rattle.script_laws.specs.declared.line.Line.{Line}
-use Rattle.script_laws.specs.declared.script_line.ScriptLine.{ScriptLine}
-use Rattle.script_laws.specs.declared.script_line.ScriptLine.TheVariants as printed
-use Rattle.script_laws.specs.ScriptReport.{line_text, live_silos, script_lines, script_report}
-use Rattle.script_laws.specs.Told as script
+use Rattle.script_reader.specs.declared.line.Line.{Line}
+use Rattle.script_reader.specs.declared.script_line.ScriptLine.{ScriptLine}
+use Rattle.script_reader.specs.declared.script_line.ScriptLine.TheVariants as printed
+use Rattle.script_reader.specs.ScriptReport.{line_text, live_silos, script_lines, script_report}
+use Rattle.script_reader.specs.Told as script
 use Rattle.script_producer.specs.Telling.{AloneProduces, BeginsEmpty, HasTold, LooksQuiet}
 use Rattle.cluster_scripts.specs.declared.outcome.Ran.{Ran}
 use Rattle.cluster_scripts.specs.declared.outcome.RunEnd.{RunEnd}

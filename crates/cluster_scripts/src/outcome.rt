@@ -8,7 +8,7 @@ ghost use Rattle.cluster_scripts.specs.Runs.{LeavesLegalTraces, RunsScript, run_
 use crate::running::{ScriptEnd, ScriptRun, run_script};
 use activation_directory::{DirectoryOp, DirectoryReply};
 use cluster_ending::{Finished, Traces};
-use script_laws::{Line, ScriptLine};
+use script_reader::{Line, ScriptLine};
 use shared_partition::Gate;
 use std::alloc::{AllocError, Global};
 use std::sync::{Arc, Wait};

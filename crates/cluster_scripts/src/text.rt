@@ -1,12 +1,12 @@
 //! The text that goes out of a run.
 ghost use Rattle.std.specs.Prelude.{◌≡◌, ◌++◌, [], IfOk, OnOk};
 ghost use Rattle.std.specs.List.{flat_map};
-ghost use Rattle.script_laws.specs.ScriptReport.{line_text};
+ghost use Rattle.script_reader.specs.ScriptReport.{line_text};
 ghost use Rattle.cluster_scripts.specs.Runs.{text_of};
 
 use crate::outcome::{Ran, RunEnd};
 use itoa::Buffer;
-use script_laws::ScriptLine;
+use script_reader::ScriptLine;
 use std::alloc::{AllocError, Global};
 
 /// All that a run prints: a line for each line of the script that is refused, and then the report, where it has one.

@@ -18,7 +18,7 @@ use Rattle.consumer_grain.specs.declared.mailbox.Delivery.{Delivery}
 use Rattle.grain_table.specs.Grains.{PlainGrains, is_ready, is_running, AreDistinct, AreIdle}
 use Rattle.grain_table.specs.Changes.{no_grain, activation_at, grain_at}
 use Rattle.grain_table.specs.Table.{is_entry_ready, name_of, running_in, AreReady, AreReadyBut}
-use Rattle.ranking.proofs.ListedLemmas.{listed-but}
+use Rattle.ranked_index.proofs.ListedLemmas.{listed-but}
 
 -- an activation read, changed and written
 pub written : (grains : PlainGrains) (change : PlainActivation → PlainActivation) (number : ℕ) (a : PlainActivation) → number < length grains → a ≡ change (activation_at grains number) → set_value_at grains number a ≡ change_at change number grains

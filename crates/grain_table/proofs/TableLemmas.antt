@@ -11,9 +11,9 @@ use Rattle.stream_ident.proofs.FirstLemmas.{first_at-there}
 use Rattle.stream_ident.proofs.NameOrders.{grain_order}
 use Rattle.stream_ident.proofs.SameValues.{same_grain-equal}
 use Rattle.consumer_grain.specs.Activations.{PlainActivation}
-use Rattle.ranking.specs.Listed.{IsListed}
-use Rattle.ranking.specs.Ranked.{entry_at, IsFirstPast}
-use Rattle.ranking.proofs.ListedLemmas.{listed-in, listed-insert, listed-last, listed-out, listed-remove, listed-room, next_listed-first, next_listed-none, next_listed-past}
+use Rattle.ranked_index.specs.Listed.{IsListed}
+use Rattle.ranked_index.specs.Ranked.{entry_at, IsFirstPast}
+use Rattle.ranked_index.proofs.ListedLemmas.{listed-in, listed-insert, listed-last, listed-out, listed-remove, listed-room, next_listed-first, next_listed-none, next_listed-past}
 use Rattle.grain_table.specs.Changes.{no_grain, grain_at}
 use Rattle.grain_table.specs.Grains.{PlainGrains, is_ready, number_of, ready_after, AreDistinct}
 use Rattle.grain_table.specs.Table.{is_entry_ready, name_of, AreReady, AreReadyBut}

@@ -3,7 +3,7 @@ use Rattle.std.specs.Prelude.{◌≡◌, ℕ, ◌^◌, ◌≤◌, Bool, List, fi
 use Rattle.stream_ident.specs.declared.ident.GrainId.{GrainId}
 use Rattle.stream_ident.specs.Name.{grain_lt}
 use Rattle.consumer_grain.specs.Activations.{PlainActivation}
-use Rattle.ranking.specs.Listed.{AreListed, AreListedBut, AreRising}
+use Rattle.ranked_index.specs.Listed.{AreListed, AreListedBut, AreRising}
 use Rattle.grain_table.specs.Grains.{PlainGrains, is_ready, is_running, AreDistinct}
 
 -- the grain of an entry

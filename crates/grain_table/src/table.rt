@@ -6,7 +6,7 @@ ghost use Rattle.stream_ident.specs.Name.{grain_lt};
 ghost use Rattle.consumer_grain.specs.Activations.{begin, deactivated, forgotten, lost, new_activation, offer_takes_memory, without_turn, woken};
 ghost use Rattle.consumer_grain.specs.Begins.{RisesFrom};
 ghost use Rattle.consumer_grain.specs.Subscriptions.{rises_from};
-ghost use Rattle.ranking.specs.Ranked.{is_up_to, IsFirstPast};
+ghost use Rattle.ranked_index.specs.Ranked.{is_up_to, IsFirstPast};
 ghost use Rattle.grain_table.specs.Changes.{activation_at, grain_at, OffersAt};
 ghost use Rattle.grain_table.specs.Grains.{is_ready, least_running, least_waiting, number_of, ready_after, with_grain, AreDistinct, AreIdle, PlainGrains};
 ghost use Rattle.grain_table.specs.Table.{name_of, AreReady, AreReadyBut, HaveRisingNames};

@@ -52,19 +52,6 @@ impl Log {
         })
     }
 
-    /// A log of batches, each of so many events of the stream with its key.
-    pub(crate) fn of<R: Abort>(
-        rt: &R,
-        alloc: Global,
-        batches: &[(u8, usize)],
-    ) -> Result<Log, AllocError> {
-        let mut log = Log::new(rt, alloc, 256)?;
-        for (key, count) in batches {
-            log.insist(rt, alloc, *key, *count)?;
-        }
-        Ok(log)
-    }
-
     /// Appends a batch of so many events to the stream with a key.
     pub(crate) fn append<R: Abort>(
         &mut self,
@@ -75,20 +62,6 @@ impl Log {
     ) -> Result<Appended, AllocError> {
         let batch = batch(rt, alloc, count)?;
         self.queue.append(alloc, stream(rt, b'o', key), &batch)
-    }
-
-    /// Does so. One want of memory is answered by asking again.
-    fn insist<R: Abort>(
-        &mut self,
-        rt: &R,
-        alloc: Global,
-        key: u8,
-        count: usize,
-    ) -> Result<(), AllocError> {
-        if self.append(rt, alloc, key, count).is_err() {
-            self.append(rt, alloc, key, count)?;
-        }
-        Ok(())
     }
 
     /// Reads so many events from a position on.

@@ -1,7 +1,7 @@
 -- Blocks that leave a cache.
 use Rattle.std.proofs.Common.{◌≡◌, ◌∙◌, ap, refl, ℕ, ◌+◌, ◌*◌, ◌<◌, ◌≤◌, length, drop, length-drop, add-zero, arith}
 use Rattle.std.proofs.lemmas.List.{drop-drop}
-use Rattle.queue_cache.specs.Cache.{PlainCache, without_front}
+use Rattle.pulling_agent.specs.Cache.{PlainCache, without_front}
 use Rattle.pulling_agent.specs.Agent.{without_blocks}
 
 pub no_blocks : (c : PlainCache) → c ≡ without_blocks 0 c

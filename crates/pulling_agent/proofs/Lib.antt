@@ -1,1 +1,4 @@
 pub mod BlockLemmas
+pub mod RingLemmas
+pub mod SeekLemmas
+pub mod TagLemmas

@@ -1,11 +1,11 @@
 //! The agent.
 ghost use Rattle.std.specs.Prelude.{◌≡◌, ◌+◌, ◌-◌, ◌*◌, ◌^◌, ◌<◌, ◌≤◌, length, max, IfOk};
-ghost use Rattle.queue_cache.specs.Cache.{high, room};
+ghost use Rattle.pulling_agent.specs.Cache.{high, room};
 ghost use Rattle.queue_mapper.specs.Place.{tags_of};
 ghost use Rattle.pulling_agent.specs.Agent.{check, drops, empty, free_blocks, plan_pull, pulled, purge, take_over, without_blocks, MayTake};
 ghost use Rattle.stream_ident.specs.Blocks.{pull_size};
 
-use queue_cache::{BLOCK_SIZE, QueueCache};
+use crate::cache::{BLOCK_SIZE, QueueCache};
 use std::alloc::{AllocError, Global};
 use std::marker::Model;
 use stream_ident::Event;

@@ -17,9 +17,9 @@ use Rattle.script_parser.specs.declared.command.Command.TheVariants as command
 use Rattle.script_parser.specs.declared.command.EachOp.{EachOp}
 use Rattle.script_parser.specs.declared.command.EachOp.TheVariants as each
 use Rattle.script_parser.specs.Forms.{op_of}
-use Rattle.script_laws.specs.declared.line.Line.{Line}
-use Rattle.script_laws.specs.ScriptReport.{op_printed}
-use Rattle.script_laws.specs.Told as script
+use Rattle.script_reader.specs.declared.line.Line.{Line}
+use Rattle.script_reader.specs.ScriptReport.{op_printed}
+use Rattle.script_reader.specs.Told as script
 use Rattle.script_producer.specs.declared.answer.Answer.{Answer}
 use Rattle.script_producer.specs.declared.answer.Answer.TheVariants as answer
 use Rattle.script_producer.specs.Telling.{AloneProduces, AsksOnce, BeginsEmpty, HasGoneOn, HasTold, IsAnswered, IsNewNumber, ProducesAlone, Tells, TellsUnlessLimit, answer_of, printed_lines, told_at, with_missed}

@@ -16,13 +16,13 @@ use Rattle.shared_partition.specs.Partitions.{BeganEmpty, after, replied, told_o
 use Rattle.silo_loops.specs.Lines.{QueuePass}
 use Rattle.cluster_callers.specs.Calls.{QueueCalls}
 use Rattle.script_parser.specs.declared.command.Command.{Command}
-use Rattle.script_laws.specs.declared.line.Line.{Line}
-use Rattle.script_laws.specs.ScriptLaws.{HasNoLine, is_limit, is_miss}
-use Rattle.script_laws.specs.ScriptReport.{op_printed, reply_lines}
-use Rattle.script_laws.specs.Told as script
-use Rattle.script_laws.proofs.Growing.{scripts-grow}
-use Rattle.script_laws.proofs.Misses.{misses-change-no-other}
-use Rattle.script_laws.proofs.ToldReplies.{replies-told}
+use Rattle.script_reader.specs.declared.line.Line.{Line}
+use Rattle.script_reader.specs.ScriptLaws.{HasNoLine, is_limit, is_miss}
+use Rattle.script_reader.specs.ScriptReport.{op_printed, reply_lines}
+use Rattle.script_reader.specs.Told as script
+use Rattle.script_reader.proofs.Growing.{scripts-grow}
+use Rattle.script_reader.proofs.Misses.{misses-change-no-other}
+use Rattle.script_reader.proofs.ToldReplies.{replies-told}
 use Rattle.script_producer.specs.declared.answer.Answer.{Answer}
 use Rattle.script_producer.specs.declared.answer.Answer.TheVariants as answer
 use Rattle.script_producer.specs.Telling.{BeginsEmpty, IsNewNumber, ProducesAlone, answer_of, printed_lines, told_at, with_missed}

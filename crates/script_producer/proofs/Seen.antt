@@ -16,7 +16,7 @@ use Rattle.silo_loops.specs.Lines.{QueuePass}
 use Rattle.silo_loops.specs.Passes.{OwnsNone}
 use Rattle.silo_loops.proofs.Owning.{calls-more, owns-append, owns-foreign}
 use Rattle.cluster_callers.specs.Calls.{QueueCalls}
-use Rattle.script_laws.specs.Told as script
+use Rattle.script_reader.specs.Told as script
 use Rattle.script_producer.specs.Telling.{HasGoneOn, ProducesAlone, told_at}
 
 -- ---- passes that have seen more

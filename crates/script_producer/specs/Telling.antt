@@ -19,12 +19,12 @@ use Rattle.cluster_callers.specs.Calls.{CallerCalls}
 use Rattle.cluster_ending.specs.declared.asking.Quiet.TheVariants.{All}
 use Rattle.cluster_ending.specs.Asking.{AsksQuiet}
 use Rattle.script_parser.specs.declared.command.Command.{Command}
-use Rattle.script_laws.specs.declared.line.Line.{Line}
-use Rattle.script_laws.specs.declared.script_line.ScriptLine.{ScriptLine}
-use Rattle.script_laws.specs.declared.script_line.ScriptLine.TheVariants as printed
-use Rattle.script_laws.specs.ScriptLaws.{HasNoLine}
-use Rattle.script_laws.specs.ScriptReport.{command_printed, is_refusal}
-use Rattle.script_laws.specs.Told as script
+use Rattle.script_reader.specs.declared.line.Line.{Line}
+use Rattle.script_reader.specs.declared.script_line.ScriptLine.{ScriptLine}
+use Rattle.script_reader.specs.declared.script_line.ScriptLine.TheVariants as printed
+use Rattle.script_reader.specs.ScriptLaws.{HasNoLine}
+use Rattle.script_reader.specs.ScriptReport.{command_printed, is_refusal}
+use Rattle.script_reader.specs.Told as script
 use Rattle.script_producer.specs.declared.answer.Answer.{Answer}
 use Rattle.script_producer.specs.declared.answer.Answer.TheVariants as answer
 

@@ -12,7 +12,7 @@ use Rattle.script_parser.specs.declared.command.Parsed.TheVariants as parsed
 use Rattle.stream_ident.proofs.EachOf.{All-push}
 use Rattle.script_parser.specs.Grammar.{Reads}
 use Rattle.script_parser.specs.Reading.{IsWithin, reading}
-use Rattle.script_laws.specs.declared.line.Line.{Line}
+use Rattle.script_reader.specs.declared.line.Line.{Line}
 use Rattle.script_reader.specs.Scripts.{IsRunCommand, IsScript, RisesFrom, lines_after, with_parsed}
 
 -- what is read of more lines is put behind what was found

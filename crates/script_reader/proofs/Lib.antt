@@ -1,1 +1,11 @@
 pub mod Finding
+pub mod Growing
+pub mod Made
+pub mod Misses
+pub mod Producers
+pub mod QuietReports
+pub mod Registrations
+pub mod ToldRecords
+pub mod ToldReplies
+pub mod ToldSteps
+pub mod WorkedRows

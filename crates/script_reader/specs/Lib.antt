@@ -1,1 +1,4 @@
+pub mod ScriptLaws
+pub mod ScriptReport
 pub mod Scripts
+pub mod Told

@@ -10,7 +10,7 @@ use Rattle.script_parser.specs.declared.command.Parsed.{Parsed}
 use Rattle.script_parser.specs.declared.command.Parsed.TheVariants as parsed
 use Rattle.script_parser.specs.Forms.{op_of}
 use Rattle.script_parser.specs.Reading.{reading}
-use Rattle.script_laws.specs.declared.line.Line.{Line}
+use Rattle.script_reader.specs.declared.line.Line.{Line}
 use Rattle.script_reader.specs.declared.reading.Script.{Script}
 use Rattle.script_reader.specs.declared.reading.Script.TheVariants as script
 

@@ -3,7 +3,7 @@ ghost use Rattle.std.specs.Prelude.{◌≤◌, length, IfOk};
 ghost use Rattle.script_parser.specs.Lines.{lines_of};
 ghost use Rattle.script_reader.specs.Scripts.{IsRead};
 
-use script_laws::Line;
+use crate::line::Line;
 use script_parser::{Command, Fault, Lines, Mode, Parsed, parse_line};
 use std::alloc::{AllocError, Global};
 

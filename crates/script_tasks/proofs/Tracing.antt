@@ -18,8 +18,8 @@ use Rattle.trace_printer.specs.Traces.{trace_text, traces_from}
 use Rattle.trace_printer.proofs.Printing.{traces-next}
 use Rattle.cluster_ending.specs.declared.closing.Traces.{Traces}
 use Rattle.stream_cluster.specs.declared.config.Config.{Config}
-use Rattle.script_laws.specs.declared.line.Line.{Line}
-use Rattle.script_laws.specs.declared.script_line.ScriptLine.{ScriptLine}
+use Rattle.script_reader.specs.declared.line.Line.{Line}
+use Rattle.script_reader.specs.declared.script_line.ScriptLine.{ScriptLine}
 use Rattle.cluster_scripts.specs.declared.outcome.Ran.{Ran}
 use Rattle.cluster_scripts.specs.declared.outcome.RunEnd.{RunEnd}
 use Rattle.cluster_scripts.specs.declared.outcome.RunEnd.TheVariants as ends

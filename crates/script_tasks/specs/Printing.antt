@@ -10,8 +10,8 @@ use Rattle.turnstile.specs.declared.asked.AskedHistory.{AskedHistory}
 use Rattle.turnstile.specs.Asked.{asked_entries}
 use Rattle.turnstile.specs.History.{IsLegal}
 use Rattle.shared_partition.specs.Partitions.{after, replied}
-use Rattle.script_laws.specs.declared.line.Line.{Line}
-use Rattle.script_laws.specs.ScriptReport.{script_text}
+use Rattle.script_reader.specs.declared.line.Line.{Line}
+use Rattle.script_reader.specs.ScriptReport.{script_text}
 use Rattle.script_parser.specs.declared.command.Fault.{Fault}
 use Rattle.script_parser.specs.Lines.{lines_of}
 use Rattle.script_reader.specs.Scripts.{lines_after}

@@ -23,8 +23,8 @@ use Rattle.stream_model.specs.Pulling as plain
 use Rattle.consumer_grain.specs.Activations.{PlainActivation, new_activation, woken}
 use Rattle.consumer_grain.specs.Subscriptions.{PlainState, advanced, caught_up}
 use Rattle.pubsub_registry.specs.declared.registration.Registration.{Registration}
-use Rattle.cache_cursor.specs.Cursor.{lower_in, next_in}
-use Rattle.queue_cache.specs.Cache.{high}
+use Rattle.pulling_agent.specs.Cursor.{lower_in, next_in}
+use Rattle.pulling_agent.specs.Cache.{high}
 use Rattle.step_core.specs.declared.parts.Parts.{Parts}
 use Rattle.step_core.specs.PlainOf.{plain_of}
 use Rattle.step_core.specs.Assembly.{HasEvents}

@@ -8,10 +8,10 @@ use Rattle.stream_model.specs.declared.plain.Subscription.{Subscription}
 use Rattle.stream_model.specs.Looks.{is_due}
 use Rattle.stream_model.specs.Positions.{least_or, open_resumes, slowest}
 use Rattle.consumer_grain.specs.Subscriptions.{PlainState, is_unacknowledged}
-use Rattle.least_tree.specs.Keys.{lesser_key}
+use Rattle.ranked_index.specs.Keys.{lesser_key}
 use Rattle.pubsub_registry.specs.declared.registration.Registration.{Registration}
-use Rattle.resume_tree.specs.declared.resumes.Leaf.{Leaf}
-use Rattle.resume_tree.specs.Leaves as leaves
+use Rattle.ranked_index.specs.declared.resumes.Leaf.{Leaf}
+use Rattle.ranked_index.specs.Leaves as leaves
 use Rattle.subscription_table.specs.LeavesOf.{leaf_of, leaves_of, open_resume}
 use Rattle.step_core.specs.declared.parts.Parts.{Parts}
 use Rattle.step_core.specs.PlainOf.{plain_of}

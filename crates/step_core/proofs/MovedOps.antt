@@ -12,7 +12,7 @@ use Rattle.stream_model.specs.Pulling as plain
 use Rattle.consumer_grain.specs.Subscriptions.{PlainState}
 use Rattle.pulling_agent.specs.Agent as agent
 use Rattle.pulling_agent.specs.declared.agent.StaleAgent.{StaleAgent}
-use Rattle.queue_cache.specs.Cache.{PlainCache, high}
+use Rattle.pulling_agent.specs.Cache.{PlainCache, high}
 use Rattle.subscription_table.specs.Standing.{AreRecords}
 use Rattle.subscription_table.specs.Table.{PlainTable, rewound_all, rewound_open}
 use Rattle.stream_model.proofs.Refusals.{purge-stale}

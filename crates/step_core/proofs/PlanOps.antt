@@ -11,15 +11,15 @@ use Rattle.stream_model.specs.declared.reply.Reply.TheVariants as reply
 use Rattle.stream_model.specs.Positions.{slowest, slowest_name, is_open_at}
 use Rattle.stream_model.specs.Pulling as plain
 use Rattle.consumer_grain.specs.Subscriptions.{PlainState}
-use Rattle.least_tree.specs.Keys.{lesser_key}
+use Rattle.ranked_index.specs.Keys.{lesser_key}
 use Rattle.pubsub_registry.specs.declared.registration.Registration.{Registration}
 use Rattle.pulling_agent.specs.Agent as agent
 use Rattle.pulling_agent.specs.declared.agent.Plan.{Plan}
 use Rattle.pulling_agent.specs.declared.agent.Plan.TheVariants as plan
 use Rattle.pulling_agent.specs.declared.agent.StaleAgent.{StaleAgent}
-use Rattle.queue_cache.specs.Cache as cache
-use Rattle.resume_tree.specs.declared.resumes.Leaf.{Leaf}
-use Rattle.resume_tree.specs.Leaves as leaves
+use Rattle.pulling_agent.specs.Cache as cache
+use Rattle.ranked_index.specs.declared.resumes.Leaf.{Leaf}
+use Rattle.ranked_index.specs.Leaves as leaves
 use Rattle.subscription_table.specs.LeavesOf.{leaf_of, leaves_of, open_resume}
 use Rattle.stream_ident.specs.Words.{keys_where, least, has_number}
 use Rattle.stream_model.proofs.Refusals.{pull-stale}

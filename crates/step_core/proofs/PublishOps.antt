@@ -13,7 +13,7 @@ use Rattle.stream_model.specs.Step as plain
 use Rattle.partition_queue.specs.declared.appended.Appended.{Appended}
 use Rattle.partition_queue.specs.declared.appended.Appended.TheVariants as appended
 use Rattle.partition_queue.specs.Queue.{PlainQueue, append, takes_memory}
-use Rattle.queue_cache.specs.Cache.{high}
+use Rattle.pulling_agent.specs.Cache.{high}
 use Rattle.step_core.specs.Assembly.{IsAssembled}
 use Rattle.step_core.specs.PlainOf.{plain_of}
 use Rattle.step_core.specs.Replies.{of_append}

@@ -16,7 +16,7 @@ use Rattle.pubsub_registry.specs.declared.registration.Registration.{Registratio
 use Rattle.pubsub_registry.specs.declared.told.Implied.{Implied}
 use Rattle.pubsub_registry.specs.declared.told.Implied.TheVariants as implied_told
 use Rattle.pubsub_registry.specs.Implying as implying
-use Rattle.queue_cache.specs.Cache.{high}
+use Rattle.pulling_agent.specs.Cache.{high}
 use Rattle.subscription_table.specs.Table.{PlainTable, implied_by, new_states}
 use Rattle.subscription_table.specs.Table as table
 use Rattle.stream_model.proofs.Answering.{on-error}

@@ -6,7 +6,7 @@ use Rattle.stream_model.specs.Positions.{between}
 use Rattle.stream_model.specs.Step.{IsReached}
 use Rattle.grain_table.specs.Grains.{AreDistinct}
 use Rattle.pubsub_registry.specs.Index.{AreUnique}
-use Rattle.queue_cache.specs.Cache.{high}
+use Rattle.pulling_agent.specs.Cache.{high}
 use Rattle.subscription_table.specs.Standing.{AreRecords}
 use Rattle.step_core.specs.declared.parts.Parts.{Parts}
 use Rattle.step_core.specs.Known.{AreKnown}

@@ -21,7 +21,7 @@ mod turns;
 
 pub use outcome::{NewTurn, Outcome, Told};
 pub use partition::Partition;
+pub use ranked_index::{Leaf, Resumes};
 pub use reading::SubSummary;
-pub use resume_tree::{Leaf, Resumes};
 pub use stream_laws as laws;
 pub use stream_model::{DrainEnd, Events, Limits, Op, Pending, Reply, Start};

@@ -5,7 +5,7 @@ ghost use Rattle.stream_model.specs.Pulling.{pull};
 ghost use Rattle.stream_model.specs.Step.{takes_memory};
 ghost use Rattle.stream_ident.specs.Words.{Performs};
 ghost use Rattle.pulling_agent.specs.Agent.{IsTakeable};
-ghost use Rattle.queue_cache.specs.Cache.{high, room};
+ghost use Rattle.pulling_agent.specs.Cache.{high, room};
 ghost use Rattle.queue_mapper.specs.Place.{tags_of};
 ghost use Rattle.step_core.specs.Assembly.{Agrees, IsAssembled};
 ghost use Rattle.step_core.specs.PlainOf.{plain_of};

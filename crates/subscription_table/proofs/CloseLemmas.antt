@@ -16,8 +16,8 @@ use Rattle.pubsub_registry.specs.declared.registration.Registration.{Registratio
 use Rattle.pubsub_registry.specs.declared.told.Closing.{Closing}
 use Rattle.pubsub_registry.specs.declared.told.Closing.TheVariants.{Done, NoSuch, Implicit, Closed}
 use Rattle.stream_ident.proofs.SameValues.{same_sub-refl}
-use Rattle.resume_tree.specs.declared.resumes.Leaf.{Leaf}
-use Rattle.resume_tree.specs.Leaves.{changed}
+use Rattle.ranked_index.specs.declared.resumes.Leaf.{Leaf}
+use Rattle.ranked_index.specs.Leaves.{changed}
 use Rattle.pubsub_registry.specs.Registry.{PlainRegistry, close_found, registration_of, closed_registration}
 use Rattle.subscription_table.specs.LeavesOf.{leaf_of, leaves_of, open_resume}
 use Rattle.subscription_table.specs.Standing.{AreRecords, IsTable, tags_of}

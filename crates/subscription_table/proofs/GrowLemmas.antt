@@ -23,8 +23,8 @@ use Rattle.pubsub_registry.specs.declared.told.Added.{Added}
 use Rattle.pubsub_registry.specs.declared.told.Added.TheVariants as add_told
 use Rattle.pubsub_registry.specs.declared.told.Implied.{Implied}
 use Rattle.pubsub_registry.specs.declared.told.Implied.TheVariants as implied_told
-use Rattle.resume_tree.specs.Leaves.{open_leaf}
-use Rattle.resume_tree.specs.declared.resumes.Leaf.{Leaf}
+use Rattle.ranked_index.specs.Leaves.{open_leaf}
+use Rattle.ranked_index.specs.declared.resumes.Leaf.{Leaf}
 use Rattle.stream_ident.specs.Implying.{added}
 use Rattle.pubsub_registry.specs.Implying.{all_implied, implied, imply, names_with}
 use Rattle.subscription_table.specs.LeavesOf.{leaves_of}

@@ -10,8 +10,8 @@ use Rattle.stream_ident.specs.Words.{value_at}
 use Rattle.stream_ident.specs.declared.ident.SubName.{SubName}
 use Rattle.consumer_grain.specs.Subscriptions.{PlainState}
 use Rattle.pubsub_registry.specs.declared.registration.Registration.{Registration}
-use Rattle.resume_tree.specs.Leaves.{IsNameAt, IsNew}
-use Rattle.resume_tree.specs.declared.resumes.Leaf.{Leaf}
+use Rattle.ranked_index.specs.Leaves.{IsNameAt, IsNew}
+use Rattle.ranked_index.specs.declared.resumes.Leaf.{Leaf}
 use Rattle.subscription_table.specs.LeavesOf.{leaf_of, leaves_of}
 use Rattle.subscription_table.specs.Standing.{IsTable}
 use Rattle.subscription_table.specs.Table.{PlainTable, name_at, no_entry, no_state, registration_at, state_at, stepped, with_state}

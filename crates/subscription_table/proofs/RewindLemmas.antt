@@ -2,7 +2,7 @@
 use Rattle.std.proofs.Common.{◌≡◌, ◌∙◌, ℕ, ◌+◌, ◌^◌, ◌<◌, Bool, true, false, List, length, get_or, map, if◌then◌else◌, refl, sym, ap, subst, arith}
 use Rattle.std.proofs.lemmas.List.{get_or-map, length-map, same_lists}
 use Rattle.consumer_grain.specs.Subscriptions.{PlainState}
-use Rattle.resume_tree.specs.declared.resumes.Leaf.{Leaf}
+use Rattle.ranked_index.specs.declared.resumes.Leaf.{Leaf}
 use Rattle.subscription_table.specs.LeavesOf.{leaf_of, leaves_of}
 use Rattle.subscription_table.specs.Rows.{AreRewoundAt}
 use Rattle.subscription_table.specs.Standing.{IsTable}

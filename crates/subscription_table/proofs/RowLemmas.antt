@@ -6,8 +6,8 @@ use Rattle.std.proofs.lemmas.List.{append_assoc, get_or-drop, get_or_append_left
 use Rattle.std.proofs.lemmas.Option.{get_or_from_slice_get, slice_get-get_or, slice_get_within}
 use Rattle.stream_ident.specs.SubName.{same_sub}
 use Rattle.pubsub_registry.specs.Index.{AreUnique}
-use Rattle.resume_tree.specs.Leaves.{open_leaf, IsNew}
-use Rattle.resume_tree.specs.declared.resumes.Leaf.{Leaf}
+use Rattle.ranked_index.specs.Leaves.{open_leaf, IsNew}
+use Rattle.ranked_index.specs.declared.resumes.Leaf.{Leaf}
 use Rattle.subscription_table.specs.Rows.{AreNamed}
 use Rattle.subscription_table.specs.Table.{no_entry}
 use Rattle.subscription_table.proofs.LeafLemmas.{Entry, Names}

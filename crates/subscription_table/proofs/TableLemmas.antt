@@ -3,8 +3,8 @@ use Rattle.std.proofs.Common.{◌≡◌, ◌∙◌, ℕ, ◌+◌, ◌^◌, ◌<�
 use Rattle.std.proofs.lemmas.Bool.{cases_eq}
 use Rattle.std.proofs.lemmas.List.{get_or_read}
 use Rattle.consumer_grain.specs.Subscriptions.{PlainState, is_unacknowledged}
-use Rattle.resume_tree.specs.declared.resumes.Leaf.{Leaf}
-use Rattle.resume_tree.specs.Leaves.{changed}
+use Rattle.ranked_index.specs.declared.resumes.Leaf.{Leaf}
+use Rattle.ranked_index.specs.Leaves.{changed}
 use Rattle.subscription_table.specs.LeavesOf.{leaf_of, open_resume}
 use Rattle.subscription_table.specs.Standing.{AreRecords, IsTable}
 use Rattle.subscription_table.specs.Table.{PlainTable, no_entry, no_state, state_at, with_state}

@@ -3,7 +3,7 @@ use Rattle.std.specs.Prelude.{ℕ, Bool, List, [], ◌∷◌, Option, Some, None
 use Rattle.stream_ident.specs.declared.ident.SubName.{SubName}
 use Rattle.consumer_grain.specs.Subscriptions.{PlainState, is_unacknowledged}
 use Rattle.pubsub_registry.specs.declared.registration.Registration.{Registration}
-use Rattle.resume_tree.specs.declared.resumes.Leaf.{Leaf}
+use Rattle.ranked_index.specs.declared.resumes.Leaf.{Leaf}
 
 -- the resume where it is open
 abbrev pub open_resume : Bool → ℕ → Option ℕ

@@ -3,8 +3,8 @@ use Rattle.std.specs.Prelude.{◌≡◌, ℕ, ◌<◌, ◌≤◌, List, length, 
 use Rattle.stream_ident.specs.declared.ident.SubName.{SubName}
 use Rattle.consumer_grain.specs.Subscriptions.{PlainState}
 use Rattle.pubsub_registry.specs.declared.registration.Registration.{Registration}
-use Rattle.resume_tree.specs.declared.resumes.Leaf.{Leaf}
-use Rattle.resume_tree.specs.Leaves.{open_leaf}
+use Rattle.ranked_index.specs.declared.resumes.Leaf.{Leaf}
+use Rattle.ranked_index.specs.Leaves.{open_leaf}
 use Rattle.subscription_table.specs.Table.{is_in, no_entry, no_state, rewound_open}
 
 -- the leaves of subscriptions that have handled nothing

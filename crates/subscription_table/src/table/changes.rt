@@ -2,7 +2,7 @@
 //! log.
 ghost use Rattle.std.specs.Prelude.{◌≡◌, ◌+◌, ◌^◌, ◌<◌, ◌≤◌, true, false, length, is_ok, OnErr, All, if◌then◌else◌, IfSome};
 ghost use Rattle.stream_ident.specs.Words.{past, Performs};
-ghost use Rattle.queue_cache.specs.Cache.{high};
+ghost use Rattle.pulling_agent.specs.Cache.{high};
 ghost use Rattle.pubsub_registry.specs.Registry.{is_full};
 ghost use Rattle.consumer_grain.specs.Subscriptions.{committed, rises_from, advanced};
 ghost use Rattle.subscription_table.specs.Table.{add_rule, close, imply, state_at, subscribe, with_state, registration_at, rewound_all, stepped, AreRewound};
@@ -13,11 +13,10 @@ ghost use Rattle.subscription_table.specs.Handled.{first_of, IsBound};
 
 use super::{SubscriptionTable, add_rows, refresh, rewind_each, rewind_these};
 use crate::told::{Acked, Retried, Sought};
-use cache_cursor::next;
 use consumer_grain::SubState;
 use partition_queue::PartitionQueue;
 use pubsub_registry::{Added, Closing, Implied, RuleAdded};
-use queue_cache::QueueCache;
+use pulling_agent::{QueueCache, next};
 use queue_mapper::tag;
 use std::alloc::{AllocError, Global};
 use stream_ident::{Event, GrainId, Name, Row, StreamId, SubName, Token};

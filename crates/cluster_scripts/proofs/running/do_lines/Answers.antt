@@ -3,7 +3,7 @@ use Rattle.std.proofs.lemmas.Grind.{common_steps}
 use Rattle.std.proofs.lemmas.Iterator.Adapters.{YieldsList-from_vec}
 use Rattle.std.proofs.lemmas.Iterator.Consumers.{YieldsList-end, YieldsList-turn}
 use Rattle.cluster_operator.proofs.Changing.{op-trans}
-use Rattle.script_laws.specs.declared.script_line.ScriptLine.{ScriptLine}
+use Rattle.script_reader.specs.declared.script_line.ScriptLine.{ScriptLine}
 use Rattle.cluster_scripts.proofs.Progress.{Progress, begins, does, done-all, map-same, on-all, on-err, on-ok, stopped}
 use Rattle.cluster_scripts.proofs.running.do_lines.Goals as goal
 

@@ -1,6 +1,6 @@
 use Rattle.std.proofs.Common.{◌≡◌, take}
 use Rattle.std.specs.List.{flat_map}
-use Rattle.script_laws.specs.ScriptReport.{line_text}
+use Rattle.script_reader.specs.ScriptReport.{line_text}
 use Rattle.cluster_scripts.proofs.text.run_text.Given as goal
 
 -- the lines so far

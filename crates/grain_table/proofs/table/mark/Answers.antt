@@ -4,7 +4,7 @@ use Rattle.std.specs.Option.{option_map}
 use Rattle.stream_ident.specs.declared.ident.GrainId.{GrainId}
 use Rattle.stream_ident.specs.Name.{grain_lt}
 use Rattle.consumer_grain.specs.Activations.{PlainActivation}
-use Rattle.ranking.specs.Ranked.{IsFirstPast}
+use Rattle.ranked_index.specs.Ranked.{IsFirstPast}
 use Rattle.grain_table.specs.Table.{name_of, AreReady}
 use Rattle.grain_table.proofs.TableLemmas.{has-room, put-in, stays-in, stays-out, taken-out, IsLastBefore}
 use Rattle.grain_table.proofs.table.mark.Goals as goal

@@ -1,7 +1,7 @@
 use Rattle.std.proofs.Common.{◌≡◌, ◌∙◌, ◌+◌, ap, sym, subst}
 use Rattle.pubsub_registry.specs.declared.told.Implied.TheVariants as implied_told
 use Rattle.partition_queue.specs.Queue.{between}
-use Rattle.queue_cache.specs.Cache.{high}
+use Rattle.pulling_agent.specs.Cache.{high}
 use Rattle.step_core.specs.Taking.{ahead}
 use Rattle.step_core.specs.Replied.{reply_of}
 use Rattle.step_core.proofs.TakeOps.{MakesIs, makes-is, makes-more, many-assembled, many-performs, take-assembled, take-makes, take-memory, take-performs}

@@ -1,6 +1,6 @@
 use Rattle.std.proofs.Common.{◌≡◌, ◌≤◌, ◌+◌, ◌∙◌, ◌++◌, ◌∷◌, [], length, ap, arith}
 use Rattle.std.proofs.lemmas.List.{length_push}
-use Rattle.resume_tree.specs.Leaves.{open_leaf}
+use Rattle.ranked_index.specs.Leaves.{open_leaf}
 use Rattle.subscription_table.proofs.LeafLemmas.{Entry}
 use Rattle.subscription_table.proofs.RowLemmas.{name-new, named-more, row-more}
 use Rattle.subscription_table.proofs.table.push_leaves.Goals as goal

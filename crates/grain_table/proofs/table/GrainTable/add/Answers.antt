@@ -4,7 +4,7 @@ use Rattle.stream_ident.specs.Name.{grain_lt, same_grain}
 use Rattle.stream_ident.proofs.NameOrders.{grain_order}
 use Rattle.consumer_grain.specs.Activations.{new_activation, woken, PlainActivation}
 use Rattle.indexmap.specs.IndexMap.{insert_entry}
-use Rattle.ranking.proofs.ListedLemmas.{listed-more}
+use Rattle.ranked_index.proofs.ListedLemmas.{listed-more}
 use Rattle.grain_table.specs.Grains.{PlainGrains, number_of, is_running}
 use Rattle.grain_table.specs.Table.{is_entry_ready, name_of, AreReadyBut, running_in}
 use Rattle.grain_table.proofs.ChangeLemmas.{count-more, distinct-of}

@@ -5,7 +5,7 @@ use Rattle.std.specs.Option.{option_copied, option_map}
 use Rattle.stream_ident.specs.declared.ident.GrainId.{GrainId}
 use Rattle.stream_ident.specs.Name.{grain_lt}
 use Rattle.consumer_grain.specs.Activations.{PlainActivation}
-use Rattle.ranking.specs.Ranked.{entry_at, IsFirstPast}
+use Rattle.ranked_index.specs.Ranked.{entry_at, IsFirstPast}
 use Rattle.grain_table.specs.Changes.{no_grain}
 use Rattle.grain_table.specs.Grains.{PlainGrains, ready_after}
 use Rattle.grain_table.specs.Table.{name_of}

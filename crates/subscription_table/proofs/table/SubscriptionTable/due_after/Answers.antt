@@ -1,6 +1,6 @@
 use Rattle.std.proofs.Common.{◌≡◌, ℕ, ◌<◌, length, Some}
 use Rattle.std.specs.Option.{option_copied}
-use Rattle.resume_tree.specs.Leaves.{due_after, IsNameAt}
+use Rattle.ranked_index.specs.Leaves.{due_after, IsNameAt}
 use Rattle.subscription_table.specs.LeavesOf.{leaves_of}
 use Rattle.subscription_table.specs.Table.{PlainTable, name_at}
 use Rattle.subscription_table.proofs.LookLemmas.{name-found, name-within, where-some}

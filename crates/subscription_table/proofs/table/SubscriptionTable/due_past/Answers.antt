@@ -1,8 +1,8 @@
 use Rattle.std.proofs.Common.{◌≡◌, ◌∙◌, ℕ, ◌<◌, length, List, Option, Some, None, ap, sym, subst}
 use Rattle.std.specs.Prelude.{get_or}
 use Rattle.stream_ident.specs.declared.ident.SubName.{SubName}
-use Rattle.resume_tree.specs.Leaves.{due_after, IsNameAt}
-use Rattle.resume_tree.specs.declared.resumes.Leaf.{Leaf}
+use Rattle.ranked_index.specs.Leaves.{due_after, IsNameAt}
+use Rattle.ranked_index.specs.declared.resumes.Leaf.{Leaf}
 use Rattle.subscription_table.specs.LeavesOf.{leaf_of, leaves_of}
 use Rattle.subscription_table.specs.Table.{PlainTable, name_at, no_entry, no_state}
 use Rattle.subscription_table.proofs.LookLemmas.{leaf-name, leaf-within, name-found, name-within, where-none, where-some}

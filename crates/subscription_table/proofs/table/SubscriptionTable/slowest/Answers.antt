@@ -1,6 +1,6 @@
 use Rattle.std.proofs.Common.{◌∙◌, sym, ap, Some, Option}
 use Rattle.stream_ident.specs.declared.ident.SubName.{SubName}
-use Rattle.resume_tree.specs.Leaves.{slowest}
+use Rattle.ranked_index.specs.Leaves.{slowest}
 use Rattle.subscription_table.proofs.LookLemmas.{name-found, name-within}
 use Rattle.subscription_table.proofs.table.SubscriptionTable.slowest.Goals as goal
 

@@ -3,7 +3,7 @@ use Rattle.stream_ident.specs.declared.ident.SubName.TheVariants as name
 use Rattle.queue_mapper.specs.Place.{tag_of}
 use Rattle.consumer_grain.specs.Subscriptions.{PlainState, new_state}
 use Rattle.pubsub_registry.specs.Registry.{is_full}
-use Rattle.resume_tree.specs.Leaves.{open_leaf}
+use Rattle.ranked_index.specs.Leaves.{open_leaf}
 use Rattle.subscription_table.specs.Table.{PlainTable}
 use Rattle.subscription_table.proofs.GrowLemmas.{table-subscribed}
 use Rattle.subscription_table.proofs.LookLemmas.{name-absent}

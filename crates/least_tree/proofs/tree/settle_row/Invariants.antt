@@ -1,7 +1,0 @@
-use Rattle.std.proofs.Common.{◌≡◌, ℕ, ◌<◌, drop}
-use Rattle.least_tree.proofs.SettleLemmas.{IsSettled}
-use Rattle.least_tree.proofs.tree.settle_row.Given as goal
-
-abbrev pub invariant-loop-at : goal.invariant-loop-at
-invariant-loop-at l =
-    IsSettled l.first l.last l.at l.nodes × ((place : ℕ) → l.last < place → drop place l.nodes ≡ drop place l.initial.nodes)

@@ -1,8 +1,0 @@
-use Rattle.least_tree.proofs.TreeLemmas.{IsClimbed}
-use Rattle.least_tree.proofs.tree.subtree_at_most.Given as goal
-
-abbrev pub invariant-loop-at : goal.invariant-loop-at
-invariant-loop-at l = IsClimbed l.leaf l.bound l.at l.end l.nodes
-
-abbrev pub decreases-loop-at : goal.decreases-loop-at
-decreases-loop-at l = l.end

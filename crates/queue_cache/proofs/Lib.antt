@@ -1,2 +1,0 @@
-pub mod RingLemmas
-pub mod TagLemmas

@@ -1,3 +1,0 @@
-pub mod Block
-pub mod Cache
-pub mod Ring

@@ -1,0 +1,270 @@
+-- Entries and their keys where one is added, changed or taken back.
+use Rattle.std.proofs.Common.{◌≡◌, ◌≢◌, ◌∙◌, ap, ap₂, sym, subst, ℕ, ◌+◌, ◌<◌, ◌≤◌, inl, inr, Bool, true, false, not, List, [], ◌∷◌, ◌++◌, length, get_or, take, set, Option, Some, None, arith, length-set, get_or-set_same, get_or-set_other}
+use Rattle.std.proofs.lemmas.Bool.{both_ways, cases_lt, cases_eq, cases_order, false_from_ne_true, not-false, not-true, not_from_false}
+use Rattle.std.proofs.lemmas.List.{get_or_append_left, get_or_default, get_or_push, get_or-take, length_push, length-take-le}
+use Rattle.std.proofs.lemmas.List.Edits.{length-insert, length-remove, get_or-remove_below, get_or-remove_above}
+use Rattle.std.proofs.lemmas.Option.{slice_get-get_or}
+use Rattle.std.specs.List.{insert, remove}
+use Rattle.std.specs.List.Sorted.{IsPartitionedBy, IsPartitionPoint}
+use Rattle.std.specs.Prelude.{slice_index}
+use Rattle.ranked_index.specs.Ranked.{entry_at, is_up_to, some_up_to, AreKeys, AreRanked, IsFirstPast, IsKeySet}
+use Rattle.ranked_index.specs.Listed.{AreRising}
+use Rattle.ranked_index.specs.Ranking.{IsRanking}
+use Rattle.stream_ident.proofs.Order.{IsOrder}
+use Rattle.ranked_index.proofs.RankLemmas.{distinct_numbers, insert-before, insert-here, insert-past, placed, ranking-insert, ranking-remove, removed_within, Placed, Before, Here, Past}
+
+-- no name stands twice
+pub distinct_names : {E N : Type 0} (name : E → N) (lt same : N → N → Bool) → IsOrder lt same → (entries : List E) (order : List ℕ) → AreRanked name lt entries order
+    → (d : E) (i j : ℕ) → i < length entries → j < length entries → same (name (get_or entries i d)) (name (get_or entries j d)) ≡ true → i ≡ j
+distinct_names {E} name lt same o entries order are d i j i_within j_within is =
+    elim (cases_order (rank_of i) (rank_of j)) [
+      | inl level ↦ sym (forth i i_within) ∙ ap (slice_index order) level ∙ forth j j_within
+      | inr apart ↦ elim apart [
+        | inl less ↦ absurd (both_ways (lt (name (get_or entries i d)) (name (get_or entries j d))) (o.apart _ _ is).0 (rises i j i_within j_within less))
+        | inr more ↦ absurd (both_ways (lt (name (get_or entries j d)) (name (get_or entries i d))) (o.apart _ _ is).1 (rises j i j_within i_within more))
+      ]
+    ]
+  where
+    rank_of : ℕ → ℕ
+    rank_of = are.ranking.rank_of
+
+    forth : (i : ℕ) → i < length entries → slice_index order (rank_of i) ≡ i
+    forth i within = are.ranking.inverse.forth i (omega (arith, are.long))
+
+    rises : (i j : ℕ) → i < length entries → j < length entries → rank_of i < rank_of j → lt (name (get_or entries i d)) (name (get_or entries j d)) ≡ true
+    rises i j i_within j_within less =
+        ap₂ (λ (m n : ℕ). lt (name (get_or entries m d)) (name (get_or entries n d))) (sym (forth i i_within)) (sym (forth j j_within))
+        ∙ are.rises d (rank_of i) (rank_of j) less (are.ranking.inverse.rank_within j (omega (arith, are.long)))
+
+-- ---- an entry more
+
+module _ {E : Type 0} (entries : List E) (order : List ℕ) (rank : ℕ) (entry : E) (long : length order ≡ length entries) (ranking : IsRanking order) (fits : rank ≤ length order) where
+  abbrev more : List E
+  more = entries ++ entry ∷ []
+
+  abbrev moved : List ℕ
+  moved = insert order rank (length order)
+
+  moved_long : length moved ≡ length order + 1
+  moved_long = length-insert order rank (length order) fits
+
+  old_entry : (d : E) (i : ℕ) → i < length order → get_or more (slice_index order i) d ≡ entry_at entries order d i
+  old_entry d i within = get_or_append_left entries (entry ∷ []) d (slice_index order i) (omega (arith, long, ranking.inverse.number_within i within))
+
+  entry-before : (d : E) (i : ℕ) → i < rank → entry_at more moved d i ≡ entry_at entries order d i
+  entry-before d i low = ap (λ (n : ℕ). get_or more n d) (insert-before order rank (length order) 0 fits i low) ∙ old_entry d i (omega (arith, fits))
+
+  entry-here : (d : E) (i : ℕ) → i ≡ rank → entry_at more moved d i ≡ entry
+  entry-here d i same = ap (λ (n : ℕ). get_or more n d) (insert-here order rank (length order) 0 fits i same) ∙ get_or_push entries entry d (length order) (sym long)
+
+  entry-past : (d : E) (i j : ℕ) → i ≡ j + 1 → rank ≤ j → j < length order → entry_at more moved d i ≡ entry_at entries order d j
+  entry-past d i j next high within = ap (λ (n : ℕ). get_or more n d) (insert-past order rank (length order) 0 fits i j next high) ∙ old_entry d j within
+
+  -- the keys with that of the entry at its rank
+  pub keys-insert : (key : E → Option ℕ) (keys : List (Option ℕ)) → AreKeys key entries order keys → AreKeys key more moved (insert keys rank (key entry))
+  keys-insert key keys are = record { long = omega (arith, length-insert keys rank (key entry) inside, are.long, moved_long); key_at = λ d i within. key_at d i within (placed rank i) }
+    where
+      inside : rank ≤ length keys
+      inside = omega (arith, are.long, fits)
+
+      key_at : (d : E) (i : ℕ) → i < length moved → Placed rank i → get_or (insert keys rank (key entry)) i None ≡ key (entry_at more moved d i)
+      key_at d i within (Before low) =
+          insert-before keys rank (key entry) None inside i low ∙ are.key_at d i (omega (arith, fits)) ∙ ap key (sym (entry-before d i low))
+      key_at d i within (Here same) = insert-here keys rank (key entry) None inside i same ∙ ap key (sym (entry-here d i same))
+      key_at d i within (Past j next high) =
+          let below : j < length order = omega (arith, moved_long) in
+          insert-past keys rank (key entry) None inside i j next high ∙ are.key_at d j below ∙ ap key (sym (entry-past d i j next high below))
+
+  -- the entries with it, where it stands at the first rank past its name, which none has
+  pub ranked-insert : {N : Type 0} (name : E → N) (lt same : N → N → Bool) → IsOrder lt same → AreRanked name lt entries order → IsFirstPast name lt (Some (name entry)) entries order rank
+      → ((d : E) (i : ℕ) → i < length entries → same (name entry) (name (get_or entries i d)) ≡ false) → AreRanked name lt more moved
+  ranked-insert {N} name lt same o are first new = record {
+    long = omega (arith, moved_long, long, length_push entries entry);
+    ranking = ranking-insert order ranking.rank_of ranking.inverse rank fits;
+    rises = λ d i j less within. rises d i j less within (placed rank i) (placed rank j);
+  }
+    where
+      Less : E → E → Type 0
+      Less a b = lt (name a) (name b) ≡ true
+
+      along : (a a' b b' : E) → a ≡ a' → b ≡ b' → Less a' b' → Less a b
+      along a a' b b' is is' less = ap₂ (λ (a b : E). lt (name a) (name b)) is is' ∙ less
+
+      rises : (d : E) (i j : ℕ) → i < j → j < length moved → Placed rank i → Placed rank j → Less (entry_at more moved d i) (entry_at more moved d j)
+      rises d i j less within (Before a) (Before b) = along _ _ _ _ (entry-before d i a) (entry-before d j b) (are.rises d i j less (omega (arith, fits)))
+      rises d i j less within (Before a) (Here b) =
+          along _ _ _ _ (entry-before d i a) (entry-here d j b)
+          (o.rest (name entry) (name (entry_at entries order d i)) (first.before d i a) (new d (slice_index order i) (omega (arith, long, ranking.inverse.number_within i (omega (arith, fits))))))
+      rises d i j less within (Before a) (Past k next high) =
+          let below : k < length order = omega (arith, moved_long) in along _ _ _ _ (entry-before d i a) (entry-past d j k next high below) (are.rises d i k (omega arith) below)
+      rises d i j less within (Here a) (Before b) = absurd (omega arith)
+      rises d i j less within (Here a) (Here b) = absurd (omega arith)
+      rises d i j less within (Here a) (Past k next high) =
+          let below : k < length order = omega (arith, moved_long) in along _ _ _ _ (entry-here d i a) (entry-past d j k next high below) (first.past d k high below)
+      rises d i j less within (Past h next high) (Before b) = absurd (omega arith)
+      rises d i j less within (Past h next high) (Here b) = absurd (omega arith)
+      rises d i j less within (Past h next high) (Past k next' high') =
+          let below : k < length order = omega (arith, moved_long) in
+          along _ _ _ _ (entry-past d i h next high (omega arith)) (entry-past d j k next' high' below) (are.rises d h k (omega arith) below)
+
+-- ---- another entry under a number
+
+module _ {E : Type 0} (entries : List E) (order : List ℕ) (number : ℕ) (entry : E) (within : number < length entries) where
+  abbrev other : List E
+  other = set entries number entry
+
+  -- of the same name
+  pub ranked-set : {N : Type 0} (name : E → N) (lt : N → N → Bool) → ((d : E) → name entry ≡ name (get_or entries number d)) → AreRanked name lt entries order → AreRanked name lt other order
+  ranked-set name lt same are = record {
+    long = are.long ∙ sym (length-set entries number entry);
+    ranking = are.ranking;
+    rises = λ d low high less below. ap₂ lt (name_same d (slice_index order low)) (name_same d (slice_index order high)) ∙ are.rises d low high less below;
+  }
+    where
+      name_same : (d : E) (i : ℕ) → name (get_or other i d) ≡ name (get_or entries i d)
+      name_same d i =
+          elim (cases_eq i number) [
+            | inl here ↦
+                ap (λ (k : ℕ). name (get_or other k d)) here ∙ ap name (get_or-set_same entries number entry d within)
+                ∙ same d ∙ ap (λ (k : ℕ). name (get_or entries k d)) (sym here)
+            | inr there ↦ ap name (get_or-set_other entries number i entry d there)
+          ]
+
+  -- with its key at the rank of the number
+  pub keys-set : IsRanking order → (key : E → Option ℕ) (keys new : List (Option ℕ)) → IsKeySet order number (key entry) keys new → AreKeys key entries order keys → AreKeys key other order new
+  keys-set ranking key keys new at are = record {
+    long = ap length at.is ∙ length-set keys at.rank (key entry) ∙ are.long;
+    key_at = λ d i below.
+        ap (λ (ks : List (Option ℕ)). get_or ks i None) at.is
+        ∙ elim (cases_eq i at.rank) [
+          | inl here ↦
+              ap (λ (k : ℕ). get_or (set keys at.rank (key entry)) k None) here ∙ get_or-set_same keys at.rank (key entry) None (omega (arith, are.long, at.within))
+              ∙ ap key (sym (ap (λ (n : ℕ). get_or other n d) (ap (slice_index order) here ∙ at.at) ∙ get_or-set_same entries number entry d within))
+          | inr there ↦
+              let isnt : slice_index order i ≢ number = λ same. there (distinct_numbers order ranking.rank_of ranking.inverse i at.rank below at.within (same ∙ sym at.at)) in
+              get_or-set_other keys at.rank i (key entry) None there ∙ are.key_at d i below
+              ∙ ap key (sym (get_or-set_other entries number (slice_index order i) entry d isnt))
+        ];
+  }
+
+-- ---- the last entry taken back
+
+module _ {E : Type 0} (entries : List E) (order : List ℕ) (last rank : ℕ) (ranking : IsRanking order) (within : rank < length order) (at : slice_index order rank + 1 ≡ length order) (end : last + 1 ≡ length order) where
+  abbrev fewer : List E
+  fewer = take last entries
+
+  abbrev shorter : List ℕ
+  shorter = remove order rank
+
+  shorter_long : length shorter ≡ last
+  shorter_long = omega (arith, length-remove order rank within, end)
+
+  inside : (i : ℕ) → i < last → slice_index shorter i < last
+  inside i below = omega (arith, shorter_long, removed_within order ranking.rank_of ranking.inverse rank within at i (omega (arith, shorter_long)))
+
+  entry-low : (d : E) (i : ℕ) → i < rank → i < last → entry_at fewer shorter d i ≡ entry_at entries order d i
+  entry-low d i low below =
+      get_or-take last entries (slice_index shorter i) d (inside i below) ∙ ap (λ (n : ℕ). get_or entries n d) (get_or-remove_below order rank 0 i low within)
+
+  entry-high : (d : E) (i : ℕ) → rank ≤ i → i < last → entry_at fewer shorter d i ≡ entry_at entries order d (i + 1)
+  entry-high d i high below =
+      get_or-take last entries (slice_index shorter i) d (inside i below) ∙ ap (λ (n : ℕ). get_or entries n d) (get_or-remove_above order rank 0 i high within)
+
+  pub ranked-remove : {N : Type 0} (name : E → N) (lt : N → N → Bool) → AreRanked name lt entries order → AreRanked name lt fewer shorter
+  ranked-remove name lt are = record {
+    long = shorter_long ∙ sym (length-take-le last entries (omega (arith, are.long, end)));
+    ranking = ranking-remove order ranking.rank_of ranking.inverse rank within at;
+    rises = λ d i j less below.
+        let j_below : j < last = omega (arith, shorter_long) in
+        elim (cases_lt j rank) [
+          | inl before ↦ along _ _ _ _ (entry-low d i (omega arith) (omega arith)) (entry-low d j before j_below) (are.rises d i j less (omega (arith, end)))
+          | inr past ↦ elim (cases_lt i rank) [
+            | inl before ↦ along _ _ _ _ (entry-low d i before (omega arith)) (entry-high d j past j_below) (are.rises d i (j + 1) (omega arith) (omega (arith, end)))
+            | inr also ↦ along _ _ _ _ (entry-high d i also (omega arith)) (entry-high d j past j_below) (are.rises d (i + 1) (j + 1) (omega arith) (omega (arith, end)))
+          ]
+        ];
+  }
+    where
+      along : (a a' b b' : E) → a ≡ a' → b ≡ b' → lt (name a') (name b') ≡ true → lt (name a) (name b) ≡ true
+      along a a' b b' is is' less = ap₂ (λ (a b : E). lt (name a) (name b)) is is' ∙ less
+
+  pub keys-remove : (key : E → Option ℕ) (keys : List (Option ℕ)) → AreKeys key entries order keys → AreKeys key fewer shorter (remove keys rank)
+  keys-remove key keys are = record {
+    long = omega (arith, length-remove keys rank (omega (arith, are.long)), are.long, shorter_long, end);
+    key_at = λ d i below.
+        let fits : rank < length keys = omega (arith, are.long) in
+        let i_below : i < last = omega (arith, shorter_long) in
+        elim (cases_lt i rank) [
+          | inl low ↦ get_or-remove_below keys rank None i low fits ∙ are.key_at d i (omega (arith, end)) ∙ ap key (sym (entry-low d i low i_below))
+          | inr high ↦ get_or-remove_above keys rank None i high fits ∙ are.key_at d (i + 1) (omega (arith, end)) ∙ ap key (sym (entry-high d i high i_below))
+        ];
+  }
+
+-- ---- the search by name
+
+-- names by rank rise
+pub rising : {E N : Type 0} (name : E → N) (lt : N → N → Bool) (entries : List E) (order : List ℕ) → AreRanked name lt entries order → AreRising name lt entries order
+rising name lt entries order are = record {
+  within = λ i within. omega (arith, are.ranking.inverse.number_within i within, are.long);
+  rises = are.rises;
+}
+
+module _ {E N : Type 0} (name : E → N) (lt same : N → N → Bool) (o : IsOrder lt same) (entries : List E) (order : List ℕ) (are : AreRising name lt entries order) (a : N) where
+  abbrev not_past : ℕ → Bool
+  not_past = is_up_to name lt entries a
+
+  not_past-at : (d : E) (i : ℕ) → i < length order → not_past (slice_index order i) ≡ not (lt a (name (entry_at entries order d i)))
+  not_past-at d i within =
+      ap (some_up_to name lt a) (slice_get-get_or entries (slice_index order i) d (are.within i within))
+
+  not_past-down : (d : E) (i j : ℕ) → i ≤ j → j < length order → lt a (name (entry_at entries order d j)) ≡ false → lt a (name (entry_at entries order d i)) ≡ false
+  not_past-down d i j le within isnt =
+      false_from_ne_true (lt a (name (entry_at entries order d i))) (λ is.
+      elim (cases_eq i j) [
+        | inl equal ↦ both_ways (lt a (name (entry_at entries order d j))) isnt (ap (λ (k : ℕ). lt a (name (entry_at entries order d k))) (sym equal) ∙ is)
+        | inr other ↦
+            both_ways (lt a (name (entry_at entries order d j))) isnt (o.chain a (name (entry_at entries order d i)) (name (entry_at entries order d j)) is (are.rises d i j (omega arith) within))
+      ])
+
+  partitioned : (d : E) → IsPartitionedBy not_past order
+  partitioned d i j n le within is =
+      let i_within : i < length order = omega arith in
+      let not_there = not-true (lt a (name (entry_at entries order d j))) (sym (not_past-at d j within) ∙ ap not_past (get_or_default order j 0 n within) ∙ is) in
+      ap not_past (get_or_default order i n 0 i_within) ∙ not_past-at d i i_within ∙ not_from_false (lt a (name (entry_at entries order d i))) (not_past-down d i j le within not_there)
+
+  -- what the search finds
+  pub first_past-from : (after : Option N) (i : ℕ) → after ≡ Some a → i ≤ length order → (IsPartitionedBy not_past order → IsPartitionPoint (λ number. not_past number ≡ true) (λ number. not_past number ≡ false) order i)
+      → IsFirstPast name lt after entries order i
+  first_past-from after i is within search = subst (λ (after : Option N). IsFirstPast name lt after entries order i) (sym is) (record {
+    within = within;
+    before = λ d k low.
+        not-true (lt a (name (entry_at entries order d k))) (sym (not_past-at d k (omega arith)) ∙ (search (partitioned d)).0 k 0 (omega arith) low);
+    past = λ d k high below.
+        not-false (lt a (name (entry_at entries order d k))) (sym (not_past-at d k below) ∙ (search (partitioned d)).1 k 0 high below);
+  })
+
+-- of rows that are others under another name
+pub first_past-along : {E N : Type 0} (name : E → N) (lt : N → N → Bool) (after : Option N) (entries entries' : List E) (order order' : List ℕ) (rank : ℕ) → entries ≡ entries' → order ≡ order'
+    → IsFirstPast name lt after entries order rank → IsFirstPast name lt after entries' order' rank
+first_past-along {E} name lt after entries entries' order order' rank same same' is =
+    subst (λ (xs : List E). IsFirstPast name lt after xs order' rank) same (subst (λ (ns : List ℕ). IsFirstPast name lt after entries ns rank) same' is)
+
+-- the names past the rank of an entry are greater than its own
+pub first_past-rank : {E N : Type 0} (name : E → N) (lt same : N → N → Bool) → IsOrder lt same → (entries : List E) (order : List ℕ) → AreRanked name lt entries order
+    → (d : E) (number rank : ℕ) → rank < length order → slice_index order rank ≡ number → IsFirstPast name lt (Some (name (get_or entries number d))) entries order (rank + 1)
+first_past-rank {E} {N} name lt same o entries order are d number rank within at = record {
+  within = omega (arith, within);
+  before = λ e i low.
+      elim (cases_eq i rank) [
+        | inl here ↦ ap (lt a) (ap (λ (r : ℕ). name (entry_at entries order e r)) here ∙ own e) ∙ false_from_ne_true (lt a a) (λ less. both_ways (lt a a) (o.one_way a a less) less)
+        | inr other ↦ ap (λ (b : N). lt b (name (entry_at entries order e i))) (sym (own e)) ∙ o.one_way _ _ (are.rises e i rank (omega arith) within)
+      ];
+  past = λ e i high below. ap (λ (b : N). lt b (name (entry_at entries order e i))) (sym (own e)) ∙ are.rises e rank i (omega arith) below;
+}
+  where
+    a : N
+    a = name (get_or entries number d)
+
+    own : (e : E) → name (entry_at entries order e rank) ≡ a
+    own e =
+        ap name (get_or_default entries (slice_index order rank) e d (omega (arith, are.ranking.inverse.number_within rank within, are.long)) ∙ ap (λ (n : ℕ). get_or entries n d) at)

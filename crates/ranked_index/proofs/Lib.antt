@@ -1,0 +1,13 @@
+pub mod Answering
+pub mod Doubled
+pub mod EntryLemmas
+pub mod KeyLemmas
+pub mod LeafLemmas
+pub mod LeafRows
+pub mod LeastKeys
+pub mod LeastLemmas
+pub mod ListedLemmas
+pub mod RankLemmas
+pub mod RemoveLemmas
+pub mod SettleLemmas
+pub mod TreeLemmas

@@ -1,0 +1,59 @@
+-- Nodes that are made the lesser of their children, row by row.
+use Rattle.std.proofs.Common.{◌≡◌, ◌≢◌, ℕ, ◌+◌, ◌*◌, ◌/◌, ◌<◌, ◌≤◌, ◌⊎◌, inl, inr, List, length, set, min, sym, ap, ap₂, ◌∙◌, subst, arith, length-set, get_or-set_same, get_or-set_other}
+use Rattle.std.proofs.lemmas.Bool.{cases_eq, cases_lt}
+use Rattle.std.specs.Prelude.{slice_index}
+use Rattle.ranked_index.specs.Tree.{IsLesser, IsTree, IsTreeBut}
+
+-- a row from first to last, settled up to a place: only the nodes from there on, and the parents of the row,
+-- may not be the lesser of their children
+pub record IsSettled (first last at : ℕ) (nodes : List ℕ) : Type 0 where
+  pub lesser : (x : ℕ) → 0 < x → x + x + 1 < length nodes → (x < at) ⊎ (last < x) → (x < first / 2) ⊎ (last / 2 < x) → IsLesser nodes x
+
+-- a node is still the lesser of its children where none of the three is written
+kept : (nodes : List ℕ) (at n x : ℕ) → x ≢ at → x + x ≢ at → x + x + 1 ≢ at → IsLesser nodes x → IsLesser (set nodes at n) x
+kept nodes at n x node left right lesser =
+    get_or-set_other nodes at x n 0 node ∙ lesser
+    ∙ sym (ap₂ min (get_or-set_other nodes at (x + x) n 0 left) (get_or-set_other nodes at (x + x + 1) n 0 right))
+
+-- a node that is written
+made : (nodes : List ℕ) (at n : ℕ) → 0 < at → at + at + 1 < length nodes → n ≡ min (slice_index nodes (2 * at)) (slice_index nodes (2 * at + 1))
+    → IsLesser (set nodes at n) at
+made nodes at n some inner is =
+    let left : slice_index nodes (2 * at) ≡ slice_index nodes (at + at) = ap (slice_index nodes) (omega arith) in
+    let right : slice_index nodes (2 * at + 1) ≡ slice_index nodes (at + at + 1) = ap (slice_index nodes) (omega arith) in
+    get_or-set_same nodes at n 0 (omega arith) ∙ is ∙ ap₂ min left right
+    ∙ sym (ap₂ min (get_or-set_other nodes at (at + at) n 0 (omega arith)) (get_or-set_other nodes at (at + at + 1) n 0 (omega arith)))
+
+still_outside : (x at last : ℕ) → (x < at + 1) ⊎ (last < x) → x ≢ at → (x < at) ⊎ (last < x)
+still_outside x at last outside other = elim outside [ inl before ↦ inl (omega arith) | inr past ↦ inr past ]
+
+-- the next node of the row
+pub settled_step : (first last at n : ℕ) (nodes : List ℕ) → n ≡ min (slice_index nodes (2 * at)) (slice_index nodes (2 * at + 1)) → first ≤ at → at ≤ last
+    → IsSettled first last at nodes → IsSettled first last (at + 1) (set nodes at n)
+settled_step first last at n nodes is from to settled = record {
+  lesser = λ x some inner outside parents.
+      let before : x + x + 1 < length nodes = omega (arith, inner, length-set nodes at n) in
+      elim (cases_eq x at) [
+        | inl same ↦
+            let here : IsLesser (set nodes at n) at = made nodes at n (omega arith) (omega arith) is in
+            subst (IsLesser (set nodes at n)) (sym same) here
+        | inr other ↦
+            let lesser = settled.lesser x some before (still_outside x at last outside other) parents in elim parents [
+              | inl below ↦ kept nodes at n x other (omega arith) (omega arith) lesser
+              | inr above ↦ kept nodes at n x other (omega arith) (omega arith) lesser
+            ]
+      ];
+}
+
+-- the one node that may not be the lesser of its children is so too
+pub tree-of-but : (at n : ℕ) (nodes : List ℕ) → n ≡ min (slice_index nodes (2 * at)) (slice_index nodes (2 * at + 1)) → slice_index nodes at ≡ n → IsTreeBut at at nodes → IsTree nodes
+tree-of-but at n nodes is here but = record {
+  lesser = λ x some inner.
+      elim (cases_lt x at) [
+        | inl before ↦ but.before x some inner before
+        | inr from ↦ elim (cases_eq x at) [
+          | inl same ↦ subst (IsLesser nodes) (sym same) (here ∙ is ∙ ap₂ min (ap (slice_index nodes) (omega arith)) (ap (slice_index nodes) (omega arith)))
+          | inr other ↦ but.past x some inner (omega arith)
+        ]
+      ];
+}

@@ -1,0 +1,30 @@
+use Rattle.std.proofs.Common.{◌≡◌, ◌∙◌, ℕ, ◌+◌, ◌≤◌, List, [], ◌∷◌, ◌++◌, length, drop, ap, sym, subst, arith, length-append}
+use Rattle.std.proofs.lemmas.List.{take_at}
+use Rattle.std.specs.List.{insert}
+use Rattle.std.specs.Prelude.{slice_index}
+use Rattle.ranked_index.specs.Ranking.{IsRanking}
+use Rattle.ranked_index.proofs.RankLemmas.{ranking-insert, ranks-insert, reranked_along}
+use Rattle.ranked_index.proofs.ranking.Ranking.insert.Goals as goal
+
+pub rerank-requires-clause-ranking : goal.rerank-requires-clause-ranking
+rerank-requires-clause-ranking c =
+    let order = c.self.inside.order.items in
+    let numbers : c.as_slice.result.now ≡ insert order c.args.rank c.len-number.result = c.as_slice.ensures.value ∙ c.in_ok-insert.ensures.items in
+    let number : c.len-number.result ≡ length order = omega arith in
+    let fits : c.args.rank ≤ length order = omega (arith, ap length c.self.view_is) in
+    subst IsRanking (sym (numbers ∙ ap (insert order c.args.rank) number)) (ranking-insert order (slice_index c.self.inside.ranks.items) c.self.invariant.inverse c.args.rank fits)
+
+pub invariant_of-self-2 : goal.invariant_of-self-2
+invariant_of-self-2 c =
+    let order = c.self.inside.order.items in
+    let ranks = c.self.inside.ranks.items in
+    let new = c.rerank.new.ranks in
+    let number : c.len-number.result ≡ length order = omega arith in
+    let fits : c.args.rank ≤ length order = omega (arith, ap length c.self.view_is) in
+    let numbers : c.insert.new.self.items ≡ insert order c.args.rank (length order) = c.in_ok-insert.ensures.items ∙ ap (insert order c.args.rank) number in
+    let pushed : c.as_mut_slice.result.now ≡ ranks ++ c.args.rank ∷ [] =
+    c.as_mut_slice.ensures.value ∙ c.push_reserved.ensures.items ∙ ap (λ (xs : List ℕ). xs ++ c.args.rank ∷ []) c.reserve.ensures.items in
+    let long : length new ≡ length ranks + 1 = omega (arith, c.rerank.auto.ranks, ap length pushed, length-append ranks (c.args.rank ∷ [])) in
+    rw (take_at new (drop (length new) c.push_reserved.new.self.items) c.push_reserved.new.self.len (omega (arith, c.rerank.auto.ranks)), numbers)
+    (ranks-insert order ranks c.self.invariant c.args.rank fits new long
+    (reranked_along c.as_slice.result.now (insert order c.args.rank (length order)) c.as_mut_slice.result.now (ranks ++ c.args.rank ∷ []) new c.args.rank (c.as_slice.ensures.value ∙ numbers) pushed c.rerank.ensures))

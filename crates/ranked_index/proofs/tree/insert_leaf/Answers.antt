@@ -1,0 +1,15 @@
+use Rattle.std.proofs.Common.{◌+◌, ◌/◌, arith}
+use Rattle.ranked_index.proofs.LeafLemmas.{same_past, least_tree-insert, keys_of-insert}
+use Rattle.ranked_index.proofs.tree.insert_leaf.Goals as goal
+
+pub returns-clause-tree : goal.returns-clause-tree
+returns-clause-tree c =
+    least_tree-insert c.args.nodes.now c.shift.new.nodes c.settle.new.nodes c.args.first_leaf c.args.len c.args.place c.args.n c.requires.tree
+    (omega (arith, c.settle.auto.nodes, c.shift.auto.nodes)) c.requires.room c.requires.within c.settle.ensures.tree c.shift.ensures
+    (λ i from. same_past ((c.args.first_leaf + c.args.len) / 2) c.shift.new.nodes c.settle.new.nodes c.settle.ensures.past i (omega arith))
+
+pub returns-clause-keys : goal.returns-clause-keys
+returns-clause-keys c =
+    keys_of-insert c.args.nodes.now c.shift.new.nodes c.settle.new.nodes c.args.first_leaf c.args.len c.args.place c.args.n c.requires.tree.halves
+    (omega (arith, c.shift.auto.nodes)) c.requires.room c.requires.within c.shift.ensures
+    (c.settle.ensures.past c.args.first_leaf (omega (arith, c.requires.room)))

@@ -1,4 +1,0 @@
-pub mod EntryLemmas
-pub mod LeastLemmas
-pub mod ListedLemmas
-pub mod RankLemmas

@@ -1,5 +1,0 @@
-use Rattle.ranking.specs.Ranking.{IsReranked}
-use Rattle.ranking.proofs.ranking.rerank.Given as goal
-
-abbrev pub invariant-loop-rank : goal.invariant-loop-rank
-invariant-loop-rank l = IsReranked l.order l.initial.ranks l.ranks l.from l.rank

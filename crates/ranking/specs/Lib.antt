@@ -1,3 +1,0 @@
-pub mod Ranking
-pub mod Ranked
-pub mod Listed

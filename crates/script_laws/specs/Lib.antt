@@ -1,3 +1,0 @@
-pub mod ScriptLaws
-pub mod ScriptReport
-pub mod Told
