@@ -12,7 +12,7 @@ use Rattle.stream_model.specs.declared.plain.PlainPartition.{PlainPartition}
 use Rattle.stream_model.specs.declared.reply.Reply.{Reply}
 use Rattle.stream_model.specs.declared.reply.Reply.TheVariants as reply
 use Rattle.stream_model.specs.Looks.{quiet}
-use Rattle.turnstile.proofs.Histories.{foreign-append, replay_snoc}
+use Rattle.turnstile.proofs.Histories.{foreign-append, legal_last, replay_snoc}
 use Rattle.turnstile.specs.declared.history.Entry.{Entry}
 use Rattle.turnstile.specs.declared.turnstile.Refusal.{Refusal}
 use Rattle.turnstile.specs.declared.turnstile.Refusal.TheVariants.{HistoryFull}
@@ -31,7 +31,7 @@ use Rattle.cluster_ending.specs.Asking.{Asks, AsksUpTo, IsQuiet}
 use Rattle.cluster_ending.specs.Closing.{AreTraces, IsTraceOf}
 use Rattle.cluster_ending.specs.Finishing.{CallersAloneProduce, CameTo, HasBegun, HasSeenFront, HaveBegun, IsDone}
 use Rattle.cluster_ending.specs.Gathering.{Gathers, IsFirstOf, IsOtherIn, gathered}
-use Rattle.cluster_ending.proofs.Looking.{legal-last, look-keeps, look-replies}
+use Rattle.cluster_ending.proofs.Looking.{look-keeps, look-replies}
 use Rattle.stream_ident.proofs.EachOf.{All-weaken}
 use Rattle.cluster_ending.proofs.Rows.{all-at, zip-at, zip-refl, zip-trans}
 
@@ -238,7 +238,7 @@ trace-quiet p q history partition asks trace =
     let front = p.seen ++ called.0 in
     let whole : history ≡ front ++ e ∷ [] = trace.whole ∙ called.1 in
     let before = replay replied after s front in
-    let answered : reply.IsQuiet ≡ quiet before = legal-last replied after s front e (subst (λ (es : List (Entry Op Reply)). IsLegal replied after s es) whole trace.legal) ∙ look-replies before in
+    let answered : reply.IsQuiet ≡ quiet before = legal_last replied after s front e (subst (λ (es : List (Entry Op Reply)). IsLegal replied after s es) whole trace.legal) ∙ look-replies before in
     let same : partition ≡ before =
     trace.partition_is ∙ ap (λ (es : List (Entry Op Reply)). replay replied after s es) whole ∙ replay_snoc replied after s front e ∙ look-keeps before in
     ap (λ (w : PlainPartition). quiet w) same ∙ sym answered

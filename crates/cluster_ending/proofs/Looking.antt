@@ -14,16 +14,11 @@ use Rattle.stream_model.specs.Step.{step}
 use Rattle.turnstile.specs.declared.history.Entry.{Entry}
 use Rattle.turnstile.specs.declared.turnstile.Refusal.{Refusal}
 use Rattle.turnstile.specs.History.{IsLegal, entry, replay}
+use Rattle.turnstile.proofs.Histories.{legal_last}
 use Rattle.shared_partition.specs.Partitions.{after, replied}
 use Rattle.silo_loops.specs.Lines.{QueuePass}
 use Rattle.cluster_callers.specs.Calls.{CallerCalls, turnstiles}
 use Rattle.cluster_ending.specs.Asking.{Asks, AsksUpTo, IsQuiet}
-
-module _ {S O R : Type 0} (reply : S → O → R) (after : S → O → S) where
-  -- the last call got the reply that it gets there
-  pub legal-last : (s : S) (front : List (Entry O R)) (e : Entry O R) → IsLegal reply after s (front ++ e ∷ []) → e.reply ≡ reply (replay reply after s front) e.op
-  legal-last s [] e legal = legal.0
-  legal-last s (x ∷ front) e legal = legal-last (after s x.op) front e legal.1
 
 -- a look for quiet is answered by that, and changes nothing
 pub look-replies : (p : PlainPartition) → replied p op.Quiet ≡ quiet p
@@ -52,7 +47,7 @@ asks-look r p q asks =
     let s = asks.calls.origin.start.state in
     let front = p.seen ++ called.0 in
     let legal : IsLegal replied after s (front ++ entry p.number op.Quiet r ∷ []) = subst (λ (es : List (Entry Op Reply)). IsLegal replied after s es) called.1 called.3 in
-    let answered : r ≡ quiet (replay replied after s front) = legal-last replied after s front (entry p.number op.Quiet r) legal ∙ look-replies (replay replied after s front) in
+    let answered : r ≡ quiet (replay replied after s front) = legal_last replied after s front (entry p.number op.Quiet r) legal ∙ look-replies (replay replied after s front) in
     subst (λ (e : Reply). IsLook e) (sym answered) (quiet-look (replay replied after s front))
 
 -- no other reply

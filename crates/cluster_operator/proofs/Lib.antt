@@ -1,3 +1,4 @@
 pub mod Changing
 pub mod Making
+pub mod Replies
 pub mod Spreading

@@ -1,16 +1,23 @@
 -- Calls that a pass has made past a mark.
-use Rattle.std.proofs.Common.{◌≡◌, ℕ, zero, suc, ◌≤◌, ◌+◌, ◌⊎◌, inl, inr, List, [], ◌∷◌, ◌++◌, length, drop, Result, Ok, sym, ap, subst, ◌∙◌, append_assoc, arith}
+use Rattle.std.proofs.Common.{◌≡◌, ℕ, zero, suc, ◌≤◌, ◌⊎◌, inl, inr, List, [], ◌∷◌, ◌++◌, length, drop, Result, Ok, Err, refl, sym, ap, subst, ◌∙◌, append_assoc, arith}
+use Rattle.std.specs.Result.{IfErr, IsErrAnd}
 use Rattle.std.proofs.Math.Seq.{drop-append_seam, drop-length}
 use Rattle.std.proofs.lemmas.List.{drop-append-le, length-append}
 use Rattle.turnstile.specs.declared.history.Entry.{Entry}
 use Rattle.turnstile.specs.Closing.{HasSome}
-use Rattle.turnstile.specs.History.{Foreign, entry}
+use Rattle.turnstile.specs.History.{Foreign, IsLegal, entry, replay}
 use Rattle.turnstile.specs.Passes.{PassView}
 use Rattle.turnstile.specs.declared.turnstile.Refusal.{Refusal}
+use Rattle.turnstile.proofs.Histories.{legal_last}
 use Rattle.silo_loops.specs.Passes.{CallsBy}
 use Rattle.silo_loops.proofs.Owning.{calls-more, calls-number}
 use Rattle.silo_crew.specs.Silos.{GoesOn, IsSilent}
-use Rattle.cluster_operator.specs.Changes.{HasMade}
+use Rattle.cluster_operator.specs.Changes.{HasFound, HasMade, halt_of}
+
+-- what holds of the error that `?` passes on
+pub passed-on : {A E : Type 0} (P : E → Type 0) (result : Result A E) (e : E) → IsErrAnd result (λ y. y ≡ e) → P e → IfErr result P
+passed-on P (Ok x) e is p = absurd is
+passed-on P (Err y) e is p = subst P (sym is) p
 
 module _ {A : Type 0} (P : A → Type 0) where
   some-left : (xs ys : List A) → HasSome P xs → HasSome P (xs ++ ys)
@@ -106,6 +113,32 @@ module _ {S O R : Type 0} (reply : S → O → R) (after : S → O → S) where
               | inl foreign ↦ absurd (none-foreign p.number p.joined IsSuch between calls.call.2 foreign)
               | inr here ↦ elim here as (λ s. HasMade mark p IsSuch ⊎ IsSuch op r) [ inl is ↦ inr is.1 | inr none ↦ absurd none ]
             ]
+      ]
+
+  -- the reply is one that the operation gets
+  pub called-reply : (p : PassView O R S) (op : O) (r : R) (q : PassView O R S) → CallsBy reply after p op (Ok r) q → (s : S) × (r ≡ reply s op)
+  called-reply p op r q calls =
+      let front = p.seen ++ calls.call.0 in (
+        replay reply after calls.origin.start.state front,
+        legal_last reply after calls.origin.start.state front (entry p.number op r) (subst (λ (es : List (Entry O R)). IsLegal reply after calls.origin.start.state es) calls.call.1 calls.call.3),
+      )
+
+  -- a refused call has found its history full, or has found room
+  pub found-refused : (p : PassView O R S) (op : O) (e : Refusal) (q : PassView O R S) → CallsBy reply after p op (Err e) q → HasFound (halt_of e) q
+  found-refused p op e q calls = (e, refl, (calls.origin, ap (λ (w : PassView O R S). w.turnstile) calls.only ∙ calls.of, calls.call.4))
+
+  -- a refused call adds none to those that the pass has made
+  pub made-refused : (IsSuch : O → R → Type 0) (mark : ℕ) (p : PassView O R S) (op : O) (e : Refusal) (q : PassView O R S) → CallsBy reply after p op (Err e) q → mark ≤ length p.seen → HasMade mark q IsSuch → HasMade mark p IsSuch
+  made-refused IsSuch mark p op e q calls less made =
+      let between = calls.call.0 in
+      let number = calls-number reply after p op (Err e) q calls in
+      let whole = ap (λ (es : List (Entry O R)). drop mark es) calls.call.1 ∙ drop-append-le mark p.seen between less in
+      let own = some-map (λ (e : Entry O R). (e.number ≡ q.number) × IsSuch e.op e.reply) (λ (e : Entry O R). (e.number ≡ p.number) × IsSuch e.op e.reply) (λ e is. (is.0 ∙ number, is.1)) (drop mark q.seen) made in
+      let parts = some-cases (λ (e : Entry O R). (e.number ≡ p.number) × IsSuch e.op e.reply) (drop mark p.seen) between
+      (subst (λ (es : List (Entry O R)). HasSome (λ (e : Entry O R). (e.number ≡ p.number) × IsSuch e.op e.reply) es) whole own) in
+      elim parts as (λ s. HasMade mark p IsSuch) [
+        | inl before ↦ before
+        | inr foreign ↦ absurd (none-foreign p.number p.joined IsSuch between calls.call.2 foreign)
       ]
 
 -- what was made since a pass that has made no call on its way to a later one is made since that one

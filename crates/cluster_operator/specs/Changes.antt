@@ -1,5 +1,5 @@
 -- What the calls of a cluster's own passes leave when its silos change.
-use Rattle.std.specs.Prelude.{◌≡◌, ◌≢◌, ℕ, List, length, drop, Some, Result, Ok, Err, slice_get, slice_index}
+use Rattle.std.specs.Prelude.{◌≡◌, ◌≢◌, ◌⊎◌, ℕ, List, length, drop, Some, Result, Ok, Err, slice_get, slice_index}
 use Rattle.stream_ident.specs.declared.ident.GrainId.{GrainId}
 use Rattle.stream_ident.specs.declared.token.Token.{Token}
 use Rattle.stream_model.specs.declared.op.Op.{Op}
@@ -11,13 +11,16 @@ use Rattle.activation_directory.specs.declared.op.DirectoryOp.TheVariants as ask
 use Rattle.activation_directory.specs.declared.reply.DirectoryReply.{DirectoryReply}
 use Rattle.activation_directory.specs.declared.reply.DirectoryReply.TheVariants as directory
 use Rattle.turnstile.specs.declared.history.Entry.{Entry}
+use Rattle.turnstile.specs.declared.turnstile.Refusal.{Refusal}
+use Rattle.turnstile.specs.declared.turnstile.Refusal.TheVariants as refusal
+use Rattle.turnstile.specs.Calls.{IsFull}
 use Rattle.turnstile.specs.Closing.{HasSome}
-use Rattle.turnstile.specs.Passes.{PassView}
+use Rattle.turnstile.specs.Passes.{Origin, PassView}
 use Rattle.shared_partition.specs.Directories as places
 use Rattle.silo_loops.specs.Lines.{DirectoryPass, LineView}
 use Rattle.silo_loops.specs.Passes.{CallsBy}
-use Rattle.silo_crew.specs.Silos.{GoesOn}
 use Rattle.cluster_operator.specs.declared.halt.Halt.{Halt}
+use Rattle.cluster_operator.specs.declared.halt.Halt.TheVariants as halt
 use Rattle.cluster_operator.specs.declared.leaving.Release.{Release}
 use Rattle.cluster_operator.specs.declared.leaving.Release.TheVariants as release
 
@@ -29,9 +32,23 @@ HasMade {O} {R} mark p IsSuch = HasSome (λ (e : Entry O R). (e.number ≡ p.num
 abbrev pub HasSince : LineView → LineView → (Op → Reply → Type 0) → Type 0
 HasSince was is IsSuch = HasMade (length was.pass.seen) is.pass IsSuch
 
+-- why a change of silos is broken off where a call is refused
+abbrev pub halt_of : Refusal → Halt
+halt_of refusal.HistoryFull = halt.Limit
+halt_of refusal.Memory = halt.Memory
+
+-- All that the pass has seen is a full history where the change was broken off at a limit. It isn't full where the call
+-- failed to allocate.
+abbrev pub HasFound : {O R S : Type 0} → Halt → PassView O R S → Type 0
+HasFound {S = S} why p = (e : Refusal) × (why ≡ halt_of e) × ((t : Origin S) × (p.turnstile ≡ Some t) × IsFull e (length p.seen) t.start.limit)
+
 -- the queue went to an agent on this silo
 abbrev pub IsMove : ℕ → Op → Reply → Type 0
 IsMove silo o r = (o ≡ op.Move silo) × ((generation : ℕ) × (low : Token) × (r ≡ reply.Moved generation low))
+
+-- the queue has as many rises as it may have
+abbrev pub IsSpentMove : ℕ → Op → Reply → Type 0
+IsSpentMove silo o r = (o ≡ op.Move silo) × (r ≡ reply.Spent)
 
 -- the grain was deactivated, or wasn't active
 abbrev pub IsDeactivation : GrainId → Op → Reply → Type 0
@@ -49,7 +66,7 @@ IsNoneLeft silo o r = (o ≡ asked.Down silo) × (r ≡ directory.NoneLeft)
 abbrev pub Releases : ℕ → DirectoryPass → Result Release Halt → DirectoryPass → Type 0
 Releases silo d (Ok (release.Grain grain)) e = (left : ℕ) × CallsBy places.replied places.after d (asked.Down silo) (Ok (directory.Released grain left)) e
 Releases silo d (Ok release.NoneLeft) e = CallsBy places.replied places.after d (asked.Down silo) (Ok directory.NoneLeft) e
-Releases silo d (Err halt) e = GoesOn d e
+Releases silo d (Err why) e = (refused : Refusal) × (why ≡ halt_of refused) × CallsBy places.replied places.after d (asked.Down silo) (Err refused) e
 
 -- R holds of the line of each queue before and after
 abbrev pub AtEachQueue : List LineView → List LineView → (ℕ → LineView → LineView → Type 0) → Type 0
@@ -67,3 +84,25 @@ IsDeactivated old new grain = AtEachQueue old new (λ queue was is. HasSince was
 -- each grain that the directory took from the silo since was deactivated at each queue
 abbrev pub AreDeactivated : ℕ → DirectoryPass → DirectoryPass → List LineView → List LineView → Type 0
 AreDeactivated silo d e old new = (grain : GrainId) → HasMade (length d.seen) e (IsRelease silo grain) → IsDeactivated old new grain
+
+-- Why the line of a queue wasn't moved to the silo: its pass has found the history so, or the Move was answered Spent.
+abbrev pub IsUnmoved : Halt → ℕ → LineView → LineView → Type 0
+IsUnmoved why silo was is = (HasSince was is (IsMove silo) → ⊥) × (HasFound why is.pass ⊎ ((why ≡ halt.Limit) × HasSince was is (IsSpentMove silo)))
+
+-- a queue that is to have another silo wasn't moved there
+pub record StaysBehind (why : Halt) (old new : List LineView) (before now : List ℕ) : Type 0 where
+  pub queue : ℕ
+  pub was : LineView
+  pub is : LineView
+  pub had : slice_get old queue ≡ Some was
+  pub has : slice_get new queue ≡ Some is
+  pub other : slice_index now queue ≢ slice_index before queue
+  pub unmoved : IsUnmoved why (slice_index now queue) was is
+
+-- the pass of one of these lines has found its history so
+abbrev pub HasFoundOne : Halt → List LineView → Type 0
+HasFoundOne why lines = (queue : ℕ) × (is : LineView) × (slice_get lines queue ≡ Some is) × HasFound why is.pass
+
+-- Why a silo's grains didn't all leave: the directory wasn't found without one, and it or a queue has refused a call.
+abbrev pub HoldsGrains : Halt → ℕ → DirectoryPass → DirectoryPass → List LineView → Type 0
+HoldsGrains why silo d e lines = (HasMade (length d.seen) e (IsNoneLeft silo) → ⊥) × (HasFound why e ⊎ HasFoundOne why lines)

@@ -1,9 +1,11 @@
 -- What the operator of a cluster holds, and what a change of silos leaves.
-use Rattle.std.specs.Prelude.{◌≡◌, ℕ, ◌<◌, List, length}
+use Rattle.std.specs.Prelude.{◌≡◌, ◌⊎◌, ℕ, ◌<◌, List, [], length}
 use Rattle.queue_balancer.specs.Balance.{HasNoDoubles, IsBalanced}
 use Rattle.silo_loops.specs.Lines.{DirectoryPass, LineView}
 use Rattle.silo_crew.specs.Silos.{GoOn, GoesOn}
-use Rattle.cluster_operator.specs.Changes.{HaveMoved}
+use Rattle.cluster_operator.specs.declared.halt.Halt.{Halt}
+use Rattle.cluster_operator.specs.declared.halt.Halt.TheVariants as halt
+use Rattle.cluster_operator.specs.Changes.{HaveMoved, StaysBehind}
 
 -- a cluster's own pass of each queue and its own at the directory, the silos that live, and the silo of each queue
 pub record OperatorView : Type 0 where
@@ -33,3 +35,9 @@ pub record HasOnlyGoneOn (v w : OperatorView) : Type 0 where
 pub record HasSpread (v w : OperatorView) : Type 0 where
   pub balanced : IsBalanced v.assignment w.live w.assignment
   pub moved : HaveMoved v.lines w.lines v.assignment w.assignment
+
+-- Why the queues weren't spread anew over these silos: one wasn't moved where it is to go. Or no line has changed, since
+-- no silo lives or the call failed to allocate.
+abbrev pub IsUnspread : Halt → List ℕ → List ℕ → List LineView → List LineView → Type 0
+IsUnspread why assignment live old new =
+    ((new ≡ old) × (why ≡ halt.Limit → live ≡ [])) ⊎ ((fresh : List ℕ) × IsBalanced assignment live fresh × StaysBehind why old new assignment fresh)

@@ -7,13 +7,17 @@ use turnstile::Refusal;
 /// Why a change of silos was broken off. What was answered by then stands, and no silo comes or goes any more.
 #[derive(Clone, Copy, Debug, PartialEq, Eq)]
 pub enum Halt {
-    /// A call was answered `Spent`, or a history is full.
+    /// A Move was answered `Spent`, a history is full, or no silo lives.
     Limit,
     /// The call failed to allocate, or a thread can't be made.
     Memory,
 }
 
 impl From<Refusal> for Halt {
+    ghost use Rattle.cluster_operator.specs.Changes.{halt_of};
+
+    ghost from_gives = { λ refusal halt. halt ≡ halt_of refusal };
+
     fn from(refusal: Refusal) -> Halt {
         match refusal {
             Refusal::HistoryFull => Halt::Limit,
@@ -23,6 +27,10 @@ impl From<Refusal> for Halt {
 }
 
 impl From<AllocError> for Halt {
+    ghost use Rattle.cluster_operator.specs.declared.halt.Halt.TheVariants.{Memory};
+
+    ghost from_gives = { λ _ halt. halt ≡ Memory };
+
     fn from(_error: AllocError) -> Halt {
         Halt::Memory
     }

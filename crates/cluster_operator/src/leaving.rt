@@ -1,7 +1,7 @@
 //! A silo that goes: its grains leave the directory and the partitions.
-ghost use Rattle.std.specs.Prelude.{◌≡◌, length, OnOk};
+ghost use Rattle.std.specs.Prelude.{◌≡◌, length, IfErr, OnOk};
 ghost use Rattle.silo_crew.specs.Silos.{GoOn, GoesOn, LineGoesOn};
-ghost use Rattle.cluster_operator.specs.Changes.{AreDeactivated, HasMade, HasSince, IsDeactivated, IsDeactivation, IsNoneLeft, Releases};
+ghost use Rattle.cluster_operator.specs.Changes.{AreDeactivated, HasFound, HasFoundOne, HasMade, HasSince, HoldsGrains, IsDeactivated, IsDeactivation, IsNoneLeft, Releases};
 
 use crate::halt::Halt;
 use activation_directory::{DirectoryOp, DirectoryReply};
@@ -23,6 +23,7 @@ fn deactivate<G: Gate, H: StoredHistory<Op, Reply>, R: Wait>(
 ) -> Result<(), Halt>
     ensures on { LineGoesOn line.old line.new }
     ensures done { OnOk result (HasSince line.old line.new (IsDeactivation grain.now)) }
+    ensures found { IfErr result (λ why. HasFound why line.new.pass) }
 {
     line.call(rt, alloc, doorbell, Op::Deactivate { grain: *grain })?;
     Ok(())
@@ -38,6 +39,7 @@ fn deactivate_everywhere<G: Gate, H: StoredHistory<Op, Reply>, R: Wait>(
 ) -> Result<(), Halt>
     ensures on { GoOn lines.old.items lines.new.items }
     ensures done { OnOk result (IsDeactivated lines.old.items lines.new.items grain.now) }
+    ensures found { IfErr result (λ why. HasFoundOne why lines.new.items) }
 {
     for queue in 0..lines.len() {
         let line = &mut lines[queue];
@@ -65,7 +67,7 @@ fn take_grain<D: StoredHistory<DirectoryOp, DirectoryReply>, R: Wait>(
     match directory.call(rt, alloc, doorbell, DirectoryOp::Down { silo })? {
         DirectoryReply::Released { grain, left: _ } => Ok(Release::Grain(grain)),
         DirectoryReply::NoneLeft => Ok(Release::NoneLeft),
-        _ => Err(Halt::Limit),
+        _ => unreachable!(),
     }
 }
 
@@ -90,6 +92,7 @@ pub(crate) fn evict<
     ensures directory { GoesOn directory.old directory.new }
     ensures deactivated { OnOk result (AreDeactivated silo directory.old directory.new lines.old.items lines.new.items) }
     ensures none_left { OnOk result (HasMade (length directory.old.seen) directory.new (IsNoneLeft silo)) }
+    ensures holds { IfErr result (λ why. HoldsGrains why silo directory.old directory.new lines.new.items) }
 {
     for _ in rt.forever() {
         match take_grain(rt, alloc, doorbell, directory, silo)? {

@@ -1,7 +1,7 @@
 //! Queues that go to agents on other silos.
-ghost use Rattle.std.specs.Prelude.{◌≡◌, ◌≢◌, length, OnOk};
+ghost use Rattle.std.specs.Prelude.{◌≡◌, ◌≢◌, length, IfErr, OnOk};
 ghost use Rattle.silo_crew.specs.Silos.{GoOn, LineGoesOn};
-ghost use Rattle.cluster_operator.specs.Changes.{HasSince, HaveMoved, IsMove};
+ghost use Rattle.cluster_operator.specs.Changes.{HasSince, HaveMoved, IsMove, IsUnmoved, StaysBehind};
 
 use crate::halt::Halt;
 use shared_partition::Gate;
@@ -25,6 +25,7 @@ fn move_queue<G: Gate, H: StoredHistory<Op, Reply>, R: Wait>(
 ) -> Result<(), Halt>
     ensures on { LineGoesOn line.old line.new }
     ensures moved { OnOk result (to ≢ from → HasSince line.old line.new (IsMove to)) }
+    ensures unmoved { IfErr result (λ why. to ≢ from × IsUnmoved why to line.old line.new) }
 {
     if from == to {
         return Ok(());
@@ -35,7 +36,8 @@ fn move_queue<G: Gate, H: StoredHistory<Op, Reply>, R: Wait>(
             doorbell.ring(rt);
             Ok(())
         }
-        _ => Err(Halt::Limit),
+        Reply::Spent => Err(Halt::Limit),
+        _ => unreachable!(),
     }
 }
 
@@ -66,6 +68,7 @@ pub(crate) fn spread<G: Gate, H: StoredHistory<Op, Reply>, R: Wait>(
     requires new { length new.now ≡ length lines.old.items }
     ensures on { GoOn lines.old.items lines.new.items }
     ensures moved { OnOk result (HaveMoved lines.old.items lines.new.items old.now new.now) }
+    ensures behind { IfErr result (λ why. StaysBehind why lines.old.items lines.new.items old.now new.now) }
 {
     for queue in 0..lines.len() {
         let line = &mut lines[queue];

@@ -1,9 +1,9 @@
 //! What the operator of a cluster holds: passes of its own, the silos that live, and the silo of each queue.
-ghost use Rattle.std.specs.Prelude.{◌≡◌, ◌<◌, [], ◌∷◌, ◌++◌, length, remove, replicate, Contains, Some, slice_get, OnErr, OnOk, IfOk, MatchOption};
+ghost use Rattle.std.specs.Prelude.{◌≡◌, ◌<◌, [], ◌∷◌, ◌++◌, length, remove, replicate, Contains, Some, slice_get, OnErr, OnOk, IfErr, IfOk, MatchOption};
 ghost use Rattle.queue_balancer.specs.Balance.{HasNoDoubles, IsBalanced};
 ghost use Rattle.silo_crew.specs.Silos.{GoOn, HaveJoined, IsFresh, IsSilent, IsSiloAt};
-ghost use Rattle.cluster_operator.specs.Changes.{AreDeactivated, HasMade, HaveMoved, IsNoneLeft};
-ghost use Rattle.cluster_operator.specs.Operators.{HasOnlyGoneOn, HasSpread, OperatorGoesOn};
+ghost use Rattle.cluster_operator.specs.Changes.{AreDeactivated, HasMade, HaveMoved, HoldsGrains, IsNoneLeft};
+ghost use Rattle.cluster_operator.specs.Operators.{HasOnlyGoneOn, HasSpread, IsUnspread, OperatorGoesOn};
 
 use crate::halt::Halt;
 use crate::leaving::evict;
@@ -92,6 +92,8 @@ fn spread_queues<G: Gate, H: StoredHistory<Op, Reply>, R: Wait>(
     ensures on { GoOn lines.old.items lines.new.items }
     ensures balanced { OnOk result (IsBalanced assignment.old.items live.now assignment.new.items) }
     ensures moved { OnOk result (HaveMoved lines.old.items lines.new.items assignment.old.items assignment.new.items) }
+    ensures kept { OnErr result (assignment.new.items ≡ assignment.old.items) }
+    ensures unspread { IfErr result (λ why. IsUnspread why assignment.old.items live.now lines.old.items lines.new.items) }
 {
     let new = match rebalance(alloc, assignment.as_slice(), live) {
         Ok(new) => new.into_vec(),
@@ -252,12 +254,16 @@ impl<G: Gate, H: StoredHistory<Op, Reply>, D: StoredHistory<DirectoryOp, Directo
     /// Spreads the queues over the silos that live.
     ///
     /// # Errors
-    /// A call was refused or failed to allocate. What was answered by then stands.
+    /// `Limit` where a history is full, a Move was answered `Spent`, or no silo lives, and `Memory` where the call
+    /// failed to allocate. A queue that is to have another silo was then not moved, or nothing was done. What was
+    /// answered by then stands, and each queue still counts for the silo that it had.
     pub fn spread<R: Wait>(&mut self, rt: &R, alloc: Global) -> Result<(), Halt>
         ensures on { OperatorGoesOn self.old self.new }
         ensures directory { self.new.directory ≡ self.old.directory }
         ensures live { self.new.live ≡ self.old.live }
         ensures spread { OnOk result (HasSpread self.old self.new) }
+        ensures kept { OnErr result (self.new.assignment ≡ self.old.assignment) }
+        ensures unspread { IfErr result (λ why. IsUnspread why self.old.assignment self.old.live self.old.lines self.new.lines) }
     {
         spread_queues(
             rt,
@@ -273,11 +279,13 @@ impl<G: Gate, H: StoredHistory<Op, Reply>, D: StoredHistory<DirectoryOp, Directo
     /// Takes each grain of a silo from the directory, and deactivates it at each queue.
     ///
     /// # Errors
-    /// A call was refused or failed to allocate. What was answered by then stands.
+    /// `Limit` where a history is full, and `Memory` where the call failed to allocate. The directory wasn't found
+    /// without a grain of the silo then. What was answered by then stands.
     pub fn evict<R: Wait>(&mut self, rt: &R, alloc: Global, silo: u8) -> Result<(), Halt>
         ensures only { HasOnlyGoneOn self.old self.new }
         ensures deactivated { OnOk result (AreDeactivated silo self.old.directory self.new.directory self.old.lines self.new.lines) }
         ensures none_left { OnOk result (HasMade (length self.old.directory.seen) self.new.directory (IsNoneLeft silo)) }
+        ensures holds { IfErr result (λ why. HoldsGrains why silo self.old.directory self.new.directory self.new.lines) }
     {
         evict(
             rt,

@@ -13,13 +13,13 @@ use Rattle.stream_cluster.specs.declared.cluster.SiloDown.{SiloDown}
 use Rattle.stream_cluster.specs.declared.cluster.SiloDown.TheVariants as down
 use Rattle.stream_cluster.specs.declared.cluster.SiloUp.{SiloUp}
 use Rattle.stream_cluster.specs.declared.cluster.SiloUp.TheVariants as up
-use Rattle.stream_cluster.specs.Clusters.{AnswersDown, AnswersUp, ClusterView, IsDown, IsUp, MayGo}
-use Rattle.stream_cluster.proofs.Standing.{lives-at, op-refl}
+use Rattle.stream_cluster.specs.Clusters.{AnswersDown, AnswersUp, ClusterView, HasMetLimit, IsDown, IsUp, MayGo, is_fixed}
+use Rattle.stream_cluster.proofs.Standing.{lives-at, not-fixed, op-refl}
 use Rattle.script_parser.specs.declared.command.Command.TheVariants as command
 use Rattle.script_reader.specs.ScriptReport.{refused_where}
 use Rattle.script_reader.specs.Told.{is_among}
 use Rattle.script_producer.specs.declared.answer.Answer.TheVariants as answer
-use Rattle.cluster_scripts.specs.Lines.{ChangesBy}
+use Rattle.cluster_scripts.specs.Lines.{ChangesBy, StaysOpen}
 
 -- ---- whether a silo is among those that live
 
@@ -87,6 +87,18 @@ or-true : (b : Bool) → (b || true) ≡ true
 or-true true = refl
 or-true false = refl
 
+-- ---- silos may still come and go
+
+parked-free : (parked halted : Bool) → (parked || halted) ≡ false → parked ≡ false
+parked-free true halted free = free
+parked-free false halted free = refl
+
+open-same : (v w : ClusterView) → w ≡ v → StaysOpen v w
+open-same v w same = λ free. (ap (λ (u : ClusterView). is_fixed u) same ∙ free, ap (λ (u : ClusterView). u.looks) same)
+
+open-after : (v w : ClusterView) → (w.is_parked ≡ v.is_parked) × (w.rounds ≡ v.rounds) × (w.looks ≡ v.looks) → w.is_halted ≡ false → StaysOpen v w
+open-after v w same goes = λ free. (not-fixed w (same.0 ∙ parked-free v.is_parked v.is_halted free) goes, same.2)
+
 -- ---- what the answers say
 
 -- a silo came
@@ -102,6 +114,7 @@ came v w silo none comes =
       );
       prints = λ missed silos lines number is. ap (λ b. refused_where number b) (ap (λ (there : List ℕ). is_among silo there) (sym is) ∙ fresh);
       found = λ number missed. refl;
+      stays = open-after v w comes.same comes.goes_on;
     }
 
 -- a silo lived already
@@ -115,6 +128,7 @@ stays v w silo has same =
       live = λ once. (ap (λ b. if b then live else live ++ silo ∷ []) (sym here), once);
       prints = λ missed silos lines number is. ap (λ b. refused_where number b) (ap (λ (there : List ℕ). is_among silo there) (sym is) ∙ here);
       found = λ number missed. refl;
+      stays = open-same v v refl;
     })
 
 -- a silo went
@@ -134,6 +148,7 @@ went v w silo may goes =
           ∙ ap (λ b. refused_where number (not b || (length live == 1))) (has-among silo live may.0)
           ∙ ap (λ b. refused_where number b) more;
       found = λ number missed. refl;
+      stays = open-after v w goes.same goes.goes_on;
     }
 
 -- a silo didn't live
@@ -148,6 +163,7 @@ lacks v w silo none same =
           ap (λ (there : List ℕ). refused_where number (not (is_among silo there) || (length there == 1))) (sym is)
           ∙ ap (λ b. refused_where number (not b || (length live == 1))) (not-among silo live none);
       found = λ number missed. refl;
+      stays = open-same v v refl;
     })
 
 -- no other silo lived
@@ -164,6 +180,7 @@ is-last v w silo one same =
           ∙ ap (λ b. refused_where number (not (is_among silo live) || b)) single
           ∙ ap (λ b. refused_where number b) (or-true (not (is_among silo live)));
       found = λ number missed. refl;
+      stays = open-same v v refl;
     })
 
 -- ---- the same by the answers of the cluster
@@ -200,3 +217,16 @@ down-on v w silo (Ok down.LastSilo) a = same-on v w a.2
 down-on v w silo (Ok down.Limit) a = a.2.on
 down-on v w silo (Ok down.Halted) a = same-on v w a.1
 down-on v w silo (Err e) a = a.2.on
+
+-- why a silo didn't come or go
+pub up-stops : (v w : ClusterView) (silo : ℕ) (r : Result SiloUp AllocError) → AnswersUp v silo r w → is_fixed v ≡ false → (r ≡ Ok up.Halted → ⊥) × (r ≡ Ok up.Limit → HasMetLimit v.operator w.operator)
+up-stops v w silo r answers free = (
+  λ is. true≢false (sym (subst (λ (x : Result SiloUp AllocError). AnswersUp v silo x w) is answers).0 ∙ free),
+  λ is. (subst (λ (x : Result SiloUp AllocError). AnswersUp v silo x w) is answers).3,
+)
+
+pub down-stops : (v w : ClusterView) (silo : ℕ) (r : Result SiloDown AllocError) → AnswersDown v silo r w → is_fixed v ≡ false → (r ≡ Ok down.Halted → ⊥) × (r ≡ Ok down.Limit → HasMetLimit v.operator w.operator)
+down-stops v w silo r answers free = (
+  λ is. true≢false (sym (subst (λ (x : Result SiloDown AllocError). AnswersDown v silo x w) is answers).0 ∙ free),
+  λ is. (subst (λ (x : Result SiloDown AllocError). AnswersDown v silo x w) is answers).4,
+)

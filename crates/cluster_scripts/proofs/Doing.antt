@@ -1,18 +1,21 @@
 -- What a line does, by what it asks for.
-use Rattle.std.proofs.Common.{◌≡◌, ◌≢◌, ℕ, List, Option, None, Result, Ok, Err, IfOk, sym, ap, subst, ◌∙◌}
+use Rattle.std.proofs.Common.{◌≡◌, ◌≢◌, inl, inr, ℕ, List, Option, None, Result, Ok, Err, IfErr, IfOk, refl, sym, ap, subst, ◌∙◌}
 use Rattle.std.specs.declared.alloc.AllocError.{AllocError}
 use Rattle.stream_model.specs.declared.op.Op.{Op}
 use Rattle.silo_loops.specs.Lines.{QueuePass}
-use Rattle.stream_cluster.specs.Clusters.{ClusterView}
+use Rattle.cluster_ending.proofs.Rows.{zip-refl}
+use Rattle.stream_cluster.specs.Clusters.{ClusterView, HasMetLimit}
 use Rattle.script_parser.specs.declared.command.Command.{Command}
 use Rattle.script_reader.specs.ScriptReport.{live_after}
 use Rattle.script_reader.specs.Told as script
 use Rattle.script_reader.proofs.Growing.{scripts-grow}
 use Rattle.script_producer.specs.declared.answer.Answer.{Answer}
 use Rattle.script_producer.specs.declared.answer.Answer.TheVariants as answer
-use Rattle.script_producer.specs.Telling.{Tells, TellsUnlessLimit, with_missed}
+use Rattle.script_producer.specs.Telling.{AsksLast, AsksOnce, EndsAsking, HasGoneOn, Tells, TellsUnlessLimit, with_missed}
+use Rattle.script_producer.proofs.Seen.{gone-refl}
 use Rattle.cluster_scripts.specs.declared.line.Stop.{Stop}
-use Rattle.cluster_scripts.specs.Lines.{ChangesBy, DoesLine}
+use Rattle.cluster_scripts.specs.declared.line.Stop.TheVariants as stop
+use Rattle.cluster_scripts.specs.Lines.{ChangesBy, DoesLine, FindsUnquiet, IsUnquiet, StopsBy}
 
 -- a line that asks for something at the queues
 pub tells-line : (v : ClusterView) (old new : List QueuePass) (command : Command) (a : Answer) → ((live : List ℕ) → live_after live command ≡ live) → Tells old command a new → DoesLine v old command a v new
@@ -21,6 +24,7 @@ tells-line v old new command a same tells =
       live = λ once. (sym (same v.operator.live), once);
       told = tells.told;
       printed = λ begins alone missed lines number fresh has silos is. tells.printed begins alone missed lines number fresh has silos;
+      stays = λ free. (free, refl);
     }
 
 -- a line by which a silo comes or goes
@@ -35,6 +39,7 @@ changes-line v w passes command a none changes =
           ∙ ap (λ (asked : Option Op). script.with_told now (script.told now queue lines) number asked) (sym (none queue))
           ∙ sym (scripts-grow.told now queue lines (record { number = number; command = command }));
       printed = λ begins alone missed lines number fresh has silos is. changes.prints (with_missed a number missed) silos lines number is;
+      stays = changes.stays;
     }
 
 -- ---- the same by what came of it
@@ -48,3 +53,35 @@ pub changed-line : (v w : ClusterView) (passes : List QueuePass) (command : Comm
     → IfOk result (λ told. ChangesBy v command told w) → IfOk result (λ told. DoesLine v passes command told w passes)
 changed-line v w passes command (Ok a) none changes = changes-line v w passes command a none changes
 changed-line v w passes command (Err e) none changes = tt
+
+-- ---- why a line was stopped
+
+pub asked-stops : (v : ClusterView) (old new : List QueuePass) (op : Op) (asked : Result Answer AllocError) (result : Result Answer Stop) → (asked ≡ Ok answer.Limit → AsksLast old op (Ok answer.Limit) new)
+    → IfErr result (λ why. (why ≢ stop.NotQuiet) × (why ≡ stop.Limit → asked ≡ Ok answer.Limit)) → IfErr result (λ why. StopsBy why v old v new)
+asked-stops v old new op asked (Ok a) last stops = tt
+asked-stops v old new op asked (Err stop.Limit) last stops = inl (inl (op, last (stops.1 refl)))
+asked-stops v old new op asked (Err stop.NotQuiet) last stops = absurd (stops.0 refl)
+asked-stops v old new op asked (Err stop.Memory) last stops = tt
+
+pub once-last : (old : List QueuePass) (queue : ℕ) (op : Op) (asked : Result Answer AllocError) (new : List QueuePass) → AsksOnce old queue op asked new → asked ≡ Ok answer.Limit → AsksLast old op (Ok answer.Limit) new
+once-last old queue op asked new once is =
+    record { before = old; on = zip-refl HasGoneOn gone-refl old; queue = queue; asks = subst (λ (r : Result Answer AllocError). AsksOnce old queue op r new) is once }
+
+pub each-last : (old : List QueuePass) (op : Op) (asked : Result Answer AllocError) (new : List QueuePass) → EndsAsking old op asked new → asked ≡ Ok answer.Limit → AsksLast old op (Ok answer.Limit) new
+each-last old op asked new ends is = subst (λ (r : Result Answer AllocError). EndsAsking old op r new) is ends
+
+pub changed-stops : (v w : ClusterView) (passes : List QueuePass) (result : Result Answer Stop)
+    → IfErr result (λ why. (why ≢ stop.NotQuiet) × (why ≡ stop.Limit → HasMetLimit v.operator w.operator)) → IfErr result (λ why. StopsBy why v passes w passes)
+changed-stops v w passes (Ok a) stops = tt
+changed-stops v w passes (Err stop.Limit) stops = inr (stops.1 refl)
+changed-stops v w passes (Err stop.NotQuiet) stops = absurd (stops.0 refl)
+changed-stops v w passes (Err stop.Memory) stops = tt
+
+pub unquiet-stops : (why : Stop) (v w : ClusterView) (looks : ℕ) (old new : List QueuePass) → looks ≡ v.looks → IsUnquiet why looks old new → StopsBy why v old w new
+unquiet-stops stop.Limit v w looks old new same unquiet = inl (inr unquiet)
+unquiet-stops stop.NotQuiet v w looks old new same unquiet =
+    elim unquiet as (λ s. FindsUnquiet v old new) [
+      | inl none ↦ inl (sym same ∙ none.0)
+      | inr found ↦ inr found
+    ]
+unquiet-stops stop.Memory v w looks old new same unquiet = tt

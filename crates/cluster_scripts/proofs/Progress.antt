@@ -1,23 +1,29 @@
 -- How far a script is done.
-use Rattle.std.proofs.Common.{◌≡◌, ◌≢◌, ℕ, zero, suc, ◌+◌, ◌<◌, ◌≤◌, true, false, ◌||◌, Contains, List, [], ◌∷◌, ◌++◌, map, Result, Ok, Err, OnErr, OnOk, length, get_or, refl, sym, ap, subst, ◌∙◌, arith, append_assoc, ◌==◌}
+use Rattle.std.proofs.Common.{◌≡◌, ◌≢◌, inl, inr, ℕ, zero, suc, ◌+◌, ◌<◌, ◌≤◌, true, false, ◌||◌, Contains, List, [], ◌∷◌, ◌++◌, map, Result, Ok, Err, OnErr, OnOk, length, get_or, refl, sym, ap, subst, ◌∙◌, arith, append_assoc, ◌==◌}
 use Rattle.std.proofs.lemmas.Bool.{ne_eqb}
 use Rattle.std.proofs.lemmas.List.{append-nil}
 use Rattle.std.proofs.lemmas.List.Kept.{AllPairs-cons}
 use Rattle.std.proofs.lemmas.List.Sums.{fold-append}
 use Rattle.std.specs.List.{AllByRecursion, AllZip, range_with_len}
 use Rattle.queue_balancer.specs.Balance.{HasNoDoubles}
+use Rattle.std.specs.declared.alloc.AllocError.{AllocError}
+use Rattle.stream_model.specs.declared.op.Op.{Op}
 use Rattle.stream_model.specs.Producers.{is_producer}
+use Rattle.turnstile.specs.declared.turnstile.Refusal.{Refusal}
+use Rattle.turnstile.specs.declared.turnstile.Refusal.TheVariants.{HistoryFull}
 use Rattle.turnstile.specs.Calls.{numbers_of}
 use Rattle.silo_loops.specs.Lines.{QueuePass}
 use Rattle.silo_loops.proofs.Owning.{owns-foreign}
 use Rattle.cluster_callers.specs.Calls.{IsUnused, turnstiles}
+use Rattle.cluster_ending.specs.declared.asking.Quiet.{Quiet}
+use Rattle.cluster_ending.specs.declared.asking.Quiet.TheVariants.{All, NotQuiet}
 use Rattle.cluster_ending.proofs.Looking.{turnstiles-length}
 use Rattle.stream_ident.proofs.EachOf.{All-push, All-weaken}
 use Rattle.cluster_ending.proofs.Rows.{all-at, zip-refl, zip-trans}
 use Rattle.cluster_operator.specs.Operators.{OperatorGoesOn}
-use Rattle.stream_cluster.specs.Clusters.{ClusterView}
+use Rattle.stream_cluster.specs.Clusters.{ClusterView, is_fixed}
 use Rattle.cluster_operator.proofs.Changing.{op-trans}
-use Rattle.stream_cluster.proofs.Standing.{op-refl}
+use Rattle.stream_cluster.proofs.Standing.{met-earlier, op-refl}
 use Rattle.stream_ident.proofs.WordLemmas.{All-at}
 use Rattle.script_parser.specs.declared.command.Command.TheVariants as command
 use Rattle.script_reader.specs.declared.line.Line.{Line}
@@ -30,10 +36,12 @@ use Rattle.script_reader.proofs.Growing.{scripts-grow}
 use Rattle.script_reader.proofs.Misses.{misses-change-no-other}
 use Rattle.script_producer.specs.declared.answer.Answer.{Answer}
 use Rattle.script_producer.specs.declared.answer.Answer.TheVariants as answer
-use Rattle.script_producer.specs.Telling.{AloneProduces, BeginsEmpty, HasGoneOn, HasTold, IsNewNumber, LooksQuiet, ProducesAlone, Tells, printed_lines, told_at, with_missed}
+use Rattle.script_producer.specs.Telling.{AloneProduces, AsksLast, BeginsEmpty, HasGoneOn, HasTold, IsNewNumber, Looks, LooksQuiet, ProducesAlone, Tells, printed_lines, told_at, with_missed}
 use Rattle.script_producer.proofs.Seen.{alone-as, alone-front, gone-refl, gone-trans, none-told}
 use Rattle.script_reader.specs.Scripts.{IsRunCommand, IsScript, RisesFrom}
-use Rattle.cluster_scripts.specs.Lines.{DoesLine}
+use Rattle.cluster_scripts.specs.declared.line.Stop.{Stop}
+use Rattle.cluster_scripts.specs.declared.line.Stop.TheVariants as stop
+use Rattle.cluster_scripts.specs.Lines.{DoesLine, FindsUnquiet, MeetsLimit, ProducerMeetsLimit, StaysOpen, StopsBy}
 use Rattle.cluster_scripts.specs.Runs.{DoesAll, DoesFront, IsPrinted, IsUntouched, missed_in, with_printed}
 
 -- ---- passes that have seen more
@@ -127,6 +135,7 @@ pub record Progress (lines : List Line) (v : ClusterView) (old : List QueuePass)
   pub on : AllZip HasGoneOn old now
   pub at : turnstiles now ≡ turnstiles old
   pub cluster : OperatorGoesOn v.operator w.operator
+  pub stays : StaysOpen v w
   pub live : (silos : ℕ) → IsUntouched silos v old → (w.operator.live ≡ live_silos silos done) × HasNoDoubles w.operator.live
   pub told : (silos : ℕ) → IsUntouched silos v old → AloneProduces now → HasTold (missed_in found) done now
   pub printed : (silos : ℕ) → IsUntouched silos v old → AloneProduces now → IsPrinted silos done found
@@ -153,6 +162,7 @@ begins queues lines v old is =
       on = zip-refl HasGoneOn gone-refl old;
       at = refl;
       cluster = op-refl v.operator;
+      stays = λ free. (free, refl);
       live = λ silos untouched. (untouched.live, subst (λ (live : List ℕ). HasNoDoubles live) (sym untouched.live) (range-once 0 silos));
       told = λ silos untouched alone queue p at. unused-told p (all-at IsUnused old queue p untouched.unused at) (all-at ProducesAlone old queue p alone at);
       printed = λ silos untouched alone. refl;
@@ -180,6 +190,10 @@ does lines v old done found w now line a more u new far within is line_does prin
       on = on-all old now new far.on on;
       at = at ∙ far.at;
       cluster = op-trans v.operator w.operator u.operator far.cluster cluster;
+      stays = λ free.
+          let before = far.stays free in
+          let after = line_does.stays before.0 in
+          (after.0, after.1 ∙ before.1);
       live = λ silos untouched.
           let was = far.live silos untouched in
           let is_now = line_does.live was.1 in
@@ -199,6 +213,35 @@ does lines v old done found w now line a more u new far within is line_does prin
           ∙ ap (λ (numbers : List ℕ). script_lines numbers silos (done ++ line ∷ [])) (sym same)));
     }
 
+-- a look and a call since then are so since what was before
+looks-earlier : (result : Result Quiet Refusal) (old now new : List QueuePass) → AllZip HasGoneOn old now → Looks result now new → Looks result old new
+looks-earlier result old now new on look = record { before = look.before; on = on-all old now look.before on look.on; asks = look.asks }
+
+last-earlier : (op : Op) (result : Result Answer AllocError) (old now new : List QueuePass) → AllZip HasGoneOn old now → AsksLast now op result new → AsksLast old op result new
+last-earlier op result old now new on last = record { before = last.before; on = on-all old now last.before on last.on; queue = last.queue; asks = last.asks }
+
+limit-earlier : (old now new : List QueuePass) → AllZip HasGoneOn old now → ProducerMeetsLimit now new → ProducerMeetsLimit old new
+limit-earlier old now new on meets =
+    elim meets as (λ s. ProducerMeetsLimit old new) [
+      | inl asked ↦ inl (asked.0, last-earlier asked.0 (Ok answer.Limit) old now new on asked.1)
+      | inr look ↦ inr (looks-earlier (Err HistoryFull) old now new on look)
+    ]
+
+-- why a line was stopped is why the script is
+pub stops-later : (why : Stop) (lines : List Line) (v : ClusterView) (old : List QueuePass) (done : List Line) (found : List ScriptLine) (w : ClusterView) (now : List QueuePass) (u : ClusterView) (new : List QueuePass)
+    → is_fixed v ≡ false → Progress lines v old done found w now → StopsBy why w now u new → StopsBy why v old u new
+stops-later stop.Limit lines v old done found w now u new free far stops =
+    elim stops as (λ s. MeetsLimit v old u new) [
+      | inl producer ↦ inl (limit-earlier old now new far.on producer)
+      | inr cluster ↦ inr (met-earlier v.operator w.operator u.operator far.cluster cluster)
+    ]
+stops-later stop.NotQuiet lines v old done found w now u new free far stops =
+    elim stops as (λ s. FindsUnquiet v old new) [
+      | inl none ↦ inl (sym (far.stays free).1 ∙ none)
+      | inr look ↦ inr (look.0, look.1, looks-earlier (Ok (NotQuiet look.0 look.1)) old now new far.on look.2)
+    ]
+stops-later stop.Memory lines v old done found w now u new free far stops = tt
+
 -- all lines were done, and then all queues were quiet
 pub done-all : (lines : List Line) (v : ClusterView) (old : List QueuePass) (done : List Line) (found : List ScriptLine) (w : ClusterView) (now new : List QueuePass)
     → Progress lines v old done found w now → done ≡ lines → AllZip HasGoneOn now new → Tells now command.Drain answer.Taken new → LooksQuiet now new
@@ -208,7 +251,7 @@ done-all lines v old done found w now new far all on tells quiet =
     let number = suc far.last in
     let fresh = fresh-number number far.last missed done (omega arith) far.below far.missed in
     record {
-      quiet = record { before = quiet.before; on = on-all old now quiet.before far.on quiet.on; quiet = quiet.quiet };
+      quiet = looks-earlier (Ok All) old now new far.on quiet;
       printed = λ silos untouched alone. subst (λ (ls : List Line). IsPrinted silos ls found) all (far.printed silos untouched (alone-back now new on alone));
       told = λ silos untouched alone queue p at.
           let before = alone-back now new on alone in

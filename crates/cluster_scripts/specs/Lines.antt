@@ -1,15 +1,22 @@
 -- What a line of a script does on a cluster.
-use Rattle.std.specs.Prelude.{◌≡◌, ℕ, List, [], ◌∷◌, ◌++◌}
+use Rattle.std.specs.Prelude.{◌≡◌, ◌⊎◌, ℕ, false, List, [], ◌∷◌, ◌++◌, Ok, Err}
 use Rattle.std.specs.List.{AllByRecursion}
 use Rattle.queue_balancer.specs.Balance.{HasNoDoubles}
+use Rattle.stream_model.specs.declared.op.Op.{Op}
+use Rattle.stream_model.specs.declared.reply.Pending.{Pending}
+use Rattle.turnstile.specs.declared.turnstile.Refusal.TheVariants.{HistoryFull}
 use Rattle.silo_loops.specs.Lines.{QueuePass}
+use Rattle.cluster_ending.specs.declared.asking.Quiet.TheVariants.{NotQuiet}
 use Rattle.cluster_operator.specs.Operators.{OperatorGoesOn}
-use Rattle.stream_cluster.specs.Clusters.{ClusterView}
+use Rattle.stream_cluster.specs.Clusters.{ClusterView, HasMetLimit, is_fixed}
 use Rattle.script_parser.specs.declared.command.Command.{Command}
 use Rattle.script_reader.specs.declared.line.Line.{Line}
 use Rattle.script_reader.specs.ScriptReport.{command_printed, live_after, live_silos}
 use Rattle.script_producer.specs.declared.answer.Answer.{Answer}
-use Rattle.script_producer.specs.Telling.{AloneProduces, BeginsEmpty, HasTold, IsNewNumber, printed_lines, with_missed}
+use Rattle.script_producer.specs.declared.answer.Answer.TheVariants as answer
+use Rattle.script_producer.specs.Telling.{AloneProduces, AsksLast, BeginsEmpty, HasTold, IsNewNumber, Looks, LooksInVain, printed_lines, with_missed}
+use Rattle.cluster_scripts.specs.declared.line.Stop.{Stop}
+use Rattle.cluster_scripts.specs.declared.line.Stop.TheVariants as stop
 
 -- The silos that live are changed by a line that was answered so: they are then what the script says.
 abbrev pub ChangesLive : List ℕ → Command → List ℕ → Type 0
@@ -21,12 +28,17 @@ PrintsChange live command answer =
     (missed : List ℕ) (silos : ℕ) (lines : List Line) (number : ℕ) → live ≡ live_silos silos lines
     → command_printed missed silos lines number command ≡ printed_lines answer number
 
+-- silos may still come and go, and a drain may look as often as before
+abbrev pub StaysOpen : ClusterView → ClusterView → Type 0
+StaysOpen v w = is_fixed v ≡ false → (is_fixed w ≡ false) × (w.looks ≡ v.looks)
+
 -- A line by which a silo comes or goes was answered so.
 pub record ChangesBy (v : ClusterView) (command : Command) (a : Answer) (w : ClusterView) : Type 0 where
   pub on : OperatorGoesOn v.operator w.operator
   pub live : ChangesLive v.operator.live command w.operator.live
   pub prints : PrintsChange v.operator.live command a
   pub found : (number : ℕ) (missed : List ℕ) → with_missed a number missed ≡ missed
+  pub stays : StaysOpen v w
 
 -- A line was answered so. Where the caller had told the lines of a script before it, the silos that lived were those
 -- that the script says, and nobody else has produced, it has told this line too, the silos that live are those that the
@@ -40,3 +52,28 @@ pub record DoesLine (v : ClusterView) (old : List QueuePass) (command : Command)
       AllByRecursion BeginsEmpty old → AloneProduces new → (missed : List ℕ) (lines : List Line) (number : ℕ) → IsNewNumber number missed lines
       → HasTold missed lines old → (silos : ℕ) → v.operator.live ≡ live_silos silos lines
       → command_printed (with_missed a number missed) silos lines number command ≡ printed_lines a number
+  pub stays : StaysOpen v w
+
+-- the last call of a producer met a limit: of a partition, or of a history in a look for quiet
+abbrev pub ProducerMeetsLimit : List QueuePass → List QueuePass → Type 0
+ProducerMeetsLimit old new = ((o : Op) × AsksLast old o (Ok answer.Limit) new) ⊎ Looks (Err HistoryFull) old new
+
+-- a limit was met by a producer or by a change of silos
+abbrev pub MeetsLimit : ClusterView → List QueuePass → ClusterView → List QueuePass → Type 0
+MeetsLimit v old w new = ProducerMeetsLimit old new ⊎ HasMetLimit v.operator w.operator
+
+-- a queue wasn't quiet in the last look, or no look may be had
+abbrev pub FindsUnquiet : ClusterView → List QueuePass → List QueuePass → Type 0
+FindsUnquiet v old new = (v.looks ≡ 0) ⊎ ((queue : ℕ) × (why : Pending) × Looks (Ok (NotQuiet queue why)) old new)
+
+-- why a wait didn't find all queues quiet
+abbrev pub IsUnquiet : Stop → ℕ → List QueuePass → List QueuePass → Type 0
+IsUnquiet stop.Limit looks old new = Looks (Err HistoryFull) old new
+IsUnquiet stop.NotQuiet looks old new = LooksInVain looks old new
+IsUnquiet stop.Memory looks old new = Unit {0}
+
+-- why a script isn't done to its end
+abbrev pub StopsBy : Stop → ClusterView → List QueuePass → ClusterView → List QueuePass → Type 0
+StopsBy stop.Limit v old w new = MeetsLimit v old w new
+StopsBy stop.NotQuiet v old w new = FindsUnquiet v old new
+StopsBy stop.Memory v old w new = Unit {0}

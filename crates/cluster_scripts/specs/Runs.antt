@@ -14,13 +14,14 @@ use Rattle.cluster_ending.specs.declared.closing.Traces.{Traces}
 use Rattle.cluster_ending.specs.declared.finishing.Finished.{Finished}
 use Rattle.cluster_ending.specs.declared.finishing.Finished.TheVariants as finished
 use Rattle.stream_cluster.specs.declared.config.Config.{Config}
-use Rattle.stream_cluster.specs.Clusters.{ClusterView, is_fixed}
+use Rattle.stream_cluster.specs.Clusters.{ClusterView, HasFinished, IsNew, is_fixed}
 use Rattle.script_reader.specs.declared.line.Line.{Line}
 use Rattle.script_reader.specs.declared.script_line.ScriptLine.{ScriptLine}
 use Rattle.script_reader.specs.declared.script_line.ScriptLine.TheVariants as printed
 use Rattle.script_reader.specs.ScriptReport.{line_text, live_silos, script_lines, script_report}
 use Rattle.script_reader.specs.Told as script
 use Rattle.script_producer.specs.Telling.{AloneProduces, BeginsEmpty, HasTold, LooksQuiet}
+use Rattle.cluster_scripts.specs.Lines.{FindsUnquiet, MeetsLimit}
 use Rattle.cluster_scripts.specs.declared.outcome.Ran.{Ran}
 use Rattle.cluster_scripts.specs.declared.outcome.RunEnd.{RunEnd}
 use Rattle.cluster_scripts.specs.declared.outcome.RunEnd.TheVariants as ends
@@ -73,8 +74,8 @@ pub record DoesNothing (v : ClusterView) (old : List QueuePass) (found : List Sc
 -- What `run_script` does, by how the script has ended.
 abbrev pub EndsScript : ScriptEnd → List Line → ClusterView → List QueuePass → List ScriptLine → ClusterView → List QueuePass → Type 0
 EndsScript end.Done lines v old found w new = (is_fixed v ≡ false) × DoesAll lines v old found w new
-EndsScript end.Limit lines v old found w new = (is_fixed v ≡ false) × DoesFront lines v old found new
-EndsScript end.NotQuiet lines v old found w new = (is_fixed v ≡ false) × DoesFront lines v old found new
+EndsScript end.Limit lines v old found w new = (is_fixed v ≡ false) × DoesFront lines v old found new × MeetsLimit v old w new
+EndsScript end.NotQuiet lines v old found w new = (is_fixed v ≡ false) × DoesFront lines v old found new × FindsUnquiet v old new
 EndsScript end.Halted lines v old found w new = (is_fixed v ≡ true) × DoesNothing v old found w new
 
 -- what `run_script` answers
@@ -138,6 +139,19 @@ run_end (finished.RoundLimit traces) how = ends.Unfinished (why_after how unfini
 run_end (finished.Limit traces) how = ends.Unfinished (why_after how unfinished.Limit) (Some traces)
 run_end (finished.NotAll queue missing) how = ends.Unfinished unfinished.Limit None
 run_end finished.InUse how = ends.Unfinished unfinished.Limit None
+
+-- A run made a cluster, did the script on it and ended it, and tells what came of both.
+pub record RunsAndEnds {H : Type 0} (entries : H → List (Entry Op Reply)) (config : Config) (lines : List Line) (ran : Ran H) : Type 0 where
+  pub cluster : ClusterView
+  pub caller : List QueuePass
+  pub is_new : IsNew config cluster caller
+  pub script : ScriptRun
+  pub later : ClusterView
+  pub now : List QueuePass
+  pub does : AnswersScript lines cluster caller script later now
+  pub finished : Finished H
+  pub ends : HasFinished entries later (now ∷ []) finished
+  pub tells : ran ≡ record { printed = script.printed; end = run_end finished script.end }
 
 -- what goes out of a run: its lines, and the report where there is one
 abbrev pub report_in : {H : Type 0} → RunEnd H → List ℕ

@@ -1,5 +1,5 @@
 //! One line of a script.
-ghost use Rattle.std.specs.Prelude.{◌≡◌, ◌≢◌, ◌<◌, ◌≤◌, length, Ok, IfOk, OnOk};
+ghost use Rattle.std.specs.Prelude.{◌≡◌, ◌≢◌, ◌<◌, ◌≤◌, false, length, Ok, IfErr, IfOk, OnOk};
 ghost use Rattle.std.specs.List.{AllZip};
 ghost use Rattle.cluster_callers.specs.Calls.{turnstiles};
 ghost use Rattle.script_parser.specs.declared.command.Command.TheVariants as command;
@@ -7,7 +7,8 @@ ghost use Rattle.script_producer.specs.declared.answer.Answer.TheVariants as ans
 ghost use Rattle.script_producer.specs.Telling.{HasGoneOn, LooksQuiet, Tells};
 ghost use Rattle.script_reader.specs.Scripts.{IsRunCommand};
 ghost use Rattle.cluster_operator.specs.Operators.{OperatorGoesOn};
-ghost use Rattle.cluster_scripts.specs.Lines.{ChangesBy, DoesLine};
+ghost use Rattle.stream_cluster.specs.Clusters.{HasMetLimit, is_fixed};
+ghost use Rattle.cluster_scripts.specs.Lines.{ChangesBy, DoesLine, IsUnquiet, StopsBy};
 
 use activation_directory::{DirectoryOp, DirectoryReply};
 use cluster_callers::Caller;
@@ -41,12 +42,14 @@ fn up<
 >(rt: &R, alloc: Global, cluster: &mut Cluster<G, H, D>, silo: u8) -> Result<Answer, Stop>
     requires { silo < 16 }
     ensures changes { IfOk result (λ told. ChangesBy cluster.old (command.Up silo) told cluster.new) }
+    ensures stops { is_fixed cluster.old ≡ false → IfErr result (λ why. why ≢ Stop.NotQuiet × (why ≡ Stop.Limit → HasMetLimit cluster.old.operator cluster.new.operator)) }
     ensures cluster { OperatorGoesOn cluster.old.operator cluster.new.operator }
 {
     match cluster.silo_up(rt, alloc, silo) {
         Ok(SiloUp::Up) => Ok(Answer::Taken),
         Ok(SiloUp::Already) => Ok(Answer::Refused),
-        Ok(SiloUp::Limit | SiloUp::Halted) => Err(Stop::Limit),
+        Ok(SiloUp::Limit) => Err(Stop::Limit),
+        Ok(SiloUp::Halted) => Err(Stop::Limit),
         Err(_) => Err(Stop::Memory),
     }
 }
@@ -60,13 +63,15 @@ fn down<
 >(rt: &R, alloc: Global, cluster: &mut Cluster<G, H, D>, silo: u8) -> Result<Answer, Stop>
     requires { silo < 16 }
     ensures changes { IfOk result (λ told. ChangesBy cluster.old (command.Down silo) told cluster.new) }
+    ensures stops { is_fixed cluster.old ≡ false → IfErr result (λ why. why ≢ Stop.NotQuiet × (why ≡ Stop.Limit → HasMetLimit cluster.old.operator cluster.new.operator)) }
     ensures cluster { OperatorGoesOn cluster.old.operator cluster.new.operator }
 {
     match cluster.silo_down(rt, alloc, silo) {
         Ok(SiloDown::Down) => Ok(Answer::Taken),
         Ok(SiloDown::NotLive) => Ok(Answer::Refused),
         Ok(SiloDown::LastSilo) => Ok(Answer::Refused),
-        Ok(SiloDown::Limit | SiloDown::Halted) => Err(Stop::Limit),
+        Ok(SiloDown::Limit) => Err(Stop::Limit),
+        Ok(SiloDown::Halted) => Err(Stop::Limit),
         Err(_) => Err(Stop::Memory),
     }
 }
@@ -87,6 +92,7 @@ pub(crate) fn do_line<
     requires some { 1 ≤ length caller.old }
     requires command { IsRunCommand (length caller.old) command }
     ensures line { IfOk result (λ told. DoesLine cluster.old caller.old command told cluster.new caller.new) }
+    ensures stops { is_fixed cluster.old ≡ false → IfErr result (λ why. StopsBy why cluster.old caller.old cluster.new caller.new) }
     ensures on { AllZip HasGoneOn caller.old caller.new }
     ensures turnstiles { turnstiles caller.new ≡ turnstiles caller.old }
     ensures cluster { OperatorGoesOn cluster.old.operator cluster.new.operator }
@@ -106,7 +112,8 @@ pub(crate) fn do_line<
 
 // An answer that isn't a limit.
 fn unless_limit(asked: Result<Answer, AllocError>) -> Result<Answer, Stop>
-    ensures { IfOk result (λ taken. (asked ≡ Ok taken) × (taken ≢ answer.Limit)) }
+    ensures answered { IfOk result (λ taken. (asked ≡ Ok taken) × (taken ≢ answer.Limit)) }
+    ensures stops { IfErr result (λ why. why ≢ Stop.NotQuiet × (why ≡ Stop.Limit → asked ≡ Ok answer.Limit)) }
 {
     match asked {
         Ok(Answer::Limit) => Err(Stop::Limit),
@@ -124,6 +131,7 @@ pub(crate) fn wait_until_quiet<G: Gate, H: StoredHistory<Op, Reply>, R: Wait>(
 ) -> Result<(), Stop>
     ensures told { Tells caller.old command.Drain answer.Taken caller.new }
     ensures quiet { OnOk result (LooksQuiet caller.old caller.new) }
+    ensures unquiet { IfErr result (λ why. IsUnquiet why looks caller.old caller.new) }
     ensures on { AllZip HasGoneOn caller.old caller.new }
     ensures turnstiles { turnstiles caller.new ≡ turnstiles caller.old }
 {

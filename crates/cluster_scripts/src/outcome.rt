@@ -3,7 +3,7 @@ ghost use Rattle.std.specs.Prelude.{◌≡◌, Some, IfOk};
 ghost use Rattle.script_reader.specs.Scripts.{IsScript};
 ghost use Rattle.stream_cluster.specs.Clusters.{IsConfig};
 ghost use Rattle.cluster_scripts.specs.declared.outcome.RunEnd.TheVariants as ends;
-ghost use Rattle.cluster_scripts.specs.Runs.{LeavesLegalTraces, RunsScript, run_end, why_after};
+ghost use Rattle.cluster_scripts.specs.Runs.{LeavesLegalTraces, RunsAndEnds, RunsScript, run_end, why_after};
 
 use crate::running::{ScriptEnd, ScriptRun, run_script};
 use activation_directory::{DirectoryOp, DirectoryReply};
@@ -81,6 +81,7 @@ pub fn run<
     requires config { IsConfig config.now }
     requires script { IsScript config.now.queues lines.items }
     ensures script { IfOk result (RunsScript H.entries config.now lines.items) }
+    ensures ends { IfOk result (RunsAndEnds H.entries config.now lines.items) }
     ensures legal { IfOk result (λ ran. LeavesLegalTraces H.entries config.now ran.end) }
 {
     let mut callers = Vec::with_capacity(alloc, 1)?;

@@ -1,10 +1,12 @@
 //! A script on a cluster that is there.
-ghost use Rattle.std.specs.Prelude.{◌≡◌, ◌++◌, ◌≤◌, [], length, IfOk, OnErr, OnOk};
+ghost use Rattle.std.specs.Prelude.{◌≡◌, ◌++◌, ◌≤◌, [], false, length, IfErr, IfOk, OnErr, OnOk};
 ghost use Rattle.std.specs.List.{AllZip};
 ghost use Rattle.cluster_callers.specs.Calls.{turnstiles};
 ghost use Rattle.cluster_operator.specs.Operators.{OperatorGoesOn};
 ghost use Rattle.script_producer.specs.Telling.{HasGoneOn, printed_lines};
 ghost use Rattle.script_reader.specs.Scripts.{IsScript};
+ghost use Rattle.stream_cluster.specs.Clusters.{is_fixed};
+ghost use Rattle.cluster_scripts.specs.Lines.{StopsBy};
 ghost use Rattle.cluster_scripts.specs.Runs.{AnswersScript, DoesAll, DoesFront};
 
 use crate::line::{Stop, do_line, wait_until_quiet};
@@ -98,9 +100,11 @@ fn do_lines<
 ) -> Result<(), Stop>
     requires some { 1 ≤ length caller.old }
     requires script { IsScript (length caller.old) lines.items }
+    requires free { is_fixed cluster.old ≡ false }
     requires none { printed.old.items ≡ [] }
     ensures all { OnOk result (DoesAll lines.items cluster.old caller.old printed.new.items cluster.new caller.new) }
     ensures front { OnErr result (DoesFront lines.items cluster.old caller.old printed.new.items caller.new) }
+    ensures stops { IfErr result (λ why. StopsBy why cluster.old caller.old cluster.new caller.new) }
     ensures on { AllZip HasGoneOn caller.old caller.new }
     ensures turnstiles { turnstiles caller.new ≡ turnstiles caller.old }
     ensures cluster { OperatorGoesOn cluster.old.operator cluster.new.operator }
@@ -117,6 +121,7 @@ fn do_lines<
 fn note(printed: &mut Vec<ScriptLine>, answer: Answer, line: usize) -> Result<(), Stop>
     ensures noted { OnOk result (printed.new.items ≡ printed.old.items ++ printed_lines answer line) }
     ensures same { OnErr result (printed.new.items ≡ printed.old.items) }
+    ensures memory { IfErr result (λ why. why ≡ Stop.Memory) }
 {
     let line = match answer {
         Answer::Missed => ScriptLine::Miss { line },

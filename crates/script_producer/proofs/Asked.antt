@@ -4,6 +4,7 @@ use Rattle.std.proofs.lemmas.Bool.{eq-eqb}
 use Rattle.std.proofs.lemmas.Bool.Decides.{eqb_tells}
 use Rattle.std.specs.List.{AllByRecursion, AllZip}
 use Rattle.std.specs.Prelude.{slice_get}
+use Rattle.std.specs.Result.{IsErrAnd}
 use Rattle.std.specs.declared.alloc.AllocError.{AllocError}
 use Rattle.stream_model.specs.declared.op.Op.{Op}
 use Rattle.stream_model.specs.declared.reply.Reply.{Reply}
@@ -22,7 +23,7 @@ use Rattle.script_reader.specs.ScriptReport.{op_printed}
 use Rattle.script_reader.specs.Told as script
 use Rattle.script_producer.specs.declared.answer.Answer.{Answer}
 use Rattle.script_producer.specs.declared.answer.Answer.TheVariants as answer
-use Rattle.script_producer.specs.Telling.{AloneProduces, AsksOnce, BeginsEmpty, HasGoneOn, HasTold, IsAnswered, IsNewNumber, ProducesAlone, Tells, TellsUnlessLimit, answer_of, printed_lines, told_at, with_missed}
+use Rattle.script_producer.specs.Telling.{AloneProduces, AsksLast, AsksOnce, BeginsEmpty, EndsAsking, HasGoneOn, HasTold, IsAnswered, IsNewNumber, ProducesAlone, Tells, TellsUnlessLimit, answer_of, printed_lines, told_at, with_missed}
 use Rattle.script_producer.proofs.Placing.{UpTo, set-at, set-here, upto-at, upto-first, upto-next, zip-set}
 use Rattle.script_producer.proofs.Replying.{IsToldAlike, line-none, line-printed, line-told}
 use Rattle.script_producer.proofs.Seen.{called-on, gone-refl}
@@ -129,6 +130,25 @@ each-next first a asked op queue old now new is front once free some =
 each-alike : (asked : EachOp) (a b : Answer) (number : ℕ) (missed : List ℕ) → is_producer (op_of asked) ≡ true → IsToldAlike a b number missed (op_of asked)
 each-alike (each.Rule kind namespace) a b number missed produces = λ before. refl
 each-alike each.Quiet a b number missed produces = absurd (cc)
+
+-- the last of these calls was answered so
+pub last-asked : (asked op : Op) (result : Result Answer AllocError) (queue : ℕ) (old now new : List QueuePass) → op ≡ asked → AllZip HasGoneOn old now → AsksOnce now queue op result new → AsksLast old asked result new
+last-asked asked op result queue old now new is on once =
+    record { before = now; on = on; queue = queue; asks = subst (λ (o : Op). AsksOnce now queue o result new) is once }
+
+-- a call that `?` passes on
+pub ends-refused : (asked op : Op) (result : Result Answer AllocError) (e : AllocError) (queue : ℕ) (old now new : List QueuePass) → op ≡ asked → AllZip HasGoneOn old now → IsErrAnd result (λ y. y ≡ e) → AsksOnce now queue op (Err e) new
+    → EndsAsking old asked result new
+ends-refused asked op (Ok a) e queue old now new is on err once = absurd err
+ends-refused asked op (Err y) e queue old now new is on err once =
+    subst (λ (z : AllocError). AsksLast old asked (Err z) new) (sym err) (last-asked asked op (Err e) queue old now new is on once)
+
+-- calls that have met no limit
+pub ends-free : (op : Op) (a : Answer) (old new : List QueuePass) → a ≢ answer.Limit → EndsAsking old op (Ok a) new
+ends-free op answer.Limit old new free = absurd (free refl)
+ends-free op answer.Taken old new free = tt
+ends-free op answer.Refused old new free = tt
+ends-free op answer.Missed old new free = tt
 
 pub each-tells : (first : Answer) (asked : EachOp) (queue : ℕ) (old new : List QueuePass) → 1 ≤ length old → length old ≤ queue → is_producer (op_of asked) ≡ true → AskedUpTo first (op_of asked) queue old new
     → Tells old (command.Each asked) first new

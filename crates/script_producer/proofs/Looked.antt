@@ -1,7 +1,8 @@
 -- Looks at all queues, which ask for nothing that producers ask for.
-use Rattle.std.proofs.Common.{ℕ, zero, suc, List, [], ◌∷◌, Result, Ok, Err, refl, sym, subst}
+use Rattle.std.proofs.Common.{◌≡◌, inl, inr, ℕ, zero, suc, List, [], ◌∷◌, Result, Ok, Err, refl, sym, subst}
 use Rattle.std.specs.List.{AllZip}
 use Rattle.stream_model.specs.declared.op.Op.TheVariants as op
+use Rattle.stream_model.specs.declared.reply.Pending.{Pending}
 use Rattle.stream_model.specs.declared.reply.Reply.{Reply}
 use Rattle.stream_model.specs.declared.reply.Reply.TheVariants as reply
 use Rattle.turnstile.specs.declared.turnstile.Refusal.{Refusal}
@@ -12,7 +13,7 @@ use Rattle.cluster_ending.specs.Asking.{AsksQuiet, AsksUpTo, IsQuiet}
 use Rattle.cluster_ending.proofs.Rows.{all-at, zip-at, zip-refl, zip-trans}
 use Rattle.script_parser.specs.declared.command.Command.TheVariants as command
 use Rattle.script_producer.specs.declared.answer.Answer.TheVariants as answer
-use Rattle.script_producer.specs.Telling.{HasGoneOn, LooksQuiet, ProducesAlone, Tells}
+use Rattle.script_producer.specs.Telling.{HasGoneOn, Looks, LooksInVain, ProducesAlone, Tells}
 use Rattle.script_producer.proofs.Placing.{zip-weaker}
 use Rattle.script_producer.proofs.Replying.{line-none}
 use Rattle.script_producer.proofs.Seen.{ProducesNone, called-none, none-refl, none-told, none-trans}
@@ -48,5 +49,17 @@ drain-tells old new all =
       printed = λ begins alone missed lines number fresh has silos. refl;
     }
 
-pub quiet-look : (old now new : List QueuePass) → AllZip ProducesNone old now → AsksQuiet now (Ok All) new → LooksQuiet old new
-quiet-look old now new so_far asks = record { before = now; on = none-on old now so_far; quiet = asks }
+-- the last look, and one that found a queue not quiet
+pub last-look : (result : Result Quiet Refusal) (old now new : List QueuePass) → AllZip ProducesNone old now → AsksQuiet now result new → Looks result old new
+last-look result old now new so_far asks = record { before = now; on = none-on old now so_far; asks = asks }
+
+pub vain-look : (looks : ℕ) (queue : ℕ) (why : Pending) (end : Quiet) (old now new : List QueuePass) → end ≡ NotQuiet queue why → AllZip ProducesNone old now → AsksQuiet now (Ok end) new → LooksInVain looks old new
+vain-look looks queue why end old now new is so_far asks =
+    inr (queue, why, last-look (Ok (NotQuiet queue why)) old now new so_far (subst (λ (e : Quiet). AsksQuiet now (Ok e) new) is asks))
+
+pub vain-looks : (look looks : ℕ) (old new : List QueuePass) → (look ≡ 0 → looks ≡ 0) → LooksInVain look old new → LooksInVain looks old new
+vain-looks look looks old new none vain =
+    elim vain as (λ s. LooksInVain looks old new) [
+      | inl first ↦ inl (none first.0, first.1)
+      | inr found ↦ inr found
+    ]

@@ -1,9 +1,10 @@
 -- What the one producer of a script asks, line by line, and what it is told.
-use Rattle.std.specs.Prelude.{◌≡◌, ◌≢◌, ℕ, true, false, List, [], ◌∷◌, ◌++◌, Contains, Some, Result, Ok, Err, slice_get, if◌then◌else◌}
+use Rattle.std.specs.Prelude.{◌≡◌, ◌≢◌, ◌⊎◌, ℕ, true, false, List, [], ◌∷◌, ◌++◌, Contains, Some, Result, Ok, Err, slice_get, if◌then◌else◌}
 use Rattle.std.specs.List.{AllByRecursion, AllZip}
 use Rattle.std.specs.declared.alloc.AllocError.{AllocError}
 use Rattle.stream_model.specs.declared.op.Op.{Op}
 use Rattle.stream_model.specs.declared.plain.PlainPartition.{PlainPartition}
+use Rattle.stream_model.specs.declared.reply.Pending.{Pending}
 use Rattle.stream_model.specs.declared.reply.Reply.{Reply}
 use Rattle.stream_model.specs.declared.reply.Reply.TheVariants as reply
 use Rattle.stream_model.specs.History as told
@@ -16,7 +17,8 @@ use Rattle.turnstile.specs.Passes.{Origin}
 use Rattle.shared_partition.specs.Partitions.{BeganEmpty, told_of}
 use Rattle.silo_loops.specs.Lines.{QueuePass}
 use Rattle.cluster_callers.specs.Calls.{CallerCalls}
-use Rattle.cluster_ending.specs.declared.asking.Quiet.TheVariants.{All}
+use Rattle.cluster_ending.specs.declared.asking.Quiet.{Quiet}
+use Rattle.cluster_ending.specs.declared.asking.Quiet.TheVariants.{All, NotQuiet}
 use Rattle.cluster_ending.specs.Asking.{AsksQuiet}
 use Rattle.script_parser.specs.declared.command.Command.{Command}
 use Rattle.script_reader.specs.declared.line.Line.{Line}
@@ -27,6 +29,8 @@ use Rattle.script_reader.specs.ScriptReport.{command_printed, is_refusal}
 use Rattle.script_reader.specs.Told as script
 use Rattle.script_producer.specs.declared.answer.Answer.{Answer}
 use Rattle.script_producer.specs.declared.answer.Answer.TheVariants as answer
+use Rattle.script_producer.specs.declared.draining.Drained.{Drained}
+use Rattle.script_producer.specs.declared.draining.Drained.TheVariants as drained
 
 -- each producer's entry that the pass has seen is its own, or of a pass that was joined to it
 abbrev pub ProducesAlone : QueuePass → Type 0
@@ -104,8 +108,36 @@ pub record AsksOnce (old : List QueuePass) (queue : ℕ) (op : Op) (result : Res
   pub calls : CallerCalls old queue op outcome new
   pub answered : IsAnswered outcome result
 
--- each queue was quiet in one look at all of them
-pub record LooksQuiet (old new : List QueuePass) : Type 0 where
+-- this came of the last of such calls
+pub record AsksLast (old : List QueuePass) (op : Op) (result : Result Answer AllocError) (new : List QueuePass) : Type 0 where
   pub before : List QueuePass
   pub on : AllZip HasGoneOn old before
-  pub quiet : AsksQuiet before (Ok All) new
+  pub queue : ℕ
+  pub asks : AsksOnce before queue op result new
+
+-- calls end at once where one meets a limit or fails to allocate
+abbrev pub EndsAsking : List QueuePass → Op → Result Answer AllocError → List QueuePass → Type 0
+EndsAsking old op (Ok answer.Limit) new = AsksLast old op (Ok answer.Limit) new
+EndsAsking old op (Ok _) new = Unit {0}
+EndsAsking old op (Err e) new = AsksLast old op (Err e) new
+
+-- this came of the last look at all queues
+pub record Looks (result : Result Quiet Refusal) (old new : List QueuePass) : Type 0 where
+  pub before : List QueuePass
+  pub on : AllZip HasGoneOn old before
+  pub asks : AsksQuiet before result new
+
+-- each queue was quiet in it
+abbrev pub LooksQuiet : List QueuePass → List QueuePass → Type 0
+LooksQuiet old new = Looks (Ok All) old new
+
+-- one wasn't quiet in it; where none may be had, nothing was asked
+abbrev pub LooksInVain : ℕ → List QueuePass → List QueuePass → Type 0
+LooksInVain looks old new = ((looks ≡ 0) × (new ≡ old)) ⊎ ((queue : ℕ) × (why : Pending) × Looks (Ok (NotQuiet queue why)) old new)
+
+-- how a drain ends that may have so many looks
+abbrev pub EndsLooking : ℕ → List QueuePass → Result Drained AllocError → List QueuePass → Type 0
+EndsLooking looks old (Ok drained.Quiet) new = LooksQuiet old new
+EndsLooking looks old (Ok drained.NotQuiet) new = LooksInVain looks old new
+EndsLooking looks old (Ok drained.Limit) new = Looks (Err HistoryFull) old new
+EndsLooking looks old (Err e) new = Looks (Err Memory) old new

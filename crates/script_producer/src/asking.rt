@@ -5,7 +5,7 @@ ghost use Rattle.stream_model.specs.Producers.{is_producer};
 ghost use Rattle.cluster_callers.specs.Calls.{turnstiles};
 ghost use Rattle.script_parser.specs.declared.command.Command.TheVariants as command;
 ghost use Rattle.script_parser.specs.Forms.{op_of};
-ghost use Rattle.script_producer.specs.Telling.{AsksOnce, HasGoneOn, TellsUnlessLimit};
+ghost use Rattle.script_producer.specs.Telling.{AsksOnce, EndsAsking, HasGoneOn, TellsUnlessLimit};
 
 use crate::answer::{Answer, answer_of};
 use cluster_callers::Caller;
@@ -30,6 +30,7 @@ pub fn ask<G: Gate, H: StoredHistory<Op, Reply>, R: Wait>(
     requires queue { queue < length caller.old }
     requires producer { is_producer op ≡ true }
     ensures told { IfOk result (λ answer. TellsUnlessLimit caller.old (command.Step queue op) answer caller.new) }
+    ensures asks { AsksOnce caller.old queue op result caller.new }
     ensures on { AllZip HasGoneOn caller.old caller.new }
     ensures turnstiles { turnstiles caller.new ≡ turnstiles caller.old }
 {
@@ -51,6 +52,7 @@ pub fn ask_each<G: Gate, H: StoredHistory<Op, Reply>, R: Wait>(
     requires some { 1 ≤ length caller.old }
     requires producer { is_producer (op_of each.now) ≡ true }
     ensures told { IfOk result (λ answer. TellsUnlessLimit caller.old (command.Each each.now) answer caller.new) }
+    ensures ends { EndsAsking caller.old (op_of each.now) result caller.new }
     ensures on { AllZip HasGoneOn caller.old caller.new }
     ensures turnstiles { turnstiles caller.new ≡ turnstiles caller.old }
 {

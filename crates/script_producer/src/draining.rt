@@ -1,11 +1,10 @@
 //! Waiting until all queues are quiet.
-ghost use Rattle.std.specs.Prelude.{◌≡◌, Ok, IfOk};
+ghost use Rattle.std.specs.Prelude.{◌≡◌};
 ghost use Rattle.std.specs.List.{AllZip};
 ghost use Rattle.cluster_callers.specs.Calls.{turnstiles};
 ghost use Rattle.script_parser.specs.declared.command.Command.TheVariants as command;
 ghost use Rattle.script_producer.specs.declared.answer.Answer.TheVariants as answer;
-ghost use Rattle.script_producer.specs.declared.draining.Drained.TheVariants as drained;
-ghost use Rattle.script_producer.specs.Telling.{HasGoneOn, LooksQuiet, Tells};
+ghost use Rattle.script_producer.specs.Telling.{EndsLooking, HasGoneOn, Tells};
 
 use cluster_callers::Caller;
 use cluster_ending::{Quiet, ask_quiet};
@@ -44,7 +43,7 @@ pub fn drain<G: Gate, H: StoredHistory<Op, Reply>, R: Wait>(
     looks: u32,
 ) -> Result<Drained, AllocError>
     ensures told { Tells caller.old command.Drain answer.Taken caller.new }
-    ensures quiet { IfOk result (λ end. end ≡ drained.Quiet → LooksQuiet caller.old caller.new) }
+    ensures ends { EndsLooking looks caller.old result caller.new }
     ensures on { AllZip HasGoneOn caller.old caller.new }
     ensures turnstiles { turnstiles caller.new ≡ turnstiles caller.old }
 {

@@ -1,18 +1,20 @@
 -- What a line keeps over a call, a rest, a split and a join.
-use Rattle.std.proofs.Common.{◌≡◌, ℕ, ◌≤◌, ◌+◌, Bool, true, false, ◌||◌, [], length, Result, Ok, Err, MatchResult, OnOk, OnErr, refl, sym, ap, subst, ◌∙◌, arith}
+use Rattle.std.proofs.Common.{◌≡◌, ◌↔◌, ℕ, ◌≤◌, ◌+◌, Bool, true, false, ◌||◌, List, [], ◌++◌, length, Result, Ok, Err, MatchResult, OnOk, OnErr, refl, sym, ap, subst, ◌∙◌, arith}
 use Rattle.std.proofs.lemmas.Bool.{false≢true}
 use Rattle.std.proofs.lemmas.List.{append-nil, length-append}
 use Rattle.stream_model.specs.declared.op.Op.{Op}
 use Rattle.stream_model.specs.declared.reply.Reply.{Reply}
 use Rattle.shared_partition.specs.Partitions.{after, replied}
 use Rattle.turnstile.specs.declared.turnstile.Refusal.{Refusal}
-use Rattle.turnstile.specs.Calls.{Agree, Called, Found, HasOnlyMade, HasOnlySeen, IsOf, joined_pass}
+use Rattle.turnstile.specs.Calls.{Agree, Called, Found, HasOnlyMade, HasOnlySeen, IsOf, joined_pass, numbers_of}
+use Rattle.turnstile.specs.declared.history.Entry.{Entry}
+use Rattle.turnstile.specs.History.{Foreign}
 use Rattle.turnstile.specs.Passes.{Origin}
 use Rattle.stream_model.specs.declared.plain.PlainPartition.{PlainPartition}
 use Rattle.stream_model.specs.Producers.{is_producer}
 use Rattle.silo_loops.specs.Lines.{CallsOn, IsKept, LineView, NeverProduces, QueuePass, is_pull, is_ready}
 use Rattle.silo_loops.specs.Passes.{HasOwnPast}
-use Rattle.silo_loops.proofs.Owning.{calls-more, owns-called, owns-joined, past-answered, past-called, past-more}
+use Rattle.silo_loops.proofs.Owning.{calls-more, owns-called, owns-foreign, owns-joined, past-answered, past-before, past-before-answered, past-before-refused, past-called, past-more, past-none}
 
 longer-seen : (l m : LineView) (op : Op) (result : Result Reply Refusal) → CallsOn l op result m → l.mark ≤ length l.pass.seen → m.mark ≤ length m.pass.seen
 longer-seen l m op result calls below =
@@ -21,15 +23,31 @@ longer-seen l m op result calls below =
     let same = calls.mark in
     omega arith
 
-flag-answered : (test : Op → Bool) (flag : Bool) (l m : LineView) (op : Op) (r : Reply) → (flag ≡ true → HasOwnPast test l.mark l.pass) → l.mark ≤ length l.pass.seen → CallsOn l op (Ok r) m
-    → (flag || test op) ≡ true → HasOwnPast test m.mark m.pass
-flag-answered test true l m op r had below calls t =
-    subst (λ n. HasOwnPast test n m.pass) (sym calls.mark) (past-called replied after test l.mark l.pass op (Ok r) m.pass calls.call (had refl))
-flag-answered test false l m op r had below calls t =
-    subst (λ n. HasOwnPast test n m.pass) (sym calls.mark) (past-answered replied after test l.mark l.pass op r m.pass calls.call below t)
+-- whether the pass has made such a call past the mark
+Flags : (Op → Bool) → Bool → LineView → Type 0
+Flags test flag l = (flag ≡ true) ↔ HasOwnPast test l.mark l.pass
+
+answered-then : (test : Op → Bool) (flag : Bool) (l m : LineView) (op : Op) (r : Reply) → (flag ≡ true → HasOwnPast test l.mark l.pass) → l.mark ≤ length l.pass.seen → CallsOn l op (Ok r) m
+    → (flag || test op) ≡ true → HasOwnPast test l.mark m.pass
+answered-then test true l m op r had below calls t = past-called replied after test l.mark l.pass op (Ok r) m.pass calls.call (had refl)
+answered-then test false l m op r had below calls t = past-answered replied after test l.mark l.pass op r m.pass calls.call below t
+
+answered-since : (test : Op → Bool) (flag : Bool) (l m : LineView) (op : Op) (r : Reply) → (HasOwnPast test l.mark l.pass → flag ≡ true) → CallsOn l op (Ok r) m → HasOwnPast test l.mark m.pass → (flag || test op) ≡ true
+answered-since test true l m op r back calls has = refl
+answered-since test false l m op r back calls has =
+    elim (test op) as (λ b. test op ≡ b → b ≡ true) [
+      | true ↦ λ _. refl
+      | false ↦ λ none. back (past-before-answered replied after test l.mark l.pass op r m.pass none calls.call has)
+    ] refl
+
+flag-answered : (test : Op → Bool) (flag : Bool) (l m : LineView) (op : Op) (r : Reply) → Flags test flag l → l.mark ≤ length l.pass.seen → CallsOn l op (Ok r) m → Flags test (flag || test op) m
+unfolding Flags
+flag-answered test flag l m op r flags below calls =
+    subst (λ n. ((flag || test op) ≡ true) ↔ HasOwnPast test n m.pass) (sym calls.mark) (answered-then test flag l m op r flags.0 below calls, answered-since test flag l m op r flags.1 calls)
 
 pub kept-answered : (l m : LineView) (op : Op) (r : Reply) (looked pulled : Bool) → is_producer op ≡ false → IsKept l looked pulled → CallsOn l op (Ok r) m
     → IsKept m (looked || is_ready op) (pulled || is_pull op)
+unfolding Flags
 kept-answered l m op r looked pulled none kept calls =
     record {
       never = owns-called replied after is_producer l.pass op (Ok r) m.pass none kept.never calls.call;
@@ -38,17 +56,22 @@ kept-answered l m op r looked pulled none kept calls =
       has_pulled = flag-answered is_pull pulled l m op r kept.has_pulled kept.marked calls;
     }
 
-flag-kept : (test : Op → Bool) (flag : Bool) (l m : LineView) (op : Op) (result : Result Reply Refusal) → (flag ≡ true → HasOwnPast test l.mark l.pass) → CallsOn l op result m → flag ≡ true → HasOwnPast test m.mark m.pass
-flag-kept test flag l m op result had calls t =
-    subst (λ n. HasOwnPast test n m.pass) (sym calls.mark) (past-called replied after test l.mark l.pass op result m.pass calls.call (had t))
+flag-refused : (test : Op → Bool) (flag : Bool) (l m : LineView) (op : Op) (e : Refusal) → Flags test flag l → CallsOn l op (Err e) m → Flags test flag m
+unfolding Flags
+flag-refused test flag l m op e flags calls =
+    subst (λ n. (flag ≡ true) ↔ HasOwnPast test n m.pass) (sym calls.mark) (
+      λ t. past-called replied after test l.mark l.pass op (Err e) m.pass calls.call (flags.0 t),
+      λ has. flags.1 (past-before-refused replied after test l.mark l.pass op e m.pass calls.call has),
+    )
 
-kept-called : (l m : LineView) (op : Op) (result : Result Reply Refusal) (looked pulled : Bool) → is_producer op ≡ false → IsKept l looked pulled → CallsOn l op result m → IsKept m looked pulled
-kept-called l m op result looked pulled none kept calls =
+kept-by : (l m : LineView) (op : Op) (e : Refusal) (looked pulled : Bool) → is_producer op ≡ false → IsKept l looked pulled → CallsOn l op (Err e) m → IsKept m looked pulled
+unfolding Flags
+kept-by l m op e looked pulled none kept calls =
     record {
-      never = owns-called replied after is_producer l.pass op result m.pass none kept.never calls.call;
-      marked = longer-seen l m op result calls kept.marked;
-      has_looked = flag-kept is_ready looked l m op result kept.has_looked calls;
-      has_pulled = flag-kept is_pull pulled l m op result kept.has_pulled calls;
+      never = owns-called replied after is_producer l.pass op (Err e) m.pass none kept.never calls.call;
+      marked = longer-seen l m op (Err e) calls kept.marked;
+      has_looked = flag-refused is_ready looked l m op e kept.has_looked calls;
+      has_pulled = flag-refused is_pull pulled l m op e kept.has_pulled calls;
     }
 
 -- a call at a turnstile is one of the line
@@ -60,12 +83,14 @@ calls-on t p q mark op result of only call = record { mark = refl; call = record
 pub of-same : (t : Origin PlainPartition) (p q : QueuePass) → IsOf t p → HasOnlySeen p q → IsOf t q
 of-same t p q of only = ap (λ (w : QueuePass). w.turnstile) only ∙ of
 
--- what a line keeps over a call that was refused, or whatever was answered
-pub kept-refused : (t : Origin PlainPartition) (p q : QueuePass) (mark : ℕ) (op : Op) (result : Result Reply Refusal) (looked pulled : Bool) → IsOf t p → HasOnlySeen p q
+-- what a line keeps over a call that was refused
+pub kept-refused : (t : Origin PlainPartition) (p q : QueuePass) (mark : ℕ) (op : Op) (result : Result Reply Refusal) (e : Refusal) (looked pulled : Bool) → IsOf t p → HasOnlySeen p q
     → MatchResult result (λ r. Called replied after t.start p op r q.seen) (λ e. Found replied after t.start p e q.seen)
-    → is_producer op ≡ false → IsKept (record { pass = p; mark = mark }) looked pulled → IsKept (record { pass = q; mark = mark }) looked pulled
-kept-refused t p q mark op result looked pulled of only call none kept =
-    kept-called (record { pass = p; mark = mark }) (record { pass = q; mark = mark }) op result looked pulled none kept (calls-on t p q mark op result of only call)
+    → result ≡ Err e → is_producer op ≡ false → IsKept (record { pass = p; mark = mark }) looked pulled → IsKept (record { pass = q; mark = mark }) looked pulled
+kept-refused t p q mark op result e looked pulled of only call is none kept =
+    let l : LineView = record { pass = p; mark = mark } in
+    let m : LineView = record { pass = q; mark = mark } in
+    kept-by l m op e looked pulled none kept (subst (λ r. CallsOn l op r m) is (calls-on t p q mark op result of only call))
 
 -- and over one that was answered
 pub kept-told : (t : Origin PlainPartition) (p q : QueuePass) (mark : ℕ) (op : Op) (result : Result Reply Refusal) (r : Reply) (looked pulled looks pulls : Bool) → IsOf t p → HasOnlySeen p q
@@ -79,14 +104,23 @@ kept-told t p q mark op result r looked pulled looks pulls of only call is ready
     (subst (λ b. IsKept m (looked || is_ready op) (pulled || b)) (sym pull)
     (kept-answered l m op r looked pulled none kept (subst (λ e. CallsOn l op e m) is (calls-on t p q mark op result of only call))))
 
+-- a line of which nothing is new
 pub kept-new : (p : QueuePass) → NeverProduces p → IsKept (record { pass = p; mark = length p.seen }) false false
 kept-new p never =
     record {
       never = never;
       marked = omega arith;
-      has_looked = λ t. absurd (false≢true t);
-      has_pulled = λ t. absurd (false≢true t);
+      has_looked = (λ t. absurd (false≢true t), λ has. absurd (past-none is_ready p has));
+      has_pulled = (λ t. absurd (false≢true t), λ has. absurd (past-none is_pull p has));
     }
+
+-- a pass that has seen more, of which nothing is its own
+flag-more : (test : Op → Bool) (flag : Bool) (mark : ℕ) (p q : QueuePass) (more : List (Entry Op Reply)) → q.number ≡ p.number → q.seen ≡ p.seen ++ more → Foreign (numbers_of p) more → (flag ≡ true) ↔ HasOwnPast test mark p
+    → (flag ≡ true) ↔ HasOwnPast test mark q
+flag-more test flag mark p q more number seen foreign flags = (
+  λ t. past-more test mark p q more number seen (flags.0 t),
+  λ has. flags.1 (past-before test mark p q more number seen (owns-foreign test (numbers_of p) more foreign) has),
+)
 
 pub kept-joined : (p q : QueuePass) (mark : ℕ) (looked pulled : Bool) → Agree p q (joined_pass p q) → NeverProduces q → IsKept (record { pass = p; mark = mark }) looked pulled
     → IsKept (record { pass = joined_pass p q; mark = mark }) looked pulled
@@ -96,8 +130,8 @@ kept-joined p q mark looked pulled agree never kept =
     record {
       never = owns-joined is_producer p q agree kept.never never;
       marked = (let below = kept.marked in omega arith);
-      has_looked = λ t. past-more is_ready mark p r agree.0.rest refl agree.0.is (kept.has_looked t);
-      has_pulled = λ t. past-more is_pull mark p r agree.0.rest refl agree.0.is (kept.has_pulled t);
+      has_looked = flag-more is_ready looked mark p r agree.0.rest refl agree.0.is agree.0.foreign kept.has_looked;
+      has_pulled = flag-more is_pull pulled mark p r agree.0.rest refl agree.0.is agree.0.foreign kept.has_pulled;
     }
 
 -- a pass that only knows of more passes
@@ -109,8 +143,8 @@ kept-made t p q mark looked pulled only of kept =
       record {
         never = kept.never;
         marked = kept.marked;
-        has_looked = λ t. past-more is_ready mark p (record p { made = q.made }) [] refl (sym (append-nil p.seen)) (kept.has_looked t);
-        has_pulled = λ t. past-more is_pull mark p (record p { made = q.made }) [] refl (sym (append-nil p.seen)) (kept.has_pulled t);
+        has_looked = flag-more is_ready looked mark p (record p { made = q.made }) [] refl (sym (append-nil p.seen)) tt kept.has_looked;
+        has_pulled = flag-more is_pull pulled mark p (record p { made = q.made }) [] refl (sym (append-nil p.seen)) tt kept.has_pulled;
       },
     )
 

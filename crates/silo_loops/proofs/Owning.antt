@@ -1,5 +1,6 @@
 -- What a pass owns after a call, a split and a join.
-use Rattle.std.proofs.Common.{◌≡◌, ℕ, ◌≤◌, Bool, true, false, List, [], ◌∷◌, ◌++◌, length, Contains, Result, Ok, Err, MatchResult, sym, ap, subst, ◌∙◌, append_assoc, arith, inl, inr}
+use Rattle.std.proofs.Common.{◌≡◌, ℕ, ◌≤◌, Bool, true, false, List, [], ◌∷◌, ◌++◌, length, drop, Contains, Result, Ok, Err, MatchResult, refl, sym, ap, subst, ◌∙◌, append_assoc, arith, inl, inr}
+use Rattle.std.proofs.lemmas.Bool.{false≢true}
 use Rattle.std.proofs.lemmas.List.{append-nil, length-append}
 use Rattle.std.proofs.lemmas.List.Elements.{Contains-append_cases}
 use Rattle.turnstile.specs.declared.history.Entry.{Entry}
@@ -56,6 +57,38 @@ module _ {O R S : Type 0} (test : O → Bool) where
         picked = h.picked;
       }
 
+-- an entry with one of these numbers that the test picks stands before those of which none is such
+module _ {O R : Type 0} (test : O → Bool) (numbers : List ℕ) where
+  not-owned : (front : List (Entry O R)) (e : Entry O R) (later : List (Entry O R)) → Contains numbers e.number → test e.op ≡ true → OwnsNone test numbers ((front ++ e ∷ []) ++ later) → ⊥
+  not-owned [] e later own picked none = false≢true (sym (none.0 own) ∙ picked)
+  not-owned (x ∷ front) e later own picked none = not-owned front e later own picked none.1
+
+  stands-before : (xs ys front : List (Entry O R)) (e : Entry O R) (later : List (Entry O R)) → Contains numbers e.number → test e.op ≡ true → OwnsNone test numbers ys → xs ++ ys ≡ (front ++ e ∷ []) ++ later
+      → (between : List (Entry O R)) × (xs ≡ (front ++ e ∷ []) ++ between)
+  stands-before [] ys front e later own picked none is = absurd (not-owned front e later own picked (subst (λ es. OwnsNone test numbers es) is none))
+  stands-before (x ∷ xs) ys [] e later own picked none is = (xs, ap (λ y. y ∷ xs) (cc (is)))
+  stands-before (x ∷ xs) ys (z ∷ front) e later own picked none is =
+      let rest = stands-before xs ys front e later own picked none (ap (λ es. drop 1 es) is) in
+      let same : x ≡ z = cc (is) in
+      (rest.0, ap (λ y. y ∷ xs) same ∙ ap (λ es. z ∷ es) rest.1)
+
+module _ {O R S : Type 0} (test : O → Bool) where
+  -- what a pass owns past the mark it owned before, where it owns nothing of what came
+  pub past-before : (mark : ℕ) (p q : PassView O R S) (more : List (Entry O R)) → q.number ≡ p.number → q.seen ≡ p.seen ++ more → OwnsNone test (numbers_of p) more → HasOwnPast test mark q → HasOwnPast test mark p
+  past-before mark p q more number seen none h =
+      let e = entry p.number h.op h.reply in
+      let whole : p.seen ++ more ≡ (h.before ++ e ∷ []) ++ h.later = sym seen ∙ h.whole ∙ ap (λ n. (h.before ++ entry n h.op h.reply ∷ []) ++ h.later) number in
+      let here = stands-before test (numbers_of p) p.seen more h.before e h.later (0, omega arith, refl) h.picked none whole in
+      record { before = h.before; op = h.op; reply = h.reply; later = here.0; whole = here.1; past = h.past; picked = h.picked }
+
+  -- past all that it has seen it owns nothing
+  pub past-none : (p : PassView O R S) → HasOwnPast test (length p.seen) p → ⊥
+  past-none p h =
+      let long = ap (λ es. length es) h.whole ∙ length-append (h.before ++ entry p.number h.op h.reply ∷ []) h.later in
+      let front = length-append h.before (entry p.number h.op h.reply ∷ []) in
+      let past = h.past in
+      omega (arith, long, front, past)
+
 module _ {S O R : Type 0} (reply : S → O → R) (after : S → O → S) where
   owns-seen : (test : O → Bool) (x : Start S) (p : PassView O R S) (op : O) (result : Result R Refusal) (seen : List (Entry O R)) → test op ≡ false → OwnsNone test (numbers_of p) p.seen
       → MatchResult result (λ r. Called reply after x p op r seen) (λ e. Found reply after x p e seen) → OwnsNone test (numbers_of p) seen
@@ -90,6 +123,18 @@ module _ {S O R : Type 0} (reply : S → O → R) (after : S → O → S) where
   past-called test mark p op result q calls h =
       let more = calls-more p op result q calls in
       past-more test mark p q more.0 (calls-number p op result q calls) more.1 h
+
+  -- what it owns past the mark later it owned before, unless it is the call itself
+  pub past-before-answered : (test : O → Bool) (mark : ℕ) (p : PassView O R S) (op : O) (r : R) (q : PassView O R S) → test op ≡ false → CallsBy reply after p op (Ok r) q → HasOwnPast test mark q → HasOwnPast test mark p
+  past-before-answered test mark p op r q none calls h =
+      let between = calls.call.0 in
+      let more = between ++ entry p.number op r ∷ [] in
+      past-before test mark p q more (calls-number p op (Ok r) q calls) (calls.call.1 ∙ append_assoc p.seen between (entry p.number op r ∷ []))
+      (owns-append test (numbers_of p) between (entry p.number op r ∷ []) (owns-foreign test (numbers_of p) between calls.call.2) ((λ _. none), tt)) h
+
+  pub past-before-refused : (test : O → Bool) (mark : ℕ) (p : PassView O R S) (op : O) (e : Refusal) (q : PassView O R S) → CallsBy reply after p op (Err e) q → HasOwnPast test mark q → HasOwnPast test mark p
+  past-before-refused test mark p op e q calls h =
+      past-before test mark p q calls.call.0 (calls-number p op (Err e) q calls) calls.call.1 (owns-foreign test (numbers_of p) calls.call.0 calls.call.2) h
 
   -- and the call itself, where it was answered
   pub past-answered : (test : O → Bool) (mark : ℕ) (p : PassView O R S) (op : O) (r : R) (q : PassView O R S) → CallsBy reply after p op (Ok r) q → mark ≤ length p.seen → test op ≡ true → HasOwnPast test mark q

@@ -1,5 +1,5 @@
 -- Lines: a loop's passes, and how much they had seen when the loop was last idle.
-use Rattle.std.specs.Prelude.{◌≡◌, ℕ, ◌≤◌, Bool, true, false, List, length, map, Option, Some, Result, slice_get, slice_set}
+use Rattle.std.specs.Prelude.{◌≡◌, ◌↔◌, ℕ, ◌≤◌, Bool, true, false, List, length, map, Option, Some, Result, slice_get, slice_set}
 use Rattle.stream_model.specs.declared.op.Op.{Op}
 use Rattle.stream_model.specs.declared.op.Op.TheVariants.{Pull, Ready}
 use Rattle.stream_model.specs.declared.plain.PlainPartition.{PlainPartition}
@@ -52,8 +52,8 @@ HasPulled l = HasOwnPast is_pull l.mark l.pass
 pub record IsKept (l : LineView) (looked pulled : Bool) : Type 0 where
   pub never : NeverProduces l.pass
   pub marked : l.mark ≤ length l.pass.seen
-  pub has_looked : looked ≡ true → HasLooked l
-  pub has_pulled : pulled ≡ true → HasPulled l
+  pub has_looked : (looked ≡ true) ↔ HasLooked l
+  pub has_pulled : (pulled ≡ true) ↔ HasPulled l
 
 -- the line begins anew: what it has seen is its mark
 abbrev pub rested : LineView → LineView

@@ -1,5 +1,5 @@
 //! A pass at the turnstile of a queue, as loops hold it.
-ghost use Rattle.std.specs.Prelude.{◌≡◌, ◌≤◌, false, true, length, map, IfOk, OnOk, OnErr, vec_capacity};
+ghost use Rattle.std.specs.Prelude.{◌≡◌, ◌↔◌, ◌≤◌, false, true, length, map, IfOk, OnOk, OnErr, vec_capacity};
 ghost use Rattle.std.specs.Arc.{arc_value};
 ghost use Rattle.turnstile.specs.Calls.{Agree, HasOnlyMade, IsOf, IsSplitOff, joined_pass};
 ghost use Rattle.shared_partition.specs.Partitions.{BeganEmpty};
@@ -126,14 +126,14 @@ impl<G: Gate, H: StoredHistory<Op, Reply>> Line<G, H> {
 
     /// Whether the pass has asked for a ready grain since the mark.
     pub fn has_looked(&self) -> bool
-        ensures { result ≡ true → HasLooked self.now }
+        ensures { (result ≡ true) ↔ HasLooked self.now }
     {
         self.looked
     }
 
     /// Whether the pass has pulled since the mark.
     pub fn has_pulled(&self) -> bool
-        ensures { result ≡ true → HasPulled self.now }
+        ensures { (result ≡ true) ↔ HasPulled self.now }
     {
         self.pulled
     }

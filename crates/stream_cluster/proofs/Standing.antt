@@ -1,7 +1,8 @@
 -- What a change of silos leaves.
-use Rattle.std.proofs.Common.{◌≡◌, ℕ, zero, suc, ◌<◌, ◌+◌, Bool, true, false, List, [], ◌∷◌, ◌++◌, length, get_or, map, remove, Contains, Some, Result, Ok, Err, refl, sym, ap, subst, ◌∙◌, arith}
+use Rattle.std.proofs.Common.{◌≡◌, ◌⊎◌, inl, inr, ℕ, zero, suc, ◌<◌, ◌+◌, Bool, true, false, List, [], ◌∷◌, ◌++◌, length, get_or, map, remove, Contains, Some, Result, Ok, Err, refl, sym, ap, subst, ◌∙◌, arith}
 use Rattle.std.proofs.lemmas.List.{get_or-map, length-map, map-append}
 use Rattle.std.proofs.lemmas.Option.{slice_get-get_or, slice_get_within}
+use Rattle.std.proofs.lemmas.List.Edits.{length-remove}
 use Rattle.std.proofs.lemmas.List.FromFn.{get_or-range_with_len, length-range_with_len}
 use Rattle.std.specs.List.{AllByRecursion, AllZip, range_with_len, slice_get, slice_index}
 use Rattle.std.specs.Option.{unwrap_or}
@@ -25,11 +26,11 @@ use Rattle.silo_crew.specs.Silos.{GoOn, GoesOn, IsFresh, IsSameSilo, IsSilent, I
 use Rattle.silo_crew.proofs.Going.{goes-length, goes-places, goes-refl, goes-trans, on-refl, still-at}
 use Rattle.cluster_operator.specs.declared.halt.Halt.{Halt}
 use Rattle.cluster_operator.specs.declared.halt.Halt.TheVariants as halt
-use Rattle.cluster_operator.specs.Changes.{AreDeactivated, HasMade, HaveMoved, IsDeactivation, IsMove, IsNoneLeft, IsRelease}
-use Rattle.cluster_operator.specs.Operators.{HasOnlyGoneOn, HasSpread, OperatorGoesOn, OperatorView}
+use Rattle.cluster_operator.specs.Changes.{AreDeactivated, HasFound, HasMade, HasSince, HaveMoved, HoldsGrains, IsDeactivation, IsMove, IsNoneLeft, IsRelease, IsSpentMove, StaysBehind}
+use Rattle.cluster_operator.specs.Operators.{HasOnlyGoneOn, HasSpread, IsUnspread, OperatorGoesOn, OperatorView}
 use Rattle.cluster_operator.proofs.Changing.{each-earlier, each-later, goes-at, goes-back, op-trans}
 use Rattle.cluster_operator.proofs.Making.{goes-longer, made-earlier, made-since-silent}
-use Rattle.stream_cluster.specs.Clusters.{AnswersDown, AnswersRetire, AnswersUp, AreAtQueues, AreFresh, AreStarted, ClusterView, EndsBy, HasEnded, HasHalted, HasLeft, HasNoted, IsBrokenOff, IsCluster, IsDownBy, IsOpened, IsRetired, IsRetiredBy, IsUpBy, MayGo, RunsOn, all_noted, is_fixed, none_ended, noted}
+use Rattle.stream_cluster.specs.Clusters.{AnswersDown, AnswersRetire, AnswersUp, AreAtQueues, AreFresh, AreStarted, ClusterView, EndsBy, HasEnded, HasHalted, HasLeft, HasMetLimit, HasNoted, IsBrokenOff, IsCluster, IsDownBy, IsLimitedAt, IsOpened, IsRetired, IsRetiredBy, IsUpBy, MayGo, RunsOn, all_noted, is_fixed, none_ended, noted}
 use Rattle.stream_cluster.specs.declared.config.Config.{Config}
 use Rattle.stream_cluster.specs.declared.cluster.Retired.{Retired}
 use Rattle.stream_cluster.specs.declared.cluster.SiloDown.{SiloDown}
@@ -94,16 +95,82 @@ spread-from u v w on on2 same spread =
       moved = subst (λ (xs : List ℕ). HaveMoved u.lines w.lines xs w.assignment) same (moved-earlier u.lines v.lines w.lines v.assignment w.assignment on.lines on2.lines spread.moved);
     }
 
--- how a change that was broken off is answered
-pub halted-up : (v w : ClusterView) (silo : ℕ) (h : Halt) (r : Result SiloUp AllocError) → IsUpBy h r → is_fixed v ≡ false → (Contains v.operator.live silo → ⊥) → HasHalted v w → AnswersUp v silo r w
-halted-up v w silo halt.Limit r is goes absent halted = subst (λ (x : Result SiloUp AllocError). AnswersUp v silo x w) (sym is) (goes, absent, halted)
-halted-up v w silo halt.Memory (Ok x) is goes absent halted = absurd (cc (is))
-halted-up v w silo halt.Memory (Err e) is goes absent halted = (goes, absent, halted)
+-- a limit that was met since is met since what was before
+limited-earlier : (u v w : OperatorView) (queue : ℕ) → OperatorGoesOn u v → IsLimitedAt v w queue → IsLimitedAt u w queue
+limited-earlier u v w queue on limited =
+    let first = goes-back u.lines v.lines queue limited.was on.lines limited.had in
+    let goes = goes-at u.lines v.lines queue first.0 limited.was on.lines first.1 limited.had in
+    record {
+      was = first.0;
+      is = limited.is;
+      had = first.1;
+      has = limited.has;
+      cause =
+          elim limited.cause as (λ s. HasFound halt.Limit limited.is.pass ⊎ ((silo : ℕ) × HasSince first.0 limited.is (IsSpentMove silo))) [
+            | inl found ↦ inl found
+            | inr spent ↦ inr (spent.0, made-earlier (IsSpentMove spent.0) (length first.0.pass.seen) (length limited.was.pass.seen) limited.is.pass (goes-longer first.0.pass limited.was.pass goes) spent.1)
+          ];
+    }
 
-pub halted-down : (v w : ClusterView) (silo : ℕ) (h : Halt) (r : Result SiloDown AllocError) → IsDownBy h r → is_fixed v ≡ false → MayGo v silo → HasHalted v w → HasNoted v w → AnswersDown v silo r w
-halted-down v w silo halt.Limit r is goes may halted noted = subst (λ (x : Result SiloDown AllocError). AnswersDown v silo x w) (sym is) (goes, may, halted, noted)
-halted-down v w silo halt.Memory (Ok x) is goes may halted noted = absurd (cc (is))
-halted-down v w silo halt.Memory (Err e) is goes may halted noted = (goes, may, halted, noted)
+pub met-earlier : (u v w : OperatorView) → OperatorGoesOn u v → HasMetLimit v w → HasMetLimit u w
+met-earlier u v w on met =
+    elim met as (λ s. HasMetLimit u w) [
+      | inl found ↦ inl found
+      | inr limited ↦ inr (limited.0, limited-earlier u v w limited.0 on limited.1)
+    ]
+
+-- a spread or an eviction that was broken off at a limit has met one
+behind-limited : (v w : OperatorView) (fresh : List ℕ) (behind : StaysBehind halt.Limit v.lines w.lines v.assignment fresh) → IsLimitedAt v w behind.queue
+behind-limited v w fresh behind =
+    record {
+      was = behind.was;
+      is = behind.is;
+      had = behind.had;
+      has = behind.has;
+      cause =
+          elim behind.unmoved.1 as (λ s. HasFound halt.Limit behind.is.pass ⊎ ((silo : ℕ) × HasSince behind.was behind.is (IsSpentMove silo))) [
+            | inl found ↦ inl found
+            | inr spent ↦ inr (slice_index fresh behind.queue, spent.1)
+          ];
+    }
+
+pub spread-met : (u v w : OperatorView) → OperatorGoesOn u v → (v.live ≡ [] → ⊥) → (why : Halt) → why ≡ halt.Limit → IsUnspread why v.assignment v.live v.lines w.lines → HasMetLimit u w
+spread-met u v w on some why is unspread =
+    elim (subst (λ (h : Halt). IsUnspread h v.assignment v.live v.lines w.lines) is unspread) as (λ s. HasMetLimit u w) [
+      | inl nothing ↦ absurd (some (nothing.1 refl))
+      | inr left ↦ inr (left.2.queue, limited-earlier u v w left.2.queue on (behind-limited v w left.0 left.2))
+    ]
+
+pub evict-met : (u w : OperatorView) (silo : ℕ) (d : DirectoryPass) → OperatorGoesOn u w → (why : Halt) → why ≡ halt.Limit → HoldsGrains why silo d w.directory w.lines → HasMetLimit u w
+evict-met u w silo d on why is holds =
+    elim (subst (λ (h : Halt). HoldsGrains h silo d w.directory w.lines) is holds).1 as (λ s. HasMetLimit u w) [
+      | inl found ↦ inl found
+      | inr at ↦
+          let first = goes-back u.lines w.lines at.0 at.1 on.lines at.2 in
+          inr (at.0, record { was = first.0; is = at.1; had = first.1; has = at.2; cause = inl at.3 })
+    ]
+
+-- some silo lives where one came, and where one of two or more went
+pub came-some : (live : List ℕ) (silo : ℕ) → live ++ silo ∷ [] ≡ [] → ⊥
+came-some [] silo none = absurd (cc (none))
+came-some (x ∷ xs) silo none = absurd (cc (none))
+
+pub left-some : (live : List ℕ) (place : ℕ) → place < length live → 1 < length live → remove live place ≡ [] → ⊥
+left-some live place within others none =
+    let shorter = length-remove live place within in
+    let empty = ap (λ (xs : List ℕ). length xs) none in
+    omega (arith, others, shorter, empty)
+
+-- how a change that was broken off is answered
+pub halted-up : (v w : ClusterView) (silo : ℕ) (h : Halt) (r : Result SiloUp AllocError) → IsUpBy h r → is_fixed v ≡ false → (Contains v.operator.live silo → ⊥) → HasHalted v w → (h ≡ halt.Limit → HasMetLimit v.operator w.operator) → AnswersUp v silo r w
+halted-up v w silo halt.Limit r is goes absent halted met = subst (λ (x : Result SiloUp AllocError). AnswersUp v silo x w) (sym is) (goes, absent, halted, met refl)
+halted-up v w silo halt.Memory (Ok x) is goes absent halted met = absurd (cc (is))
+halted-up v w silo halt.Memory (Err e) is goes absent halted met = (goes, absent, halted)
+
+pub halted-down : (v w : ClusterView) (silo : ℕ) (h : Halt) (r : Result SiloDown AllocError) → IsDownBy h r → is_fixed v ≡ false → MayGo v silo → HasHalted v w → HasNoted v w → (h ≡ halt.Limit → HasMetLimit v.operator w.operator) → AnswersDown v silo r w
+halted-down v w silo halt.Limit r is goes may halted noted met = subst (λ (x : Result SiloDown AllocError). AnswersDown v silo x w) (sym is) (goes, may, halted, noted, met refl)
+halted-down v w silo halt.Memory (Ok x) is goes may halted noted met = absurd (cc (is))
+halted-down v w silo halt.Memory (Err e) is goes may halted noted met = (goes, may, halted, noted)
 
 -- Each grain that left since the first pass was deactivated: the passes in between made no call, and the lines went on.
 deactivated-from : (silo : ℕ) (d e f : DirectoryPass) (old new last later : List LineView) → IsSilent d e → GoesOn e f → GoOn old new → GoOn new last → GoOn last later → AreDeactivated silo e f new last → AreDeactivated silo d f old later
@@ -361,10 +428,10 @@ retire-done v w loops place silo gone free other stood silo_is named on left sam
       ends,
     )
 
-pub halted-retire : {G H D : Type 0} (v w : ClusterView) (loops : SiloView) (h : Halt) (r : Result (Retired G H D) AllocError) → IsRetiredBy h r → IsBrokenOff v loops w → AnswersRetire v loops r w
-halted-retire {G = G} {H = H} {D = D} v w loops halt.Limit r is broken = subst (λ (x : Result (Retired G H D) AllocError). AnswersRetire v loops x w) (sym is) broken
-halted-retire v w loops halt.Memory (Ok x) is broken = absurd (cc (is))
-halted-retire v w loops halt.Memory (Err e) is broken = broken
+pub halted-retire : {G H D : Type 0} (v w : ClusterView) (loops : SiloView) (h : Halt) (r : Result (Retired G H D) AllocError) → IsRetiredBy h r → IsBrokenOff v loops w → (h ≡ halt.Limit → HasMetLimit v.operator w.operator) → AnswersRetire v loops r w
+halted-retire {G = G} {H = H} {D = D} v w loops halt.Limit r is broken met = subst (λ (x : Result (Retired G H D) AllocError). AnswersRetire v loops x w) (sym is) (broken, met refl)
+halted-retire v w loops halt.Memory (Ok x) is broken met = absurd (cc (is))
+halted-retire v w loops halt.Memory (Err e) is broken met = broken
 
 -- ends of which each is of no loop
 pub ends-none : (e : LoopEnds) → e.memory ≡ false → e.limit ≡ false → e.rounds ≡ false → e ≡ none_ended

@@ -1,5 +1,5 @@
 -- What contracts see of a cluster, and what its calls say.
-use Rattle.std.specs.Prelude.{◌≡◌, ℕ, ◌-◌, ◌^◌, ◌≤◌, ◌<◌, Bool, true, false, ◌||◌, List, [], ◌∷◌, ◌++◌, length, map, remove, replicate, slice_get, Contains, Some, Result, Ok, Err, IsErr}
+use Rattle.std.specs.Prelude.{◌≡◌, ◌⊎◌, ℕ, ◌-◌, ◌^◌, ◌≤◌, ◌<◌, Bool, true, false, ◌||◌, List, [], ◌∷◌, ◌++◌, length, map, remove, replicate, slice_get, Contains, Some, Result, Ok, Err, IsErr}
 use Rattle.std.specs.List.{AllByRecursion, range_with_len}
 use Rattle.std.specs.declared.alloc.AllocError.{AllocError}
 use Rattle.stream_model.specs.Bounds.{AreLimits}
@@ -22,7 +22,7 @@ use Rattle.cluster_ending.specs.Finishing.{CallersAloneProduce, HaveBegun, IsFin
 use Rattle.cluster_ending.specs.Gathering.{gathered, passes_of}
 use Rattle.cluster_operator.specs.declared.halt.Halt.{Halt}
 use Rattle.cluster_operator.specs.declared.halt.Halt.TheVariants as halt
-use Rattle.cluster_operator.specs.Changes.{AreDeactivated, HasMade, IsNoneLeft}
+use Rattle.cluster_operator.specs.Changes.{AreDeactivated, HasFound, HasMade, HasSince, IsNoneLeft, IsSpentMove}
 use Rattle.cluster_operator.specs.Operators.{HasSpread, OperatorGoesOn, OperatorView}
 use Rattle.stream_cluster.specs.declared.config.Config.{Config}
 use Rattle.stream_cluster.specs.declared.cluster.Retired.{Retired}
@@ -122,11 +122,25 @@ abbrev pub EndsBy : LoopEnds → List SiloView → LoopEnds → Type 0
 EndsBy ends [] new = new ≡ ends
 EndsBy ends (s ∷ ss) new = (back : SiloView) × IsSameSilo s back × EndsBy (noted ends back) ss new
 
--- calls were refused on the way: what was answered stands, and no silo comes or goes any more
+-- Calls were refused on the way: what was answered stands, each queue still counts for the silo that it had, and no silo
+-- comes or goes any more.
 pub record HasHalted (v w : ClusterView) : Type 0 where
   pub on : OperatorGoesOn v.operator w.operator
+  pub assignment : w.operator.assignment ≡ v.operator.assignment
   pub same : (w.is_parked ≡ v.is_parked) × (w.rounds ≡ v.rounds) × (w.looks ≡ v.looks)
   pub halted : w.is_halted ≡ true
+
+-- the operator's pass at this queue has found its history full, or one of its Moves was answered Spent since
+pub record IsLimitedAt (v w : OperatorView) (queue : ℕ) : Type 0 where
+  pub was : LineView
+  pub is : LineView
+  pub had : slice_get v.lines queue ≡ Some was
+  pub has : slice_get w.lines queue ≡ Some is
+  pub cause : HasFound halt.Limit is.pass ⊎ ((silo : ℕ) × HasSince was is (IsSpentMove silo))
+
+-- a limit was met, at the directory or at a queue
+abbrev pub HasMetLimit : OperatorView → OperatorView → Type 0
+HasMetLimit v w = HasFound halt.Limit w.directory ⊎ ((queue : ℕ) × IsLimitedAt v w queue)
 
 -- a silo came: its loops, which had done nothing, were started, and the queues are spread anew
 pub record IsUp (v : ClusterView) (silo : ℕ) (w : ClusterView) : Type 0 where
@@ -142,7 +156,7 @@ abbrev pub AnswersUp : ClusterView → ℕ → Result SiloUp AllocError → Clus
 AnswersUp v silo (Ok up.Halted) w = (is_fixed v ≡ true) × (w ≡ v)
 AnswersUp v silo (Ok up.Already) w = (is_fixed v ≡ false) × Contains v.operator.live silo × (w ≡ v)
 AnswersUp v silo (Ok up.Up) w = (is_fixed v ≡ false) × (¬ Contains v.operator.live silo) × IsUp v silo w
-AnswersUp v silo (Ok up.Limit) w = (is_fixed v ≡ false) × (¬ Contains v.operator.live silo) × HasHalted v w
+AnswersUp v silo (Ok up.Limit) w = (is_fixed v ≡ false) × (¬ Contains v.operator.live silo) × HasHalted v w × HasMetLimit v.operator w.operator
 AnswersUp v silo (Err e) w = (is_fixed v ≡ false) × (¬ Contains v.operator.live silo) × HasHalted v w
 
 -- how a change of silos that was broken off is answered
@@ -189,7 +203,7 @@ AnswersDown v silo (Ok down.Halted) w = (is_fixed v ≡ true) × (w ≡ v)
 AnswersDown v silo (Ok down.NotLive) w = (is_fixed v ≡ false) × (¬ Contains v.operator.live silo) × (w ≡ v)
 AnswersDown v silo (Ok down.LastSilo) w = (is_fixed v ≡ false) × (v.operator.live ≡ silo ∷ []) × (w ≡ v)
 AnswersDown v silo (Ok down.Down) w = (is_fixed v ≡ false) × MayGo v silo × IsDown v silo w × HasNoted v w
-AnswersDown v silo (Ok down.Limit) w = (is_fixed v ≡ false) × MayGo v silo × HasHalted v w × HasNoted v w
+AnswersDown v silo (Ok down.Limit) w = (is_fixed v ≡ false) × MayGo v silo × HasHalted v w × HasNoted v w × HasMetLimit v.operator w.operator
 AnswersDown v silo (Err e) w = (is_fixed v ≡ false) × MayGo v silo × HasHalted v w × HasNoted v w
 
 -- the silo of these loops went, and it was noted how they have ended
@@ -205,7 +219,7 @@ abbrev pub AnswersRetire : {G H D : Type 0} → ClusterView → SiloView → Res
 AnswersRetire v loops (Ok (retired.Halted back)) w = (v.is_halted ≡ true) × (back ≡ loops) × (w ≡ v)
 AnswersRetire v loops (Ok (retired.LastSilo back)) w = (v.is_halted ≡ false) × (v.operator.live ≡ loops.silo ∷ []) × (back ≡ loops) × (w ≡ v)
 AnswersRetire v loops (Ok retired.Down) w = IsRetired v loops w
-AnswersRetire v loops (Ok retired.Limit) w = IsBrokenOff v loops w
+AnswersRetire v loops (Ok retired.Limit) w = IsBrokenOff v loops w × HasMetLimit v.operator w.operator
 AnswersRetire v loops (Err e) w = IsBrokenOff v loops w
 
 -- a line for each of these lines is of a queue's turnstile

@@ -1,9 +1,9 @@
 //! Silos that come and go.
-ghost use Rattle.std.specs.Prelude.{◌≡◌, [], ◌∷◌, ◌++◌, map, Contains, Some, slice_get, IfOk, OnOk};
+ghost use Rattle.std.specs.Prelude.{◌≡◌, ◌<◌, [], ◌∷◌, ◌++◌, length, map, Contains, Some, slice_get, IfErr, IfOk, OnErr, OnOk};
 ghost use Rattle.std.specs.List.{AllByRecursion, range_with_len};
 ghost use Rattle.silo_crew.specs.Silos.{IsFresh, IsSiloAt, SiloView};
 ghost use Rattle.cluster_operator.specs.Operators.{HasOnlyGoneOn, HasSpread, OperatorGoesOn};
-ghost use Rattle.stream_cluster.specs.Clusters.{AreFresh, AreStarted, EndsBy, HasLeft, RunsOn, all_noted, noted};
+ghost use Rattle.stream_cluster.specs.Clusters.{AreFresh, AreStarted, EndsBy, HasLeft, HasMetLimit, RunsOn, all_noted, noted};
 
 use activation_directory::{DirectoryOp, DirectoryReply};
 use cluster_ending::LoopEnds;
@@ -63,6 +63,8 @@ pub(crate) fn bring_up<
     ensures live { OnOk result (operator.new.live ≡ operator.old.live ++ silo ∷ []) }
     ensures started { OnOk result ((s : SiloView) × (silos.new.items ≡ silos.old.items ++ s ∷ []) × IsFresh rounds silo s) }
     ensures spread { OnOk result (HasSpread operator.old operator.new) }
+    ensures kept { OnErr result (operator.new.assignment ≡ operator.old.assignment) }
+    ensures limit { IfErr result (λ why. why ≡ Halt.Limit → HasMetLimit operator.old operator.new) }
 {
     silos.reserve(1)?;
     silos.push_reserved(start_silo(rt, alloc, operator, silo, rounds)?);
@@ -85,9 +87,12 @@ pub(crate) fn leave<
     loops: SiloLoops<G, H, D>,
 ) -> Result<(), Halt>
     requires place { slice_get operator.old.live place ≡ Some loops.silo }
+    requires others { 1 < length operator.old.live }
     requires at { IsSiloAt operator.old.lines operator.old.directory loops }
     ensures on { OperatorGoesOn operator.old operator.new }
     ensures left { OnOk result (HasLeft loops.silo place operator.old operator.new) }
+    ensures kept { OnErr result (operator.new.assignment ≡ operator.old.assignment) }
+    ensures limit { IfErr result (λ why. why ≡ Halt.Limit → HasMetLimit operator.old operator.new) }
 {
     let silo = loops.silo;
     operator.take_back(loops);

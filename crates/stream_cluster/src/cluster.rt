@@ -29,7 +29,7 @@ pub enum SiloUp {
     Up,
     /// It lived already. Nothing was done.
     Already,
-    /// A call was answered `Spent`, or a history is full. What was answered by then stands, and the cluster's silos
+    /// A Move was answered `Spent`, or a history is full. What was answered by then stands, and the cluster's silos
     /// don't change any more.
     Limit,
     /// The cluster's silos don't change any more. Nothing was done.
@@ -46,7 +46,7 @@ pub enum SiloDown {
     NotLive,
     /// No other silo lives. Nothing was done.
     LastSilo,
-    /// A call was answered `Spent`, or a history is full. What was answered by then stands, and the cluster's silos
+    /// A Move was answered `Spent`, or a history is full. What was answered by then stands, and the cluster's silos
     /// don't change any more.
     Limit,
     /// The cluster's silos don't change any more. Nothing was done.
@@ -67,7 +67,7 @@ pub enum Retired<
         /// The loops as they were given.
         loops: SiloLoops<G, H, D>,
     },
-    /// A call was answered `Spent`, or a history is full. What was answered by then stands, the loops came back, and
+    /// A Move was answered `Spent`, or a history is full. What was answered by then stands, the loops came back, and
     /// the cluster's silos don't change any more.
     Limit,
     /// The cluster's silos don't change any more. Nothing was done.

@@ -78,7 +78,7 @@ whole-lives c caller crew at s within is whole goes = lives-at c.operator.live a
 pub whole-after : {G H D : Type 0} (v w : ClusterView) (caller : List QueuePass) (crew left later : List SiloView) (at : ℕ) (s : SiloView) (result : Result (Retired G H D) AllocError) → at < length crew → s ≡ get_or crew at s → left ≡ remove crew at
     → AnswersRetire v s result w → IsLeft result at left later → IsWhole v caller crew → IsWhole w caller later
 whole-after v w caller crew left later at s (Ok retired.Down) within is out answers kept whole = whole-down v w caller crew later at s within is (kept ∙ out) answers.0 answers.2 whole
-whole-after v w caller crew left later at s (Ok retired.Limit) within is out answers kept whole = whole-halted v w caller crew later at within (kept ∙ out) answers.2 whole
+whole-after v w caller crew left later at s (Ok retired.Limit) within is out answers kept whole = whole-halted v w caller crew later at within (kept ∙ out) answers.0.2 whole
 whole-after v w caller crew left later at s (Ok (retired.LastSilo back)) within is out answers kept whole = whole-back v w caller crew left later at s back within is out answers.2 kept answers.3 whole
 whole-after v w caller crew left later at s (Ok (retired.Halted back)) within is out answers kept whole = whole-back v w caller crew left later at s back within is out answers.1 kept answers.2 whole
 whole-after v w caller crew left later at s (Err e) within is out answers kept whole = whole-halted v w caller crew later at within (kept ∙ out) answers.2 whole

@@ -19,8 +19,7 @@ use Rattle.silo_loops.specs.Lines.{QueuePass, places}
 use Rattle.cluster_callers.specs.Calls.{CallerCalls, turnstiles}
 use Rattle.cluster_ending.specs.declared.finishing.Finished.{Finished}
 use Rattle.script_producer.specs.declared.draining.Drained.{Drained}
-use Rattle.script_producer.specs.declared.draining.Drained.TheVariants as drained
-use Rattle.script_producer.specs.Telling.{HasGoneOn, LooksQuiet}
+use Rattle.script_producer.specs.Telling.{EndsLooking, HasGoneOn}
 use Rattle.stream_cluster.specs.declared.cluster.SiloDown.{SiloDown}
 use Rattle.stream_cluster.specs.declared.cluster.SiloUp.{SiloUp}
 use Rattle.stream_cluster.specs.declared.config.Config.{Config}
@@ -110,7 +109,7 @@ AddsRule s kind namespace result t = TellsRule (length s.caller) 0 (op.AddRule k
 pub record Settles (s : ServiceView) (result : Result Unit SettleError) (t : ServiceView) : Type 0 where
   pub end : Result Drained AllocError
   pub is : result ≡ read.settled end
-  pub quiet : end ≡ Ok drained.Quiet → LooksQuiet s.caller t.caller
+  pub ends : EndsLooking s.cluster.looks s.caller end t.caller
   pub on : AllZip HasGoneOn s.caller t.caller
   pub cluster : t.cluster ≡ s.cluster
 

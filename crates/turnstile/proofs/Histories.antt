@@ -16,6 +16,11 @@ module _ {S O R : Type 0} (reply : S → O → R) (after : S → O → S) where
   legal_snoc s [] e legal right = (right, tt)
   legal_snoc s (x ∷ xs) e legal right = (legal.0, legal_snoc (after s x.op) xs e legal.1 right)
 
+  -- the last call got the reply that it gets there
+  pub legal_last : (s : S) (log : List (Entry O R)) (e : Entry O R) → IsLegal reply after s (log ++ e ∷ []) → e.reply ≡ reply (replay reply after s log) e.op
+  legal_last s [] e legal = legal.0
+  legal_last s (x ∷ xs) e legal = legal_last (after s x.op) xs e legal.1
+
 module _ {O R : Type 0} where
   pub foreign-append : (numbers : List ℕ) (xs ys : List (Entry O R)) → Foreign numbers xs → Foreign numbers ys → Foreign numbers (xs ++ ys)
   foreign-append numbers [] ys f g = g

@@ -1,7 +1,10 @@
-use Rattle.std.proofs.Common.{arith, refl, rules}
+use Rattle.std.proofs.Common.{◌<◌, arith, length, refl, rules, set}
 use Rattle.std.proofs.lemmas.Grind.{common_steps}
 use Rattle.silo_crew.proofs.Going.{goes-length}
-use Rattle.cluster_operator.proofs.Changing.{since-all, since-more, since-none, since-on}
+use Rattle.cluster_operator.specs.declared.halt.Halt.{Halt}
+use Rattle.cluster_operator.specs.Changes.{HasFoundOne}
+use Rattle.cluster_operator.proofs.Making.{passed-on}
+use Rattle.cluster_operator.proofs.Changing.{found-at, since-all, since-more, since-none, since-on}
 use Rattle.cluster_operator.proofs.leaving.deactivate_everywhere.Goals as goal
 
 pub loop-queue-init : goal.loop-queue-init
@@ -29,3 +32,12 @@ returns-clause-done g c =
     let len = c.len-queue-end.ensures in
     λ queue was is had has.
     since-all _ _ c.args.lines.now.items c.loop-queue.lines.items c.loop-queue.queue (first_of (omega (arith, past, len), search rules, grind (arith, common_steps))) c.loop-queue.invariant queue was is had has tt
+
+pub returns-in_err-deactivate-clause-found : goal.returns-in_err-deactivate-clause-found
+returns-in_err-deactivate-clause-found g c =
+    let below = c.loop-queue-test.true in
+    let len = c.len-queue-end.ensures in
+    let long = goes-length _ _ c.loop-queue.invariant.on in
+    let within : c.loop-queue.queue < length c.loop-queue.lines.items = omega (arith, below, len, long) in
+    passed-on (λ (why : Halt). HasFoundOne why (set c.loop-queue.lines.items c.loop-queue.queue c.deactivate.new.line)) c.from_residual.result c.in_err-deactivate.field-0.0 c.from_residual.ensures.1
+    (found-at c.in_err-deactivate.field-0.0 c.loop-queue.lines.items (set c.loop-queue.lines.items c.loop-queue.queue c.deactivate.new.line) c.loop-queue.queue c.deactivate.new.line within refl c.in_err-deactivate.ensures.found)

@@ -1,12 +1,14 @@
-use Rattle.std.proofs.Common.{Ok, subst}
+use Rattle.std.proofs.Common.{Ok, inr, subst}
 use Rattle.silo_crew.proofs.Going.{goes-refl, goes-trans, on-refl, on-trans}
-use Rattle.cluster_operator.specs.Changes.{Releases}
+use Rattle.cluster_operator.specs.declared.halt.Halt.{Halt}
+use Rattle.cluster_operator.specs.Changes.{HoldsGrains, Releases}
 use Rattle.cluster_operator.specs.declared.leaving.Release.{Release}
-use Rattle.cluster_operator.proofs.Changing.{all-gone, none-gone, one-gone, released-on}
+use Rattle.cluster_operator.proofs.Making.{passed-on}
+use Rattle.cluster_operator.proofs.Changing.{all-gone, holds-refused, none-gone, none-none, none-released, one-gone, released-on}
 use Rattle.cluster_operator.proofs.leaving.evict.Goals as goal
 
 pub loop-init : goal.loop-init
-loop-init g c = record { on = goes-refl c.args.lines.now.items; directory = on-refl c.args.directory.now; deactivated = none-gone c.args.silo c.args.directory.now c.args.lines.now.items }
+loop-init g c = record { on = goes-refl c.args.lines.now.items; directory = on-refl c.args.directory.now; deactivated = none-gone c.args.silo c.args.directory.now c.args.lines.now.items; none = none-none c.args.silo c.args.directory.now }
 
 pub loop-preserved : goal.loop-preserved
 loop-preserved g c =
@@ -21,6 +23,7 @@ loop-preserved g c =
       deactivated =
           one-gone c.args.silo c.args.directory.now e f c.args.lines.now.items c.loop.lines.items c.deactivate_everywhere.new.lines.items c.in-Grain.grain c.loop.invariant.directory taken on lines
           c.in_ok-deactivate_everywhere-in-Grain.ensures.done c.loop.invariant.deactivated;
+      none = none-released c.args.silo c.args.directory.now e f c.in-Grain.grain c.loop.invariant.directory taken c.loop.invariant.none;
     }
 
 pub returns-in_err-deactivate_everywhere-in-Grain-clause-on : goal.returns-in_err-deactivate_everywhere-in-Grain-clause-on
@@ -45,3 +48,20 @@ returns-in-NoneLeft-clause-none_left g c =
     let taken = subst (λ (r : Release). Releases c.args.silo e (Ok r) f) c.in-NoneLeft.is c.in_ok-grain.ensures in
     let gone = all-gone c.args.silo c.args.directory.now e f c.args.lines.now.items c.loop.lines.items c.loop.invariant.directory taken c.loop.invariant.deactivated in
     gone.1
+
+pub returns-in_err-grain-clause-holds : goal.returns-in_err-grain-clause-holds
+returns-in_err-grain-clause-holds g c =
+    let d = c.args.directory.now in
+    let f = c.take_grain.new.directory in
+    passed-on (λ (why : Halt). HoldsGrains why c.args.silo d f c.loop.lines.items) c.from_residual.result c.in_err-grain.field-0.0 c.from_residual.ensures.1
+    (holds-refused c.in_err-grain.field-0.0 c.args.silo d c.loop.directory f c.loop.lines.items c.loop.invariant.directory c.in_err-grain.ensures c.loop.invariant.none)
+
+pub returns-in_err-deactivate_everywhere-in-Grain-clause-holds : goal.returns-in_err-deactivate_everywhere-in-Grain-clause-holds
+returns-in_err-deactivate_everywhere-in-Grain-clause-holds g c =
+    let d = c.args.directory.now in
+    let e = c.loop.directory in
+    let f = c.take_grain.new.directory in
+    let lines = c.deactivate_everywhere.new.lines.items in
+    let taken = subst (λ (r : Release). Releases c.args.silo e (Ok r) f) c.in-Grain.is c.in_ok-grain.ensures in
+    passed-on (λ (why : Halt). HoldsGrains why c.args.silo d f lines) c.from_residual-in_err-deactivate_everywhere-in-Grain.result c.in_err-deactivate_everywhere-in-Grain.field-0.0 c.from_residual-in_err-deactivate_everywhere-in-Grain.ensures.1
+    (none-released c.args.silo d e f c.in-Grain.grain c.loop.invariant.directory taken c.loop.invariant.none, inr c.in_err-deactivate_everywhere-in-Grain.ensures.found)

@@ -1,7 +1,10 @@
-use Rattle.std.proofs.Common.{arith, refl, rules}
+use Rattle.std.proofs.Common.{◌<◌, arith, length, refl, rules, set}
 use Rattle.std.proofs.lemmas.Grind.{common_steps}
 use Rattle.silo_crew.proofs.Going.{goes-length}
-use Rattle.cluster_operator.proofs.Changing.{since-all, since-more, since-none, since-on}
+use Rattle.cluster_operator.specs.declared.halt.Halt.{Halt}
+use Rattle.cluster_operator.specs.Changes.{StaysBehind}
+use Rattle.cluster_operator.proofs.Changing.{behind-at, since-all, since-more, since-next, since-none, since-on}
+use Rattle.cluster_operator.proofs.Making.{passed-on}
 use Rattle.cluster_operator.proofs.moving.spread.Goals as goal
 
 pub loop-queue-init : goal.loop-queue-init
@@ -34,3 +37,17 @@ returns-clause-moved g c =
     let past = c.loop-queue-test.false in
     let len = c.len-queue-end.ensures in
     since-all _ _ c.args.lines.now.items c.loop-queue.lines.items c.loop-queue.queue (first_of (omega (arith, past, len), search rules, grind (arith, common_steps))) c.loop-queue.invariant
+
+pub returns-in_err-move_queue-clause-behind : goal.returns-in_err-move_queue-clause-behind
+returns-in_err-move_queue-clause-behind g c =
+    let below = c.loop-queue-test.true in
+    let len = c.len-queue-end.ensures in
+    let long = goes-length _ _ c.loop-queue.invariant.on in
+    let within : c.loop-queue.queue < length c.loop-queue.lines.items = omega (arith, below, len, long) in
+    let why = c.in_err-move_queue.field-0.0 in
+    let lines = c.loop-queue.lines.items in
+    let line = c.index_mut-line.result.now in
+    let fresh = set lines c.loop-queue.queue c.move_queue.new.line in
+    passed-on (λ (h : Halt). StaysBehind h c.args.lines.now.items fresh c.args.old.now c.args.new.now) c.from_residual.result why c.from_residual.ensures.1
+    (behind-at why c.args.lines.now.items lines fresh c.args.old.now c.args.new.now c.loop-queue.queue line c.move_queue.new.line within
+    (since-next _ _ c.args.lines.now.items lines c.loop-queue.queue line within c.index_mut-line.ensures.value c.loop-queue.invariant) refl c.in_err-move_queue.ensures.unmoved.0 c.in_err-move_queue.ensures.unmoved.1)

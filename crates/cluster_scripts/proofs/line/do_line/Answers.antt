@@ -3,10 +3,13 @@ use Rattle.cluster_ending.proofs.Rows.{zip-refl}
 use Rattle.stream_cluster.proofs.Standing.{op-refl}
 use Rattle.script_parser.specs.declared.command.Command.{Command}
 use Rattle.script_parser.specs.declared.command.Command.TheVariants as command
+use Rattle.script_parser.specs.Forms.{op_of}
 use Rattle.script_producer.specs.Telling.{HasGoneOn}
 use Rattle.script_producer.proofs.Seen.{gone-refl}
-use Rattle.cluster_scripts.specs.Lines.{DoesLine}
-use Rattle.cluster_scripts.proofs.Doing.{asked-line, changed-line}
+use Rattle.cluster_operator.proofs.Making.{passed-on}
+use Rattle.cluster_scripts.specs.declared.line.Stop.{Stop}
+use Rattle.cluster_scripts.specs.Lines.{DoesLine, StopsBy}
+use Rattle.cluster_scripts.proofs.Doing.{asked-line, asked-stops, changed-line, changed-stops, each-last, once-last, unquiet-stops}
 use Rattle.cluster_scripts.proofs.line.do_line.Goals as goal
 
 pub returns-in_err-wait_until_quiet-in-Drain-clause-cluster : goal.returns-in_err-wait_until_quiet-in-Drain-clause-cluster
@@ -18,7 +21,7 @@ returns-in_ok-wait_until_quiet-in-Drain-clause-cluster g c = op-refl _
 pub returns-in-Step-clause-line : goal.returns-in-Step-clause-line
 returns-in-Step-clause-line g c =
     subst (λ (said : Command). IfOk c.unless_limit.result (λ told. DoesLine c.args.cluster.now c.args.caller.now said told c.args.cluster.now c.ask.new.caller)) (sym c.in-Step.is)
-    (asked-line c.args.cluster.now c.args.caller.now c.ask.new.caller (command.Step c.in-Step.queue c.in-Step.op) c.ask.result c.unless_limit.result (λ live. refl) c.ask.ensures.told c.unless_limit.ensures)
+    (asked-line c.args.cluster.now c.args.caller.now c.ask.new.caller (command.Step c.in-Step.queue c.in-Step.op) c.ask.result c.unless_limit.result (λ live. refl) c.ask.ensures.told c.unless_limit.ensures.answered)
 
 pub returns-in-Step-clause-cluster : goal.returns-in-Step-clause-cluster
 returns-in-Step-clause-cluster g c = op-refl _
@@ -26,7 +29,7 @@ returns-in-Step-clause-cluster g c = op-refl _
 pub returns-in-Each-clause-line : goal.returns-in-Each-clause-line
 returns-in-Each-clause-line g c =
     subst (λ (said : Command). IfOk c.unless_limit-in-Each.result (λ told. DoesLine c.args.cluster.now c.args.caller.now said told c.args.cluster.now c.ask_each.new.caller)) (sym c.in-Each.is)
-    (asked-line c.args.cluster.now c.args.caller.now c.ask_each.new.caller (command.Each c.in-Each.each) c.ask_each.result c.unless_limit-in-Each.result (λ live. refl) c.ask_each.ensures.told c.unless_limit-in-Each.ensures)
+    (asked-line c.args.cluster.now c.args.caller.now c.ask_each.new.caller (command.Each c.in-Each.each) c.ask_each.result c.unless_limit-in-Each.result (λ live. refl) c.ask_each.ensures.told c.unless_limit-in-Each.ensures.answered)
 
 pub returns-in-Each-clause-cluster : goal.returns-in-Each-clause-cluster
 returns-in-Each-clause-cluster g c = op-refl _
@@ -46,3 +49,26 @@ returns-in-Down-clause-line g c =
 
 pub returns-in-Down-clause-on : goal.returns-in-Down-clause-on
 returns-in-Down-clause-on g c = zip-refl HasGoneOn gone-refl _
+
+pub returns-in_err-wait_until_quiet-in-Drain-clause-stops : goal.returns-in_err-wait_until_quiet-in-Drain-clause-stops
+returns-in_err-wait_until_quiet-in-Drain-clause-stops g c = λ free.
+    let v = c.args.cluster.now in
+    let why = c.in_err-wait_until_quiet-in-Drain.field-0.0 in
+    passed-on (λ (h : Stop). StopsBy h v c.args.caller.now v c.wait_until_quiet.new.caller) c.from_residual.result why c.from_residual.ensures.1
+    (unquiet-stops why v v c.looks.result c.args.caller.now c.wait_until_quiet.new.caller c.looks.ensures c.in_err-wait_until_quiet-in-Drain.ensures.unquiet)
+
+pub returns-in-Step-clause-stops : goal.returns-in-Step-clause-stops
+returns-in-Step-clause-stops g c = λ free.
+    asked-stops c.args.cluster.now c.args.caller.now c.ask.new.caller c.in-Step.op c.ask.result c.unless_limit.result
+    (once-last c.args.caller.now c.in-Step.queue c.in-Step.op c.ask.result c.ask.new.caller c.ask.ensures.asks) c.unless_limit.ensures.stops
+
+pub returns-in-Each-clause-stops : goal.returns-in-Each-clause-stops
+returns-in-Each-clause-stops g c = λ free.
+    asked-stops c.args.cluster.now c.args.caller.now c.ask_each.new.caller (op_of c.in-Each.each) c.ask_each.result c.unless_limit-in-Each.result
+    (each-last c.args.caller.now (op_of c.in-Each.each) c.ask_each.result c.ask_each.new.caller c.ask_each.ensures.ends) c.unless_limit-in-Each.ensures.stops
+
+pub returns-in-Up-clause-stops : goal.returns-in-Up-clause-stops
+returns-in-Up-clause-stops g c = λ free. changed-stops c.args.cluster.now c.up.new.cluster c.args.caller.now c.up.result (c.up.ensures.stops free)
+
+pub returns-in-Down-clause-stops : goal.returns-in-Down-clause-stops
+returns-in-Down-clause-stops g c = λ free. changed-stops c.args.cluster.now c.down.new.cluster c.args.caller.now c.down.result (c.down.ensures.stops free)

@@ -1,6 +1,6 @@
 use Rattle.std.proofs.Common.{◌∙◌, Ok, ap}
 use Rattle.stream_cluster.specs.declared.cluster.SiloDown.{SiloDown}
-use Rattle.cluster_scripts.proofs.Changing.{down-on, was-away, was-last, went-down}
+use Rattle.cluster_scripts.proofs.Changing.{down-on, down-stops, was-away, was-last, went-down}
 use Rattle.cluster_scripts.proofs.line.down.Goals as goal
 
 pub returns-in-Ok-Down-clause-changes : goal.returns-in-Ok-Down-clause-changes
@@ -23,3 +23,16 @@ returns-in-Ok-LastSilo-clause-cluster g c = down-on c.args.cluster.now c.silo_do
 
 pub returns-in-Ok-Limit-clause-cluster : goal.returns-in-Ok-Limit-clause-cluster
 returns-in-Ok-Limit-clause-cluster g c = down-on c.args.cluster.now c.silo_down.new.self c.args.silo c.silo_down.result c.silo_down.ensures
+
+pub returns-in-Ok-Limit-clause-stops : goal.returns-in-Ok-Limit-clause-stops
+returns-in-Ok-Limit-clause-stops g c = λ free. (
+  λ same. absurd (cc (same)),
+  λ _. (down-stops c.args.cluster.now c.silo_down.new.self c.args.silo c.silo_down.result c.silo_down.ensures free).1 (c.in-Ok-Limit.is ∙ ap (λ (u : SiloDown). Ok u) c.in-Ok-Limit.field-0-is),
+)
+
+pub returns-in-Ok-Halted-clause-stops : goal.returns-in-Ok-Halted-clause-stops
+returns-in-Ok-Halted-clause-stops g c = λ free.
+    absurd ((down-stops c.args.cluster.now c.silo_down.new.self c.args.silo c.silo_down.result c.silo_down.ensures free).0 (c.in-Ok-Halted.is ∙ ap (λ (u : SiloDown). Ok u) c.in-Ok-Halted.field-0-is))
+
+pub returns-in-Ok-Halted-clause-cluster : goal.returns-in-Ok-Halted-clause-cluster
+returns-in-Ok-Halted-clause-cluster g c = down-on c.args.cluster.now c.silo_down.new.self c.args.silo c.silo_down.result c.silo_down.ensures

@@ -1,6 +1,6 @@
 use Rattle.std.proofs.Common.{◌∙◌, Ok, ap}
 use Rattle.stream_cluster.specs.declared.cluster.SiloUp.{SiloUp}
-use Rattle.cluster_scripts.proofs.Changing.{came-up, up-on, was-there}
+use Rattle.cluster_scripts.proofs.Changing.{came-up, up-on, up-stops, was-there}
 use Rattle.cluster_scripts.proofs.line.up.Goals as goal
 
 pub returns-in-Ok-Up-clause-changes : goal.returns-in-Ok-Up-clause-changes
@@ -16,3 +16,16 @@ returns-in-Ok-Already-clause-cluster g c = up-on c.args.cluster.now c.silo_up.ne
 
 pub returns-in-Ok-Limit-clause-cluster : goal.returns-in-Ok-Limit-clause-cluster
 returns-in-Ok-Limit-clause-cluster g c = up-on c.args.cluster.now c.silo_up.new.self c.args.silo c.silo_up.result c.silo_up.ensures
+
+pub returns-in-Ok-Limit-clause-stops : goal.returns-in-Ok-Limit-clause-stops
+returns-in-Ok-Limit-clause-stops g c = λ free. (
+  λ same. absurd (cc (same)),
+  λ _. (up-stops c.args.cluster.now c.silo_up.new.self c.args.silo c.silo_up.result c.silo_up.ensures free).1 (c.in-Ok-Limit.is ∙ ap (λ (u : SiloUp). Ok u) c.in-Ok-Limit.field-0-is),
+)
+
+pub returns-in-Ok-Halted-clause-stops : goal.returns-in-Ok-Halted-clause-stops
+returns-in-Ok-Halted-clause-stops g c = λ free.
+    absurd ((up-stops c.args.cluster.now c.silo_up.new.self c.args.silo c.silo_up.result c.silo_up.ensures free).0 (c.in-Ok-Halted.is ∙ ap (λ (u : SiloUp). Ok u) c.in-Ok-Halted.field-0-is))
+
+pub returns-in-Ok-Halted-clause-cluster : goal.returns-in-Ok-Halted-clause-cluster
+returns-in-Ok-Halted-clause-cluster g c = up-on c.args.cluster.now c.silo_up.new.self c.args.silo c.silo_up.result c.silo_up.ensures

@@ -43,3 +43,21 @@ returns-clause-legal g c =
     let fin = subst (λ (callers : List (List QueuePass)). HasFinished g.H.StoredHistory.entries w callers c.in_ok-finished.field-0) all c.in_ok-finished.ensures in
     subst (λ ran. LeavesLegalTraces g.H.StoredHistory.entries c.args.config.now ran.end) (sym c.conclude.ensures)
     (run-legal g.H.StoredHistory.entries c.args.config.now c.in_ok-cluster.cluster w c.in_ok-cluster.caller now c.in_ok-finished.field-0 c.in_ok-script.field-0.end c.in_ok-cluster.ensures c.run_script-script.ensures.cluster.lines fin)
+
+pub returns-clause-ends : goal.returns-clause-ends
+returns-clause-ends g c =
+    let now = c.run_script-script.new.caller in
+    let w = c.run_script-script.new.cluster in
+    let all = c.push_reserved.ensures.items ∙ ap (λ (before : List (List QueuePass)). before ++ now ∷ []) c.in_ok-callers.ensures.items in
+    record {
+      cluster = c.in_ok-cluster.cluster;
+      caller = c.in_ok-cluster.caller;
+      is_new = c.in_ok-cluster.ensures;
+      script = c.in_ok-script.field-0;
+      later = w;
+      now = now;
+      does = c.in_ok-script.ensures.script;
+      finished = c.in_ok-finished.field-0;
+      ends = subst (λ (callers : List (List QueuePass)). HasFinished g.H.StoredHistory.entries w callers c.in_ok-finished.field-0) all c.in_ok-finished.ensures;
+      tells = c.conclude.ensures;
+    }

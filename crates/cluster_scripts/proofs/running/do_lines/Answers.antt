@@ -1,10 +1,15 @@
 use Rattle.std.proofs.Common.{◌∙◌, List, [], arith, refl, rules, subst, sym}
+use Rattle.std.proofs.lemmas.Result.{IfErr-weaker}
 use Rattle.std.proofs.lemmas.Grind.{common_steps}
 use Rattle.std.proofs.lemmas.Iterator.Adapters.{YieldsList-from_vec}
 use Rattle.std.proofs.lemmas.Iterator.Consumers.{YieldsList-end, YieldsList-turn}
 use Rattle.cluster_operator.proofs.Changing.{op-trans}
+use Rattle.cluster_operator.proofs.Making.{passed-on}
+use Rattle.cluster_scripts.specs.declared.line.Stop.{Stop}
+use Rattle.cluster_scripts.specs.Lines.{IsUnquiet, StopsBy}
 use Rattle.script_reader.specs.declared.script_line.ScriptLine.{ScriptLine}
-use Rattle.cluster_scripts.proofs.Progress.{Progress, begins, does, done-all, map-same, on-all, on-err, on-ok, stopped}
+use Rattle.cluster_scripts.proofs.Progress.{Progress, begins, does, done-all, map-same, on-all, on-err, on-ok, stopped, stops-later}
+use Rattle.cluster_scripts.proofs.Doing.{unquiet-stops}
 use Rattle.cluster_scripts.proofs.running.do_lines.Goals as goal
 
 pub loop-line-init : goal.loop-line-init
@@ -54,7 +59,28 @@ returns g c =
     record {
       all = on-ok c.wait_until_quiet.result (λ quiet. done-all _ _ _ c.loop-line.yielded c.loop-line.printed.items c.loop-line.cluster c.loop-line.caller c.wait_until_quiet.new.caller far whole waits.on waits.told quiet) waits.quiet;
       front = on-err c.wait_until_quiet.result (stopped _ _ _ c.loop-line.yielded c.loop-line.printed.items c.loop-line.printed.items c.loop-line.cluster c.loop-line.caller c.wait_until_quiet.new.caller far refl waits.on);
+      stops =
+          IfErr-weaker c.wait_until_quiet.result (λ (h : Stop). IsUnquiet h c.looks.result c.loop-line.caller c.wait_until_quiet.new.caller) (λ (h : Stop). StopsBy h c.args.cluster.now c.args.caller.now c.loop-line.cluster c.wait_until_quiet.new.caller)
+          (λ h unquiet.
+          stops-later h c.args.lines.items c.args.cluster.now c.args.caller.now c.loop-line.yielded c.loop-line.printed.items c.loop-line.cluster c.loop-line.caller c.loop-line.cluster c.wait_until_quiet.new.caller c.requires.free far
+          (unquiet-stops h c.loop-line.cluster c.loop-line.cluster c.looks.result c.loop-line.caller c.wait_until_quiet.new.caller c.looks.ensures unquiet))
+          waits.unquiet;
       on = on-all _ _ _ far.on waits.on;
       turnstiles = waits.turnstiles ∙ far.at;
       cluster = far.cluster;
     }
+
+pub returns-in_err-answer-clause-stops : goal.returns-in_err-answer-clause-stops
+returns-in_err-answer-clause-stops g c =
+    let far = c.loop-line.invariant.progress in
+    let v = c.args.cluster.now in
+    let w = c.loop-line.cluster in
+    let why = c.in_err-answer.field-0.0 in
+    passed-on (λ (h : Stop). StopsBy h v c.args.caller.now c.do_line.new.cluster c.do_line.new.caller) c.from_residual.result why c.from_residual.ensures.1
+    (stops-later why c.args.lines.items v c.args.caller.now c.loop-line.yielded c.loop-line.printed.items w c.loop-line.caller c.do_line.new.cluster c.do_line.new.caller c.requires.free far (c.in_err-answer.ensures.stops (far.stays c.requires.free).0))
+
+pub returns-in_err-note-clause-stops : goal.returns-in_err-note-clause-stops
+returns-in_err-note-clause-stops g c =
+    let v = c.args.cluster.now in
+    passed-on (λ (h : Stop). StopsBy h v c.args.caller.now c.do_line.new.cluster c.do_line.new.caller) c.from_residual-in_err-note.result c.in_err-note.field-0.0 c.from_residual-in_err-note.ensures.1
+    (subst (λ (h : Stop). StopsBy h v c.args.caller.now c.do_line.new.cluster c.do_line.new.caller) (sym c.in_err-note.ensures.memory) tt)

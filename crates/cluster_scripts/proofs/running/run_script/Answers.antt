@@ -1,11 +1,33 @@
+use Rattle.std.proofs.Common.{◌≡◌, ◌∙◌, false, subst, sym}
 use Rattle.cluster_ending.proofs.Rows.{zip-refl}
 use Rattle.stream_cluster.proofs.Standing.{op-refl}
 use Rattle.script_producer.specs.Telling.{HasGoneOn}
 use Rattle.script_producer.proofs.Seen.{gone-refl}
+use Rattle.stream_cluster.specs.Clusters.{is_fixed}
+use Rattle.cluster_scripts.specs.declared.line.Stop.{Stop}
+use Rattle.cluster_scripts.specs.declared.running.ScriptEnd.{ScriptEnd}
+use Rattle.cluster_scripts.specs.Lines.{StopsBy}
+use Rattle.cluster_scripts.specs.Runs.{EndsScript}
 use Rattle.cluster_scripts.proofs.running.run_script.Goals as goal
+use Rattle.cluster_scripts.proofs.running.run_script.Goals.{in-Err-Limit, in-Err-NotQuiet, in-Ok}
 
 pub returns-then-is_fixed-clause-on : goal.returns-then-is_fixed-clause-on
 returns-then-is_fixed-clause-on g c = zip-refl HasGoneOn gone-refl _
 
 pub returns-then-is_fixed-clause-cluster : goal.returns-then-is_fixed-clause-cluster
 returns-then-is_fixed-clause-cluster g c = op-refl _
+
+pub returns-clause-script : goal.returns-clause-script
+returns-clause-script g c =
+    let v = c.args.cluster.now in
+    let old = c.args.caller.now in
+    let w = c.do_lines.new.cluster in
+    let new = c.do_lines.new.caller in
+    let found = c.do_lines.new.printed.items in
+    let ends = λ (how : ScriptEnd). EndsScript how c.args.lines.items v old found w new in
+    let free : is_fixed v ≡ false = sym c.is_fixed.ensures ∙ c.if-is_fixed.false in
+    elim c.match-do_lines.branch as (λ s. EndsScript c.match-do_lines.end c.args.lines.items v old found w new) [
+      | in-Ok b ↦ subst ends (sym b.end-is) (free, b.in-Ok.ensures.all)
+      | in-Err-Limit b ↦ subst ends (sym b.end-is) (free, b.in-Err-Limit.ensures.front, subst (λ (why : Stop). StopsBy why v old w new) b.in-Err-Limit.field-0-is b.in-Err-Limit.ensures.stops)
+      | in-Err-NotQuiet b ↦ subst ends (sym b.end-is) (free, b.in-Err-NotQuiet.ensures.front, subst (λ (why : Stop). StopsBy why v old w new) b.in-Err-NotQuiet.field-0-is b.in-Err-NotQuiet.ensures.stops)
+    ]

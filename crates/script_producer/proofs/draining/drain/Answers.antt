@@ -1,20 +1,23 @@
-use Rattle.std.proofs.Common.{◌∙◌, Ok, refl, subst}
+use Rattle.std.proofs.Common.{◌+◌, ◌∙◌, Err, Ok, arith, inl, refl, subst}
+use Rattle.turnstile.specs.declared.turnstile.Refusal.{Refusal}
+use Rattle.turnstile.specs.declared.turnstile.Refusal.TheVariants.{HistoryFull, Memory}
 use Rattle.cluster_ending.specs.declared.asking.Quiet.{Quiet}
+use Rattle.cluster_ending.specs.declared.asking.Quiet.TheVariants.{All}
 use Rattle.cluster_ending.specs.Asking.{AsksQuiet}
 use Rattle.cluster_ending.proofs.Rows.{zip-refl}
-use Rattle.script_producer.proofs.Looked.{drain-tells, looks-none, none-on, quiet-look}
+use Rattle.script_producer.proofs.Looked.{drain-tells, last-look, looks-none, none-on, vain-look, vain-looks}
 use Rattle.script_producer.proofs.Seen.{ProducesNone, none-refl}
 use Rattle.script_producer.proofs.draining.drain.Goals as goal
 
 pub loop-look-init : goal.loop-look-init
-loop-look-init g c = record { none = zip-refl ProducesNone none-refl c.args.caller.now; at = refl }
+loop-look-init g c = record { none = zip-refl ProducesNone none-refl c.args.caller.now; at = refl; last = inl (refl, refl) }
 
 pub returns-in-Ok-All-clause-told : goal.returns-in-Ok-All-clause-told
 returns-in-Ok-All-clause-told g c = drain-tells c.args.caller.now c.ask_quiet.new.caller (looks-none c.args.caller.now c.loop-look.caller c.ask_quiet.new.caller c.ask_quiet.result c.loop-look.invariant.none c.ask_quiet.ensures.asks)
 
-pub returns-in-Ok-All-clause-quiet : goal.returns-in-Ok-All-clause-quiet
-returns-in-Ok-All-clause-quiet g c = λ _.
-    quiet-look c.args.caller.now c.loop-look.caller c.ask_quiet.new.caller c.loop-look.invariant.none
+pub returns-in-Ok-All-clause-ends : goal.returns-in-Ok-All-clause-ends
+returns-in-Ok-All-clause-ends g c =
+    last-look (Ok All) c.args.caller.now c.loop-look.caller c.ask_quiet.new.caller c.loop-look.invariant.none
     (subst (λ (end : Quiet). AsksQuiet c.loop-look.caller (Ok end) c.ask_quiet.new.caller) c.in-Ok-All.field-0-is c.in-Ok-All.ensures.asks)
 
 pub returns-in-Ok-All-clause-on : goal.returns-in-Ok-All-clause-on
@@ -43,6 +46,7 @@ loop-look-preserved g c =
     record {
       none = looks-none c.args.caller.now c.loop-look.caller c.ask_quiet.new.caller c.ask_quiet.result c.loop-look.invariant.none c.ask_quiet.ensures.asks;
       at = c.ask_quiet.ensures.turnstiles ∙ c.loop-look.invariant.at;
+      last = vain-look (c.loop-look.look + 1) c.in-Ok-NotQuiet.field-0-0 c.in-Ok-NotQuiet.field-0-1 c.in-Ok-NotQuiet.field-0 c.args.caller.now c.loop-look.caller c.ask_quiet.new.caller c.in-Ok-NotQuiet.field-0-is c.loop-look.invariant.none c.in-Ok-NotQuiet.ensures.asks;
     }
 
 pub returns-clause-told : goal.returns-clause-told
@@ -50,3 +54,22 @@ returns-clause-told g c = drain-tells c.args.caller.now c.loop-look.caller c.loo
 
 pub returns-clause-on : goal.returns-clause-on
 returns-clause-on g c = none-on c.args.caller.now c.loop-look.caller c.loop-look.invariant.none
+
+pub returns-in-Err-HistoryFull-clause-ends : goal.returns-in-Err-HistoryFull-clause-ends
+returns-in-Err-HistoryFull-clause-ends g c =
+    last-look (Err HistoryFull) c.args.caller.now c.loop-look.caller c.ask_quiet.new.caller c.loop-look.invariant.none
+    (subst (λ (e : Refusal). AsksQuiet c.loop-look.caller (Err e) c.ask_quiet.new.caller) c.in-Err-HistoryFull.field-0-is c.in-Err-HistoryFull.ensures.asks)
+
+pub returns-in-Err-Memory-clause-ends : goal.returns-in-Err-Memory-clause-ends
+returns-in-Err-Memory-clause-ends g c =
+    last-look (Err Memory) c.args.caller.now c.loop-look.caller c.ask_quiet.new.caller c.loop-look.invariant.none
+    (subst (λ (e : Refusal). AsksQuiet c.loop-look.caller (Err e) c.ask_quiet.new.caller) c.in-Err-Memory.field-0-is c.in-Err-Memory.ensures.asks)
+
+pub returns-then-has_ended-clause-ends : goal.returns-then-has_ended-clause-ends
+returns-then-has_ended-clause-ends g c =
+    vain-look c.args.looks c.in-Ok-NotQuiet.field-0-0 c.in-Ok-NotQuiet.field-0-1 c.in-Ok-NotQuiet.field-0 c.args.caller.now c.loop-look.caller c.ask_quiet.new.caller c.in-Ok-NotQuiet.field-0-is c.loop-look.invariant.none c.in-Ok-NotQuiet.ensures.asks
+
+pub returns-clause-ends : goal.returns-clause-ends
+returns-clause-ends g c =
+    let past = c.loop-look-test.false in
+    vain-looks c.loop-look.look c.args.looks c.args.caller.now c.loop-look.caller (λ first. omega (arith, past, first)) c.loop-look.invariant.last

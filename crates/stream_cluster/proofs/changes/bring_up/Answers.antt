@@ -1,11 +1,13 @@
 use Rattle.std.proofs.Common.{List, ap, subst, sym, ◌∙◌, ◌++◌, ◌∷◌, [], ◌≡◌}
-use Rattle.std.proofs.lemmas.Result.{on_ok_weaker}
+use Rattle.std.proofs.lemmas.Result.{IfErr-weaker, on_err_weaker, on_ok_weaker}
 use Rattle.silo_crew.specs.Silos.{IsSiloAt, SiloView}
-use Rattle.cluster_operator.specs.Operators.{HasSpread, OperatorView}
-use Rattle.stream_cluster.specs.Clusters.{RunsOn}
+use Rattle.cluster_operator.specs.declared.halt.Halt.{Halt}
+use Rattle.cluster_operator.specs.declared.halt.Halt.TheVariants as halt
+use Rattle.cluster_operator.specs.Operators.{HasSpread, IsUnspread, OperatorView}
+use Rattle.stream_cluster.specs.Clusters.{HasMetLimit, RunsOn}
 use Rattle.stream_ident.proofs.EachOf.{All-push}
 use Rattle.cluster_operator.proofs.Changing.{op-trans}
-use Rattle.stream_cluster.proofs.Standing.{op-refl, op-same, sits-on, spread-from}
+use Rattle.stream_cluster.proofs.Standing.{came-some, op-refl, op-same, sits-on, spread-from, spread-met}
 use Rattle.stream_cluster.proofs.changes.bring_up.Goals as goal
 
 pub returns-in_err-reserve-clause-on : goal.returns-in_err-reserve-clause-on
@@ -53,3 +55,19 @@ returns-clause-spread g c =
     spread-from c.args.operator.now c.enlist.new.self c.spread.new.self (op-trans c.args.operator.now c.start_silo.new.operator c.enlist.new.self c.start_silo.ensures.only.on same) c.spread.ensures.on
     (ap (λ (o : OperatorView). o.assignment) c.in_ok-enlist.ensures.ok ∙ c.start_silo.ensures.only.assignment) spread)
     c.spread.ensures.spread
+
+pub returns-clause-kept : goal.returns-clause-kept
+returns-clause-kept g c =
+    on_err_weaker c.spread.result (λ kept. kept ∙ ap (λ (o : OperatorView). o.assignment) c.in_ok-enlist.ensures.ok ∙ c.start_silo.ensures.only.assignment) c.spread.ensures.kept
+
+pub returns-clause-limit : goal.returns-clause-limit
+returns-clause-limit g c =
+    let u = c.args.operator.now in
+    let v = c.enlist.new.self in
+    let w = c.spread.new.self in
+    let same = op-same c.start_silo.new.operator v (ap (λ (o : OperatorView). o.lines) c.in_ok-enlist.ensures.ok) (ap (λ (o : OperatorView). o.directory) c.in_ok-enlist.ensures.ok) in
+    let on = op-trans u c.start_silo.new.operator v c.start_silo.ensures.only.on same in
+    let live = ap (λ (o : OperatorView). o.live) c.in_ok-enlist.ensures.ok in
+    IfErr-weaker c.spread.result (λ (why : Halt). IsUnspread why v.assignment v.live v.lines w.lines) (λ (why : Halt). why ≡ halt.Limit → HasMetLimit u w)
+    (λ why unspread is. spread-met u v w on (λ none. came-some c.start_silo.new.operator.live c.args.silo (sym live ∙ none)) why is unspread)
+    c.spread.ensures.unspread

@@ -1,11 +1,14 @@
-use Rattle.std.proofs.Common.{List, OnOk, ℕ, arith, ap, length, subst, ◌∙◌}
+use Rattle.std.proofs.Common.{List, OnOk, ℕ, arith, ap, length, subst, sym, ◌∙◌, ◌<◌, ◌≡◌}
 use Rattle.std.proofs.lemmas.Option.{slice_get_within}
-use Rattle.std.proofs.lemmas.Result.{on_ok_weaker}
+use Rattle.std.proofs.lemmas.Result.{IfErr-weaker, on_ok_weaker}
 use Rattle.silo_crew.specs.Silos.{SiloView}
-use Rattle.cluster_operator.specs.Operators.{HasSpread, OperatorView}
-use Rattle.stream_cluster.specs.Clusters.{HasLeft}
+use Rattle.cluster_operator.specs.declared.halt.Halt.{Halt}
+use Rattle.cluster_operator.specs.declared.halt.Halt.TheVariants as halt
+use Rattle.cluster_operator.specs.Operators.{HasSpread, IsUnspread, OperatorView}
+use Rattle.cluster_operator.proofs.Making.{passed-on}
+use Rattle.stream_cluster.specs.Clusters.{HasLeft, HasMetLimit}
 use Rattle.cluster_operator.proofs.Changing.{op-trans}
-use Rattle.stream_cluster.proofs.Standing.{left-whole, op-same}
+use Rattle.stream_cluster.proofs.Standing.{evict-met, left-some, left-whole, op-same, spread-met}
 use Rattle.stream_cluster.proofs.changes.leave.Goals as goal
 
 pub returns-in_err-evict-clause-on : goal.returns-in_err-evict-clause-on
@@ -31,3 +34,30 @@ returns-clause-left g c =
     left-whole c.loops.inside.silo c.args.place c.args.operator.now c.take_back.new.self c.evict.new.self c.dismiss.new.self c.spread.new.self c.take_back.ensures.only c.take_back.ensures.silent c.evict.ensures.only
     c.in_ok-evict.ensures.deactivated c.in_ok-evict.ensures.none_left c.dismiss.ensures c.spread.ensures.on c.spread.ensures.directory c.spread.ensures.live spread)
     c.spread.ensures.spread)
+
+pub returns-in_err-evict-clause-limit : goal.returns-in_err-evict-clause-limit
+returns-in_err-evict-clause-limit g c =
+    let u = c.args.operator.now in
+    let w = c.evict.new.self in
+    let on = op-trans u c.take_back.new.self w c.take_back.ensures.only.on c.evict.ensures.only.on in
+    passed-on (λ (why : Halt). why ≡ halt.Limit → HasMetLimit u w) c.from_residual.result c.in_err-evict.field-0.0 c.from_residual.ensures.1
+    (λ is. evict-met u w c.loops.inside.silo c.take_back.new.self.directory on c.in_err-evict.field-0.0 is c.in_err-evict.ensures.holds)
+
+pub returns-clause-limit : goal.returns-clause-limit
+returns-clause-limit g c =
+    let u = c.args.operator.now in
+    let v = c.dismiss.new.self in
+    let w = c.spread.new.self in
+    let away = op-trans u c.take_back.new.self c.evict.new.self c.take_back.ensures.only.on c.evict.ensures.only.on in
+    let gone = op-same c.evict.new.self v (ap (λ (o : OperatorView). o.lines) c.dismiss.ensures) (ap (λ (o : OperatorView). o.directory) c.dismiss.ensures) in
+    let on = op-trans u c.evict.new.self v away gone in
+    let same = c.evict.ensures.only.live ∙ c.take_back.ensures.only.live in
+    let long = ap (λ (xs : List ℕ). length xs) same in
+    let stood = slice_get_within u.live c.args.place c.args.loops.silo c.requires.place in
+    let others = c.requires.others in
+    let within : c.args.place < length c.evict.new.self.live = omega (arith, stood, long) in
+    let more : 1 < length c.evict.new.self.live = omega (arith, others, long) in
+    let live = ap (λ (o : OperatorView). o.live) c.dismiss.ensures in
+    IfErr-weaker c.spread.result (λ (why : Halt). IsUnspread why v.assignment v.live v.lines w.lines) (λ (why : Halt). why ≡ halt.Limit → HasMetLimit u w)
+    (λ why unspread is. spread-met u v w on (λ none. left-some c.evict.new.self.live c.args.place within more (sym live ∙ none)) why is unspread)
+    c.spread.ensures.unspread

@@ -7,7 +7,7 @@ invariant_of-self g c =
     let of = c.self.invariant.0 in (
       of-same _ c.self.inside.pass c.call-answer.new.pass c.self.invariant.0 c.call-answer.ensures.pass,
       c.self.invariant.1,
-      kept-refused c.deref.result.now c.self.inside.pass c.call-answer.new.pass c.self.inside.mark c.args.op c.call-answer.result c.self.inside.looked c.self.inside.pulled (search (rules, of)) c.call-answer.ensures.pass c.call-answer.ensures.call c.requires
+      kept-refused c.deref.result.now c.self.inside.pass c.call-answer.new.pass c.self.inside.mark c.args.op c.call-answer.result c.in_default.field-0 c.self.inside.looked c.self.inside.pulled (search (rules, of)) c.call-answer.ensures.pass c.call-answer.ensures.call c.in_default.is c.requires
           c.self.invariant.2,
     )
 

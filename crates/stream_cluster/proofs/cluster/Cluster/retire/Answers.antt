@@ -1,4 +1,5 @@
-use Rattle.std.proofs.Common.{Some, ℕ, ap, length, refl, subst, sym, true, ◌∙◌, ◌≡◌}
+use Rattle.std.proofs.Common.{Some, ℕ, arith, ap, length, refl, subst, sym, true, ◌∙◌, ◌≡◌}
+use Rattle.std.proofs.lemmas.Option.{slice_get_within}
 use Rattle.silo_crew.specs.Silos.{IsSiloAt, SiloView}
 use Rattle.stream_cluster.specs.Clusters.{AnswersRetire, ClusterView, IsRetired}
 use Rattle.stream_cluster.proofs.Standing.{halted-retire, last-stays, may-go, parked-stays, retire-done}
@@ -9,6 +10,13 @@ leave-requires-clause-place g c κs within = c.in-Some.ensures ∙ ap (λ (s : S
 
 pub leave-requires-clause-at : goal.leave-requires-clause-at
 leave-requires-clause-at g c κs within = subst (λ (v : ClusterView). IsSiloAt v.operator.lines v.operator.directory c.args.loops) (sym c.self.view_is) c.requires.at
+
+pub leave-requires-clause-others : goal.leave-requires-clause-others
+leave-requires-clause-others g c κs within =
+    let stood = slice_get_within c.self.inside.operator.live c.in-Some.place c.loops.inside.silo c.in-Some.ensures in
+    let count = c.live_count.ensures in
+    let other = c.if-live_count-eq1.false in
+    omega (arith, stood, count, other)
 
 pub invariant_of-self : goal.invariant_of-self
 invariant_of-self g c =
@@ -42,4 +50,4 @@ returns-in-Err g c =
     let named : c.loops.inside.silo ≡ c.args.loops.silo = ap (λ (s : SiloView). s.silo) c.loops.view_is in
     let may = may-go v c.in-Some.place c.args.loops.silo (c.in-Some.ensures ∙ ap (λ (k : ℕ). Some k) named) (λ one. c.if-live_count-eq1.false (c.live_count.ensures ∙ one)) in
     subst (λ (u : ClusterView). AnswersRetire u c.args.loops c.retired_by.result w) c.self.view_is
-    (halted-retire v w c.args.loops c.in-Err.halt c.retired_by.result c.retired_by.ensures (c.if-self.false, may, record { on = c.leave.ensures.on; same = (refl, refl, refl); halted = refl }, c.note_ends-self-inside.ensures))
+    (halted-retire v w c.args.loops c.in-Err.halt c.retired_by.result c.retired_by.ensures (c.if-self.false, may, record { on = c.leave.ensures.on; assignment = c.in-Err.ensures.kept; same = (refl, refl, refl); halted = refl }, c.note_ends-self-inside.ensures) c.in-Err.ensures.limit)

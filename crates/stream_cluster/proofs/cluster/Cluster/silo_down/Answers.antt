@@ -20,6 +20,13 @@ leave-requires-clause-at g c κs within =
     let here = place-within v.silos v.operator.live c.in-Some.place c.args.silo loops c.in-Some.ensures in
     back-at v.operator v.silos c.in-Some.place c.remove-running.result c.stop-loops.result here c.remove-running.ensures.value c.self.invariant.at c.stop-loops.ensures
 
+pub leave-requires-clause-others : goal.leave-requires-clause-others
+leave-requires-clause-others g c κs within =
+    let stood = slice_get_within c.self.inside.operator.live c.in-Some.place c.args.silo c.in-Some.ensures in
+    let count = c.live_count.ensures in
+    let other = c.if-live_count-eq1.false in
+    omega (arith, stood, count, other)
+
 pub invariant_of-self : goal.invariant_of-self
 invariant_of-self g c =
     let v : ClusterView = record { operator = c.self.inside.operator; silos = c.self.inside.silos.items; ends = c.self.inside.ends; is_parked = c.self.inside.parked; is_halted = c.self.inside.halted; rounds = c.self.inside.rounds; looks = c.self.inside.looks } in
@@ -59,5 +66,5 @@ returns-in-Err g c =
     let other = c.if-live_count-eq1.false in
     let more : 1 < length v.operator.live = omega (arith, stood, count, other) in
     subst (λ (u : ClusterView). AnswersDown u c.args.silo c.down_by.result w) c.self.view_is
-    (halted-down v w c.args.silo c.in-Err.halt c.down_by.result c.down_by.ensures fixed (lives-at v.operator.live c.in-Some.place c.args.silo c.in-Some.ensures, more) (record { on = c.leave.ensures.on; same = (refl, refl, refl); halted = refl })
-    (has-noted v w c.in-Some.place c.remove-running.result c.stop-loops.result here c.remove-running.ensures.value c.stop-loops.ensures c.note_ends-self-inside.ensures))
+    (halted-down v w c.args.silo c.in-Err.halt c.down_by.result c.down_by.ensures fixed (lives-at v.operator.live c.in-Some.place c.args.silo c.in-Some.ensures, more) (record { on = c.leave.ensures.on; assignment = c.in-Err.ensures.kept; same = (refl, refl, refl); halted = refl })
+    (has-noted v w c.in-Some.place c.remove-running.result c.stop-loops.result here c.remove-running.ensures.value c.stop-loops.ensures c.note_ends-self-inside.ensures) c.in-Err.ensures.limit)
