@@ -458,18 +458,38 @@ pub first-memory : {T E : Type 0} (parts : Parts) (d : Delivery) (r : Result T E
     → OnErr r (takes_memory (ToDo parts d).1 ≡ true)
 first-memory parts d r stands next none left = on-error r (ap (λ (told : Answer). takes_memory told.1) (first-done parts d stands next none left))
 
--- a record that no grain knows of is untouched
-untouched-unknown : (parts : Parts) (d : Delivery) → Stands parts d.sub → IsNext parts d → IsUnknown parts.subs.registry.names parts.grains d.sub → is_untouched (Some (record_of parts d.sub)) ≡ true
+-- where nothing is on its way and nothing is handled, nothing is outstanding
+none-outstanding : (parts : Parts) (number : ℕ) → Stands parts number → (state_at parts.subs number).handled ≡ [] → IsUnheld parts.subs.registry.names parts.grains number
+    → is_outstanding (plain_of parts) (table.name_at parts.subs number) (record_of parts number) ≡ false
+none-outstanding parts number stands handled unheld = by (place_of same_grain g parts.grains) refl
+  where
+    g : GrainId
+    g = (record_of parts number).grain
+
+    acknowledged : is_unacknowledged (record_of parts number) ≡ false
+    acknowledged = ap (λ positions. nat_lt (state_at parts.subs number).resume (past positions)) handled ∙ le-ltb (state_at parts.subs number).resume 0 (omega arith)
+
+    by : (at : Option ℕ) → place_of same_grain g parts.grains ≡ at → is_outstanding (plain_of parts) (table.name_at parts.subs number) (record_of parts number) ≡ false
+    by None none = outstanding-nowhere parts number (table.name_at parts.subs number) acknowledged none
+    by (Some j) found = outstanding-held parts number j stands acknowledged found ∙ unheld j (place_of-within same_grain g j parts.grains found) (place_of-key same_grain g parts.grains no_grain j found)
+
+-- the record with a number is untouched, under its name
+abbrev pub Untouched : Parts → ℕ → Type 0
+Untouched parts number = is_untouched (plain_of parts) (table.name_at parts.subs number) (Some (record_of parts number)) ≡ true
+
+-- a record that no grain knows of is so
+untouched-unknown : (parts : Parts) (d : Delivery) → Stands parts d.sub → IsNext parts d → IsUnknown parts.subs.registry.names parts.grains d.sub → Untouched parts d.sub
 untouched-unknown parts d stands next unknown =
     let is = stands.agrees.assembled.known.untouched d.sub stands.within next.is_open unknown in
-    and_from _ _ (eq-eqb _ _ is.at_resume) (ap (λ (positions : List ℕ). length positions == 0) is.unhandled)
+    and_from _ _ (eq-eqb _ _ is.at_resume)
+    (and_from _ _ (ap (λ (positions : List ℕ). length positions == 0) is.unhandled) (ap not (none-outstanding parts d.sub stands is.unhandled is.unheld)))
 
 pub handed-untouched : {T E : Type 0} (parts : Parts) (d : Delivery) (j : ℕ) (r : Result T E) → Stands parts d.sub → IsNext parts d → place_of same_grain (record_of parts d.sub).grain parts.grains ≡ Some j → is_in (activation j parts.grains).subs d.sub ≡ false
-    → OnErr r (is_untouched (Some (record_of parts d.sub)) ≡ true)
+    → OnErr r (Untouched parts d.sub)
 handed-untouched parts d j r stands next found none =
     on-error r (untouched-unknown parts d stands next (unknown-to_own parts.subs.registry.names parts.grains d.sub j stands.agrees.distinct found none))
 
-pub first-untouched : {T E : Type 0} (parts : Parts) (d : Delivery) (r : Result T E) → Stands parts d.sub → IsNext parts d → place_of same_grain (record_of parts d.sub).grain parts.grains ≡ None → OnErr r (is_untouched (Some (record_of parts d.sub)) ≡ true)
+pub first-untouched : {T E : Type 0} (parts : Parts) (d : Delivery) (r : Result T E) → Stands parts d.sub → IsNext parts d → place_of same_grain (record_of parts d.sub).grain parts.grains ≡ None → OnErr r (Untouched parts d.sub)
 first-untouched parts d r stands next none =
     on-error r (untouched-unknown parts d stands next (unknown-nowhere parts.subs.registry.names parts.grains d.sub none))
 
@@ -513,12 +533,13 @@ pub grain-there : (parts : Parts) (t : PlainTable) (number position : ℕ) (outs
 grain-there parts t number position outstanding grain found is =
     subst (λ (t : PlainTable). number_of parts.grains (record_of (with_subs parts t) number).grain ≡ grain) (sym found.0) is
 
--- its record is the one that the name has
-pub record-there : (parts : Parts) (t : PlainTable) (number position : ℕ) (s : SubName) (outstanding : Bool) → Stands parts number → place_of same_sub s parts.subs.registry.names ≡ Some number → Searched parts t number outstanding (sought.Next position)
-    → Some (record_of (with_subs parts t) number) ≡ sub_at (plain_of parts) s
-record-there parts t number position s outstanding stands found sought =
-    ap {B = Option Subscription} (λ (t : PlainTable). Some (record_of (with_subs parts t) number)) sought.0
-    ∙ sym (record-found parts s number no_entry no_state (sym stands.agrees.records.long) found)
+-- its record is untouched under the name that is asked for
+pub untouched-there : {T E : Type 0} (parts : Parts) (t : PlainTable) (number position : ℕ) (s : SubName) (outstanding : Bool) (r : Result T E) → Stands parts number → place_of same_sub s parts.subs.registry.names ≡ Some number
+    → Searched parts t number outstanding (sought.Next position) → OnErr r (Untouched (with_subs parts t) number) → OnErr r (is_untouched (plain_of parts) s (sub_at (plain_of parts) s) ≡ true)
+untouched-there parts t number position s outstanding r stands found sought first =
+    subst (λ (found : Option Subscription). OnErr r (is_untouched (plain_of parts) s found ≡ true)) (sym (record-found parts s number no_entry no_state (sym stands.agrees.records.long) found))
+    (subst (λ (name : SubName). OnErr r (is_untouched (plain_of parts) name (Some (record_of parts number)) ≡ true)) (sym (name-of-place s parts.subs.registry.names number no_entry found))
+    (subst (λ (t : PlainTable). OnErr r (Untouched (with_subs parts t) number)) sought.0 first))
 
 -- what is to be done is as before
 pub todo-is : (parts : Parts) (t : PlainTable) (number generation position : ℕ) (s : SubName) (outstanding : Bool) → (generation == parts.agent.generation) ≡ true → place_of same_sub s parts.subs.registry.names ≡ Some number
@@ -540,21 +561,6 @@ nothing-performs parts t number generation s outstanding stands current found is
     ap {B = Answer} (λ (t : PlainTable). (plain_of (with_subs parts t), reply.Nothing)) sought.0
     ∙ sym (deliver-nothing parts generation s number no_entry no_state outstanding (sym stands.agrees.records.long, (current, (found, sought.1)))
     (sought-next parts number None stands sought.1 sought.2) (ap (λ name. is_outstanding (plain_of parts) name (record_of parts number)) (name-of-place s parts.subs.registry.names number no_entry found) ∙ sym is_out))
-
--- where nothing is on its way and nothing is handled, nothing is outstanding
-none-outstanding : (parts : Parts) (number : ℕ) → Stands parts number → (state_at parts.subs number).handled ≡ [] → IsUnheld parts.subs.registry.names parts.grains number
-    → is_outstanding (plain_of parts) (table.name_at parts.subs number) (record_of parts number) ≡ false
-none-outstanding parts number stands handled unheld = by (place_of same_grain g parts.grains) refl
-  where
-    g : GrainId
-    g = (record_of parts number).grain
-
-    acknowledged : is_unacknowledged (record_of parts number) ≡ false
-    acknowledged = ap (λ positions. nat_lt (state_at parts.subs number).resume (past positions)) handled ∙ le-ltb (state_at parts.subs number).resume 0 (omega arith)
-
-    by : (at : Option ℕ) → place_of same_grain g parts.grains ≡ at → is_outstanding (plain_of parts) (table.name_at parts.subs number) (record_of parts number) ≡ false
-    by None none = outstanding-nowhere parts number (table.name_at parts.subs number) acknowledged none
-    by (Some j) found = outstanding-held parts number j stands acknowledged found ∙ unheld j (place_of-within same_grain g j parts.grains found) (place_of-key same_grain g parts.grains no_grain j found)
 
 -- and so the resume follows the cursor of a subscription that nothing was offered for
 pub nothing-assembled : (parts : Parts) (t : PlainTable) (number : ℕ) (outstanding : Bool) → Stands parts number → outstanding ≡ is_outstanding (plain_of parts) (table.name_at parts.subs number) (record_of parts number)

@@ -29,7 +29,8 @@ use subscription_table::Sought;
 ///
 /// # Errors
 /// The call failed to allocate, and nothing has changed. That can happen only where the event would be handed
-/// over, and only where the subscription has handled nothing and its cursor stands at its resume.
+/// over, and only where the subscription has handled nothing, nothing of it is on its way, and its cursor
+/// stands at its resume.
 pub(crate) fn deliver(
     parts: &mut Parts,
     alloc: Global,
@@ -40,7 +41,7 @@ pub(crate) fn deliver(
     ensures assembled { IsAssembled parts.new }
     ensures performs { Performs (plain_of parts.old) (plain_of parts.new) (replied result) (deliver (plain_of parts.old) generation sub.now) }
     ensures memory { OnErr result (takes_memory (deliver (plain_of parts.old) generation sub.now).1 ≡ true) }
-    ensures first { OnErr result (is_untouched (sub_at (plain_of parts.old) sub.now) ≡ true) }
+    ensures first { OnErr result (is_untouched (plain_of parts.old) sub.now (sub_at (plain_of parts.old) sub.now) ≡ true) }
 {
     if let Err(StaleAgent { now }) = parts.agent.check(generation) {
         return Ok(Told::StaleAgent { now });
@@ -120,7 +121,8 @@ fn is_outstanding(parts: &Parts, number: usize, grain: Option<usize>) -> bool
 ///
 /// # Errors
 /// The call failed to allocate, and nothing has changed. That can happen only where the event would be handed
-/// over, and only where the subscription has handled nothing and its cursor stands at its resume.
+/// over, and only where the subscription has handled nothing, nothing of it is on its way, and its cursor
+/// stands at its resume.
 fn hand_over(
     parts: &mut Parts,
     alloc: Global,
@@ -133,7 +135,7 @@ fn hand_over(
     ensures assembled { IsAssembled parts.new }
     ensures performs { Performs (plain_of parts.old) (plain_of parts.new) (replied result) (deliver (plain_of parts.old) parts.old.agent.generation (name_at parts.old.subs delivery.sub)) }
     ensures memory { OnErr result (takes_memory (deliver (plain_of parts.old) parts.old.agent.generation (name_at parts.old.subs delivery.sub)).1 ≡ true) }
-    ensures first { OnErr result (is_untouched (Some (record_of parts.old delivery.sub)) ≡ true) }
+    ensures first { OnErr result (is_untouched (plain_of parts.old) (name_at parts.old.subs delivery.sub) (Some (record_of parts.old delivery.sub)) ≡ true) }
 {
     match grain {
         Some(grain) => hand_to(parts, alloc, grain, delivery),
@@ -145,7 +147,8 @@ fn hand_over(
 ///
 /// # Errors
 /// The call failed to allocate, and nothing has changed. That can happen only where the event would be handed
-/// over, and only where the subscription has handled nothing and its cursor stands at its resume.
+/// over, and only where the subscription has handled nothing, nothing of it is on its way, and its cursor
+/// stands at its resume.
 fn hand_to(
     parts: &mut Parts,
     alloc: Global,
@@ -158,7 +161,7 @@ fn hand_to(
     ensures assembled { IsAssembled parts.new }
     ensures performs { Performs (plain_of parts.old) (plain_of parts.new) (replied result) (deliver (plain_of parts.old) parts.old.agent.generation (name_at parts.old.subs delivery.sub)) }
     ensures memory { OnErr result (takes_memory (deliver (plain_of parts.old) parts.old.agent.generation (name_at parts.old.subs delivery.sub)).1 ≡ true) }
-    ensures first { OnErr result (is_untouched (Some (record_of parts.old delivery.sub)) ≡ true) }
+    ensures first { OnErr result (is_untouched (plain_of parts.old) (name_at parts.old.subs delivery.sub) (Some (record_of parts.old delivery.sub)) ≡ true) }
 {
     let wakes = !parts.grains.at(grain).is_active();
     // Nothing waits for a grain that isn't active, so that its mailbox isn't full.
@@ -175,7 +178,8 @@ fn hand_to(
 ///
 /// # Errors
 /// The call failed to allocate, and nothing has changed. That can happen only where the event would be handed
-/// over, and only where the subscription has handled nothing and its cursor stands at its resume.
+/// over, and only where the subscription has handled nothing, nothing of it is on its way, and its cursor
+/// stands at its resume.
 fn hand_first(parts: &mut Parts, alloc: Global, delivery: Delivery) -> Result<Told, AllocError>
     requires agrees { Agrees parts.old }
     requires next { IsNext parts.old delivery }
@@ -183,7 +187,7 @@ fn hand_first(parts: &mut Parts, alloc: Global, delivery: Delivery) -> Result<To
     ensures assembled { IsAssembled parts.new }
     ensures performs { Performs (plain_of parts.old) (plain_of parts.new) (replied result) (deliver (plain_of parts.old) parts.old.agent.generation (name_at parts.old.subs delivery.sub)) }
     ensures memory { OnErr result (takes_memory (deliver (plain_of parts.old) parts.old.agent.generation (name_at parts.old.subs delivery.sub)).1 ≡ true) }
-    ensures first { OnErr result (is_untouched (Some (record_of parts.old delivery.sub)) ≡ true) }
+    ensures first { OnErr result (is_untouched (plain_of parts.old) (name_at parts.old.subs delivery.sub) (Some (record_of parts.old delivery.sub)) ≡ true) }
 {
     if is_spent(parts) {
         return Ok(Told::Spent);

@@ -98,7 +98,8 @@ impl Partition {
     /// # Errors
     /// The call failed to allocate, and nothing has changed. That can happen only where the operation would
     /// be done, and only at a Publish, a Subscribe, an AddRule, a Commit, a Pull that makes subscriptions, and
-    /// a Deliver to a subscription that has handled nothing and whose cursor stands at its resume.
+    /// a Deliver to a subscription that has handled nothing, of which nothing is on its way, and whose cursor
+    /// stands at its resume.
     pub fn step(&mut self, alloc: Global, op: Op) -> Result<Reply, AllocError>
         ensures performs { Performs self.old self.new result (step self.old op) }
         ensures memory { OnErr result (may_allocate self.old op ≡ true) }

@@ -12,7 +12,7 @@ use Rattle.stream_laws.proofs.IdleGrains.{IsIdle}
 use Rattle.stream_laws.proofs.Invariant.{Fits}
 use Rattle.stream_laws.proofs.KeptStep.{kept-step}
 use Rattle.stream_laws.proofs.Summary.{Summary, after}
-use Rattle.stream_laws.proofs.UniqueSteps.{IsSteady, steady-step}
+use Rattle.stream_laws.proofs.UniqueSteps.{IsSteady, steady-own, steady-step}
 
 -- how many events a subscription has handled since
 abbrev pub handled_since : Summary → Summary → SubName → ℕ
@@ -21,7 +21,7 @@ handled_since t0 t s = length (t.handled s) - length (t0.handled s)
 -- since t0 was said, with a cache of so many blocks
 pub record IsTold (cache : ℕ) (t0 : Summary) (t : Tally) (p : PlainPartition) : Type 0 where
   pub fits : Fits t.said p
-  pub steady : IsSteady cache p
+  pub steady : IsSteady (cache, p.limits) p
   pub events : t.said.events ≡ t0.events
   pub binding : (s : SubName) → t.said.binding s ≡ t0.binding s
   pub longer : (s : SubName) → length (t0.handled s) ≤ length (t.said.handled s)
@@ -41,7 +41,7 @@ pub told-step : (cache : ℕ) (t0 : Summary) (t : Tally) (p : PlainPartition) (o
 told-step cache t0 t p op q answer is told events binding longer turns =
     record {
       fits = subst (λ (out : PlainPartition × Reply). Fits (after t.said op out.1) out.0) is (kept-step t.said p op told.fits).0;
-      steady = subst (λ (out : PlainPartition × Reply). IsSteady cache out.0) is (steady-step cache p op told.steady);
+      steady = steady-own (cache, p.limits) q (subst (λ (out : PlainPartition × Reply). IsSteady (cache, p.limits) out.0) is (steady-step (cache, p.limits) p op told.steady));
       events = events ∙ told.events;
       binding = λ s. binding s ∙ told.binding s;
       longer = λ s. omega (arith, longer s, told.longer s);

@@ -38,7 +38,7 @@ use Rattle.stream_laws.proofs.LawsOfEvents.{handled-record}
 use Rattle.stream_laws.proofs.Legal.{fits-stands}
 use Rattle.stream_laws.proofs.Marks.{IsClear}
 use Rattle.stream_laws.proofs.Summary.{Summary, owed, summary}
-use Rattle.stream_laws.proofs.UniqueSteps.{IsSteady, steady-legal}
+use Rattle.stream_laws.proofs.UniqueSteps.{IsSteady, steady-legal, steady-own}
 use Rattle.stream_ident.proofs.SameValues.{sub_equality}
 
 -- ---- the beginning
@@ -46,7 +46,7 @@ use Rattle.stream_ident.proofs.SameValues.{sub_equality}
 abbrev start : Summary → Tally
 start t0 = record { said = t0; turns = 0 }
 
-start-sound : (cache : ℕ) (t0 : Summary) (p : PlainPartition) → Fits t0 p → IsSteady cache p → IsIdle p → IsSound cache t0 (start t0) p
+start-sound : (cache : ℕ) (t0 : Summary) (p : PlainPartition) → Fits t0 p → IsSteady (cache, p.limits) p → IsIdle p → IsSound cache t0 (start t0) p
 start-sound cache t0 p fits steady idle =
     record {
       told = record {
@@ -65,7 +65,7 @@ drained : (blocks : ℕ) (limits : Limits) (history : List Entry) (p : PlainPart
     → Meets (Finished blocks (summary (reverse history))) (start (summary (reverse history))) (drain_all p)
 drained blocks limits history p some stands idle =
     let t0 = summary (reverse history) in
-    meets-drain_all blocks some t0 (start t0) p (start-sound blocks t0 p (fits-stands kept-step blocks limits history p stands) (steady-legal blocks limits history p stands) (idle-of p (least-none grain_lt (keys_where is_running p.grains) idle)))
+    meets-drain_all blocks some t0 (start t0) p (start-sound blocks t0 p (fits-stands kept-step blocks limits history p stands) (steady-own (blocks, limits) p (steady-legal blocks limits history p stands)) (idle-of p (least-none grain_lt (keys_where is_running p.grains) idle)))
 
 -- ---- the end
 

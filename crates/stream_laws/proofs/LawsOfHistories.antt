@@ -1,17 +1,20 @@
 -- The laws on histories as a whole: how they go on and come apart, and what each of them promises.
-use Rattle.std.proofs.Common.{List, [], ◌∷◌, refl, ap, subst, ◌∙◌}
+use Rattle.std.proofs.Common.{List, [], ◌∷◌, refl, sym, ap, subst, ◌∙◌}
 use Rattle.stream_model.specs.declared.op.Op.{Op}
 use Rattle.stream_model.specs.declared.plain.PlainPartition.{PlainPartition}
-use Rattle.stream_model.specs.History.{handled_events}
+use Rattle.stream_model.specs.Bounds.{IsWithinLimits}
+use Rattle.stream_model.specs.History.{Entry, handled_events}
 use Rattle.stream_model.specs.Positions.{empty}
 use Rattle.stream_model.specs.Step.{Leads, Stands, after_steps, replies_of, step}
-use Rattle.stream_model.proofs.Reaching.{leads-append}
-use Rattle.stream_laws.specs.Laws.{FrontsAreLegal, HistoriesGrow, OneHistory, entries_of}
+use Rattle.stream_model.proofs.Reaching.{leads-append, within-empty}
+use Rattle.stream_model.proofs.StepBounds.{bounds-step}
+use Rattle.stream_laws.specs.Laws.{FrontsAreLegal, HistoriesGrow, LimitsAreKept, OneHistory, entries_of}
 use Rattle.stream_laws.proofs.LawsOfEvents.{handled_in_order-from}
 use Rattle.stream_laws.proofs.LawsOfMisses.{misses_below_low-from}
 use Rattle.stream_laws.proofs.LawsOfTokens.{none_twice-from}
 use Rattle.stream_laws.proofs.LawsOfTurns.{none_after_close-from}
 use Rattle.stream_laws.proofs.Legal.{StepsKeep, leads-split}
+use Rattle.stream_laws.proofs.UniqueSteps.{steady-legal}
 
 -- operations, each with the reply of its step, lead on
 leads-run : (p : PlainPartition) (ops : List Op) → Leads p (entries_of ops (replies_of p ops)) (after_steps p ops)
@@ -26,6 +29,15 @@ histories-grow = record {
 
 pub fronts-legal : FrontsAreLegal
 fronts-legal blocks limits before later q stands = leads-split (empty blocks limits) before later q stands
+
+-- entries lead from within the limits to within the limits
+within-leads : (p : PlainPartition) (entries : List Entry) (q : PlainPartition) → IsWithinLimits p → Leads p entries q → IsWithinLimits q
+within-leads p [] q within is = subst IsWithinLimits (sym is) within
+within-leads p (e ∷ entries) q within leads = within-leads (step p e.op).0 entries q (bounds-step p e.op within) leads.1
+
+pub limits-kept : LimitsAreKept
+limits-kept blocks limits history p bound are stands =
+    ((steady-legal blocks limits history p stands).limits, within-leads (empty blocks limits) history p (within-empty blocks limits bound are) stands)
 
 pub one_history-from : StepsKeep → OneHistory
 one_history-from keep blocks limits history p stands = record {

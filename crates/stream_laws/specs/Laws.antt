@@ -20,6 +20,7 @@ use Rattle.stream_model.specs.declared.plain.PlainPartition.{PlainPartition}
 use Rattle.stream_model.specs.declared.plain.Subscription.{Subscription}
 use Rattle.stream_model.specs.declared.reply.Reply.{Reply}
 use Rattle.stream_model.specs.declared.reply.Reply.TheVariants.{Subscribed, Miss, Turn, Committed, Closed, Deactivated, IsQuiet}
+use Rattle.stream_model.specs.Bounds.{AreLimits, IsWithinLimits}
 use Rattle.stream_model.specs.History.{Entry, binding_of, handled_events, is_closed, last_note, low_told, owed_events, published_events, times_begun, times_committed}
 use Rattle.stream_model.specs.Looks.{quiet}
 use Rattle.stream_model.specs.Positions.{events_at, grain_at, slowest, sub_at}
@@ -195,6 +196,12 @@ abbrev pub CacheInBounds : Type 0
 CacheInBounds =
     (blocks : ℕ) (limits : Limits) (history : List Entry) (p : PlainPartition) → Stands blocks limits history p
     → (p.low ≤ p.high) × (p.high ≤ length (published_events history)) × (p.high - p.low ≤ 64 * blocks)
+
+-- A partition keeps the limits that it began with, and its lists and numbers never pass them.
+abbrev pub LimitsAreKept : Type 0
+LimitsAreKept =
+    (blocks : ℕ) (limits : Limits) (history : List Entry) (p : PlainPartition) → blocks ≤ 64 → AreLimits limits
+    → Stands blocks limits history p → (p.limits ≡ limits) × IsWithinLimits p
 
 -- What an open subscription is owed and hasn't handled isn't below the low token.
 abbrev pub OwedIsKept : Type 0

@@ -6,7 +6,7 @@
 #![tactic(auto)]
 
 ghost use Rattle.stream_laws.specs.DrainLaws.{DrainEnds, DrainStands, DrainedIsQuiet, DrainedTurns};
-ghost use Rattle.stream_laws.specs.Laws.{CacheInBounds, CommitsBegun, CommittedOnce, DropsAreLeast, FrontsAreLegal, HandledInOrder, HistoriesGrow, LatestIsNeverMissed, LogIsPublished, MissesBelowLow, NamesDiffer, NoneAfterClose, NoneTwice, NumbersAreNew, OneHistory, OneTurnAtATime, OwedIsKept, PurgesAreLeast, QuietIsDone, QuietOwesNoOther, RecordsAgree, RecordsAreOpen, TokensRise, TurnsAreLongest, TurnsInOrder, UnknownHasNoRecord};
+ghost use Rattle.stream_laws.specs.Laws.{CacheInBounds, CommitsBegun, CommittedOnce, DropsAreLeast, FrontsAreLegal, HandledInOrder, HistoriesGrow, LatestIsNeverMissed, LimitsAreKept, LogIsPublished, MissesBelowLow, NamesDiffer, NoneAfterClose, NoneTwice, NumbersAreNew, OneHistory, OneTurnAtATime, OwedIsKept, PurgesAreLeast, QuietIsDone, QuietOwesNoOther, RecordsAgree, RecordsAreOpen, TokensRise, TurnsAreLongest, TurnsInOrder, UnknownHasNoRecord};
 
 /// What every legal history promises, in one: each subscription handles what it is owed in order, no event
 /// twice and none after its unsubscribe, and a start token is refused exactly where it is below the low token.
@@ -109,6 +109,12 @@ pub fn latest_is_never_missed()
 /// its blocks hold.
 pub fn cache_in_bounds()
     ensures { CacheInBounds }
+{}
+
+/// A partition keeps the limits that it began with. Its events, subscriptions, rules and rises are never more, and
+/// the numbers of turns, activations and generations never pass the rises.
+pub fn limits_are_kept()
+    ensures { LimitsAreKept }
 {}
 
 /// What an open subscription is owed and hasn't handled isn't below the low token.

@@ -25,7 +25,7 @@ leads-append p q r (e ∷ first) second here rest = (here.0, leads-append (step 
 reached-empty : (blocks : ℕ) (limits : Limits) → 1 ≤ blocks → IsReached (empty blocks limits)
 reached-empty blocks limits some = record { blocks = blocks; limits = limits; history = []; some_blocks = some; stands = refl }
 
-within-empty : (blocks : ℕ) (limits : Limits) → blocks ≤ 64 → AreLimits limits → IsWithinLimits (empty blocks limits)
+pub within-empty : (blocks : ℕ) (limits : Limits) → blocks ≤ 64 → AreLimits limits → IsWithinLimits (empty blocks limits)
 within-empty blocks limits bound are = record {
   limits = are;
   events = omega arith;

@@ -4,7 +4,6 @@ use Rattle.stream_model.proofs.Refusals.{deliver-stale, deliver-unknown}
 use Rattle.step_core.proofs.RecordOps.{no-record}
 use Rattle.stream_model.specs.declared.reply.Reply.TheVariants as reply
 use Rattle.stream_model.specs.declared.plain.Subscription.{Subscription}
-use Rattle.stream_model.specs.Memory.{is_untouched}
 use Rattle.stream_model.specs.Step.{takes_memory}
 use Rattle.grain_table.specs.Grains.{number_of}
 use Rattle.pubsub_registry.specs.declared.registration.Registration.{Registration}
@@ -17,7 +16,7 @@ use Rattle.step_core.specs.PlainOf.{plain_of}
 use Rattle.step_core.specs.Records.{record_of}
 use Rattle.step_core.specs.Replied.{replied}
 use Rattle.step_core.proofs.CheckOps.{check-current, check-stale}
-use Rattle.step_core.proofs.HandOps.{Answer, Searched, Stands, closed-performs, cursor-low, grain-there, high-few, next-agrees, next-there, nothing-assembled, nothing-performs, record-there, searched-is, todo-is, todo-performs, with_subs}
+use Rattle.step_core.proofs.HandOps.{Answer, Searched, Stands, closed-performs, cursor-low, grain-there, high-few, next-agrees, next-there, nothing-assembled, nothing-performs, searched-is, todo-is, todo-performs, untouched-there, with_subs}
 use Rattle.step_core.proofs.delivering.deliver.Goals as goal
 
 pub returns-in-Err-clause-performs : goal.returns-in-Err-clause-performs
@@ -99,8 +98,7 @@ returns-in-Next-clause-first c =
     let stands : Stands parts c.in-Some.number = record { agrees = c.requires; within = c.in-Some.ensures.within } in
     let sought : Searched parts c.next_event.new.self c.in-Some.number c.is_outstanding-outstanding.result (sought.Next c.in-Next.position) =
     searched-is parts c.next_event.new.self c.in-Some.number c.cache.result.now c.is_outstanding-outstanding.result (sought.Next c.in-Next.position) c.cache.ensures c.in-Next.ensures.sought in
-    subst (λ (r : Option Subscription). OnErr c.hand_over.result (is_untouched r ≡ true))
-    (record-there parts c.next_event.new.self c.in-Some.number c.in-Next.position c.args.sub.now c.is_outstanding-outstanding.result stands (sym c.in-Some.ensures.number) sought) c.hand_over.ensures.first
+    untouched-there parts c.next_event.new.self c.in-Some.number c.in-Next.position c.args.sub.now c.is_outstanding-outstanding.result c.hand_over.result stands (sym c.in-Some.ensures.number) sought c.hand_over.ensures.first
 
 pub returns-in-Nothing-clause-assembled : goal.returns-in-Nothing-clause-assembled
 returns-in-Nothing-clause-assembled c =
