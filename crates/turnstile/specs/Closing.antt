@@ -26,6 +26,11 @@ module _ {O R S : Type 0} where
   FirstCounted (p ∷ ps) (q ∷ qs) made = HasOnlyMade p q × (q.made ≡ made) × (qs ≡ ps)
   FirstCounted _ _ made = ⊥
 
+  -- the first pass knows of no more passes than these have numbers
+  abbrev pub FirstKnowsNoMore : List (PassView O R S) → Type 0
+  FirstKnowsNoMore [] = Unit {0}
+  FirstKnowsNoMore (p ∷ ps) = p.made ≤ length (all_numbers (p ∷ ps))
+
   -- one pass has all that these had
   pub record Gathered (ps : List (PassView O R S)) (q : PassView O R S) : Type 0 where
     pub claims : Each (λ p. Claims (numbers_of p) p.seen q.seen) ps
@@ -57,8 +62,8 @@ module _ {X S O R : Type 0} (reply : S → O → R) (after : S → O → S) (sta
     pub bounded : length history ≤ x.limit
 
 module _ {X H O R S : Type 0} (entries : H → List (Entry O R)) (reply : S → O → R) (after : S → O → S) (state : X → S) where
-  -- the trace of all passes; or what was given comes back, and how many passes were made is now known; or nothing
+  -- the trace of all passes; or what was given comes back, and how many passes were made is now known; or nothing, but only where the first pass knew of none that is missing
   abbrev pub IsClosed : Origin S → List (PassView O R S) → Closed X O R H S → Type 0
   IsClosed t ps (Traced done) = FromAll reply after state t.start ps (entries done.history) done.object
   IsClosed t ps (NotAll back) = (back.turnstile ≡ t) × (0 < back.missing) × FirstCounted ps back.passes.items (length (all_numbers ps) + back.missing)
-  IsClosed t ps InUse = Unit {0}
+  IsClosed t ps InUse = FirstKnowsNoMore ps

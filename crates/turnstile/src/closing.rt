@@ -34,7 +34,7 @@ pub enum Closed<T: Replays> {
     Traced(Traced<T>),
     /// A pass that was made was neither given nor joined to one that was.
     NotAll(NotAll<T>),
-    /// A pass was made while the turnstile was closed.
+    /// A pass was made while the turnstile was closed. As far as the first pass knew, none was missing.
     InUse,
 }
 
@@ -45,8 +45,9 @@ impl<T: Replays> Turnstile<T> {
     /// Ends a turnstile to which all passes came back, and gives its history and its object.
     ///
     /// Where a pass is missing, it gives the turnstile and the passes back, and the first pass then knows
-    /// how many passes were made. It answers `InUse` where the table, once it is closed, shows another count
-    /// of passes than was found before; no run is known to meet that. It takes no memory.
+    /// how many passes were made. It answers `InUse` where none is missing by that count, and the table, once
+    /// it is closed, shows another; no run is known to meet that. So it never answers `InUse` where the first
+    /// pass already knew of more passes than were given. It takes no memory.
     pub fn close(self, mut passes: Vec<PassOf<T>>) -> Closed<T>
         requires some { 0 < vec_len passes }
         requires passes { All (IsOf self) passes.items }
