@@ -112,8 +112,8 @@ fn is_told<R: Wait, H: StoredHistory<Addition, u64>>(
     turnstile.call(rt, alloc, pass, op) == row.3
 }
 
-/// The trace of a turnstile with two passes, of which the first isn't enough to close it.
-pub fn ended<R: Abort, H: StoredHistory<Addition, u64>>(
+// The trace of a turnstile with two passes, of which the first isn't enough to close it.
+fn ended<R: Abort, H: StoredHistory<Addition, u64>>(
     rt: &R,
     alloc: Global,
     turnstile: Turnstile<Total<H>>,

@@ -1,12 +1,14 @@
-//! A turnstile, two of its passes, and what it gives at the end.
+//! A turnstile, its passes, and what it gives at the end.
+ghost use Rattle.std.specs.Prelude.{◌≡◌, ◌<◌, All, vec_len};
 ghost use Rattle.turnstile.specs.Calls.{IsOf};
 
+use crate::passes::{finished, push};
 use crate::rows::assert_at;
-use crate::total::{Addition, By, EVERYTHING, Row, Total, ended, opened, played};
+use crate::total::{Addition, By, EVERYTHING, Row, Total, opened, played};
 use std::alloc::Global;
 use std::process::Abort;
 use std::sync::Wait;
-use std::thread::{Threads, join};
+use std::thread::{Threads, map_vec};
 use turnstile::{AskedHistory, Entry, PassOf, PlainHistory, Refusal, StoredHistory, Turnstile};
 
 type Stored = PlainHistory<Addition, u64>;
@@ -53,7 +55,13 @@ fn a_fresh_object_gives_the_replies_again(rt: HostRuntime) {
     assert!(rt; replies.as_slice() == [5, 7, 8, 12, 15].as_slice());
 }
 
-// Adds 0, 1, 2 and so on up to 999.
+// How many passes add, each in a thread of its own.
+const PASSES: usize = 10;
+
+// How often each of them adds.
+const EACH: u64 = 1_000;
+
+// Adds 0, 1, 2 and so on.
 fn add_many<H: StoredHistory<Addition, u64>, R: Wait>(
     rt: &R,
     alloc: Global,
@@ -63,66 +71,83 @@ fn add_many<H: StoredHistory<Addition, u64>, R: Wait>(
     requires { IsOf turnstile.now pass }
     ensures { IsOf turnstile.now result }
 {
-    for amount in 0..1000 {
+    for amount in 0..EACH {
         let _ = turnstile.call(rt, alloc, &mut pass, Addition { amount, room: 0 });
     }
     pass
 }
 
-// The passes after each has added in a thread of its own.
-fn in_two_threads<H: StoredHistory<Addition, u64> + Send, R: Threads + Wait + Sync>(
+// A pass, behind all that are split off it.
+fn split_off<H: StoredHistory<Addition, u64>, R: Abort>(
     rt: &R,
     alloc: Global,
     turnstile: &Turnstile<Total<H>>,
-    first: PassOf<Total<H>>,
-    second: PassOf<Total<H>>,
-) -> (PassOf<Total<H>>, PassOf<Total<H>>)
-    requires first { IsOf turnstile.now first }
-    requires second { IsOf turnstile.now second }
-    ensures first { IsOf turnstile.now result.0 }
-    ensures second { IsOf turnstile.now result.1 }
+    mut first: PassOf<Total<H>>,
+) -> Vec<PassOf<Total<H>>>
+    requires { IsOf turnstile.now first }
+    ensures some { 0 < vec_len result }
+    ensures passes { All (IsOf turnstile.now) result.items }
 {
-    join(
-        rt,
-        || add_many(rt, alloc, turnstile, first),
-        || add_many(rt, alloc, turnstile, second),
-    )
+    let mut passes = Vec::new(alloc);
+    for _ in 1..PASSES {
+        let pass = turnstile.split(&mut first).expect(rt, "a pass");
+        push(rt, &mut passes, pass);
+    }
+    push(rt, &mut passes, first);
+    passes
 }
 
-// The history after two passes have added in threads.
+// The passes after each has added in a thread of its own.
+fn in_threads<H: StoredHistory<Addition, u64> + Send, R: Threads + Wait + Abort + Sync>(
+    rt: &R,
+    alloc: Global,
+    turnstile: &Turnstile<Total<H>>,
+    passes: Vec<PassOf<Total<H>>>,
+) -> Vec<PassOf<Total<H>>>
+    requires { All (IsOf turnstile.now) passes.items }
+    ensures len { vec_len result ≡ vec_len passes }
+    ensures passes { All (IsOf turnstile.now) result.items }
+{
+    let added = map_vec(
+        rt,
+        passes,
+        &|pass: PassOf<Total<H>>| { add_many(rt, alloc, turnstile, pass) },
+    );
+    added.expect(rt, "memory")
+}
+
+// The history after all passes have added in threads.
 fn added<H: StoredHistory<Addition, u64> + Send, R: Threads + Wait + Abort + Sync>(
     rt: &R,
     alloc: Global,
 ) -> H {
-    let (turnstile, mut first) = opened::<R, H>(rt, alloc, 2000);
-    let second = turnstile.split(&mut first).expect(rt, "a pass");
-    let (first, second) = in_two_threads(rt, alloc, &turnstile, first, second);
-    let done = ended(rt, alloc, turnstile, first, second);
-    assert!(rt; done.object.sum == 999_000);
+    let (turnstile, first) = opened::<R, H>(rt, alloc, 10_000);
+    let passes = split_off(rt, alloc, &turnstile, first);
+    let passes = in_threads(rt, alloc, &turnstile, passes);
+    let done = finished(rt, turnstile, passes);
+    assert!(rt; done.object.sum == 4_995_000);
     done.history
 }
 
-// The calls of each of two passes stand in their order, a thousand of each, and each reply is the sum.
+// The calls of each pass stand in their order, a thousand of each, and each reply is the sum so far.
 fn in_order<R: Abort>(rt: &R, history: &[Entry<Addition, u64>]) {
-    let mut first = 0u64;
-    let mut second = 0u64;
+    let mut counts = [0u64; PASSES];
     let mut sum = 0u64;
-    for entry in history {
-        if entry.number == 0 {
-            assert!(rt; entry.op.amount == first);
-            first = first.wrapping_add(1);
-        } else {
-            assert!(rt; entry.number == 1 && entry.op.amount == second);
-            second = second.wrapping_add(1);
-        }
+    for (at, entry) in history.iter().enumerate() {
+        let Some(count) = counts.get_mut(entry.number as usize) else {
+            panic!(rt; "no pass has this number");
+        };
         sum = sum.wrapping_add(entry.op.amount);
-        assert!(rt; entry.reply == sum);
+        assert_at(rt, at, entry.op.amount == *count && entry.reply == sum);
+        *count = count.wrapping_add(1);
     }
-    assert!(rt; first == 1000 && second == 1000);
+    for (pass, count) in counts.iter().enumerate() {
+        assert_at(rt, pass, *count == EACH);
+    }
 }
 
 #[test]
-fn two_threads(rt: HostRuntime) {
+fn ten_threads(rt: HostRuntime) {
     let history = added::<Stored, HostRuntime>(&rt, rt.alloc());
     in_order(&rt, history.as_slice());
 }
