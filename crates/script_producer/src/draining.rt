@@ -24,18 +24,19 @@ const MOST_YIELDS: u32 = 5_000;
 pub enum Drained {
     /// In one look at all queues each was quiet.
     Quiet,
-    /// Not all queues got quiet: a loop has ended, or there were as many looks as there may be.
+    /// Not all queues got quiet: a loop has ended, a silo went and its queues weren't given to others, or there were as
+    /// many looks as there may be.
     NotQuiet,
     /// The history of a queue is full.
     Limit,
 }
 
-/// Looks at the queues until all are quiet, so often at most, and waits at the doorbell between two looks. The longer
-/// it lasts, the more it leaves the silos to do before it looks again, so that it doesn't give up while they work off
-/// what was published.
+/// Looks at the queues until all are quiet, at most `looks` times, and waits at the doorbell between two looks. The
+/// longer it lasts, the more it leaves the silos to do before it looks again, so that it doesn't give up while they work
+/// off what was published.
 ///
 /// # Errors
-/// A call failed to allocate.
+/// A call failed to allocate. Nothing was done but looks.
 pub fn drain<G: Gate, H: StoredHistory<Op, Reply>, R: Wait>(
     rt: &R,
     alloc: Global,

@@ -9,8 +9,8 @@ use stream_model::Reply;
 
 /// A count of what happened, at which loops that found nothing to do wait for more. It wraps.
 ///
-/// It is rung after each answer for which [`rings`] or [`directory_rings`] holds, where a loop ends by itself,
-/// and by whoever tells a loop to stop. No contract says that it wakes anybody.
+/// It is rung after each answer for which [`rings`] or [`directory_rings`] holds, by [`end`](Doorbell::end), and by
+/// whoever tells a loop to stop. No contract says that it wakes anybody.
 #[derive(Drop)]
 pub struct Doorbell {
     count: Mutex<u64>,
@@ -36,13 +36,15 @@ impl Doorbell {
         self.rung.notify_all();
     }
 
-    // A loop has ended by itself. That is to be seen before those who wait look again.
-    pub(crate) fn end<R: Wait>(&self, rt: &R) {
+    /// Tells whoever waits that a queue may never get quiet: a loop has ended by itself, or a silo went and its queues
+    /// weren't given to others. That can be seen before those who wait look again.
+    pub fn end<R: Wait>(&self, rt: &R) {
         self.ended.store(true, Ordering::SeqCst);
         self.ring(rt);
     }
 
-    /// Whether a loop has ended by itself. Then a queue may never get quiet.
+    /// Whether a loop has ended by itself, or a silo went and its queues weren't given to others. Then a queue may never
+    /// get quiet.
     pub fn has_ended(&self) -> bool {
         self.ended.load(Ordering::SeqCst)
     }

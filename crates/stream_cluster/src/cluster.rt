@@ -46,8 +46,8 @@ pub enum SiloDown {
     NotLive,
     /// No other silo lives. Nothing was done.
     LastSilo,
-    /// A Move was answered `Spent`, or a history is full. What was answered by then stands, and the cluster's silos
-    /// don't change any more.
+    /// A Move was answered `Spent`, or a history is full. The loops of the silo came back, what was answered by then
+    /// stands, and the cluster's silos don't change any more.
     Limit,
     /// The cluster's silos don't change any more. Nothing was done.
     Halted,
@@ -262,8 +262,10 @@ impl<G: Gate, H: StoredHistory<Op, Reply>, D: StoredHistory<DirectoryOp, Directo
     /// it, and spreads the queues over the silos that live. Each queue that has another silo then was moved there.
     ///
     /// # Errors
-    /// The call failed to allocate. What was answered by then stands, no pass is lost, and the cluster's silos
-    /// don't change any more.
+    /// The call failed to allocate. The loops of the silo came back, what was answered by then stands, no pass is
+    /// lost, and the cluster's silos don't change any more.
+    ///
+    /// After this and after `Limit` a queue of the silo may have no agent, and a drain of it gives up.
     pub fn silo_down<R: Threads + Wait>(
         &mut self,
         rt: &R,
@@ -289,6 +291,8 @@ impl<G: Gate, H: StoredHistory<Op, Reply>, D: StoredHistory<DirectoryOp, Directo
             Ok(()) => Ok(SiloDown::Down),
             Err(halt) => {
                 self.halted = true;
+                // A queue of the silo may have no agent now: whoever waits until all is quiet is told.
+                self.operator.doorbell().end(rt);
                 down_by(halt)
             }
         }
@@ -301,7 +305,8 @@ impl<G: Gate, H: StoredHistory<Op, Reply>, D: StoredHistory<DirectoryOp, Directo
     /// `Report` where none of these could be.
     ///
     /// # Errors
-    /// The call failed to allocate, or a loop had. All loops have come back then, and nothing is handed back.
+    /// The call failed to allocate, or a loop failed to before. All loops have come back then, and nothing is handed
+    /// back.
     pub fn finish<R: Threads + Wait>(
         self,
         rt: &R,
@@ -398,7 +403,7 @@ impl<G: Gate, H: StoredHistory<Op, Reply>, D: StoredHistory<DirectoryOp, Directo
     /// `Report` where none of these could be.
     ///
     /// # Errors
-    /// The call failed to allocate, or a loop had. Nothing is handed back.
+    /// The call failed to allocate, or a loop failed to before. Nothing is handed back.
     pub fn finish_parked<R: Wait>(
         self,
         rt: &R,

@@ -13,21 +13,25 @@ pub struct Config {
     pub blocks: usize,
     /// Silos at the start: 1 to 16. They are numbered from 0 on.
     pub silos: u8,
-    /// The limits of each partition.
+    /// The limits of each partition: [`Limits::GREATEST`] or lower ones, and at least one rise.
     pub limits: Limits,
     /// How many calls the history of each queue may have, and that of the directory: at least 1.
     pub history: u64,
     /// How many rounds each loop of a silo may begin before it ends for good. A loop that found nothing to do begins one
     /// after the doorbell was rung, which is so several times for each event.
     pub rounds: u64,
-    /// How often a drain looks at the queues before it gives up.
+    /// How often a drain looks at the queues before it gives up; with 0 it gives up at once.
     pub looks: u32,
 }
 
 impl Config {
     /// A configuration for a service that stays up: so many queues and silos, caches of four blocks, and the greatest
-    /// limits. Its histories and its loops end at no number that is ever reached. Each queue still has room for
-    /// 1,000,000 events in all.
+    /// limits. Its histories have room for as many calls as a number can count, and its loops may begin as many rounds.
+    ///
+    /// Each queue still has room for 1,000,000 events and 4,000,000 rises in all, and the directory for 4,000,000
+    /// permits, of which a worker takes one each time it finds a grain ready. After the last rise or permit the loops
+    /// that ask for one end: what is published is then no more handled, a drain answers `NotQuiet`, and the cluster ends
+    /// with `Limit`.
     pub fn new(queues: usize, silos: u8) -> Config
         requires queues { (1 ≤ queues) × (queues ≤ 64) }
         requires silos { (1 ≤ silos) × (silos ≤ 16) }

@@ -176,9 +176,9 @@ fn change<
     let _ = second.is_quiet(rt, alloc);
     let half_gone = !kept_out && is_kept(rt, alloc, running, 0, false);
     let after = first.publish_all(rt, alloc, 3);
-    if !half_gone {
-        let _ = first.is_quiet(rt, alloc);
-    }
+    // Where a silo is gone by half, nobody serves its queues, and whoever waits for them gives up.
+    let is_quiet = first.is_quiet(rt, alloc);
+    assert!(rt; !(half_gone && is_quiet));
     Course {
         refused: published || kept_out || between || half_gone || after,
         half_gone,
