@@ -144,7 +144,7 @@ abbrev pub calls_of : ProofHistory Op Reply → List (Entry Op Reply)
 calls_of h = recorded h.calls
 
 -- The cluster has ended, and its caller was the one whose passes were taken in, beside those that had joined it. Or there
--- was no memory.
+-- was no memory for its end.
 abbrev pub Closes : ServiceView → Result Closed CloseError → Type 0
 Closes s result =
     ((finished : Finished (ProofHistory Op Reply)) × HasFinished calls_of s.cluster (s.caller ∷ []) finished × (result ≡ read.closing finished))

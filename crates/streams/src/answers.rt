@@ -33,16 +33,18 @@ impl Subscription {
 /// What is left of a service that was closed.
 #[derive(Drop)]
 pub struct Closed {
-    /// The report: a line for each subscription, and one for each event that it has handled.
+    /// The report: the line `report`, a line for each subscription, and below each open one a line for each event that
+    /// it has handled.
     pub report: Vec<u8>,
-    /// The partition of each queue.
+    /// The partition of each queue, in order. [`Partition::subs`] and [`Partition::handled`] read what each
+    /// subscription has handled.
     pub partitions: Vec<Partition>,
 }
 
 /// Why a queue doesn't answer a call.
 #[derive(Clone, Copy, Debug, PartialEq, Eq, Error)]
 pub enum CallError {
-    /// There is no such queue.
+    /// There is no such queue. Only [`Service::pending`](crate::Service::pending) answers so.
     #[error("there is no such queue")]
     NoQueue,
     /// The queue has as many rules as it may have, or its history is full.
@@ -59,7 +61,7 @@ pub enum PublishError {
     /// The batch has no payload, or more than 64.
     #[error("a batch has 1 to 64 payloads")]
     BadBatch,
-    /// The queue has as many events as it may have, or its history is full.
+    /// With this batch the queue would have more events than it may have, or its history is full.
     #[error("a limit of the queue is reached")]
     Limit,
     /// The call failed to allocate.
@@ -70,7 +72,8 @@ pub enum PublishError {
 /// Why a subscription isn't made.
 #[derive(Clone, Copy, Debug, PartialEq, Eq, Error)]
 pub enum SubscribeError {
-    /// The start token is below that of the first event that the cache keeps.
+    /// The start token is below that of the first event that the cache keeps. A subscribe from `low` or from
+    /// `Start::Latest` may be tried instead; the low token may have risen by then.
     #[error("the cache keeps no event before {}.{}", low.seq, low.idx)]
     Miss {
         /// The token of the first event that the cache keeps.
@@ -78,7 +81,7 @@ pub enum SubscribeError {
         /// The token after the last event that the cache has.
         high: Token,
     },
-    /// The queue has as many subscriptions as it may have, or its history is full.
+    /// The queue has as many subscriptions as it may have, closed and implicit ones counted, or its history is full.
     #[error("a limit of the queue is reached")]
     Limit,
     /// The call failed to allocate.
@@ -106,7 +109,8 @@ pub enum UnsubscribeError {
 /// Why a service doesn't settle.
 #[derive(Clone, Copy, Debug, PartialEq, Eq, Error)]
 pub enum SettleError {
-    /// Not all queues got quiet: a loop has ended, or there were as many looks at the queues as `Config::looks` says.
+    /// Not all queues got quiet: a loop has ended, a silo went and its queues weren't given to others, or there were as
+    /// many looks at the queues as `Config::looks` says.
     #[error("not all queues get quiet")]
     NotQuiet,
     /// The history of a queue is full.
@@ -120,23 +124,24 @@ pub enum SettleError {
 /// Why a silo doesn't come or go.
 #[derive(Clone, Copy, Debug, PartialEq, Eq, Error)]
 pub enum SiloError {
-    /// Silos are numbered from 0 to 15.
+    /// Silos are numbered from 0 to 15. Nothing was done.
     #[error("silos are numbered from 0 to 15")]
     NoSilo,
-    /// A silo that was to come lives already.
+    /// A silo that was to come lives already. Nothing was done.
     #[error("the silo lives already")]
     Already,
-    /// A silo that was to go doesn't live.
+    /// A silo that was to go doesn't live. Nothing was done.
     #[error("the silo doesn't live")]
     NotLive,
-    /// No other silo lives than the one that was to go.
+    /// No other silo lives than the one that was to go. Nothing was done.
     #[error("no other silo lives")]
     LastSilo,
-    /// The history of a queue or of the directory is full, or a queue has moved as often as it may. The cluster's
-    /// silos don't change any more.
+    /// The history of a queue or of the directory is full, or a queue has no rise left for a Move. The cluster's silos
+    /// don't change any more.
     #[error("a limit of a queue is reached")]
     Limit,
-    /// The cluster's silos don't change any more.
+    /// An earlier change of silos was broken off (`Limit` or `Memory`), and the silos don't change any more. Nothing
+    /// was done.
     #[error("the silos don't change any more")]
     Halted,
     /// The call failed to allocate, or a thread can't be made. The cluster's silos don't change any more.
@@ -158,10 +163,11 @@ pub enum CloseError {
     /// A loop has come to a limit, or has made as many rounds as it may, or the history of a queue is full.
     #[error("a limit of a queue or of a loop is reached")]
     Limit,
-    /// A caller that was split off has not come back.
-    #[error("a caller has not come back")]
+    /// A pass at a queue is missing, or a turnstile is still in use. A service hands neither out, so no run is known to
+    /// meet this.
+    #[error("a pass at a queue is missing, or its turnstile is in use")]
     NotAll,
-    /// The call failed to allocate, or a loop had.
+    /// The call failed to allocate, or a loop failed to before.
     #[error("no memory")]
     Memory,
 }

@@ -1,10 +1,12 @@
 //! Streams over silos in one process: all that a service needs, in one place.
 //!
-//! A [`Service`] has queues, and silos that are threads: it publishes to streams, subscribes grains, and is closed with a
-//! report and what is left of each partition. A [`Gate`] has the handler, which is called for each event of a turn.
+//! A [`Service`] has queues, and silos that are threads: it publishes to streams, subscribes grains, and is closed with
+//! a report and what is left of each partition. A [`Gate`] has the handler, which is called for each event of a turn.
 //!
-//! A service is a [`Cluster`] with its first [`Caller`]. Whoever publishes from several threads takes these two, and
-//! splits the caller; [`Cluster::finish`] then ends the cluster.
+//! A service is a [`Cluster`] with its first [`Caller`]. Whoever publishes from several threads makes these two by
+//! [`UntracedCluster::new`](Cluster::new): [`Caller::split`] gives a caller for another thread, which publishes by
+//! [`Caller::call`] at the queue that [`queue`]`(&stream, caller.queues())` gives. [`Caller::join`] takes a caller in
+//! again, and [`Cluster::finish`] ends the cluster with all callers that are left.
 //!
 //! What a call of a service promises is proved here: what it asks, at which queue, and how its answer is read from the
 //! reply. What the others promise stands in the crate that each comes from, and is proved there.
@@ -18,28 +20,33 @@ pub use answers::{
     CallError, CloseError, Closed, PublishError, SettleError, SiloError, SubscribeError,
     Subscription, UnsubscribeError,
 };
-pub use cluster_callers::Caller;
+pub use cluster_callers::{Caller, QueueCaller};
 pub use cluster_ending::{Finished, Traces};
 pub use queue_mapper::queue;
 pub use script_producer::{Drained, drain};
 pub use service::{Host, Service};
 pub use shared_partition::{Counting, Gate};
-pub use step_core::{Partition, SubSummary};
+pub use silo_crew::SiloLoops;
+pub use silo_loops::{Advance, AgentLoop, Doorbell, Over, WorkerLoop};
+pub use step_core::{NewTurn, Outcome, Partition, SubSummary, Told};
 pub use stream_cluster::{Cluster, Config, Retired, SiloDown, SiloUp};
 pub use stream_ident::{
-    BadName, BadPayload, Batch, Event, GrainId, Name, Payload, StreamId, SubName, Token,
+    BadName, BadPayload, BadToken, Batch, Event, GrainId, Name, Payload, Row, StreamId, SubName,
+    Token, WrongByte,
 };
-pub use stream_model::{Limits, Op, Pending, Reply, Start};
-pub use turnstile::{AskedHistory, ProofHistory, Refusal, StoredHistory};
+pub use stream_model::{DrainEnd, Events, Limits, Op, Pending, Reply, Start};
+pub use turnstile::{Asked, AskedHistory, Entry, ProofHistory, Refusal, Replays, StoredHistory};
 
-/// A cluster whose histories take no memory: only proofs see them. That is the one for a service that stays up.
+/// A cluster whose histories take no memory: only proofs see them. That is the one for a service that stays up; its
+/// limits are those that [`Config::new`] names.
 pub type UntracedCluster<G> = Cluster<
     G,
     ProofHistory<Op, Reply>,
     ProofHistory<DirectoryOp, DirectoryReply>,
 >;
 
-/// A cluster that keeps what it was asked, so that the history of each queue can be read at its end.
+/// A cluster that keeps what it was asked: at its end [`Traces::histories`](Traces) has an [`AskedHistory`] for each
+/// queue, whose `as_slice` gives the calls in order. Each call takes memory, so set `Config::history`.
 pub type TracedCluster<G> = Cluster<
     G,
     AskedHistory<Op, Reply>,

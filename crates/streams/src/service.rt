@@ -27,14 +27,16 @@ pub trait Host: Runtime + AllocGlobal + Threads + Wait + Copy + Send + Sync + 's
 
 impl<R: Runtime + AllocGlobal + Threads + Wait + Copy + Send + Sync + 'static> Host for R {}
 
-/// A cluster with its first caller, on a runtime: what a service asks of its streams, with an answer of its own for each
-/// call.
+/// A cluster with its first caller, on a runtime: what a service asks of its streams, with an answer of its own for
+/// each call.
 ///
 /// A contract sees the cluster and the caller.
 pub struct Service<R: Host, G: Gate> {
     rt: R,
     cluster: UntracedCluster<G>,
     caller: UntracedCaller<G>,
+    // empty, with the room that the caller takes when the service is closed
+    callers: Vec<UntracedCaller<G>>,
 }
 
 impl<R: Host, G: Gate> Drop for Service<R, G> {
@@ -43,34 +45,39 @@ impl<R: Host, G: Gate> Drop for Service<R, G> {
             rt: _,
             cluster: _,
             caller: _,
+            callers: _,
         } = self;
     }
 }
 
 impl<R: Host, G: Gate> Model for Service<R, G> {
+    ghost use Rattle.std.specs.Prelude.{◌≡◌, ◌≤◌, [], vec_capacity};
     ghost use Rattle.streams.specs.Services.{IsService, ServiceView};
 
     ghost Value = { ServiceView };
 
     ghost view = { λ s. record { cluster = s.cluster; caller = s.caller } };
 
-    ghost invariant = { λ s. IsService (record { cluster = s.cluster; caller = s.caller }) };
+    ghost invariant = { λ s. IsService (record { cluster = s.cluster; caller = s.caller }) × (s.callers.items ≡ []) × (1 ≤ vec_capacity s.callers) };
 }
 
 impl<R: Host, G: Gate + 'static> Service<R, G> {
-    /// Starts a cluster whose events this gate handles.
+    /// Starts a cluster whose events this gate handles. The configuration has to be within what the fields of
+    /// [`Config`] and of its [`Limits`](crate::Limits) say, with one rise at least.
     ///
     /// # Errors
-    /// The call failed to allocate, or a thread can't be made.
+    /// The call failed to allocate, or a thread can't be made. Loops that ran by then were stopped.
     pub fn open(rt: R, config: &Config, gate: Arc<G, Global>) -> Result<Service<R, G>, AllocError>
         requires { IsConfig config.now }
         ensures { IfOk result (IsNewService config.now) }
     {
+        let callers = Vec::with_capacity(rt.alloc(), 1)?;
         let (cluster, caller) = UntracedCluster::new(&rt, rt.alloc(), config, gate)?;
         Ok(Service {
             rt,
             cluster,
             caller,
+            callers,
         })
     }
 
@@ -126,7 +133,8 @@ impl<R: Host, G: Gate + 'static> Service<R, G> {
         subscribed(queue, self.ask(queue, op))
     }
 
-    /// Ends a subscription, and gives how many events it has handled. It handles none after this.
+    /// Ends a subscription, and gives how many events it has handled. It handles none after this. For a turn that runs
+    /// meanwhile the handler may still be called; its commit is refused.
     ///
     /// # Errors
     /// They are those of [`UnsubscribeError`]. Nothing has changed.
@@ -145,7 +153,9 @@ impl<R: Host, G: Gate + 'static> Service<R, G> {
     /// told so, and the result is whether one of them didn't have the rule yet.
     ///
     /// # Errors
-    /// A queue refused the rule. The queues before it have it.
+    /// `Limit` where a queue has as many rules as it may have or its history is full, and `Memory` where a call failed
+    /// to allocate there. The queues before it have the rule, and nothing has changed at the others. The call may be
+    /// made again.
     pub fn add_rule(&mut self, kind: Name, namespace: Name) -> Result<bool, CallError>
         ensures { AddsRule self.old kind namespace result self.new }
     {
@@ -159,7 +169,8 @@ impl<R: Host, G: Gate + 'static> Service<R, G> {
     /// What is left to do at a queue, or none where everything is pulled, delivered and handled.
     ///
     /// # Errors
-    /// They are those of [`CallError`].
+    /// `NoQueue` where there is no such queue, `Limit` where its history is full, and `Memory` where the call failed to
+    /// allocate. Nothing has changed.
     pub fn pending(&mut self, queue: usize) -> Result<Option<Pending>, CallError>
         ensures { AsksPending self.old queue result self.new }
     {
@@ -173,9 +184,11 @@ impl<R: Host, G: Gate + 'static> Service<R, G> {
     ///
     /// So each event that was published before has been handled, and its turn is committed. It doesn't wait for
     /// [`Gate::done`], which a worker calls after the commit: for the last turns it may not have been called yet.
+    /// Where a handler doesn't return, this call may wait for ever.
     ///
     /// # Errors
-    /// They are those of [`SettleError`].
+    /// They are those of [`SettleError`]. What was published stays, and the silos go on with it. The call may be made
+    /// again, save that a loop that has ended stays so.
     pub fn settle(&mut self) -> Result<(), SettleError>
         ensures { Settles self.old result self.new }
     {
@@ -186,7 +199,8 @@ impl<R: Host, G: Gate + 'static> Service<R, G> {
     /// A silo comes: its loops are started, and the queues are spread over all silos that live.
     ///
     /// # Errors
-    /// They are those of [`SiloError`].
+    /// They are those of [`SiloError`]. After `NoSilo`, `Already` and `Halted` nothing was done. After `Limit` and
+    /// `Memory` what was answered by then stands, and no silo comes or goes any more.
     pub fn silo_up(&mut self, silo: u8) -> Result<(), SiloError>
         ensures { ChangesUp self.old silo result self.new }
     {
@@ -200,7 +214,10 @@ impl<R: Host, G: Gate + 'static> Service<R, G> {
     /// live. What waits or runs there is handled elsewhere.
     ///
     /// # Errors
-    /// They are those of [`SiloError`].
+    /// They are those of [`SiloError`]. After `NoSilo`, `NotLive`, `LastSilo` and `Halted` nothing was done. After
+    /// `Limit` and `Memory` the loops of the silo have stopped, what was answered by then stands, and no silo comes or
+    /// goes any more. A queue that was not moved has no agent then, so [`settle`](Service::settle) answers `NotQuiet`
+    /// unless all is quiet; [`close`](Service::close) still ends the service.
     pub fn silo_down(&mut self, silo: u8) -> Result<(), SiloError>
         ensures { ChangesDown self.old silo result self.new }
     {
@@ -210,7 +227,10 @@ impl<R: Host, G: Gate + 'static> Service<R, G> {
         went(self.cluster.silo_down(&self.rt, self.rt.alloc(), silo))
     }
 
-    /// Stops all silos, and gives the report and what is left of each partition.
+    /// Stops all silos, waits until each handler has returned, and gives the report and what is left of each partition.
+    ///
+    /// The report comes where everything is handled, so call [`settle`](Service::settle) before this. A service that is
+    /// dropped without this call leaves its silos running until the program ends.
     ///
     /// # Errors
     /// They are those of [`CloseError`]. All silos have stopped, and what was left of the partitions is lost.
@@ -221,10 +241,9 @@ impl<R: Host, G: Gate + 'static> Service<R, G> {
             rt,
             cluster,
             caller,
+            mut callers,
         } = self;
-        let Ok(callers) = vec![in rt.alloc(); caller] else {
-            return Err(CloseError::Memory);
-        };
+        callers.push_reserved(caller);
         match cluster.finish(&rt, rt.alloc(), callers) {
             Ok(finished) => closing(finished),
             Err(_) => Err(CloseError::Memory),
