@@ -51,14 +51,15 @@ pub enum Finished<H> {
         /// What was done.
         traces: Traces<H>,
     },
-    /// A pass of a queue has not come back. It is the first such queue.
+    /// A pass of a queue has not come back. It is the first such queue. What was given is lost.
     NotAll {
         /// The queue.
         queue: usize,
         /// How many of its passes have not come back.
         missing: u64,
     },
-    /// Somebody else still has the turnstile of a queue, or a pass of it was made while it was closed.
+    /// Somebody else still has the turnstile of a queue, or a pass of it was made while it was closed. What was given is
+    /// lost.
     InUse,
 }
 
@@ -69,7 +70,7 @@ pub enum Finished<H> {
 /// `Report` where none of these could be.
 ///
 /// # Errors
-/// The call failed to allocate, or a loop had. What was given is lost then. It goes before all answers.
+/// The call failed to allocate, or a loop failed to before. What was given is lost then. It goes before all answers.
 pub fn finish<G: Gate, H: StoredHistory<Op, Reply>, R: Wait>(
     rt: &R,
     alloc: Global,

@@ -9,15 +9,18 @@ use stream_ident::{Event, GrainId, SubName, Token};
 /// are for whoever runs turns. No contract says when one of them is called, or how often. A gate has to have a handler;
 /// the two others do nothing where it doesn't say what they do.
 pub trait Gate: Send + Sync + Drop {
-    /// Is called in the turn of each call, before its operation is applied to the partition of this queue. All
-    /// other calls of that partition wait until it returns.
+    /// Is called for each call of the partition of this queue, while its turnstile is held and before the operation is
+    /// applied. All other calls of that partition wait until it returns.
     fn inside(&self, _queue: usize) {}
 
-    /// Handles an event for a grain, and gives the note that follows. It is to run while no turn is held.
+    /// Handles an event for a grain, and gives the note that follows. It is to run while no turnstile is held.
     ///
-    /// The grain is the one whose turn runs. So this is a method of that grain, and all grains share the gate.
-    /// The number of an explicit subscription is unique in its queue, which is that of the event's stream. The note is
-    /// the subscription's own: 0 at first, and then what the handler gave for the event before, as it was committed.
+    /// The grain is the one whose turn runs. So this is a method of that grain, and all grains share the gate: workers
+    /// call it from their threads, for different grains at the same time. The number of an explicit subscription is
+    /// unique in its queue, which is that of the event's stream. The note is the subscription's own: for the first event
+    /// of a turn what its last commit stored, 0 at first, and for each further one what the handler gave for the event
+    /// before. Where a turn is lost before its commit, the handler is called again for its events. It has to return: a
+    /// silo that goes, and the end of a cluster, wait for it.
     fn handle(&self, grain: &GrainId, sub: &SubName, event: &Event, note: u64) -> u64;
 
     /// Is to be called once after each commit, with the grain whose turn it was, and the token of the turn's last event.

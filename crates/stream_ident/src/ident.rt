@@ -57,7 +57,10 @@ pub struct WrongByte {
 impl Name {
     ghost use Rattle.stream_ident.specs.Name.{name_of, name_lt};
 
-    /// The name of these bytes, or the least place at which they are wrong.
+    /// The name of these bytes.
+    ///
+    /// # Errors
+    /// They aren't 1 to 64 bytes of `A-Z a-z 0-9 _ . -`. [`WrongByte`] has the least wrong place.
     pub fn new(bytes: &[u8]) -> Result<Name, WrongByte>
         ensures { result ≡ name_of bytes.now }
     {
@@ -222,6 +225,9 @@ impl StreamId {
     ghost use Rattle.stream_ident.specs.Name.{stream_of, stream_lt};
 
     /// The stream of a namespace and a key.
+    ///
+    /// # Errors
+    /// One of the two is no name. [`BadName`] has the first such field, and the least wrong place in it.
     pub fn new(namespace: &[u8], key: &[u8]) -> Result<StreamId, BadName>
         ensures { result ≡ stream_of namespace.now key.now }
     {
@@ -243,6 +249,9 @@ impl GrainId {
     ghost use Rattle.stream_ident.specs.Name.{grain_of, grain_lt};
 
     /// The grain of a kind and a key.
+    ///
+    /// # Errors
+    /// One of the two is no name. [`BadName`] has the first such field, and the least wrong place in it.
     pub fn new(kind: &[u8], key: &[u8]) -> Result<GrainId, BadName>
         ensures { result ≡ grain_of kind.now key.now }
     {

@@ -57,7 +57,10 @@ pub struct BadPayload {
 impl Payload {
     ghost use Rattle.stream_ident.specs.Name.{payload_of};
 
-    /// The payload of these bytes, or the least place at which they are wrong.
+    /// The payload of these bytes.
+    ///
+    /// # Errors
+    /// They are more than 256, or one of them isn't printable (0x20 to 0x7E). [`BadPayload`] has the least wrong place.
     pub fn new(bytes: &[u8]) -> Result<Payload, BadPayload>
         ensures { result ≡ payload_of bytes.now }
     {
@@ -213,7 +216,10 @@ impl Batch {
         self.payloads
     }
 
-    /// An equal batch, unless no memory is left. This one stays as it is.
+    /// An equal batch.
+    ///
+    /// # Errors
+    /// The call failed to allocate. This batch stays as it is.
     pub fn copy(&self, alloc: Global) -> Result<Batch, AllocError>
         ensures { IfOk result (λ copy. copy ≡ self.now) }
     {

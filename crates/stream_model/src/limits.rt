@@ -1,6 +1,7 @@
 //! Limits of a partition.
 
-/// How much a partition holds at most. Each limit has a named refusal, which changes nothing.
+/// How much a partition holds at most. An operation that would go past it is answered `QueueFull` (events), `TooMany`
+/// (subscriptions and rules) or `Spent` (rises), and changes nothing.
 #[derive(Clone, Copy, Debug, PartialEq, Eq)]
 pub struct Limits {
     /// Events in the log: up to 1,000,000.

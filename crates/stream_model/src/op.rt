@@ -126,8 +126,10 @@ pub enum Op {
 }
 
 impl Op {
-    /// An equal operation. Only the payloads of a publish take memory, and where they fail to allocate this
-    /// operation stays as it is.
+    /// An equal operation.
+    ///
+    /// # Errors
+    /// The call failed to allocate, which only a `Publish` with payloads can do. This operation stays as it is.
     pub fn copy(&self, alloc: Global) -> Result<Op, AllocError>
         ensures same { IfOk result (λ copied. copied ≡ self.now) }
         ensures memory { OnErr result (has_payloads self.now ≡ true) }
