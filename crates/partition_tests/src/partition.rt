@@ -236,29 +236,46 @@ const ORDERED: [(Call, &str); 5] = [
     ),
 ];
 
-/// A partition is printed short. No two of the numbers are equal.
-const PRINTED: [(Call, &str); 7] = [
+/// A partition is printed short. No two of the numbers are equal, and none is 0.
+const PRINTED: [(Call, &str); 12] = [
     (
         Call::Subscribe(b'x', Start::Latest),
         "Subscribed { number: 1 }",
     ),
     (
-        Call::Subscribe(b'x', Start::Latest),
+        Call::Subscribe(b'y', Start::Latest),
         "Subscribed { number: 2 }",
     ),
     (
         Call::Subscribe(b'x', Start::Latest),
         "Subscribed { number: 3 }",
     ),
+    (
+        Call::Subscribe(b'x', Start::Latest),
+        "Subscribed { number: 4 }",
+    ),
     (Call::Publish(b'k', 1), "Published { seq: 0 }"),
     (Call::Publish(b'k', 1), "Published { seq: 1 }"),
+    (Call::Publish(b'k', 1), "Published { seq: 2 }"),
+    (
+        Call::Pull(1),
+        "Pulled { count: 1, low: Token { seq: 0, idx: 0 }, high: Token { seq: 1, idx: 0 } }",
+    ),
+    (
+        Call::Deliver(1),
+        "Delivered { token: Token { seq: 0, idx: 0 } }",
+    ),
+    (
+        Call::Deliver(2),
+        "Delivered { token: Token { seq: 0, idx: 0 } }",
+    ),
     (
         Call::Move(7),
         "Moved { generation: 1, low: Token { seq: 0, idx: 0 } }",
     ),
     (
         Call::Print,
-        "Partition { generation: 1, silo: 7, events: 2, subs: 3, grains: 0, .. }",
+        "Partition { generation: 1, silo: 7, events: 3, subs: 4, grains: 2, .. }",
     ),
 ];
 
