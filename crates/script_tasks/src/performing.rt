@@ -25,8 +25,10 @@ pub fn perform<R: Runtime + AllocGlobal + Threads + Wait + Copy + Send + 'static
     end(rt, &perform_command_line(rt))
 }
 
-/// The exit status of the program, by how that ended which it was asked for. What stopped it is printed.
-fn end<R: Print + Eprint>(rt: &R, ended: &Result<(), ProgramFault>) -> ExitCode
+/// Ends the program, by how that ended which it was asked for: prints what stopped it on standard error, once, or help or
+/// the version on standard output, and gives the exit status, which is 0 where it was done, and else that of the fault,
+/// as [`ProgramFault::report`] tells.
+pub fn end<R: Print + Eprint>(rt: &R, ended: &Result<(), ProgramFault>) -> ExitCode
     ensures { Exits ended.now result }
 {
     match ended {
