@@ -1,7 +1,7 @@
 //! What is told of each fault, and the status that the program ends with.
 use crate::words::owned;
 use cluster_scripts::Unfinished;
-use script_tasks::{ProgramFault, parse_options};
+use script_tasks::{ProgramFault, end, parse_options};
 use std::alloc::Global;
 use std::cell::Cell;
 use std::fmt::Display;
@@ -89,20 +89,15 @@ impl Eprint for Console<'_> {
     }
 }
 
-/// What is printed of a fault, and the exit status.
-fn reported(
-    alloc: Global,
-    fault: &ProgramFault,
-    text: &str,
-    is_closed: bool,
-) -> (Prints, ExitCode) {
+/// What is printed where the program ends with a fault, and the exit status.
+fn reported(alloc: Global, fault: ProgramFault, text: &str, is_closed: bool) -> (Prints, ExitCode) {
     let console = Console {
         alloc,
         text,
         is_closed,
         prints: Cell::new(NOTHING),
     };
-    let code = fault.report(&console);
+    let code = end(&console, &Err(fault));
     (console.prints.get(), code)
 }
 
@@ -120,9 +115,10 @@ const TOLD_ONCE: Prints = Prints {
 };
 
 /// Whether the fault is told once, in this text, and ends with this status.
-fn is_told(alloc: Global, fault: &ProgramFault, text: &str, status: u8) -> bool {
+fn is_told(alloc: Global, fault: ProgramFault, text: &str, status: u8) -> bool {
+    let own = fault.status();
     let (prints, code) = reported(alloc, fault, text, false);
-    prints == TOLD_ONCE && code == ExitCode::from(status) && fault.status() == status
+    prints == TOLD_ONCE && code == ExitCode::from(status) && own == status
 }
 
 /// Faults of reading and writing and of lines, their texts, and the statuses that they end with.
@@ -152,7 +148,7 @@ static FAULTS: [(SimError, &str, u8); 5] = [
 fn faults_of_a_script_are_told_once(rt: HostRuntime) {
     for (error, text, status) in &FAULTS {
         assert!(rt;
-            is_told(rt.alloc(), &ProgramFault::from(*error), text, *status),
+            is_told(rt.alloc(), ProgramFault::from(*error), text, *status),
             "{text}"
         );
     }
@@ -169,7 +165,7 @@ static UNFINISHED: [(Unfinished, &str); 3] = [
 fn runs_without_a_report_are_told_once(rt: HostRuntime) {
     for (why, text) in &UNFINISHED {
         assert!(rt;
-            is_told(rt.alloc(), &ProgramFault::Unfinished(*why), text, 4),
+            is_told(rt.alloc(), ProgramFault::Unfinished(*why), text, 4),
             "{text}"
         );
     }
@@ -234,7 +230,7 @@ fn words_that_ask_for_no_task_are_told_once(rt: HostRuntime) -> Result<(), Fail>
             None => own.as_str(),
         };
         assert!(rt;
-            reported(alloc, &fault, text, *is_closed) == (*prints, ExitCode::from(*status)),
+            reported(alloc, fault, text, *is_closed) == (*prints, ExitCode::from(*status)),
             "{word}"
         );
     }

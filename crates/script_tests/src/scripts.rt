@@ -60,6 +60,35 @@ const MISSED: &[u8] = b"sub o/k g/x latest\n\
     pub o/k \"e\"\npub o/k \"e\"\n\
     drain\nsub o/k g/y from 0.0\nunsub 0:1\n";
 
+/// Two streams that fall into the queues 37 and 42 of 64.
+const WIDE: &[u8] = b"sub o/k g/x latest
+sub o/0 g/y latest
+rule log o
+pub o/k \"a\"
+down 1
+pub o/0 \"b\" \"c\"
+up 1
+drain
+pub o/k \"d\"
+unsub 63:1
+";
+
+const WIDE_TOLD: &[u8] = b"refused 10
+report
+37:1 o/k g/x 0.0 2
+  0.0 \"a\"
+  1.0 \"d\"
+37:log@o/k o/k log/k 0.0 2
+  0.0 \"a\"
+  1.0 \"d\"
+42:1 o/0 g/y 0.0 2
+  0.0 \"b\"
+  0.1 \"c\"
+42:log@o/0 o/0 log/0 0.0 2
+  0.0 \"b\"
+  0.1 \"c\"
+";
+
 /// A script, where it is run, and what it prints.
 struct Story {
     queues: u32,
@@ -71,7 +100,7 @@ struct Story {
 
 /// On any number of silos a script prints the same. At the end stand lines that say nothing, a drain before anything, and
 /// nothing at all.
-static STORIES: [Story; 9] = [
+static STORIES: [Story; 10] = [
     Story {
         queues: 1,
         blocks: 4,
@@ -106,6 +135,13 @@ static STORIES: [Story; 9] = [
         silos: 2,
         script: MISSED,
         printed: b"miss 68\nreport\n0:1 closed\n",
+    },
+    Story {
+        queues: 64,
+        blocks: 4,
+        silos: 2,
+        script: WIDE,
+        printed: WIDE_TOLD,
     },
     Story {
         queues: 2,
