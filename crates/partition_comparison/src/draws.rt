@@ -223,7 +223,10 @@ impl Draws {
 }
 
 /// A batch of so many payloads, which take turns.
-fn batch(alloc: Global, payloads: &[Payload; 3], count: u32) -> Result<Batch, AllocError> {
+///
+/// # Errors
+/// The call failed to allocate.
+pub fn batch(alloc: Global, payloads: &[Payload; 3], count: u32) -> Result<Batch, AllocError> {
     let mut batch = Vec::new(alloc);
     for place in 0..count {
         batch.push(payloads[place as usize % 3])?;

@@ -33,7 +33,7 @@ impl Fault {
         match self {
             Fault::CommandLine => "partition_comparison [RUNS [ROUNDS [SEED]]], three numbers",
             Fault::Different(text) => text.as_str(),
-            Fault::Untold => "a partition with more blocks was taken for the same",
+            Fault::Untold => "a partition that differs was taken for the same",
             Fault::Memory => "out of memory",
             Fault::Write => "write fault",
             Fault::Name => "bad name",

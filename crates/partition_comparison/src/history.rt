@@ -2,7 +2,7 @@
 ghost use Rattle.std.specs.Prelude.{◌≤◌};
 ghost use Rattle.stream_model.specs.Bounds.{AreLimits};
 
-use crate::draws::{Draws, Idle};
+use crate::draws::{Draws, Idle, batch};
 use crate::fault::Fault;
 use crate::heard::Heard;
 use crate::names::Names;
@@ -10,7 +10,7 @@ use crate::options::Plan;
 use crate::side_by_side::SideBySide;
 use crate::tally::Tally;
 use std::alloc::{AllocError, Global};
-use step_core::{DrainEnd, Limits, Op, Reply};
+use step_core::{DrainEnd, Limits, Op, Reply, Start};
 
 /// How many operations a round has.
 const ROUND: usize = 8;
@@ -33,15 +33,70 @@ pub fn compare(alloc: Global, plan: Plan) -> Result<Tally, Fault> {
     Ok(tally)
 }
 
-/// Sees that a difference is told: a short history beside a plain program with a block more has to end with
-/// one.
+/// Sees that a difference is told by each comparison alone.
 fn see_difference(alloc: Global) -> Result<(), Fault> {
-    let mut tally = Tally::new(alloc)?;
-    match compare_history(alloc, Like { seed: 3, more: 1 }, 64, &mut tally) {
+    is_told(reply_beside_larger_cache(alloc))?;
+    is_told(look_past_plain(alloc))?;
+    is_told(drain_past_plain(alloc))?;
+    is_told(reply_past_twin(alloc))?;
+    is_told(drain_past_twin(alloc))
+}
+
+/// What was compared so has to have ended with a difference.
+fn is_told(ended: Result<(), Fault>) -> Result<(), Fault> {
+    match ended {
         Err(Fault::Different(_)) => Ok(()),
         Err(fault) => Err(fault),
         Ok(()) => Err(Fault::Untold),
     }
+}
+
+/// The rounds of a short history, without its end, beside a plain program with a block more.
+fn reply_beside_larger_cache(alloc: Global) -> Result<(), Fault> {
+    let mut tally = Tally::new(alloc)?;
+    begin(alloc, Like { seed: 3, more: 1 })?.go_through(64, &mut tally)
+}
+
+/// The looks after an operation that the plain program isn't given.
+fn look_past_plain(alloc: Global) -> Result<(), Fault> {
+    let mut both = both(alloc, Like { seed: 3, more: 0 })?;
+    both.step_without_plain(&Op::Move { silo: 1 })?;
+    both.compare_looks()
+}
+
+/// A drain after an event that the plain program isn't given.
+fn drain_past_plain(alloc: Global) -> Result<(), Fault> {
+    let names = Names::new()?;
+    let subscribe = Op::Subscribe {
+        stream: names.streams[0],
+        grain: names.grains[0],
+        start: Start::Latest,
+    };
+    let publish = Op::Publish {
+        stream: names.streams[0],
+        payloads: batch(alloc, &names.payloads, 1)?,
+    };
+    let mut both = both(alloc, Like { seed: 3, more: 0 })?;
+    both.step(&subscribe)?;
+    both.step_without_plain(&publish)?;
+    both.drain()?;
+    Ok(())
+}
+
+/// A reply after an operation that the twin isn't given.
+fn reply_past_twin(alloc: Global) -> Result<(), Fault> {
+    let mut both = both(alloc, Like { seed: 3, more: 0 })?;
+    both.step_without_twin(&Op::Move { silo: 1 })?;
+    both.step(&Op::Move { silo: 1 })?;
+    Ok(())
+}
+
+/// A drain after an operation that the twin isn't given.
+fn drain_past_twin(alloc: Global) -> Result<(), Fault> {
+    let mut both = both(alloc, Like { seed: 3, more: 0 })?;
+    both.step_without_twin(&Op::Move { silo: 1 })?;
+    both.drain()?;
+    Ok(())
 }
 
 /// Of which seed a history is, and by how many blocks the plain program has more.
@@ -55,18 +110,33 @@ struct Like {
 fn compare_history(alloc: Global, like: Like, rounds: u64, tally: &mut Tally) -> Result<(), Fault>
     requires { like.more ≤ 1 }
 {
-    let seed = like.seed;
+    let mut history = begin(alloc, like)?;
+    history.go_through(rounds, tally)?;
+    history.end(tally)
+}
+
+/// The history of a seed, before its first round.
+fn begin(alloc: Global, like: Like) -> Result<History, Fault>
+    requires { like.more ≤ 1 }
+{
     let names = Names::new()?;
-    let both = SideBySide::new(alloc, seed, blocks(seed), like.more, limits(seed))?;
+    let both = both(alloc, like)?;
     let heard = Heard::nothing(&names.grains[0]);
-    let draws = Draws::new(seed, names);
-    let mut history = History {
+    let draws = Draws::new(like.seed, names);
+    Ok(History {
         alloc,
         both,
         heard,
         draws,
-    };
-    history.go_through(rounds, tally)
+    })
+}
+
+/// A partition, its twin and the plain program, before the first round of a seed.
+fn both(alloc: Global, like: Like) -> Result<SideBySide, AllocError>
+    requires { like.more ≤ 1 }
+{
+    let seed = like.seed;
+    SideBySide::new(alloc, seed, blocks(seed), like.more, limits(seed))
 }
 
 /// A history that is made.
@@ -89,12 +159,12 @@ impl Drop for History {
 }
 
 impl History {
-    /// All rounds, and the end.
+    /// All rounds.
     fn go_through(&mut self, rounds: u64, tally: &mut Tally) -> Result<(), Fault> {
         for round in 0..rounds {
             self.go_on(round, tally)?;
         }
-        self.end(tally)
+        Ok(())
     }
 
     /// A round: one operation after another, or in each fourth round all of them at once.

@@ -93,6 +93,28 @@ impl SideBySide {
         Ok(())
     }
 
+    /// Does an operation to the partition and its twin alone.
+    ///
+    /// # Errors
+    /// The call failed to allocate.
+    pub fn step_without_plain(&mut self, op: &Op) -> Result<(), AllocError> {
+        let alloc = self.place.alloc;
+        self.partition.apply(alloc, op)?;
+        self.twin.apply(alloc, op)?;
+        Ok(())
+    }
+
+    /// Does an operation to the partition and the plain program alone.
+    ///
+    /// # Errors
+    /// The call failed to allocate.
+    pub fn step_without_twin(&mut self, op: &Op) -> Result<(), AllocError> {
+        let alloc = self.place.alloc;
+        self.partition.apply(alloc, op)?;
+        self.reference.step(alloc, op.copy(alloc)?)?;
+        Ok(())
+    }
+
     /// Compares all that can be looked at.
     ///
     /// # Errors
