@@ -77,7 +77,7 @@ was handled (`not quiet`), and the report is missing."#;
 
 /// What help says below the options of a trace.
 const TRACE_EXAMPLE: &str =
-    r#"The script is run as `streams run` runs it, and its words are the same. What is printed is what was done
+    r#"The script is run as `streams run` runs it, by the same arguments. What is printed is what was done
 at each queue, by producers and by the silos, as a script that `streams sim` does again on one thread.
 Behind each line stands its reply in a comment. Of the script
 

@@ -77,7 +77,7 @@ fn open<R: Files>(rt: &R, path: &str) -> Result<R::File, SimError> {
 /// Does a task on a script. The text goes out through a buffer, which is flushed at the end.
 ///
 /// # Errors
-/// They are those of [`sim`] or [`run_on_silos`], by the task.
+/// They are those of [`sim`], [`run_on_silos`] or [`trace_on_silos`], by the task, or the buffer failed to allocate.
 pub fn perform_task<T: Threads + Wait + Copy + Send + 'static, R: Read + Drop, W: Write + Drop>(
     rt: &T,
     alloc: Global,
