@@ -1,4 +1,5 @@
-//! Simulates scripts that go to the limits of a partition, and counts the lines of their replies.
+//! Simulates scripts that go to the limits of a partition, and counts the lines of their replies. Grains subscribe as
+//! often as they may, and a rule does so for as many streams.
 //!
 //! No clause can say that memory is there. Here it is, and so a simulation that fails to allocate ends the program with a
 //! fault.
@@ -17,6 +18,13 @@ pub fn print_all<R: Print>(rt: &R, alloc: Global) -> Result<()> {
         "10,000 grains",
         sim_config(1, 4),
         &many_grains(alloc)?,
+    )?;
+    print_lines(
+        rt,
+        alloc,
+        "10,000 streams with a rule",
+        sim_config(1, 4),
+        &many_streams(alloc)?,
     )?;
     print_lines(
         rt,
@@ -41,6 +49,17 @@ fn many_grains(alloc: Global) -> Result<Vec<u8>, AllocError> {
         script.extend_from_slice(format!(in alloc; "sub o/k g/{key} latest\n")?.as_bytes())?;
     }
     script.extend_from_slice(b"pub o/k \"a\"\npub o/k \"b\"\ndrain\nreport\n")?;
+    Ok(script)
+}
+
+/// A rule, and ten thousand streams with an event each, so that it makes a subscription for each.
+fn many_streams(alloc: Global) -> Result<Vec<u8>, AllocError> {
+    let mut script = Vec::new(alloc);
+    script.extend_from_slice(b"rule g o\n")?;
+    for key in 0..10_000 {
+        script.extend_from_slice(format!(in alloc; "pub o/{key} \"a\"\n")?.as_bytes())?;
+    }
+    script.extend_from_slice(b"drain\nreport\n")?;
     Ok(script)
 }
 
