@@ -49,7 +49,7 @@ pub fn check<R: Print + Clock + Threads + Wait + Sync>(rt: &R, alloc: Global) ->
     Ok(())
 }
 
-/// Sees that a difference is told: one call fewer isn't taken for the same.
+/// Sees that a difference is told: neither one call fewer nor a sum of one more is taken for the same.
 fn see_difference<R: Clock + Threads + Wait + Sync>(
     rt: &R,
     alloc: Global,
@@ -63,6 +63,12 @@ fn see_difference<R: Clock + Threads + Wait + Sync>(
     };
     let is_told = !agree(told, fewer) && !agree(told, other);
     ensure!(is_told, "fewer calls were taken for the same");
+    let more = Told {
+        sum: told.sum.wrapping_add(1),
+        ..told
+    };
+    let compared = compare::<Number, R>(rt, alloc, 1, asking, more);
+    ensure!(compared.is_err(), "another sum was taken for the same");
     Ok(())
 }
 

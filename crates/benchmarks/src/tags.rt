@@ -2,10 +2,10 @@
 mod timing;
 mod ways;
 
-use crate::tags::timing::{Seconds, agree, compare};
+use crate::tags::timing::{Seconds, compare};
 use crate::tags::ways::{
     CountByLanes, CountByMemchr, CountPlainly, FindByLanes, FindByMemchr, FindPlainly, MaskByLanes,
-    MaskByMemchr, MaskPlainly, Tags, Way,
+    MaskByMemchr, MaskPlainly, Tags,
 };
 use anyhow::{Result, ensure};
 use std::alloc::Global;
@@ -33,19 +33,18 @@ pub fn check<R: Print + Clock>(rt: &R, alloc: Global) -> Result<()> {
     for size in SIZES {
         measure(rt, alloc, size, 1)?;
     }
-    see_difference(alloc)?;
+    see_difference(rt, alloc)?;
     println!(rt; "the three ways agree")?;
     Ok(())
 }
 
-/// Sees that a difference is told: a place isn't taken for a count.
-fn see_difference(alloc: Global) -> Result<()> {
+/// Sees that a difference is told: none of the three ways may count where the others find a place.
+fn see_difference<C: Clock>(clock: &C, alloc: Global) -> Result<()> {
     let tags = Tags::new(alloc, SIZES[0])?;
-    let (place, count) = (
-        FindByLanes::search(&tags, 0),
-        CountByLanes::search(&tags, 0),
-    );
-    let is_told = !agree(place, count, place) && !agree(place, place, count);
+    let first = compare::<CountByLanes, FindPlainly, FindByMemchr, C>(clock, &tags, 1);
+    let second = compare::<FindByLanes, CountPlainly, FindByMemchr, C>(clock, &tags, 1);
+    let third = compare::<FindByLanes, FindPlainly, CountByMemchr, C>(clock, &tags, 1);
+    let is_told = first.is_err() && second.is_err() && third.is_err();
     ensure!(is_told, "a count was taken for a place");
     Ok(())
 }

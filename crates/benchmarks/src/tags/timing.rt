@@ -33,7 +33,7 @@ pub fn compare<L: Way, P: Way, M: Way, C: Clock>(
 }
 
 /// Whether three ways gave the same sum.
-pub fn agree(lanes: u64, plain: u64, memchr: u64) -> bool {
+fn agree(lanes: u64, plain: u64, memchr: u64) -> bool {
     lanes == plain && lanes == memchr
 }
 
