@@ -1,12 +1,35 @@
 -- What a command line may ask for, and what is written where that is done.
-use Rattle.std.specs.Prelude.{ℕ, List, Option, Result, Ok, Err}
-use Rattle.stream_cluster.specs.Clusters.{IsConfig}
+use Rattle.std.specs.Prelude.{ℕ, min, max, List, Option, Result, Ok, Err}
+use Rattle.stream_cluster.specs.declared.config.Config.{Config}
+use Rattle.stream_cluster.specs.Clusters.{IsConfig, greatest_limits}
 use Rattle.script_tasks.specs.declared.options.Task.{Task}
 use Rattle.script_tasks.specs.declared.options.Task.TheVariants as task
 use Rattle.script_tasks.specs.declared.fault.ProgramFault.{ProgramFault}
 use Rattle.script_tasks.specs.declared.fault.ProgramFault.TheVariants as fault
 use Rattle.script_tasks.specs.Printing.{PrintsRun, PrintsTrace}
+use Rattle.stream_script.specs.declared.simulate.SimConfig.{SimConfig}
 use Rattle.stream_script.specs.Simulation.{IsSimConfig, Outcome, Simulates, simulation}
+
+-- a number that is asked for, taken as one from 1 to the most that there may be
+abbrev pub within : ℕ → ℕ → ℕ
+within most number = max 1 (min number most)
+
+-- a simulation with so many queues and blocks
+abbrev pub simulation_with : ℕ → ℕ → SimConfig
+simulation_with queues blocks = record { queues = within 64 queues; blocks = within 64 blocks; limits = greatest_limits }
+
+-- a cluster with so many queues, blocks and silos, whose histories have room for so many calls
+abbrev pub cluster_with : ℕ → ℕ → ℕ → ℕ → Config
+cluster_with queues blocks silos history =
+    record {
+      queues = within 64 queues;
+      blocks = within 64 blocks;
+      silos = within 16 silos;
+      limits = greatest_limits;
+      history = history;
+      rounds = 1000000;
+      looks = 100000;
+    }
 
 -- the configuration of a task is within its conditions
 abbrev pub IsTask : Task → Type 0

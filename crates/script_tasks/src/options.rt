@@ -1,7 +1,8 @@
 //! The command line.
-ghost use Rattle.std.specs.Prelude.{IfOk};
+ghost use Rattle.std.specs.Prelude.{◌≡◌, ◌≤◌, ◌-◌, ◌^◌, length, IfOk, None, Ok};
 ghost use Rattle.stream_cluster.specs.Clusters.{IsConfig};
-ghost use Rattle.script_tasks.specs.Tasks.{IsTask};
+ghost use Rattle.script_tasks.specs.Tasks.{IsTask, cluster_with, simulation_with};
+ghost use Rattle.script_tasks.specs.declared.options.Task.TheVariants.{Simulate};
 ghost use Rattle.stream_script.specs.Simulation.{IsSimConfig};
 
 use clap::{Arg, ArgMatches, Command, value_parser};
@@ -135,7 +136,8 @@ pub enum Task {
 /// # Errors
 /// A word isn't understood, help or the version is asked for, or the call failed to allocate.
 pub fn parse_options<'a>(alloc: Global, words: &'a [String]) -> Result<Request<'a>, clap::Error>
-    ensures { IfOk result (λ request. IsTask request.task) }
+    ensures task { IfOk result (λ request. IsTask request.task) }
+    ensures usual { length words.now ≤ 1 → result ≡ Ok (record { file = None; task = Simulate (simulation_with 1 4) }) }
 {
     if words.len() <= 1 {
         return Ok(usual());
@@ -152,7 +154,8 @@ pub fn parse_options<'a>(alloc: Global, words: &'a [String]) -> Result<Request<'
 
 /// What is done where nothing is asked for.
 fn usual<'a>() -> Request<'a>
-    ensures { IsTask result.task }
+    ensures task { IsTask result.task }
+    ensures usual { result ≡ record { file = None; task = Simulate (simulation_with 1 4) } }
 {
     Request {
         file: None,
@@ -252,7 +255,8 @@ fn number(matches: &ArgMatches<'_>, id: &str, usual: u32) -> u32 {
 
 /// The simulation with this many queues and blocks, each taken as 1 to 64.
 pub fn sim_config(queues: u32, blocks: u32) -> SimConfig
-    ensures { IsSimConfig result }
+    ensures config { IsSimConfig result }
+    ensures exact { result ≡ simulation_with queues blocks }
 {
     SimConfig {
         queues: queues.clamp(1, 64) as usize,
@@ -264,7 +268,8 @@ pub fn sim_config(queues: u32, blocks: u32) -> SimConfig
 /// The cluster with this many queues, blocks and silos, each taken as 1 to 64, silos as 1 to 16. A run stores no
 /// history, so that there is room for as many calls as a number can count.
 pub fn run_config(queues: u32, blocks: u32, silos: u32) -> Config
-    ensures { IsConfig result }
+    ensures config { IsConfig result }
+    ensures exact { result ≡ cluster_with queues blocks silos (2 ^ 64 - 1) }
 {
     Config {
         queues: queues.clamp(1, 64) as usize,
@@ -279,7 +284,8 @@ pub fn run_config(queues: u32, blocks: u32, silos: u32) -> Config
 
 /// The cluster of a run whose calls are stored.
 pub fn trace_config(queues: u32, blocks: u32, silos: u32) -> Config
-    ensures { IsConfig result }
+    ensures config { IsConfig result }
+    ensures exact { result ≡ cluster_with queues blocks silos 4000000 }
 {
     Config {
         history: TRACE_HISTORY,

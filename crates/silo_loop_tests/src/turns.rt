@@ -150,4 +150,6 @@ fn in_order<R: Abort>(rt: &R, history: &[Entry<Addition, u64>]) {
 fn ten_threads(rt: HostRuntime) {
     let history = added::<Stored, HostRuntime>(&rt, rt.alloc());
     in_order(&rt, history.as_slice());
+    let asked = added::<Unanswered, HostRuntime>(&rt, rt.alloc());
+    assert!(rt; asked.as_slice().len() == 10_000);
 }
