@@ -11,6 +11,7 @@ use stream_script::Counted;
 pub enum Small {
     Rules,
     Events,
+    Rises,
     History,
     Rounds,
     Looks,
@@ -45,7 +46,8 @@ struct End {
     why: Unfinished,
 }
 
-static ENDS: [End; 6] = [
+// Of rises there is one, which is that of the activation: a loop is refused the turn, and nobody else meets a limit.
+static ENDS: [End; 7] = [
     End {
         small: Small::Rules,
         silos: 2,
@@ -62,6 +64,12 @@ static ENDS: [End; 6] = [
         small: Small::Events,
         silos: 2,
         script: STORY,
+        why: Unfinished::Limit,
+    },
+    End {
+        small: Small::Rises,
+        silos: 1,
+        script: EVENTS,
         why: Unfinished::Limit,
     },
     End {
@@ -94,6 +102,7 @@ pub fn lessened(config: Config, small: Small) -> Config
     match small {
         Small::Rules => {}
         Small::Events => config.limits.events = 2,
+        Small::Rises => config.limits.rises = 1,
         Small::History => config.history = 10,
         Small::Rounds => config.rounds = 0,
         Small::Looks => config.looks = 0,

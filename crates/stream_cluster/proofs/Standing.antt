@@ -30,7 +30,7 @@ use Rattle.cluster_operator.specs.Changes.{AreDeactivated, HasFound, HasMade, Ha
 use Rattle.cluster_operator.specs.Operators.{HasOnlyGoneOn, HasSpread, IsUnspread, OperatorGoesOn, OperatorView}
 use Rattle.cluster_operator.proofs.Changing.{each-earlier, each-later, goes-at, goes-back, op-trans}
 use Rattle.cluster_operator.proofs.Making.{goes-longer, made-earlier, made-since-silent}
-use Rattle.stream_cluster.specs.Clusters.{AnswersDown, AnswersRetire, AnswersUp, AreAtQueues, AreFresh, AreStarted, ClusterView, EndsBy, HasEnded, HasHalted, HasLeft, HasMetLimit, HasNoted, IsBrokenOff, IsCluster, IsDownBy, IsLimitedAt, IsOpened, IsRetired, IsRetiredBy, IsUpBy, MayGo, RunsOn, all_noted, is_fixed, none_ended, noted}
+use Rattle.stream_cluster.specs.Clusters.{AnswersDown, AnswersRetire, AnswersUp, AreAtQueues, AreFresh, AreStarted, ClusterView, EndsBy, HasEnded, HasHalted, HasLeft, HasMetLimit, HasNoted, IsAtDirectory, IsBrokenOff, IsCluster, IsDownBy, IsLimitedAt, IsOpened, IsRetired, IsRetiredBy, IsUpBy, MayGo, RunsOn, all_noted, is_fixed, none_ended, noted}
 use Rattle.stream_cluster.specs.declared.config.Config.{Config}
 use Rattle.stream_cluster.specs.declared.cluster.Retired.{Retired}
 use Rattle.stream_cluster.specs.declared.cluster.SiloDown.{SiloDown}
@@ -162,10 +162,10 @@ left-some live place within others none =
     omega (arith, others, shorter, empty)
 
 -- how a change that was broken off is answered
-pub halted-up : (v w : ClusterView) (silo : ℕ) (h : Halt) (r : Result SiloUp AllocError) → IsUpBy h r → is_fixed v ≡ false → (Contains v.operator.live silo → ⊥) → HasHalted v w → (h ≡ halt.Limit → HasMetLimit v.operator w.operator) → AnswersUp v silo r w
-halted-up v w silo halt.Limit r is goes absent halted met = subst (λ (x : Result SiloUp AllocError). AnswersUp v silo x w) (sym is) (goes, absent, halted, met refl)
-halted-up v w silo halt.Memory (Ok x) is goes absent halted met = absurd (cc (is))
-halted-up v w silo halt.Memory (Err e) is goes absent halted met = (goes, absent, halted)
+pub halted-up : (v w : ClusterView) (silo : ℕ) (h : Halt) (r : Result SiloUp AllocError) → IsUpBy h r → is_fixed v ≡ false → (Contains v.operator.live silo → ⊥) → HasHalted v w → (h ≡ halt.Limit → HasMetLimit v.operator w.operator) → w.ends ≡ v.ends → AnswersUp v silo r w
+halted-up v w silo halt.Limit r is goes absent halted met ends = subst (λ (x : Result SiloUp AllocError). AnswersUp v silo x w) (sym is) (goes, absent, halted, met refl, ends)
+halted-up v w silo halt.Memory (Ok x) is goes absent halted met ends = absurd (cc (is))
+halted-up v w silo halt.Memory (Err e) is goes absent halted met ends = (goes, absent, halted, ends)
 
 pub halted-down : (v w : ClusterView) (silo : ℕ) (h : Halt) (r : Result SiloDown AllocError) → IsDownBy h r → is_fixed v ≡ false → MayGo v silo → HasHalted v w → HasNoted v w → (h ≡ halt.Limit → HasMetLimit v.operator w.operator) → AnswersDown v silo r w
 halted-down v w silo halt.Limit r is goes may halted noted met = subst (λ (x : Result SiloDown AllocError). AnswersDown v silo x w) (sym is) (goes, may, halted, noted, met refl)
@@ -208,12 +208,17 @@ as-many caller lines beside =
     sym (length-map caller (λ (p : QueuePass). p.turnstile)) ∙ ap (λ ts. length ts) beside ∙ length-map lines (λ (l : LineView). l.pass.turnstile)
 
 -- what was opened is so while the operator's passes go on
+-- a pass stays at its turnstile
+directory-goes : (config : Config) (d e : DirectoryPass) → GoesOn d e → IsAtDirectory config d → IsAtDirectory config e
+directory-goes config d e on at = (at.0, on.turnstile ∙ at.1, at.2)
+
 pub opened-on : (config : Config) (v w : OperatorView) (caller : List QueuePass) → HasOnlyGoneOn v w → IsOpened config v caller → IsOpened config w caller
 opened-on config v w caller only opened =
     record {
       live = only.live ∙ opened.live;
       queues = goes-length v.lines w.lines only.on.lines ∙ opened.queues;
       at = at-goes config v.lines w.lines only.on.lines opened.at;
+      directory = directory-goes config v.directory w.directory only.on.directory opened.directory;
       balanced = subst (λ (xs : List ℕ). IsBalanced (replicate config.queues 0) xs w.assignment) (sym only.live)
           (subst (λ (xs : List ℕ). IsBalanced (replicate config.queues 0) v.live xs) (sym only.assignment) opened.balanced);
       beside = opened.beside ∙ sym (goes-places v.lines w.lines only.on.lines);
@@ -334,9 +339,9 @@ pub one-name : (live : List ℕ) (place one other : ℕ) → slice_get live plac
 one-name live place one other a b = ap (λ o. unwrap_or o one) (sym a ∙ b)
 
 -- what a new operator comes to, once its first silos live and the queues are spread over them
-pub opened-whole : (config : Config) (first lines : List LineView) (d : DirectoryPass) (v e w : OperatorView) (caller : List QueuePass) → lines ≡ first → length first ≡ config.queues → AreAtQueues config first → turnstiles caller ≡ places first → AllByRecursion IsUnused caller
+pub opened-whole : (config : Config) (first lines : List LineView) (d : DirectoryPass) (v e w : OperatorView) (caller : List QueuePass) → lines ≡ first → length first ≡ config.queues → AreAtQueues config first → turnstiles caller ≡ places first → AllByRecursion IsUnused caller → IsAtDirectory config d
     → v ≡ record { lines = lines; directory = d; live = []; assignment = replicate (length lines) 0 } → e ≡ record v { live = range_with_len 0 config.silos } → OperatorGoesOn e w → w.live ≡ e.live → HasSpread e w → IsOpened config w caller
-opened-whole config first lines d v e w caller same many at beside unused made enlisted on live spread =
+opened-whole config first lines d v e w caller same many at beside unused placed made enlisted on live spread =
     let kept : e.lines ≡ first = ap (λ (o : OperatorView). o.lines) enlisted ∙ ap (λ (o : OperatorView). o.lines) made ∙ same in
     let all : e.assignment ≡ replicate config.queues 0 =
     ap (λ (o : OperatorView). o.assignment) enlisted ∙ ap (λ (o : OperatorView). o.assignment) made ∙ ap (λ n. replicate n 0) (ap (λ (ls : List LineView). length ls) same ∙ many) in
@@ -344,6 +349,8 @@ opened-whole config first lines d v e w caller same many at beside unused made e
       live = live ∙ ap (λ (o : OperatorView). o.live) enlisted;
       queues = goes-length e.lines w.lines on.lines ∙ ap (λ (ls : List LineView). length ls) kept ∙ many;
       at = at-goes config e.lines w.lines on.lines (subst (λ (ls : List LineView). AreAtQueues config ls) (sym kept) at);
+      directory = directory-goes config e.directory w.directory on.directory
+          (subst (λ (x : DirectoryPass). IsAtDirectory config x) (sym (ap (λ (o : OperatorView). o.directory) enlisted ∙ ap (λ (o : OperatorView). o.directory) made)) placed);
       balanced = subst (λ (xs : List ℕ). IsBalanced xs w.live w.assignment) all spread.balanced;
       beside = beside ∙ ap (λ (ls : List LineView). places ls) (sym kept) ∙ sym (goes-places e.lines w.lines on.lines);
       each = as-many caller first beside ∙ many;
@@ -363,9 +370,10 @@ pub down-done : (v w : ClusterView) (place silo gone : ℕ) → is_fixed v ≡ f
 down-done v w place silo gone fixed may stood named on left same goes noted =
     (fixed, may, record { on = on; place = place; stood = stood; left = subst (λ k. HasLeft k place v.operator w.operator) named left; same = same; goes_on = goes }, noted)
 
-pub up-done : (v w : ClusterView) (silo : ℕ) (s : SiloView) → is_fixed v ≡ false → (Contains v.operator.live silo → ⊥) → OperatorGoesOn v.operator w.operator → w.operator.live ≡ v.operator.live ++ silo ∷ [] → w.silos ≡ v.silos ++ s ∷ [] → IsFresh v.rounds silo s → HasSpread v.operator w.operator → (w.is_parked ≡ v.is_parked) × (w.rounds ≡ v.rounds) × (w.looks ≡ v.looks) → w.is_halted ≡ false
+pub up-done : (v w : ClusterView) (silo : ℕ) (s : SiloView) → is_fixed v ≡ false → (Contains v.operator.live silo → ⊥) → OperatorGoesOn v.operator w.operator → w.operator.live ≡ v.operator.live ++ silo ∷ [] → w.silos ≡ v.silos ++ s ∷ [] → IsFresh v.rounds silo s → HasSpread v.operator w.operator → w.ends ≡ v.ends → (w.is_parked ≡ v.is_parked) × (w.rounds ≡ v.rounds) × (w.looks ≡ v.looks) → w.is_halted ≡ false
     → AnswersUp v silo (Ok up.Up) w
-up-done v w silo s fixed absent on live more fresh spread same goes = (fixed, absent, record { on = on; live = live; started = (s, more, fresh); spread = spread; same = same; goes_on = goes })
+up-done v w silo s fixed absent on live more fresh spread ends same goes =
+    (fixed, absent, record { on = on; live = live; started = (s, more, fresh); spread = spread; ends = ends; same = same; goes_on = goes })
 
 -- a silo that ran came back, and how its loops have ended was noted
 pub has-noted : (v w : ClusterView) (place : ℕ) (s back : SiloView) → place < length v.silos → s ≡ get_or v.silos place s → IsSameSilo s back → w.ends ≡ noted v.ends back → HasNoted v w

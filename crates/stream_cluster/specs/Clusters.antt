@@ -8,11 +8,13 @@ use Rattle.stream_model.specs.declared.op.Op.{Op}
 use Rattle.stream_model.specs.declared.reply.Reply.{Reply}
 use Rattle.stream_model.specs.Positions.{empty}
 use Rattle.stream_model.specs.declared.plain.PlainPartition.{PlainPartition}
+use Rattle.activation_directory.specs.Plain.{PlainDirectory}
+use Rattle.activation_directory.specs.Plain as directory
 use Rattle.turnstile.specs.declared.history.Entry.{Entry}
 use Rattle.turnstile.specs.Passes.{Origin}
 use Rattle.turnstile.specs.declared.view.Start.{Start}
 use Rattle.queue_balancer.specs.Balance.{IsBalanced}
-use Rattle.silo_loops.specs.Lines.{LineView, QueuePass, places}
+use Rattle.silo_loops.specs.Lines.{DirectoryPass, LineView, QueuePass, places}
 use Rattle.cluster_callers.specs.Calls.{IsUnused, turnstiles}
 use Rattle.silo_crew.specs.Silos.{GoOn, IsFresh, IsSameSilo, IsSiloAt, SiloView}
 use Rattle.cluster_ending.specs.declared.ends.LoopEnds.{LoopEnds}
@@ -65,6 +67,14 @@ opening config = record { state = empty config.blocks config.limits; limit = con
 -- a pass of a turnstile that began so
 abbrev pub IsAtQueue : Config → QueuePass → Type 0
 IsAtQueue config p = (t : Origin PlainPartition) × (p.turnstile ≡ Some t) × (t.start ≡ opening config)
+
+-- how the turnstile of the directory begins: without grains, and with as many permits as a directory may give
+abbrev pub opening_directory : Config → Start PlainDirectory
+opening_directory config = record { state = directory.empty 4000000; limit = config.history }
+
+-- a pass of a turnstile that began so
+abbrev pub IsAtDirectory : Config → DirectoryPass → Type 0
+IsAtDirectory config d = (t : Origin PlainDirectory) × (d.turnstile ≡ Some t) × (t.start ≡ opening_directory config)
 
 -- A cluster: what its operator holds, the silos whose loops run, as they were started, how those have ended that came
 -- back, whether the loops were given to whoever made it, whether a change of silos was broken off, how many rounds each
@@ -148,6 +158,7 @@ pub record IsUp (v : ClusterView) (silo : ℕ) (w : ClusterView) : Type 0 where
   pub live : w.operator.live ≡ v.operator.live ++ silo ∷ []
   pub started : (s : SiloView) × (w.silos ≡ v.silos ++ s ∷ []) × IsFresh v.rounds silo s
   pub spread : HasSpread v.operator w.operator
+  pub ends : w.ends ≡ v.ends
   pub same : (w.is_parked ≡ v.is_parked) × (w.rounds ≡ v.rounds) × (w.looks ≡ v.looks)
   pub goes_on : w.is_halted ≡ false
 
@@ -156,8 +167,8 @@ abbrev pub AnswersUp : ClusterView → ℕ → Result SiloUp AllocError → Clus
 AnswersUp v silo (Ok up.Halted) w = (is_fixed v ≡ true) × (w ≡ v)
 AnswersUp v silo (Ok up.Already) w = (is_fixed v ≡ false) × Contains v.operator.live silo × (w ≡ v)
 AnswersUp v silo (Ok up.Up) w = (is_fixed v ≡ false) × (¬ Contains v.operator.live silo) × IsUp v silo w
-AnswersUp v silo (Ok up.Limit) w = (is_fixed v ≡ false) × (¬ Contains v.operator.live silo) × HasHalted v w × HasMetLimit v.operator w.operator
-AnswersUp v silo (Err e) w = (is_fixed v ≡ false) × (¬ Contains v.operator.live silo) × HasHalted v w
+AnswersUp v silo (Ok up.Limit) w = (is_fixed v ≡ false) × (¬ Contains v.operator.live silo) × HasHalted v w × HasMetLimit v.operator w.operator × (w.ends ≡ v.ends)
+AnswersUp v silo (Err e) w = (is_fixed v ≡ false) × (¬ Contains v.operator.live silo) × HasHalted v w × (w.ends ≡ v.ends)
 
 -- how a change of silos that was broken off is answered
 abbrev pub IsUpBy : Halt → Result SiloUp AllocError → Type 0
@@ -227,11 +238,12 @@ abbrev pub AreAtQueues : Config → List LineView → Type 0
 AreAtQueues config lines = AllByRecursion (λ (l : LineView). IsAtQueue config l.pass) lines
 
 -- The operator of a new cluster and its caller: the first silos are to live, all queues are spread from silo 0 over them,
--- and the caller has a pass at each queue and has made no call.
+-- the directory has no grain, and the caller has a pass at each queue and has made no call.
 pub record IsOpened (config : Config) (o : OperatorView) (caller : List QueuePass) : Type 0 where
   pub live : o.live ≡ range_with_len 0 config.silos
   pub queues : length o.lines ≡ config.queues
   pub at : AreAtQueues config o.lines
+  pub directory : IsAtDirectory config o.directory
   pub balanced : IsBalanced (replicate config.queues 0) o.live o.assignment
   pub beside : turnstiles caller ≡ places o.lines
   pub each : length caller ≡ config.queues

@@ -2,10 +2,9 @@
 ghost use Rattle.std.specs.Prelude.{◌≡◌, [], length, map, IfOk, OnOk};
 ghost use Rattle.std.specs.List.{AllByRecursion, range_with_len};
 ghost use Rattle.turnstile.specs.Calls.{first_pass};
-ghost use Rattle.shared_partition.specs.Directories.{BeganEmpty};
 ghost use Rattle.cluster_callers.specs.Calls.{IsUnused, turnstiles};
 ghost use Rattle.silo_loops.specs.Lines.{LineView, places};
-ghost use Rattle.stream_cluster.specs.Clusters.{AreAtQueues, IsAtQueue, IsConfig, IsOpened, opening};
+ghost use Rattle.stream_cluster.specs.Clusters.{AreAtQueues, IsAtDirectory, IsAtQueue, IsConfig, IsOpened, opening, opening_directory};
 
 use crate::config::Config;
 use activation_directory::{DirectoryOp, DirectoryReply};
@@ -79,22 +78,24 @@ fn open_queues<G: Gate, H: StoredHistory<Op, Reply>>(
 // A turnstile over a directory without grains, and the first pass of it.
 fn open_places<D: StoredHistory<DirectoryOp, DirectoryReply>>(
     alloc: Global,
-    history: u64,
+    config: &Config,
 ) -> Result<(Turnstile<SharedDirectory<D>>, PassOf<SharedDirectory<D>>), AllocError>
-    ensures start { IfOk result (λ r. BeganEmpty r.0.start) }
+    ensures start { IfOk result (λ r. r.0.start ≡ opening_directory config.now) }
     ensures pass { IfOk result (λ r. r.1 ≡ first_pass r.0) }
 {
     let shared = SharedDirectory::new(alloc, MOST_PERMITS);
-    let opened = Turnstile::new(alloc, shared, history)?;
+    let opened = Turnstile::new(alloc, shared, config.history)?;
     Ok(opened)
 }
 
 // A line with the first pass of the directory.
 fn open_directory<D: StoredHistory<DirectoryOp, DirectoryReply>>(
     alloc: Global,
-    history: u64,
-) -> Result<DirectoryLine<D>, AllocError> {
-    let (turnstile, pass) = open_places(alloc, history)?;
+    config: &Config,
+) -> Result<DirectoryLine<D>, AllocError>
+    ensures { IfOk result (λ line. IsAtDirectory config.now line) }
+{
+    let (turnstile, pass) = open_places(alloc, config)?;
     let shared = Arc::new(alloc, turnstile)?;
     Ok(DirectoryLine::new(shared, pass))
 }
@@ -163,7 +164,7 @@ pub(crate) fn open<
     let doorbell = Arc::new(alloc, Doorbell::new(0))?;
     let mut lines = open_queues(alloc, &gate, config)?;
     let caller = first_caller(alloc, Arc::try_clone(&doorbell)?, &mut lines)?;
-    let directory = open_directory(alloc, config.history)?;
+    let directory = open_directory(alloc, config)?;
     let mut operator = Operator::new(alloc, gate, doorbell, lines, directory)?;
     enlist_first(&mut operator, config.silos)?;
     match operator.spread(rt, alloc) {

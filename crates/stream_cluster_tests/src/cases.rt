@@ -5,6 +5,7 @@ use crate::asking::holds;
 use crate::producer::Producer;
 use crate::running::{Calls, End, Places, Running, Size, is_so, start};
 use activation_directory::{DirectoryOp, DirectoryReply};
+use cluster_callers::QueueCaller;
 use shared_partition::{Counting, Gate};
 use std::alloc::Global;
 use std::process::Abort;
@@ -35,6 +36,8 @@ pub enum Second {
     IsLost,
     /// It stays away from the end.
     Stays,
+    /// Its pass at the first queue is lost, and those at the others stay away from the end.
+    IsHalfLost,
 }
 
 /// A cluster, what is done to it, and how it ends.
@@ -116,7 +119,25 @@ pub fn ends<
             drop(other);
             is_so(&ended, case.end)
         }
+        Second::IsHalfLost => {
+            let other = producer.split(alloc, 0).expect(rt, "memory");
+            let kept = but_first(other);
+            let ended = running.finish(rt, alloc, producer).0;
+            drop(kept);
+            is_so(&ended, case.end)
+        }
     }
+}
+
+// The passes of a producer, but that of its first queue, which is lost.
+fn but_first<G: Gate, H: StoredHistory<Op, Reply>>(
+    producer: Producer<G, H>,
+) -> Vec<QueueCaller<G, H>> {
+    let (caller, _told) = producer.into_parts();
+    let mut queues = caller.into_queues();
+    queues.reverse();
+    drop(queues.pop());
+    queues
 }
 
 /// A cluster of one queue and one silo.
@@ -127,9 +148,11 @@ pub const ONE: Size = Size {
     room: 0,
 };
 
+const TWO: Size = Size { queues: 2, ..ONE };
+
 const PUBLISHED: [Step; 2] = [Step::Subscribe(0, 5), Step::Publish];
 
-static CASES: [Case; 3] = [
+static CASES: [Case; 4] = [
     // Another caller still has the turnstiles.
     Case {
         size: ONE,
@@ -143,6 +166,13 @@ static CASES: [Case; 3] = [
         steps: &[],
         second: Second::IsLost,
         end: End::Missing(1),
+    },
+    // A pass is missing at the first queue, and somebody still has the turnstile of the second.
+    Case {
+        size: TWO,
+        steps: &[],
+        second: Second::IsHalfLost,
+        end: End::InUse,
     },
     // A cluster that ends at once after a publish has handled the event or not, and says so.
     Case {
