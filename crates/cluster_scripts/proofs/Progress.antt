@@ -37,7 +37,7 @@ use Rattle.script_reader.proofs.Misses.{misses-change-no-other}
 use Rattle.script_producer.specs.declared.answer.Answer.{Answer}
 use Rattle.script_producer.specs.declared.answer.Answer.TheVariants as answer
 use Rattle.script_producer.specs.Telling.{AloneProduces, AsksLast, BeginsEmpty, HasGoneOn, HasTold, IsNewNumber, Looks, LooksQuiet, ProducesAlone, Tells, printed_lines, told_at, with_missed}
-use Rattle.script_producer.proofs.Seen.{alone-as, alone-front, gone-refl, gone-trans, none-told}
+use Rattle.script_producer.proofs.Seen.{alone-as, alone-front, asks-foreign, gone-refl, gone-trans, none-told}
 use Rattle.script_reader.specs.Scripts.{IsRunCommand, IsScript, RisesFrom}
 use Rattle.cluster_scripts.specs.declared.line.Stop.{Stop}
 use Rattle.cluster_scripts.specs.declared.line.Stop.TheVariants as stop
@@ -72,7 +72,7 @@ begins-on (p ∷ ps) (q ∷ qs) on begins = (begins-one p q on.0 begins.0, begin
 unused-told : (p : QueuePass) → IsUnused p → ProducesAlone p → told_at p ≡ []
 unused-told p unused alone =
     none-told (record p { seen = [] }) p
-    (record { on = record { only = refl; more = p.seen; seen = refl }; none = owns-foreign is_producer (numbers_of p) p.seen unused.silent }) alone
+    (record { on = record { only = refl; more = p.seen; seen = refl; own = asks-foreign (numbers_of p) p.seen unused.silent }; none = owns-foreign is_producer (numbers_of p) p.seen unused.silent }) alone
 
 -- ---- numbers of lines
 

@@ -31,7 +31,7 @@ use Rattle.script_reader.specs.ScriptReport.{told_report}
 use Rattle.script_reader.specs.Told as script
 use Rattle.script_reader.proofs.QuietReports.{script-told}
 use Rattle.script_producer.specs.Telling.{AloneProduces, BeginsEmpty, HasGoneOn, HasTold, ProducesAlone}
-use Rattle.script_producer.proofs.Seen.{none-told}
+use Rattle.script_producer.proofs.Seen.{asks-foreign, none-told}
 use Rattle.cluster_scripts.specs.declared.running.ScriptEnd.{ScriptEnd}
 use Rattle.cluster_scripts.specs.declared.running.ScriptEnd.TheVariants as end
 use Rattle.cluster_scripts.specs.Runs.{EndsRun, EndsScript, IsPrinted, IsUntouched, missed_in, run_end}
@@ -65,7 +65,7 @@ abbrev at_end : QueuePass → List (Entry Op Reply) → QueuePass
 at_end p history = record p { seen = history }
 
 abbrev ends-on : (p : QueuePass) (history : List (Entry Op Reply)) → HasBegun p history → HasGoneOn p (at_end p history)
-ends-on p history begun = record { only = refl; more = begun.rest; seen = begun.is }
+ends-on p history begun = record { only = refl; more = begun.rest; seen = begun.is; own = asks-foreign (numbers_of p) begun.rest begun.foreign }
 
 all-contained : {A : Type 0} (P : A → Type 0) (xs : List A) → ((x : A) → Contains xs x → P x) → AllByRecursion P xs
 all-contained P [] each = tt

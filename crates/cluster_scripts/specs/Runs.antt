@@ -20,7 +20,7 @@ use Rattle.script_reader.specs.declared.script_line.ScriptLine.{ScriptLine}
 use Rattle.script_reader.specs.declared.script_line.ScriptLine.TheVariants as printed
 use Rattle.script_reader.specs.ScriptReport.{line_text, live_silos, script_lines, script_report}
 use Rattle.script_reader.specs.Told as script
-use Rattle.script_producer.specs.Telling.{AloneProduces, BeginsEmpty, HasTold, LooksQuiet}
+use Rattle.script_producer.specs.Telling.{AloneProduces, BeginsEmpty, HasGoneOn, HasTold, LooksQuiet}
 use Rattle.cluster_scripts.specs.Lines.{FindsUnquiet, MeetsLimit}
 use Rattle.cluster_scripts.specs.declared.outcome.Ran.{Ran}
 use Rattle.cluster_scripts.specs.declared.outcome.RunEnd.{RunEnd}
@@ -140,7 +140,8 @@ run_end (finished.Limit traces) how = ends.Unfinished (why_after how unfinished.
 run_end (finished.NotAll queue missing) how = ends.Unfinished unfinished.Limit None
 run_end finished.InUse how = ends.Unfinished unfinished.Limit None
 
--- A run made a cluster, did the script on it and ended it, and tells what came of both.
+-- A run made a cluster, did the script on it and ended it, and tells what came of both. The caller that went into the
+-- end has gone on from the new cluster's.
 pub record RunsAndEnds {H : Type 0} (entries : H → List (Entry Op Reply)) (config : Config) (lines : List Line) (ran : Ran H) : Type 0 where
   pub cluster : ClusterView
   pub caller : List QueuePass
@@ -148,6 +149,7 @@ pub record RunsAndEnds {H : Type 0} (entries : H → List (Entry Op Reply)) (con
   pub script : ScriptRun
   pub later : ClusterView
   pub now : List QueuePass
+  pub on : AllZip HasGoneOn caller now
   pub does : AnswersScript lines cluster caller script later now
   pub finished : Finished H
   pub ends : HasFinished entries later (now ∷ []) finished

@@ -30,11 +30,11 @@ use Rattle.script_producer.proofs.Seen.{called-on, gone-refl}
 
 -- ---- one call
 
-pub once-on : (old : List QueuePass) (queue : ℕ) (op : Op) (result : Result Answer AllocError) (new : List QueuePass) → AsksOnce old queue op result new → AllZip HasGoneOn old new
-once-on old queue op result new once =
+pub once-on : (old : List QueuePass) (queue : ℕ) (op : Op) (result : Result Answer AllocError) (new : List QueuePass) → is_producer op ≡ true → AsksOnce old queue op result new → AllZip HasGoneOn old new
+once-on old queue op result new produces once =
     let calls = once.calls in
     subst (λ (es : List QueuePass). AllZip HasGoneOn old es) (sym calls.whole)
-    (zip-set HasGoneOn gone-refl old queue calls.was calls.is calls.had (called-on calls.was calls.is op once.outcome calls.calls))
+    (zip-set HasGoneOn gone-refl old queue calls.was calls.is calls.had (called-on calls.was calls.is op once.outcome (inl produces) calls.calls))
 
 -- where no limit was reached, there was a reply
 abbrev Replies : List QueuePass → ℕ → Op → Answer → List QueuePass → Type 0
@@ -125,6 +125,10 @@ pub each-next : (first a : Answer) (asked op : Op) (queue : ℕ) (old now new : 
     → AskedUpTo first asked (queue + 1) old new
 each-next first a asked op queue old now new is front once free some =
     one-more first a asked queue old now new front (subst (λ (o : Op). AsksOnce now queue o (Ok a) new) is once) free (λ zeroth. absurd (omega arith))
+
+-- one of these calls
+pub each-on : (asked op : Op) (queue : ℕ) (result : Result Answer AllocError) (old new : List QueuePass) → op ≡ asked → is_producer asked ≡ true → AsksOnce old queue op result new → AllZip HasGoneOn old new
+each-on asked op queue result old new is produces once = once-on old queue op result new (ap (λ o. is_producer o) is ∙ produces) once
 
 -- a rule is told without a look at the lines whose start token was refused
 each-alike : (asked : EachOp) (a b : Answer) (number : ℕ) (missed : List ℕ) → is_producer (op_of asked) ≡ true → IsToldAlike a b number missed (op_of asked)

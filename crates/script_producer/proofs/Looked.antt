@@ -1,7 +1,6 @@
 -- Looks at all queues, which ask for nothing that producers ask for.
 use Rattle.std.proofs.Common.{◌≡◌, inl, inr, ℕ, zero, suc, List, [], ◌∷◌, Result, Ok, Err, refl, sym, subst}
 use Rattle.std.specs.List.{AllZip}
-use Rattle.stream_model.specs.declared.op.Op.TheVariants as op
 use Rattle.stream_model.specs.declared.reply.Pending.{Pending}
 use Rattle.stream_model.specs.declared.reply.Reply.{Reply}
 use Rattle.stream_model.specs.declared.reply.Reply.TheVariants as reply
@@ -16,17 +15,17 @@ use Rattle.script_producer.specs.declared.answer.Answer.TheVariants as answer
 use Rattle.script_producer.specs.Telling.{HasGoneOn, Looks, LooksInVain, ProducesAlone, Tells}
 use Rattle.script_producer.proofs.Placing.{zip-weaker}
 use Rattle.script_producer.proofs.Replying.{line-none}
-use Rattle.script_producer.proofs.Seen.{ProducesNone, called-none, none-refl, none-told, none-trans}
+use Rattle.script_producer.proofs.Seen.{ProducesNone, looked-none, none-refl, none-told, none-trans}
 
 asked-none : (queue : ℕ) (result : Result Reply Refusal) (ps qs : List QueuePass) → AsksUpTo queue result ps qs → AllZip ProducesNone ps qs
 asked-none queue result [] qs asks = absurd asks
 asked-none queue result (p ∷ ps) [] asks = absurd asks
 asked-none zero result (p ∷ ps) (q ∷ qs) asks =
-    (called-none p q op.Quiet result refl asks.0, subst (λ (es : List QueuePass). AllZip ProducesNone ps es) (sym asks.1) (zip-refl ProducesNone none-refl ps))
-asked-none (suc queue) result (p ∷ ps) (q ∷ qs) asks = (called-none p q op.Quiet (Ok reply.IsQuiet) refl asks.0, asked-none queue result ps qs asks.1)
+    (looked-none p q result asks.0, subst (λ (es : List QueuePass). AllZip ProducesNone ps es) (sym asks.1) (zip-refl ProducesNone none-refl ps))
+asked-none (suc queue) result (p ∷ ps) (q ∷ qs) asks = (looked-none p q (Ok reply.IsQuiet) asks.0, asked-none queue result ps qs asks.1)
 
 pub look-none : (old : List QueuePass) (result : Result Quiet Refusal) (new : List QueuePass) → AsksQuiet old result new → AllZip ProducesNone old new
-look-none old (Ok All) new asks = zip-weaker IsQuiet ProducesNone (λ p q quiet. called-none p q op.Quiet (Ok reply.IsQuiet) refl quiet) old new asks
+look-none old (Ok All) new asks = zip-weaker IsQuiet ProducesNone (λ p q quiet. looked-none p q (Ok reply.IsQuiet) quiet) old new asks
 look-none old (Ok (NotQuiet queue why)) new asks = asked-none queue (Ok (reply.NotQuiet why)) old new asks
 look-none old (Err refusal) new asks = asked-none asks.0 (Err refusal) old new asks.1
 

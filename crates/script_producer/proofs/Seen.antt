@@ -1,28 +1,38 @@
 -- What calls add to what producers asked for and were told at a queue.
-use Rattle.std.proofs.Common.{◌≡◌, ℕ, Bool, true, false, if◌then◌else◌, List, [], ◌∷◌, ◌++◌, map, filter, Contains, Result, Ok, Err, refl, sym, ap, subst, ◌∙◌, append_assoc}
+use Rattle.std.proofs.Common.{◌≡◌, inl, inr, ℕ, Bool, true, false, if◌then◌else◌, List, [], ◌∷◌, ◌++◌, map, filter, Contains, Result, Ok, Err, refl, sym, ap, subst, ◌∙◌, append_assoc}
 use Rattle.std.proofs.lemmas.List.{append-nil, map-append}
 use Rattle.std.proofs.lemmas.List.Elements.{filter-append}
 use Rattle.std.specs.List.{AllByRecursion}
 use Rattle.stream_model.specs.declared.op.Op.{Op}
+use Rattle.stream_model.specs.declared.op.Op.TheVariants as ops
 use Rattle.stream_model.specs.declared.reply.Reply.{Reply}
 use Rattle.stream_model.specs.History as told
 use Rattle.stream_model.specs.Producers.{is_producer}
 use Rattle.turnstile.specs.declared.history.Entry.{Entry}
 use Rattle.turnstile.specs.declared.turnstile.Refusal.{Refusal}
 use Rattle.turnstile.specs.Calls.{numbers_of}
-use Rattle.turnstile.specs.History.{entry}
-use Rattle.shared_partition.specs.Partitions.{after, replied, told_of}
+use Rattle.turnstile.specs.History.{Foreign, entry}
+use Rattle.shared_partition.specs.Partitions.{told_of}
 use Rattle.silo_loops.specs.Lines.{QueuePass}
 use Rattle.silo_loops.specs.Passes.{OwnsNone}
-use Rattle.silo_loops.proofs.Owning.{calls-more, owns-append, owns-foreign}
+use Rattle.silo_loops.proofs.Owning.{owns-append, owns-foreign}
 use Rattle.cluster_callers.specs.Calls.{QueueCalls}
 use Rattle.script_reader.specs.Told as script
-use Rattle.script_producer.specs.Telling.{HasGoneOn, ProducesAlone, told_at}
+use Rattle.script_producer.specs.Telling.{AsksForScripts, HasGoneOn, IsForScripts, ProducesAlone, told_at}
 
 -- ---- passes that have seen more
 
+asks-append : (numbers : List ℕ) (xs ys : List (Entry Op Reply)) → AsksForScripts numbers xs → AsksForScripts numbers ys → AsksForScripts numbers (xs ++ ys)
+asks-append numbers [] ys a b = b
+asks-append numbers (x ∷ xs) ys a b = (a.0, asks-append numbers xs ys a.1 b)
+
+-- calls of others
+pub asks-foreign : (numbers : List ℕ) (es : List (Entry Op Reply)) → Foreign numbers es → AsksForScripts numbers es
+asks-foreign numbers [] foreign = tt
+asks-foreign numbers (e ∷ es) foreign = ((λ here. absurd (foreign.0 here)), asks-foreign numbers es foreign.1)
+
 pub gone-refl : (p : QueuePass) → HasGoneOn p p
-gone-refl p = record { only = refl; more = []; seen = sym (append-nil p.seen) }
+gone-refl p = record { only = refl; more = []; seen = sym (append-nil p.seen); own = tt }
 
 pub gone-trans : (p q r : QueuePass) → HasGoneOn p q → HasGoneOn q r → HasGoneOn p r
 gone-trans p q r a b =
@@ -30,12 +40,24 @@ gone-trans p q r a b =
       only = b.only ∙ ap (λ (w : QueuePass). record w { seen = r.seen }) a.only;
       more = a.more ++ b.more;
       seen = b.seen ∙ ap (λ (es : List (Entry Op Reply)). es ++ b.more) a.seen ∙ append_assoc p.seen a.more b.more;
+      own =
+          asks-append (numbers_of p) a.more b.more a.own
+          (subst (λ ks. AsksForScripts ks b.more) (ap (λ (w : QueuePass). numbers_of w) a.only) b.own);
     }
 
-pub called-on : (p q : QueuePass) (op : Op) (result : Result Reply Refusal) → QueueCalls p op result q → HasGoneOn p q
-called-on p q op result calls =
-    let more = calls-more replied after p op result q calls.calls in
-    record { only = calls.calls.only; more = more.0; seen = more.1 }
+pub called-on : (p q : QueuePass) (op : Op) (result : Result Reply Refusal) → IsForScripts op → QueueCalls p op result q → HasGoneOn p q
+called-on p q op (Ok r) asks calls =
+    let called = calls.calls.call in
+    let last = entry p.number op r ∷ [] in
+    record {
+      only = calls.calls.only;
+      more = called.0 ++ last;
+      seen = called.1 ∙ append_assoc p.seen called.0 last;
+      own = asks-append (numbers_of p) called.0 last (asks-foreign (numbers_of p) called.0 called.2) ((λ here. asks), tt);
+    }
+called-on p q op (Err refusal) asks calls =
+    let found = calls.calls.call in
+    record { only = calls.calls.only; more = found.0; seen = found.1; own = asks-foreign (numbers_of p) found.0 found.2 }
 
 -- the same pass later; it has asked for nothing since that producers ask for
 pub record ProducesNone (p q : QueuePass) : Type 0 where
@@ -56,20 +78,20 @@ none-trans p q r a b =
           (subst (λ ks. OwnsNone is_producer ks b.on.more) (ap (λ (w : QueuePass). numbers_of w) a.on.only) b.none);
     }
 
-pub called-none : (p q : QueuePass) (op : Op) (result : Result Reply Refusal) → is_producer op ≡ false → QueueCalls p op result q → ProducesNone p q
-called-none p q op (Ok r) other calls =
+-- a call that asks whether the queue is quiet
+pub looked-none : (p q : QueuePass) (result : Result Reply Refusal) → QueueCalls p ops.Quiet result q → ProducesNone p q
+unfolding called-on
+looked-none p q (Ok r) calls =
     let called = calls.calls.call in
-    let last = entry p.number op r ∷ [] in
     record {
-      on = record { only = calls.calls.only; more = called.0 ++ last; seen = called.1 ∙ append_assoc p.seen called.0 last };
-      none = owns-append is_producer (numbers_of p) called.0 last (owns-foreign is_producer (numbers_of p) called.0 called.2) ((λ here. other), tt);
+      on = called-on p q ops.Quiet (Ok r) (inr refl) calls;
+      none =
+          owns-append is_producer (numbers_of p) called.0 (entry p.number ops.Quiet r ∷ []) (owns-foreign is_producer (numbers_of p) called.0 called.2)
+          ((λ here. refl), tt);
     }
-called-none p q op (Err refusal) other calls =
+looked-none p q (Err refusal) calls =
     let found = calls.calls.call in
-    record {
-      on = record { only = calls.calls.only; more = found.0; seen = found.1 };
-      none = owns-foreign is_producer (numbers_of p) found.0 found.2;
-    }
+    record { on = called-on p q ops.Quiet (Err refusal) (inr refl) calls; none = owns-foreign is_producer (numbers_of p) found.0 found.2 }
 
 -- ---- what producers asked for and were told
 
@@ -136,7 +158,7 @@ pub called-told : (p q : QueuePass) (op : Op) (r : Reply) → is_producer op ≡
 called-told p q op r produces calls alone =
     let called = calls.calls.call in
     let last = entry p.number op r ∷ [] in
-    let here = subst (λ (es : List (Entry Op Reply)). AreAlone (numbers_of p) es) called.1 (alone-as p q (called-on p q op (Ok r) calls) alone) in
+    let here = subst (λ (es : List (Entry Op Reply)). AreAlone (numbers_of p) es) called.1 (alone-as p q (called-on p q op (Ok r) (inl produces) calls) alone) in
     let front = (alone-front (numbers_of p) (p.seen ++ called.0) last here).0 in
     let before : all_told (p.seen ++ called.0) ≡ told_at p =
     told-behind (numbers_of p) p.seen called.0 (alone-front (numbers_of p) p.seen called.0 front).1 (owns-foreign is_producer (numbers_of p) called.0 called.2) in (

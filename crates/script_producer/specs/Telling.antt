@@ -3,6 +3,7 @@ use Rattle.std.specs.Prelude.{◌≡◌, ◌≢◌, ◌⊎◌, ℕ, true, false,
 use Rattle.std.specs.List.{AllByRecursion, AllZip}
 use Rattle.std.specs.declared.alloc.AllocError.{AllocError}
 use Rattle.stream_model.specs.declared.op.Op.{Op}
+use Rattle.stream_model.specs.declared.op.Op.TheVariants as ops
 use Rattle.stream_model.specs.declared.plain.PlainPartition.{PlainPartition}
 use Rattle.stream_model.specs.declared.reply.Pending.{Pending}
 use Rattle.stream_model.specs.declared.reply.Reply.{Reply}
@@ -49,11 +50,21 @@ told_at p = script.producers_entries (told_of p.seen)
 abbrev pub HasTold : List ℕ → List Line → List QueuePass → Type 0
 HasTold missed lines caller = (queue : ℕ) (p : QueuePass) → slice_get caller queue ≡ Some p → told_at p ≡ script.told missed queue lines
 
--- the same pass, which has seen as much or more
+-- what the producer of a script asks for: a producer's operation, or whether the queue is quiet
+abbrev pub IsForScripts : Op → Type 0
+IsForScripts op = (is_producer op ≡ true) ⊎ (op ≡ ops.Quiet)
+
+-- each call that has one of these numbers asks for that
+abbrev pub AsksForScripts : List ℕ → List (Entry Op Reply) → Type 0
+AsksForScripts numbers es = AllByRecursion (λ (e : Entry Op Reply). Contains numbers e.number → IsForScripts e.op) es
+
+-- The same pass, which has seen as much or more. Of what it has seen since, each call of its own, or of a pass that was
+-- joined to it, is a producer's or asks whether the queue is quiet.
 pub record HasGoneOn (p q : QueuePass) : Type 0 where
   pub only : HasOnlySeen p q
   pub more : List (Entry Op Reply)
   pub seen : q.seen ≡ p.seen ++ more
+  pub own : AsksForScripts (numbers_of p) more
 
 -- the turnstile of the pass began with an empty partition
 abbrev pub BeginsEmpty : QueuePass → Type 0

@@ -56,6 +56,7 @@ returns-clause-ends g c =
       script = c.in_ok-script.field-0;
       later = w;
       now = now;
+      on = c.run_script-script.ensures.on;
       does = c.in_ok-script.ensures.script;
       finished = c.in_ok-finished.field-0;
       ends = subst (λ (callers : List (List QueuePass)). HasFinished g.H.StoredHistory.entries w callers c.in_ok-finished.field-0) all c.in_ok-finished.ensures;

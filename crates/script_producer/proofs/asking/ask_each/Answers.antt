@@ -5,22 +5,22 @@ use Rattle.script_producer.specs.declared.answer.Answer.{Answer}
 use Rattle.script_producer.specs.Telling.{AsksOnce, HasGoneOn}
 use Rattle.cluster_ending.proofs.Looking.{turnstiles-length}
 use Rattle.cluster_ending.proofs.Rows.{zip-refl, zip-trans}
-use Rattle.script_producer.proofs.Asked.{each-first, each-next, each-tells, ends-free, ends-refused, last-asked, once-on}
+use Rattle.script_producer.proofs.Asked.{each-first, each-next, each-on, each-tells, ends-free, ends-refused, last-asked}
 use Rattle.script_producer.proofs.Seen.{gone-refl, gone-trans}
 use Rattle.script_producer.proofs.asking.ask_each.Goals as goal
 
 pub returns-in_err-first-clause-on : goal.returns-in_err-first-clause-on
-returns-in_err-first-clause-on g c = once-on _ _ _ _ _ c.ask_once.ensures.asks
+returns-in_err-first-clause-on g c = each-on (op_of c.args.each.now) c.op.result _ _ _ _ c.op.ensures c.requires.producer c.ask_once.ensures.asks
 
 pub returns-then-eq-clause-on : goal.returns-then-eq-clause-on
-returns-then-eq-clause-on g c = once-on _ _ _ _ _ c.ask_once.ensures.asks
+returns-then-eq-clause-on g c = each-on (op_of c.args.each.now) c.op.result _ _ _ _ c.op.ensures c.requires.producer c.ask_once.ensures.asks
 
 pub loop-queue-init : goal.loop-queue-init
 loop-queue-init g c =
     let free : c.in_ok-first.first ≢ answer.Limit = search (rules, c.eq.ensures, c.if-eq.false) in
     record {
       asked = each-first c.in_ok-first.first (op_of c.args.each.now) c.op.result c.args.caller.now c.ask_once.new.caller c.op.ensures c.in_ok-first.ensures.asks free;
-      on = once-on _ _ _ _ _ c.ask_once.ensures.asks;
+      on = each-on (op_of c.args.each.now) c.op.result _ _ _ _ c.op.ensures c.requires.producer c.ask_once.ensures.asks;
       at = c.ask_once.ensures.turnstiles;
       some = omega arith;
       free = free;
@@ -35,13 +35,13 @@ ask_once-requires-in-loop-queue-after_bounds g c = λ κs bounds.
     omega (arith, below, end, first, now)
 
 pub returns-in_err-ask_once-clause-on : goal.returns-in_err-ask_once-clause-on
-returns-in_err-ask_once-clause-on g c = zip-trans HasGoneOn HasGoneOn HasGoneOn gone-trans _ _ _ c.loop-queue.invariant.on (once-on _ _ _ _ _ c.ask_once-in-loop-queue.ensures.asks)
+returns-in_err-ask_once-clause-on g c = zip-trans HasGoneOn HasGoneOn HasGoneOn gone-trans _ _ _ c.loop-queue.invariant.on (each-on (op_of c.args.each.now) c.op-in-loop-queue.result _ _ _ _ c.op-in-loop-queue.ensures c.requires.producer c.ask_once-in-loop-queue.ensures.asks)
 
 pub returns-in_err-ask_once-clause-turnstiles : goal.returns-in_err-ask_once-clause-turnstiles
 returns-in_err-ask_once-clause-turnstiles g c = c.ask_once-in-loop-queue.ensures.turnstiles ∙ c.loop-queue.invariant.at
 
 pub returns-then-eq-2-clause-on : goal.returns-then-eq-2-clause-on
-returns-then-eq-2-clause-on g c = zip-trans HasGoneOn HasGoneOn HasGoneOn gone-trans _ _ _ c.loop-queue.invariant.on (once-on _ _ _ _ _ c.ask_once-in-loop-queue.ensures.asks)
+returns-then-eq-2-clause-on g c = zip-trans HasGoneOn HasGoneOn HasGoneOn gone-trans _ _ _ c.loop-queue.invariant.on (each-on (op_of c.args.each.now) c.op-in-loop-queue.result _ _ _ _ c.op-in-loop-queue.ensures c.requires.producer c.ask_once-in-loop-queue.ensures.asks)
 
 pub returns-then-eq-2-clause-turnstiles : goal.returns-then-eq-2-clause-turnstiles
 returns-then-eq-2-clause-turnstiles g c = c.ask_once-in-loop-queue.ensures.turnstiles ∙ c.loop-queue.invariant.at
@@ -51,7 +51,7 @@ loop-queue-preserved g c =
     let free : c.in_ok-ask_once.field-0 ≢ answer.Limit = search (rules, c.eq-in-loop-queue.ensures, c.if-eq-2.false) in
     record {
       asked = each-next c.in_ok-first.first c.in_ok-ask_once.field-0 (op_of c.args.each.now) c.op-in-loop-queue.result c.loop-queue.queue c.args.caller.now c.loop-queue.caller c.ask_once-in-loop-queue.new.caller c.op-in-loop-queue.ensures c.loop-queue.invariant.asked c.in_ok-ask_once.ensures.asks free c.loop-queue.invariant.some;
-      on = zip-trans HasGoneOn HasGoneOn HasGoneOn gone-trans _ _ _ c.loop-queue.invariant.on (once-on _ _ _ _ _ c.ask_once-in-loop-queue.ensures.asks);
+      on = zip-trans HasGoneOn HasGoneOn HasGoneOn gone-trans _ _ _ c.loop-queue.invariant.on (each-on (op_of c.args.each.now) c.op-in-loop-queue.result _ _ _ _ c.op-in-loop-queue.ensures c.requires.producer c.ask_once-in-loop-queue.ensures.asks);
       at = c.ask_once-in-loop-queue.ensures.turnstiles ∙ c.loop-queue.invariant.at;
       some = omega arith;
       free = c.loop-queue.invariant.free;
