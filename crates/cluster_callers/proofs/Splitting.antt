@@ -1,21 +1,19 @@
 -- Passes that are split off one after another, and joined again.
-use Rattle.std.proofs.Common.{◌≡◌, ℕ, ◌+◌, ◌<◌, ◌≤◌, inl, inr, true, false, if◌then◌else◌, List, [], ◌∷◌, ◌++◌, length, get_or, set, max, Result, Ok, Err, MatchResult, OnErr, refl, sym, ap, subst, ◌∙◌, arith}
+use Rattle.std.proofs.Common.{◌≡◌, ℕ, ◌+◌, ◌<◌, ◌≤◌, inl, inr, true, false, if◌then◌else◌, List, [], ◌∷◌, ◌++◌, length, get_or, set, max, Result, Ok, Err, OnErr, refl, sym, ap, subst, ◌∙◌, arith}
 use Rattle.std.proofs.Math.Seq.{map-set_same}
 use Rattle.std.proofs.lemmas.List.{length_push, set-get_or}
 use Rattle.std.proofs.lemmas.Option.{get_or_from_slice_get}
 use Rattle.std.specs.List.{AllByRecursion, AllZip}
 use Rattle.std.specs.Prelude.{nat_lt}
 use Rattle.stream_model.specs.declared.op.Op.{Op}
-use Rattle.stream_model.specs.declared.plain.PlainPartition.{PlainPartition}
 use Rattle.stream_model.specs.declared.reply.Reply.{Reply}
 use Rattle.turnstile.specs.declared.history.Entry.{Entry}
 use Rattle.turnstile.specs.declared.turnstile.Refusal.{Refusal}
-use Rattle.turnstile.specs.Calls.{Called, Found, HasOnlyMade, HasOnlySeen, IsOf, IsSplitOff, joined_pass, numbers_of}
+use Rattle.turnstile.specs.Calls.{HasOnlyMade, IsSplitOff, joined_pass, numbers_of}
 use Rattle.turnstile.specs.History.{longer}
-use Rattle.turnstile.specs.Passes.{Origin, PassView}
-use Rattle.shared_partition.specs.Partitions.{LeavesLegal, TellsOneHistory, after, replied}
+use Rattle.turnstile.specs.Passes.{PassView}
 use Rattle.silo_loops.specs.Lines.{QueuePass}
-use Rattle.cluster_callers.specs.Calls.{AllZipFront, AreAlike, CallerCalls, HasOnlyJoined, HasTakenBack, HaveTakenBack, IsUnused, QueueCalls, SplitsOff, TakesBack, joined_passes, turnstiles}
+use Rattle.cluster_callers.specs.Calls.{AllZipFront, AreAlike, CallerCalls, HasOnlyJoined, HasTakenBack, HaveTakenBack, IsUnused, Joins, JoinsAll, SplitsOff, TakesBack, joined_passes, turnstiles}
 use Rattle.cluster_callers.proofs.Fronts.{front-all, front-fits, front-last, front-push, front-set, front-weaker}
 
 longer-same : {O R : Type 0} (xs : List (Entry O R)) → longer xs xs ≡ xs
@@ -57,10 +55,18 @@ module _ {O R S : Type 0} where
   front-split ps qs all = front-weaker IsSplitOff AreAlike split-alike ps qs all
 
   -- the last one is joined first
-  pub joined-last : (ps qs : List (PassView O R S)) (d q : PassView O R S) → length qs < length ps → joined_passes ps (qs ++ q ∷ []) ≡ joined_passes (set ps (length qs) (joined_pass (get_or ps (length qs) d) q)) qs
-  joined-last [] qs d q less = absurd (omega arith)
-  joined-last (p ∷ ps) [] d q less = refl
-  joined-last (p ∷ ps) (x ∷ qs) d q less = ap (λ es. joined_pass p x ∷ es) (joined-last ps qs d q (omega arith))
+  join-last : (ps rest : List (PassView O R S)) (d q w : PassView O R S) (rs : List (PassView O R S)) → length rest < length ps → Joins (get_or ps (length rest) d) q w → JoinsAll (set ps (length rest) w) rest rs → JoinsAll ps (rest ++ q ∷ []) rs
+  join-last [] rest d q w rs less j all = absurd (omega arith)
+  join-last (p ∷ ps) [] d q w rs less j same = subst (λ (es : List (PassView O R S)). JoinsAll (p ∷ ps) (q ∷ []) es) (sym same) (j, refl)
+  join-last (p ∷ ps) (x ∷ rest) d q w [] less j all = absurd all
+  join-last (p ∷ ps) (x ∷ rest) d q w (r ∷ rs) less j all = (all.0, join-last ps rest d q w rs (omega arith) j all.1)
+
+  pub all-whole : (ps qs rs : List (PassView O R S)) → JoinsAll ps qs rs → rs ≡ joined_passes ps qs
+  all-whole ps [] rs same = same
+  all-whole [] (q ∷ qs) rs j = absurd j
+  all-whole (p ∷ ps) (q ∷ qs) [] j = absurd j
+  all-whole (p ∷ ps) (q ∷ qs) (r ∷ rs) j =
+      ap (λ (e : PassView O R S). e ∷ rs) j.0.whole ∙ ap (λ (es : List (PassView O R S)). joined_pass p q ∷ es) (all-whole ps qs rs j.1)
 
   pub turnstiles-joined : (ps qs : List (PassView O R S)) → turnstiles (joined_passes ps qs) ≡ turnstiles ps
   turnstiles-joined ps [] = refl
@@ -114,18 +120,18 @@ module _ {O R S : Type 0} where
       let less : length rest < length ps = last.0 in
       (omega arith, λ read. last.1 ∙ ap (λ (w : PassView O R S). w.turnstile) (ap (λ n. get_or ps n p) (sym here) ∙ sym read))
 
-  pub join-more : (ps qs rest new whole : List (PassView O R S)) (at : ℕ) (p q w : PassView O R S) → qs ≡ rest ++ q ∷ [] → at ≡ length rest → AllZipFront AreAlike ps qs → p ≡ get_or ps at p → w ≡ joined_pass p q → new ≡ set ps at w
-      → joined_passes ps qs ≡ whole → AllZipFront AreAlike new rest × (joined_passes new rest ≡ whole)
-  join-more ps qs rest new whole at p q w is here all read made put so_far =
-      let last = front-last AreAlike ps rest p q (subst (λ (es : List (PassView O R S)). AllZipFront AreAlike ps es) is all) in
+  -- what is then made of the rest is made of all
+  pub join-more : (ps qs rest new : List (PassView O R S)) (at : ℕ) (p q w : PassView O R S) → qs ≡ rest ++ q ∷ [] → at ≡ length rest → AllZipFront AreAlike ps qs → p ≡ get_or ps at p → Joins p q w → new ≡ set ps at w
+      → AllZipFront AreAlike new rest × ((rs : List (PassView O R S)) → JoinsAll new rest rs → JoinsAll ps qs rs)
+  join-more ps qs rest new at p q w is here alike read joins put =
+      let last = front-last AreAlike ps rest p q (subst (λ (es : List (PassView O R S)). AllZipFront AreAlike ps es) is alike) in
       let less : length rest < length ps = last.0 in
-      let there : new ≡ set ps (length rest) w = put ∙ ap (λ n. set ps n w) here in
-      let one : w ≡ joined_pass (get_or ps (length rest) p) q = made ∙ ap (λ (e : PassView O R S). joined_pass e q) (read ∙ ap (λ n. get_or ps n p) here) in (
-        subst (λ (es : List (PassView O R S)). AllZipFront AreAlike es rest) (sym there) (front-set AreAlike ps rest w last.2),
-        ap (λ (es : List (PassView O R S)). joined_passes es rest) (there ∙ ap (λ (e : PassView O R S). set ps (length rest) e) one)
-            ∙ sym (joined-last ps rest p q less)
-            ∙ ap (λ (es : List (PassView O R S)). joined_passes ps es) (sym is)
-            ∙ so_far,
+      let whole : new ≡ set ps (length rest) w = put ∙ ap (λ n. set ps n w) here in
+      let one : p ≡ get_or ps (length rest) p = read ∙ ap (λ n. get_or ps n p) here in (
+        subst (λ (es : List (PassView O R S)). AllZipFront AreAlike es rest) (sym whole) (front-set AreAlike ps rest w last.2),
+        λ rs all.
+            subst (λ (es : List (PassView O R S)). JoinsAll ps es rs) (sym is)
+            (join-last ps rest p q w rs less (subst (λ (e : PassView O R S). Joins e q w) one joins) (subst (λ (es : List (PassView O R S)). JoinsAll es rest rs) whole all)),
       )
 
   -- a loop that splits each, from the first one on
@@ -167,13 +173,6 @@ splits-off old new kept at past same long front =
     let fits = front-fits IsSplitOff old new front in
     let off = front-all IsSplitOff old new (omega (arith, fits)) front in
     record { same = same; off = off; unused = all-unused old new off; beside = all-beside IsSplitOff split-alike old new off }
-
--- one call at a turnstile
-pub queue-called : (t : Origin PlainPartition) (p q : QueuePass) (op : Op) (result : Result Reply Refusal) → IsOf t p → HasOnlySeen p q
-    → MatchResult result (λ r. Called replied after t.start p op r q.seen) (λ e. Found replied after t.start p e q.seen)
-    → TellsOneHistory q.seen → LeavesLegal t.start q.seen → QueueCalls p op result q
-queue-called t p q op result of only call headline stands =
-    record { calls = record { origin = t; of = of; only = only; call = call }; headline = headline; stands = stands }
 
 -- a call leaves each pass at its turnstile
 pub turnstiles-called : (ps : List QueuePass) (queue : ℕ) (op : Op) (result : Result Reply Refusal) (new : List QueuePass) → CallerCalls ps queue op result new → turnstiles new ≡ turnstiles ps

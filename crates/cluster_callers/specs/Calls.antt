@@ -5,7 +5,7 @@ use Rattle.std.specs.declared.alloc.AllocError.{AllocError}
 use Rattle.stream_model.specs.declared.op.Op.{Op}
 use Rattle.stream_model.specs.declared.reply.Reply.{Reply}
 use Rattle.turnstile.specs.declared.turnstile.Refusal.{Refusal}
-use Rattle.turnstile.specs.Calls.{HasOnlyMade, IsSplitOff, joined_pass, numbers_of}
+use Rattle.turnstile.specs.Calls.{Agree, HasOnlyMade, IsSplitOff, joined_pass, numbers_of}
 use Rattle.turnstile.specs.History.{Foreign}
 use Rattle.turnstile.specs.Passes.{Origin, PassView}
 use Rattle.shared_partition.specs.Partitions.{LeavesLegal, TellsOneHistory, after, replied}
@@ -41,6 +41,18 @@ module _ {O R S : Type 0} where
   joined_passes ps [] = ps
   joined_passes [] (q ∷ qs) = []
   joined_passes (p ∷ ps) (q ∷ qs) = joined_pass p q ∷ joined_passes ps qs
+
+  -- a pass has taken in another
+  pub record Joins (p q r : PassView O R S) : Type 0 where
+    pub whole : r ≡ joined_pass p q
+    pub agree : Agree p q r
+
+  -- each pass has taken in the one at its place, where there is one
+  abbrev pub JoinsAll : List (PassView O R S) → List (PassView O R S) → List (PassView O R S) → Type 0
+  JoinsAll ps [] rs = rs ≡ ps
+  JoinsAll [] (q ∷ qs) rs = ⊥
+  JoinsAll (p ∷ ps) (q ∷ qs) [] = ⊥
+  JoinsAll (p ∷ ps) (q ∷ qs) (r ∷ rs) = Joins p q r × JoinsAll ps qs rs
 
   -- What passes are after one of them could not be split: that one knows of as many passes or more, each before it has
   -- taken back what was split off it, and those behind it are as before

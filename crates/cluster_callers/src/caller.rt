@@ -1,6 +1,6 @@
 //! A caller of all queues.
 ghost use Rattle.std.specs.Prelude.{◌≡◌, ◌<◌, length, IfOk, OnErr};
-ghost use Rattle.cluster_callers.specs.Calls.{AllZipFront, AreAlike, CallerCalls, CallerSplits, SplitsOff, TakesBack, joined_passes, turnstiles};
+ghost use Rattle.cluster_callers.specs.Calls.{AllZipFront, AreAlike, CallerCalls, CallerSplits, JoinsAll, SplitsOff, TakesBack, joined_passes, turnstiles};
 
 use crate::queue_caller::QueueCaller;
 use shared_partition::Gate;
@@ -8,18 +8,19 @@ use silo_loops::Doorbell;
 use std::alloc::{AllocError, Global};
 use std::marker::Model;
 use std::sync::{Arc, Wait};
-use stream_model::{Op, Reply};
+use step_core::Answer;
+use stream_model::Op;
 use turnstile::{Refusal, StoredHistory};
 
 /// A caller of each queue of a cluster, and the doorbell of its loops.
 ///
 /// A contract sees it as the passes, in the order of the queues.
-pub struct Caller<G: Gate, H: StoredHistory<Op, Reply>> {
+pub struct Caller<G: Gate, H: StoredHistory<Op, Answer>> {
     doorbell: Arc<Doorbell, Global>,
     queues: Vec<QueueCaller<G, H>>,
 }
 
-impl<G: Gate + Drop, H: StoredHistory<Op, Reply> + Drop> Drop for Caller<G, H> {
+impl<G: Gate + Drop, H: StoredHistory<Op, Answer> + Drop> Drop for Caller<G, H> {
     fn drop(self) {
         let Self {
             doorbell: _,
@@ -28,7 +29,7 @@ impl<G: Gate + Drop, H: StoredHistory<Op, Reply> + Drop> Drop for Caller<G, H> {
     }
 }
 
-impl<G: Gate, H: StoredHistory<Op, Reply>> Model for Caller<G, H> {
+impl<G: Gate, H: StoredHistory<Op, Answer>> Model for Caller<G, H> {
     ghost use Rattle.std.specs.Prelude.{List};
     ghost use Rattle.silo_loops.specs.Lines.{QueuePass};
 
@@ -37,7 +38,7 @@ impl<G: Gate, H: StoredHistory<Op, Reply>> Model for Caller<G, H> {
     ghost view = { λ c. c.queues.items };
 }
 
-impl<G: Gate, H: StoredHistory<Op, Reply>> Caller<G, H> {
+impl<G: Gate, H: StoredHistory<Op, Answer>> Caller<G, H> {
     /// A caller of these queues, which rings at this doorbell.
     pub fn new(doorbell: Arc<Doorbell, Global>, queues: Vec<QueueCaller<G, H>>) -> Caller<G, H>
         ensures { result ≡ queues.items }
@@ -69,7 +70,7 @@ impl<G: Gate, H: StoredHistory<Op, Reply>> Caller<G, H> {
         alloc: Global,
         queue: usize,
         op: Op,
-    ) -> Result<Reply, Refusal>
+    ) -> Result<Answer, Refusal>
         requires { queue < length self.old }
         ensures calls { CallerCalls self.old queue op result self.new }
         ensures turnstiles { turnstiles self.new ≡ turnstiles self.old }
@@ -95,6 +96,7 @@ impl<G: Gate, H: StoredHistory<Op, Reply>> Caller<G, H> {
     pub fn join(&mut self, other: Caller<G, H>)
         requires { turnstiles other ≡ turnstiles self.old }
         ensures joined { self.new ≡ joined_passes self.old other }
+        ensures agree { JoinsAll self.old other self.new }
         ensures turnstiles { turnstiles self.new ≡ turnstiles self.old }
     {
         join_all(&mut self.queues, other.into_queues());
@@ -113,14 +115,14 @@ impl<G: Gate, H: StoredHistory<Op, Reply>> Caller<G, H> {
 }
 
 // One call at one queue.
-fn call_at<G: Gate, H: StoredHistory<Op, Reply>, R: Wait>(
+fn call_at<G: Gate, H: StoredHistory<Op, Answer>, R: Wait>(
     rt: &R,
     alloc: Global,
     doorbell: &Doorbell,
     queues: &mut Vec<QueueCaller<G, H>>,
     queue: usize,
     op: Op,
-) -> Result<Reply, Refusal>
+) -> Result<Answer, Refusal>
     requires { queue < length queues.old.items }
     ensures { CallerCalls queues.old.items queue op result queues.new.items }
 {
@@ -129,7 +131,7 @@ fn call_at<G: Gate, H: StoredHistory<Op, Reply>, R: Wait>(
 }
 
 // A new caller of each queue, for which there is room before a pass is split.
-fn split_all<G: Gate, H: StoredHistory<Op, Reply>>(
+fn split_all<G: Gate, H: StoredHistory<Op, Answer>>(
     alloc: Global,
     queues: &mut Vec<QueueCaller<G, H>>,
 ) -> Result<Vec<QueueCaller<G, H>>, AllocError>
@@ -151,12 +153,12 @@ fn split_all<G: Gate, H: StoredHistory<Op, Reply>>(
 }
 
 // Joins each of the others to the one at its place. There may be fewer of them.
-fn join_all<G: Gate, H: StoredHistory<Op, Reply>>(
+fn join_all<G: Gate, H: StoredHistory<Op, Answer>>(
     queues: &mut Vec<QueueCaller<G, H>>,
     mut others: Vec<QueueCaller<G, H>>,
 )
     requires { AllZipFront AreAlike queues.old.items others.items }
-    ensures { queues.new.items ≡ joined_passes queues.old.items others.items }
+    ensures { JoinsAll queues.old.items others.items queues.new.items }
 {
     while let Some(other) = others.pop() {
         let queue = &mut queues[others.len()];

@@ -10,48 +10,45 @@ use silo_loops::{Doorbell, rings};
 use std::alloc::{AllocError, Global};
 use std::marker::Model;
 use std::sync::{Arc, Wait};
-use stream_model::{Op, PlainPartition, Reply};
-use turnstile::{NoNumberLeft, Pass, Refusal, StoredHistory, Turnstile};
+use step_core::Answer;
+use stream_model::{Op, PlainPartition};
+use turnstile::{Handle, Pass, Refusal, StoredHistory, Turnstile};
 
 /// A producer's pass at a queue, with its turnstile. A contract sees the pass.
-pub struct QueueCaller<G: Gate, H: StoredHistory<Op, Reply>> {
-    turnstile: Arc<Turnstile<SharedPartition<G, H>>, Global>,
-    pass: Pass<SharedPartition<G, H>, H, Op, Reply, PlainPartition>,
+pub struct QueueCaller<G: Gate, H: StoredHistory<Op, Answer>> {
+    handle: Handle<SharedPartition<G, H>>,
 }
 
-impl<G: Gate + Drop, H: StoredHistory<Op, Reply> + Drop> Drop for QueueCaller<G, H> {
+impl<G: Gate + Drop, H: StoredHistory<Op, Answer> + Drop> Drop for QueueCaller<G, H> {
     fn drop(self) {
-        let Self {
-            turnstile: _,
-            pass: _,
-        } = self;
+        let Self { handle: _ } = self;
     }
 }
 
-impl<G: Gate, H: StoredHistory<Op, Reply>> Model for QueueCaller<G, H> {
-    ghost use Rattle.std.specs.Arc.{arc_value};
-    ghost use Rattle.turnstile.specs.Calls.{IsOf};
-    ghost use Rattle.shared_partition.specs.Partitions.{BeganEmpty};
+impl<G: Gate, H: StoredHistory<Op, Answer>> Model for QueueCaller<G, H> {
+    ghost use Rattle.shared_partition.specs.Partitions.{IsOfEmpty};
     ghost use Rattle.silo_loops.specs.Lines.{QueuePass};
 
     ghost Value = { QueuePass };
 
-    ghost view = { λ c. c.pass };
+    ghost view = { λ c. c.handle };
 
-    ghost invariant = { λ c. IsOf (arc_value c.turnstile) c.pass × BeganEmpty (arc_value c.turnstile).start };
+    ghost invariant = { λ c. IsOfEmpty c.handle };
 }
 
-impl<G: Gate, H: StoredHistory<Op, Reply>> QueueCaller<G, H> {
+impl<G: Gate, H: StoredHistory<Op, Answer>> QueueCaller<G, H> {
     /// A caller with this pass.
     pub fn new(
         turnstile: Arc<Turnstile<SharedPartition<G, H>>, Global>,
-        pass: Pass<SharedPartition<G, H>, H, Op, Reply, PlainPartition>,
+        pass: Pass<SharedPartition<G, H>, H, Op, Answer, PlainPartition>,
     ) -> QueueCaller<G, H>
         requires pass { IsOf (arc_value turnstile) pass }
         requires empty { BeganEmpty (arc_value turnstile).start }
         ensures { result ≡ pass }
     {
-        QueueCaller { turnstile, pass }
+        QueueCaller {
+            handle: Handle::new(turnstile, pass),
+        }
     }
 
     /// Waits for its turn, does an operation, and rings where a loop may then find more to do.
@@ -65,10 +62,16 @@ impl<G: Gate, H: StoredHistory<Op, Reply>> QueueCaller<G, H> {
         alloc: Global,
         doorbell: &Doorbell,
         op: Op,
-    ) -> Result<Reply, Refusal>
+    ) -> Result<Answer, Refusal>
         ensures { QueueCalls self.old op result self.new }
     {
-        let answer = SharedPartition::call(&self.turnstile, rt, alloc, &mut self.pass, op);
+        let answer = SharedPartition::call_by(
+            &mut self.handle,
+            rt,
+            alloc,
+            op,
+            &mut Vec::new(alloc),
+        );
         if let Ok(ref reply) = answer
             && rings(reply)
         {
@@ -89,11 +92,8 @@ impl<G: Gate, H: StoredHistory<Op, Reply>> QueueCaller<G, H> {
         ensures unused { IfOk result (λ new. IsUnused new) }
         ensures refused { OnErr result (HasOnlyMade self.old self.new) }
     {
-        let turnstile = Arc::try_clone(&self.turnstile)?;
-        match turnstile.split(&mut self.pass) {
-            Ok(pass) => Ok(QueueCaller::new(turnstile, pass)),
-            Err(NoNumberLeft) => Err(AllocError),
-        }
+        let handle = self.handle.split()?;
+        Ok(QueueCaller { handle })
     }
 
     /// Takes in another caller of the same queue: the numbers of its pass, and what that has seen where it is
@@ -103,8 +103,8 @@ impl<G: Gate, H: StoredHistory<Op, Reply>> QueueCaller<G, H> {
         ensures joined { self.new ≡ joined_pass self.old other }
         ensures agree { Agree self.old other self.new }
     {
-        let (_turnstile, pass) = other.into_parts();
-        self.turnstile.join(&mut self.pass, pass);
+        let QueueCaller { handle } = other;
+        self.handle.join(handle);
     }
 
     /// The turnstile and the pass.
@@ -112,13 +112,13 @@ impl<G: Gate, H: StoredHistory<Op, Reply>> QueueCaller<G, H> {
         self,
     ) -> (
         Arc<Turnstile<SharedPartition<G, H>>, Global>,
-        Pass<SharedPartition<G, H>, H, Op, Reply, PlainPartition>,
+        Pass<SharedPartition<G, H>, H, Op, Answer, PlainPartition>,
     )
         ensures pass { result.1 ≡ self }
         ensures of { IsOf (arc_value result.0) result.1 }
         ensures empty { BeganEmpty (arc_value result.0).start }
     {
-        let QueueCaller { turnstile, pass } = self;
-        (turnstile, pass)
+        let QueueCaller { handle } = self;
+        handle.into_parts()
     }
 }

@@ -22,15 +22,16 @@ use Rattle.turnstile.specs.History.{Foreign, IsLegal, Own, entry, replay}
 use Rattle.shared_partition.specs.Partitions.{after, replied, told_of}
 use Rattle.stream_model.specs.Producers.{is_producer}
 use Rattle.silo_loops.specs.Lines.{NeverProduces, QueuePass}
-use Rattle.silo_loops.specs.Passes.{OwnsNone}
+use Rattle.silo_loops.specs.Passes.{CallsAlone, IsOtherIn, OwnsNone}
 use Rattle.silo_loops.proofs.Owning.{owns-append, owns-claimed}
+use Rattle.silo_loops.proofs.Taking.{alone-append, alone-foreign}
 use Rattle.cluster_callers.specs.Calls.{joined_passes}
 use Rattle.cluster_ending.specs.declared.asking.Quiet.{Quiet}
 use Rattle.cluster_ending.specs.declared.asking.Quiet.TheVariants.{All, NotQuiet}
 use Rattle.cluster_ending.specs.Asking.{Asks, AsksUpTo, IsQuiet}
 use Rattle.cluster_ending.specs.Closing.{AreTraces, IsTraceOf}
 use Rattle.cluster_ending.specs.Finishing.{CallersAloneProduce, CameTo, HasBegun, HasSeenFront, HaveBegun, IsDone}
-use Rattle.cluster_ending.specs.Gathering.{Gathers, IsFirstOf, IsOtherIn, gathered}
+use Rattle.cluster_ending.specs.Gathering.{Gathers, IsFirstOf, gathered}
 use Rattle.cluster_ending.proofs.Looking.{look-keeps, look-replies}
 use Rattle.stream_ident.proofs.EachOf.{All-weaken}
 use Rattle.cluster_ending.proofs.Rows.{all-at, zip-at, zip-refl, zip-trans}
@@ -131,12 +132,24 @@ begun-place c p history taken ends =
       foreign = foreign-append (numbers_of c) claims.rest looks.more claims.foreign (looks-foreign c p looks.more taken looks.looks);
     }
 
+-- the looks of a pass are its calls alone
+looks-alone : (l p : QueuePass) (es : List (Entry Op Reply)) → IsFirstOf l p → AllByRecursion (λ e. IsLookOr p e) es → CallsAlone l es
+looks-alone l p [] first all = tt
+looks-alone l p (e ∷ es) first all = (
+  elim all.0 as (λ w. Contains (numbers_of l) e.number → e.number ≡ l.number) [
+    | inl foreign ↦ λ here. absurd (foreign (first.part.numbers e.number here))
+    | inr own ↦ λ here. own.0 ∙ first.number
+  ],
+  looks-alone l p es first all.1,
+)
+
 line-front : (l p : QueuePass) (history : List (Entry Op Reply)) → IsFirstOf l p → EndsAs p history → HasSeenFront l history
 line-front l p history first ends =
     let claims = first.part.claims in
     let looks = ends.1 in (
       claims.rest ++ looks.more,
       ends.2.0 ∙ looks.seen ∙ ap (λ (es : List (Entry Op Reply)). es ++ looks.more) claims.is ∙ append_assoc l.seen claims.rest looks.more,
+      alone-append l claims.rest looks.more (alone-foreign l claims.rest claims.foreign) (looks-alone l p looks.more first looks.looks),
     )
 
 pub have-begun : (ls : List QueuePass) (cs : List (List QueuePass)) (ps last : List QueuePass) (asked : Option Quiet) (histories : List (List (Entry Op Reply))) (partitions : List PlainPartition) → Gathers ls cs ps → CameTo asked ps last

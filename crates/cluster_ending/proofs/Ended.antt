@@ -1,5 +1,5 @@
 -- What is answered at the end, from what was gathered, asked and closed.
-use Rattle.std.proofs.Common.{◌≡◌, false, List, map, Option, Some, None, Result, Ok, Err, IfOk, sym, ap, subst, ◌∙◌}
+use Rattle.std.proofs.Common.{◌≡◌, ℕ, false, List, map, Option, Some, None, Result, Ok, Err, IfOk, sym, ap, subst, ◌∙◌}
 use Rattle.std.specs.declared.alloc.AllocError.{AllocError}
 use Rattle.stream_model.specs.declared.op.Op.{Op}
 use Rattle.stream_model.specs.declared.reply.Reply.{Reply}
@@ -15,7 +15,7 @@ use Rattle.cluster_ending.specs.declared.ends.LoopEnds.{LoopEnds}
 use Rattle.cluster_ending.specs.declared.finishing.Finished.{Finished}
 use Rattle.cluster_ending.specs.declared.finishing.Finished.TheVariants as finished
 use Rattle.cluster_ending.specs.Asking.{AsksQuiet}
-use Rattle.cluster_ending.specs.Closing.{AreTracesOf, IsClosing}
+use Rattle.cluster_ending.specs.Closing.{AreTracesOf, IsClosing, IsMissingFirst}
 use Rattle.cluster_ending.specs.Finishing.{Answers, CallersAloneProduce, CameTo, HaveBegun, IsFinished, OnHistories}
 use Rattle.cluster_ending.specs.Gathering.{Gathers, gathered}
 use Rattle.cluster_ending.proofs.Begun.{callers-alone, have-begun}
@@ -38,6 +38,9 @@ module _ {H : Type 0} (entries : H → List (Entry Op Reply)) where
 
   pub closed-traces : (last : List QueuePass) (answer : Closing H) (traces : Traces H) → IsClosing entries last answer → answer ≡ closing.Traced traces → AreTracesOf entries last traces
   closed-traces last answer traces closes is = subst (λ (e : Closing H). IsClosing entries last e) is closes
+
+  pub closed-missing : (last : List QueuePass) (answer : Closing H) (queue missing : ℕ) → IsClosing entries last answer → answer ≡ closing.NotAll queue missing → IsMissingFirst queue missing last
+  closed-missing last answer queue missing closes is = subst (λ (e : Closing H). IsClosing entries last e) is closes
 
   pub is-finished : (ls : List QueuePass) (cs : List (List QueuePass)) (all last : List QueuePass) (ends : LoopEnds) (asked : Option Quiet) (traces : Traces H) (result : Result (Finished H) AllocError) → ends.memory ≡ false → Gathers ls cs all → CameTo asked all last
       → AreTracesOf entries last traces → AnswersOf ends asked traces result → IfOk result (IsFinished entries ends (gathered ls cs))

@@ -2,6 +2,8 @@
 use Rattle.std.proofs.Common.{◌≡◌, ◌⊎◌, ℕ, zero, suc, ◌+◌, ◌≤◌, inl, inr, List, [], ◌∷◌, ◌++◌, length, Option, Some, None, Result, Ok, refl, sym, ap, subst, ◌∙◌, arith, add-one}
 use Rattle.std.proofs.lemmas.List.{length-map}
 use Rattle.std.specs.List.{AllZip}
+use Rattle.std.specs.Option.{unwrap_or}
+use Rattle.std.proofs.lemmas.Option.{none-some}
 use Rattle.std.specs.Prelude.{slice_get, slice_set}
 use Rattle.stream_model.specs.declared.op.Op.{Op}
 use Rattle.stream_model.specs.declared.op.Op.TheVariants as op
@@ -18,7 +20,7 @@ use Rattle.turnstile.proofs.Histories.{legal_last}
 use Rattle.shared_partition.specs.Partitions.{after, replied}
 use Rattle.silo_loops.specs.Lines.{QueuePass}
 use Rattle.cluster_callers.specs.Calls.{CallerCalls, turnstiles}
-use Rattle.cluster_ending.specs.Asking.{Asks, AsksUpTo, IsQuiet}
+use Rattle.cluster_ending.specs.Asking.{Asks, AsksUpTo, IsQuiet, pending_of}
 
 -- a look for quiet is answered by that, and changes nothing
 pub look-replies : (p : PlainPartition) → replied p op.Quiet ≡ quiet p
@@ -50,10 +52,17 @@ asks-look r p q asks =
     let answered : r ≡ quiet (replay replied after s front) = legal_last replied after s front (entry p.number op.Quiet r) legal ∙ look-replies (replay replied after s front) in
     subst (λ (e : Reply). IsLook e) (sym answered) (quiet-look (replay replied after s front))
 
--- no other reply
-pub asks-no-other : (r : Reply) (p q : QueuePass) → Asks (Ok r) p q → (r ≡ reply.IsQuiet → ⊥) → ((why : Pending) → r ≡ reply.NotQuiet why → ⊥) → ⊥
-asks-no-other r p q asks not_quiet not_pending =
-    elim (asks-look r p q asks) as (λ w. ⊥) [ inl is ↦ not_quiet is | inr is ↦ not_pending is.0 is.1 ]
+-- the reply from which what is left to do is taken, and the one from which nothing is
+pub pending-reply : (r : Reply) (why : Pending) → pending_of r ≡ Some why → r ≡ reply.NotQuiet why
+pending-reply (reply.NotQuiet w) why is = ap (λ (w : Pending). reply.NotQuiet w) (ap (λ o. unwrap_or o w) is)
+pending-reply _ why is = absurd (none-some why is)
+
+pub quiet-told : (r : Reply) (p q : QueuePass) → Asks (Ok r) p q → pending_of r ≡ None → r ≡ reply.IsQuiet
+quiet-told r p q asks is =
+    elim (asks-look r p q asks) as (λ w. r ≡ reply.IsQuiet) [
+      | inl same ↦ same
+      | inr same ↦ absurd (none-some same.0 (sym is ∙ ap (λ (x : Reply). pending_of x) same.1))
+    ]
 
 -- each queue below this one was quiet, and those from it on weren't asked
 abbrev pub QuietUpTo : ℕ → List QueuePass → List QueuePass → Type 0

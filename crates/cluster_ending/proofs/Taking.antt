@@ -1,5 +1,5 @@
 -- Passes that take in others, one after another.
-use Rattle.std.proofs.Common.{◌≡◌, ℕ, ◌<◌, List, [], ◌∷◌, ◌++◌, length, get_or, set, Contains, refl, sym, ap, subst, ◌∙◌, append_assoc, arith}
+use Rattle.std.proofs.Common.{◌≡◌, ℕ, ◌<◌, List, [], ◌∷◌, ◌++◌, length, get_or, Contains, refl, sym, ap, subst, ◌∙◌, append_assoc, arith}
 use Rattle.std.proofs.lemmas.List.{append-nil, map-append}
 use Rattle.std.proofs.lemmas.List.Elements.{Contains-append_left, Contains-append_right}
 use Rattle.std.specs.List.{AllByRecursion, AllZip}
@@ -10,10 +10,10 @@ use Rattle.turnstile.specs.declared.history.Entry.{Entry}
 use Rattle.turnstile.specs.Calls.{joined_pass, numbers_of}
 use Rattle.turnstile.specs.History.{Foreign}
 use Rattle.silo_loops.specs.Lines.{LineView, NeverProduces, QueuePass, places}
-use Rattle.cluster_callers.specs.Calls.{AllZipFront, AreAlike, joined_passes, turnstiles}
-use Rattle.cluster_callers.proofs.Splitting.{front-alike, turnstiles-joined}
-use Rattle.cluster_callers.proofs.Fronts.{front-last, front-set}
-use Rattle.cluster_ending.specs.Gathering.{AreAt, Gathers, IsFirstOf, IsOtherIn, IsPartOf, Joins, JoinsAll, JoinsEach, gathered, passes_of}
+use Rattle.silo_loops.specs.Passes.{IsOtherIn, IsPartOf}
+use Rattle.cluster_callers.specs.Calls.{AllZipFront, AreAlike, Joins, JoinsAll, turnstiles}
+use Rattle.cluster_callers.proofs.Splitting.{all-whole, front-alike, turnstiles-joined}
+use Rattle.cluster_ending.specs.Gathering.{AreAt, Gathers, IsFirstOf, JoinsEach, gathered, passes_of}
 use Rattle.cluster_ending.proofs.Looking.{turnstiles-length}
 use Rattle.stream_ident.proofs.EachOf.{All-push}
 use Rattle.cluster_ending.proofs.Rows.{zip-refl, zip-trans}
@@ -90,13 +90,6 @@ all-others [] (q ∷ qs) rs long j = absurd j
 all-others (p ∷ ps) (q ∷ qs) [] long j = absurd j
 all-others (p ∷ ps) (q ∷ qs) (r ∷ rs) long j = (joins-other p q r j.0, all-others ps qs rs (omega arith) j.1)
 
-all-whole : (ps qs rs : List QueuePass) → JoinsAll ps qs rs → rs ≡ joined_passes ps qs
-all-whole ps [] rs same = same
-all-whole [] (q ∷ qs) rs j = absurd j
-all-whole (p ∷ ps) (q ∷ qs) [] j = absurd j
-all-whole (p ∷ ps) (q ∷ qs) (r ∷ rs) j =
-    ap (λ (e : QueuePass). e ∷ rs) j.0.whole ∙ ap (λ (es : List QueuePass). joined_pass p q ∷ es) (all-whole ps qs rs j.1)
-
 pub all-places : (ps qs rs : List QueuePass) → JoinsAll ps qs rs → turnstiles rs ≡ turnstiles ps
 all-places ps qs rs j = ap (λ (es : List QueuePass). turnstiles es) (all-whole ps qs rs j) ∙ turnstiles-joined ps qs
 
@@ -119,27 +112,6 @@ gathers : (ps : List QueuePass) (cs : List (List QueuePass)) (rs : List QueuePas
 gathers ps cs rs at never j =
     let taken = each-taken ps cs rs at j in
     record { whole = each-whole ps cs rs j; first = taken.0; others = taken.1; never = never }
-
--- the last one is joined first
-join-last : (ps rest : List QueuePass) (d q w : QueuePass) (rs : List QueuePass) → length rest < length ps → Joins (get_or ps (length rest) d) q w → JoinsAll (set ps (length rest) w) rest rs → JoinsAll ps (rest ++ q ∷ []) rs
-join-last [] rest d q w rs less j all = absurd (omega arith)
-join-last (p ∷ ps) [] d q w rs less j same = subst (λ (es : List QueuePass). JoinsAll (p ∷ ps) (q ∷ []) es) (sym same) (j, refl)
-join-last (p ∷ ps) (x ∷ rest) d q w [] less j all = absurd all
-join-last (p ∷ ps) (x ∷ rest) d q w (r ∷ rs) less j all = (all.0, join-last ps rest d q w rs (omega arith) j all.1)
-
--- one turn of the loop that takes in a caller: what is then made of the rest is made of all
-pub join-more : (ps qs rest new : List QueuePass) (at : ℕ) (p q w : QueuePass) → qs ≡ rest ++ q ∷ [] → at ≡ length rest → AllZipFront AreAlike ps qs → p ≡ get_or ps at p → Joins p q w → new ≡ set ps at w
-    → AllZipFront AreAlike new rest × ((rs : List QueuePass) → JoinsAll new rest rs → JoinsAll ps qs rs)
-join-more ps qs rest new at p q w is here alike read joins put =
-    let last = front-last AreAlike ps rest p q (subst (λ (es : List QueuePass). AllZipFront AreAlike ps es) is alike) in
-    let less : length rest < length ps = last.0 in
-    let whole : new ≡ set ps (length rest) w = put ∙ ap (λ n. set ps n w) here in
-    let one : p ≡ get_or ps (length rest) p = read ∙ ap (λ n. get_or ps n p) here in (
-      subst (λ (es : List QueuePass). AllZipFront AreAlike es rest) (sym whole) (front-set AreAlike ps rest w last.2),
-      λ rs all.
-          subst (λ (es : List QueuePass). JoinsAll ps es rs) (sym is)
-          (join-last ps rest p q w rs less (subst (λ (e : QueuePass). Joins e q w) one joins) (subst (λ (es : List QueuePass). JoinsAll es rest rs) whole all)),
-    )
 
 -- one more caller is taken in
 pub each-more : (ps : List QueuePass) (cs : List (List QueuePass)) (c now new : List QueuePass) → JoinsEach ps cs now → JoinsAll now c new → JoinsEach ps (cs ++ c ∷ []) new

@@ -1,7 +1,8 @@
 -- Whether each queue of a cluster is quiet.
-use Rattle.std.specs.Prelude.{◌≡◌, ℕ, zero, suc, List, [], ◌∷◌, Result, Ok, Err}
+use Rattle.std.specs.Prelude.{◌≡◌, ℕ, zero, suc, List, [], ◌∷◌, Option, Some, None, Result, Ok, Err}
 use Rattle.std.specs.List.{AllZip}
 use Rattle.stream_model.specs.declared.op.Op.TheVariants as op
+use Rattle.stream_model.specs.declared.reply.Pending.{Pending}
 use Rattle.stream_model.specs.declared.reply.Reply.{Reply}
 use Rattle.stream_model.specs.declared.reply.Reply.TheVariants as reply
 use Rattle.turnstile.specs.declared.turnstile.Refusal.{Refusal}
@@ -9,6 +10,11 @@ use Rattle.silo_loops.specs.Lines.{QueuePass}
 use Rattle.cluster_callers.specs.Calls.{QueueCalls}
 use Rattle.cluster_ending.specs.declared.asking.Quiet.{Quiet}
 use Rattle.cluster_ending.specs.declared.asking.Quiet.TheVariants.{All, NotQuiet}
+
+-- what is left to do, where the reply says so
+abbrev pub pending_of : Reply → Option Pending
+pending_of (reply.NotQuiet why) = Some why
+pending_of _ = None
 
 -- the pass has asked whether its queue is quiet, and this came of it
 abbrev pub Asks : Result Reply Refusal → QueuePass → QueuePass → Type 0

@@ -17,6 +17,7 @@ use Rattle.turnstile.specs.History.{Claims}
 use Rattle.shared_partition.specs.Partitions.{told_of}
 use Rattle.stream_model.specs.Producers.{is_producer}
 use Rattle.silo_loops.specs.Lines.{QueuePass}
+use Rattle.silo_loops.specs.Passes.{CallsAlone}
 use Rattle.cluster_ending.specs.declared.asking.Quiet.{Quiet}
 use Rattle.cluster_ending.specs.declared.asking.Quiet.TheVariants.{All, NotQuiet}
 use Rattle.cluster_ending.specs.declared.ends.LoopEnds.{LoopEnds}
@@ -77,12 +78,12 @@ module _ {H : Type 0} (entries : H → List (Entry Op Reply)) where
 abbrev pub HasBegun : QueuePass → List (Entry Op Reply) → Type 0
 HasBegun p history = Claims (numbers_of p) p.seen history
 
--- what the pass has seen is a beginning of the history
+-- what the pass has seen is a beginning of the history, and past it no pass that was joined to it has made a call
 abbrev pub HasSeenFront : QueuePass → List (Entry Op Reply) → Type 0
-HasSeenFront p history = (later : List (Entry Op Reply)) × (history ≡ p.seen ++ later)
+HasSeenFront p history = (later : List (Entry Op Reply)) × (history ≡ p.seen ++ later) × CallsAlone p later
 
 -- what each pass of a line and of a caller has seen begins the history of its queue, past which no caller has made a
--- call
+-- call, nor any pass that a line took in
 pub record HaveBegun (lines : List QueuePass) (callers : List (List QueuePass)) (histories : List (List (Entry Op Reply))) : Type 0 where
   pub of_lines : AllZip HasSeenFront lines histories
   pub of_callers : AllByRecursion (λ caller. AllZip HasBegun caller histories) callers

@@ -1,13 +1,15 @@
 //! Whether each queue of a cluster is quiet.
 ghost use Rattle.std.specs.Prelude.{◌≡◌};
 ghost use Rattle.cluster_callers.specs.Calls.{turnstiles};
-ghost use Rattle.cluster_ending.specs.Asking.{AsksQuiet};
+ghost use Rattle.step_core.specs.Replied.{reply_of};
+ghost use Rattle.cluster_ending.specs.Asking.{AsksQuiet, pending_of};
 
 use cluster_callers::Caller;
 use shared_partition::Gate;
 use std::alloc::Global;
 use std::sync::Wait;
-use stream_model::{Op, Pending, Reply};
+use step_core::{Answer, Outcome, Told};
+use stream_model::{Op, Pending};
 use turnstile::{Refusal, StoredHistory};
 
 /// What the queues of a cluster answer.
@@ -29,7 +31,7 @@ pub enum Quiet {
 /// # Errors
 /// A queue refused the call, as [`Caller::call`] says. Each queue before it is quiet, and those behind it
 /// weren't asked.
-pub fn ask_quiet<G: Gate, H: StoredHistory<Op, Reply>, R: Wait>(
+pub fn ask_quiet<G: Gate, H: StoredHistory<Op, Answer>, R: Wait>(
     rt: &R,
     alloc: Global,
     caller: &mut Caller<G, H>,
@@ -38,11 +40,31 @@ pub fn ask_quiet<G: Gate, H: StoredHistory<Op, Reply>, R: Wait>(
     ensures turnstiles { turnstiles caller.new ≡ turnstiles caller.old }
 {
     for queue in 0..caller.queues() {
-        match caller.call(rt, alloc, queue, Op::Quiet)? {
-            Reply::IsQuiet => {}
-            Reply::NotQuiet(why) => return Ok(Quiet::NotQuiet { queue, why }),
-            _ => unreachable!(),
+        let answer = caller.call(rt, alloc, queue, Op::Quiet)?;
+        match pending_of(&answer) {
+            Some(why) => return Ok(Quiet::NotQuiet { queue, why }),
+            None => {}
         }
     }
     Ok(Quiet::All)
+}
+
+// What is left to do, where the answer says so.
+fn pending_of(answer: &Answer) -> Option<Pending>
+    ensures { result ≡ pending_of answer.now }
+{
+    match answer.outcome() {
+        Outcome::Told(told) => pending_told(told),
+        Outcome::Turn(_) => None,
+    }
+}
+
+// The same of a reply that isn't a turn.
+fn pending_told(told: &Told) -> Option<Pending>
+    ensures { result ≡ pending_of (reply_of told.now) }
+{
+    match *told {
+        Told::NotQuiet(why) => Some(why),
+        _ => None,
+    }
 }

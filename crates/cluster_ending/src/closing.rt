@@ -7,9 +7,9 @@ use cluster_callers::{Caller, QueueCaller};
 use shared_partition::{Gate, SharedPartition};
 use std::alloc::{AllocError, Global};
 use std::sync::Arc;
-use step_core::Partition;
+use step_core::{Answer, Partition};
 use stream_laws::one_history;
-use stream_model::{Op, Reply};
+use stream_model::Op;
 use turnstile::{Closed, PassOf, StoredHistory};
 
 /// All that was done in a cluster: of each queue its history, and its partition at the end.
@@ -52,7 +52,7 @@ enum End<H> {
 ///
 /// # Errors
 /// The call failed to allocate. What the caller had is lost then.
-pub fn close<G: Gate, H: StoredHistory<Op, Reply>>(
+pub fn close<G: Gate, H: StoredHistory<Op, Answer>>(
     alloc: Global,
     caller: Caller<G, H>,
 ) -> Result<Closing<H>, AllocError>
@@ -69,7 +69,7 @@ pub fn close<G: Gate, H: StoredHistory<Op, Reply>>(
 }
 
 // The same with one more queue behind.
-fn with_end<H: StoredHistory<Op, Reply>>(
+fn with_end<H: StoredHistory<Op, Answer>>(
     closing: Closing<H>,
     end: End<H>,
 ) -> Result<Closing<H>, AllocError>
@@ -86,7 +86,7 @@ fn with_end<H: StoredHistory<Op, Reply>>(
 }
 
 // The same where no pass was missing so far.
-fn traces_with_end<H: StoredHistory<Op, Reply>>(
+fn traces_with_end<H: StoredHistory<Op, Answer>>(
     mut traces: Traces<H>,
     end: End<H>,
 ) -> Result<Closing<H>, AllocError>
@@ -107,7 +107,7 @@ fn traces_with_end<H: StoredHistory<Op, Reply>>(
 }
 
 // Ends the turnstile of one queue.
-fn close_queue<G: Gate, H: StoredHistory<Op, Reply>>(
+fn close_queue<G: Gate, H: StoredHistory<Op, Answer>>(
     alloc: Global,
     queue: QueueCaller<G, H>,
 ) -> Result<End<H>, AllocError>
@@ -132,7 +132,7 @@ fn close_queue<G: Gate, H: StoredHistory<Op, Reply>>(
 }
 
 // A vector of one pass.
-fn alone<G: Gate, H: StoredHistory<Op, Reply>>(
+fn alone<G: Gate, H: StoredHistory<Op, Answer>>(
     alloc: Global,
     pass: PassOf<SharedPartition<G, H>>,
 ) -> Result<Vec<PassOf<SharedPartition<G, H>>>, AllocError>

@@ -17,9 +17,9 @@ use shared_partition::Gate;
 use silo_loops::{Doorbell, Line};
 use std::alloc::{AllocError, Global};
 use std::sync::{Arc, Wait};
-use step_core::Partition;
+use step_core::{Answer, Partition};
 use stream_laws::quiet_is_done;
-use stream_model::{Op, Pending, Reply};
+use stream_model::{Op, Pending};
 use turnstile::{Refusal, StoredHistory};
 
 /// How a cluster has ended.
@@ -71,7 +71,7 @@ pub enum Finished<H> {
 ///
 /// # Errors
 /// The call failed to allocate, or a loop failed to before. What was given is lost then. It goes before all answers.
-pub fn finish<G: Gate, H: StoredHistory<Op, Reply>, R: Wait>(
+pub fn finish<G: Gate, H: StoredHistory<Op, Answer>, R: Wait>(
     rt: &R,
     alloc: Global,
     doorbell: Arc<Doorbell, Global>,
@@ -103,7 +103,7 @@ pub fn finish<G: Gate, H: StoredHistory<Op, Reply>, R: Wait>(
 }
 
 // The answer where all passes came back; `asked` is none where a history was full.
-fn answer<H: StoredHistory<Op, Reply>>(
+fn answer<H: StoredHistory<Op, Answer>>(
     alloc: Global,
     ends: LoopEnds,
     asked: Option<Quiet>,

@@ -2,15 +2,16 @@
 ghost use Rattle.std.specs.Prelude.{◌≡◌, IfOk};
 ghost use Rattle.std.specs.List.{AllByRecursion};
 ghost use Rattle.silo_loops.specs.Lines.{NeverProduces, places};
-ghost use Rattle.cluster_callers.specs.Calls.{AllZipFront, AreAlike, turnstiles};
-ghost use Rattle.cluster_ending.specs.Gathering.{AreAt, Gathers, JoinsAll, JoinsEach, passes_of};
+ghost use Rattle.cluster_callers.specs.Calls.{AllZipFront, AreAlike, JoinsAll, turnstiles};
+ghost use Rattle.cluster_ending.specs.Gathering.{AreAt, Gathers, JoinsEach, passes_of};
 
 use cluster_callers::{Caller, QueueCaller};
 use shared_partition::Gate;
 use silo_loops::{Doorbell, Line};
 use std::alloc::{AllocError, Global};
 use std::sync::Arc;
-use stream_model::{Op, Reply};
+use step_core::Answer;
+use stream_model::Op;
 use turnstile::StoredHistory;
 
 /// One caller with the passes of these lines, which has taken in those of the callers, one caller after
@@ -18,7 +19,7 @@ use turnstile::StoredHistory;
 ///
 /// # Errors
 /// The call failed to allocate. What was given is lost then.
-pub fn gather<G: Gate, H: StoredHistory<Op, Reply>>(
+pub fn gather<G: Gate, H: StoredHistory<Op, Answer>>(
     alloc: Global,
     doorbell: Arc<Doorbell, Global>,
     lines: Vec<Line<G, H>>,
@@ -33,7 +34,7 @@ pub fn gather<G: Gate, H: StoredHistory<Op, Reply>>(
 }
 
 // A caller with the pass of each line.
-fn line_callers<G: Gate, H: StoredHistory<Op, Reply>>(
+fn line_callers<G: Gate, H: StoredHistory<Op, Answer>>(
     alloc: Global,
     lines: Vec<Line<G, H>>,
 ) -> Result<Vec<QueueCaller<G, H>>, AllocError>
@@ -48,7 +49,7 @@ fn line_callers<G: Gate, H: StoredHistory<Op, Reply>>(
 }
 
 // A caller with the pass of a line.
-fn line_caller<G: Gate, H: StoredHistory<Op, Reply>>(line: Line<G, H>) -> QueueCaller<G, H>
+fn line_caller<G: Gate, H: StoredHistory<Op, Answer>>(line: Line<G, H>) -> QueueCaller<G, H>
     ensures pass { result ≡ line.pass }
     ensures never { NeverProduces line.pass }
 {
@@ -57,7 +58,7 @@ fn line_caller<G: Gate, H: StoredHistory<Op, Reply>>(line: Line<G, H>) -> QueueC
 }
 
 // Joins one caller after another.
-fn join_each<G: Gate, H: StoredHistory<Op, Reply>>(
+fn join_each<G: Gate, H: StoredHistory<Op, Answer>>(
     queues: &mut Vec<QueueCaller<G, H>>,
     callers: Vec<Caller<G, H>>,
 )
@@ -70,7 +71,7 @@ fn join_each<G: Gate, H: StoredHistory<Op, Reply>>(
 }
 
 // Joins each of the others to the one at its place, from the last on. There may be fewer of them.
-fn join_all<G: Gate, H: StoredHistory<Op, Reply>>(
+fn join_all<G: Gate, H: StoredHistory<Op, Answer>>(
     queues: &mut Vec<QueueCaller<G, H>>,
     mut others: Vec<QueueCaller<G, H>>,
 )

@@ -1,16 +1,18 @@
 -- Calls that a pass has made past a mark.
-use Rattle.std.proofs.Common.{◌≡◌, ℕ, zero, suc, ◌≤◌, ◌⊎◌, inl, inr, List, [], ◌∷◌, ◌++◌, length, drop, Result, Ok, Err, refl, sym, ap, subst, ◌∙◌, append_assoc, arith}
+use Rattle.std.proofs.Common.{◌≡◌, ℕ, zero, suc, ◌≤◌, ◌⊎◌, inl, inr, List, [], ◌∷◌, ◌++◌, length, drop, Contains, Result, Ok, Err, refl, sym, ap, subst, ◌∙◌, append_assoc, arith}
 use Rattle.std.specs.Result.{IfErr, IsErrAnd}
 use Rattle.std.proofs.Math.Seq.{drop-append_seam, drop-length}
 use Rattle.std.proofs.lemmas.List.{drop-append-le, length-append}
 use Rattle.turnstile.specs.declared.history.Entry.{Entry}
+use Rattle.turnstile.specs.Calls.{numbers_of}
 use Rattle.turnstile.specs.Closing.{HasSome}
 use Rattle.turnstile.specs.History.{Foreign, IsLegal, entry, replay}
 use Rattle.turnstile.specs.Passes.{PassView}
 use Rattle.turnstile.specs.declared.turnstile.Refusal.{Refusal}
 use Rattle.turnstile.proofs.Histories.{legal_last}
 use Rattle.silo_loops.specs.Passes.{CallsBy}
-use Rattle.silo_loops.proofs.Owning.{calls-more, calls-number}
+use Rattle.silo_loops.proofs.Owning.{calls-number}
+use Rattle.silo_loops.proofs.Taking.{called-alone}
 use Rattle.silo_crew.specs.Silos.{GoesOn, IsSilent}
 use Rattle.cluster_operator.specs.Changes.{HasFound, HasMade, halt_of}
 
@@ -85,8 +87,15 @@ goes-longer {O} {R} p q on = let long = ap (λ (es : List (Entry O R)). length e
 module _ {S O R : Type 0} (reply : S → O → R) (after : S → O → S) where
   pub goes-called : (p : PassView O R S) (op : O) (result : Result R Refusal) (q : PassView O R S) → CallsBy reply after p op result q → GoesOn p q
   goes-called p op result q calls =
-      let more = calls-more reply after p op result q calls in
-      record { turnstile = ap (λ (w : PassView O R S). w.turnstile) calls.only; number = calls-number reply after p op result q calls; more = more.0; seen = more.1 }
+      let more = called-alone reply after p op result q calls in
+      record {
+        turnstile = ap (λ (w : PassView O R S). w.turnstile) calls.only;
+        number = calls-number reply after p op result q calls;
+        numbers = λ k here. subst (λ (ks : List ℕ). Contains ks k) (sym (ap (λ (w : PassView O R S). numbers_of w) calls.only)) here;
+        more = more.0;
+        seen = more.1;
+        alone = more.2;
+      }
 
   pub made-called : (IsSuch : O → R → Type 0) (p : PassView O R S) (op : O) (r : R) (q : PassView O R S) → CallsBy reply after p op (Ok r) q → IsSuch op r → HasMade (length p.seen) q IsSuch
   made-called IsSuch p op r q calls such =

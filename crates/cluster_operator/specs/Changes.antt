@@ -1,5 +1,5 @@
 -- What the calls of a cluster's own passes leave when its silos change.
-use Rattle.std.specs.Prelude.{◌≡◌, ◌≢◌, ◌⊎◌, ℕ, List, length, drop, Some, Result, Ok, Err, slice_get, slice_index}
+use Rattle.std.specs.Prelude.{◌≡◌, ◌≢◌, ◌⊎◌, ℕ, List, length, drop, Option, Some, None, Result, Ok, Err, slice_get, slice_index}
 use Rattle.stream_ident.specs.declared.ident.GrainId.{GrainId}
 use Rattle.stream_ident.specs.declared.token.Token.{Token}
 use Rattle.stream_model.specs.declared.op.Op.{Op}
@@ -23,6 +23,11 @@ use Rattle.cluster_operator.specs.declared.halt.Halt.{Halt}
 use Rattle.cluster_operator.specs.declared.halt.Halt.TheVariants as halt
 use Rattle.cluster_operator.specs.declared.leaving.Release.{Release}
 use Rattle.cluster_operator.specs.declared.leaving.Release.TheVariants as release
+
+-- the generation under which the agent on another silo has a queue that was moved
+abbrev pub moved_of : Reply → Option ℕ
+moved_of (reply.Moved generation low) = Some generation
+moved_of _ = None
 
 -- past its mark one of the pass's own calls is such
 abbrev pub HasMade : {O R S : Type 0} → ℕ → PassView O R S → (O → R → Type 0) → Type 0

@@ -9,12 +9,13 @@ use shared_partition::Gate;
 use silo_loops::{DirectoryLine, Doorbell, Line};
 use std::alloc::Global;
 use std::sync::Wait;
+use step_core::Answer;
 use stream_ident::GrainId;
-use stream_model::{Op, Reply};
+use stream_model::Op;
 use turnstile::StoredHistory;
 
 // Deactivates a grain at one queue, where it is active there.
-fn deactivate<G: Gate, H: StoredHistory<Op, Reply>, R: Wait>(
+fn deactivate<G: Gate, H: StoredHistory<Op, Answer>, R: Wait>(
     rt: &R,
     alloc: Global,
     doorbell: &Doorbell,
@@ -30,7 +31,7 @@ fn deactivate<G: Gate, H: StoredHistory<Op, Reply>, R: Wait>(
 }
 
 // Deactivates a grain at each queue.
-fn deactivate_everywhere<G: Gate, H: StoredHistory<Op, Reply>, R: Wait>(
+fn deactivate_everywhere<G: Gate, H: StoredHistory<Op, Answer>, R: Wait>(
     rt: &R,
     alloc: Global,
     doorbell: &Doorbell,
@@ -77,7 +78,7 @@ fn take_grain<D: StoredHistory<DirectoryOp, DirectoryReply>, R: Wait>(
 /// A call was refused. Those before it stand.
 pub(crate) fn evict<
     G: Gate,
-    H: StoredHistory<Op, Reply>,
+    H: StoredHistory<Op, Answer>,
     D: StoredHistory<DirectoryOp, DirectoryReply>,
     R: Wait,
 >(

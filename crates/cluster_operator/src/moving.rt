@@ -1,19 +1,21 @@
 //! Queues that go to agents on other silos.
 ghost use Rattle.std.specs.Prelude.{◌≡◌, ◌≢◌, length, IfErr, OnOk};
 ghost use Rattle.silo_crew.specs.Silos.{GoOn, LineGoesOn};
-ghost use Rattle.cluster_operator.specs.Changes.{HasSince, HaveMoved, IsMove, IsUnmoved, StaysBehind};
+ghost use Rattle.step_core.specs.Replied.{reply_of};
+ghost use Rattle.cluster_operator.specs.Changes.{HasSince, HaveMoved, IsMove, IsUnmoved, StaysBehind, moved_of};
 
 use crate::halt::Halt;
 use shared_partition::Gate;
 use silo_loops::{Assigned, Doorbell, Line};
 use std::alloc::Global;
 use std::sync::{Arc, Wait};
-use stream_model::{Op, Reply};
+use step_core::{Answer, Outcome, Told};
+use stream_model::Op;
 use turnstile::StoredHistory;
 
 // The queue goes to an agent on another silo, where it is another. Each agent is told before the doorbell is rung
 // for the last time.
-fn move_queue<G: Gate, H: StoredHistory<Op, Reply>, R: Wait>(
+fn move_queue<G: Gate, H: StoredHistory<Op, Answer>, R: Wait>(
     rt: &R,
     alloc: Global,
     doorbell: &Doorbell,
@@ -30,14 +32,34 @@ fn move_queue<G: Gate, H: StoredHistory<Op, Reply>, R: Wait>(
     if from == to {
         return Ok(());
     }
-    match line.call(rt, alloc, doorbell, Op::Move { silo: to })? {
-        Reply::Moved { generation, low: _ } => {
+    let answer = line.call(rt, alloc, doorbell, Op::Move { silo: to })?;
+    match moved_of(&answer) {
+        Some(generation) => {
             tell(agents, queue, from, to, generation);
             doorbell.ring(rt);
             Ok(())
         }
-        Reply::Spent => Err(Halt::Limit),
-        _ => unreachable!(),
+        None => Err(Halt::Limit),
+    }
+}
+
+// The generation under which an agent has the queue, where the answer says that it was moved.
+fn moved_of(answer: &Answer) -> Option<u64>
+    ensures { result ≡ moved_of answer.now }
+{
+    match answer.outcome() {
+        Outcome::Told(told) => moved_told(told),
+        Outcome::Turn(_) => None,
+    }
+}
+
+// The same of a reply that isn't a turn.
+fn moved_told(told: &Told) -> Option<u64>
+    ensures { result ≡ moved_of (reply_of told.now) }
+{
+    match *told {
+        Told::Moved { generation, low: _ } => Some(generation),
+        _ => None,
     }
 }
 
@@ -55,7 +77,7 @@ fn tell(agents: &Vec<Arc<Assigned, Global>>, queue: usize, from: u8, to: u8, gen
 ///
 /// # Errors
 /// A move was refused. Those before it stand.
-pub(crate) fn spread<G: Gate, H: StoredHistory<Op, Reply>, R: Wait>(
+pub(crate) fn spread<G: Gate, H: StoredHistory<Op, Answer>, R: Wait>(
     rt: &R,
     alloc: Global,
     doorbell: &Doorbell,

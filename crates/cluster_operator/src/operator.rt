@@ -1,7 +1,7 @@
 //! What the operator of a cluster holds: passes of its own, the silos that live, and the silo of each queue.
 ghost use Rattle.std.specs.Prelude.{◌≡◌, ◌<◌, [], ◌∷◌, ◌++◌, length, remove, replicate, Contains, Some, slice_get, OnErr, OnOk, IfErr, IfOk, MatchOption};
 ghost use Rattle.queue_balancer.specs.Balance.{HasNoDoubles, IsBalanced};
-ghost use Rattle.silo_crew.specs.Silos.{GoOn, HaveJoined, IsFresh, IsSilent, IsSiloAt};
+ghost use Rattle.silo_crew.specs.Silos.{AreTakenIn, GoOn, HaveJoined, IsFresh, IsSilent, IsSiloAt};
 ghost use Rattle.cluster_operator.specs.Changes.{AreDeactivated, HasMade, HaveMoved, HoldsGrains, IsNoneLeft};
 ghost use Rattle.cluster_operator.specs.Operators.{HasOnlyGoneOn, HasSpread, IsUnspread, OperatorGoesOn};
 
@@ -16,13 +16,14 @@ use silo_loops::{Assigned, DirectoryLine, Doorbell, Line};
 use std::alloc::{AllocError, Global};
 use std::marker::Model;
 use std::sync::{Arc, Wait};
-use stream_model::{Op, Reply};
+use step_core::Answer;
+use stream_model::Op;
 use turnstile::StoredHistory;
 
 /// What changes the silos of a cluster.
 pub struct Operator<
     G: Gate,
-    H: StoredHistory<Op, Reply>,
+    H: StoredHistory<Op, Answer>,
     D: StoredHistory<DirectoryOp, DirectoryReply>,
 > {
     gate: Arc<G, Global>,
@@ -37,7 +38,7 @@ pub struct Operator<
 
 impl<
     G: Gate + Drop,
-    H: StoredHistory<Op, Reply> + Drop,
+    H: StoredHistory<Op, Answer> + Drop,
     D: StoredHistory<DirectoryOp, DirectoryReply> + Drop,
 > Drop for Operator<G, H, D> {
     fn drop(self) {
@@ -53,7 +54,7 @@ impl<
     }
 }
 
-impl<G: Gate, H: StoredHistory<Op, Reply>, D: StoredHistory<DirectoryOp, DirectoryReply>> Model
+impl<G: Gate, H: StoredHistory<Op, Answer>, D: StoredHistory<DirectoryOp, DirectoryReply>> Model
     for Operator<G, H, D> {
     ghost use Rattle.cluster_operator.specs.Operators.{IsOperator, OperatorView};
 
@@ -77,7 +78,7 @@ fn no_queues(alloc: Global, queues: usize) -> Result<Vec<Arc<Assigned, Global>>,
 }
 
 // Spreads the queues over the silos that live.
-fn spread_queues<G: Gate, H: StoredHistory<Op, Reply>, R: Wait>(
+fn spread_queues<G: Gate, H: StoredHistory<Op, Answer>, R: Wait>(
     rt: &R,
     alloc: Global,
     doorbell: &Doorbell,
@@ -113,7 +114,7 @@ fn spread_queues<G: Gate, H: StoredHistory<Op, Reply>, R: Wait>(
     Ok(())
 }
 
-impl<G: Gate, H: StoredHistory<Op, Reply>, D: StoredHistory<DirectoryOp, DirectoryReply>> Operator<
+impl<G: Gate, H: StoredHistory<Op, Answer>, D: StoredHistory<DirectoryOp, DirectoryReply>> Operator<
     G,
     H,
     D,
@@ -247,6 +248,7 @@ impl<G: Gate, H: StoredHistory<Op, Reply>, D: StoredHistory<DirectoryOp, Directo
         ensures only { HasOnlyGoneOn self.old self.new }
         ensures silent { IsSilent self.old.directory self.new.directory }
         ensures joined { HaveJoined loops self.old.lines self.old.directory self.new.lines self.new.directory }
+        ensures taken { AreTakenIn self.new.lines self.new.directory loops }
     {
         loops.join_into(&mut self.lines, &mut self.directory)
     }

@@ -13,7 +13,8 @@ use std::alloc::{AllocError, Global};
 use std::sync::Wait;
 use std::sync::atomic::AtomicBool;
 use std::thread;
-use stream_model::{Op, Reply};
+use step_core::Answer;
+use stream_model::Op;
 use turnstile::{Refusal, StoredHistory};
 
 /// How often a drain yields before a look, at most.
@@ -37,7 +38,7 @@ pub enum Drained {
 ///
 /// # Errors
 /// A call failed to allocate. Nothing was done but looks.
-pub fn drain<G: Gate, H: StoredHistory<Op, Reply>, R: Wait>(
+pub fn drain<G: Gate, H: StoredHistory<Op, Answer>, R: Wait>(
     rt: &R,
     alloc: Global,
     caller: &mut Caller<G, H>,

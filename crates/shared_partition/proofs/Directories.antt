@@ -1,5 +1,5 @@
 -- What is legal at a turnstile is, without the numbers of the passes, a legal history of the directory.
-use Rattle.std.proofs.Common.{List, [], ◌∷◌, refl, sym, subst}
+use Rattle.std.proofs.Common.{List, [], ◌∷◌, Result, refl, sym, subst}
 use Rattle.activation_directory.specs.declared.op.DirectoryOp.{DirectoryOp}
 use Rattle.activation_directory.specs.declared.reply.DirectoryReply.{DirectoryReply}
 use Rattle.activation_directory.specs.Laws.{OnePermitAtATime}
@@ -7,8 +7,12 @@ use Rattle.activation_directory.specs.Plain.{PlainDirectory, empty}
 use Rattle.activation_directory.specs.Step.{Leads}
 use Rattle.turnstile.specs.declared.history.Entry.{Entry}
 use Rattle.turnstile.specs.declared.view.Start.{Start}
+use Rattle.turnstile.specs.declared.turnstile.Refusal.{Refusal}
+use Rattle.turnstile.specs.Calls.{CallsBy, IsOf}
 use Rattle.turnstile.specs.History.{IsLegal, replay}
-use Rattle.shared_partition.specs.Directories.{BeganEmpty, LeavesLegal, TellsOnePermit, after, replied, told_of}
+use Rattle.turnstile.specs.Passes.{Origin, PassView}
+use Rattle.shared_partition.specs.Directories.{BeganEmpty, IsOfEmpty, LeavesLegal, TellsOnePermit, after, replied, told_of}
+use Rattle.shared_partition.proofs.Legal.{called-legal}
 
 legal-leads : (d : PlainDirectory) (entries : List (Entry DirectoryOp DirectoryReply)) → IsLegal replied after d entries → Leads d (told_of entries) (replay replied after d entries)
 legal-leads d [] legal = refl
@@ -23,3 +27,10 @@ legal-tells x entries law began legal before between later grain silo permit oth
     let left = replay replied after x.state entries in
     law began.0 before between later left grain silo permit other_silo other_permit
     (subst (λ history. Leads (empty began.0) history left) is (legal-leaves x entries legal began.0 began.1))
+
+-- what a call by a pass of such a turnstile has seen
+pub called-tells : (p q : PassView DirectoryOp DirectoryReply PlainDirectory) (op : DirectoryOp) (result : Result DirectoryReply Refusal) → OnePermitAtATime → IsOfEmpty p → CallsBy replied after p op result q → TellsOnePermit q.seen
+called-tells p q op result law of calls = legal-tells of.0.start q.seen law of.2 (called-legal replied after of.0 p q op result of.1 calls)
+
+pub called-leaves : (p q : PassView DirectoryOp DirectoryReply PlainDirectory) (op : DirectoryOp) (result : Result DirectoryReply Refusal) → CallsBy replied after p op result q → (t : Origin PlainDirectory) → IsOf t p → LeavesLegal t.start q.seen
+called-leaves p q op result calls t of = legal-leaves t.start q.seen (called-legal replied after t p q op result of calls)

@@ -1,8 +1,8 @@
 -- What a pass has seen is legal, whether its call was refused or not.
-use Rattle.std.proofs.Common.{List, Result, Ok, Err, MatchResult}
-use Rattle.turnstile.specs.Calls.{Called, Found}
+use Rattle.std.proofs.Common.{◌≡◌, List, Some, Result, Ok, Err, MatchResult, subst}
+use Rattle.turnstile.specs.Calls.{Called, CallsBy, Found}
 use Rattle.turnstile.specs.History.{IsLegal}
-use Rattle.turnstile.specs.Passes.{PassView}
+use Rattle.turnstile.specs.Passes.{Origin, PassView}
 use Rattle.turnstile.specs.declared.history.Entry.{Entry}
 use Rattle.turnstile.specs.declared.turnstile.Refusal.{Refusal}
 use Rattle.turnstile.specs.declared.view.Start.{Start}
@@ -13,3 +13,9 @@ module _ {S O R : Type 0} (reply : S → O → R) (after : S → O → S) where
       → IsLegal reply after x.state seen
   seen-legal x p op (Ok r) seen called = called.3
   seen-legal x p op (Err e) seen found = found.3
+
+  -- so it is after a call by a pass of this turnstile
+  pub called-legal : (t : Origin S) (p q : PassView O R S) (op : O) (result : Result R Refusal) → p.turnstile ≡ Some t → CallsBy reply after p op result q → IsLegal reply after t.start.state q.seen
+  called-legal t p q op result of calls =
+      let same : calls.origin ≡ t = cc (calls.of, of) in
+      subst (λ o. IsLegal reply after o.start.state q.seen) same (seen-legal calls.origin.start p op result q.seen calls.call)

@@ -1,5 +1,5 @@
 -- What is legal at a turnstile is, without the numbers of the passes, a legal history of the partition.
-use Rattle.std.proofs.Common.{List, [], ◌∷◌, refl, sym, subst}
+use Rattle.std.proofs.Common.{List, [], ◌∷◌, Result, refl, sym, subst}
 use Rattle.stream_laws.specs.Laws.{OneHistory}
 use Rattle.stream_model.specs.declared.op.Op.{Op}
 use Rattle.stream_model.specs.declared.plain.PlainPartition.{PlainPartition}
@@ -7,8 +7,12 @@ use Rattle.stream_model.specs.declared.reply.Reply.{Reply}
 use Rattle.stream_model.specs.Step.{Leads}
 use Rattle.turnstile.specs.declared.history.Entry.{Entry}
 use Rattle.turnstile.specs.declared.view.Start.{Start}
+use Rattle.turnstile.specs.declared.turnstile.Refusal.{Refusal}
+use Rattle.turnstile.specs.Calls.{CallsBy, IsOf}
 use Rattle.turnstile.specs.History.{IsLegal, replay}
-use Rattle.shared_partition.specs.Partitions.{BeganEmpty, LeavesLegal, TellsOneHistory, after, replied, told_of}
+use Rattle.turnstile.specs.Passes.{Origin, PassView}
+use Rattle.shared_partition.specs.Partitions.{BeganEmpty, IsOfEmpty, LeavesLegal, TellsOneHistory, after, replied, told_of}
+use Rattle.shared_partition.proofs.Legal.{called-legal}
 
 legal-leads : (p : PlainPartition) (entries : List (Entry Op Reply)) → IsLegal replied after p entries → Leads p (told_of entries) (replay replied after p entries)
 legal-leads p [] legal = refl
@@ -21,3 +25,10 @@ legal-leaves x entries legal blocks limits is =
 pub legal-tells : (x : Start PlainPartition) (entries : List (Entry Op Reply)) → OneHistory → BeganEmpty x → IsLegal replied after x.state entries → TellsOneHistory entries
 legal-tells x entries law began legal =
     law began.0 began.1 (told_of entries) (replay replied after x.state entries) (legal-leaves x entries legal began.0 began.1 began.3)
+
+-- what a call by a pass of such a turnstile has seen
+pub called-tells : (p q : PassView Op Reply PlainPartition) (op : Op) (result : Result Reply Refusal) → OneHistory → IsOfEmpty p → CallsBy replied after p op result q → TellsOneHistory q.seen
+called-tells p q op result law of calls = legal-tells of.0.start q.seen law of.2 (called-legal replied after of.0 p q op result of.1 calls)
+
+pub called-leaves : (p q : PassView Op Reply PlainPartition) (op : Op) (result : Result Reply Refusal) → CallsBy replied after p op result q → (t : Origin PlainPartition) → IsOf t p → LeavesLegal t.start q.seen
+called-leaves p q op result calls t of = legal-leaves t.start q.seen (called-legal replied after t p q op result of calls)

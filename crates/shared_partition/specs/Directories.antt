@@ -1,5 +1,5 @@
 -- What the calls of a shared directory tell.
-use Rattle.std.specs.Prelude.{◌≡◌, ℕ, List, ◌∷◌, ◌++◌, map}
+use Rattle.std.specs.Prelude.{◌≡◌, ℕ, List, ◌∷◌, ◌++◌, Some, map}
 use Rattle.stream_ident.specs.declared.ident.GrainId.{GrainId}
 use Rattle.activation_directory.specs.declared.op.DirectoryOp.{DirectoryOp}
 use Rattle.activation_directory.specs.declared.reply.DirectoryReply.{DirectoryReply}
@@ -9,6 +9,7 @@ use Rattle.activation_directory.specs.Step as plain
 use Rattle.turnstile.specs.declared.history.Entry.{Entry}
 use Rattle.turnstile.specs.declared.view.Start.{Start}
 use Rattle.turnstile.specs.History.{replay}
+use Rattle.turnstile.specs.Passes.{Origin, PassView}
 
 -- the reply of a directory to an operation
 abbrev pub replied : PlainDirectory → DirectoryOp → DirectoryReply
@@ -21,6 +22,10 @@ after d op = (plain.step d op).0
 -- the turnstile began with an empty directory
 abbrev pub BeganEmpty : Start PlainDirectory → Type 0
 BeganEmpty x = (permits : ℕ) × (x.state ≡ empty permits)
+
+-- the pass is of a turnstile that began so
+abbrev pub IsOfEmpty : PassView DirectoryOp DirectoryReply PlainDirectory → Type 0
+IsOfEmpty p = (t : Origin PlainDirectory) × (p.turnstile ≡ Some t) × BeganEmpty t.start
 
 -- the calls, whichever pass made them
 abbrev pub told_of : List (Entry DirectoryOp DirectoryReply) → List plain.Entry

@@ -1,5 +1,5 @@
 -- What the calls of a shared partition tell.
-use Rattle.std.specs.Prelude.{◌≡◌, ℕ, ◌≤◌, List, map}
+use Rattle.std.specs.Prelude.{◌≡◌, ℕ, ◌≤◌, List, Some, map}
 use Rattle.stream_laws.specs.Laws.{IsOneHistory}
 use Rattle.stream_model.specs.declared.limits.Limits.{Limits}
 use Rattle.stream_model.specs.declared.op.Op.{Op}
@@ -11,6 +11,7 @@ use Rattle.stream_model.specs.Step.{Stands, step}
 use Rattle.turnstile.specs.declared.history.Entry.{Entry}
 use Rattle.turnstile.specs.declared.view.Start.{Start}
 use Rattle.turnstile.specs.History.{replay}
+use Rattle.turnstile.specs.Passes.{Origin, PassView}
 
 -- the reply of a partition to an operation
 abbrev pub replied : PlainPartition → Op → Reply
@@ -23,6 +24,10 @@ after p op = (step p op).0
 -- the turnstile began with an empty partition
 abbrev pub BeganEmpty : Start PlainPartition → Type 0
 BeganEmpty x = (blocks : ℕ) × (limits : Limits) × (1 ≤ blocks) × (x.state ≡ empty blocks limits)
+
+-- the pass is of a turnstile that began so
+abbrev pub IsOfEmpty : PassView Op Reply PlainPartition → Type 0
+IsOfEmpty p = (t : Origin PlainPartition) × (p.turnstile ≡ Some t) × BeganEmpty t.start
 
 -- the calls, whichever pass made them
 abbrev pub told_of : List (Entry Op Reply) → List told.Entry

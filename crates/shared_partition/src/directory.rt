@@ -1,15 +1,16 @@
 //! The directory that a turnstile holds.
 ghost use Rattle.std.specs.Prelude.{◌≡◌, ◌≤◌, MatchResult};
-ghost use Rattle.activation_directory.specs.Plain.{empty};
-ghost use Rattle.turnstile.specs.Calls.{Called, Found, HasOnlySeen, IsOf};
-ghost use Rattle.shared_partition.specs.Directories.{BeganEmpty, LeavesLegal, TellsOnePermit, after, replied};
+ghost use Rattle.activation_directory.specs.Plain.{PlainDirectory, empty};
+ghost use Rattle.turnstile.specs.Calls.{Called, CallsBy, Found, HasOnlySeen, IsOf};
+ghost use Rattle.turnstile.specs.Passes.{Origin};
+ghost use Rattle.shared_partition.specs.Directories.{BeganEmpty, IsOfEmpty, LeavesLegal, TellsOnePermit, after, replied};
 
 use activation_directory::laws::one_permit_at_a_time;
 use activation_directory::{Directory, DirectoryOp, DirectoryReply};
 use std::alloc::{AllocError, Global};
 use std::marker::{Model, PhantomData};
 use std::sync::Wait;
-use turnstile::{PassOf, Refusal, Replays, StoredHistory, Turnstile};
+use turnstile::{Handle, PassOf, Refusal, Replays, StoredHistory, Turnstile};
 
 /// A directory of grains, with a way to store the history of its calls.
 ///
@@ -35,6 +36,8 @@ impl<H: StoredHistory<DirectoryOp, DirectoryReply>> Replays for SharedDirectory<
 
     type History = H;
 
+    type Room = ();
+
     type State = Directory;
 
     ghost state_of = { λ s. s };
@@ -43,12 +46,15 @@ impl<H: StoredHistory<DirectoryOp, DirectoryReply>> Replays for SharedDirectory<
 
     ghost after = { after };
 
-    fn apply(&mut self, alloc: Global, op: &DirectoryOp) -> Result<DirectoryReply, AllocError> {
-        self.directory.step(alloc, *op)
-    }
+    ghost shows = { λ _ _ _. Unit {0} };
 
-    fn copy_reply(reply: &DirectoryReply) -> DirectoryReply {
-        *reply
+    fn apply(
+        &mut self,
+        alloc: Global,
+        op: &DirectoryOp,
+        _room: &mut (),
+    ) -> Result<DirectoryReply, AllocError> {
+        self.directory.step(alloc, *op)
     }
 }
 
@@ -89,6 +95,26 @@ impl<H: StoredHistory<DirectoryOp, DirectoryReply>> SharedDirectory<H> {
         ensures stands { LeavesLegal turnstile.now.start pass.new.seen }
     {
         one_permit_at_a_time();
-        turnstile.call(rt, alloc, pass, op)
+        turnstile.call(rt, alloc, pass, op, &mut ())
+    }
+
+    /// Does one operation by a handle, in the turn that it keeps or in one that it waits for. It says what
+    /// [`call`](SharedDirectory::call) says.
+    ///
+    /// # Errors
+    /// They are those of `call`.
+    pub fn call_by<R: Wait>(
+        handle: &mut Handle<SharedDirectory<H>>,
+        rt: &R,
+        alloc: Global,
+        op: DirectoryOp,
+    ) -> Result<DirectoryReply, Refusal>
+        requires { IsOfEmpty handle.old }
+        ensures calls { CallsBy replied after handle.old op result handle.new }
+        ensures permit { TellsOnePermit handle.new.seen }
+        ensures stands { (t : Origin PlainDirectory) → IsOf t handle.old → LeavesLegal t.start handle.new.seen }
+    {
+        one_permit_at_a_time();
+        handle.call(rt, alloc, op, &mut ())
     }
 }

@@ -1,18 +1,22 @@
 //! The partition that a turnstile holds.
 ghost use Rattle.std.specs.Prelude.{◌≡◌, ◌≤◌, IfOk, MatchResult};
 ghost use Rattle.stream_model.specs.Bounds.{AreLimits};
+ghost use Rattle.step_core.specs.Replied.{Shows};
 ghost use Rattle.stream_model.specs.Positions.{empty};
-ghost use Rattle.turnstile.specs.Calls.{Called, Found, HasOnlySeen, IsOf};
-ghost use Rattle.shared_partition.specs.Partitions.{BeganEmpty, LeavesLegal, TellsOneHistory, after, replied};
+ghost use Rattle.turnstile.specs.Calls.{Called, CalledNext, CallsBy, Does, Found, FoundNone, HasOnlySeen, IsOf, IsTurn};
+ghost use Rattle.turnstile.specs.Passes.{Origin};
+ghost use Rattle.stream_model.specs.declared.plain.PlainPartition.{PlainPartition};
+ghost use Rattle.shared_partition.specs.Partitions.{BeganEmpty, IsOfEmpty, LeavesLegal, TellsOneHistory, after, replied};
 
 use crate::gate::Gate;
 use std::alloc::{AllocError, Global};
 use std::marker::{Model, PhantomData};
 use std::sync::{Arc, Wait};
-use step_core::Partition;
+use step_core::{Answer, Partition};
+use stream_ident::Event;
 use stream_laws::one_history;
-use stream_model::{Limits, Op, PlainPartition, Reply};
-use turnstile::{PassOf, Refusal, Replays, StoredHistory, Turnstile};
+use stream_model::{Limits, Op, PlainPartition};
+use turnstile::{Handle, Hold, PassOf, Refusal, Replays, StoredHistory, Turnstile};
 
 /// The partition of a queue, with a gate that sees each operation before it is applied.
 ///
@@ -43,12 +47,14 @@ impl<G, H> Model for SharedPartition<G, H> {
     ghost view = { λ s. s.partition.value };
 }
 
-impl<G: Gate, H: StoredHistory<Op, Reply>> Replays for SharedPartition<G, H> {
+impl<G: Gate, H: StoredHistory<Op, Answer>> Replays for SharedPartition<G, H> {
     type Op = Op;
 
-    type Reply = Reply;
+    type Reply = Answer;
 
     type History = H;
+
+    type Room = Vec<Event>;
 
     type State = PlainPartition;
 
@@ -58,17 +64,20 @@ impl<G: Gate, H: StoredHistory<Op, Reply>> Replays for SharedPartition<G, H> {
 
     ghost after = { after };
 
-    fn apply(&mut self, alloc: Global, op: &Op) -> Result<Reply, AllocError> {
-        self.gate.inside(self.queue);
-        self.partition.apply(alloc, op)
-    }
+    ghost shows = { Shows };
 
-    fn copy_reply(reply: &Reply) -> Reply {
-        reply.copy()
+    fn apply(
+        &mut self,
+        alloc: Global,
+        op: &Op,
+        events: &mut Vec<Event>,
+    ) -> Result<Answer, AllocError> {
+        self.gate.inside(self.queue);
+        self.partition.answer(alloc, op, events)
     }
 }
 
-impl<G: Gate, H: StoredHistory<Op, Reply>> SharedPartition<G, H> {
+impl<G: Gate, H: StoredHistory<Op, Answer>> SharedPartition<G, H> {
     /// A partition without events and subscriptions, whose cache has this many blocks of 64 events.
     ///
     /// # Errors
@@ -111,7 +120,8 @@ impl<G: Gate, H: StoredHistory<Op, Reply>> SharedPartition<G, H> {
     ///
     /// All that the pass has seen then is one history of the partition, also where the call is refused: the
     /// clause `headline` says what that promises, and by the clause `stands` each law of
-    /// [`laws`](step_core::laws) holds of it.
+    /// [`laws`](step_core::laws) holds of it. The events of a turn are put into `events`, in the place of those
+    /// before, where that has room for sixteen.
     ///
     /// # Errors
     /// `HistoryFull` where the history has as many entries as it may have, and else `Memory`. No entry is
@@ -122,15 +132,66 @@ impl<G: Gate, H: StoredHistory<Op, Reply>> SharedPartition<G, H> {
         alloc: Global,
         pass: &mut PassOf<SharedPartition<G, H>>,
         op: Op,
-    ) -> Result<Reply, Refusal>
+        events: &mut Vec<Event>,
+    ) -> Result<Answer, Refusal>
         requires pass { IsOf turnstile.now pass.old }
         requires empty { BeganEmpty turnstile.now.start }
         ensures pass { HasOnlySeen pass.old pass.new }
         ensures call { MatchResult result (λ r. Called replied after turnstile.now.start pass.old op r pass.new.seen) (λ e. Found replied after turnstile.now.start pass.old e pass.new.seen) }
+        ensures shows { MatchResult result (λ r. Shows events.old events.new r) (λ _. events.new ≡ events.old) }
         ensures headline { TellsOneHistory pass.new.seen }
         ensures stands { LeavesLegal turnstile.now.start pass.new.seen }
     {
         one_history();
-        turnstile.call(rt, alloc, pass, op)
+        turnstile.call(rt, alloc, pass, op, events)
+    }
+
+    /// Does one operation by a handle, in the turn that it keeps or in one that it waits for. It says what
+    /// [`call`](SharedPartition::call) says.
+    ///
+    /// # Errors
+    /// They are those of `call`.
+    pub fn call_by<R: Wait>(
+        handle: &mut Handle<SharedPartition<G, H>>,
+        rt: &R,
+        alloc: Global,
+        op: Op,
+        events: &mut Vec<Event>,
+    ) -> Result<Answer, Refusal>
+        requires { IsOfEmpty handle.old }
+        ensures calls { CallsBy replied after handle.old op result handle.new }
+        ensures shows { MatchResult result (λ r. Shows events.old events.new r) (λ _. events.new ≡ events.old) }
+        ensures headline { TellsOneHistory handle.new.seen }
+        ensures stands { (t : Origin PlainPartition) → IsOf t handle.old → LeavesLegal t.start handle.new.seen }
+    {
+        one_history();
+        handle.call(rt, alloc, op, events)
+    }
+
+    /// Does one operation in a turn that is held. All that the pass has seen then is one history of the
+    /// partition, as at [`call`](SharedPartition::call).
+    ///
+    /// # Errors
+    /// They are those of `call`. Nothing is added, and the partition is as before.
+    pub fn call_held(
+        hold: &mut Hold<'_, SharedPartition<G, H>>,
+        alloc: Global,
+        op: Op,
+        events: &mut Vec<Event>,
+    ) -> Result<Answer, Refusal>
+        requires turn { IsTurn replied after hold.old.turnstile.now hold.old.pass.now hold.old.turn }
+        requires empty { BeganEmpty hold.old.turnstile.now.start }
+        ensures same { hold.new.pass.ghost_name ≡ hold.old.pass.ghost_name }
+        ensures turnstile { hold.new.turnstile.now ≡ hold.old.turnstile.now }
+        ensures pass { HasOnlySeen hold.old.pass.now hold.new.pass.now }
+        ensures turn { IsTurn replied after hold.new.turnstile.now hold.new.pass.now hold.new.turn }
+        ensures call { MatchResult result (λ r. CalledNext hold.old.pass.now op r hold.new.pass.now.seen) (λ e. FoundNone hold.old.turnstile.now.start hold.old.pass.now e hold.new.pass.now.seen) }
+        ensures does { IfOk result (λ r. Does replied after hold.old.turn op r hold.new.turn) }
+        ensures shows { MatchResult result (λ r. Shows events.old events.new r) (λ _. events.new ≡ events.old) }
+        ensures headline { TellsOneHistory hold.new.pass.now.seen }
+        ensures stands { LeavesLegal hold.new.turnstile.now.start hold.new.pass.now.seen }
+    {
+        one_history();
+        hold.call(alloc, op, events)
     }
 }

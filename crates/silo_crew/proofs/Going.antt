@@ -1,15 +1,20 @@
 -- Passes that go on, and the lines that have them.
-use Rattle.std.proofs.Common.{◌≡◌, ℕ, zero, suc, ◌<◌, ◌≤◌, ◌+◌, List, [], ◌∷◌, ◌++◌, length, get_or, set, Contains, refl, sym, ap, subst, ◌∙◌, append_assoc, arith}
-use Rattle.std.proofs.lemmas.List.{append-nil, length_push, set-get_or}
+use Rattle.std.proofs.Common.{◌≡◌, ℕ, zero, suc, ◌<◌, ◌≤◌, ◌+◌, List, [], ◌∷◌, ◌++◌, length, get_or, set, Contains, Option, refl, sym, ap, subst, ◌∙◌, append_assoc, arith}
+use Rattle.std.proofs.lemmas.List.{append-nil, get_or-set_same, length-map, length-set, length_push, set-get_or}
+use Rattle.std.proofs.lemmas.List.Elements.{Contains-append_left}
 use Rattle.std.specs.List.{AllByRecursion, AllZip}
 use Rattle.turnstile.specs.declared.history.Entry.{Entry}
-use Rattle.turnstile.specs.Calls.{Agree, HasOnlyMade, joined_pass}
+use Rattle.turnstile.specs.Calls.{Agree, HasOnlyMade, joined_pass, numbers_of}
 use Rattle.turnstile.specs.History.{Foreign}
-use Rattle.turnstile.specs.Passes.{PassView}
+use Rattle.turnstile.specs.Passes.{Origin, PassView}
 use Rattle.turnstile.proofs.Histories.{foreign-append}
-use Rattle.silo_loops.specs.Lines.{LineView, places}
+use Rattle.stream_model.specs.declared.plain.PlainPartition.{PlainPartition}
+use Rattle.silo_loops.specs.Lines.{DirectoryPass, LineView, places}
+use Rattle.silo_loops.specs.Chains.{Stays}
 use Rattle.cluster_callers.specs.Calls.{AllZipFront}
-use Rattle.silo_crew.specs.Silos.{AreAlike, GoOn, GoesOn, IsMarked, IsSilent, IsSplitLine, LineGoesOn, joined_line, joined_lines}
+use Rattle.silo_crew.specs.Silos.{AreAlike, AreTakenIn, GoOn, GoesOn, HasRun, HasTakenIn, IsMarked, IsSilent, IsSplitLine, LineGoesOn, SiloView, joined_line, joined_lines}
+use Rattle.silo_loops.specs.Passes.{IsOtherIn}
+use Rattle.silo_loops.proofs.Taking.{alone-append, alone-fewer, alone-foreign, taken-joined, taken-on}
 use Rattle.cluster_callers.proofs.Fronts.{front-all, front-fits, front-last, front-push, front-set, front-weaker}
 
 -- the first of a longer list
@@ -22,28 +27,38 @@ first-of-all number joined k here = (0, omega arith, only-one here.0 here.1 here
 
 module _ {O R S : Type 0} where
   abbrev pub on-refl : (p : PassView O R S) → GoesOn p p
-  on-refl p = record { turnstile = refl; number = refl; more = []; seen = sym (append-nil p.seen) }
+  on-refl p = record { turnstile = refl; number = refl; numbers = λ k here. here; more = []; seen = sym (append-nil p.seen); alone = tt }
 
   abbrev pub on-trans : (p q r : PassView O R S) → GoesOn p q → GoesOn q r → GoesOn p r
   on-trans p q r a b =
       record {
         turnstile = b.turnstile ∙ a.turnstile;
         number = b.number ∙ a.number;
+        numbers = λ k here. b.numbers k (a.numbers k here);
         more = a.more ++ b.more;
         seen = b.seen ∙ ap (λ (es : List (Entry O R)). es ++ b.more) a.seen ∙ append_assoc p.seen a.more b.more;
+        alone = alone-append p a.more b.more a.alone (alone-fewer p q b.more a.numbers a.number b.alone);
       }
 
   pub on-made : (p q : PassView O R S) → HasOnlyMade p q → GoesOn p q
-  on-made p q made = subst (λ (w : PassView O R S). GoesOn p w) (sym made.0) (record { turnstile = refl; number = refl; more = []; seen = sym (append-nil p.seen) })
+  on-made p q made =
+      subst (λ (w : PassView O R S). GoesOn p w) (sym made.0) (record { turnstile = refl; number = refl; numbers = λ k here. here; more = []; seen = sym (append-nil p.seen); alone = tt })
 
   abbrev pub on-joined : (p q r : PassView O R S) → r ≡ joined_pass p q → Agree p q r → GoesOn p r
   on-joined p q r is agree =
       record {
         turnstile = ap (λ (w : PassView O R S). w.turnstile) is;
         number = ap (λ (w : PassView O R S). w.number) is;
+        numbers = λ k here.
+            subst (λ (ks : List ℕ). Contains ks k) (sym (ap (λ (w : PassView O R S). numbers_of w) is)) (Contains-append_left (numbers_of p) (numbers_of q) k here);
         more = agree.0.rest;
         seen = agree.0.is;
+        alone = alone-foreign p agree.0.rest agree.0.foreign;
       }
+
+  -- what was taken in stays so
+  pub taken-goes : (p q r : PassView O R S) → IsOtherIn p q → GoesOn q r → IsOtherIn p r
+  taken-goes p q r taken on = taken-on p q r on.more taken on.number on.numbers on.seen on.alone
 
 module _ {O R : Type 0} where
   -- who owns none of more numbers owns none of fewer
@@ -63,7 +78,7 @@ module _ {O R S : Type 0} where
       }
 
   pub silent-made : (p q : PassView O R S) → HasOnlyMade p q → IsSilent p q
-  silent-made p q made = subst (λ (w : PassView O R S). IsSilent p w) (sym made.0) (record { on = record { turnstile = refl; number = refl; more = []; seen = sym (append-nil p.seen) }; foreign = tt })
+  silent-made p q made = subst (λ (w : PassView O R S). IsSilent p w) (sym made.0) (record { on = record { turnstile = refl; number = refl; numbers = λ k here. here; more = []; seen = sym (append-nil p.seen); alone = tt }; foreign = tt })
 
   pub silent-same : (p q : PassView O R S) → q ≡ p → IsSilent p q
   silent-same p q same = subst (λ (w : PassView O R S). IsSilent p w) (sym same) (silent-refl p)
@@ -209,3 +224,54 @@ split-fresh old own split some =
 
 pub goes-some : (ls ms : List LineView) → GoOn ls ms → 0 < length ls → 0 < length ms
 goes-some ls ms on some = let long = goes-length ls ms on in omega (arith, long)
+
+-- the lines have taken in others, and stay so
+pub taken-lines : (ls ms : List LineView) (xs : List LineView) → GoOn ls ms → AllZip HasTakenIn ls xs → AllZip HasTakenIn ms xs
+taken-lines [] [] [] on taken = tt
+taken-lines [] [] (x ∷ xs) on taken = absurd taken
+taken-lines [] (m ∷ ms) xs on taken = absurd on
+taken-lines (l ∷ ls) [] xs on taken = absurd on
+taken-lines (l ∷ ls) (m ∷ ms) [] on taken = absurd taken
+taken-lines (l ∷ ls) (m ∷ ms) (x ∷ xs) on taken = (taken-goes x.pass l.pass m.pass taken.0 on.0, taken-lines ls ms xs on.1 taken.1)
+
+pub taken-silo : (ls ms : List LineView) (d e : DirectoryPass) (s : SiloView) → GoOn ls ms → GoesOn d e → AreTakenIn ls d s → AreTakenIn ms e s
+taken-silo ls ms d e s lines directory taken =
+    record {
+      agent = taken-lines ls ms s.agent.lines lines taken.agent;
+      first = taken-lines ls ms s.first.lines lines taken.first;
+      second = taken-lines ls ms s.second.lines lines taken.second;
+      first_asks = taken-goes s.first.directory d e taken.first_asks directory;
+      second_asks = taken-goes s.second.directory d e taken.second_asks directory;
+    }
+
+goes-get : (ls ms : List LineView) (at : ℕ) (d : LineView) → at < length ls → GoOn ls ms → LineGoesOn (get_or ls at d) (get_or ms at d)
+goes-get [] ms at d less on = absurd (omega arith)
+goes-get (l ∷ ls) [] at d less on = absurd on
+goes-get (l ∷ ls) (m ∷ ms) zero d less on = on.0
+goes-get (l ∷ ls) (m ∷ ms) (suc at) d less on = goes-get ls ms at d (omega arith) on.1
+
+-- lines that go on from these, and have taken in the rest, have taken in all
+abbrev pub Takes : List LineView → List LineView → List LineView → Type 0
+Takes ls rest all = (ms : List LineView) → GoOn ls ms → AllZipFront HasTakenIn ms rest → AllZipFront HasTakenIn ms all
+
+pub takes-more : (ls ms rest all : List LineView) (at : ℕ) (l m w : LineView) → ms ≡ rest ++ m ∷ [] → at ≡ length rest → AllZipFront AreAlike ls ms → l ≡ get_or ls at l → w ≡ record l { pass = joined_pass l.pass m.pass } → Agree l.pass m.pass w.pass
+    → Takes ls ms all → Takes (set ls at w) rest all
+takes-more ls ms rest all at l m w is here alike read made agree takes later on front =
+    let last = front-last AreAlike ls rest l m (subst (λ (es : List LineView). AllZipFront AreAlike ls es) is alike) in
+    let less : at < length ls = omega (arith, last.0, here) in
+    let joined = ap (λ (v : LineView). v.pass) made in
+    let before = goes-trans ls (set ls at w) later (goes-set ls at l w less (subst (λ (v : LineView). LineGoesOn v w) read (on-joined l.pass m.pass w.pass joined agree))) on in
+    let put : LineGoesOn w (get_or later at l) = subst (λ (v : LineView). LineGoesOn v (get_or later at l)) (get_or-set_same ls at w l less) (goes-get (set ls at w) later at l (omega (arith, less, length-set ls at w)) on) in
+    let taken : HasTakenIn (get_or later (length rest) l) m =
+    subst (λ n. HasTakenIn (get_or later n l) m) here (taken-goes m.pass w.pass (get_or later at l).pass (taken-joined l.pass m.pass w.pass joined agree) put) in
+    takes later before (subst (λ (es : List LineView). AllZipFront HasTakenIn later es) (sym is) (front-push HasTakenIn later rest l m (omega (arith, last.0, goes-length ls later before)) front taken))
+
+-- which of as many lines others are at
+pub front-whole : (ls ms : List LineView) → places ms ≡ places ls → AllZipFront HasTakenIn ls ms → AllZip HasTakenIn ls ms
+front-whole ls ms same front = front-all HasTakenIn ls ms (as-many ms ls same) front
+  where
+    as-many : (xs ys : List LineView) → places xs ≡ places ys → length xs ≡ length ys
+    as-many xs ys same = sym (length-map xs (λ (l : LineView). l.pass.turnstile)) ∙ ap (λ (ts : List (Option (Origin PlainPartition))). length ts) same ∙ length-map ys (λ (l : LineView). l.pass.turnstile)
+
+pub ran-none : (s : SiloView) → HasRun s s
+ran-none s = record { silo = refl; agent = Stays; first = Stays; second = Stays }

@@ -1,21 +1,25 @@
 -- What the making, starting and joining of a silo's loops says of the passes.
-use Rattle.std.specs.Prelude.{◌≡◌, ℕ, List, [], ◌∷◌, ◌++◌, length, None}
+use Rattle.std.specs.Prelude.{◌≡◌, ℕ, List, [], ◌∷◌, ◌++◌, length, Contains, None}
 use Rattle.std.specs.List.{AllByRecursion, AllZip}
 use Rattle.turnstile.specs.declared.history.Entry.{Entry}
-use Rattle.turnstile.specs.Calls.{IsSplitOff, joined_pass}
+use Rattle.turnstile.specs.Calls.{IsSplitOff, joined_pass, numbers_of}
 use Rattle.turnstile.specs.History.{Foreign}
 use Rattle.turnstile.specs.Passes.{PassView}
-use Rattle.silo_loops.specs.Agents.{AgentView, HasSamePlaces}
+use Rattle.silo_loops.specs.Agents.{AgentHasCause, AgentRuns, AgentView}
 use Rattle.silo_loops.specs.Lines.{DirectoryPass, LineView, places}
+use Rattle.silo_loops.specs.Passes.{CallsAlone, IsOtherIn}
 use Rattle.silo_loops.specs.Walks.{Nothing}
-use Rattle.silo_loops.specs.Workers.{IsBeside, WorkerView}
+use Rattle.silo_loops.specs.Workers.{WorkerHasCause, WorkerRuns, WorkerView}
 
--- the same pass later: it has seen as much and more
+-- The same pass later: it has each of its numbers, and has seen as much and more. No pass that was joined to it by then
+-- has made a call since.
 pub record GoesOn {O R S : Type 0} (p q : PassView O R S) : Type 0 where
   pub turnstile : q.turnstile ≡ p.turnstile
   pub number : q.number ≡ p.number
+  pub numbers : (k : ℕ) → Contains (numbers_of p) k → Contains (numbers_of q) k
   pub more : List (Entry O R)
   pub seen : q.seen ≡ p.seen ++ more
+  pub alone : CallsAlone p more
 
 -- the same pass later, which has made no call since
 pub record IsSilent {O R S : Type 0} (p q : PassView O R S) : Type 0 where
@@ -88,9 +92,27 @@ pub record HaveJoined (s : SiloView) (ls : List LineView) (d : DirectoryPass) (n
   pub lines : new ≡ joined_lines (joined_lines (joined_lines ls s.agent.lines) s.first.lines) s.second.lines
   pub directory : e ≡ joined_pass (joined_pass d s.first.directory) s.second.directory
 
--- the same silo, with its passes at the same turnstiles
-pub record IsSameSilo (s t : SiloView) : Type 0 where
+-- the pass of the first line has taken in that of the second
+abbrev pub HasTakenIn : LineView → LineView → Type 0
+HasTakenIn l m = IsOtherIn m.pass l.pass
+
+-- the passes of all loops of the silo were taken in by those of these lines and by this one at the directory
+pub record AreTakenIn (lines : List LineView) (d : DirectoryPass) (s : SiloView) : Type 0 where
+  pub agent : AllZip HasTakenIn lines s.agent.lines
+  pub first : AllZip HasTakenIn lines s.first.lines
+  pub second : AllZip HasTakenIn lines s.second.lines
+  pub first_asks : IsOtherIn s.first.directory d
+  pub second_asks : IsOtherIn s.second.directory d
+
+-- the loops of the silo have made some steps, or none
+pub record HasRun (s t : SiloView) : Type 0 where
   pub silo : t.silo ≡ s.silo
-  pub agent : HasSamePlaces s.agent t.agent
-  pub first : IsBeside s.first t.first
-  pub second : IsBeside s.second t.second
+  pub agent : AgentRuns s.agent t.agent
+  pub first : WorkerRuns s.first t.first
+  pub second : WorkerRuns s.second t.second
+
+-- each loop of the silo that has ended has a cause
+pub record HaveCauses (s : SiloView) : Type 0 where
+  pub agent : AgentHasCause s.agent
+  pub first : WorkerHasCause s.first
+  pub second : WorkerHasCause s.second

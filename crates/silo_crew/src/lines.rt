@@ -3,12 +3,13 @@ ghost use Rattle.std.specs.Prelude.{◌≡◌, IfOk, OnOk};
 ghost use Rattle.silo_loops.specs.Lines.{places};
 ghost use Rattle.std.specs.List.{AllZip};
 ghost use Rattle.cluster_callers.specs.Calls.{AllZipFront};
-ghost use Rattle.silo_crew.specs.Silos.{AreAlike, GoOn, IsSplitLine, joined_lines};
+ghost use Rattle.silo_crew.specs.Silos.{AreAlike, GoOn, HasTakenIn, IsSplitLine, joined_lines};
 
 use shared_partition::Gate;
 use silo_loops::Line;
 use std::alloc::{AllocError, Global};
-use stream_model::{Op, Reply};
+use step_core::Answer;
+use stream_model::Op;
 use turnstile::StoredHistory;
 
 /// A line with a pass of its own beside each of these.
@@ -16,7 +17,7 @@ use turnstile::StoredHistory;
 /// # Errors
 /// The call failed to allocate, or a turnstile has no number for another pass. The passes that were split off by
 /// then are joined back.
-pub fn split_lines<G: Gate, H: StoredHistory<Op, Reply>>(
+pub fn split_lines<G: Gate, H: StoredHistory<Op, Answer>>(
     alloc: Global,
     lines: &mut Vec<Line<G, H>>,
 ) -> Result<Vec<Line<G, H>>, AllocError>
@@ -39,25 +40,27 @@ pub fn split_lines<G: Gate, H: StoredHistory<Op, Reply>>(
 }
 
 /// Takes in the passes of other lines, at the same turnstiles in the same order. It takes no memory.
-pub fn join_lines<G: Gate, H: StoredHistory<Op, Reply>>(
+pub fn join_lines<G: Gate, H: StoredHistory<Op, Answer>>(
     lines: &mut Vec<Line<G, H>>,
     others: Vec<Line<G, H>>,
 )
     requires { places others.items ≡ places lines.old.items }
     ensures go_on { GoOn lines.old.items lines.new.items }
     ensures joined { lines.new.items ≡ joined_lines lines.old.items others.items }
+    ensures taken { AllZip HasTakenIn lines.new.items others.items }
 {
     join_front(lines, others)
 }
 
 // Takes in the passes of other lines, which are at the turnstiles of the first of these.
-fn join_front<G: Gate, H: StoredHistory<Op, Reply>>(
+fn join_front<G: Gate, H: StoredHistory<Op, Answer>>(
     lines: &mut Vec<Line<G, H>>,
     mut others: Vec<Line<G, H>>,
 )
     requires { AllZipFront AreAlike lines.old.items others.items }
     ensures go_on { GoOn lines.old.items lines.new.items }
     ensures joined { lines.new.items ≡ joined_lines lines.old.items others.items }
+    ensures taken { AllZipFront HasTakenIn lines.new.items others.items }
 {
     while let Some(other) = others.pop() {
         let line = &mut lines[others.len()];

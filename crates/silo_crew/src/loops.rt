@@ -1,7 +1,9 @@
 //! The loops of a silo.
 ghost use Rattle.std.specs.Prelude.{◌≡◌, ◌<◌, length, IfOk};
 ghost use Rattle.turnstile.specs.Calls.{joined_pass};
-ghost use Rattle.silo_crew.specs.Silos.{GoOn, HaveJoined, IsAgentAt, IsFresh, IsFreshAgent, IsFreshWorker, IsSilent, IsSiloAt, IsWorkerAt, joined_lines};
+ghost use Rattle.std.specs.List.{AllZip};
+ghost use Rattle.silo_loops.specs.Passes.{IsOtherIn};
+ghost use Rattle.silo_crew.specs.Silos.{AreTakenIn, GoOn, HasTakenIn, HaveJoined, IsAgentAt, IsFresh, IsFreshAgent, IsFreshWorker, IsSilent, IsSiloAt, IsWorkerAt, joined_lines};
 
 use crate::lines::{join_lines, split_lines};
 use activation_directory::{DirectoryOp, DirectoryReply};
@@ -10,7 +12,8 @@ use silo_loops::{AgentLoop, Assigned, DirectoryLine, Doorbell, Line, TurnRoom, W
 use std::alloc::{AllocError, Global};
 use std::marker::Model;
 use std::sync::Arc;
-use stream_model::{Op, Reply};
+use step_core::Answer;
+use stream_model::Op;
 use turnstile::StoredHistory;
 
 /// What the loops of a silo go by: the gate, the doorbell, the queues that are assigned to its agent, and how many rounds
@@ -48,7 +51,7 @@ impl<G: Drop> SiloTools<G> {
 #[derive(Drop)]
 pub struct SiloLoops<
     G: Gate,
-    H: StoredHistory<Op, Reply>,
+    H: StoredHistory<Op, Answer>,
     D: StoredHistory<DirectoryOp, DirectoryReply>,
 > {
     /// The silo, a number.
@@ -61,7 +64,7 @@ pub struct SiloLoops<
     pub second: WorkerLoop<G, H, D>,
 }
 
-impl<G: Gate, H: StoredHistory<Op, Reply>, D: StoredHistory<DirectoryOp, DirectoryReply>> Model
+impl<G: Gate, H: StoredHistory<Op, Answer>, D: StoredHistory<DirectoryOp, DirectoryReply>> Model
     for SiloLoops<G, H, D> {
     ghost use Rattle.silo_crew.specs.Silos.{SiloView};
 
@@ -71,7 +74,7 @@ impl<G: Gate, H: StoredHistory<Op, Reply>, D: StoredHistory<DirectoryOp, Directo
 }
 
 // An agent with passes that are split off.
-fn make_agent<G: Gate, H: StoredHistory<Op, Reply>>(
+fn make_agent<G: Gate, H: StoredHistory<Op, Answer>>(
     alloc: Global,
     rounds: u64,
     tools: SiloTools<G>,
@@ -91,7 +94,11 @@ fn make_agent<G: Gate, H: StoredHistory<Op, Reply>>(
 }
 
 // A worker with passes that are split off.
-fn make_worker<G: Gate, H: StoredHistory<Op, Reply>, D: StoredHistory<DirectoryOp, DirectoryReply>>(
+fn make_worker<
+    G: Gate,
+    H: StoredHistory<Op, Answer>,
+    D: StoredHistory<DirectoryOp, DirectoryReply>,
+>(
     alloc: Global,
     silo: u8,
     rounds: u64,
@@ -116,28 +123,31 @@ fn make_worker<G: Gate, H: StoredHistory<Op, Reply>, D: StoredHistory<DirectoryO
 }
 
 // Takes back the passes of an agent.
-fn join_agent<G: Gate, H: StoredHistory<Op, Reply>>(
+fn join_agent<G: Gate, H: StoredHistory<Op, Answer>>(
     lines: &mut Vec<Line<G, H>>,
     agent: AgentLoop<G, H>,
 )
     requires { IsAgentAt lines.old.items agent }
     ensures go_on { GoOn lines.old.items lines.new.items }
     ensures joined { lines.new.items ≡ joined_lines lines.old.items agent.lines }
+    ensures taken { AllZip HasTakenIn lines.new.items agent.lines }
 {
     join_lines(lines, agent.into_lines());
 }
 
 // Takes back the passes of a worker.
-fn join_worker<G: Gate, H: StoredHistory<Op, Reply>, D: StoredHistory<DirectoryOp, DirectoryReply>>(
-    lines: &mut Vec<Line<G, H>>,
-    directory: &mut DirectoryLine<D>,
-    worker: WorkerLoop<G, H, D>,
-)
+fn join_worker<
+    G: Gate,
+    H: StoredHistory<Op, Answer>,
+    D: StoredHistory<DirectoryOp, DirectoryReply>,
+>(lines: &mut Vec<Line<G, H>>, directory: &mut DirectoryLine<D>, worker: WorkerLoop<G, H, D>)
     requires { IsWorkerAt lines.old.items directory.old worker }
     ensures go_on { GoOn lines.old.items lines.new.items }
     ensures directory { IsSilent directory.old directory.new }
     ensures joined { lines.new.items ≡ joined_lines lines.old.items worker.lines }
     ensures joined_directory { directory.new ≡ joined_pass directory.old worker.directory }
+    ensures taken { AllZip HasTakenIn lines.new.items worker.lines }
+    ensures asks { IsOtherIn worker.directory directory.new }
 {
     let (own, line) = worker.into_parts();
     join_lines(lines, own);
@@ -147,7 +157,7 @@ fn join_worker<G: Gate, H: StoredHistory<Op, Reply>, D: StoredHistory<DirectoryO
 // Two workers of a silo.
 fn make_workers<
     G: Gate,
-    H: StoredHistory<Op, Reply>,
+    H: StoredHistory<Op, Answer>,
     D: StoredHistory<DirectoryOp, DirectoryReply>,
 >(
     alloc: Global,
@@ -175,11 +185,11 @@ fn make_workers<
     }
 }
 
-impl<G: Gate, H: StoredHistory<Op, Reply>, D: StoredHistory<DirectoryOp, DirectoryReply>> SiloLoops<
-    G,
-    H,
-    D,
-> {
+impl<
+    G: Gate,
+    H: StoredHistory<Op, Answer>,
+    D: StoredHistory<DirectoryOp, DirectoryReply>,
+> SiloLoops<G, H, D> {
     /// The loops of a silo, which have done nothing yet, with passes that are split off from these.
     ///
     /// # Errors
@@ -222,6 +232,7 @@ impl<G: Gate, H: StoredHistory<Op, Reply>, D: StoredHistory<DirectoryOp, Directo
         ensures go_on { GoOn lines.old.items lines.new.items }
         ensures directory { IsSilent directory.old directory.new }
         ensures joined { HaveJoined self lines.old.items directory.old lines.new.items directory.new }
+        ensures taken { AreTakenIn lines.new.items directory.new self }
     {
         let SiloLoops {
             silo: _,

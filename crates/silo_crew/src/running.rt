@@ -1,8 +1,8 @@
 //! The loops of a silo in threads.
 ghost use Rattle.std.specs.Prelude.{◌≡◌, MatchResult};
-ghost use Rattle.silo_loops.specs.Agents.{HasSamePlaces};
-ghost use Rattle.silo_loops.specs.Workers.{IsBeside};
-ghost use Rattle.silo_crew.specs.Silos.{IsSameSilo};
+ghost use Rattle.silo_loops.specs.Agents.{AgentRuns};
+ghost use Rattle.silo_loops.specs.Workers.{WorkerRuns};
+ghost use Rattle.silo_crew.specs.Silos.{HasRun};
 
 use crate::loops::SiloLoops;
 use activation_directory::{DirectoryOp, DirectoryReply};
@@ -15,29 +15,30 @@ use std::sync::atomic::{AtomicBool, Ordering};
 use std::sync::{Arc, Wait};
 use std::thread;
 use std::thread::{Promise, PromisedHandle, Threads};
-use stream_model::{Op, Reply};
+use step_core::Answer;
+use stream_model::Op;
 use turnstile::StoredHistory;
 
-/// The agent that comes back has its passes at the turnstiles of the one that was started.
+/// The agent that comes back is the one that was started, after some steps or none.
 #[derive(Drop)]
-pub struct AgentPromise<G: Gate, H: StoredHistory<Op, Reply>>(Snapshot<AgentLoop<G, H>>);
+pub struct AgentPromise<G: Gate, H: StoredHistory<Op, Answer>>(Snapshot<AgentLoop<G, H>>);
 
-impl<G: Gate, H: StoredHistory<Op, Reply>> Promise<AgentLoop<G, H>> for AgentPromise<G, H> {
-    ghost kept_by = { λ p a. HasSamePlaces p.0.value a };
+impl<G: Gate, H: StoredHistory<Op, Answer>> Promise<AgentLoop<G, H>> for AgentPromise<G, H> {
+    ghost kept_by = { λ p a. AgentRuns p.0.value a };
 }
 
-/// The worker that comes back has its passes at the turnstiles of the one that was started.
+/// The worker that comes back is the one that was started, after some steps or none.
 #[derive(Drop)]
 pub struct WorkerPromise<
     G: Gate,
-    H: StoredHistory<Op, Reply>,
+    H: StoredHistory<Op, Answer>,
     D: StoredHistory<DirectoryOp, DirectoryReply>,
 >(Snapshot<WorkerLoop<G, H, D>>);
 
-impl<G: Gate, H: StoredHistory<Op, Reply>, D: StoredHistory<DirectoryOp, DirectoryReply>> Promise<
+impl<G: Gate, H: StoredHistory<Op, Answer>, D: StoredHistory<DirectoryOp, DirectoryReply>> Promise<
     WorkerLoop<G, H, D>,
 > for WorkerPromise<G, H, D> {
-    ghost kept_by = { λ p w. IsBeside p.0.value w };
+    ghost kept_by = { λ p w. WorkerRuns p.0.value w };
 }
 
 type AgentThread<G, H> = PromisedHandle<AgentLoop<G, H>, AgentPromise<G, H>>;
@@ -48,7 +49,7 @@ type WorkerThread<G, H, D> = PromisedHandle<WorkerLoop<G, H, D>, WorkerPromise<G
 // agent comes back.
 fn start_agent<
     G: Gate + 'static,
-    H: StoredHistory<Op, Reply> + Send + 'static,
+    H: StoredHistory<Op, Answer> + Send + 'static,
     R: Threads + Wait + Copy + Send + 'static,
 >(
     rt: &R,
@@ -56,7 +57,7 @@ fn start_agent<
     agent: AgentLoop<G, H>,
     stop: &Arc<AtomicBool, Global>,
 ) -> Result<AgentThread<G, H>, AgentLoop<G, H>>
-    ensures { MatchResult result (λ thread. thread.promise.0.value ≡ agent) (λ back. HasSamePlaces agent back) }
+    ensures { MatchResult result (λ thread. thread.promise.0.value ≡ agent) (λ back. AgentRuns agent back) }
 {
     let Ok(flag) = Arc::try_clone(stop) else {
         return Err(agent);
@@ -76,7 +77,7 @@ fn start_agent<
 // worker comes back.
 fn start_worker<
     G: Gate + 'static,
-    H: StoredHistory<Op, Reply> + Send + 'static,
+    H: StoredHistory<Op, Answer> + Send + 'static,
     D: StoredHistory<DirectoryOp, DirectoryReply> + Send + 'static,
     R: Threads + Wait + Copy + Send + 'static,
 >(
@@ -85,7 +86,7 @@ fn start_worker<
     worker: WorkerLoop<G, H, D>,
     stop: &Arc<AtomicBool, Global>,
 ) -> Result<WorkerThread<G, H, D>, WorkerLoop<G, H, D>>
-    ensures { MatchResult result (λ thread. thread.promise.0.value ≡ worker) (λ back. IsBeside worker back) }
+    ensures { MatchResult result (λ thread. thread.promise.0.value ≡ worker) (λ back. WorkerRuns worker back) }
 {
     let Ok(flag) = Arc::try_clone(stop) else {
         return Err(worker);
@@ -107,7 +108,7 @@ fn start_worker<
 #[derive(Drop)]
 pub struct RunningSilo<
     G: Gate,
-    H: StoredHistory<Op, Reply>,
+    H: StoredHistory<Op, Answer>,
     D: StoredHistory<DirectoryOp, DirectoryReply>,
 > {
     silo: u8,
@@ -117,7 +118,7 @@ pub struct RunningSilo<
     second: WorkerThread<G, H, D>,
 }
 
-impl<G: Gate, H: StoredHistory<Op, Reply>, D: StoredHistory<DirectoryOp, DirectoryReply>> Model
+impl<G: Gate, H: StoredHistory<Op, Answer>, D: StoredHistory<DirectoryOp, DirectoryReply>> Model
     for RunningSilo<G, H, D> {
     ghost use Rattle.silo_crew.specs.Silos.{SiloView};
 
@@ -135,7 +136,7 @@ fn tell_to_stop<R: Wait>(rt: &R, doorbell: &Doorbell, stop: &AtomicBool) {
 // Starts two workers. Where one can't be started, both come back.
 fn start_workers<
     G: Gate + 'static,
-    H: StoredHistory<Op, Reply> + Send + 'static,
+    H: StoredHistory<Op, Answer> + Send + 'static,
     D: StoredHistory<DirectoryOp, DirectoryReply> + Send + 'static,
     R: Threads + Wait + Copy + Send + 'static,
 >(
@@ -149,8 +150,8 @@ fn start_workers<
     (WorkerThread<G, H, D>, WorkerThread<G, H, D>),
     (WorkerLoop<G, H, D>, WorkerLoop<G, H, D>),
 >
-    ensures first { MatchResult result (λ threads. threads.0.promise.0.value ≡ first) (λ back. IsBeside first back.0) }
-    ensures second { MatchResult result (λ threads. threads.1.promise.0.value ≡ second) (λ back. IsBeside second back.1) }
+    ensures first { MatchResult result (λ threads. threads.0.promise.0.value ≡ first) (λ back. WorkerRuns first back.0) }
+    ensures second { MatchResult result (λ threads. threads.1.promise.0.value ≡ second) (λ back. WorkerRuns second back.1) }
 {
     let first = match start_worker(rt, alloc, first, stop) {
         Ok(thread) => thread,
@@ -167,21 +168,20 @@ fn start_workers<
 
 impl<
     G: Gate + 'static,
-    H: StoredHistory<Op, Reply> + Send + 'static,
+    H: StoredHistory<Op, Answer> + Send + 'static,
     D: StoredHistory<DirectoryOp, DirectoryReply> + Send + 'static,
 > RunningSilo<G, H, D> {
     /// Starts the loops of a silo, each in a thread of its own. The doorbell is the one at which they wait.
     ///
     /// # Errors
-    /// The call failed to allocate, or a thread can't be made. The loops come back, with their passes at the same
-    /// turnstiles.
+    /// The call failed to allocate, or a thread can't be made. The loops come back, after some steps or none.
     pub fn start<R: Threads + Wait + Copy + Send + 'static>(
         rt: &R,
         alloc: Global,
         doorbell: &Doorbell,
         loops: SiloLoops<G, H, D>,
     ) -> Result<RunningSilo<G, H, D>, SiloLoops<G, H, D>>
-        ensures { MatchResult result (λ running. running ≡ loops) (λ back. IsSameSilo loops back) }
+        ensures { MatchResult result (λ running. running ≡ loops) (λ back. HasRun loops back) }
     {
         let Ok(stop) = Arc::new(alloc, AtomicBool::new(false)) else {
             return Err(loops);
@@ -226,7 +226,7 @@ impl<
 
 impl<
     G: Gate,
-    H: StoredHistory<Op, Reply>,
+    H: StoredHistory<Op, Answer>,
     D: StoredHistory<DirectoryOp, DirectoryReply>,
 > RunningSilo<G, H, D> {
     /// The silo, a number.
@@ -236,9 +236,9 @@ impl<
         self.silo
     }
 
-    /// Tells the loops to stop, and waits until each came back, with its passes at the same turnstiles.
+    /// Tells the loops to stop, and waits until each came back, after some steps or none.
     pub fn stop<R: Threads + Wait>(self, rt: &R, doorbell: &Doorbell) -> SiloLoops<G, H, D>
-        ensures { IsSameSilo self result }
+        ensures { HasRun self result }
     {
         let RunningSilo {
             silo,

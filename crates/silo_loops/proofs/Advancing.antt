@@ -15,10 +15,10 @@ use Rattle.silo_loops.specs.declared.advance.Over.TheVariants as over
 use Rattle.silo_loops.specs.declared.worker_walk.Step.TheVariants as step
 use Rattle.silo_loops.specs.declared.worker_walk.Walk.{Walk}
 use Rattle.silo_loops.specs.Walks.{Fits, IsAt, work_in}
-use Rattle.silo_loops.specs.Agents.{AgentAdvancesFrom, AgentCalls, AgentView, HasSamePlaces, OnesPulled, agent_at}
+use Rattle.silo_loops.specs.Agents.{AgentAdvancesFrom, AgentCalls, AgentCounts, AgentView, HasSamePlaces, OnesPulled, agent_at}
 use Rattle.silo_loops.specs.Answers.{advance_of}
 use Rattle.silo_loops.specs.Lines.{CallsAt, DirectoryPass, HasLooked, LineView, QueuePass, places, rested}
-use Rattle.silo_loops.specs.Workers.{HasCounted, IsBeside, worker_at, WorkerAdvancesFrom, WorkerAsks, WorkerCalls, WorkerRanOut, WorkerSteps, WorkerView, WorkerWorks}
+use Rattle.silo_loops.specs.Workers.{IsBeside, worker_at, WorkerAdvancesFrom, WorkerAsks, WorkerCalls, WorkerCounts, WorkerLooks, WorkerRanOut, WorkerSteps, WorkerView, WorkerWorks}
 
 -- a call leaves each line at its turnstile
 places-called : (lines : List LineView) (at : ℕ) (op : Op) (result : Result Reply Refusal) (new : List LineView) → CallsAt lines at op result new → places new ≡ places lines
@@ -35,7 +35,7 @@ called-beside : (v w : WorkerView) → WorkerCalls v w → IsBeside v w
 called-beside v w c = record { lines = places-called v.lines c.at c.op c.result w.lines c.calls; directory = ap (λ (d : DirectoryPass). d.turnstile) c.directory }
 
 asked-beside : (v w : WorkerView) → WorkerAsks v w → IsBeside v w
-asked-beside v w a = record { lines = ap places a.lines; directory = ap (λ (d : DirectoryPass). d.turnstile) a.calls.only }
+asked-beside v w a = record { lines = ap places a.lines; directory = ap (λ (d : DirectoryPass). d.turnstile) a.calls.call.only }
 
 worked-beside : (v w : WorkerView) → WorkerWorks v w → IsBeside v w
 worked-beside v w a = record { lines = ap places a.lines; directory = ap (λ (d : DirectoryPass). d.turnstile) a.directory }
@@ -74,12 +74,12 @@ pub steps-asked : (v w : WorkerView) (over : Option Over) → WorkerAsks v w →
 steps-asked v w None a = inr (inl a)
 steps-asked v w (Some end) a = inr a
 
-pub goes-on : (v w : WorkerView) (over : Option Over) → WorkerSteps v w over → w.over ≡ over → HasCounted v.rounds w.rounds → WorkerAdvancesFrom None (advance_of over) v w
+pub goes-on : (v w : WorkerView) (over : Option Over) → WorkerSteps v w over → w.over ≡ over → WorkerCounts v w → WorkerAdvancesFrom None (advance_of over) v w
 goes-on v w None s is counted = ((is, s), counted)
 goes-on v w (Some end) s is counted =
     ((is, elim s as (λ s. WorkerCalls v w ⊎ (WorkerAsks v w ⊎ WorkerRanOut v w)) [ inl c ↦ inl c | inr a ↦ inr (inl a) ]), counted)
 
-pub agent-goes-on : (v w : AgentView) (over : Option Over) → AgentCalls v w → w.over ≡ over → HasCounted v.rounds w.rounds → AgentAdvancesFrom None (advance_of over) v w
+pub agent-goes-on : (v w : AgentView) (over : Option Over) → AgentCalls v w → w.over ≡ over → AgentCounts v w → AgentAdvancesFrom None (advance_of over) v w
 agent-goes-on v w None c is counted = ((is, c), counted)
 agent-goes-on v w (Some end) c is counted = ((is, inl c), counted)
 
@@ -96,12 +96,12 @@ module _ (silo : ℕ) (lines mid : List LineView) (d : DirectoryPass) (walk betw
       ∙ ap (λ o. worker_at silo lines d walk events rounds o) (sym none)
 
   pub round-begun : (u : WorkerView) (over : Option Over) (answer : Advance) → mid ≡ lines → counted + 1 ≡ rounds → between ≡ record walk { changed = between.changed } → was ≡ None
-      → answer ≡ advance_of over → u.over ≡ over → u.rounds ≡ counted → WorkerSteps (worker_at silo mid d between events rounds None) u over
+      → answer ≡ advance_of over → u.over ≡ over → u.rounds ≡ counted → WorkerLooks (worker_at silo mid d between events rounds None) u
       → WorkerAdvancesFrom None answer (worker_at silo lines d walk events rounds was) u
-  round-begun u over answer same more is none says ended now steps =
-      subst (λ a. WorkerAdvancesFrom None a (worker_at silo lines d walk events rounds was) u) (sym says)
-      (goes-on (worker_at silo lines d walk events rounds was) u over (subst (λ v. WorkerSteps v u over) (between-at same is none) steps) ended
-      (omega (arith, now, more), omega (arith, now, more)))
+  round-begun u over answer same more is none says ended now looks =
+      let v = worker_at silo lines d walk events rounds was in
+      let looked : WorkerLooks v u = subst (λ x. WorkerLooks x u) (between-at same is none) looks in
+      subst (λ a. WorkerAdvancesFrom None a v u) (sym says) (goes-on v u over (steps-called v u over looked.0) ended (inr (ap (λ n. n + 1) now ∙ more, looked)))
 
   pub round-idle : (fresh : Option Over) → All HasLooked lines → mid ≡ map rested lines → counted ≡ rounds → walk.step ≡ step.Rest → between ≡ record walk { changed = between.changed } → was ≡ None → fresh ≡ was
       → WorkerAdvancesFrom None advance.Idle (worker_at silo lines d walk events rounds was) (worker_at silo mid d between events counted fresh)
@@ -116,7 +116,7 @@ module _ (silo : ℕ) (lines mid : List LineView) (d : DirectoryPass) (walk betw
         silo = refl;
       },
     ),
-    (omega (arith, count), omega (arith, count)),
+    inl count,
   )
 
   pub round-none : (answer : Advance) → mid ≡ lines → counted ≡ rounds → rounds ≡ 0 → walk.step ≡ step.Rest → between ≡ record walk { changed = between.changed } → was ≡ None → answer ≡ advance_of (Some over.Rounds)
@@ -133,7 +133,7 @@ module _ (silo : ℕ) (lines mid : List LineView) (d : DirectoryPass) (walk betw
                 ap (λ s. work_in walk.at s events) rest,
               )),
         ),
-        (omega (arith, count), omega (arith, count)),
+        inl count,
       )
 
   pub between-is-at : mid ≡ lines → between ≡ record walk { changed = between.changed } → IsAt walk lines d → IsAt between mid d
@@ -153,28 +153,29 @@ beside-after u v w a b = record { lines = b.lines ∙ a.lines; directory = b.dir
 pub agent-round : (lines new : List LineView) (was held : List (Option ℕ)) (rounds counted : ℕ) (before over : Option Over) (answer : Advance) → before ≡ None → counted + 1 ≡ rounds → answer ≡ advance_of over
     → AgentCalls (agent_at lines was rounds None) (agent_at new held counted over) → AgentAdvancesFrom None answer (agent_at lines was rounds before) (agent_at new held counted over)
 agent-round lines new was held rounds counted before over answer none more says calls =
+    let called = subst (λ o. AgentCalls (agent_at lines was rounds o) (agent_at new held counted over)) (sym none) calls in
     subst (λ a. AgentAdvancesFrom None a (agent_at lines was rounds before) (agent_at new held counted over)) (sym says)
     (agent-goes-on (agent_at lines was rounds before) (agent_at new held counted over) over
-    (subst (λ o. AgentCalls (agent_at lines was rounds o) (agent_at new held counted over)) (sym none) calls) refl (omega (arith, more), omega (arith, more)))
+    called refl (inr (more, called)))
 
 pub agent-asks : (lines new : List LineView) (was held : List (Option ℕ)) (rounds : ℕ) (before over : Option Over) (answer : Advance) → before ≡ None → answer ≡ advance_of over
     → AgentCalls (agent_at lines was rounds None) (agent_at new held rounds over) → AgentAdvancesFrom None answer (agent_at lines was rounds before) (agent_at new held rounds over)
 agent-asks lines new was held rounds before over answer none says calls =
     subst (λ a. AgentAdvancesFrom None a (agent_at lines was rounds before) (agent_at new held rounds over)) (sym says)
     (agent-goes-on (agent_at lines was rounds before) (agent_at new held rounds over) over
-    (subst (λ o. AgentCalls (agent_at lines was rounds o) (agent_at new held rounds over)) (sym none) calls) refl (omega arith, omega arith))
+    (subst (λ o. AgentCalls (agent_at lines was rounds o) (agent_at new held rounds over)) (sym none) calls) refl (inl refl))
 
-pub agent-rests : (lines new : List LineView) (was held : List (Option ℕ)) (rounds counted : ℕ) (before : Option Over) (answer : Advance) → before ≡ None → HasCounted rounds counted → answer ≡ advance.Idle → new ≡ map rested lines → OnesPulled lines held
-    → AgentAdvancesFrom None answer (agent_at lines was rounds before) (agent_at new held counted before)
-agent-rests lines new was held rounds counted before answer none count says same pulled =
-    subst (λ a. AgentAdvancesFrom None a (agent_at lines was rounds before) (agent_at new held counted before)) (sym says)
-    ((none, record { pulled = pulled; lines = same }), count)
+pub agent-rests : (lines new : List LineView) (was held : List (Option ℕ)) (rounds : ℕ) (before : Option Over) (answer : Advance) → before ≡ None → answer ≡ advance.Idle → new ≡ map rested lines → OnesPulled lines held
+    → AgentAdvancesFrom None answer (agent_at lines was rounds before) (agent_at new held rounds before)
+agent-rests lines new was held rounds before answer none says same pulled =
+    subst (λ a. AgentAdvancesFrom None a (agent_at lines was rounds before) (agent_at new held rounds before)) (sym says)
+    ((none, record { pulled = pulled; lines = same }), inl refl)
 
 pub agent-ran-out : (lines : List LineView) (was held : List (Option ℕ)) (rounds : ℕ) (before : Option Over) (answer : Advance) → before ≡ None → rounds ≡ 0 → answer ≡ advance_of (Some over.Rounds)
     → AgentAdvancesFrom None answer (agent_at lines was rounds before) (agent_at lines held rounds (Some over.Rounds))
 agent-ran-out lines was held rounds before answer none left says =
     subst (λ a. AgentAdvancesFrom None a (agent_at lines was rounds before) (agent_at lines held rounds (Some over.Rounds))) (sym says)
-    ((refl, inr (record { ended = refl; none = left })), (omega arith, omega arith))
+    ((refl, inr (record { ended = refl; none = left })), inl refl)
 
 -- where no queue is held, each that is was pulled
 pub none-pulled : (lines : List LineView) (held : List (Option ℕ)) → length held ≡ length lines → ((at : ℕ) → at < length held → slice_get held at ≡ Some None) → OnesPulled lines held
@@ -184,5 +185,4 @@ pub step-taken : (silo : ℕ) (lines : List LineView) (d : DirectoryPass) (walk 
     → answer ≡ advance_of over → u.over ≡ over → u.rounds ≡ rounds → WorkerSteps (worker_at silo lines d walk events rounds None) u over → WorkerAdvancesFrom None answer (worker_at silo lines d walk events rounds was) u
 step-taken silo lines d walk events rounds was u over answer none says ended now steps =
     subst (λ a. WorkerAdvancesFrom None a (worker_at silo lines d walk events rounds was) u) (sym says)
-    (goes-on (worker_at silo lines d walk events rounds was) u over (subst (λ o. WorkerSteps (worker_at silo lines d walk events rounds o) u over) (sym none) steps) ended
-    (omega (arith, now), omega (arith, now)))
+    (goes-on (worker_at silo lines d walk events rounds was) u over (subst (λ o. WorkerSteps (worker_at silo lines d walk events rounds o) u over) (sym none) steps) ended (inl now))

@@ -4,7 +4,7 @@ use Rattle.std.specs.List.{slice_get, slice_index_or, slice_set}
 use Rattle.std.proofs.lemmas.List.{get_or-set_other, get_or-set_same, length-set}
 use Rattle.std.proofs.lemmas.Option.{get_or_from_slice_get, slice_get-get_or}
 use borrow.Author.Count.{below_more}
-use Rattle.silo_loops.specs.Lines.{HasPulled, LineView}
+use Rattle.silo_loops.specs.Lines.{HasLooked, HasPulled, LineView}
 
 -- from one place on, up to another, no queue is held
 abbrev pub HoldsNone : List (Option ℕ) → ℕ → ℕ → Type 0
@@ -35,3 +35,10 @@ pulled-more lines held at l h within is had pulled below =
     (λ line generation holds.
     subst (λ m. HasPulled m) (is ∙ sym (get_or_from_slice_get lines at (get_or lines at l) line (slice_get-get_or lines at l within)))
     (pulled generation (had ∙ get_or_from_slice_get held at (Some generation) h holds)))
+
+-- the lines up to a place were looked at
+pub looked-more : (lines : List LineView) (at : ℕ) (l : LineView) → at < length lines → l ≡ get_or lines at l → HasLooked l → ((k : ℕ) (line : LineView) → k < at → HasLooked (slice_index_or lines k line))
+    → (k : ℕ) (line : LineView) → k < at + 1 → HasLooked (slice_index_or lines k line)
+looked-more lines at l within is looked below k line less =
+    below_more (λ k. (line : LineView) → HasLooked (slice_index_or lines k line)) at (λ k less line. below k line less)
+    (λ line. subst (λ m. HasLooked m) (is ∙ sym (get_or_from_slice_get lines at (get_or lines at l) line (slice_get-get_or lines at l within))) looked) k less line

@@ -1,7 +1,10 @@
 pub mod Advancing
+pub mod Causes
 pub mod Holding
 pub mod Kept
 pub mod Owning
 pub mod Resting
+pub mod Running
 pub mod Stepping
+pub mod Taking
 pub mod Working

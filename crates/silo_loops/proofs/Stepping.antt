@@ -1,5 +1,5 @@
 -- What the steps of a worker do.
-use Rattle.std.proofs.Common.{◌≡◌, ℕ, ◌<◌, ◌≤◌, ◌+◌, List, length, drop, Option, Some, None, Result, refl, sym, ap, subst, ◌∙◌, add-one}
+use Rattle.std.proofs.Common.{◌≡◌, ℕ, ◌<◌, ◌≤◌, ◌+◌, ◌⊎◌, inl, inr, List, length, drop, Option, Some, None, Result, refl, sym, ap, subst, ◌∙◌, add-one}
 use Rattle.std.specs.List.{slice_get}
 use Rattle.std.specs.Option.{unwrap_or}
 use Rattle.std.proofs.Math.Seq.{drop-cons}
@@ -14,21 +14,19 @@ use Rattle.stream_model.specs.declared.op.Op.TheVariants as op
 use Rattle.stream_model.specs.declared.reply.Reply.{Reply}
 use Rattle.activation_directory.specs.declared.op.DirectoryOp.TheVariants as asked
 use Rattle.activation_directory.specs.declared.reply.DirectoryReply.{DirectoryReply}
-use Rattle.shared_partition.specs.Directories as directory
 use Rattle.turnstile.specs.declared.turnstile.Refusal.{Refusal}
 use Rattle.silo_loops.specs.declared.advance.Over.{Over}
-use Rattle.silo_loops.specs.declared.answer.Answer.{Answer}
+use Rattle.silo_loops.specs.declared.heard.Heard.{Heard}
 use Rattle.silo_loops.specs.declared.worker_walk.Step.{Step}
 use Rattle.silo_loops.specs.declared.worker_walk.Step.TheVariants as step
 use Rattle.silo_loops.specs.declared.worker_walk.Turn.{Turn}
 use Rattle.silo_loops.specs.declared.worker_walk.Walk.{Walk}
 use Rattle.silo_loops.specs.Agents.{AgentCalls, AgentMay, agent_at}
-use Rattle.silo_loops.specs.Answers.{answer_of, end_in, end_of, end_of_asking}
-use Rattle.silo_loops.specs.Lines.{DirectoryPass, HearsAt, LineView}
-use Rattle.silo_loops.specs.Passes.{CallsBy}
-use Rattle.silo_loops.specs.Walks.{Fits, IsAt, IsFree, Runs, Turning, step_after_begin, step_after_commit, step_after_enter, work_in}
-use Rattle.silo_loops.specs.Workers.{HasWorked, IsInHand, WorkerAsks, WorkerCalls, WorkerWorks, worker_at}
-use Rattle.silo_loops.proofs.Working.{begun-fits, begun-work, committed-fits, committed-work, end-heard, entered-fits, entered-work, free-work, get-set}
+use Rattle.silo_loops.specs.Answers.{heard_of, end_in, end_of, end_of_asking}
+use Rattle.silo_loops.specs.Lines.{DirectoryCalls, DirectoryPass, HearsAt, LineView}
+use Rattle.silo_loops.specs.Walks.{Fits, IsAt, IsFree, Nothing, Runs, Turning, step_after_begin, step_after_commit, step_after_enter, work_in}
+use Rattle.silo_loops.specs.Workers.{HasWorked, IsInHand, WorkerAsks, WorkerCalls, WorkerLooks, WorkerWorks, worker_at}
+use Rattle.silo_loops.proofs.Working.{begun-fits, begun-work, committed-fits, committed-work, end-heard, entered-fits, entered-work, free-fits, free-work, get-set}
 
 -- one place has one line
 pub one-line : (lines : List LineView) (at : ℕ) (l m : LineView) → slice_get lines at ≡ Some l → slice_get lines at ≡ Some m → l ≡ m
@@ -39,18 +37,18 @@ fits-at : (walk : Walk) (lines : List LineView) (d : DirectoryPass) (s : Step) �
 fits-at walk lines d s is at = subst (λ t. Fits t d at.line.pass) is at.fits
 
 -- a call ends a loop as its answer says
-ends : (over : Option Over) (answer : Answer) (result : Result Reply Refusal) → over ≡ end_in answer → answer ≡ answer_of result → over ≡ end_of result
+ends : (over : Option Over) (answer : Heard) (result : Result Reply Refusal) → over ≡ end_in answer → answer ≡ heard_of result → over ≡ end_of result
 ends over answer result is heard = is ∙ ap end_in heard ∙ end-heard result
 
 pub within : (walk : Walk) (lines : List LineView) (d : DirectoryPass) → IsAt walk lines d → walk.at < length lines
 within walk lines d at = slice_get_within lines walk.at at.line at.had
 
 -- a call leaves as many lines
-pub length-called : (lines : List LineView) (at : ℕ) (o : Op) (new : List LineView) (room : ℕ) (old fresh : List Event) (answer : Answer) → HearsAt lines at o new room old fresh answer → length new ≡ length lines
+pub length-called : (lines : List LineView) (at : ℕ) (o : Op) (new : List LineView) (room : ℕ) (old fresh : List Event) (answer : Heard) → HearsAt lines at o new room old fresh answer → length new ≡ length lines
 length-called lines at o new room old fresh answer h = ap (λ ls. length ls) h.calls.whole ∙ length-set lines at h.calls.is
 
 -- the line at which a call was made
-at-call : (walk w : Walk) (lines new : List LineView) (d e : DirectoryPass) (o : Op) (room : ℕ) (old fresh : List Event) (answer : Answer) (s : Step) → (h : HearsAt lines walk.at o new room old fresh answer) → w.at ≡ walk.at → w.step ≡ s → Fits s e h.calls.is.pass → IsAt w new e
+at-call : (walk w : Walk) (lines new : List LineView) (d e : DirectoryPass) (o : Op) (room : ℕ) (old fresh : List Event) (answer : Heard) (s : Step) → (h : HearsAt lines walk.at o new room old fresh answer) → w.at ≡ walk.at → w.step ≡ s → Fits s e h.calls.is.pass → IsAt w new e
 at-call walk w lines new d e o room old fresh answer s h at is fits =
     record {
       line = h.calls.is;
@@ -58,21 +56,23 @@ at-call walk w lines new d e o room old fresh answer s h at is fits =
       fits = subst (λ t. Fits t e h.calls.is.pass) (sym is) fits;
     }
 
-module _ (lines new : List LineView) (d : DirectoryPass) (walk w : Walk) (room : ℕ) (old fresh : List Event) (answer : Answer) (over : Option Over) where
+module _ (lines new : List LineView) (d : DirectoryPass) (walk w : Walk) (room : ℕ) (old fresh : List Event) (answer : Heard) (over : Option Over) where
   pub looked : (last : Option GrainId) → HearsAt lines walk.at (op.Ready last) new room old fresh answer → over ≡ end_in answer → IsFree w.step
-      → (silo rounds counted : ℕ) → WorkerCalls (worker_at silo lines d walk old rounds None) (worker_at silo new d w fresh counted over)
-  looked last h ended free silo rounds counted =
-      record {
-        at = walk.at;
-        op = op.Ready last;
-        result = h.result;
-        calls = h.calls;
-        may = tt;
-        over = ends over answer h.result ended h.heard;
-        work = free-work w.at w.step fresh free;
-        directory = refl;
-        silo = refl;
-      }
+      → (silo rounds counted : ℕ) → WorkerLooks (worker_at silo lines d walk old rounds None) (worker_at silo new d w fresh counted over)
+  looked last h ended free silo rounds counted = (
+    record {
+      at = walk.at;
+      op = op.Ready last;
+      result = h.result;
+      calls = h.calls;
+      may = tt;
+      over = ends over answer h.result ended h.heard;
+      work = free-work w.at w.step fresh free;
+      directory = refl;
+      silo = refl;
+    },
+    refl,
+  )
 
   pub begun : (grain : GrainId) (permit : ℕ) → walk.step ≡ step.Begin grain permit → IsAt walk lines d → 16 ≤ room → HearsAt lines walk.at (op.Begin grain 16) new room old fresh answer → w.at ≡ walk.at
       → w.step ≡ step_after_begin grain permit answer → over ≡ end_in answer
@@ -87,7 +87,7 @@ module _ (lines new : List LineView) (d : DirectoryPass) (walk w : Walk) (room :
         over = ends over answer h.result ended h.heard;
         work =
             ap (λ k. work_in k w.step fresh) place ∙ ap (λ s. work_in walk.at s fresh) (next ∙ ap (λ a. step_after_begin grain permit a) h.heard)
-            ∙ ap (λ es. work_in walk.at (step_after_begin grain permit (answer_of h.result)) es) (h.kept some) ∙ begun-work walk.at grain permit old h.result;
+            ∙ ap (λ es. work_in walk.at (step_after_begin grain permit (heard_of h.result)) es) (h.kept some) ∙ begun-work walk.at grain permit old h.result;
         directory = refl;
         silo = refl;
       }
@@ -95,7 +95,7 @@ module _ (lines new : List LineView) (d : DirectoryPass) (walk w : Walk) (room :
   pub begun-at : (grain : GrainId) (permit : ℕ) → walk.step ≡ step.Begin grain permit → IsAt walk lines d → HearsAt lines walk.at (op.Begin grain 16) new room old fresh answer → w.at ≡ walk.at
       → w.step ≡ step_after_begin grain permit answer → IsAt w new d
   begun-at grain permit is at h place next =
-      at-call walk w lines new d d (op.Begin grain 16) room old fresh answer (step_after_begin grain permit (answer_of h.result)) h place (next ∙ ap (λ a. step_after_begin grain permit a) h.heard)
+      at-call walk w lines new d d (op.Begin grain 16) room old fresh answer (step_after_begin grain permit (heard_of h.result)) h place (next ∙ ap (λ a. step_after_begin grain permit a) h.heard)
       (begun-fits d h.calls.was.pass h.calls.is.pass grain permit 16 h.result (fits-at walk lines d (step.Begin grain permit) is at) h.calls.calls.call)
 
   pub committed : (grain : GrainId) (permit : ℕ) (turn : Turn) → walk.step ≡ step.Handle grain permit turn → IsAt walk lines d
@@ -124,19 +124,48 @@ module _ (lines new : List LineView) (d : DirectoryPass) (walk w : Walk) (room :
       → w.step ≡ step_after_commit grain permit answer → IsAt w new d
   committed-at grain permit turn is at h place next =
       let o = op.Commit grain turn.activation turn.number turn.note in
-      at-call walk w lines new d d o room old fresh answer (step_after_commit grain permit (answer_of h.result)) h place (next ∙ ap (λ a. step_after_commit grain permit a) h.heard)
+      at-call walk w lines new d d o room old fresh answer (step_after_commit grain permit (heard_of h.result)) h place (next ∙ ap (λ a. step_after_commit grain permit a) h.heard)
       (committed-fits d h.calls.was.pass h.calls.is.pass grain permit o h.result (fits-at walk lines d (step.Handle grain permit turn) is at).0 h.calls.calls.call)
+
+  pub again-at : (grain : GrainId) (permit : ℕ) (last : Option GrainId) → walk.step ≡ step.Again grain permit → IsAt walk lines d → HearsAt lines walk.at (op.Ready last) new room old fresh answer → w.at ≡ walk.at
+      → (w.step ≡ step.Begin grain permit) ⊎ (w.step ≡ step.Leave grain permit) → IsAt w new d
+  again-at grain permit last is at h place next =
+      let keeps = fits-at walk lines d (step.Again grain permit) is at in
+      elim next as (λ s. IsAt w new d) [
+        | inl begin ↦ at-call walk w lines new d d (op.Ready last) room old fresh answer (step.Begin grain permit) h place begin keeps
+        | inr leave ↦ at-call walk w lines new d d (op.Ready last) room old fresh answer (step.Leave grain permit) h place leave keeps
+      ]
+
+  pub asked-again : (grain : GrainId) (permit : ℕ) (last : Option GrainId) → HearsAt lines walk.at (op.Ready last) new room old fresh answer → over ≡ end_in answer
+      → (w.step ≡ step.Begin grain permit) ⊎ (w.step ≡ step.Leave grain permit)
+      → (silo rounds counted : ℕ) → WorkerCalls (worker_at silo lines d walk old rounds None) (worker_at silo new d w fresh counted over)
+  asked-again grain permit last h ended next silo rounds counted =
+      record {
+        at = walk.at;
+        op = op.Ready last;
+        result = h.result;
+        calls = h.calls;
+        may = tt;
+        over = ends over answer h.result ended h.heard;
+        work =
+            elim next as (λ s. work_in w.at w.step fresh ≡ Nothing) [
+              | inl begin ↦ ap (λ s. work_in w.at s fresh) begin
+              | inr leave ↦ ap (λ s. work_in w.at s fresh) leave
+            ];
+        directory = refl;
+        silo = refl;
+      }
 
 -- a worker elsewhere in the same place
 moved-at : (walk : Walk) (lines : List LineView) (d e : DirectoryPass) (s : Step) → (at : IsAt walk lines d) → Fits s e at.line.pass → IsAt (record walk { step = s }) lines e
 moved-at walk lines d e s at fits = record { line = at.line; had = at.had; fits = fits }
 
 module _ (d e : DirectoryPass) (walk w : Walk) (grain : GrainId) (result : Result DirectoryReply Refusal) (lines : List LineView) where
-  pub entered-at : (silo : ℕ) → CallsBy directory.replied directory.after d (asked.Enter grain silo) result e → w ≡ record walk { step = step_after_enter grain result } → IsAt walk lines d → IsAt w lines e
+  pub entered-at : (silo : ℕ) → DirectoryCalls d (asked.Enter grain silo) result e → w ≡ record walk { step = step_after_enter grain result } → IsAt walk lines d → IsAt w lines e
   entered-at silo calls is at =
-      subst (λ v. IsAt v lines e) (sym is) (moved-at walk lines d e (step_after_enter grain result) at (entered-fits d e at.line.pass grain silo result calls))
+      subst (λ v. IsAt v lines e) (sym is) (moved-at walk lines d e (step_after_enter grain result) at (entered-fits d e at.line.pass grain silo result calls.call))
 
-  pub entered : (silo : ℕ) (events : List Event) (over : Option Over) → CallsBy directory.replied directory.after d (asked.Enter grain silo) result e → w ≡ record walk { step = step_after_enter grain result }
+  pub entered : (silo : ℕ) (events : List Event) (over : Option Over) → DirectoryCalls d (asked.Enter grain silo) result e → w ≡ record walk { step = step_after_enter grain result }
       → over ≡ end_of_asking result → (rounds counted : ℕ) → walk.step ≡ step.Enter grain
       → WorkerAsks (worker_at silo lines d walk events rounds None) (worker_at silo lines e w events counted over)
   entered silo events over calls is ended rounds counted was =
@@ -154,23 +183,20 @@ module _ (d e : DirectoryPass) (walk w : Walk) (grain : GrainId) (result : Resul
         silo = refl;
       }
 
-  pub left-at : w ≡ record walk { step = step.Look } → IsAt walk lines d → IsAt w lines e
-  left-at is at = subst (λ v. IsAt v lines e) (sym is) (moved-at walk lines d e step.Look at tt)
+  pub left-at : w.at ≡ walk.at → IsFree w.step → IsAt walk lines d → IsAt w lines e
+  left-at place free at = record { line = at.line; had = ap (λ k. slice_get lines k) place ∙ at.had; fits = free-fits w.step e at.line.pass free }
 
-  pub left : (silo permit : ℕ) (events : List Event) (over : Option Over) → CallsBy directory.replied directory.after d (asked.Leave grain permit) result e → w ≡ record walk { step = step.Look }
+  pub left : (silo permit : ℕ) (events : List Event) (over : Option Over) → DirectoryCalls d (asked.Leave grain permit) result e → IsFree w.step
       → over ≡ end_of_asking result → (rounds counted : ℕ) → walk.step ≡ step.Leave grain permit → IsAt walk lines d
       → WorkerAsks (worker_at silo lines d walk events rounds None) (worker_at silo lines e w events counted over)
-  left silo permit events over calls is ended rounds counted was at =
+  left silo permit events over calls free ended rounds counted was at =
       record {
         op = asked.Leave grain permit;
         result = result;
         calls = calls;
         may = fits-at walk lines d (step.Leave grain permit) was at;
         over = ended;
-        work = (
-          ap (λ s. work_in walk.at s events) was,
-          ap (λ (v : Walk). work_in v.at v.step events) is,
-        );
+        work = (ap (λ s. work_in walk.at s events) was, free-work w.at w.step events free);
         lines = refl;
         silo = refl;
       }
@@ -201,11 +227,11 @@ module _ (lines : List LineView) (d : DirectoryPass) (walk w : Walk) (grain : Gr
         silo = refl;
       }
 
-  pub told-at : (sub : SubName) (token : Token) → walk.step ≡ step.Tell grain permit sub token → w ≡ record walk { step = step.Leave grain permit } → IsAt walk lines d → IsAt w lines d
+  pub told-at : (sub : SubName) (token : Token) → walk.step ≡ step.Tell grain permit sub token → w ≡ record walk { step = step.Again grain permit; untold = w.untold } → IsAt walk lines d → IsAt w lines d
   told-at sub token was is at =
-      subst (λ v. IsAt v lines d) (sym is) (moved-at walk lines d d (step.Leave grain permit) at (fits-at walk lines d (step.Tell grain permit sub token) was at).0)
+      subst (λ v. IsAt v lines d) (sym is) (record { line = at.line; had = at.had; fits = (fits-at walk lines d (step.Tell grain permit sub token) was at).0 })
 
-  pub told : (sub : SubName) (token : Token) (events : List Event) → walk.step ≡ step.Tell grain permit sub token → w ≡ record walk { step = step.Leave grain permit } → (silo rounds counted : ℕ) → IsAt walk lines d
+  pub told : (sub : SubName) (token : Token) (events : List Event) → walk.step ≡ step.Tell grain permit sub token → w ≡ record walk { step = step.Again grain permit } → (silo rounds counted : ℕ) → IsAt walk lines d
       → WorkerWorks (worker_at silo lines d walk events rounds None) (worker_at silo lines d w events counted None)
   told sub token events was is silo rounds counted at =
       record {
@@ -219,7 +245,7 @@ module _ (lines : List LineView) (d : DirectoryPass) (walk w : Walk) (grain : Gr
       }
 
 -- what an agent's call is
-pub agent-asked : (lines new : List LineView) (at : ℕ) (o : Op) (room : ℕ) (old fresh : List Event) (answer : Answer) (over : Option Over) (generation : ℕ) → HearsAt lines at o new room old fresh answer → AgentMay generation o
+pub agent-asked : (lines new : List LineView) (at : ℕ) (o : Op) (room : ℕ) (old fresh : List Event) (answer : Heard) (over : Option Over) (generation : ℕ) → HearsAt lines at o new room old fresh answer → AgentMay generation o
     → over ≡ end_in answer → (held was : List (Option ℕ)) (rounds counted : ℕ) → slice_get held at ≡ Some (Some generation) → AgentCalls (agent_at lines was rounds None) (agent_at new held counted over)
 agent-asked lines new at o room old fresh answer over generation h may ended held was rounds counted holds =
     record {

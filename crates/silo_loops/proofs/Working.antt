@@ -18,7 +18,7 @@ use Rattle.turnstile.specs.declared.turnstile.Refusal.{Refusal}
 use Rattle.silo_loops.specs.declared.worker_walk.Step.{Step}
 use Rattle.silo_loops.specs.declared.worker_walk.Step.TheVariants as step
 use Rattle.silo_loops.specs.declared.worker_walk.Walk.{Walk}
-use Rattle.silo_loops.specs.Answers.{answer_of, end_in, end_of, events_after}
+use Rattle.silo_loops.specs.Answers.{heard_of, end_in, end_of, events_after}
 use Rattle.silo_loops.specs.Lines.{DirectoryPass, LineView, QueuePass}
 use Rattle.silo_loops.specs.Passes.{CallsBy}
 use Rattle.silo_loops.specs.Walks.{Fits, IsAt, IsFree, Keeps, Nothing, step_after_begin, step_after_commit, step_after_enter, work_in}
@@ -26,31 +26,31 @@ use Rattle.silo_loops.specs.Workers.{commit_in, turn_in}
 use Rattle.silo_loops.proofs.Owning.{last-answered}
 
 -- an answer ends a loop as its result does
-pub end-heard : (result : Result Reply Refusal) → end_in (answer_of result) ≡ end_of result
+pub end-heard : (result : Result Reply Refusal) → end_in (heard_of result) ≡ end_of result
 end-heard (Err refused) = refl
 end-heard (Ok reply.TooMany) = refl
 end-heard (Ok reply.Spent) = refl
 end-heard (Ok _) = refl
 
-pub begun-work : (at : ℕ) (grain : GrainId) (permit : ℕ) (old : List Event) (result : Result Reply Refusal) → work_in at (step_after_begin grain permit (answer_of result)) (events_after result old) ≡ turn_in at result
+pub begun-work : (at : ℕ) (grain : GrainId) (permit : ℕ) (old : List Event) (result : Result Reply Refusal) → work_in at (step_after_begin grain permit (heard_of result)) (events_after result old) ≡ turn_in at result
 begun-work at grain permit old (Err refused) = refl
 begun-work at grain permit old (Ok (reply.Turn sub activation turn events note)) = refl
 begun-work at grain permit old (Ok _) = refl
 
 pub begun-fits : (d : DirectoryPass) (p q : QueuePass) (grain : GrainId) (permit most : ℕ) (result : Result Reply Refusal) → Keeps d grain permit
-    → CallsBy replied after p (op.Begin grain most) result q → Fits (step_after_begin grain permit (answer_of result)) d q
+    → CallsBy replied after p (op.Begin grain most) result q → Fits (step_after_begin grain permit (heard_of result)) d q
 begun-fits d p q grain permit most (Err refused) keeps calls = keeps
 begun-fits d p q grain permit most (Ok (reply.Turn sub activation turn events note)) keeps calls =
     (keeps, (most, sub, events, note, last-answered replied after p (op.Begin grain most) (reply.Turn sub activation turn events note) q calls))
 begun-fits d p q grain permit most (Ok _) keeps calls = keeps
 
-pub committed-work : (at : ℕ) (grain : GrainId) (permit : ℕ) (events : List Event) (result : Result Reply Refusal) → work_in at (step_after_commit grain permit (answer_of result)) events ≡ commit_in at result
+pub committed-work : (at : ℕ) (grain : GrainId) (permit : ℕ) (events : List Event) (result : Result Reply Refusal) → work_in at (step_after_commit grain permit (heard_of result)) events ≡ commit_in at result
 committed-work at grain permit events (Err refused) = refl
 committed-work at grain permit events (Ok (reply.Committed sub token)) = refl
 committed-work at grain permit events (Ok _) = refl
 
 pub committed-fits : (d : DirectoryPass) (p q : QueuePass) (grain : GrainId) (permit : ℕ) (o : Op) (result : Result Reply Refusal) → Keeps d grain permit
-    → CallsBy replied after p o result q → Fits (step_after_commit grain permit (answer_of result)) d q
+    → CallsBy replied after p o result q → Fits (step_after_commit grain permit (heard_of result)) d q
 committed-fits d p q grain permit o (Err refused) keeps calls = keeps
 committed-fits d p q grain permit o (Ok (reply.Committed sub token)) keeps calls = (keeps, (o, last-answered replied after p o (reply.Committed sub token) q calls))
 committed-fits d p q grain permit o (Ok _) keeps calls = keeps
@@ -74,6 +74,7 @@ free-work at (step.Enter grain) events free = refl
 free-work at (step.Begin grain permit) events free = absurd free
 free-work at (step.Handle grain permit turn) events free = absurd free
 free-work at (step.Tell grain permit sub token) events free = absurd free
+free-work at (step.Again grain permit) events free = absurd free
 free-work at (step.Leave grain permit) events free = absurd free
 
 pub free-fits : (s : Step) (d : DirectoryPass) (p : QueuePass) → IsFree s → Fits s d p
@@ -83,6 +84,7 @@ free-fits (step.Enter grain) d p free = tt
 free-fits (step.Begin grain permit) d p free = absurd free
 free-fits (step.Handle grain permit turn) d p free = absurd free
 free-fits (step.Tell grain permit sub token) d p free = absurd free
+free-fits (step.Again grain permit) d p free = absurd free
 free-fits (step.Leave grain permit) d p free = absurd free
 
 -- what was set is found
@@ -101,6 +103,6 @@ free-at walk lines d within free any =
     }
 
 -- a worker that has done nothing is at its first queue
-pub fresh-at : (walk : Walk) (lines : List LineView) (d : DirectoryPass) → walk ≡ record { at = 0; last = None; changed = true; step = step.Rest } → 0 < length lines → IsAt walk lines d
+pub fresh-at : (walk : Walk) (lines : List LineView) (d : DirectoryPass) → walk ≡ record { at = 0; last = None; changed = true; step = step.Rest; again = 0; found = None; untold = None } → 0 < length lines → IsAt walk lines d
 fresh-at walk [] d is some = absurd (omega arith)
 fresh-at walk (l ∷ lines) d is some = subst (λ w. IsAt w (l ∷ lines) d) (sym is) (record { line = l; had = refl; fits = tt })

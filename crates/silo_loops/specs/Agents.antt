@@ -1,5 +1,5 @@
 -- What an agent may do.
-use Rattle.std.specs.Prelude.{◌≡◌, ℕ, ◌<◌, ◌⊎◌, List, length, Option, Some, None, Result, slice_get, slice_index_or, map}
+use Rattle.std.specs.Prelude.{◌≡◌, ℕ, ◌+◌, ◌<◌, ◌⊎◌, List, length, Option, Some, None, Result, slice_get, slice_index_or, map}
 use Rattle.stream_model.specs.declared.op.Op.{Op}
 use Rattle.stream_model.specs.declared.op.Op.TheVariants.{Pull, Due, Ack, Deliver}
 use Rattle.stream_model.specs.declared.reply.Reply.{Reply}
@@ -9,8 +9,8 @@ use Rattle.silo_loops.specs.declared.advance.Advance.TheVariants as advance
 use Rattle.silo_loops.specs.declared.advance.Over as why
 use Rattle.silo_loops.specs.declared.advance.Over.TheVariants as over
 use Rattle.silo_loops.specs.Answers.{end_of}
-use Rattle.silo_loops.specs.Lines.{CallsAt, HasPulled, LineView, places, rested}
-use Rattle.silo_loops.specs.Workers.{HasCounted}
+use Rattle.silo_loops.specs.Lines.{CallsAt, HasPulled, LineIsAtLimit, LineView, places, rested}
+use Rattle.silo_loops.specs.Chains.{Chain}
 
 -- an agent: its lines in queue order, the generation under which it holds each queue, where it does, how many
 -- more rounds it may begin, and why it has ended
@@ -64,13 +64,31 @@ AgentGoesOn advance.Did v w = (w.over ≡ None) × AgentCalls v w
 AgentGoesOn advance.Idle v w = (w.over ≡ None) × AgentRests v w
 AgentGoesOn (advance.Over end) v w = (w.over ≡ Some end) × (AgentCalls v w ⊎ AgentRanOut v w)
 
+-- no round was begun, or one by a call
+abbrev pub AgentCounts : AgentView → AgentView → Type 0
+AgentCounts v w = (w.rounds ≡ v.rounds) ⊎ ((w.rounds + 1 ≡ v.rounds) × AgentCalls v w)
+
 -- what a step may do; a loop that has ended stays so
 abbrev pub AgentAdvancesFrom : Option why.Over → Advance → AgentView → AgentView → Type 0
-AgentAdvancesFrom None did v w = AgentGoesOn did v w × HasCounted v.rounds w.rounds
+AgentAdvancesFrom None did v w = AgentGoesOn did v w × AgentCounts v w
 AgentAdvancesFrom (Some end) did v w = (did ≡ advance.Over end) × (w ≡ v)
 
 abbrev pub AgentAdvances : Advance → AgentView → AgentView → Type 0
 AgentAdvances did v w = AgentAdvancesFrom v.over did v w
+
+-- some steps, or none
+abbrev pub AgentRuns : AgentView → AgentView → Type 0
+AgentRuns v w = Chain (λ v w. (did : Advance) × AgentAdvances did v w) v w
+
+-- Why an agent has ended so: it may begin no more rounds; or a limit was met at one of its queues. Of a call that failed
+-- to allocate nothing is seen.
+abbrev pub AgentEndsBy : Option why.Over → AgentView → Type 0
+AgentEndsBy (Some over.Rounds) a = a.rounds ≡ 0
+AgentEndsBy (Some over.Limit) a = LineIsAtLimit a.lines
+AgentEndsBy _ a = Unit {0}
+
+abbrev pub AgentHasCause : AgentView → Type 0
+AgentHasCause a = AgentEndsBy a.over a
 
 -- the same turnstiles
 abbrev pub HasSamePlaces : AgentView → AgentView → Type 0

@@ -1,6 +1,7 @@
 -- What a loop takes from an answer.
 use Rattle.std.specs.Prelude.{List, Option, Some, None, Result, Ok, Err, Bool, true, false}
 use Rattle.stream_ident.specs.declared.event.Event.{Event}
+use Rattle.step_core.specs.Replied as told
 use Rattle.stream_model.specs.declared.reply.Reply.{Reply}
 use Rattle.stream_model.specs.declared.reply.Reply.TheVariants as reply
 use Rattle.activation_directory.specs.declared.reply.DirectoryReply.{DirectoryReply}
@@ -11,8 +12,8 @@ use Rattle.silo_loops.specs.declared.advance.Advance.{Advance}
 use Rattle.silo_loops.specs.declared.advance.Advance.TheVariants as advance
 use Rattle.silo_loops.specs.declared.advance.Over.{Over}
 use Rattle.silo_loops.specs.declared.advance.Over.TheVariants as over
-use Rattle.silo_loops.specs.declared.answer.Answer.{Answer}
-use Rattle.silo_loops.specs.declared.answer.Answer.TheVariants as answer
+use Rattle.silo_loops.specs.declared.heard.Heard.{Heard}
+use Rattle.silo_loops.specs.declared.heard.Heard.TheVariants as heard
 
 -- the answers after which a loop may find more to do
 abbrev pub rings : Reply → Bool
@@ -53,29 +54,29 @@ end_of_asking (Ok _) = None
 end_of_asking (Err refused) = Some (end_by refused)
 
 -- the same answer, without the events of a turn
-abbrev pub answer_of : Result Reply Refusal → Answer
-answer_of (Ok reply.TooMany) = answer.Ended over.Limit
-answer_of (Ok reply.Spent) = answer.Ended over.Limit
-answer_of (Err refused) = answer.Ended (end_by refused)
-answer_of (Ok (reply.Next grain)) = answer.Next grain
-answer_of (Ok (reply.Turn sub activation turn events note)) = answer.Turn sub activation turn note
-answer_of (Ok (reply.Committed sub token)) = answer.Committed sub token
-answer_of (Ok (reply.DueSub sub ack)) = answer.Due sub ack
-answer_of (Ok (reply.StaleAgent now)) = answer.StaleAgent
-answer_of (Ok (reply.Pulled count low high)) = answer.Changed
-answer_of (Ok (reply.Delivered token)) = answer.Changed
-answer_of (Ok reply.Acked) = answer.Changed
-answer_of (Ok (reply.Dropped sub token)) = answer.Changed
-answer_of (Ok _) = answer.Other
+abbrev pub heard_of : Result Reply Refusal → Heard
+heard_of (Ok reply.TooMany) = heard.Ended over.Limit
+heard_of (Ok reply.Spent) = heard.Ended over.Limit
+heard_of (Err refused) = heard.Ended (end_by refused)
+heard_of (Ok (reply.Next grain)) = heard.Next grain
+heard_of (Ok (reply.Turn sub activation turn events note)) = heard.Turn sub activation turn note
+heard_of (Ok (reply.Committed sub token)) = heard.Committed sub token
+heard_of (Ok (reply.DueSub sub ack)) = heard.Due sub ack
+heard_of (Ok (reply.StaleAgent now)) = heard.StaleAgent
+heard_of (Ok (reply.Pulled count low high)) = heard.Changed
+heard_of (Ok (reply.Delivered token)) = heard.Changed
+heard_of (Ok reply.Acked) = heard.Changed
+heard_of (Ok (reply.Dropped sub token)) = heard.Changed
+heard_of (Ok _) = heard.Other
 
 -- the events of a turn take the place of those before
 abbrev pub events_after : Result Reply Refusal → List Event → List Event
-events_after (Ok (reply.Turn sub activation turn events note)) old = events
-events_after _ old = old
+events_after (Ok r) old = told.events_after r old
+events_after (Err refused) old = old
 
 -- how an answer ends a loop, where it does
-abbrev pub end_in : Answer → Option Over
-end_in (answer.Ended end) = Some end
+abbrev pub end_in : Heard → Option Over
+end_in (heard.Ended end) = Some end
 end_in _ = None
 
 -- what a step answers that ended a loop so, or didn't

@@ -1,10 +1,13 @@
 -- What a pass has seen of its own calls, and what one call adds.
-use Rattle.std.specs.Prelude.{◌≡◌, ℕ, ◌≤◌, Bool, true, false, List, [], ◌∷◌, ◌++◌, length, Contains, Some, Result, MatchResult}
+use Rattle.std.specs.Prelude.{◌≡◌, ℕ, ◌≤◌, ◌⊎◌, Bool, true, false, List, [], ◌∷◌, ◌++◌, length, Contains, Option, Some, Result, Ok}
 use Rattle.turnstile.specs.declared.history.Entry.{Entry}
 use Rattle.turnstile.specs.declared.turnstile.Refusal.{Refusal}
-use Rattle.turnstile.specs.Calls.{Called, Found, HasOnlySeen, numbers_of}
-use Rattle.turnstile.specs.History.{Foreign, entry}
+use Rattle.turnstile.specs.Calls as turnstile
+use Rattle.turnstile.specs.Calls.{numbers_of}
+use Rattle.turnstile.specs.History.{Claims, Foreign, entry}
 use Rattle.turnstile.specs.Passes.{Origin, PassView}
+use Rattle.silo_loops.specs.declared.advance.Over.{Over}
+use Rattle.silo_loops.specs.declared.advance.Over.TheVariants.{Limit}
 
 module _ {O R : Type 0} where
   -- no entry with one of these numbers is an operation that the test picks
@@ -20,6 +23,22 @@ module _ {O R S : Type 0} where
     pub whole : p.seen ≡ (before ++ entry p.number op reply ∷ []) ++ later
     pub others : Foreign (numbers_of p) later
 
+  -- of the numbers of the pass the entries have none but the one under which it calls
+  abbrev pub CallsAlone : PassView O R S → List (Entry O R) → Type 0
+  CallsAlone p [] = Unit {0}
+  CallsAlone p (e ∷ es) = (Contains (numbers_of p) e.number → e.number ≡ p.number) × CallsAlone p es
+
+  -- The second pass has each number of the first. What the first has seen is a beginning of what the second has, and
+  -- past it no entry has a number of the first.
+  pub record IsPartOf (p q : PassView O R S) : Type 0 where
+    pub numbers : (number : ℕ) → Contains (numbers_of p) number → Contains (numbers_of q) number
+    pub claims : Claims (numbers_of p) p.seen q.seen
+
+  -- so it is, and the number under which the second calls is none of the first
+  pub record IsOtherIn (p q : PassView O R S) : Type 0 where
+    pub part : IsPartOf p q
+    pub other : ¬ Contains (numbers_of p) q.number
+
   -- past the mark stands a call of the pass's own, with an operation that the test picks
   pub record HasOwnPast (test : O → Bool) (mark : ℕ) (p : PassView O R S) : Type 0 where
     pub before : List (Entry O R)
@@ -30,11 +49,12 @@ module _ {O R S : Type 0} where
     pub past : mark ≤ length before
     pub picked : test op ≡ true
 
-module _ {S O R : Type 0} (reply : S → O → R) (after : S → O → S) where
-  -- One call of a pass. Answered: what it had seen, then calls of others, then this call. Refused: what it had
-  -- seen, then calls of others. What it has seen is legal.
-  pub record CallsBy (p : PassView O R S) (op : O) (result : Result R Refusal) (q : PassView O R S) : Type 0 where
-    pub origin : Origin S
-    pub of : p.turnstile ≡ Some origin
-    pub only : HasOnlySeen p q
-    pub call : MatchResult result (λ r. Called reply after origin.start p op r q.seen) (λ e. Found reply after origin.start p e q.seen)
+  -- A limit has ended a loop at this pass, where its answers end loops so: the answer to its last call, or what it has
+  -- seen is a full history.
+  abbrev pub IsAtLimit : (Result R Refusal → Option Over) → PassView O R S → Type 0
+  IsAtLimit end p =
+      ((op : O) × (reply : R) × LastOwn p op reply × (end (Ok reply) ≡ Some Limit)) ⊎ ((t : Origin S) × (p.turnstile ≡ Some t) × (length p.seen ≡ t.start.limit))
+
+  -- one call of a pass
+  abbrev pub CallsBy : (S → O → R) → (S → O → S) → PassView O R S → O → Result R Refusal → PassView O R S → Type 0
+  CallsBy reply after p op result q = turnstile.CallsBy reply after p op result q

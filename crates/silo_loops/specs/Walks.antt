@@ -11,8 +11,8 @@ use Rattle.activation_directory.specs.declared.op.DirectoryOp.TheVariants as ask
 use Rattle.activation_directory.specs.declared.reply.DirectoryReply.{DirectoryReply}
 use Rattle.activation_directory.specs.declared.reply.DirectoryReply.TheVariants as directory
 use Rattle.turnstile.specs.declared.turnstile.Refusal.{Refusal}
-use Rattle.silo_loops.specs.declared.answer.Answer.{Answer}
-use Rattle.silo_loops.specs.declared.answer.Answer.TheVariants as answer
+use Rattle.silo_loops.specs.declared.heard.Heard.{Heard}
+use Rattle.silo_loops.specs.declared.heard.Heard.TheVariants as heard
 use Rattle.silo_loops.specs.declared.worker_walk.Step.{Step}
 use Rattle.silo_loops.specs.declared.worker_walk.Step.TheVariants as step
 use Rattle.silo_loops.specs.declared.worker_walk.Walk.{Walk}
@@ -56,6 +56,7 @@ abbrev pub Fits : Step → DirectoryPass → QueuePass → Type 0
 Fits (step.Begin grain permit) d p = Keeps d grain permit
 Fits (step.Handle grain permit turn) d p = Keeps d grain permit × Runs p grain turn.activation turn.number
 Fits (step.Tell grain permit sub token) d p = Keeps d grain permit × HasCommitted p sub token
+Fits (step.Again grain permit) d p = Keeps d grain permit
 Fits (step.Leave grain permit) d p = Keeps d grain permit
 Fits _ d p = Unit {0}
 
@@ -69,11 +70,11 @@ abbrev pub step_after_enter : GrainId → Result DirectoryReply Refusal → Step
 step_after_enter grain (Ok (directory.Entered permit)) = step.Begin grain permit
 step_after_enter grain _ = step.Look
 
-abbrev pub step_after_begin : GrainId → ℕ → Answer → Step
-step_after_begin grain permit (answer.Turn sub activation turn note) =
+abbrev pub step_after_begin : GrainId → ℕ → Heard → Step
+step_after_begin grain permit (heard.Turn sub activation turn note) =
     step.Handle grain permit (record { sub = sub; activation = activation; number = turn; note = note; next = 0 })
 step_after_begin grain permit _ = step.Leave grain permit
 
-abbrev pub step_after_commit : GrainId → ℕ → Answer → Step
-step_after_commit grain permit (answer.Committed sub token) = step.Tell grain permit sub token
+abbrev pub step_after_commit : GrainId → ℕ → Heard → Step
+step_after_commit grain permit (heard.Committed sub token) = step.Tell grain permit sub token
 step_after_commit grain permit _ = step.Leave grain permit

@@ -1,5 +1,5 @@
 -- What a worker may do.
-use Rattle.std.specs.Prelude.{◌≡◌, ℕ, ◌+◌, ◌≤◌, ◌⊎◌, List, ◌∷◌, Option, Some, None, Result, Ok, slice_get, map, All}
+use Rattle.std.specs.Prelude.{◌≡◌, ℕ, ◌+◌, ◌⊎◌, List, ◌∷◌, true, Option, Some, None, Result, Ok, slice_get, map, All}
 use Rattle.stream_ident.specs.declared.event.Event.{Event}
 use Rattle.stream_model.specs.declared.op.Op.{Op}
 use Rattle.stream_model.specs.declared.op.Op.TheVariants as op
@@ -8,7 +8,6 @@ use Rattle.stream_model.specs.declared.reply.Reply.TheVariants as reply
 use Rattle.activation_directory.specs.declared.op.DirectoryOp.{DirectoryOp}
 use Rattle.activation_directory.specs.declared.op.DirectoryOp.TheVariants as asked
 use Rattle.activation_directory.specs.declared.reply.DirectoryReply.{DirectoryReply}
-use Rattle.shared_partition.specs.Directories as directory
 use Rattle.turnstile.specs.declared.turnstile.Refusal.{Refusal}
 use Rattle.silo_loops.specs.declared.advance.Advance.{Advance}
 use Rattle.silo_loops.specs.declared.advance.Advance.TheVariants as advance
@@ -18,8 +17,9 @@ use Rattle.silo_loops.specs.declared.worker.Start.{Start}
 use Rattle.silo_loops.specs.declared.worker.Start.TheVariants as start
 use Rattle.silo_loops.specs.declared.worker_walk.Walk.{Walk}
 use Rattle.silo_loops.specs.Answers.{end_of, end_of_asking}
-use Rattle.silo_loops.specs.Lines.{CallsAt, DirectoryPass, HasLooked, LineView, QueuePass, places, rested}
-use Rattle.silo_loops.specs.Passes.{CallsBy}
+use Rattle.silo_loops.specs.Lines.{CallsAt, DirectoryCalls, DirectoryPass, HasLooked, LineIsAtLimit, LineView, QueuePass, is_ready, places, rested}
+use Rattle.silo_loops.specs.Passes.{IsAtLimit}
+use Rattle.silo_loops.specs.Chains.{Chain}
 use Rattle.silo_loops.specs.Walks.{HasCommitted, Keeps, Nothing, Runs, Telling, Turning, Work, work_in}
 
 -- a worker: its silo, its lines in queue order, its pass at the directory, what it has in hand, how many more
@@ -72,11 +72,15 @@ pub record WorkerCalls (v w : WorkerView) : Type 0 where
   pub directory : w.directory ≡ v.directory
   pub silo : w.silo ≡ v.silo
 
+-- a call of a worker that asks which grain is ready
+abbrev pub WorkerLooks : WorkerView → WorkerView → Type 0
+WorkerLooks v w = (c : WorkerCalls v w) × (is_ready c.op ≡ true)
+
 -- a call of a worker at the directory
 pub record WorkerAsks (v w : WorkerView) : Type 0 where
   pub op : DirectoryOp
   pub result : Result DirectoryReply Refusal
-  pub calls : CallsBy directory.replied directory.after v.directory op result w.directory
+  pub calls : DirectoryCalls v.directory op result w.directory
   pub may : WorkerMayAsk v.silo v.directory op
   pub over : w.over ≡ end_of_asking result
   pub work : (v.work ≡ Nothing) × (w.work ≡ Nothing)
@@ -116,9 +120,9 @@ pub record WorkerRests (v w : WorkerView) : Type 0 where
 abbrev pub WorkerRanOut : WorkerView → WorkerView → Type 0
 WorkerRanOut v w = (w ≡ record v { over = Some over.Rounds }) × (v.rounds ≡ 0) × (v.work ≡ Nothing)
 
--- at most one round more was begun
-abbrev pub HasCounted : ℕ → ℕ → Type 0
-HasCounted rounds left = (left ≤ rounds) × (rounds ≤ left + 1)
+-- no round was begun, or one by a look at a queue
+abbrev pub WorkerCounts : WorkerView → WorkerView → Type 0
+WorkerCounts v w = (w.rounds ≡ v.rounds) ⊎ ((w.rounds + 1 ≡ v.rounds) × WorkerLooks v w)
 
 -- What a step may do, where the loop hasn't ended. Did: one call, which doesn't end it, or a piece of work in hand.
 -- Idle: each queue was looked at. Over: a call that ends it, or no round is left.
@@ -129,11 +133,25 @@ WorkerGoesOn (advance.Over end) v w = (w.over ≡ Some end) × (WorkerCalls v w 
 
 -- what a step may do; a loop that has ended stays so
 abbrev pub WorkerAdvancesFrom : Option why.Over → Advance → WorkerView → WorkerView → Type 0
-WorkerAdvancesFrom None did v w = WorkerGoesOn did v w × HasCounted v.rounds w.rounds
+WorkerAdvancesFrom None did v w = WorkerGoesOn did v w × WorkerCounts v w
 WorkerAdvancesFrom (Some end) did v w = (did ≡ advance.Over end) × (w ≡ v)
 
 abbrev pub WorkerAdvances : Advance → WorkerView → WorkerView → Type 0
 WorkerAdvances did v w = WorkerAdvancesFrom v.over did v w
+
+-- some steps, or none
+abbrev pub WorkerRuns : WorkerView → WorkerView → Type 0
+WorkerRuns v w = Chain (λ v w. (did : Advance) × WorkerAdvances did v w) v w
+
+-- Why a worker has ended so: it may begin no more rounds; or a limit was met at one of its queues or at the directory. Of
+-- a call that failed to allocate nothing is seen.
+abbrev pub WorkerEndsBy : Option why.Over → WorkerView → Type 0
+WorkerEndsBy (Some over.Rounds) w = w.rounds ≡ 0
+WorkerEndsBy (Some over.Limit) w = LineIsAtLimit w.lines ⊎ IsAtLimit end_of_asking w.directory
+WorkerEndsBy _ w = Unit {0}
+
+abbrev pub WorkerHasCause : WorkerView → Type 0
+WorkerHasCause w = WorkerEndsBy w.over w
 
 -- a worker with these parts
 abbrev pub worker_at : ℕ → List LineView → DirectoryPass → Walk → List Event → ℕ → Option why.Over → WorkerView

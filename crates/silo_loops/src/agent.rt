@@ -1,23 +1,28 @@
 //! The loop of a pulling agent.
 ghost use Rattle.std.specs.Prelude.{◌≡◌, ℕ, ◌<◌, ◌≤◌, length, map, replicate, true, List, Option, None, Some, IfErr, IfNone, IfOk, IfSome, slice_get};
 ghost use Rattle.silo_loops.specs.declared.advance.Advance.TheVariants.{Idle};
-ghost use Rattle.silo_loops.specs.Agents.{AgentAdvances, AgentAdvancesFrom, AgentCalls, HasSamePlaces, OnesPulled, agent_at};
+ghost use Rattle.silo_loops.specs.Agents.{AgentAdvances, AgentAdvancesFrom, AgentCalls, AgentHasCause, AgentRuns, HasSamePlaces, OnesPulled, agent_at};
 ghost use Rattle.silo_loops.specs.Answers.{advance_of};
 ghost use Rattle.silo_loops.specs.Lines.{HasPulled, rested};
+ghost use Rattle.silo_loops.specs.Chains.{Visits};
 
 use crate::advance::{Advance, Over, told};
 use crate::agent_walk::Visit;
 use crate::assigned::Assigned;
 use crate::doorbell::Doorbell;
-use crate::line::{Line, rest_all};
+use crate::line::{Line, keep_at, leave_at, rest_all};
 use crate::worker_steps::hear_at;
 use shared_partition::Gate;
 use std::alloc::Global;
 use std::marker::Model;
 use std::sync::atomic::{AtomicBool, Ordering};
 use std::sync::{Arc, Wait};
-use stream_model::{Op, Reply};
+use step_core::Answer;
+use stream_model::Op;
 use turnstile::StoredHistory;
+
+// The most steps of a visit.
+const MOST_STEPS: u32 = 64;
 
 /// The loop of a pulling agent, with its passes. A round is for each queue that is assigned to it: Pull, then
 /// for each due subscription Ack, where there is something to acknowledge, and Deliver, until each was named
@@ -26,7 +31,7 @@ use turnstile::StoredHistory;
 ///
 /// A contract sees its lines, the generation under which it holds each queue, as it last looked, how many more
 /// rounds it may begin, and why it has ended.
-pub struct AgentLoop<G: Gate, H: StoredHistory<Op, Reply>> {
+pub struct AgentLoop<G: Gate, H: StoredHistory<Op, Answer>> {
     doorbell: Arc<Doorbell, Global>,
     assigned: Arc<Assigned, Global>,
     lines: Vec<Line<G, H>>,
@@ -36,7 +41,7 @@ pub struct AgentLoop<G: Gate, H: StoredHistory<Op, Reply>> {
     over: Option<Over>,
 }
 
-impl<G: Gate + Drop, H: StoredHistory<Op, Reply> + Drop> Drop for AgentLoop<G, H> {
+impl<G: Gate + Drop, H: StoredHistory<Op, Answer> + Drop> Drop for AgentLoop<G, H> {
     fn drop(self) {
         let Self {
             doorbell: _,
@@ -50,15 +55,15 @@ impl<G: Gate + Drop, H: StoredHistory<Op, Reply> + Drop> Drop for AgentLoop<G, H
     }
 }
 
-impl<G: Gate, H: StoredHistory<Op, Reply>> Model for AgentLoop<G, H> {
+impl<G: Gate, H: StoredHistory<Op, Answer>> Model for AgentLoop<G, H> {
     ghost use Rattle.std.specs.Prelude.{◌≡◌, ◌≤◌, length};
-    ghost use Rattle.silo_loops.specs.Agents.{AgentView};
+    ghost use Rattle.silo_loops.specs.Agents.{AgentHasCause, AgentView, agent_at};
 
     ghost Value = { AgentView };
 
-    ghost view = { λ a. record { lines = a.lines.items; held = a.held.items; rounds = a.rounds; over = a.over } };
+    ghost view = { λ a. agent_at a.lines.items a.held.items a.rounds a.over };
 
-    ghost invariant = { λ a. length a.held.items ≡ length a.lines.items };
+    ghost invariant = { λ a. (length a.held.items ≡ length a.lines.items) × AgentHasCause (agent_at a.lines.items a.held.items a.rounds a.over) };
 }
 
 // The generation under which the agent holds the queue at which it is, or else the next queue that it holds.
@@ -83,7 +88,7 @@ fn next_held(assigned: &Assigned, held: &mut Vec<Option<u64>>, visit: &mut Visit
 }
 
 // Whether each queue that it holds was pulled since its mark.
-fn all_pulled<G: Gate, H: StoredHistory<Op, Reply>>(
+fn all_pulled<G: Gate, H: StoredHistory<Op, Answer>>(
     lines: &Vec<Line<G, H>>,
     held: &Vec<Option<u64>>,
 ) -> bool
@@ -99,7 +104,7 @@ fn all_pulled<G: Gate, H: StoredHistory<Op, Reply>>(
 }
 
 // Whether a queue was pulled since its mark, where it is held.
-fn is_pulled<G: Gate, H: StoredHistory<Op, Reply>>(line: &Line<G, H>, held: Option<u64>) -> bool
+fn is_pulled<G: Gate, H: StoredHistory<Op, Answer>>(line: &Line<G, H>, held: Option<u64>) -> bool
     ensures { result ≡ true → (generation : ℕ) → held ≡ Some generation → HasPulled line.now }
 {
     match held {
@@ -109,7 +114,7 @@ fn is_pulled<G: Gate, H: StoredHistory<Op, Reply>>(line: &Line<G, H>, held: Opti
 }
 
 // The next call, at the queue at which it is.
-fn ask<G: Gate, H: StoredHistory<Op, Reply>, R: Wait>(
+fn ask<G: Gate, H: StoredHistory<Op, Answer>, R: Wait>(
     rt: &R,
     alloc: Global,
     doorbell: &Doorbell,
@@ -128,7 +133,7 @@ fn ask<G: Gate, H: StoredHistory<Op, Reply>, R: Wait>(
 }
 
 // Each line begins anew, and the next step begins a round.
-fn rest<G: Gate, H: StoredHistory<Op, Reply>>(
+fn rest<G: Gate, H: StoredHistory<Op, Answer>>(
     lines: &mut Vec<Line<G, H>>,
     visit: &mut Visit,
 ) -> Advance
@@ -141,7 +146,7 @@ fn rest<G: Gate, H: StoredHistory<Op, Reply>>(
 }
 
 // The next call at the queue at which the agent is, and what it answers.
-fn take_step<G: Gate, H: StoredHistory<Op, Reply>, R: Wait>(
+fn take_step<G: Gate, H: StoredHistory<Op, Answer>, R: Wait>(
     rt: &R,
     alloc: Global,
     doorbell: &Doorbell,
@@ -159,8 +164,8 @@ fn take_step<G: Gate, H: StoredHistory<Op, Reply>, R: Wait>(
     told(rt, doorbell, *over)
 }
 
-// The first step of another round, where one may be made. It is idle where the agent holds no queue.
-fn begin_round<G: Gate, H: StoredHistory<Op, Reply>, R: Wait>(
+// The first step of another round, where one may be made. Where the agent holds no queue it is idle, and no round counts.
+fn begin_round<G: Gate, H: StoredHistory<Op, Answer>, R: Wait>(
     rt: &R,
     alloc: Global,
     assigned: &Assigned,
@@ -176,20 +181,20 @@ fn begin_round<G: Gate, H: StoredHistory<Op, Reply>, R: Wait>(
     ensures held { length held.new.items ≡ length lines.new.items }
     ensures advances { (was : List (Option ℕ)) → AgentAdvancesFrom None result (agent_at lines.old.items was rounds.old over.old) (agent_at lines.new.items held.new.items rounds.new over.new) }
 {
+    visit.begin();
+    let Some(generation) = next_held(assigned, held, visit) else {
+        return rest(lines, visit);
+    };
     if *rounds == 0 {
         *over = Some(Over::Rounds);
         return told(rt, doorbell, *over);
     }
     *rounds -= 1;
-    visit.begin();
-    match next_held(assigned, held, visit) {
-        Some(generation) => take_step(rt, alloc, doorbell, lines, visit, generation, over),
-        None => rest(lines, visit),
-    }
+    take_step(rt, alloc, doorbell, lines, visit, generation, over)
 }
 
 // The step after the last call of a round.
-fn end_round<G: Gate, H: StoredHistory<Op, Reply>, R: Wait>(
+fn end_round<G: Gate, H: StoredHistory<Op, Answer>, R: Wait>(
     rt: &R,
     alloc: Global,
     assigned: &Assigned,
@@ -214,7 +219,7 @@ fn end_round<G: Gate, H: StoredHistory<Op, Reply>, R: Wait>(
 }
 
 // Whether the round changed nothing.
-fn is_done<G: Gate, H: StoredHistory<Op, Reply>>(
+fn is_done<G: Gate, H: StoredHistory<Op, Answer>>(
     lines: &Vec<Line<G, H>>,
     held: &Vec<Option<u64>>,
     visit: &Visit,
@@ -229,7 +234,7 @@ fn is_done<G: Gate, H: StoredHistory<Op, Reply>>(
 }
 
 // The next step of an agent that hasn't ended.
-fn go_on<G: Gate, H: StoredHistory<Op, Reply>, R: Wait>(
+fn go_on<G: Gate, H: StoredHistory<Op, Answer>, R: Wait>(
     rt: &R,
     alloc: Global,
     assigned: &Assigned,
@@ -254,7 +259,7 @@ fn go_on<G: Gate, H: StoredHistory<Op, Reply>, R: Wait>(
 }
 
 // The next step of an agent.
-fn advance_parts<G: Gate, H: StoredHistory<Op, Reply>, R: Wait>(
+fn advance_parts<G: Gate, H: StoredHistory<Op, Answer>, R: Wait>(
     rt: &R,
     alloc: Global,
     assigned: &Assigned,
@@ -277,7 +282,7 @@ fn advance_parts<G: Gate, H: StoredHistory<Op, Reply>, R: Wait>(
     }
 }
 
-impl<G: Gate, H: StoredHistory<Op, Reply>> AgentLoop<G, H> {
+impl<G: Gate, H: StoredHistory<Op, Answer>> AgentLoop<G, H> {
     /// An agent that has done nothing yet, with a line for each queue, in their order, and so many rounds that it may
     /// begin. What is assigned to it others may change at any time.
     ///
@@ -330,6 +335,42 @@ impl<G: Gate, H: StoredHistory<Op, Reply>> AgentLoop<G, H> {
         )
     }
 
+    /// Makes steps of the round, each as [`advance`](AgentLoop::advance) makes it, as long as they are calls at the
+    /// queue at which it is, and at most 64. It keeps its turn there meanwhile, and rings once for all of them.
+    pub fn visit<R: Wait>(&mut self, rt: &R, alloc: Global) -> Advance
+        ensures steps { Visits AgentAdvances result self.old self.new }
+        ensures beside { HasSamePlaces self.old self.new }
+    {
+        let at = self.visit.at;
+        self.keep(at);
+        let mut did = self.advance(rt, alloc);
+        for _ in 1..MOST_STEPS {
+            let Advance::Did = did else {
+                break;
+            };
+            if self.visit.at != at {
+                break;
+            }
+            did = self.advance(rt, alloc);
+        }
+        self.leave(rt, at);
+        did
+    }
+
+    // Keeps its turn at a queue from the next call there on.
+    fn keep(&mut self, at: usize)
+        ensures { self.new ≡ self.old }
+    {
+        keep_at(&mut self.lines, at);
+    }
+
+    // Gives up the turn that it may have at a queue.
+    fn leave<R: Wait>(&mut self, rt: &R, at: usize)
+        ensures { self.new ≡ self.old }
+    {
+        leave_at(rt, &self.doorbell, &mut self.lines, at);
+    }
+
     /// How many more rounds it may begin.
     pub fn rounds(&self) -> u64
         ensures { result ≡ self.now.rounds }
@@ -339,19 +380,20 @@ impl<G: Gate, H: StoredHistory<Op, Reply>> AgentLoop<G, H> {
 
     /// Why it has ended, where it has.
     pub fn over(&self) -> Option<Over>
-        ensures { result ≡ self.now.over }
+        ensures over { result ≡ self.now.over }
+        ensures cause { AgentHasCause self.now }
     {
         self.over
     }
 
-    // One step, unless it is told to stop, and a wait where it is idle. Whether it goes on.
+    // One visit, unless it is told to stop, and a wait where it is idle. Whether it goes on.
     fn go<R: Wait>(&mut self, rt: &R, alloc: Global, stop: &AtomicBool, seen: &mut u64) -> bool
-        ensures { HasSamePlaces self.old self.new }
+        ensures { AgentRuns self.old self.new }
     {
         if stop.load(Ordering::SeqCst) {
             return false;
         }
-        match self.advance(rt, alloc) {
+        match self.visit(rt, alloc) {
             Advance::Did => true,
             Advance::Idle => {
                 self.doorbell.wait_past(rt, *seen, stop);
@@ -362,10 +404,10 @@ impl<G: Gate, H: StoredHistory<Op, Reply>> AgentLoop<G, H> {
         }
     }
 
-    /// Steps until `stop` is set or the loop has ended, and waits at the doorbell where a round found nothing
+    /// Makes visits until `stop` is set or the loop has ended, and waits at the doorbell where a round found nothing
     /// to do. It comes back with its passes.
     pub fn run<R: Wait>(self, rt: &R, alloc: Global, stop: &AtomicBool) -> AgentLoop<G, H>
-        ensures { HasSamePlaces self result }
+        ensures { AgentRuns self result }
     {
         let mut agent = self;
         let mut seen = agent.doorbell.now(rt);

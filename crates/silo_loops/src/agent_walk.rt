@@ -5,7 +5,7 @@ ghost use Rattle.silo_loops.specs.Answers.{end_in};
 ghost use Rattle.stream_model.specs.Producers.{is_producer};
 
 use crate::advance::Over;
-use crate::answer::Answer;
+use crate::heard::Heard;
 use stream_ident::{SubName, Token};
 use stream_model::Op;
 
@@ -91,13 +91,13 @@ impl Visit {
 
     /// What it does after this answer. It goes on with the next queue where another agent is the current one,
     /// and where each due subscription was named twice since something last changed here.
-    pub(crate) fn after(&mut self, answer: &Answer) -> Option<Over>
+    pub(crate) fn after(&mut self, answer: &Heard) -> Option<Over>
         ensures { result ≡ end_in answer.now }
     {
         if answer.is_change() {
             self.changed = true;
         }
-        if matches!(*answer, Answer::StaleAgent) {
+        if matches!(*answer, Heard::StaleAgent) {
             self.leave();
         } else {
             self.go_on(answer);
@@ -106,7 +106,7 @@ impl Visit {
     }
 
     // What it does after any other answer.
-    fn go_on(&mut self, answer: &Answer) {
+    fn go_on(&mut self, answer: &Heard) {
         let step = self.step;
         match step {
             AgentStep::Pull => self.step = AgentStep::Due,
@@ -123,16 +123,16 @@ impl Visit {
     }
 
     // What is left of a lap in which something changed doesn't count.
-    fn note_change(&mut self, answer: &Answer) {
+    fn note_change(&mut self, answer: &Heard) {
         if answer.is_change() {
             self.laps = LAPS + 1;
         }
     }
 
     // Subscriptions are named in their order, so one that isn't past the last begins another lap.
-    fn after_due(&mut self, answer: &Answer) {
+    fn after_due(&mut self, answer: &Heard) {
         match *answer {
-            Answer::Due { ref sub, ack } => self.serve(sub, ack),
+            Heard::Due { ref sub, ack } => self.serve(sub, ack),
             _ => self.leave(),
         }
     }

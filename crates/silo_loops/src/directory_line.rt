@@ -2,43 +2,38 @@
 ghost use Rattle.std.specs.Prelude.{◌≡◌, IfOk, OnOk, OnErr};
 ghost use Rattle.std.specs.Arc.{arc_value};
 ghost use Rattle.turnstile.specs.Calls.{Agree, HasOnlyMade, IsOf, IsSplitOff, joined_pass};
-ghost use Rattle.shared_partition.specs.Directories.{BeganEmpty, after, replied};
-ghost use Rattle.silo_loops.specs.Passes.{CallsBy};
+ghost use Rattle.shared_partition.specs.Directories.{BeganEmpty};
+ghost use Rattle.silo_loops.specs.Lines.{DirectoryCalls};
 
-use crate::doorbell::{Doorbell, directory_rings};
+use crate::doorbell::{Bell, Doorbell, directory_rings};
 use activation_directory::{Directory, DirectoryOp, DirectoryReply};
 use shared_partition::SharedDirectory;
 use std::alloc::{AllocError, Global};
 use std::marker::Model;
 use std::sync::{Arc, Wait};
-use turnstile::{NoNumberLeft, Pass, Refusal, StoredHistory, Turnstile};
+use turnstile::{Handle, Pass, Refusal, StoredHistory, Turnstile};
 
 /// A loop's pass at the directory, with its turnstile. A contract sees the pass.
 pub struct DirectoryLine<D: StoredHistory<DirectoryOp, DirectoryReply>> {
-    turnstile: Arc<Turnstile<SharedDirectory<D>>, Global>,
-    pass: Pass<SharedDirectory<D>, D, DirectoryOp, DirectoryReply, Directory>,
+    handle: Handle<SharedDirectory<D>>,
+    bell: Bell,
 }
 
 impl<D: StoredHistory<DirectoryOp, DirectoryReply> + Drop> Drop for DirectoryLine<D> {
     fn drop(self) {
-        let Self {
-            turnstile: _,
-            pass: _,
-        } = self;
+        let Self { handle: _, bell: _ } = self;
     }
 }
 
 impl<D: StoredHistory<DirectoryOp, DirectoryReply>> Model for DirectoryLine<D> {
-    ghost use Rattle.std.specs.Arc.{arc_value};
-    ghost use Rattle.turnstile.specs.Calls.{IsOf};
-    ghost use Rattle.shared_partition.specs.Directories.{BeganEmpty};
+    ghost use Rattle.shared_partition.specs.Directories.{IsOfEmpty};
     ghost use Rattle.silo_loops.specs.Lines.{DirectoryPass};
 
     ghost Value = { DirectoryPass };
 
-    ghost view = { λ l. l.pass };
+    ghost view = { λ l. l.handle };
 
-    ghost invariant = { λ l. IsOf (arc_value l.turnstile) l.pass × BeganEmpty (arc_value l.turnstile).start };
+    ghost invariant = { λ l. IsOfEmpty l.handle };
 }
 
 impl<D: StoredHistory<DirectoryOp, DirectoryReply>> DirectoryLine<D> {
@@ -51,7 +46,10 @@ impl<D: StoredHistory<DirectoryOp, DirectoryReply>> DirectoryLine<D> {
         requires empty { BeganEmpty (arc_value turnstile).start }
         ensures { result ≡ pass }
     {
-        DirectoryLine { turnstile, pass }
+        DirectoryLine {
+            handle: Handle::new(turnstile, pass),
+            bell: Bell::new(),
+        }
     }
 
     /// Waits for its turn, does an operation, and rings where a loop may then find more to do.
@@ -66,15 +64,29 @@ impl<D: StoredHistory<DirectoryOp, DirectoryReply>> DirectoryLine<D> {
         doorbell: &Doorbell,
         op: DirectoryOp,
     ) -> Result<DirectoryReply, Refusal>
-        ensures { CallsBy replied after self.old op result self.new }
+        ensures { DirectoryCalls self.old op result self.new }
     {
-        let answer = SharedDirectory::call(&self.turnstile, rt, alloc, &mut self.pass, op);
-        if let Ok(ref reply) = answer
-            && directory_rings(reply)
-        {
-            doorbell.ring(rt);
+        let answer = SharedDirectory::call_by(&mut self.handle, rt, alloc, op);
+        if let Ok(ref reply) = answer {
+            self.bell.ring(rt, doorbell, directory_rings(reply));
         }
         answer
+    }
+
+    // Keeps its turn from the next call on.
+    pub(crate) fn keep(&mut self)
+        ensures { self.new ≡ self.old }
+    {
+        self.handle.keep();
+        self.bell.keep();
+    }
+
+    // Gives up the turn that it may have, and then rings once for all calls that were made in it.
+    pub(crate) fn leave<R: Wait>(&mut self, rt: &R, doorbell: &Doorbell)
+        ensures { self.new ≡ self.old }
+    {
+        self.handle.leave();
+        self.bell.leave(rt, doorbell);
     }
 
     /// A line with a pass of its own at the directory.
@@ -88,11 +100,11 @@ impl<D: StoredHistory<DirectoryOp, DirectoryReply>> DirectoryLine<D> {
         ensures new { IfOk result (λ line. IsSplitOff self.old line) }
         ensures made { OnErr result (HasOnlyMade self.old self.new) }
     {
-        let turnstile = Arc::try_clone(&self.turnstile)?;
-        match turnstile.split(&mut self.pass) {
-            Ok(pass) => Ok(DirectoryLine::new(turnstile, pass)),
-            Err(NoNumberLeft) => Err(AllocError),
-        }
+        let handle = self.handle.split()?;
+        Ok(DirectoryLine {
+            handle,
+            bell: Bell::new(),
+        })
     }
 
     /// Takes in another line of the directory: the numbers of its pass, and what that has seen where it is
@@ -102,8 +114,8 @@ impl<D: StoredHistory<DirectoryOp, DirectoryReply>> DirectoryLine<D> {
         ensures joined { self.new ≡ joined_pass self.old other }
         ensures agree { Agree self.old other self.new }
     {
-        let (_turnstile, pass) = other.into_parts();
-        self.turnstile.join(&mut self.pass, pass);
+        let DirectoryLine { handle, bell: _ } = other;
+        self.handle.join(handle);
     }
 
     /// The turnstile and the pass.
@@ -117,7 +129,7 @@ impl<D: StoredHistory<DirectoryOp, DirectoryReply>> DirectoryLine<D> {
         ensures of { IsOf (arc_value result.0) result.1 }
         ensures empty { BeganEmpty (arc_value result.0).start }
     {
-        let DirectoryLine { turnstile, pass } = self;
-        (turnstile, pass)
+        let DirectoryLine { handle, bell: _ } = self;
+        handle.into_parts()
     }
 }

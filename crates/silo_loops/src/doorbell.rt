@@ -1,11 +1,12 @@
 //! The doorbell that loops wait at.
 ghost use Rattle.std.specs.Prelude.{◌≡◌};
-ghost use Rattle.silo_loops.specs.Answers as told;
+ghost use Rattle.step_core.specs.Replied.{reply_of};
+ghost use Rattle.silo_loops.specs.Answers.{directory_rings, rings};
 
 use activation_directory::DirectoryReply;
 use std::sync::atomic::{AtomicBool, Ordering};
 use std::sync::{Condvar, Mutex, Wait};
-use stream_model::Reply;
+use step_core::{Answer, Outcome, Told};
 
 /// A count of what happened, at which loops that found nothing to do wait for more. It wraps.
 ///
@@ -62,30 +63,80 @@ impl Doorbell {
     }
 }
 
+/// Rings for calls, at once or where a turn that is kept ends.
+#[derive(Drop)]
+pub(crate) struct Bell {
+    keeps: bool,
+    rings: bool,
+}
+
+impl Bell {
+    /// Rings at once.
+    pub(crate) fn new() -> Bell {
+        Bell {
+            keeps: false,
+            rings: false,
+        }
+    }
+
+    /// Waits from now on.
+    pub(crate) fn keep(&mut self) {
+        self.keeps = true;
+    }
+
+    /// Rings, where it is to.
+    pub(crate) fn ring<R: Wait>(&mut self, rt: &R, doorbell: &Doorbell, rings: bool) {
+        if self.keeps {
+            self.rings |= rings;
+        } else if rings {
+            doorbell.ring(rt);
+        }
+    }
+
+    /// Rings, where it was to meanwhile, and waits no more.
+    pub(crate) fn leave<R: Wait>(&mut self, rt: &R, doorbell: &Doorbell) {
+        self.keeps = false;
+        if self.rings {
+            self.rings = false;
+            doorbell.ring(rt);
+        }
+    }
+}
+
 /// Whether a loop may find more to do after this answer at a queue.
-pub fn rings(reply: &Reply) -> bool
-    ensures { result ≡ told.rings reply.now }
+pub fn rings(answer: &Answer) -> bool
+    ensures { result ≡ rings answer.now }
+{
+    match answer.outcome() {
+        Outcome::Told(told) => told_rings(told),
+        Outcome::Turn(_) => false,
+    }
+}
+
+// Whether it may after a reply that isn't a turn.
+fn told_rings(told: &Told) -> bool
+    ensures { result ≡ rings (reply_of told.now) }
 {
     matches!(
-        reply,
-        Reply::Published { .. }
-            | Reply::Subscribed { .. }
-            | Reply::Unsubscribed { .. }
-            | Reply::RuleAdded { .. }
-            | Reply::Pulled { .. }
-            | Reply::Delivered { .. }
-            | Reply::Rewound
-            | Reply::Acked
-            | Reply::Committed { .. }
-            | Reply::Dropped { .. }
-            | Reply::Deactivated { .. }
-            | Reply::Moved { .. }
+        told,
+        Told::Published { .. }
+            | Told::Subscribed { .. }
+            | Told::Unsubscribed { .. }
+            | Told::RuleAdded { .. }
+            | Told::Pulled { .. }
+            | Told::Delivered { .. }
+            | Told::Rewound
+            | Told::Acked
+            | Told::Committed { .. }
+            | Told::Dropped { .. }
+            | Told::Deactivated { .. }
+            | Told::Moved { .. }
     )
 }
 
 /// Whether a loop may find more to do after this answer of the directory.
 pub fn directory_rings(reply: &DirectoryReply) -> bool
-    ensures { result ≡ told.directory_rings reply.now }
+    ensures { result ≡ directory_rings reply.now }
 {
     matches!(reply, DirectoryReply::Left)
 }

@@ -3,7 +3,8 @@
 //! An [`AgentLoop`] pulls the queues that are assigned to it and delivers what is due. A [`WorkerLoop`] runs
 //! turns of ready grains: it enters the grain at the directory, begins a turn, has the gate handle its events,
 //! and commits it. Each has passes of its own, in [`Line`]s, and rests where a round found nothing to do. A
-//! [`Doorbell`] tells that there may be more.
+//! [`Doorbell`] tells that there may be more. A visit makes steps at one queue, one after another, and keeps the turn
+//! of that queue meanwhile. Whoever keeps a queue's turn may wait for the directory's, and nobody the other way round.
 //!
 //! Not claimed: that a loop gets on, and that a doorbell wakes who waits at it.
 #![tactic(auto)]
@@ -11,10 +12,10 @@
 mod advance;
 mod agent;
 mod agent_walk;
-mod answer;
 mod assigned;
 mod directory_line;
 mod doorbell;
+mod heard;
 mod line;
 mod worker;
 mod worker_steps;

@@ -1,79 +1,73 @@
 //! A pass at the turnstile of a queue, as loops hold it.
-ghost use Rattle.std.specs.Prelude.{◌≡◌, ◌↔◌, ◌≤◌, false, true, length, map, IfOk, OnOk, OnErr, vec_capacity};
+ghost use Rattle.std.specs.Prelude.{◌≡◌, ◌↔◌, ◌≤◌, false, true, length, map, IfOk, MatchResult, OnOk, OnErr, vec_capacity};
 ghost use Rattle.std.specs.Arc.{arc_value};
 ghost use Rattle.turnstile.specs.Calls.{Agree, HasOnlyMade, IsOf, IsSplitOff, joined_pass};
-ghost use Rattle.shared_partition.specs.Partitions.{BeganEmpty};
+ghost use Rattle.step_core.specs.Replied.{Shows};
+ghost use Rattle.shared_partition.specs.Partitions.{BeganEmpty, IsOfEmpty};
 ghost use Rattle.stream_model.specs.Producers.{is_producer};
 ghost use Rattle.silo_loops.specs.Lines.{CallsOn, Hears, HasLooked, HasPulled, NeverProduces, is_pull, is_ready, rested};
 
-use crate::answer::{Answer, answer_of, keep_events};
-use crate::doorbell::{Doorbell, rings};
+use crate::doorbell::{Bell, Doorbell, rings};
+use crate::heard::{Heard, heard_of};
 use shared_partition::{Gate, SharedPartition};
 use std::alloc::{AllocError, Global};
 use std::marker::Model;
 use std::sync::{Arc, Wait};
+use step_core::Answer;
 use stream_ident::Event;
-use stream_model::{Op, PlainPartition, Reply};
-use turnstile::{NoNumberLeft, Pass, Refusal, StoredHistory, Turnstile};
+use stream_model::{Op, PlainPartition};
+use turnstile::{Handle, Pass, Refusal, StoredHistory, Turnstile};
 
 /// A loop's pass at a queue, with its turnstile, and a mark: how much the pass had seen when the loop was
-/// made or last idle. No call of the pass is a producer's.
+/// made or last idle. No call of the pass is a producer's. After a call it gives its turn up, or keeps it for the
+/// next one.
 ///
 /// A contract sees the pass and the mark.
-pub struct Line<G: Gate, H: StoredHistory<Op, Reply>> {
-    turnstile: Arc<Turnstile<SharedPartition<G, H>>, Global>,
-    pass: Pass<SharedPartition<G, H>, H, Op, Reply, PlainPartition>,
+pub struct Line<G: Gate, H: StoredHistory<Op, Answer>> {
+    handle: Handle<SharedPartition<G, H>>,
     mark: u64,
     // whether the pass has asked for a ready grain past the mark, and whether it has pulled
     looked: bool,
     pulled: bool,
+    bell: Bell,
 }
 
-impl<G: Gate + Drop, H: StoredHistory<Op, Reply> + Drop> Drop for Line<G, H> {
+impl<G: Gate + Drop, H: StoredHistory<Op, Answer> + Drop> Drop for Line<G, H> {
     fn drop(self) {
         let Self {
-            turnstile: _,
-            pass: _,
+            handle: _,
             mark: _,
             looked: _,
             pulled: _,
+            bell: _,
         } = self;
     }
 }
 
-impl<G: Gate, H: StoredHistory<Op, Reply>> Model for Line<G, H> {
-    ghost use Rattle.std.specs.Arc.{arc_value};
-    ghost use Rattle.turnstile.specs.Calls.{IsOf};
-    ghost use Rattle.shared_partition.specs.Partitions.{BeganEmpty};
+impl<G: Gate, H: StoredHistory<Op, Answer>> Model for Line<G, H> {
+    ghost use Rattle.shared_partition.specs.Partitions.{IsOfEmpty};
     ghost use Rattle.silo_loops.specs.Lines.{LineView, IsKept};
 
     ghost Value = { LineView };
 
-    ghost view = { λ l. record { pass = l.pass; mark = l.mark } };
+    ghost view = { λ l. record { pass = l.handle; mark = l.mark } };
 
-    ghost invariant = { λ l. IsOf (arc_value l.turnstile) l.pass × BeganEmpty (arc_value l.turnstile).start × IsKept (record { pass = l.pass; mark = l.mark }) l.looked l.pulled };
+    ghost invariant = { λ l. IsOfEmpty l.handle × IsKept (record { pass = l.handle; mark = l.mark }) l.looked l.pulled };
 }
 
-impl<G: Gate, H: StoredHistory<Op, Reply>> Line<G, H> {
+impl<G: Gate, H: StoredHistory<Op, Answer>> Line<G, H> {
     /// A line of a pass that has made no producer's call, nor any pass that was joined to it. Its mark is
     /// what the pass has seen.
     pub fn new(
         turnstile: Arc<Turnstile<SharedPartition<G, H>>, Global>,
-        pass: Pass<SharedPartition<G, H>, H, Op, Reply, PlainPartition>,
+        pass: Pass<SharedPartition<G, H>, H, Op, Answer, PlainPartition>,
     ) -> Line<G, H>
         requires pass { IsOf (arc_value turnstile) pass }
         requires empty { BeganEmpty (arc_value turnstile).start }
         requires never { NeverProduces pass }
         ensures { result ≡ record { pass = pass; mark = length pass.seen } }
     {
-        let mark = pass.len();
-        Line {
-            turnstile,
-            pass,
-            mark,
-            looked: false,
-            pulled: false,
-        }
+        line_of(Handle::new(turnstile, pass))
     }
 
     /// Waits for its turn, does an operation that isn't a producer's, and rings where a loop may then find
@@ -88,21 +82,35 @@ impl<G: Gate, H: StoredHistory<Op, Reply>> Line<G, H> {
         alloc: Global,
         doorbell: &Doorbell,
         op: Op,
-    ) -> Result<Reply, Refusal>
+    ) -> Result<Answer, Refusal>
         requires { is_producer op ≡ false }
         ensures { CallsOn self.old op result self.new }
     {
+        self.ask(rt, alloc, doorbell, op, &mut Vec::new(alloc))
+    }
+
+    // Does an operation in the turn that it keeps, or waits for one, and takes the events of a turn.
+    fn ask<R: Wait>(
+        &mut self,
+        rt: &R,
+        alloc: Global,
+        doorbell: &Doorbell,
+        op: Op,
+        events: &mut Vec<Event>,
+    ) -> Result<Answer, Refusal>
+        requires { is_producer op ≡ false }
+        ensures calls { CallsOn self.old op result self.new }
+        ensures shows { MatchResult result (λ r. Shows events.old events.new r) (λ _. events.new ≡ events.old) }
+    {
         let looks = is_ready(&op);
         let pulls = is_pull(&op);
-        let answer = SharedPartition::call(&self.turnstile, rt, alloc, &mut self.pass, op);
+        let answer = SharedPartition::call_by(&mut self.handle, rt, alloc, op, events);
         let Ok(ref reply) = answer else {
             return answer;
         };
         self.looked |= looks;
         self.pulled |= pulls;
-        if rings(reply) {
-            doorbell.ring(rt);
-        }
+        self.bell.ring(rt, doorbell, rings(reply));
         answer
     }
 
@@ -114,14 +122,29 @@ impl<G: Gate, H: StoredHistory<Op, Reply>> Line<G, H> {
         doorbell: &Doorbell,
         op: Op,
         events: &mut Vec<Event>,
-    ) -> Answer
+    ) -> Heard
         requires { is_producer op ≡ false }
         ensures heard { Hears self.old op self.new (vec_capacity events.old) events.old.items events.new.items result }
         ensures room { vec_capacity events.new ≡ vec_capacity events.old }
     {
-        let answer = self.call(rt, alloc, doorbell, op);
-        keep_events(&answer, events);
-        answer_of(&answer)
+        let answer = self.ask(rt, alloc, doorbell, op, events);
+        heard_of(&answer)
+    }
+
+    // Keeps its turn from the next call on.
+    pub(crate) fn keep(&mut self)
+        ensures { self.new ≡ self.old }
+    {
+        self.handle.keep();
+        self.bell.keep();
+    }
+
+    // Gives up the turn that it may have, and then rings once for all calls that were made in it.
+    pub(crate) fn leave<R: Wait>(&mut self, rt: &R, doorbell: &Doorbell)
+        ensures { self.new ≡ self.old }
+    {
+        self.handle.leave();
+        self.bell.leave(rt, doorbell);
     }
 
     /// Whether the pass has asked for a ready grain since the mark.
@@ -142,7 +165,7 @@ impl<G: Gate, H: StoredHistory<Op, Reply>> Line<G, H> {
     pub fn rest(&mut self)
         ensures { self.new ≡ rested self.old }
     {
-        self.mark = self.pass.len();
+        self.mark = self.handle.len();
         self.looked = false;
         self.pulled = false;
     }
@@ -158,11 +181,7 @@ impl<G: Gate, H: StoredHistory<Op, Reply>> Line<G, H> {
         ensures new { IfOk result (λ line. IsSplitOff self.old.pass line.pass × (line.mark ≡ length line.pass.seen)) }
         ensures made { OnErr result (HasOnlyMade self.old.pass self.new.pass × (self.new.mark ≡ self.old.mark)) }
     {
-        let turnstile = Arc::try_clone(&self.turnstile)?;
-        match turnstile.split(&mut self.pass) {
-            Ok(pass) => Ok(Line::new(turnstile, pass)),
-            Err(NoNumberLeft) => Err(AllocError),
-        }
+        Ok(line_of(self.handle.split()?))
     }
 
     /// Takes in another line of the same queue: the numbers of its pass, and what that has seen where it is
@@ -172,8 +191,14 @@ impl<G: Gate, H: StoredHistory<Op, Reply>> Line<G, H> {
         ensures joined { self.new ≡ record self.old { pass = joined_pass self.old.pass other.pass } }
         ensures agree { Agree self.old.pass other.pass self.new.pass }
     {
-        let (_turnstile, pass) = other.into_parts();
-        self.turnstile.join(&mut self.pass, pass);
+        let Line {
+            handle,
+            mark: _,
+            looked: _,
+            pulled: _,
+            bell: _,
+        } = other;
+        self.handle.join(handle);
     }
 
     /// The turnstile and the pass.
@@ -181,7 +206,7 @@ impl<G: Gate, H: StoredHistory<Op, Reply>> Line<G, H> {
         self,
     ) -> (
         Arc<Turnstile<SharedPartition<G, H>>, Global>,
-        Pass<SharedPartition<G, H>, H, Op, Reply, PlainPartition>,
+        Pass<SharedPartition<G, H>, H, Op, Answer, PlainPartition>,
     )
         ensures pass { result.1 ≡ self.pass }
         ensures of { IsOf (arc_value result.0) result.1 }
@@ -189,13 +214,31 @@ impl<G: Gate, H: StoredHistory<Op, Reply>> Line<G, H> {
         ensures never { NeverProduces result.1 }
     {
         let Line {
-            turnstile,
-            pass,
+            handle,
             mark: _,
             looked: _,
             pulled: _,
+            bell: _,
         } = self;
-        (turnstile, pass)
+        handle.into_parts()
+    }
+}
+
+// A line whose mark is what the pass has seen.
+fn line_of<G: Gate, H: StoredHistory<Op, Answer>>(
+    handle: Handle<SharedPartition<G, H>>,
+) -> Line<G, H>
+    requires of { IsOfEmpty handle }
+    requires never { NeverProduces handle }
+    ensures { result ≡ record { pass = handle; mark = length handle.seen } }
+{
+    let mark = handle.len();
+    Line {
+        handle,
+        mark,
+        looked: false,
+        pulled: false,
+        bell: Bell::new(),
     }
 }
 
@@ -214,10 +257,35 @@ fn is_pull(op: &Op) -> bool
 }
 
 /// Each line begins anew.
-pub(crate) fn rest_all<G: Gate, H: StoredHistory<Op, Reply>>(lines: &mut Vec<Line<G, H>>)
+pub(crate) fn rest_all<G: Gate, H: StoredHistory<Op, Answer>>(lines: &mut Vec<Line<G, H>>)
     ensures { lines.new.items ≡ map rested lines.old.items }
 {
     for at in 0..lines.len() {
         lines[at].rest();
+    }
+}
+
+/// The line at this place keeps its turn from the next call on.
+pub(crate) fn keep_at<G: Gate, H: StoredHistory<Op, Answer>>(lines: &mut Vec<Line<G, H>>, at: usize)
+    ensures { lines.new.items ≡ lines.old.items }
+{
+    if at < lines.len() {
+        let line = &mut lines[at];
+        line.keep();
+    }
+}
+
+/// The line at this place gives up the turn that it may have.
+pub(crate) fn leave_at<G: Gate, H: StoredHistory<Op, Answer>, R: Wait>(
+    rt: &R,
+    doorbell: &Doorbell,
+    lines: &mut Vec<Line<G, H>>,
+    at: usize,
+)
+    ensures { lines.new.items ≡ lines.old.items }
+{
+    if at < lines.len() {
+        let line = &mut lines[at];
+        line.leave(rt, doorbell);
     }
 }

@@ -3,14 +3,15 @@ ghost use Rattle.std.specs.Prelude.{◌≡◌, ℕ, ◌<◌, ◌≤◌, length, 
 ghost use Rattle.silo_loops.specs.declared.worker_walk.Step.TheVariants as step;
 ghost use Rattle.silo_loops.specs.Answers.{advance_of};
 ghost use Rattle.silo_loops.specs.Lines.{HasLooked};
+ghost use Rattle.silo_loops.specs.Chains.{Visits};
 ghost use Rattle.silo_loops.specs.Walks.{IsAt, Nothing};
-ghost use Rattle.silo_loops.specs.Workers.{IsBeside, Starts, WorkerAdvances, WorkerAdvancesFrom, WorkerSteps, worker_at};
+ghost use Rattle.silo_loops.specs.Workers.{IsBeside, Starts, WorkerAdvances, WorkerAdvancesFrom, WorkerHasCause, WorkerRuns, WorkerSteps, worker_at};
 
 use crate::advance::{Advance, Over, told};
 use crate::directory_line::DirectoryLine;
 use crate::doorbell::Doorbell;
-use crate::line::{Line, rest_all};
-use crate::worker_steps::{begin, commit, enter, handle, leave, look, tell};
+use crate::line::{Line, keep_at, leave_at, rest_all};
+use crate::worker_steps::{again, begin, commit, enter, handle, leave, look, tell};
 use crate::worker_walk::{Step, Walk};
 use activation_directory::{DirectoryOp, DirectoryReply};
 use shared_partition::Gate;
@@ -18,9 +19,13 @@ use std::alloc::{AllocError, Global};
 use std::marker::Model;
 use std::sync::atomic::{AtomicBool, Ordering};
 use std::sync::{Arc, Wait};
+use step_core::Answer;
 use stream_ident::Event;
-use stream_model::{Op, Reply};
+use stream_model::Op;
 use turnstile::StoredHistory;
+
+// The most steps of a visit.
+const MOST_STEPS: u32 = 64;
 
 /// Room for the events of one turn, which a worker takes with it.
 #[derive(Drop)]
@@ -48,7 +53,7 @@ impl TurnRoom {
 /// begin, and why it has ended.
 pub struct WorkerLoop<
     G: Gate,
-    H: StoredHistory<Op, Reply>,
+    H: StoredHistory<Op, Answer>,
     D: StoredHistory<DirectoryOp, DirectoryReply>,
 > {
     silo: u8,
@@ -64,7 +69,7 @@ pub struct WorkerLoop<
 
 impl<
     G: Gate + Drop,
-    H: StoredHistory<Op, Reply> + Drop,
+    H: StoredHistory<Op, Answer> + Drop,
     D: StoredHistory<DirectoryOp, DirectoryReply> + Drop,
 > Drop for WorkerLoop<G, H, D> {
     fn drop(self) {
@@ -82,17 +87,17 @@ impl<
     }
 }
 
-impl<G: Gate, H: StoredHistory<Op, Reply>, D: StoredHistory<DirectoryOp, DirectoryReply>> Model
+impl<G: Gate, H: StoredHistory<Op, Answer>, D: StoredHistory<DirectoryOp, DirectoryReply>> Model
     for WorkerLoop<G, H, D> {
     ghost use Rattle.std.specs.Prelude.{◌≤◌, vec_capacity};
     ghost use Rattle.silo_loops.specs.Walks.{IsAt};
-    ghost use Rattle.silo_loops.specs.Workers.{WorkerView, worker_at};
+    ghost use Rattle.silo_loops.specs.Workers.{WorkerHasCause, WorkerView, worker_at};
 
     ghost Value = { WorkerView };
 
     ghost view = { λ w. worker_at w.silo w.lines.items w.directory w.walk w.events.items w.rounds w.over };
 
-    ghost invariant = { λ w. IsAt w.walk w.lines.items w.directory × (16 ≤ vec_capacity w.events) };
+    ghost invariant = { λ w. IsAt w.walk w.lines.items w.directory × (16 ≤ vec_capacity w.events) × WorkerHasCause (worker_at w.silo w.lines.items w.directory w.walk w.events.items w.rounds w.over) };
 }
 
 // How a round begins, or doesn't.
@@ -104,7 +109,7 @@ enum Start {
 
 // Begins another round, where the last one found something to do. Where it found nothing, each line begins
 // anew instead.
-fn start_round<G: Gate, H: StoredHistory<Op, Reply>>(
+fn start_round<G: Gate, H: StoredHistory<Op, Answer>>(
     lines: &mut Vec<Line<G, H>>,
     walk: &mut Walk,
     rounds: &mut u64,
@@ -126,7 +131,7 @@ fn start_round<G: Gate, H: StoredHistory<Op, Reply>>(
 }
 
 // Whether each line has asked for a ready grain past its mark.
-fn all_looked<G: Gate, H: StoredHistory<Op, Reply>>(lines: &Vec<Line<G, H>>) -> bool
+fn all_looked<G: Gate, H: StoredHistory<Op, Answer>>(lines: &Vec<Line<G, H>>) -> bool
     ensures { result ≡ true → All HasLooked lines.now.items }
 {
     for line in lines {
@@ -140,7 +145,7 @@ fn all_looked<G: Gate, H: StoredHistory<Op, Reply>>(lines: &Vec<Line<G, H>>) -> 
 // The next call of the round, or the next piece of work in hand.
 fn step<
     G: Gate,
-    H: StoredHistory<Op, Reply>,
+    H: StoredHistory<Op, Answer>,
     D: StoredHistory<DirectoryOp, DirectoryReply>,
     R: Wait,
 >(
@@ -186,9 +191,12 @@ fn step<
             sub,
             token,
         } => {
-            tell(gate, walk, grain, *permit, sub, *token);
+            tell(walk, grain, *permit, sub, *token);
             None
         }
+        Step::Again { grain, permit } => again(
+            rt, alloc, doorbell, lines, directory, walk, events, grain, *permit,
+        ),
         Step::Leave { grain, permit } => {
             leave(rt, alloc, doorbell, directory, walk, grain, *permit)
         }
@@ -198,7 +206,7 @@ fn step<
 // The next call of the round, or the next piece of work in hand, and what it answers.
 fn take_step<
     G: Gate,
-    H: StoredHistory<Op, Reply>,
+    H: StoredHistory<Op, Answer>,
     D: StoredHistory<DirectoryOp, DirectoryReply>,
     R: Wait,
 >(
@@ -230,34 +238,32 @@ fn take_step<
 // no more may be made.
 fn begin_round<
     G: Gate,
-    H: StoredHistory<Op, Reply>,
+    H: StoredHistory<Op, Answer>,
     D: StoredHistory<DirectoryOp, DirectoryReply>,
     R: Wait,
 >(
     rt: &R,
     alloc: Global,
-    gate: &G,
     doorbell: &Doorbell,
-    silo: u8,
     lines: &mut Vec<Line<G, H>>,
-    directory: &mut DirectoryLine<D>,
+    directory: &DirectoryLine<D>,
     walk: &mut Walk,
     events: &mut Vec<Event>,
     rounds: &mut u64,
     over: &mut Option<Over>,
 ) -> Advance
-    requires at { IsAt walk.old lines.old.items directory.old }
+    requires at { IsAt walk.old lines.old.items directory.now }
     requires rest { walk.old.step ≡ step.Rest }
-    requires room { 16 ≤ vec_capacity events.old }
     requires goes_on { over.old ≡ None }
-    ensures at { IsAt walk.new lines.new.items directory.new }
+    ensures at { IsAt walk.new lines.new.items directory.now }
     ensures room { vec_capacity events.new ≡ vec_capacity events.old }
-    ensures advances { WorkerAdvancesFrom None result (worker_at silo lines.old.items directory.old walk.old events.old.items rounds.old over.old) (worker_at silo lines.new.items directory.new walk.new events.new.items rounds.new over.new) }
+    ensures advances { (silo : ℕ) → WorkerAdvancesFrom None result (worker_at silo lines.old.items directory.now walk.old events.old.items rounds.old over.old) (worker_at silo lines.new.items directory.now walk.new events.new.items rounds.new over.new) }
 {
     match start_round(lines, walk, rounds) {
-        Start::Begun => take_step(
-            rt, alloc, gate, doorbell, silo, lines, directory, walk, events, over,
-        ),
+        Start::Begun => {
+            *over = look(rt, alloc, doorbell, lines, directory, walk, events);
+            told(rt, doorbell, *over)
+        }
         Start::Idle => Advance::Idle,
         Start::RanOut => {
             *over = Some(Over::Rounds);
@@ -269,7 +275,7 @@ fn begin_round<
 // The next step of a worker that hasn't ended.
 fn go_on<
     G: Gate,
-    H: StoredHistory<Op, Reply>,
+    H: StoredHistory<Op, Answer>,
     D: StoredHistory<DirectoryOp, DirectoryReply>,
     R: Wait,
 >(
@@ -294,7 +300,7 @@ fn go_on<
 {
     match walk.step {
         Step::Rest => begin_round(
-            rt, alloc, gate, doorbell, silo, lines, directory, walk, events, rounds, over,
+            rt, alloc, doorbell, lines, directory, walk, events, rounds, over,
         ),
         _ => take_step(
             rt, alloc, gate, doorbell, silo, lines, directory, walk, events, over,
@@ -305,7 +311,7 @@ fn go_on<
 // The next step of a worker.
 fn advance_parts<
     G: Gate,
-    H: StoredHistory<Op, Reply>,
+    H: StoredHistory<Op, Answer>,
     D: StoredHistory<DirectoryOp, DirectoryReply>,
     R: Wait,
 >(
@@ -337,7 +343,7 @@ fn advance_parts<
 
 impl<
     G: Gate,
-    H: StoredHistory<Op, Reply>,
+    H: StoredHistory<Op, Answer>,
     D: StoredHistory<DirectoryOp, DirectoryReply>,
 > WorkerLoop<G, H, D> {
     /// A worker of this silo that has done nothing yet, with a line for each queue, in their order, and so many rounds
@@ -376,6 +382,96 @@ impl<
         ensures advances { WorkerAdvances result self.old self.new }
         ensures beside { IsBeside self.old self.new }
     {
+        let did = self.take_step(rt, alloc);
+        self.tell();
+        did
+    }
+
+    /// Makes steps of the round, each as [`advance`](WorkerLoop::advance) makes it, as long as they are calls at the
+    /// queue at which it is, and at most 64. It keeps its turn there meanwhile, and rings once for all of them. So it
+    /// commits a turn and begins the grain's next one in one turn of its own. The gate handles events, and is told of a
+    /// commit, while none is kept.
+    pub fn visit<R: Wait>(&mut self, rt: &R, alloc: Global) -> Advance
+        ensures steps { Visits WorkerAdvances result self.old self.new }
+        ensures beside { IsBeside self.old self.new }
+    {
+        let at = self.walk.at;
+        self.keep(at);
+        let mut did = self.take_held_step(rt, alloc);
+        for _ in 1..MOST_STEPS {
+            let Advance::Did = did else {
+                break;
+            };
+            if !self.walk.stays(at, self.events.len()) {
+                break;
+            }
+            did = self.take_held_step(rt, alloc);
+        }
+        self.leave(rt, at);
+        self.tell();
+        did
+    }
+
+    // Keeps its turn at a queue from the next call there on.
+    fn keep(&mut self, at: usize)
+        ensures { self.new ≡ self.old }
+    {
+        keep_at(&mut self.lines, at);
+    }
+
+    // Gives up the turns that it may have at a queue and at the directory.
+    fn leave<R: Wait>(&mut self, rt: &R, at: usize)
+        ensures { self.new ≡ self.old }
+    {
+        leave_at(rt, &self.doorbell, &mut self.lines, at);
+        self.directory.leave(rt, &self.doorbell);
+    }
+
+    // The next step. It keeps its turn at the directory from a permit that it gives back to the next one. No queue is
+    // called meanwhile, so whoever has the directory's turn waits for no other.
+    fn take_held_step<R: Wait>(&mut self, rt: &R, alloc: Global) -> Advance
+        ensures advances { WorkerAdvances result self.old self.new }
+        ensures beside { IsBeside self.old self.new }
+    {
+        let hands_on = self.walk.hands_on();
+        self.keep_directory(hands_on);
+        let did = self.take_step(rt, alloc);
+        self.leave_directory(rt, !hands_on);
+        did
+    }
+
+    // Keeps its turn at the directory from the next call there on, where it is to.
+    fn keep_directory(&mut self, keeps: bool)
+        ensures { self.new ≡ self.old }
+    {
+        if keeps {
+            self.directory.keep();
+        }
+    }
+
+    // Gives up the turn that it may have at the directory, where it is to.
+    fn leave_directory<R: Wait>(&mut self, rt: &R, leaves: bool)
+        ensures { self.new ≡ self.old }
+    {
+        if leaves {
+            self.directory.leave(rt, &self.doorbell);
+        }
+    }
+
+    // Tells the gate of the commit of which it is still to be told.
+    fn tell(&mut self)
+        ensures { self.new ≡ self.old }
+    {
+        if let Some(commit) = self.walk.untold.take() {
+            self.gate.done(&commit.grain, &commit.sub, commit.token);
+        }
+    }
+
+    // The next step. The gate isn't told of a commit yet.
+    fn take_step<R: Wait>(&mut self, rt: &R, alloc: Global) -> Advance
+        ensures advances { WorkerAdvances result self.old self.new }
+        ensures beside { IsBeside self.old self.new }
+    {
         advance_parts(
             rt,
             alloc,
@@ -400,19 +496,20 @@ impl<
 
     /// Why it has ended, where it has.
     pub fn over(&self) -> Option<Over>
-        ensures { result ≡ self.now.over }
+        ensures over { result ≡ self.now.over }
+        ensures cause { WorkerHasCause self.now }
     {
         self.over
     }
 
-    // One step, unless it is told to stop, and a wait where it is idle. Whether it goes on.
+    // One visit, unless it is told to stop, and a wait where it is idle. Whether it goes on.
     fn go<R: Wait>(&mut self, rt: &R, alloc: Global, stop: &AtomicBool, seen: &mut u64) -> bool
-        ensures { IsBeside self.old self.new }
+        ensures { WorkerRuns self.old self.new }
     {
         if stop.load(Ordering::SeqCst) {
             return false;
         }
-        match self.advance(rt, alloc) {
+        match self.visit(rt, alloc) {
             Advance::Did => true,
             Advance::Idle => {
                 self.doorbell.wait_past(rt, *seen, stop);
@@ -423,10 +520,10 @@ impl<
         }
     }
 
-    /// Steps until `stop` is set or the loop has ended, and waits at the doorbell where a round found nothing
+    /// Makes visits until `stop` is set or the loop has ended, and waits at the doorbell where a round found nothing
     /// to do. It comes back with its passes.
     pub fn run<R: Wait>(self, rt: &R, alloc: Global, stop: &AtomicBool) -> WorkerLoop<G, H, D>
-        ensures { IsBeside self result }
+        ensures { WorkerRuns self result }
     {
         let mut worker = self;
         let mut seen = worker.doorbell.now(rt);

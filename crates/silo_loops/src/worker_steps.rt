@@ -4,28 +4,29 @@ ghost use Rattle.stream_model.specs.Producers.{is_producer};
 ghost use Rattle.silo_loops.specs.Lines.{DirectoryPass, HearsAt, LineView};
 ghost use Rattle.stream_ident.specs.declared.event.Event.{Event};
 ghost use Rattle.silo_loops.specs.Walks.{IsAt};
-ghost use Rattle.silo_loops.specs.Workers.{WorkerSteps, WorkerWorks, worker_at};
+ghost use Rattle.silo_loops.specs.Workers.{WorkerLooks, WorkerSteps, WorkerWorks, worker_at};
 ghost use Rattle.silo_loops.specs.declared.worker_walk.Step.TheVariants as step;
 
 use crate::advance::Over;
-use crate::answer::Answer;
 use crate::directory_line::DirectoryLine;
 use crate::doorbell::Doorbell;
+use crate::heard::Heard;
 use crate::line::Line;
-use crate::worker_walk::{Step, Turn, Walk, end_of_asking};
+use crate::worker_walk::{Commit, Step, Turn, Walk, end_of_asking};
 use activation_directory::{DirectoryOp, DirectoryReply};
 use shared_partition::Gate;
 use std::alloc::Global;
 use std::sync::Wait;
+use step_core::Answer;
 use stream_ident::{Event, GrainId, SubName, Token};
-use stream_model::{Op, Reply};
+use stream_model::Op;
 use turnstile::StoredHistory;
 
 // The most events of a turn.
 const MOST_EVENTS: u32 = 16;
 
 // One call at one queue.
-pub(crate) fn hear_at<G: Gate, H: StoredHistory<Op, Reply>, R: Wait>(
+pub(crate) fn hear_at<G: Gate, H: StoredHistory<Op, Answer>, R: Wait>(
     rt: &R,
     alloc: Global,
     doorbell: &Doorbell,
@@ -33,7 +34,7 @@ pub(crate) fn hear_at<G: Gate, H: StoredHistory<Op, Reply>, R: Wait>(
     at: usize,
     op: Op,
     events: &mut Vec<Event>,
-) -> Answer
+) -> Heard
     requires here { at < length lines.old.items }
     requires op { is_producer op ≡ false }
     ensures heard { HearsAt lines.old.items at op lines.new.items (vec_capacity events.old) events.old.items events.new.items result }
@@ -46,7 +47,7 @@ pub(crate) fn hear_at<G: Gate, H: StoredHistory<Op, Reply>, R: Wait>(
 // Asks the queue for a ready grain.
 pub(crate) fn look<
     G: Gate,
-    H: StoredHistory<Op, Reply>,
+    H: StoredHistory<Op, Answer>,
     D: StoredHistory<DirectoryOp, DirectoryReply>,
     R: Wait,
 >(
@@ -61,7 +62,7 @@ pub(crate) fn look<
     requires { IsAt walk.old lines.old.items directory.now }
     ensures at { IsAt walk.new lines.new.items directory.now }
     ensures room { vec_capacity events.new ≡ vec_capacity events.old }
-    ensures steps { (silo rounds counted : ℕ) → WorkerSteps (worker_at silo lines.old.items directory.now walk.old events.old.items rounds None) (worker_at silo lines.new.items directory.now walk.new events.new.items counted result) result }
+    ensures looks { (silo rounds counted : ℕ) → WorkerLooks (worker_at silo lines.old.items directory.now walk.old events.old.items rounds None) (worker_at silo lines.new.items directory.now walk.new events.new.items counted result) }
 {
     let last = walk.last;
     let answer = hear_at(
@@ -104,7 +105,7 @@ pub(crate) fn enter<D: StoredHistory<DirectoryOp, DirectoryReply>, R: Wait>(
 // Begins a turn of the grain whose permit the worker has.
 pub(crate) fn begin<
     G: Gate,
-    H: StoredHistory<Op, Reply>,
+    H: StoredHistory<Op, Answer>,
     D: StoredHistory<DirectoryOp, DirectoryReply>,
     R: Wait,
 >(
@@ -136,7 +137,7 @@ pub(crate) fn begin<
 // Commits the turn, all of whose events were handled.
 pub(crate) fn commit<
     G: Gate,
-    H: StoredHistory<Op, Reply>,
+    H: StoredHistory<Op, Answer>,
     D: StoredHistory<DirectoryOp, DirectoryReply>,
     R: Wait,
 >(
@@ -189,7 +190,7 @@ pub(crate) fn leave<D: StoredHistory<DirectoryOp, DirectoryReply>, R: Wait>(
             permit,
         },
     );
-    walk.step = Step::Look;
+    walk.after_leave();
     end_of_asking(&answer)
 }
 
@@ -220,21 +221,46 @@ pub(crate) fn handle<G: Gate>(
     };
 }
 
-// Tells the gate of a commit.
-pub(crate) fn tell<G: Gate>(
-    gate: &G,
+// Asks which grain is ready next, with the permit of one in hand.
+pub(crate) fn again<
+    G: Gate,
+    H: StoredHistory<Op, Answer>,
+    D: StoredHistory<DirectoryOp, DirectoryReply>,
+    R: Wait,
+>(
+    rt: &R,
+    alloc: Global,
+    doorbell: &Doorbell,
+    lines: &mut Vec<Line<G, H>>,
+    directory: &DirectoryLine<D>,
     walk: &mut Walk,
+    events: &mut Vec<Event>,
     grain: &GrainId,
     permit: u64,
-    sub: &SubName,
-    token: Token,
-)
+) -> Option<Over>
+    requires at { IsAt walk.old lines.old.items directory.now }
+    requires step { walk.old.step ≡ step.Again grain.now permit }
+    ensures at { IsAt walk.new lines.new.items directory.now }
+    ensures room { vec_capacity events.new ≡ vec_capacity events.old }
+    ensures steps { (silo rounds counted : ℕ) → WorkerSteps (worker_at silo lines.old.items directory.now walk.old events.old.items rounds None) (worker_at silo lines.new.items directory.now walk.new events.new.items counted result) result }
+{
+    let op = Op::Ready { after: walk.last };
+    let answer = hear_at(rt, alloc, doorbell, lines, walk.at, op, events);
+    walk.after_again(grain, permit, &answer)
+}
+
+// Has the gate be told of a commit, as soon as no turn is kept.
+pub(crate) fn tell(walk: &mut Walk, grain: &GrainId, permit: u64, sub: &SubName, token: Token)
     requires step { walk.old.step ≡ step.Tell grain.now permit sub.now token }
     ensures at { (lines : List LineView) (d : DirectoryPass) → IsAt walk.old lines d → IsAt walk.new lines d }
     ensures works { (silo : ℕ) (lines : List LineView) (d : DirectoryPass) (events : List Event) (rounds counted : ℕ) → IsAt walk.old lines d → WorkerWorks (worker_at silo lines d walk.old events rounds None) (worker_at silo lines d walk.new events counted None) }
 {
-    gate.done(grain, sub, token);
-    walk.step = Step::Leave {
+    walk.untold = Some(Commit {
+        grain: *grain,
+        sub: *sub,
+        token,
+    });
+    walk.step = Step::Again {
         grain: *grain,
         permit,
     };

@@ -1,14 +1,17 @@
 //! Where a worker is, and what it does next.
-ghost use Rattle.std.specs.Prelude.{◌≡◌, ◌<◌, true};
+ghost use Rattle.std.specs.Prelude.{◌≡◌, ◌<◌, ◌⊎◌, true, None};
 ghost use Rattle.silo_loops.specs.Answers.{end_in, end_of_asking};
 ghost use Rattle.silo_loops.specs.declared.worker_walk.Step.TheVariants as step;
 ghost use Rattle.silo_loops.specs.Walks.{IsFree, step_after_begin, step_after_commit, step_after_enter};
 
 use crate::advance::{Over, end_by};
-use crate::answer::Answer;
+use crate::heard::Heard;
 use activation_directory::DirectoryReply;
 use stream_ident::{GrainId, SubName, Token};
 use turnstile::Refusal;
+
+// How many turns of one grain a worker adds to the first one, before it goes on.
+const MOST_AGAIN: u8 = 15;
 
 /// A turn that runs: which it is, the note that the last event left, and the place of the next event.
 #[derive(Clone, Copy)]
@@ -49,6 +52,11 @@ pub(crate) enum Step {
         sub: SubName,
         token: Token,
     },
+    /// Asks which grain is ready next, with the permit of this one.
+    Again {
+        grain: GrainId,
+        permit: u64,
+    },
     /// Gives the permit back.
     Leave {
         grain: GrainId,
@@ -56,27 +64,56 @@ pub(crate) enum Step {
     },
 }
 
+/// A commit: the grain whose turn it was, and the token of its last event.
+#[derive(Clone, Copy)]
+pub(crate) struct Commit {
+    pub(crate) grain: GrainId,
+    pub(crate) sub: SubName,
+    pub(crate) token: Token,
+}
+
 /// The queue at which a worker is, the ready grain that it found there last, whether the round changed
-/// anything, and what it does next.
+/// anything, and what it does next; how many more turns of that grain it may add, the ready grain that it found while it
+/// had the permit of that, and a commit of which the gate is still to be told, where no turn is kept.
 #[derive(Drop)]
 pub(crate) struct Walk {
     pub(crate) at: usize,
     pub(crate) last: Option<GrainId>,
     pub(crate) changed: bool,
     pub(crate) step: Step,
+    pub(crate) again: u8,
+    pub(crate) found: Option<GrainId>,
+    pub(crate) untold: Option<Commit>,
 }
 
 impl Walk {
     // Before the first round.
     pub(crate) fn new() -> Walk
-        ensures { result ≡ record { at = 0; last = None; changed = true; step = step.Rest } }
+        ensures { result ≡ record { at = 0; last = None; changed = true; step = step.Rest; again = 0; found = None; untold = None } }
     {
         Walk {
             at: 0,
             last: None,
             changed: true,
             step: Step::Rest,
+            again: 0,
+            found: None,
+            untold: None,
         }
+    }
+
+    // Whether the next step is one of this queue, and isn't the handler's, where the turn has so many events.
+    pub(crate) fn stays(&self, at: usize, events: usize) -> bool {
+        match self.step {
+            Step::Rest => false,
+            Step::Handle { ref turn, .. } => turn.next >= events,
+            _ => self.at == at,
+        }
+    }
+
+    // Whether the next step gives a permit back and the one behind it asks for another.
+    pub(crate) fn hands_on(&self) -> bool {
+        matches!(self.step, Step::Leave { .. }) && self.found.is_some()
     }
 
     // On to the next queue, or where this was the last one, the end of the round.
@@ -97,14 +134,14 @@ impl Walk {
 
     // After the answer to Ready. Grains are named in their order, so one that isn't past the last was named
     // before.
-    pub(crate) fn after_look(&mut self, queues: usize, answer: &Answer) -> Option<Over>
+    pub(crate) fn after_look(&mut self, queues: usize, answer: &Heard) -> Option<Over>
         requires { self.old.at < queues }
         ensures at { self.new.at < queues }
         ensures free { IsFree self.new.step }
         ensures over { result ≡ end_in answer.now }
     {
         match *answer {
-            Answer::Next(ref grain) if self.is_new(grain) => self.enter(grain),
+            Heard::Next(ref grain) if self.is_new(grain) => self.enter(grain),
             _ => self.go_on(queues),
         }
         answer.end()
@@ -112,9 +149,10 @@ impl Walk {
 
     // On to a ready grain.
     fn enter(&mut self, grain: &GrainId)
-        ensures { self.new ≡ record self.old { last = Some grain.now; step = step.Enter grain.now } }
+        ensures { self.new ≡ record self.old { last = Some grain.now; step = step.Enter grain.now; again = self.new.again } }
     {
         self.last = Some(*grain);
+        self.again = MOST_AGAIN;
         self.step = Step::Enter { grain: *grain };
     }
 
@@ -150,7 +188,7 @@ impl Walk {
         &mut self,
         grain: &GrainId,
         permit: u64,
-        answer: &Answer,
+        answer: &Heard,
     ) -> Option<Over>
         ensures at { self.new.at ≡ self.old.at }
         ensures step { self.new.step ≡ step_after_begin grain.now permit answer.now }
@@ -160,7 +198,7 @@ impl Walk {
             self.changed = true;
         }
         self.step = match *answer {
-            Answer::Turn {
+            Heard::Turn {
                 sub,
                 activation,
                 turn,
@@ -189,13 +227,13 @@ impl Walk {
         &mut self,
         grain: &GrainId,
         permit: u64,
-        answer: &Answer,
+        answer: &Heard,
     ) -> Option<Over>
         ensures walk { self.new ≡ record self.old { step = step_after_commit grain.now permit answer.now } }
         ensures over { result ≡ end_in answer.now }
     {
         self.step = match *answer {
-            Answer::Committed { sub, token } => Step::Tell {
+            Heard::Committed { sub, token } => Step::Tell {
                 grain: *grain,
                 permit,
                 sub,
@@ -207,6 +245,47 @@ impl Walk {
             },
         };
         answer.end()
+    }
+
+    // After the answer to Ready that was asked with the permit of a grain. Another turn of it is begun where it is the
+    // next one, and else its permit is given back. A grain past it comes then.
+    pub(crate) fn after_again(
+        &mut self,
+        grain: &GrainId,
+        permit: u64,
+        answer: &Heard,
+    ) -> Option<Over>
+        ensures at { self.new.at ≡ self.old.at }
+        ensures step { (self.new.step ≡ step.Begin grain.now permit) ⊎ (self.new.step ≡ step.Leave grain.now permit) }
+        ensures over { result ≡ end_in answer.now }
+    {
+        self.step = match *answer {
+            Heard::Next(ref next) if next == grain && self.again > 0 => Step::Begin {
+                grain: *grain,
+                permit,
+            },
+            _ => Step::Leave {
+                grain: *grain,
+                permit,
+            },
+        };
+        self.again = self.again.saturating_sub(1);
+        self.found = match *answer {
+            Heard::Next(ref next) if self.is_new(next) => Some(*next),
+            _ => None,
+        };
+        answer.end()
+    }
+
+    // After the permit was given back: on to the grain that was found, or to look for one.
+    pub(crate) fn after_leave(&mut self)
+        ensures at { self.new.at ≡ self.old.at }
+        ensures free { IsFree self.new.step }
+    {
+        match self.found.take() {
+            Some(grain) => self.enter(&grain),
+            None => self.step = Step::Look,
+        }
     }
 }
 

@@ -1,5 +1,6 @@
 -- The replies that outcomes stand for.
-use Rattle.std.specs.Prelude.{◌<◌, length, List, Result, Ok, Err}
+use Rattle.std.specs.Prelude.{◌≡◌, ◌<◌, ◌≤◌, length, List, Result, Ok, Err, vec_capacity}
+use Rattle.std.specs.Global.{Vec}
 use Rattle.std.specs.List.{AllByRecursion}
 use Rattle.std.specs.declared.alloc.AllocError.{AllocError}
 use Rattle.stream_ident.specs.declared.event.Event.{Event}
@@ -73,3 +74,17 @@ answered log (Err e) = Err e
 abbrev pub IsOfLog : List Event → Outcome → Type 0
 IsOfLog log (outcome.Told answer) = Unit {0}
 IsOfLog log (outcome.Turn turn) = AllByRecursion (λ position. position < length log) turn.positions
+
+-- the reply that an outcome stands for, whatever the events of its turn are
+abbrev pub Says : Outcome → Reply → Type 0
+Says (outcome.Told answer) r = r ≡ reply_of answer
+Says (outcome.Turn turn) r = (events : List Event) × (r ≡ reply.Turn turn.sub turn.activation turn.turn events turn.note)
+
+-- the events of a turn take the place of those before
+abbrev pub events_after : Reply → List Event → List Event
+events_after (reply.Turn sub activation turn events note) old = events
+events_after _ old = old
+
+-- what a reply puts into the room that was lent, where that has room for the sixteen events of a turn
+abbrev pub Shows : Vec Event → Vec Event → Reply → Type 0
+Shows old new r = (16 ≤ vec_capacity old → new.items ≡ events_after r old.items) × (vec_capacity new ≡ vec_capacity old)

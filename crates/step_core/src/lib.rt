@@ -6,6 +6,7 @@
 #![tactic(auto)]
 
 mod acknowledging;
+mod answer;
 mod delivering;
 mod draining;
 mod looking;
@@ -19,6 +20,7 @@ mod reading;
 mod stepping;
 mod turns;
 
+pub use answer::Answer;
 pub use outcome::{NewTurn, Outcome, Told};
 pub use partition::Partition;
 pub use ranked_index::{Leaf, Resumes};

@@ -1,12 +1,12 @@
 //! What an operation comes to.
-ghost use Rattle.std.specs.Prelude.{◌≡◌, ◌<◌, length};
+ghost use Rattle.std.specs.Prelude.{◌≡◌, ◌<◌, ◌≤◌, length, vec_capacity};
 ghost use Rattle.std.specs.List.{AllByRecursion};
 ghost use Rattle.stream_ident.specs.Event.{events_at};
-ghost use Rattle.step_core.specs.Replied.{outcome_of_told, reply_of, reply_with, IsOfLog};
+ghost use Rattle.step_core.specs.Replied.{outcome_of_told, reply_of, reply_with, IsOfLog, Shows};
 
 use partition_queue::PartitionQueue;
 use std::alloc::AllocError;
-use stream_ident::{GrainId, Row, SubName, Token};
+use stream_ident::{Event, GrainId, Row, SubName, Token};
 use stream_model::{Events, Pending, Reply};
 
 /// What an operation comes to: a reply that isn't a turn, or a turn. A `Reply` has room for the events of a
@@ -51,6 +51,19 @@ impl Outcome {
             },
         }
     }
+
+    /// Puts the events of a turn, which this log has, in the place of those before. It does nothing where there is
+    /// no room for sixteen.
+    pub(crate) fn show(&self, queue: &PartitionQueue, events: &mut Vec<Event>)
+        requires { IsOfLog queue.now.events self.now }
+        ensures { Shows events.old events.new (reply_with queue.now.events self.now) }
+    {
+        if let Outcome::Turn(turn) = self
+            && events.capacity() >= 16
+        {
+            put_events(queue, &turn.positions, events);
+        }
+    }
 }
 
 /// A reply that isn't a turn, as what an operation comes to.
@@ -74,6 +87,19 @@ fn events_of(queue: &PartitionQueue, positions: &Row<usize>) -> Events
         events.push(queue.event_at(*position));
     }
     events
+}
+
+/// Puts the events at the positions of a turn in the place of those before.
+fn put_events(queue: &PartitionQueue, positions: &Row<usize>, into: &mut Vec<Event>)
+    requires of_log { AllByRecursion (λ position. position < length queue.now.events) positions.now }
+    requires room { 16 ≤ vec_capacity into.old }
+    ensures events { into.new.items ≡ events_at queue.now.events positions.now }
+    ensures room { vec_capacity into.new ≡ vec_capacity into.old }
+{
+    into.clear();
+    for position in positions.as_slice() {
+        into.push_reserved(queue.event_at(*position));
+    }
 }
 
 /// A reply that isn't a turn. It takes some 200 bytes.

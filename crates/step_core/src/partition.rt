@@ -1,5 +1,5 @@
 //! The partition.
-ghost use Rattle.std.specs.Prelude.{◌≡◌, ◌<◌, ◌≤◌, true, length, slice_index_or, IfOk, IfSome, OnErr, OnOk};
+ghost use Rattle.std.specs.Prelude.{◌≡◌, ◌<◌, ◌≤◌, true, length, slice_index_or, IfOk, IfSome, MatchResult, OnErr, OnOk};
 ghost use Rattle.std.specs.List.{AllByRecursion};
 ghost use Rattle.std.specs.Option.{option_map};
 ghost use Rattle.stream_ident.specs.Event.{no_event};
@@ -12,12 +12,13 @@ ghost use Rattle.stream_model.specs.Positions.{empty, high_token, low_token, sub
 ghost use Rattle.stream_model.specs.Memory.{may_allocate};
 ghost use Rattle.stream_model.specs.Step.{step, IsReached};
 ghost use Rattle.step_core.specs.Reads.{handled_of, handled_positions, summaries_in_order};
-ghost use Rattle.step_core.specs.Replied.{answered, IsOfLog};
+ghost use Rattle.step_core.specs.Replied.{answered, IsOfLog, Shows};
 ghost use Rattle.step_core.specs.Run.{Does, StopsBefore};
 ghost use Rattle.step_core.specs.Serving.{is_settled_in, name_of, next_due, served_of};
 
 mod asking;
 
+use crate::answer::Answer;
 use crate::draining::Served;
 use crate::looking::{all_waiting, least_running, least_waiting, next_due, pending};
 use crate::outcome::Outcome;
@@ -118,6 +119,26 @@ impl Partition {
     {
         let outcome = self.advance(alloc, op)?;
         Ok(outcome.reply(&self.parts.queue))
+    }
+
+    /// Does one operation that is lent, as `step` does it, and gives an answer that stands for the reply. The events
+    /// of a turn are put into `events`, in the place of those before, where that has room for sixteen.
+    ///
+    /// # Errors
+    /// They are those of `step`.
+    pub fn answer(
+        &mut self,
+        alloc: Global,
+        op: &Op,
+        events: &mut Vec<Event>,
+    ) -> Result<Answer, AllocError>
+        ensures performs { Performs self.old self.new result (step self.old op.now) }
+        ensures memory { OnErr result (may_allocate self.old op.now ≡ true) }
+        ensures shows { MatchResult result (λ r. Shows events.old events.new r) (λ _. events.new ≡ events.old) }
+    {
+        let outcome = self.advance(alloc, op)?;
+        outcome.show(&self.parts.queue, events);
+        Ok(Answer::new(outcome, &self.parts.queue))
     }
 
     /// Does the operations in order, and appends their replies.

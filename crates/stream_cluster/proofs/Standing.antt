@@ -22,15 +22,16 @@ use Rattle.stream_model.specs.declared.op.Op.{Op}
 use Rattle.stream_model.specs.declared.reply.Reply.{Reply}
 use Rattle.turnstile.specs.declared.history.Entry.{Entry}
 use Rattle.silo_loops.specs.Lines.{DirectoryPass, LineView, QueuePass, places}
-use Rattle.silo_crew.specs.Silos.{GoOn, GoesOn, IsFresh, IsSameSilo, IsSilent, IsSiloAt, IsSplitLine, SiloView}
-use Rattle.silo_crew.proofs.Going.{goes-length, goes-places, goes-refl, goes-trans, on-refl, still-at}
+use Rattle.silo_loops.proofs.Running.{agent-stays, worker-stays}
+use Rattle.silo_crew.specs.Silos.{AreTakenIn, GoOn, GoesOn, HasRun, IsFresh, IsSilent, IsSiloAt, IsSplitLine, SiloView}
+use Rattle.silo_crew.proofs.Going.{goes-length, goes-places, goes-refl, goes-trans, on-refl, still-at, taken-silo}
 use Rattle.cluster_operator.specs.declared.halt.Halt.{Halt}
 use Rattle.cluster_operator.specs.declared.halt.Halt.TheVariants as halt
 use Rattle.cluster_operator.specs.Changes.{AreDeactivated, HasFound, HasMade, HasSince, HaveMoved, HoldsGrains, IsDeactivation, IsMove, IsNoneLeft, IsRelease, IsSpentMove, StaysBehind}
 use Rattle.cluster_operator.specs.Operators.{HasOnlyGoneOn, HasSpread, IsUnspread, OperatorGoesOn, OperatorView}
 use Rattle.cluster_operator.proofs.Changing.{each-earlier, each-later, goes-at, goes-back, op-trans}
-use Rattle.cluster_operator.proofs.Making.{goes-longer, made-earlier, made-since-silent}
-use Rattle.stream_cluster.specs.Clusters.{AnswersDown, AnswersRetire, AnswersUp, AreAtQueues, AreFresh, AreStarted, ClusterView, EndsBy, HasEnded, HasHalted, HasLeft, HasMetLimit, HasNoted, IsAtDirectory, IsBrokenOff, IsCluster, IsDownBy, IsLimitedAt, IsOpened, IsRetired, IsRetiredBy, IsUpBy, MayGo, RunsOn, all_noted, is_fixed, none_ended, noted}
+use Rattle.cluster_operator.proofs.Making.{goes-longer, made-earlier, made-later, made-since-silent}
+use Rattle.stream_cluster.specs.Clusters.{AnswersDown, AnswersRetire, AnswersUp, AreAtQueues, AreFresh, AreNoted, AreStarted, ClusterView, EndsBy, HasEnded, HasHalted, HasLeft, HasMetLimit, HasNoted, HaveComeBack, IsAtDirectory, IsBrokenOff, IsCluster, IsDownBy, IsLimitedAt, IsOpened, IsRetired, IsRetiredBy, IsUpBy, MayGo, RunsOn, WereMoved, all_noted, is_fixed, none_ended, noted}
 use Rattle.stream_cluster.specs.declared.config.Config.{Config}
 use Rattle.stream_cluster.specs.declared.cluster.Retired.{Retired}
 use Rattle.stream_cluster.specs.declared.cluster.SiloDown.{SiloDown}
@@ -72,12 +73,14 @@ module _ {A : Type 0} (P : A → Type 0) where
   all-remove (x ∷ xs) (suc at) all = (all.0, all-remove xs at all.1)
 
 -- a silo whose loops came back is at the same turnstiles
-pub same-at : (lines : List LineView) (d : DirectoryPass) (s t : SiloView) → IsSiloAt lines d s → IsSameSilo s t → IsSiloAt lines d t
-same-at lines d s t at same =
+pub same-at : (lines : List LineView) (d : DirectoryPass) (s t : SiloView) → IsSiloAt lines d s → HasRun s t → IsSiloAt lines d t
+same-at lines d s t at ran =
+    let first = worker-stays s.first t.first ran.first in
+    let second = worker-stays s.second t.second ran.second in
     record {
-      agent = same.agent ∙ at.agent;
-      first = (same.first.lines ∙ at.first.0, same.first.directory ∙ at.first.1);
-      second = (same.second.lines ∙ at.second.0, same.second.directory ∙ at.second.1);
+      agent = agent-stays s.agent t.agent ran.agent ∙ at.agent;
+      first = (first.lines ∙ at.first.0, first.directory ∙ at.first.1);
+      second = (second.lines ∙ at.second.0, second.directory ∙ at.second.1);
     }
 
 -- what was moved since is moved since what was before
@@ -167,7 +170,7 @@ halted-up v w silo halt.Limit r is goes absent halted met ends = subst (λ (x : 
 halted-up v w silo halt.Memory (Ok x) is goes absent halted met ends = absurd (cc (is))
 halted-up v w silo halt.Memory (Err e) is goes absent halted met ends = (goes, absent, halted, ends)
 
-pub halted-down : (v w : ClusterView) (silo : ℕ) (h : Halt) (r : Result SiloDown AllocError) → IsDownBy h r → is_fixed v ≡ false → MayGo v silo → HasHalted v w → HasNoted v w → (h ≡ halt.Limit → HasMetLimit v.operator w.operator) → AnswersDown v silo r w
+pub halted-down : (v w : ClusterView) (silo : ℕ) (h : Halt) (r : Result SiloDown AllocError) → IsDownBy h r → is_fixed v ≡ false → MayGo v silo → HasHalted v w → HasNoted v silo w → (h ≡ halt.Limit → HasMetLimit v.operator w.operator) → AnswersDown v silo r w
 halted-down v w silo halt.Limit r is goes may halted noted met = subst (λ (x : Result SiloDown AllocError). AnswersDown v silo x w) (sym is) (goes, may, halted, noted, met refl)
 halted-down v w silo halt.Memory (Ok x) is goes may halted noted met = absurd (cc (is))
 halted-down v w silo halt.Memory (Err e) is goes may halted noted met = (goes, may, halted, noted)
@@ -212,6 +215,23 @@ as-many caller lines beside =
 directory-goes : (config : Config) (d e : DirectoryPass) → GoesOn d e → IsAtDirectory config d → IsAtDirectory config e
 directory-goes config d e on at = (at.0, on.turnstile ∙ at.1, at.2)
 
+-- what was moved stays so
+moved-on : (ls ms : List LineView) (assignment : List ℕ) → GoOn ls ms → WereMoved ls assignment → WereMoved ms assignment
+moved-on ls ms assignment on moved queue l had other =
+    let was = goes-back ls ms queue l on had in
+    made-later (IsMove (slice_index assignment queue)) 0 was.0.pass l.pass (goes-at ls ms queue was.0 l on was.1 had) (omega arith) (moved queue was.0 was.1 other)
+
+first-silo : (n queue : ℕ) → slice_index (replicate n 0) queue ≡ 0
+first-silo zero queue = refl
+first-silo (suc n) zero = refl
+first-silo (suc n) (suc queue) = first-silo n queue
+
+-- the queues were spread from the first silo
+moved-first : (ls ms : List LineView) (n : ℕ) (assignment : List ℕ) → GoOn ls ms → HaveMoved ls ms (replicate n 0) assignment → WereMoved ms assignment
+moved-first ls ms n assignment on moved queue l had other =
+    let was = goes-back ls ms queue l on had in
+    made-earlier (IsMove (slice_index assignment queue)) 0 (length was.0.pass.seen) l.pass (omega arith) (moved queue was.0 l was.1 had (λ same. other (same ∙ first-silo n queue)))
+
 pub opened-on : (config : Config) (v w : OperatorView) (caller : List QueuePass) → HasOnlyGoneOn v w → IsOpened config v caller → IsOpened config w caller
 opened-on config v w caller only opened =
     record {
@@ -221,6 +241,7 @@ opened-on config v w caller only opened =
       directory = directory-goes config v.directory w.directory only.on.directory opened.directory;
       balanced = subst (λ (xs : List ℕ). IsBalanced (replicate config.queues 0) xs w.assignment) (sym only.live)
           (subst (λ (xs : List ℕ). IsBalanced (replicate config.queues 0) v.live xs) (sym only.assignment) opened.balanced);
+      moved = subst (λ (xs : List ℕ). WereMoved w.lines xs) (sym only.assignment) (moved-on v.lines w.lines v.assignment only.on.lines opened.moved);
       beside = opened.beside ∙ sym (goes-places v.lines w.lines only.on.lines);
       each = opened.each;
       unused = opened.unused;
@@ -272,7 +293,7 @@ started-more v w ss s n only started runs silo at = (
 )
 
 -- the loops of the silo at a place come back where they were
-pub back-at : (v : OperatorView) (ss : List SiloView) (place : ℕ) (s t : SiloView) → place < length ss → s ≡ get_or ss place s → RunsOn v ss → IsSameSilo s t → IsSiloAt v.lines v.directory t
+pub back-at : (v : OperatorView) (ss : List SiloView) (place : ℕ) (s t : SiloView) → place < length ss → s ≡ get_or ss place s → RunsOn v ss → HasRun s t → IsSiloAt v.lines v.directory t
 back-at v ss place s t within read runs same = same-at v.lines v.directory s t (subst (λ (x : SiloView). IsSiloAt v.lines v.directory x) (sym read) (All-at (IsSiloAt v.lines v.directory) ss place s runs within)) same
 
 -- the first of the silos that run comes back, and the others go on running
@@ -297,10 +318,11 @@ pub not-fixed : (v : ClusterView) → v.is_parked ≡ false → v.is_halted ≡ 
 not-fixed v parked halted = ap (λ b. b || v.is_halted) parked ∙ halted
 
 -- a cluster whose silos don't change any more
-pub cluster-halted : (v : ClusterView) (ends : LoopEnds) (o : OperatorView) (ss : List SiloView) → v.is_parked ≡ false → RunsOn o ss → IsCluster (record { operator = o; silos = ss; ends = ends; is_parked = v.is_parked; is_halted = true; rounds = v.rounds; looks = v.looks })
-cluster-halted v ends o ss free runs =
+pub cluster-halted : (v : ClusterView) (ends : LoopEnds) (o : OperatorView) (ss : List SiloView) → v.is_parked ≡ false → RunsOn o ss → AreFresh v.rounds ss → IsCluster (record { operator = o; silos = ss; ends = ends; is_parked = v.is_parked; is_halted = true; rounds = v.rounds; looks = v.looks })
+cluster-halted v ends o ss free runs fresh =
     record {
       at = runs;
+      fresh = fresh;
       loops = λ goes. let differ : true ≡ false = sym (ap (λ b. b || true) free) ∙ goes in absurd (cc (differ));
       parked = λ parked. let differ : true ≡ false = sym parked ∙ free in absurd (cc (differ));
     }
@@ -311,16 +333,18 @@ pub cluster-gone : (v : ClusterView) (ends : LoopEnds) (o : OperatorView) (ss : 
 cluster-gone v ends o ss place free goes kept left on live =
     record {
       at = subst (λ (xs : List SiloView). RunsOn o xs) (sym left) (sits-on v.operator o (remove v.silos place) on (all-remove (IsSiloAt v.operator.lines v.operator.directory) v.silos place kept.at));
+      fresh = subst (λ (xs : List SiloView). AreFresh v.rounds xs) (sym left) (all-remove (λ s. IsFresh v.rounds s.silo s) v.silos place kept.fresh);
       loops = λ fixed. ap (λ (xs : List SiloView). map (λ (x : SiloView). x.silo) xs) left ∙ map-remove v.silos place ∙ ap (λ (xs : List ℕ). remove xs place) (kept.loops (not-fixed v free goes)) ∙ sym live;
       parked = λ parked. let differ : true ≡ false = sym parked ∙ free in absurd (cc (differ));
     }
 
 -- a cluster to which a silo came
-pub cluster-came : (v : ClusterView) (ends : LoopEnds) (o : OperatorView) (ss : List SiloView) (silo : ℕ) (s : SiloView) → v.is_parked ≡ false → v.is_halted ≡ false → IsCluster v → ss ≡ v.silos ++ s ∷ [] → s.silo ≡ silo → RunsOn o ss → o.live ≡ v.operator.live ++ silo ∷ []
+pub cluster-came : (v : ClusterView) (ends : LoopEnds) (o : OperatorView) (ss : List SiloView) (silo : ℕ) (s : SiloView) → v.is_parked ≡ false → v.is_halted ≡ false → IsCluster v → ss ≡ v.silos ++ s ∷ [] → s.silo ≡ silo → RunsOn o ss → AreFresh v.rounds ss → o.live ≡ v.operator.live ++ silo ∷ []
     → IsCluster (record { operator = o; silos = ss; ends = ends; is_parked = v.is_parked; is_halted = v.is_halted; rounds = v.rounds; looks = v.looks })
-cluster-came v ends o ss silo s free goes kept more named runs live =
+cluster-came v ends o ss silo s free goes kept more named runs fresh live =
     record {
       at = runs;
+      fresh = fresh;
       loops = λ fixed. ap (λ (xs : List SiloView). map (λ (x : SiloView). x.silo) xs) more ∙ map-append (λ (x : SiloView). x.silo) v.silos (s ∷ []) ∙ ap (λ (xs : List ℕ). xs ++ s.silo ∷ []) (kept.loops (not-fixed v free goes))
           ∙ ap (λ k. v.operator.live ++ k ∷ []) named ∙ sym live;
       parked = λ parked. let differ : true ≡ false = sym parked ∙ free in absurd (cc (differ));
@@ -352,6 +376,7 @@ opened-whole config first lines d v e w caller same many at beside unused placed
       directory = directory-goes config e.directory w.directory on.directory
           (subst (λ (x : DirectoryPass). IsAtDirectory config x) (sym (ap (λ (o : OperatorView). o.directory) enlisted ∙ ap (λ (o : OperatorView). o.directory) made)) placed);
       balanced = subst (λ (xs : List ℕ). IsBalanced xs w.live w.assignment) all spread.balanced;
+      moved = moved-first e.lines w.lines config.queues w.assignment on.lines (subst (λ (xs : List ℕ). HaveMoved e.lines w.lines xs w.assignment) all spread.moved);
       beside = beside ∙ ap (λ (ls : List LineView). places ls) (sym kept) ∙ sym (goes-places e.lines w.lines on.lines);
       each = as-many caller first beside ∙ many;
       unused = unused;
@@ -365,7 +390,7 @@ place-within ss live place silo loops stood =
     let same = ap (λ (xs : List ℕ). length xs) loops in
     omega (arith, within, long, same)
 
-pub down-done : (v w : ClusterView) (place silo gone : ℕ) → is_fixed v ≡ false → MayGo v silo → slice_get v.operator.live place ≡ Some silo → gone ≡ silo → OperatorGoesOn v.operator w.operator → HasLeft gone place v.operator w.operator → (w.is_parked ≡ v.is_parked) × (w.rounds ≡ v.rounds) × (w.looks ≡ v.looks) → w.is_halted ≡ false → HasNoted v w
+pub down-done : (v w : ClusterView) (place silo gone : ℕ) → is_fixed v ≡ false → MayGo v silo → slice_get v.operator.live place ≡ Some silo → gone ≡ silo → OperatorGoesOn v.operator w.operator → HasLeft gone place v.operator w.operator → (w.is_parked ≡ v.is_parked) × (w.rounds ≡ v.rounds) × (w.looks ≡ v.looks) → w.is_halted ≡ false → HasNoted v silo w
     → AnswersDown v silo (Ok down.Down) w
 down-done v w place silo gone fixed may stood named on left same goes noted =
     (fixed, may, record { on = on; place = place; stood = stood; left = subst (λ k. HasLeft k place v.operator w.operator) named left; same = same; goes_on = goes }, noted)
@@ -376,30 +401,57 @@ up-done v w silo s fixed absent on live more fresh spread ends same goes =
     (fixed, absent, record { on = on; live = live; started = (s, more, fresh); spread = spread; ends = ends; same = same; goes_on = goes })
 
 -- a silo that ran came back, and how its loops have ended was noted
-pub has-noted : (v w : ClusterView) (place : ℕ) (s back : SiloView) → place < length v.silos → s ≡ get_or v.silos place s → IsSameSilo s back → w.ends ≡ noted v.ends back → HasNoted v w
-has-noted v w place s back within read same ends = (place, s, slice_get-get_or v.silos place s within ∙ ap (λ (x : SiloView). Some x) (sym read), (back, same, ends))
+pub has-noted : (v w : ClusterView) (place silo : ℕ) (s back : SiloView) → AreFresh v.rounds v.silos → place < length v.silos → s ≡ get_or v.silos place s → back.silo ≡ silo → HasRun s back → HaveComeBack w.operator.lines w.operator.directory back → w.ends ≡ noted v.ends back → HasNoted v silo w
+has-noted v w place silo s back fresh within read named ran came ends =
+    let IsNew : SiloView → Type 0 = λ s. IsFresh v.rounds s.silo s in
+    let new : IsFresh v.rounds s.silo s = subst IsNew (sym read) (All-at IsNew v.silos place s fresh within) in (
+      place,
+      s,
+      slice_get-get_or v.silos place s within ∙ ap (λ (x : SiloView). Some x) (sym read),
+      subst (λ k. IsFresh v.rounds k s) (sym ran.silo ∙ named) new,
+      (back, ran, came, ends),
+    )
 
 -- one silo more whose loops came back
-pub ends-push : (ends mid : LoopEnds) (ss : List SiloView) (s back : SiloView) → EndsBy ends ss mid → IsSameSilo s back → EndsBy ends (ss ++ s ∷ []) (noted mid back)
-ends-push ends mid [] s back by same = (back, same, ap (λ (e : LoopEnds). noted e back) by)
-ends-push ends mid (x ∷ ss) s back by same = (by.0, by.1, ends-push (noted ends by.0) mid ss s back by.2 same)
+pub ends-push : (v : OperatorView) (ends mid : LoopEnds) (ss : List SiloView) (s back : SiloView) → EndsBy v.lines v.directory ends ss mid → HasRun s back → HaveComeBack v.lines v.directory back → EndsBy v.lines v.directory ends (ss ++ s ∷ []) (noted mid back)
+ends-push v ends mid [] s back by ran came = (back, ran, came, ap (λ (e : LoopEnds). noted e back) by)
+ends-push v ends mid (x ∷ ss) s back by ran came = (by.0, by.1, by.2, ends-push v (noted ends by.0) mid ss s back by.3 ran came)
+
+-- what came back stays so
+pub taken-op : (v w : OperatorView) (s : SiloView) → OperatorGoesOn v w → AreTakenIn v.lines v.directory s → AreTakenIn w.lines w.directory s
+taken-op v w s on taken = taken-silo v.lines w.lines v.directory w.directory s on.lines on.directory taken
+
+back-op : (v w : OperatorView) (s : SiloView) → OperatorGoesOn v w → HaveComeBack v.lines v.directory s → HaveComeBack w.lines w.directory s
+back-op v w s on came = record { taken = taken-op v w s on came.taken; causes = came.causes }
+
+pub all-back : (v w : OperatorView) (ss : List SiloView) → OperatorGoesOn v w → AllByRecursion (HaveComeBack v.lines v.directory) ss → AllByRecursion (HaveComeBack w.lines w.directory) ss
+all-back v w [] on all = tt
+all-back v w (s ∷ ss) on all = (back-op v w s on all.0, all-back v w ss on all.1)
+
+pub ends-on : (v w : OperatorView) (ends new : LoopEnds) (ss : List SiloView) → OperatorGoesOn v w → EndsBy v.lines v.directory ends ss new → EndsBy w.lines w.directory ends ss new
+ends-on v w ends new [] on by = by
+ends-on v w ends new (s ∷ ss) on by = (by.0, by.1, back-op v w by.0 on by.2, ends-on v w (noted ends by.0) new ss on by.3)
 
 -- callers of lines are at them while those go on
 pub callers-on : (ls ms : List LineView) (callers : List (List QueuePass)) → GoOn ls ms → AllByRecursion (AreAt (places ls)) callers → AllByRecursion (AreAt (places ms)) callers
 callers-on ls ms callers on at = subst (λ ts. AllByRecursion (AreAt ts) callers) (sym (goes-places ls ms on)) at
 
 -- what is said of each end of a cluster, taken together
-pub finished-whole : {H : Type 0} (entries : H → List (Entry Op Reply)) (c : ClusterView) (Ended : LoopEnds → Type 0) (callers : List (List QueuePass)) (lines : List LineView) (ends : LoopEnds) (result : Result (Finished H) AllocError) → GoOn c.operator.lines lines → Ended ends
+pub finished-whole : {H : Type 0} (entries : H → List (Entry Op Reply)) (c : ClusterView) (Ended : List LineView → DirectoryPass → LoopEnds → Type 0) (callers : List (List QueuePass)) (lines : List LineView) (d : DirectoryPass) (ends : LoopEnds) (result : Result (Finished H) AllocError) → GoOn c.operator.lines lines → GoesOn c.operator.directory d → Ended lines d ends
     → IfOk result (IsFinished entries ends (gathered (passes_of lines) callers)) → IfOk result (OnHistories entries (HaveBegun (passes_of lines) callers)) → IfOk result (OnHistories entries (CallersAloneProduce callers)) → IfOk result (HasEnded entries c Ended callers)
-finished-whole entries c Ended callers lines ends (Ok answer) on ended finished begun producers = record { lines = lines; on = on; ends = ends; ended = ended; finished = finished; begun = begun; producers = producers }
-finished-whole entries c Ended callers lines ends (Err e) on ended finished begun producers = tt
+finished-whole entries c Ended callers lines d ends (Ok answer) on asks ended finished begun producers = record { lines = lines; on = on; directory = d; asks = asks; ends = ends; ended = ended; finished = finished; begun = begun; producers = producers }
+finished-whole entries c Ended callers lines d ends (Err e) on asks ended finished begun producers = tt
+
+-- one silo more whose loops have done nothing
+pub fresh-push : (rounds silo : ℕ) (ss : List SiloView) (s : SiloView) → AreFresh rounds ss → IsFresh rounds silo s → AreFresh rounds (ss ++ s ∷ [])
+fresh-push rounds silo ss s fresh new = All-push (λ (x : SiloView). IsFresh rounds x.silo x) ss s fresh (subst (λ k. IsFresh rounds k s) (sym new.0) new)
 
 -- one silo more whose loops were made, and have done nothing
 pub made-more : (rounds : ℕ) (v w : OperatorView) (ss : List SiloView) (s : SiloView) (n : ℕ) → HasOnlyGoneOn v w → AreStarted n ss → AreFresh rounds ss → RunsOn v ss → IsFresh rounds n s → IsSiloAt w.lines w.directory s
     → AreStarted (n + 1) (ss ++ s ∷ []) × AreFresh rounds (ss ++ s ∷ []) × RunsOn w (ss ++ s ∷ [])
 made-more rounds v w ss s n only started fresh runs new at =
     let more = started-more v w ss s n only started runs new.0 at in
-    (more.0, All-push (λ (x : SiloView). IsFresh rounds x.silo x) ss s fresh (subst (λ k. IsFresh rounds k s) (sym new.0) new), more.1)
+    (more.0, fresh-push rounds n ss s fresh new, more.1)
 
 -- one silo more of which it was noted how its loops have ended
 pub noted-push : (ends : LoopEnds) (ss : List SiloView) (s : SiloView) → all_noted ends (ss ++ s ∷ []) ≡ noted (all_noted ends ss) s
@@ -411,6 +463,7 @@ pub parked-stays : (v : ClusterView) (ends : LoopEnds) (o : OperatorView) (halte
 parked-stays v ends o halted parked kept =
     record {
       at = subst (λ (ss : List SiloView). RunsOn o ss) (sym (kept.parked parked)) tt;
+      fresh = kept.fresh;
       loops = λ fixed. let differ : true ≡ false = sym (ap (λ b. b || halted) parked) ∙ fixed in absurd (cc (differ));
       parked = λ same. kept.parked parked;
     }
@@ -427,7 +480,7 @@ pub last-stays : (v : ClusterView) (loops : SiloView) (many : ℕ) → v.is_halt
 last-stays v loops many free lives count one = only-one v.operator.live loops.silo (lives free) (sym count ∙ one)
 
 pub retire-done : (v w : ClusterView) (loops : SiloView) (place silo gone : ℕ) → v.is_halted ≡ false → (length v.operator.live ≡ 1 → ⊥) → slice_get v.operator.live place ≡ Some silo → silo ≡ loops.silo → gone ≡ loops.silo → OperatorGoesOn v.operator w.operator
-    → HasLeft gone place v.operator w.operator → (w.is_parked ≡ v.is_parked) × (w.rounds ≡ v.rounds) × (w.looks ≡ v.looks) → w.is_halted ≡ false → w.ends ≡ noted v.ends loops → IsRetired v loops w
+    → HasLeft gone place v.operator w.operator → (w.is_parked ≡ v.is_parked) × (w.rounds ≡ v.rounds) × (w.looks ≡ v.looks) → w.is_halted ≡ false → AreNoted v loops w → IsRetired v loops w
 retire-done v w loops place silo gone free other stood silo_is named on left same goes ends =
     let here = subst (λ k. slice_get v.operator.live place ≡ Some k) silo_is stood in (
       free,

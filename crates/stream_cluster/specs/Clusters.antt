@@ -1,5 +1,5 @@
 -- What contracts see of a cluster, and what its calls say.
-use Rattle.std.specs.Prelude.{◌≡◌, ◌⊎◌, ℕ, ◌-◌, ◌^◌, ◌≤◌, ◌<◌, Bool, true, false, ◌||◌, List, [], ◌∷◌, ◌++◌, length, map, remove, replicate, slice_get, Contains, Some, Result, Ok, Err, IsErr}
+use Rattle.std.specs.Prelude.{◌≡◌, ◌≢◌, ◌⊎◌, ℕ, ◌-◌, ◌^◌, ◌≤◌, ◌<◌, Bool, true, false, ◌||◌, List, [], ◌∷◌, ◌++◌, length, map, remove, replicate, slice_get, slice_index, Contains, Some, Result, Ok, Err, IsErr}
 use Rattle.std.specs.List.{AllByRecursion, range_with_len}
 use Rattle.std.specs.declared.alloc.AllocError.{AllocError}
 use Rattle.stream_model.specs.Bounds.{AreLimits}
@@ -16,7 +16,7 @@ use Rattle.turnstile.specs.declared.view.Start.{Start}
 use Rattle.queue_balancer.specs.Balance.{IsBalanced}
 use Rattle.silo_loops.specs.Lines.{DirectoryPass, LineView, QueuePass, places}
 use Rattle.cluster_callers.specs.Calls.{IsUnused, turnstiles}
-use Rattle.silo_crew.specs.Silos.{GoOn, IsFresh, IsSameSilo, IsSiloAt, SiloView}
+use Rattle.silo_crew.specs.Silos.{AreTakenIn, GoOn, GoesOn, HasRun, HaveCauses, IsFresh, IsSiloAt, SiloView}
 use Rattle.cluster_ending.specs.declared.ends.LoopEnds.{LoopEnds}
 use Rattle.cluster_ending.specs.declared.finishing.Finished.{Finished}
 use Rattle.cluster_ending.specs.Ends.{ends_with}
@@ -24,7 +24,7 @@ use Rattle.cluster_ending.specs.Finishing.{CallersAloneProduce, HaveBegun, IsFin
 use Rattle.cluster_ending.specs.Gathering.{gathered, passes_of}
 use Rattle.cluster_operator.specs.declared.halt.Halt.{Halt}
 use Rattle.cluster_operator.specs.declared.halt.Halt.TheVariants as halt
-use Rattle.cluster_operator.specs.Changes.{AreDeactivated, HasFound, HasMade, HasSince, IsNoneLeft, IsSpentMove}
+use Rattle.cluster_operator.specs.Changes.{AreDeactivated, HasFound, HasMade, HasSince, IsMove, IsNoneLeft, IsSpentMove}
 use Rattle.cluster_operator.specs.Operators.{HasSpread, OperatorGoesOn, OperatorView}
 use Rattle.stream_cluster.specs.declared.config.Config.{Config}
 use Rattle.stream_cluster.specs.declared.cluster.Retired.{Retired}
@@ -111,6 +111,7 @@ AreFresh rounds silos = AllByRecursion (λ (s : SiloView). IsFresh rounds s.silo
 -- what every cluster keeps
 pub record IsCluster (c : ClusterView) : Type 0 where
   pub at : RunsOn c.operator c.silos
+  pub fresh : AreFresh c.rounds c.silos
   pub loops : is_fixed c ≡ false → RunLoops c
   pub parked : c.is_parked ≡ true → c.silos ≡ []
 
@@ -127,10 +128,16 @@ all_noted ends (s ∷ ss) = all_noted (noted ends s) ss
 abbrev pub none_ended : LoopEnds
 none_ended = record { memory = false; limit = false; rounds = false }
 
--- the loops of these silos came back, as those of the same silos, and it was noted how they have ended
-abbrev pub EndsBy : LoopEnds → List SiloView → LoopEnds → Type 0
-EndsBy ends [] new = new ≡ ends
-EndsBy ends (s ∷ ss) new = (back : SiloView) × IsSameSilo s back × EndsBy (noted ends back) ss new
+-- The loops of the silo came back so: their passes were taken in by those of these lines and by this one at the
+-- directory, and each that has ended has a cause.
+pub record HaveComeBack (lines : List LineView) (d : DirectoryPass) (s : SiloView) : Type 0 where
+  pub taken : AreTakenIn lines d s
+  pub causes : HaveCauses s
+
+-- the loops of these silos have run and came back, and it was noted how they have ended
+abbrev pub EndsBy : List LineView → DirectoryPass → LoopEnds → List SiloView → LoopEnds → Type 0
+EndsBy lines d ends [] new = new ≡ ends
+EndsBy lines d ends (s ∷ ss) new = (back : SiloView) × HasRun s back × HaveComeBack lines d back × EndsBy lines d (noted ends back) ss new
 
 -- Calls were refused on the way: what was answered stands, each queue still counts for the silo that it had, and no silo
 -- comes or goes any more.
@@ -204,26 +211,30 @@ pub record IsDown (v : ClusterView) (silo : ℕ) (w : ClusterView) : Type 0 wher
 abbrev pub MayGo : ClusterView → ℕ → Type 0
 MayGo v silo = Contains v.operator.live silo × (1 < length v.operator.live)
 
--- the loops of a silo that ran came back, and it was noted how they have ended
-abbrev pub HasNoted : ClusterView → ClusterView → Type 0
-HasNoted v w = (place : ℕ) × (s : SiloView) × (slice_get v.silos place ≡ Some s) × EndsBy v.ends (s ∷ []) w.ends
+-- the loops of the silo, which had done nothing where they were started, came back, and it was noted how they have ended
+abbrev pub HasNoted : ClusterView → ℕ → ClusterView → Type 0
+HasNoted v silo w = (place : ℕ) × (s : SiloView) × (slice_get v.silos place ≡ Some s) × IsFresh v.rounds silo s × EndsBy w.operator.lines w.operator.directory v.ends (s ∷ []) w.ends
 
 -- what `silo_down` answers, by the silos that live
 abbrev pub AnswersDown : ClusterView → ℕ → Result SiloDown AllocError → ClusterView → Type 0
 AnswersDown v silo (Ok down.Halted) w = (is_fixed v ≡ true) × (w ≡ v)
 AnswersDown v silo (Ok down.NotLive) w = (is_fixed v ≡ false) × (¬ Contains v.operator.live silo) × (w ≡ v)
 AnswersDown v silo (Ok down.LastSilo) w = (is_fixed v ≡ false) × (v.operator.live ≡ silo ∷ []) × (w ≡ v)
-AnswersDown v silo (Ok down.Down) w = (is_fixed v ≡ false) × MayGo v silo × IsDown v silo w × HasNoted v w
-AnswersDown v silo (Ok down.Limit) w = (is_fixed v ≡ false) × MayGo v silo × HasHalted v w × HasNoted v w × HasMetLimit v.operator w.operator
-AnswersDown v silo (Err e) w = (is_fixed v ≡ false) × MayGo v silo × HasHalted v w × HasNoted v w
+AnswersDown v silo (Ok down.Down) w = (is_fixed v ≡ false) × MayGo v silo × IsDown v silo w × HasNoted v silo w
+AnswersDown v silo (Ok down.Limit) w = (is_fixed v ≡ false) × MayGo v silo × HasHalted v w × HasNoted v silo w × HasMetLimit v.operator w.operator
+AnswersDown v silo (Err e) w = (is_fixed v ≡ false) × MayGo v silo × HasHalted v w × HasNoted v silo w
 
--- the silo of these loops went, and it was noted how they have ended
+-- these loops came back, and it was noted how they have ended
+abbrev pub AreNoted : ClusterView → SiloView → ClusterView → Type 0
+AreNoted v loops w = (w.ends ≡ noted v.ends loops) × HaveComeBack w.operator.lines w.operator.directory loops
+
+-- the silo of these loops went
 abbrev pub IsRetired : ClusterView → SiloView → ClusterView → Type 0
-IsRetired v loops w = (v.is_halted ≡ false) × MayGo v loops.silo × IsDown v loops.silo w × (w.ends ≡ noted v.ends loops)
+IsRetired v loops w = (v.is_halted ≡ false) × MayGo v loops.silo × IsDown v loops.silo w × AreNoted v loops w
 
--- these loops came back and it was noted how they have ended, but their silo didn't go in full
+-- these loops came back, but their silo didn't go in full
 abbrev pub IsBrokenOff : ClusterView → SiloView → ClusterView → Type 0
-IsBrokenOff v loops w = (v.is_halted ≡ false) × MayGo v loops.silo × HasHalted v w × (w.ends ≡ noted v.ends loops)
+IsBrokenOff v loops w = (v.is_halted ≡ false) × MayGo v loops.silo × HasHalted v w × AreNoted v loops w
 
 -- what `retire` answers for these loops, by the silos that live
 abbrev pub AnswersRetire : {G H D : Type 0} → ClusterView → SiloView → Result (Retired G H D) AllocError → ClusterView → Type 0
@@ -237,6 +248,11 @@ AnswersRetire v loops (Err e) w = IsBrokenOff v loops w
 abbrev pub AreAtQueues : Config → List LineView → Type 0
 AreAtQueues config lines = AllByRecursion (λ (l : LineView). IsAtQueue config l.pass) lines
 
+-- each queue that is on another silo than the first was moved there
+abbrev pub WereMoved : List LineView → List ℕ → Type 0
+WereMoved lines assignment =
+    (queue : ℕ) (l : LineView) → slice_get lines queue ≡ Some l → slice_index assignment queue ≢ 0 → HasMade 0 l.pass (IsMove (slice_index assignment queue))
+
 -- The operator of a new cluster and its caller: the first silos are to live, all queues are spread from silo 0 over them,
 -- the directory has no grain, and the caller has a pass at each queue and has made no call.
 pub record IsOpened (config : Config) (o : OperatorView) (caller : List QueuePass) : Type 0 where
@@ -245,6 +261,7 @@ pub record IsOpened (config : Config) (o : OperatorView) (caller : List QueuePas
   pub at : AreAtQueues config o.lines
   pub directory : IsAtDirectory config o.directory
   pub balanced : IsBalanced (replicate config.queues 0) o.live o.assignment
+  pub moved : WereMoved o.lines o.assignment
   pub beside : turnstiles caller ≡ places o.lines
   pub each : length caller ≡ config.queues
   pub unused : AllByRecursion IsUnused caller
@@ -274,11 +291,13 @@ pub record IsNewParked (config : Config) (c : ClusterView) (caller : List QueueP
 
 -- How a cluster has ended: its loops came back, of which Ended says how they have ended, and its own passes, as they
 -- were then, were gathered with the callers'.
-pub record HasEnded {H : Type 0} (entries : H → List (Entry Op Reply)) (c : ClusterView) (Ended : LoopEnds → Type 0) (callers : List (List QueuePass)) (answer : Finished H) : Type 0 where
+pub record HasEnded {H : Type 0} (entries : H → List (Entry Op Reply)) (c : ClusterView) (Ended : List LineView → DirectoryPass → LoopEnds → Type 0) (callers : List (List QueuePass)) (answer : Finished H) : Type 0 where
   pub lines : List LineView
   pub on : GoOn c.operator.lines lines
+  pub directory : DirectoryPass
+  pub asks : GoesOn c.operator.directory directory
   pub ends : LoopEnds
-  pub ended : Ended ends
+  pub ended : Ended lines directory ends
   pub finished : IsFinished entries ends (gathered (passes_of lines) callers) answer
   pub begun : OnHistories entries (HaveBegun (passes_of lines) callers) answer
   pub producers : OnHistories entries (CallersAloneProduce callers) answer
@@ -286,8 +305,8 @@ pub record HasEnded {H : Type 0} (entries : H → List (Entry Op Reply)) (c : Cl
 module _ {H : Type 0} (entries : H → List (Entry Op Reply)) where
   -- a cluster has ended whose silos were threads
   abbrev pub HasFinished : ClusterView → List (List QueuePass) → Finished H → Type 0
-  HasFinished c callers answer = HasEnded entries c (EndsBy c.ends c.silos) callers answer
+  HasFinished c callers answer = HasEnded entries c (λ lines d ends. AreFresh c.rounds c.silos × EndsBy lines d c.ends c.silos ends) callers answer
 
   -- a parked cluster has ended, to which these loops came back
   abbrev pub HasFinishedParked : ClusterView → List SiloView → List (List QueuePass) → Finished H → Type 0
-  HasFinishedParked c loops callers answer = HasEnded entries c (λ ends. ends ≡ all_noted c.ends loops) callers answer
+  HasFinishedParked c loops callers answer = HasEnded entries c (λ lines d ends. (ends ≡ all_noted c.ends loops) × AllByRecursion (HaveComeBack lines d) loops) callers answer

@@ -1,9 +1,9 @@
 //! Silos that come and go.
 ghost use Rattle.std.specs.Prelude.{◌≡◌, ◌<◌, [], ◌∷◌, ◌++◌, length, map, Contains, Some, slice_get, IfErr, IfOk, OnErr, OnOk};
 ghost use Rattle.std.specs.List.{AllByRecursion, range_with_len};
-ghost use Rattle.silo_crew.specs.Silos.{IsFresh, IsSiloAt, SiloView};
+ghost use Rattle.silo_crew.specs.Silos.{AreTakenIn, HaveCauses, IsFresh, IsSiloAt, SiloView};
 ghost use Rattle.cluster_operator.specs.Operators.{HasOnlyGoneOn, HasSpread, OperatorGoesOn};
-ghost use Rattle.stream_cluster.specs.Clusters.{AreFresh, AreStarted, EndsBy, HasLeft, HasMetLimit, RunsOn, all_noted, noted};
+ghost use Rattle.stream_cluster.specs.Clusters.{AreFresh, AreStarted, EndsBy, HasLeft, HasMetLimit, HaveComeBack, RunsOn, all_noted, noted};
 
 use activation_directory::{DirectoryOp, DirectoryReply};
 use cluster_ending::LoopEnds;
@@ -13,13 +13,14 @@ use silo_crew::{RunningSilo, SiloLoops};
 use std::alloc::{AllocError, Global};
 use std::sync::Wait;
 use std::thread::Threads;
-use stream_model::{Op, Reply};
+use step_core::Answer;
+use stream_model::Op;
 use turnstile::StoredHistory;
 
 // Starts the loops of a silo. Where they can't be started, their passes are joined back.
 pub(crate) fn start_silo<
     G: Gate + 'static,
-    H: StoredHistory<Op, Reply> + Send + 'static,
+    H: StoredHistory<Op, Answer> + Send + 'static,
     D: StoredHistory<DirectoryOp, DirectoryReply> + Send + 'static,
     R: Threads + Wait + Copy + Send + 'static,
 >(
@@ -45,7 +46,7 @@ pub(crate) fn start_silo<
 // Brings a silo up: its loops are started, and the queues are spread anew.
 pub(crate) fn bring_up<
     G: Gate + 'static,
-    H: StoredHistory<Op, Reply> + Send + 'static,
+    H: StoredHistory<Op, Answer> + Send + 'static,
     D: StoredHistory<DirectoryOp, DirectoryReply> + Send + 'static,
     R: Threads + Wait + Copy + Send + 'static,
 >(
@@ -58,7 +59,9 @@ pub(crate) fn bring_up<
 ) -> Result<(), Halt>
     requires absent { ¬ Contains operator.old.live silo }
     requires at { RunsOn operator.old silos.old.items }
+    requires fresh { AreFresh rounds silos.old.items }
     ensures at { RunsOn operator.new silos.new.items }
+    ensures fresh { AreFresh rounds silos.new.items }
     ensures on { OperatorGoesOn operator.old operator.new }
     ensures live { OnOk result (operator.new.live ≡ operator.old.live ++ silo ∷ []) }
     ensures started { OnOk result ((s : SiloView) × (silos.new.items ≡ silos.old.items ++ s ∷ []) × IsFresh rounds silo s) }
@@ -76,7 +79,7 @@ pub(crate) fn bring_up<
 // spread over the silos that are left.
 pub(crate) fn leave<
     G: Gate,
-    H: StoredHistory<Op, Reply>,
+    H: StoredHistory<Op, Answer>,
     D: StoredHistory<DirectoryOp, DirectoryReply>,
     R: Wait,
 >(
@@ -90,6 +93,7 @@ pub(crate) fn leave<
     requires others { 1 < length operator.old.live }
     requires at { IsSiloAt operator.old.lines operator.old.directory loops }
     ensures on { OperatorGoesOn operator.old operator.new }
+    ensures taken { AreTakenIn operator.new.lines operator.new.directory loops }
     ensures left { OnOk result (HasLeft loops.silo place operator.old operator.new) }
     ensures kept { OnErr result (operator.new.assignment ≡ operator.old.assignment) }
     ensures limit { IfErr result (λ why. why ≡ Halt.Limit → HasMetLimit operator.old operator.new) }
@@ -105,7 +109,7 @@ pub(crate) fn leave<
 // joined back.
 pub(crate) fn start_all<
     G: Gate + 'static,
-    H: StoredHistory<Op, Reply> + Send + 'static,
+    H: StoredHistory<Op, Answer> + Send + 'static,
     D: StoredHistory<DirectoryOp, DirectoryReply> + Send + 'static,
     R: Threads + Wait + Copy + Send + 'static,
 >(
@@ -134,10 +138,11 @@ pub(crate) fn start_all<
 // Notes how the loops of a silo have ended.
 pub(crate) fn note_ends<
     G: Gate,
-    H: StoredHistory<Op, Reply>,
+    H: StoredHistory<Op, Answer>,
     D: StoredHistory<DirectoryOp, DirectoryReply>,
 >(ends: LoopEnds, loops: &SiloLoops<G, H, D>) -> LoopEnds
-    ensures { result ≡ noted ends loops.now }
+    ensures noted { result ≡ noted ends loops.now }
+    ensures causes { HaveCauses loops.now }
 {
     let mut ends = ends;
     ends.note(loops.agent.over());
@@ -149,7 +154,7 @@ pub(crate) fn note_ends<
 // Stops the loops of silos, joins their passes back, and notes how they have ended.
 pub(crate) fn stop_all<
     G: Gate,
-    H: StoredHistory<Op, Reply>,
+    H: StoredHistory<Op, Answer>,
     D: StoredHistory<DirectoryOp, DirectoryReply>,
     R: Threads + Wait,
 >(
@@ -160,7 +165,7 @@ pub(crate) fn stop_all<
 ) -> LoopEnds
     requires { RunsOn operator.old silos.items }
     ensures only { HasOnlyGoneOn operator.old operator.new }
-    ensures ends { EndsBy ends silos.items result }
+    ensures ends { EndsBy operator.new.lines operator.new.directory ends silos.items result }
 {
     let mut ends = ends;
     for silo in silos {
@@ -174,7 +179,7 @@ pub(crate) fn stop_all<
 // Makes the loops of the silos that live. Where those of one can't be made, all passes are joined back.
 pub(crate) fn make_all<
     G: Gate,
-    H: StoredHistory<Op, Reply>,
+    H: StoredHistory<Op, Answer>,
     D: StoredHistory<DirectoryOp, DirectoryReply>,
 >(
     alloc: Global,
@@ -201,12 +206,13 @@ pub(crate) fn make_all<
 // Joins the passes of loops back, and notes how the loops have ended.
 pub(crate) fn take_all_back<
     G: Gate,
-    H: StoredHistory<Op, Reply>,
+    H: StoredHistory<Op, Answer>,
     D: StoredHistory<DirectoryOp, DirectoryReply>,
 >(operator: &mut Operator<G, H, D>, silos: Vec<SiloLoops<G, H, D>>, ends: LoopEnds) -> LoopEnds
     requires { RunsOn operator.old silos.items }
     ensures only { HasOnlyGoneOn operator.old operator.new }
     ensures ends { result ≡ all_noted ends silos.items }
+    ensures back { AllByRecursion (HaveComeBack operator.new.lines operator.new.directory) silos.items }
 {
     let mut ends = ends;
     for loops in silos {

@@ -19,7 +19,8 @@ use std::alloc::{AllocError, Global};
 use std::marker::Model;
 use std::sync::{Arc, Wait};
 use std::thread::Threads;
-use stream_model::{Op, Reply};
+use step_core::Answer;
+use stream_model::Op;
 use turnstile::StoredHistory;
 
 /// What became of a silo that was to come.
@@ -57,7 +58,7 @@ pub enum SiloDown {
 #[derive(Drop)]
 pub enum Retired<
     G: Gate,
-    H: StoredHistory<Op, Reply>,
+    H: StoredHistory<Op, Answer>,
     D: StoredHistory<DirectoryOp, DirectoryReply>,
 > {
     /// It lives no more: its grains are deactivated, and the queues are spread over the silos that live.
@@ -96,7 +97,7 @@ fn down_by(halt: Halt) -> Result<SiloDown, AllocError>
     }
 }
 
-fn retired_by<G: Gate, H: StoredHistory<Op, Reply>, D: StoredHistory<DirectoryOp, DirectoryReply>>(
+fn retired_by<G: Gate, H: StoredHistory<Op, Answer>, D: StoredHistory<DirectoryOp, DirectoryReply>>(
     halt: Halt,
 ) -> Result<Retired<G, H, D>, AllocError>
     ensures { IsRetiredBy halt result }
@@ -120,7 +121,7 @@ fn retired_by<G: Gate, H: StoredHistory<Op, Reply>, D: StoredHistory<DirectoryOp
 /// rounds each loop may begin, and how often a drain looks at the queues.
 pub struct Cluster<
     G: Gate,
-    H: StoredHistory<Op, Reply>,
+    H: StoredHistory<Op, Answer>,
     D: StoredHistory<DirectoryOp, DirectoryReply>,
 > {
     operator: Operator<G, H, D>,
@@ -139,7 +140,7 @@ pub struct Cluster<
 
 impl<
     G: Gate + Drop,
-    H: StoredHistory<Op, Reply> + Drop,
+    H: StoredHistory<Op, Answer> + Drop,
     D: StoredHistory<DirectoryOp, DirectoryReply> + Drop,
 > Drop for Cluster<G, H, D> {
     fn drop(self) {
@@ -155,7 +156,7 @@ impl<
     }
 }
 
-impl<G: Gate, H: StoredHistory<Op, Reply>, D: StoredHistory<DirectoryOp, DirectoryReply>> Model
+impl<G: Gate, H: StoredHistory<Op, Answer>, D: StoredHistory<DirectoryOp, DirectoryReply>> Model
     for Cluster<G, H, D> {
     ghost use Rattle.stream_cluster.specs.Clusters.{ClusterView, IsCluster};
 
@@ -168,7 +169,7 @@ impl<G: Gate, H: StoredHistory<Op, Reply>, D: StoredHistory<DirectoryOp, Directo
 
 impl<
     G: Gate + 'static,
-    H: StoredHistory<Op, Reply> + Send + 'static,
+    H: StoredHistory<Op, Answer> + Send + 'static,
     D: StoredHistory<DirectoryOp, DirectoryReply> + Send + 'static,
 > Cluster<G, H, D> {
     /// A cluster and its first caller. The silos are numbered from 0 on, and their loops run; the queues are spread
@@ -238,7 +239,7 @@ impl<
     }
 }
 
-impl<G: Gate, H: StoredHistory<Op, Reply>, D: StoredHistory<DirectoryOp, DirectoryReply>> Cluster<
+impl<G: Gate, H: StoredHistory<Op, Answer>, D: StoredHistory<DirectoryOp, DirectoryReply>> Cluster<
     G,
     H,
     D,

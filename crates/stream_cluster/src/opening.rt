@@ -15,14 +15,15 @@ use silo_crew::split_lines;
 use silo_loops::{DirectoryLine, Doorbell, Line};
 use std::alloc::{AllocError, Global};
 use std::sync::{Arc, Wait};
-use stream_model::{Op, Reply};
+use step_core::Answer;
+use stream_model::Op;
 use turnstile::{PassOf, StoredHistory, Turnstile};
 
 // The most permits that a directory gives.
 const MOST_PERMITS: u64 = 4_000_000;
 
 // A turnstile over an empty partition, and the first pass of it.
-fn open_turnstile<G: Gate, H: StoredHistory<Op, Reply>>(
+fn open_turnstile<G: Gate, H: StoredHistory<Op, Answer>>(
     alloc: Global,
     gate: Arc<G, Global>,
     config: &Config,
@@ -43,7 +44,7 @@ fn open_turnstile<G: Gate, H: StoredHistory<Op, Reply>>(
 }
 
 // A line with the first pass of the partition of a queue.
-fn open_queue<G: Gate, H: StoredHistory<Op, Reply>>(
+fn open_queue<G: Gate, H: StoredHistory<Op, Answer>>(
     alloc: Global,
     gate: &Arc<G, Global>,
     config: &Config,
@@ -59,7 +60,7 @@ fn open_queue<G: Gate, H: StoredHistory<Op, Reply>>(
 }
 
 // The partition of each queue behind its turnstile.
-fn open_queues<G: Gate, H: StoredHistory<Op, Reply>>(
+fn open_queues<G: Gate, H: StoredHistory<Op, Answer>>(
     alloc: Global,
     gate: &Arc<G, Global>,
     config: &Config,
@@ -101,7 +102,7 @@ fn open_directory<D: StoredHistory<DirectoryOp, DirectoryReply>>(
 }
 
 // A caller with a pass that is split off at each queue.
-fn first_caller<G: Gate, H: StoredHistory<Op, Reply>>(
+fn first_caller<G: Gate, H: StoredHistory<Op, Answer>>(
     alloc: Global,
     doorbell: Arc<Doorbell, Global>,
     lines: &mut Vec<Line<G, H>>,
@@ -116,7 +117,7 @@ fn first_caller<G: Gate, H: StoredHistory<Op, Reply>>(
 }
 
 // A caller of each queue with the pass of its line.
-fn queue_callers<G: Gate, H: StoredHistory<Op, Reply>>(
+fn queue_callers<G: Gate, H: StoredHistory<Op, Answer>>(
     alloc: Global,
     lines: Vec<Line<G, H>>,
 ) -> Result<Vec<QueueCaller<G, H>>, AllocError>
@@ -133,7 +134,7 @@ fn queue_callers<G: Gate, H: StoredHistory<Op, Reply>>(
 // So many silos live from now on, numbered from 0 on.
 fn enlist_first<
     G: Gate,
-    H: StoredHistory<Op, Reply>,
+    H: StoredHistory<Op, Answer>,
     D: StoredHistory<DirectoryOp, DirectoryReply>,
 >(operator: &mut Operator<G, H, D>, silos: u8) -> Result<(), AllocError>
     requires { operator.old.live ≡ [] }
@@ -149,7 +150,7 @@ fn enlist_first<
 // silos: these moves are the first calls, so that no limit refuses one.
 pub(crate) fn open<
     G: Gate,
-    H: StoredHistory<Op, Reply>,
+    H: StoredHistory<Op, Answer>,
     D: StoredHistory<DirectoryOp, DirectoryReply>,
     R: Wait,
 >(

@@ -7,7 +7,7 @@ use Rattle.std.specs.declared.alloc.AllocError.{AllocError}
 use Rattle.stream_ident.proofs.WordLemmas.{All-at}
 use Rattle.queue_balancer.specs.Balance.{HasNoDoubles}
 use Rattle.silo_loops.specs.Lines.{QueuePass}
-use Rattle.silo_crew.specs.Silos.{IsSameSilo, IsSiloAt, SiloView}
+use Rattle.silo_crew.specs.Silos.{HasRun, IsSiloAt, SiloView}
 use Rattle.silo_crew.proofs.Going.{goes-places}
 use Rattle.cluster_operator.specs.Operators.{OperatorGoesOn}
 use Rattle.stream_cluster.specs.Clusters.{AnswersRetire, ClusterView, HasHalted, IsDown, RunsOn}
@@ -22,10 +22,10 @@ runs-at : (c : ClusterView) (crew : List SiloView) (at : ℕ) (s : SiloView) →
 runs-at c crew at s within is runs = subst (λ (x : SiloView). IsSiloAt c.operator.lines c.operator.directory x) (sym is) (All-at (IsSiloAt c.operator.lines c.operator.directory) crew at s runs within)
 
 -- a step of a loop of the silo at a place
-pub whole-step : (c : ClusterView) (caller : List QueuePass) (crew later : List SiloView) (at : ℕ) (s t : SiloView) → at < length crew → s ≡ get_or crew at s → IsSameSilo s t → later ≡ set crew at t → IsWhole c caller crew → IsWhole c caller later
-whole-step c caller crew later at s t within is same put whole =
-    let silos : silos_of later ≡ silos_of crew = ap (λ (xs : List SiloView). silos_of xs) put ∙ silos-set crew at s t within is same.silo in
-    let here = same-at c.operator.lines c.operator.directory s t (runs-at c crew at s within is whole.runs) same in
+pub whole-step : (c : ClusterView) (caller : List QueuePass) (crew later : List SiloView) (at : ℕ) (s t : SiloView) → at < length crew → s ≡ get_or crew at s → HasRun s t → later ≡ set crew at t → IsWhole c caller crew → IsWhole c caller later
+whole-step c caller crew later at s t within is ran put whole =
+    let silos : silos_of later ≡ silos_of crew = ap (λ (xs : List SiloView). silos_of xs) put ∙ silos-set crew at s t within is ran.silo in
+    let here = same-at c.operator.lines c.operator.directory s t (runs-at c crew at s within is whole.runs) ran in
     record {
       parked = whole.parked;
       runs = subst (λ (xs : List SiloView). RunsOn c.operator xs) (sym put) (all-set (IsSiloAt c.operator.lines c.operator.directory) crew at t whole.runs here);

@@ -1,6 +1,6 @@
 //! A parked cluster, and all that was handed out with it.
 ghost use Rattle.std.specs.Prelude.{◌≡◌};
-ghost use Rattle.silo_crew.specs.Silos.{IsSameSilo};
+ghost use Rattle.silo_crew.specs.Silos.{HasRun};
 ghost use Rattle.stream_cluster_tests.specs.Parked.{IsLeft};
 
 use crate::asking::{Produced, production};
@@ -89,7 +89,7 @@ fn step<H: StoredHistory<Op, Reply>, D: StoredHistory<DirectoryOp, DirectoryRepl
     loops: &mut Loops<H, D>,
     which: Loop,
 ) -> Advance
-    ensures { IsSameSilo loops.old loops.new }
+    ensures { HasRun loops.old loops.new }
 {
     match which {
         Loop::Agent => loops.agent.advance(rt, alloc),

@@ -14,7 +14,7 @@ use Rattle.queue_mapper.specs.Place.{place_of}
 use Rattle.turnstile.specs.declared.history.Entry.{Entry}
 use Rattle.turnstile.specs.declared.recorded.ProofHistory.{ProofHistory}
 use Rattle.turnstile.specs.declared.turnstile.Refusal.{Refusal}
-use Rattle.turnstile.specs.Recorded.{recorded}
+use Rattle.turnstile.specs.Recorded.{answered, recorded}
 use Rattle.silo_loops.specs.Lines.{QueuePass, places}
 use Rattle.cluster_callers.specs.Calls.{CallerCalls, turnstiles}
 use Rattle.cluster_ending.specs.declared.finishing.Finished.{Finished}
@@ -141,7 +141,7 @@ ChangesDown s silo result t = Goes s silo result t ⊎ HasNoSilo s silo result t
 
 -- the calls of a history that only proofs see
 abbrev pub calls_of : ProofHistory Op Reply → List (Entry Op Reply)
-calls_of h = recorded h.calls
+calls_of h = answered (recorded h.asked) (recorded h.replies)
 
 -- The cluster has ended, and its caller was the one whose passes were taken in, beside those that had joined it. Or there
 -- was no memory for its end.

@@ -28,7 +28,7 @@ pub use service::{Host, Service};
 pub use shared_partition::{Counting, Gate};
 pub use silo_crew::SiloLoops;
 pub use silo_loops::{Advance, AgentLoop, Doorbell, Over, WorkerLoop};
-pub use step_core::{NewTurn, Outcome, Partition, SubSummary, Told};
+pub use step_core::{Answer, NewTurn, Outcome, Partition, SubSummary, Told};
 pub use stream_cluster::{Cluster, Config, Retired, SiloDown, SiloUp};
 pub use stream_ident::{
     BadName, BadPayload, BadToken, Batch, Event, GrainId, Name, Payload, Row, StreamId, SubName,
@@ -41,7 +41,7 @@ pub use turnstile::{Asked, AskedHistory, Entry, ProofHistory, Refusal, Replays, 
 /// limits are those that [`Config::new`] names.
 pub type UntracedCluster<G> = Cluster<
     G,
-    ProofHistory<Op, Reply>,
+    ProofHistory<Op, Answer>,
     ProofHistory<DirectoryOp, DirectoryReply>,
 >;
 
@@ -49,12 +49,12 @@ pub type UntracedCluster<G> = Cluster<
 /// queue, whose `as_slice` gives the calls in order. Each call takes memory, so set `Config::history`.
 pub type TracedCluster<G> = Cluster<
     G,
-    AskedHistory<Op, Reply>,
+    AskedHistory<Op, Answer>,
     ProofHistory<DirectoryOp, DirectoryReply>,
 >;
 
 /// A caller of an [`UntracedCluster`].
-pub type UntracedCaller<G> = Caller<G, ProofHistory<Op, Reply>>;
+pub type UntracedCaller<G> = Caller<G, ProofHistory<Op, Answer>>;
 
 /// A caller of a [`TracedCluster`].
-pub type TracedCaller<G> = Caller<G, AskedHistory<Op, Reply>>;
+pub type TracedCaller<G> = Caller<G, AskedHistory<Op, Answer>>;

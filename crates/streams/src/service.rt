@@ -17,9 +17,10 @@ use std::marker::Model;
 use std::rt::Runtime;
 use std::sync::{Arc, Wait};
 use std::thread::Threads;
+use step_core::Answer;
 use stream_cluster::Config;
 use stream_ident::{Batch, GrainId, Name, Payload, StreamId, Token};
-use stream_model::{Op, Pending, Reply, Start};
+use stream_model::{Op, Pending, Start};
 use turnstile::Refusal;
 
 /// A runtime that allocates, starts threads and waits for them in any thread, as the one that `main` has.
@@ -251,7 +252,7 @@ impl<R: Host, G: Gate + 'static> Service<R, G> {
     }
 
     // One call at a queue.
-    fn ask(&mut self, queue: usize, op: Op) -> Result<Reply, Refusal>
+    fn ask(&mut self, queue: usize, op: Op) -> Result<Answer, Refusal>
         requires { queue < length self.old.caller }
         ensures { Calls self.old queue op result self.new }
     {

@@ -1,5 +1,5 @@
 -- Each step on the words of a turnstile keeps its rule, and tells what it says.
-use Rattle.std.proofs.Common.{◌≡◌, ℕ, ◌+◌, ◌%◌, ◌<◌, ◌≤◌, eqb, eq-eqb, ne_eqb, Bool, true, false, List, [], ◌∷◌, ◌++◌, length, get_or, set, Option, Some, None, refl, sym, ap, ◌∙◌, subst, arith}
+use Rattle.std.proofs.Common.{◌≡◌, ℕ, ◌+◌, ◌%◌, ◌<◌, ◌≤◌, eqb, eq-eqb, ne_eqb, Bool, true, false, List, [], ◌∷◌, ◌++◌, length, get_or, set, Option, Some, refl, sym, ap, ◌∙◌, subst, arith}
 use Rattle.std.proofs.lemmas.Option.{same_Some}
 use Rattle.std.proofs.Math.Nat.{mod-add-mod}
 use mathlib.Core.Logic.{dite}
@@ -15,7 +15,7 @@ use Rattle.turnstile.specs.declared.view.Held.{Held}
 use Rattle.turnstile.specs.declared.view.Start.{Start}
 use Rattle.turnstile.specs.declared.view.View.{View}
 use Rattle.turnstile.specs.History.{times, replay, IsLegal, Own, Claims}
-use Rattle.turnstile.specs.Plays.{Sat, history_of, first_of, drew, looked, noted, left, numbered, counted, told}
+use Rattle.turnstile.specs.Plays.{Sat, items_of, first_of, drew, looked, noted, left, numbered, counted, told}
 use Rattle.turnstile.specs.Turns.{opening_view, spent_view, unnumbered, joined, AtHome, Stands, Turning}
 use Rattle.turnstile.proofs.Ending.{ended}
 use Rattle.turnstile.proofs.Members as members
@@ -128,18 +128,19 @@ module _ {X H S O R : Type 0} (entries : H → List (Entry O R)) (state : X → 
     refl,
   ))
 
-  pub notes : (slots id : ℕ) (m : M) (held : Held X H) (e : Entry O R) (n : ℕ) → m.0.come ≡ true → m.0.past ≡ [] → m.1 ≡ (0, Some held) ∷ [] → entries held.history ≡ m.0.seen ++ e ∷ [] → 0 < times e.number m.0.numbers
-      → e.reply ≡ reply (replay reply after start.state m.0.seen) e.op → length m.0.seen < start.limit → n ≡ length (entries held.history)
-      → Allows Holds slots id m 3 (λ _. n) (λ _. noted entries any_step m n)
-  notes slots id m held e n turn past slot history own right room is = moves slots id m 3 (λ _. n) (λ _. noted entries any_step m n) (λ p d s log homes views rule len at.
+  pub notes : (slots id : ℕ) (m : M) (said : Slot) (e : Entry O R) (old n : ℕ) → m.0.come ≡ true → m.0.past ≡ [] → items_of entries said ≡ m.0.seen ++ e ∷ [] → 0 < times e.number m.0.numbers
+      → e.reply ≡ reply (replay reply after start.state m.0.seen) e.op → length m.0.seen < start.limit → old ≡ length m.0.seen → n ≡ length (items_of entries said)
+      → Allows Holds slots id m 3 (λ k. either (eqb k old) n k) (noted entries (step 0 0 old n (maybe.some said)) m)
+  notes slots id m said e old n turn past history own right room was is = moves slots id m 3 (λ k. either (eqb k old) n k) (noted entries (step 0 0 old n (maybe.some said)) m) (λ p d s log homes views rule len at.
       let k = rule.each id m.0 at in
-      let whole : history_of entries m.1 ≡ m.0.seen ++ e ∷ [] = ap (history_of entries) slot ∙ history in (
-        record m.0 { seen = history_of entries m.1 },
+      let mine : m.0.seen ≡ log = (k.come turn).1 in
+      let found : length log ≡ old = ap length (sym mine) ∙ sym was in (
+        record m.0 { seen = items_of entries said },
         keeps,
         tt,
-        holds_at p d s (log ++ e ∷ []) homes (set views id (record m.0 { seen = history_of entries m.1 })) _
-            (ap (λ (c : ℕ). p ∷ (d % 18446744073709551616) ∷ (s % 18446744073709551616) ∷ c ∷ []) (is ∙ ap length (history ∙ ap (λ (l : Log). l ++ e ∷ []) (k.come turn).1)))
-            (stands.note entries state reply after start p d s log homes views id m.0 e (history_of entries m.1) at turn past whole own right room rule),
+        holds_at p d s (log ++ e ∷ []) homes (set views id (record m.0 { seen = items_of entries said })) _
+            (ap (λ (c : ℕ). p ∷ (d % 18446744073709551616) ∷ (s % 18446744073709551616) ∷ c ∷ []) (ap (λ (b : Bool). either b n (length log)) (eq-eqb (length log) old found) ∙ (is ∙ ap length (history ∙ ap (λ (l : Log). l ++ e ∷ []) mine))))
+            (stands.note entries state reply after start p d s log homes views id m.0 e (items_of entries said) at turn past history own right room rule),
         refl,
       ))
 

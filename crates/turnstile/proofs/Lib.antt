@@ -1,6 +1,7 @@
 pub mod Answering
 pub mod Ending
 pub mod Gathering
+pub mod Handles
 pub mod Histories
 pub mod Joining
 pub mod Keeps

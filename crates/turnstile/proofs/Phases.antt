@@ -1,23 +1,33 @@
 -- The phases of a call, over the bare seat: what each asks of the one before, and what they come to.
-use Rattle.std.proofs.Common.{◌≡◌, ◌≢◌, ℕ, ◌+◌, ◌%◌, ◌<◌, ◌≤◌, false, List, [], ◌∷◌, ◌++◌, length, drop, Option, Some, None, refl, sym, ap, ◌∙◌, subst, arith, length-append}
+use Rattle.std.proofs.Common.{◌≡◌, ◌≢◌, ℕ, ◌+◌, ◌%◌, ◌<◌, ◌≤◌, Bool, true, false, if◌then◌else◌, List, [], ◌∷◌, ◌++◌, length, drop, Option, Some, None, Result, Ok, Err, MatchResult, refl, sym, ap, ◌∙◌, subst, arith, length-append}
+use Rattle.std.proofs.lemmas.Bool.{false≢true}
 use Rattle.std.proofs.lemmas.Option.{none-some, same_Some}
 use Rattle.std.specs.Option.{IsSome}
+use Rattle.std.specs.Result.{is_ok}
 use Rattle.atomic_table.specs.Seated.{TableId}
 use Rattle.atomic_table.specs.Table.{State, Allows, rest}
 use Rattle.turnstile.specs.declared.history.Entry.{Entry}
 use Rattle.turnstile.specs.declared.view.Held.{Held}
 use Rattle.turnstile.specs.declared.view.Start.{Start}
 use Rattle.turnstile.specs.declared.view.View.{View}
-use Rattle.turnstile.specs.declared.turnstile.Refusal.{Refusal}
-use Rattle.turnstile.specs.Calls.{IsOf, Called, Found, IsFull}
+use Rattle.turnstile.specs.Calls.{IsOf, IsTurn}
 use Rattle.turnstile.specs.Closing.{IsTrace}
-use Rattle.turnstile.specs.History.{times, replay, IsLegal, Foreign, Own, entry}
-use Rattle.turnstile.specs.Plays.{Sat, history_of, first_of, looked, Turn, noted, left, Begun, MayLeave, MayNote, Applied, Kept, gone}
-use Rattle.turnstile.specs.Passes.{Origin, PassView, opened, origin, pass_view}
+use Rattle.turnstile.specs.History.{times, replay, IsLegal, Own, entry}
+use Rattle.turnstile.specs.Plays.{Sat, items_of, state_in, first_of, looked, Turn, left, Begun, MayLeave, MayNote, Applied, Kept, gone}
+use Rattle.turnstile.specs.Passes.{Origin, PassView, TurnView, opened, origin, pass_view, turn_view}
 use Rattle.turnstile.specs.Turns.{Turning}
 use Rattle.turnstile.proofs.Histories.{legal_snoc, replay_snoc}
-use Rattle.turnstile.proofs.Keeps.{any_step, looks, serves, notes, Shows}
+use Rattle.turnstile.proofs.Keeps.{any_step, looks, serves, Shows}
 use Rattle.turnstile.proofs.Totals.{times_same}
+
+module _ {R E : Type 0} where
+  pub where_ok : (P : R → Type 0) (Q : E → Type 0) (result : Result R E) → is_ok result ≡ true → MatchResult result P Q → (r : R) × P r
+  where_ok P Q (Ok r) ok h = (r, h)
+  where_ok P Q (Err e) ok h = absurd (false≢true ok)
+
+  pub where_err : (P : R → Type 0) (Q : E → Type 0) (result : Result R E) → is_ok result ≡ false → MatchResult result P Q → (e : E) × Q e
+  where_err P Q (Ok r) bad h = absurd (false≢true (sym bad))
+  where_err P Q (Err e) bad h = (e, h)
 
 module _ {S : Type 0} where
   abbrev table_or : TableId → Option (Origin S) → TableId
@@ -33,10 +43,23 @@ module _ {S : Type 0} where
   is_of z w (Some x) y e = (ap (table_or w) e, ap start_in e)
   is_of z w None y e = absurd (none-some (opened w y) e)
 
+  -- and it has no turn
+  at_rest : (z w : TableId) (come : Bool) (x : Option (Start S)) (y : Start S) → (if come then None else origin z x) ≡ Some (opened w y) → (z ≡ w) × (x ≡ Some y) × (come ≡ false)
+  at_rest z w true x y e = absurd (none-some (opened w y) e)
+  at_rest z w false x y e = let h = is_of z w x y e in (h.0, h.1, refl)
+
+  -- the same of one that has a turn
+  at_turn : (z w : TableId) (come : Bool) (x : Option (Start S)) (y : Start S) → (if come then origin z x else None) ≡ Some (opened w y) → (z ≡ w) × (x ≡ Some y) × (come ≡ true)
+  at_turn z w false x y e = absurd (none-some (opened w y) e)
+  at_turn z w true x y e = let h = is_of z w x y e in (h.0, h.1, refl)
+
 module _ {S O R : Type 0} where
   -- the same, of what contracts see
-  pub seated : (q : PassView O R S) (t : Origin S) (z w : TableId) (v : View S O R) (k : ℕ) (x : Start S) → pass_view z v k ≡ q → opened w x ≡ t → IsOf t q → (z ≡ w) × (v.start ≡ Some x)
-  seated q t z w v k x pass turnstile of = is_of z w v.start x (ap (λ (p : PassView O R S). p.turnstile) pass ∙ (of ∙ ap (λ (s : Origin S). Some s) (sym turnstile)))
+  pub seated : (q : PassView O R S) (t : Origin S) (z w : TableId) (v : View S O R) (k : ℕ) (x : Start S) → pass_view z v k ≡ q → opened w x ≡ t → IsOf t q → (z ≡ w) × (v.start ≡ Some x) × (v.come ≡ false)
+  seated q t z w v k x pass turnstile of = at_rest z w v.come v.start x (ap (λ (p : PassView O R S). p.turnstile) pass ∙ (of ∙ ap (λ (s : Origin S). Some s) (sym turnstile)))
+
+  pub in_turn : (q : PassView O R S) (t : Origin S) (z w : TableId) (v : View S O R) (k : ℕ) (x : Start S) → pass_view z v k ≡ q → opened w x ≡ t → q.turn ≡ Some t → (z ≡ w) × (v.start ≡ Some x) × (v.come ≡ true)
+  in_turn q t z w v k x pass turnstile of = at_turn z w v.come v.start x (ap (λ (p : PassView O R S). p.turn) pass ∙ (of ∙ ap (λ (s : Origin S). Some s) (sym turnstile)))
 
   -- what holds of the fields holds of what contracts see
   pub shown : (P : Start S → PassView O R S → Type 0) (q : PassView O R S) (t : Origin S) (z w : TableId) (v : View S O R) (k : ℕ) (x : Start S) → pass_view z v k ≡ q → opened w x ≡ t → P x (pass_view z v k) → P t.start q
@@ -115,84 +138,63 @@ module _ {X H S O R : Type 0} (entries : H → List (Entry O R)) (state : X → 
   has_left m m' n held may is went =
       went ∙ (ap (λ (k : M). (record k.0 { tickets = []; come = false }, rest k.1)) is ∙ (λ i. (record m.0 { seen = sym may.history i; tickets = []; come = false }, rest (may.slot i))))
 
-  -- with an entry added, it may note it
-  pub may_note : (slots id : ℕ) (m m' : M) (held : Held X H) (count : ℕ) → MayNote entries state reply after start held m → m' ≡ putting m held → count ≡ length (entries held.history)
-      → Allows Holds slots id m' 3 (λ _. count) (λ _. noted entries (any_step entries state reply after start) m' count)
-  may_note slots id m m' held count may is long =
-      let seen : m'.0.seen ≡ m.0.seen = ap (λ (n : M). n.0.seen) is in
-      notes entries state reply after start slots id m' held may.entry count (ap (λ (n : M). n.0.come) is ∙ may.come) (ap (λ (n : M). n.0.past) is ∙ may.past) (ap (λ (n : M). n.1) is ∙ ap (λ (c : List (ℕ × Slot)). (0, Some held) ∷ rest c) may.slot)
-      (may.history ∙ ap (λ (l : List (Entry O R)). l ++ may.entry ∷ []) (sym seen))
-      (subst (λ (l : List ℕ). 0 < times may.entry.number l) (sym (ap (λ (n : M). n.0.numbers) is)) may.own)
-      (may.right ∙ ap (λ (l : List (Entry O R)). reply (replay reply after start.state l) may.entry.op) (sym seen))
-      (subst (λ (l : List (Entry O R)). length l < start.limit) (sym seen) may.room)
-      long
+  some_state : (slot : Option (Held X H)) (s : S) (held : Held X H) → slot ≡ Some held → state_in state slot ≡ Some s → state held.object ≡ s
+  some_state slot s held is e = same_Some (state held.object) s (sym (ap (state_in state) is) ∙ e)
 
-  -- and then may leave
-  pub may_leave_noted : (slots id : ℕ) (m m' n : M) (held : Held X H) → slots ≡ 1 → MayNote entries state reply after start held m → m' ≡ putting m held → n ≡ (record m'.0 { seen = history_of entries m'.1 }, m'.1)
-      → Allows Holds slots id n 2 (λ k. (k + 1) % 18446744073709551616) (left (any_step entries state reply after start) n)
-  may_leave_noted slots id m m' n held one may is wrote =
-      let slot : m'.1 ≡ (0, Some held) ∷ [] = ap (λ (k : M). k.1) is ∙ ap (λ (c : List (ℕ × Slot)). (0, Some held) ∷ rest c) may.slot in
-      let seen : n.0.seen ≡ entries held.history = ap (λ (k : M). k.0.seen) wrote ∙ ap (history_of entries) slot in
-      serves entries state reply after start slots id n held one (ap (λ (k : M). k.0.come) wrote ∙ (ap (λ (k : M). k.0.come) is ∙ may.come)) (ap (λ (k : M). k.1) wrote ∙ slot) (sym seen)
-      (may.object ∙ (sym (replay_snoc reply after start.state m.0.seen may.entry) ∙ ap (replay reply after start.state) (sym may.history ∙ sym seen)))
-
-  pub has_noted : (m m' n k : M) (held : Held X H) → MayNote entries state reply after start held m → m' ≡ putting m held → n ≡ (record m'.0 { seen = history_of entries m'.1 }, m'.1) → k ≡ (record n.0 { tickets = []; come = false }, rest n.1) → k ≡ gone entries held m
-  has_noted m m' n k held may is wrote went =
-      went ∙ (ap (λ (z : M). (record z.0 { tickets = []; come = false }, rest z.1)) wrote
-      ∙ (ap (λ (z : M). (record z.0 { seen = history_of entries z.1; tickets = []; come = false }, rest z.1)) is ∙ (λ i. (record m.0 { seen = entries held.history; tickets = []; come = false }, rest (may.slot i)))))
-
-  -- what a call did lets it note the entry
-  pub applied : (v : View S O R) (m : M) (held held' : Held X H) (k : ℕ) (op : O) (r : R) → v.start ≡ Some start → v.past ≡ [] → v.numbers ≡ k ∷ drop 1 v.numbers → Begun entries state reply after start v held m
-      → Applied entries state reply after held k op r held' → length (entries held.history) < start.limit → MayNote entries state reply after start held' m
-  applied v m held held' k op r begins past named b did room =
-      let seen : m.0.seen ≡ entries held.history = ap (λ (z : M). z.0.seen) b.seat in
+  -- what a call did in a turn lets it note the entry
+  pub applied : (q : PassView O R S) (t : Origin S) (h : TurnView O R S) (z w : TableId) (m : M) (slot : Option (Held X H)) (held held' : Held X H) (k : ℕ) (op : O) (r : R) → pass_view z m.0 k ≡ q → opened w start ≡ t → turn_view entries state slot ≡ h → slot ≡ Some held
+      → IsTurn reply after t q h → m.0.past ≡ [] → m.0.numbers ≡ k ∷ drop 1 m.0.numbers → Applied entries state reply after held k op r held' → length (entries held.history) < start.limit → MayNote entries reply after start (Some held') m
+  applied q t h z w m slot held held' k op r pass origin view is turn past named did room =
+      let shown : m.0.seen ≡ q.seen = ap (λ (u : PassView O R S). u.seen) pass in
+      let seen : entries held.history ≡ m.0.seen = sym (ap (items_of entries) is) ∙ (ap (λ (u : TurnView O R S). u.history) view ∙ (turn.whole ∙ sym shown)) in
+      let whole : replay reply after t.start.state q.seen ≡ replay reply after start.state m.0.seen = λ i. replay reply after (sym origin i).start.state (sym shown i) in
+      let now : state held.object ≡ replay reply after start.state m.0.seen = some_state slot (replay reply after start.state m.0.seen) held is (ap (λ (u : TurnView O R S). u.state) view ∙ (turn.object ∙ ap (λ (s : S). Some s) whole)) in
       record {
-        begins = ap (λ (z : M). z.0.start) b.seat ∙ begins;
-        come = ap (λ (z : M). z.0.come) b.seat;
-        past = ap (λ (z : M). z.0.past) b.seat ∙ past;
-        slot = ap (λ (z : M). z.1) b.seat;
+        come = (in_turn q t z w m.0 k start pass origin turn.turn).2;
+        past = past;
         entry = entry k op r;
-        history = did.0 ∙ ap (λ (l : List (Entry O R)). l ++ entry k op r ∷ []) (sym seen);
-        own = let h : times k m.0.numbers ≡ 1 + times k (drop 1 v.numbers) = ap (times k) (ap (λ (z : M). z.0.numbers) b.seat ∙ named) ∙ times_same k k (drop 1 v.numbers) refl in omega (arith, h);
-        right = did.1 ∙ ap (λ (s : S). reply s op) (b.object ∙ ap (replay reply after start.state) (sym seen));
-        object = did.2 ∙ ap (λ (s : S). after s op) (b.object ∙ ap (replay reply after start.state) (sym seen));
-        room = subst (λ (l : List (Entry O R)). length l < start.limit) (sym seen) room;
+        history = did.0 ∙ ap (λ (l : List (Entry O R)). l ++ entry k op r ∷ []) seen;
+        own = let h : times k m.0.numbers ≡ 1 + times k (drop 1 m.0.numbers) = ap (times k) named ∙ times_same k k (drop 1 m.0.numbers) refl in omega (arith, h);
+        right = did.1 ∙ ap (λ (s : S). reply s op) now;
+        room = subst (λ (l : List (Entry O R)). length l < start.limit) seen room;
       }
 
-  pub kept : (v : View S O R) (m : M) (held held' : Held X H) → v.start ≡ Some start → Begun entries state reply after start v held m → Kept entries state held held' → MayLeave entries state reply after start held' m
-  kept v m held held' begins b same =
-      let seen : m.0.seen ≡ entries held.history = ap (λ (z : M). z.0.seen) b.seat in
+  -- what contracts see of a pass once its entry is noted
+  pub noted_view : (p q : PassView O R S) (z z' : TableId) (m n : M) (k : ℕ) (es : List (Entry O R)) → pass_view z m.0 k ≡ p → q ≡ pass_view z' n.0 k → z' ≡ z → n ≡ (record m.0 { seen = es }, m.1) → q ≡ record p { seen = es }
+  noted_view p q z z' m n k es old new table noted =
+      new ∙ ((λ i. pass_view (table i) (noted i).0 k) ∙ ap (λ (u : PassView O R S). record u { seen = es }) old)
+
+  -- the turn once the entry is noted
+  pub turn_noted : (t : Origin S) (w : TableId) (p q : PassView O R S) (h : TurnView O R S) (slot : Option (Held X H)) (held held' : Held X H) (k : ℕ) (op : O) (r : R) → IsTurn reply after t p h → opened w start ≡ t → turn_view entries state slot ≡ h → slot ≡ Some held
+      → Applied entries state reply after held k op r held' → length (entries held.history) < start.limit → q ≡ record p { seen = entries held'.history } → IsTurn reply after t q (turn_view entries state (Some held'))
+  turn_noted t w p q h slot held held' k op r turn origin view is did room same =
+      let history : entries held.history ≡ p.seen = sym (ap (items_of entries) is) ∙ (ap (λ (u : TurnView O R S). u.history) view ∙ turn.whole) in
+      let object : state held.object ≡ replay reply after t.start.state p.seen = some_state slot (replay reply after t.start.state p.seen) held is (ap (λ (u : TurnView O R S). u.state) view ∙ turn.object) in
+      let seen : q.seen ≡ entries held'.history = ap (λ (u : PassView O R S). u.seen) same in
+      let longer : q.seen ≡ p.seen ++ entry k op r ∷ [] = seen ∙ (did.0 ∙ ap (λ (l : List (Entry O R)). l ++ entry k op r ∷ []) history) in
+      let long : length (p.seen ++ entry k op r ∷ []) ≡ length p.seen + 1 = length-append p.seen (entry k op r ∷ []) in
+      let few : length p.seen < t.start.limit = subst (λ (o : Origin S). length p.seen < o.start.limit) origin (subst (λ (l : List (Entry O R)). length l < start.limit) history room) in
       record {
-        begins = ap (λ (z : M). z.0.start) b.seat ∙ begins;
-        come = ap (λ (z : M). z.0.come) b.seat;
-        slot = ap (λ (z : M). z.1) b.seat;
-        history = same.0 ∙ sym seen;
-        object = same.1 ∙ (b.object ∙ ap (replay reply after start.state) (sym seen));
+        turn = ap (λ (u : PassView O R S). u.turn) same ∙ turn.turn;
+        whole = sym seen;
+        legal = subst (IsLegal reply after t.start.state) (sym longer) (legal_snoc reply after t.start.state p.seen (entry k op r) turn.legal (did.1 ∙ ap (λ (s : S). reply s op) object));
+        object = ap (λ (s : S). Some s) (did.2 ∙ (ap (λ (s : S). after s op) object ∙ (sym (replay_snoc reply after t.start.state p.seen (entry k op r)) ∙ ap (replay reply after t.start.state) (sym longer))));
+        bounded = subst (λ (l : List (Entry O R)). length l ≤ t.start.limit) (sym longer) (omega (arith, long, few));
       }
 
-  pub called : (v : View S O R) (z : TableId) (m n : M) (held held' : Held X H) (k : ℕ) (op : O) (r : R) → v.numbers ≡ k ∷ drop 1 v.numbers → Begun entries state reply after start v held m → Applied entries state reply after held k op r held' → length (entries held.history) < start.limit → n ≡ gone entries held' m
-      → Called reply after start (pass_view z v k) op r n.0.seen
-  called v z m n held held' k op r named b did room went =
-      let seen : n.0.seen ≡ entries held.history ++ entry k op r ∷ [] = ap (λ (z : M). z.0.seen) went ∙ did.0 in
-      let legal : IsLegal reply after start.state (entries held.history ++ entry k op r ∷ []) = legal_snoc reply after start.state (entries held.history) (entry k op r) b.legal (did.1 ∙ ap (λ (s : S). reply s op) b.object) in
-      let long : length (entries held.history ++ entry k op r ∷ []) ≡ length (entries held.history) + 1 = length-append (entries held.history) (entry k op r ∷ []) in (
-        b.claims.rest,
-        seen ∙ ap (λ (l : List (Entry O R)). l ++ entry k op r ∷ []) b.claims.is,
-        subst (λ (l : List ℕ). Foreign l b.claims.rest) named b.claims.foreign,
-        subst (IsLegal reply after start.state) (sym seen) legal,
-        subst (λ (l : List (Entry O R)). length l ≤ start.limit) (sym seen) (omega (arith, long, room)),
-      )
-
-  pub found : (v : View S O R) (z : TableId) (m n : M) (held held' : Held X H) (k : ℕ) (e : Refusal) → v.numbers ≡ k ∷ drop 1 v.numbers → Begun entries state reply after start v held m → Kept entries state held held' → IsFull e (length (entries held.history)) start.limit → n ≡ gone entries held' m
-      → Found reply after start (pass_view z v k) e n.0.seen
-  found v z m n held held' k e named b same full went =
-      let seen : n.0.seen ≡ entries held.history = ap (λ (z : M). z.0.seen) went ∙ same.0 in (
-        b.claims.rest,
-        seen ∙ b.claims.is,
-        subst (λ (l : List ℕ). Foreign l b.claims.rest) named b.claims.foreign,
-        subst (IsLegal reply after start.state) (sym seen) b.legal,
-        subst (λ (l : List (Entry O R)). IsFull e (length l) start.limit) (sym seen) full,
-      )
+  -- and where nothing was added
+  pub turn_kept : (t : Origin S) (p q : PassView O R S) (h : TurnView O R S) (slot : Option (Held X H)) (held held' : Held X H) → IsTurn reply after t p h → turn_view entries state slot ≡ h → slot ≡ Some held → Kept entries state held held' → q ≡ p
+      → IsTurn reply after t q (turn_view entries state (Some held'))
+  turn_kept t p q h slot held held' turn view is kept same =
+      let history : entries held.history ≡ p.seen = sym (ap (items_of entries) is) ∙ (ap (λ (u : TurnView O R S). u.history) view ∙ turn.whole) in
+      let object : state held.object ≡ replay reply after t.start.state p.seen = some_state slot (replay reply after t.start.state p.seen) held is (ap (λ (u : TurnView O R S). u.state) view ∙ turn.object) in
+      subst (λ (u : PassView O R S). IsTurn reply after t u (turn_view entries state (Some held'))) (sym same) record {
+        turn = turn.turn;
+        whole = kept.0 ∙ history;
+        legal = turn.legal;
+        object = ap (λ (s : S). Some s) (kept.1 ∙ object);
+        bounded = turn.bounded;
+      }
 
   -- what the last look at a table shows of a pass
   pub trace_of : (v : View S O R) (z : TableId) (k : ℕ) (held : Held X H) → v.numbers ≡ k ∷ drop 1 v.numbers → Shows entries state reply after start v held → IsTrace reply after state start (pass_view z v k) (entries held.history) held.object

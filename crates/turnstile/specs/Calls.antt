@@ -1,11 +1,11 @@
 -- What the calls of a turnstile say of its passes.
-use Rattle.std.specs.Prelude.{◌≡◌, ℕ, ◌+◌, ◌<◌, ◌≤◌, List, [], ◌∷◌, ◌++◌, length, max, Some}
+use Rattle.std.specs.Prelude.{◌≡◌, ℕ, ◌+◌, ◌<◌, ◌≤◌, List, [], ◌∷◌, ◌++◌, length, max, Option, Some, None, Result, MatchResult}
 use Rattle.turnstile.specs.declared.history.Entry.{Entry}
 use Rattle.turnstile.specs.declared.view.Start.{Start}
 use Rattle.turnstile.specs.declared.turnstile.Refusal.{Refusal}
 use Rattle.turnstile.specs.declared.turnstile.Refusal.TheVariants.{HistoryFull, Memory}
-use Rattle.turnstile.specs.History.{ShareNone, IsLegal, Foreign, Claims, longer, entry}
-use Rattle.turnstile.specs.Passes.{Origin, PassView}
+use Rattle.turnstile.specs.History.{ShareNone, replay, IsLegal, Foreign, Claims, longer, entry}
+use Rattle.turnstile.specs.Passes.{Origin, PassView, TurnView}
 
 module _ {O R S : Type 0} where
   -- all numbers of a pass: its own, and those joined to it
@@ -16,9 +16,17 @@ module _ {O R S : Type 0} where
   abbrev pub IsOf : Origin S → PassView O R S → Type 0
   IsOf t p = p.turnstile ≡ Some t
 
+  -- the pass had no turn, and has one now, and is else as before, save what it has seen
+  abbrev pub HasEntered : Origin S → PassView O R S → PassView O R S → Type 0
+  HasEntered t p q = (p.turn ≡ None) × (q ≡ record p { turnstile = None; turn = Some t; seen = q.seen })
+
+  -- the pass without its turn
+  abbrev pub outside : Origin S → PassView O R S → PassView O R S
+  outside t p = record p { turnstile = Some t; turn = None }
+
   -- the first pass of a turnstile
   abbrev pub first_pass : Origin S → PassView O R S
-  first_pass t = record { turnstile = Some t; number = 0; joined = []; made = 1; seen = [] }
+  first_pass t = record { turnstile = Some t; turn = None; number = 0; joined = []; made = 1; seen = [] }
 
   -- the pass is as before, save what it has seen
   abbrev pub HasOnlySeen : PassView O R S → PassView O R S → Type 0
@@ -45,6 +53,19 @@ abbrev pub IsFull : Refusal → ℕ → ℕ → Type 0
 IsFull HistoryFull len limit = len ≡ limit
 IsFull Memory len limit = len < limit
 
+module _ {O R S : Type 0} where
+  -- what was seen, then calls of others
+  abbrev pub Waited : PassView O R S → List (Entry O R) → Type 0
+  Waited p seen = (between : List (Entry O R)) × (seen ≡ p.seen ++ between) × Foreign (numbers_of p) between
+
+  -- what was seen, then this call, and nothing between
+  abbrev pub CalledNext : PassView O R S → O → R → List (Entry O R) → Type 0
+  CalledNext p op r seen = seen ≡ p.seen ++ entry p.number op r ∷ []
+
+  -- what was seen, and nothing else. The history has `limit` entries where it is full, and else fewer
+  abbrev pub FoundNone : Start S → PassView O R S → Refusal → List (Entry O R) → Type 0
+  FoundNone x p e seen = (seen ≡ p.seen) × IsFull e (length seen) x.limit
+
 module _ {S O R : Type 0} (reply : S → O → R) (after : S → O → S) where
   -- what was seen, then calls of others, then this call
   abbrev pub Called : Start S → PassView O R S → O → R → List (Entry O R) → Type 0
@@ -53,3 +74,28 @@ module _ {S O R : Type 0} (reply : S → O → R) (after : S → O → S) where
   -- what was seen, then calls of others. The history has `limit` entries where it is full, and else fewer
   abbrev pub Found : Start S → PassView O R S → Refusal → List (Entry O R) → Type 0
   Found x p e seen = (between : List (Entry O R)) × (seen ≡ p.seen ++ between) × Foreign (numbers_of p) between × IsLegal reply after x.state seen × IsFull e (length seen) x.limit
+
+  -- the pass has a turn, this is what it holds, and it has seen all of that
+  pub record IsTurn (t : Origin S) (p : PassView O R S) (h : TurnView O R S) : Type 0 where
+    pub turn : p.turn ≡ Some t
+    pub whole : h.history ≡ p.seen
+    pub legal : IsLegal reply after t.start.state p.seen
+    pub object : h.state ≡ Some (replay reply after t.start.state p.seen)
+    pub bounded : length p.seen ≤ t.start.limit
+
+  -- the object gave this reply, and the state after the op
+  abbrev pub Does : TurnView O R S → O → R → TurnView O R S → Type 0
+  Does h op r g = (s : S) × (h.state ≡ Some s) × (r ≡ reply s op) × (g.state ≡ Some (after s op))
+
+  -- One call of a pass. Answered: what it had seen, then calls of others, then this call. Refused: what it had
+  -- seen, then calls of others. What it has seen is legal.
+  pub record CallsBy (p : PassView O R S) (op : O) (result : Result R Refusal) (q : PassView O R S) : Type 0 where
+    pub origin : Origin S
+    pub of : p.turnstile ≡ Some origin
+    pub only : HasOnlySeen p q
+    pub call : MatchResult result (λ r. Called origin.start p op r q.seen) (λ e. Found origin.start p e q.seen)
+
+  -- the pass is of this turnstile, or has this turn in it
+  abbrev pub IsSeated : Origin S → Option (TurnView O R S) → PassView O R S → Type 0
+  IsSeated t None p = p ≡ outside t p
+  IsSeated t (Some turn) p = IsTurn t p turn

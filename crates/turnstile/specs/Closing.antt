@@ -61,9 +61,9 @@ module _ {X S O R : Type 0} (reply : S → O → R) (after : S → O → S) (sta
     pub object_is : state object ≡ replay reply after x.state history
     pub bounded : length history ≤ x.limit
 
-module _ {X H O R S : Type 0} (entries : H → List (Entry O R)) (reply : S → O → R) (after : S → O → S) (state : X → S) where
+module _ {X H O R M S : Type 0} (entries : H → List (Entry O R)) (reply : S → O → R) (after : S → O → S) (state : X → S) where
   -- the trace of all passes; or what was given comes back, and how many passes were made is now known; or nothing, but only where the first pass knew of none that is missing
-  abbrev pub IsClosed : Origin S → List (PassView O R S) → Closed X O R H S → Type 0
+  abbrev pub IsClosed : Origin S → List (PassView O R S) → Closed X O R H M S → Type 0
   IsClosed t ps (Traced done) = FromAll reply after state t.start ps (entries done.history) done.object
   IsClosed t ps (NotAll back) = (back.turnstile ≡ t) × (0 < back.missing) × FirstCounted ps back.passes.items (length (all_numbers ps) + back.missing)
   IsClosed t ps InUse = FirstKnowsNoMore ps

@@ -1,4 +1,5 @@
 -- What each step tells: of the step, the seat before, the number found and the seat after.
+use mathlib.Core.Option as maybe
 use Rattle.std.specs.Prelude.{◌≡◌, ◌≢◌, ℕ, ◌+◌, ◌%◌, ◌^◌, ◌<◌, ◌≤◌, List, [], ◌∷◌, ◌++◌, length, true, false, Option, Some, None}
 use Rattle.atomic_table.specs.Table.{Me, Step, rest}
 use Rattle.turnstile.specs.declared.history.Entry.{Entry}
@@ -16,10 +17,14 @@ module _ {X H O R : Type 0} (entries : H → List (Entry O R)) where
   items_of (Some held) = entries held.history
   items_of None = []
 
-  -- the entries of the slot in hand
-  abbrev pub history_of : List (ℕ × Option (Held X H)) → List (Entry O R)
-  history_of [] = []
-  history_of (p ∷ ps) = items_of p.1
+  -- the entries of the value that a step announces
+  abbrev pub said_of : maybe.Option (Option (Held X H)) → List (Entry O R)
+  said_of maybe.none = []
+  said_of (maybe.some slot) = items_of slot
+
+abbrev pub state_in : {X H S : Type 0} → (X → S) → Option (Held X H) → Option S
+state_in state (Some held) = Some (state held.object)
+state_in state None = None
 
 abbrev pub first_of : List ℕ → ℕ
 first_of [] = 0
@@ -42,9 +47,9 @@ module _ {X H S O R : Type 0} where
   counted st m r n = (n ≡ (record m.0 { made = r }, m.1)) × (m.0.made ≤ r)
 
 module _ {X H S O R : Type 0} (entries : H → List (Entry O R)) where
-  -- the history is now that of the slot in hand
+  -- the history is now that of the value that is announced
   abbrev pub noted : Step (Option (Held X H)) → Sat X H S O R → ℕ → Sat X H S O R → Type 0
-  noted st m r n = n ≡ (record m.0 { seen = history_of entries m.1 }, m.1)
+  noted st m r n = n ≡ (record m.0 { seen = said_of entries st.said }, m.1)
 
 module _ {X H S O R : Type 0} (entries : H → List (Entry O R)) (state : X → S) (reply : S → O → R) (after : S → O → S) where
   -- the slot is here, with all that was done so far
@@ -91,17 +96,15 @@ module _ {X H S O R : Type 0} (entries : H → List (Entry O R)) (state : X → 
     pub history : entries held.history ≡ m.0.seen
     pub object : state held.object ≡ replay reply after x.state m.0.seen
 
-  -- the same, where an entry was added
-  pub record MayNote (held : Held X H) (m : Sat X H S O R) : Type 0 where
-    pub begins : m.0.start ≡ Some x
+module _ {X H S O R : Type 0} (entries : H → List (Entry O R)) (reply : S → O → R) (after : S → O → S) (x : Start S) where
+  -- an entry was added to the history of this value, and it may be noted
+  pub record MayNote (said : Option (Held X H)) (m : Sat X H S O R) : Type 0 where
     pub come : m.0.come ≡ true
     pub past : m.0.past ≡ []
-    pub slot : m.1 ≡ (0, None) ∷ []
     pub entry : Entry O R
-    pub history : entries held.history ≡ m.0.seen ++ entry ∷ []
+    pub history : items_of entries said ≡ m.0.seen ++ entry ∷ []
     pub own : 0 < times entry.number m.0.numbers
     pub right : entry.reply ≡ reply (replay reply after x.state m.0.seen) entry.op
-    pub object : state held.object ≡ after (replay reply after x.state m.0.seen) entry.op
     pub room : length m.0.seen < x.limit
 
 module _ {X H S O R : Type 0} (entries : H → List (Entry O R)) (state : X → S) (reply : S → O → R) (after : S → O → S) where

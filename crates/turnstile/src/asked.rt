@@ -2,7 +2,7 @@
 ghost use Rattle.std.specs.Prelude.{◌≡◌, ◌++◌, [], ◌∷◌, true, length, map, nat_lt, vec_capacity, IfOk, OnOk};
 ghost use Rattle.turnstile.specs.Recorded.{recorded};
 
-use crate::history::{Entry, StoredHistory};
+use crate::history::StoredHistory;
 use crate::recorded::Recorded;
 use crate::replays::Replays;
 use std::alloc::{AllocError, Global};
@@ -49,6 +49,7 @@ impl<O: Drop, R: Drop> AskedHistory<O, R> {
         &self,
         alloc: Global,
         object: &mut T,
+        room: &mut T::Room,
     ) -> Result<Vec<R>, AllocError>
         requires { IsLegal T.replied T.after (T.state_of object.old) (asked_entries self.now) }
         ensures replies { IfOk result (λ v. v.items ≡ map (λ e. e.reply) (asked_entries self.now)) }
@@ -56,7 +57,7 @@ impl<O: Drop, R: Drop> AskedHistory<O, R> {
     {
         let mut replies = Vec::new(alloc);
         for asked in &self.asked {
-            replies.push(object.apply(alloc, &asked.op)?)?;
+            replies.push(object.apply(alloc, &asked.op, room)?)?;
         }
         Ok(replies)
     }
@@ -64,6 +65,7 @@ impl<O: Drop, R: Drop> AskedHistory<O, R> {
 
 impl<O: Drop, R: Drop> StoredHistory<O, R> for AskedHistory<O, R> {
     ghost use Rattle.turnstile.specs.Asked.{asked_entries};
+    ghost use Rattle.turnstile.specs.History.{entry};
 
     ghost entries = { λ h. asked_entries h };
 
@@ -84,12 +86,11 @@ impl<O: Drop, R: Drop> StoredHistory<O, R> for AskedHistory<O, R> {
         self.asked.reserve(1)
     }
 
-    fn push(&mut self, entry: Entry<O, R>)
+    fn push(&mut self, number: u64, op: O, reply: &R)
         requires { nat_lt (length self.old.asked.items) (vec_capacity self.old.asked) ≡ true }
-        ensures { asked_entries self.new ≡ asked_entries self.old ++ entry ∷ [] }
+        ensures { asked_entries self.new ≡ asked_entries self.old ++ entry number op reply.now ∷ [] }
     {
-        let Entry { number, op, reply } = entry;
-        self.replies.add(&reply);
+        self.replies.add(reply);
         self.asked.push_reserved(Asked { number, op });
     }
 }

@@ -1,9 +1,9 @@
 //! The history of a turnstile as it is stored.
-ghost use Rattle.std.specs.Prelude.{◌≡◌, ◌++◌, ◌∷◌, [], List, Bool, true, length, nat_lt, vec_capacity, OnOk};
+ghost use Rattle.std.specs.Prelude.{◌≡◌, ◌++◌, ◌∷◌, [], List, Bool, true, length, OnOk};
 
 use std::alloc::{AllocError, Global};
 
-/// A call in a history: the number of the pass that made it, the op and its reply.
+/// A call in a history: the number of the pass that made it, the op and its reply. No value of it is made.
 #[derive(Drop)]
 pub struct Entry<O, R> {
     /// The number of the pass.
@@ -40,52 +40,8 @@ pub trait StoredHistory<O, R>: Drop {
         ensures same { entries self.new ≡ entries self.old }
         ensures room { OnOk result (has_room self.new ≡ true) };
 
-    /// Adds an entry at the end. It takes no memory.
-    fn push(&mut self, entry: Entry<O, R>)
+    /// Adds an entry at the end. It takes no memory. The reply is shown, and stays with the caller.
+    fn push(&mut self, number: u64, op: O, reply: &R)
         requires { has_room self.old ≡ true }
-        ensures { entries self.new ≡ entries self.old ++ entry ∷ [] };
-}
-
-/// A history that is stored as it stands, entry after entry.
-///
-/// A contract sees it as its entries, and whether there is room for one more.
-#[derive(Drop)]
-pub struct PlainHistory<O, R> {
-    entries: Vec<Entry<O, R>>,
-}
-
-impl<O, R> PlainHistory<O, R> {
-    /// The entries, in order.
-    pub fn as_slice(&self) -> &[Entry<O, R>]
-        ensures { result.now ≡ self.now.entries.items }
-    {
-        self.entries.as_slice()
-    }
-}
-
-impl<O: Drop, R: Drop> StoredHistory<O, R> for PlainHistory<O, R> {
-    ghost entries = { λ h. h.entries.items };
-
-    ghost has_room = { λ h. nat_lt (length h.entries.items) (vec_capacity h.entries) };
-
-    fn empty(alloc: Global) -> PlainHistory<O, R> {
-        PlainHistory {
-            entries: Vec::new(alloc),
-        }
-    }
-
-    fn len(&self) -> usize {
-        self.entries.len()
-    }
-
-    fn reserve(&mut self) -> Result<(), AllocError> {
-        self.entries.reserve(1)
-    }
-
-    fn push(&mut self, entry: Entry<O, R>)
-        requires { nat_lt (length self.old.entries.items) (vec_capacity self.old.entries) ≡ true }
-        ensures { self.new.entries.items ≡ self.old.entries.items ++ entry ∷ [] }
-    {
-        self.entries.push_reserved(entry);
-    }
+        ensures { entries self.new ≡ entries self.old ++ record { number = number; op = op; reply = reply.now } ∷ [] };
 }

@@ -11,7 +11,9 @@
 
 mod asked;
 mod closing;
+mod handle;
 mod history;
+mod hold;
 mod lock;
 mod pass;
 mod passes;
@@ -23,10 +25,12 @@ mod view;
 
 pub use asked::{Asked, AskedHistory};
 pub use closing::{Closed, NotAll, Traced};
-pub use history::{Entry, PlainHistory, StoredHistory};
+pub use handle::Handle;
+pub use history::{Entry, StoredHistory};
+pub use hold::Hold;
 pub use pass::{Pass, PassOf};
 pub use passes::NoNumberLeft;
 pub use recorded::{ProofHistory, Recorded};
 pub use replays::Replays;
-pub use turnstile::{Refusal, Turnstile};
+pub use turnstile::{Refusal, Turn, Turnstile};
 pub use view::{Claim, Held, Opening, Start, View};

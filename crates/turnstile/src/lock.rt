@@ -30,7 +30,7 @@ pub struct Lock<T: Replays> {
 }
 
 impl<T: Replays> Lock<T> {
-    ghost use Rattle.turnstile.specs.Plays.{Turn, Begun, MayLeave, MayNote, gone};
+    ghost use Rattle.turnstile.specs.Plays.{Turn, Begun, MayLeave, MayNote, gone, items_of};
     ghost use Rattle.turnstile.specs.Turns.{start_of};
 
     // Draws a ticket, and waits until it is served.
@@ -73,16 +73,16 @@ impl<T: Replays> Lock<T> {
         self.table.shared.fetch_add::<Serve>(seat, SERVING, 1);
     }
 
-    // Adds an entry to what all see, and gives the turn up.
-    pub fn note(&self, seat: &mut Seat<Slot<T>, Seen<T>>, held: Held<T, T::History>)
+    // Adds the last entry of what is held to what all see.
+    pub fn note(&self, seat: &mut Seat<Slot<T>, Seen<T>>, held: &Slot<T>, count: u64)
         requires table { seat.old.table_id ≡ self.now.table.shared.table_id }
-        requires held { MayNote T.History.entries T.state_of T.replied T.after (start_of T.state_of self.now.table.shared.key) held seat.old.me }
+        requires held { MayNote T.History.entries T.replied T.after (start_of T.state_of self.now.table.shared.key) held.now seat.old.me }
+        requires count { count ≡ length (items_of T.History.entries held.now) }
         ensures same { (seat.new.table_id ≡ seat.old.table_id) × (seat.new.id ≡ seat.old.id) }
-        ensures gone { seat.new.me ≡ gone T.History.entries held seat.old.me }
+        ensures noted { seat.new.me ≡ (record seat.old.me.0 { seen = items_of T.History.entries held.now }, seat.old.me.1) }
     {
-        let count = held.history.len() as u64;
-        let _none = self.table.shared.exchange(seat, 0, Some(held));
-        self.table.shared.store::<Note<T>>(seat, COUNT, count);
-        self.table.shared.fetch_add::<Serve>(seat, SERVING, 1);
+        self.table
+            .shared
+            .compare_exchange_with::<Note<T>>(seat, COUNT, count - 1, count, held);
     }
 }

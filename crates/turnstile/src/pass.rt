@@ -8,7 +8,7 @@ use std::marker::Model;
 
 /// A pass of a turnstile, with what it has seen of the history.
 ///
-/// A contract sees which turnstile it is of, its number and those joined to it, how many passes it knows
+/// A contract sees which turnstile it is of, or in which it has a turn, its number and those joined to it, how many passes it knows
 /// were made, and what it has seen. It has no bound, so that a struct over a generic object can hold one:
 /// name its type as [`PassOf`].
 #[derive(Drop)]
@@ -21,13 +21,13 @@ pub struct Pass<X, H, O, R, S> {
 }
 
 impl<X, H, O, R, S> Model for Pass<X, H, O, R, S> {
-    ghost use Rattle.turnstile.specs.Passes.{PassView, pass_view, Rests};
+    ghost use Rattle.turnstile.specs.Passes.{PassView, pass_view, Sits};
 
     ghost Value = { PassView O R S };
 
     ghost view = { λ p. pass_view p.seat.table_id p.seat.me.0 p.number };
 
-    ghost invariant = { λ p. Rests p.seat.me p.number p.made p.joined p.len };
+    ghost invariant = { λ p. Sits p.seat.me p.number p.made p.joined p.len };
 }
 
 /// The pass of a turnstile with such an object.

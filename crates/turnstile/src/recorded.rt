@@ -1,8 +1,10 @@
 //! A history that only proofs see.
 ghost use Rattle.std.specs.Prelude.{◌≡◌, ◌++◌, ◌∷◌, [], ◌-◌, ◌^◌, true, length, nat_lt};
-ghost use Rattle.turnstile.specs.Recorded.{recorded};
+ghost use Rattle.turnstile.specs.History.{entry};
+ghost use Rattle.turnstile.specs.Recorded.{recorded, answered};
 
-use crate::history::{Entry, StoredHistory};
+use crate::asked::Asked;
+use crate::history::StoredHistory;
 use std::alloc::{AllocError, Global};
 use std::snapshot::Snapshot;
 
@@ -32,19 +34,21 @@ impl<T> Recorded<T> {
 /// them. The calls themselves can be neither read nor printed.
 #[derive(Drop)]
 pub struct ProofHistory<O, R> {
-    calls: Recorded<Entry<O, R>>,
+    asked: Recorded<Asked<O>>,
+    replies: Recorded<R>,
     len: usize,
-    ghost counted: { len ≡ length (recorded calls) },
+    ghost counted: { (len ≡ length (recorded asked)) × (len ≡ length (recorded replies)) },
 }
 
 impl<O: Drop, R: Drop> StoredHistory<O, R> for ProofHistory<O, R> {
-    ghost entries = { λ h. recorded h.calls };
+    ghost entries = { λ h. answered (recorded h.asked) (recorded h.replies) };
 
     ghost has_room = { λ h. nat_lt h.len (2 ^ 64 - 1) };
 
     fn empty(_alloc: Global) -> ProofHistory<O, R> {
         ProofHistory {
-            calls: Recorded::Nothing,
+            asked: Recorded::Nothing,
+            replies: Recorded::Nothing,
             len: 0,
         }
     }
@@ -61,11 +65,12 @@ impl<O: Drop, R: Drop> StoredHistory<O, R> for ProofHistory<O, R> {
         }
     }
 
-    fn push(&mut self, entry: Entry<O, R>)
+    fn push(&mut self, number: u64, op: O, reply: &R)
         requires { nat_lt self.old.len (2 ^ 64 - 1) ≡ true }
-        ensures { recorded self.new.calls ≡ recorded self.old.calls ++ entry ∷ [] }
+        ensures { answered (recorded self.new.asked) (recorded self.new.replies) ≡ answered (recorded self.old.asked) (recorded self.old.replies) ++ entry number op reply.now ∷ [] }
     {
-        self.calls.add(&entry);
+        self.asked.add(&Asked { number, op });
+        self.replies.add(reply);
         self.len += 1;
     }
 }

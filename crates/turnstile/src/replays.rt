@@ -9,11 +9,14 @@ pub trait Replays: Drop {
     /// What can be asked of the object.
     type Op: Drop;
 
-    /// What it answers.
+    /// What it answers. It may be small, and stand for a large plain value: contracts see its model.
     type Reply: Drop;
 
     /// How a history of its calls is stored.
     type History: StoredHistory<Self::Op, Self::Reply>;
+
+    /// What a caller lends, for the object to write into while it does an op.
+    type Room;
 
     /// What contracts see of the object. No value of it is made.
     type State: Drop;
@@ -27,14 +30,19 @@ pub trait Replays: Drop {
     // The state after an op.
     ghost after: { Self.State → Self.Op → Self.State };
 
-    /// Does an op, and gives its reply.
+    // What stands in the room that was lent, before and after a reply.
+    ghost shows: { Self.Room → Self.Room → Self.Reply → Type 0 };
+
+    /// Does an op, and gives its reply. It may write into the room.
     ///
     /// # Errors
     /// The call failed to allocate. The state is as before.
-    fn apply(&mut self, alloc: Global, op: &Self::Op) -> Result<Self::Reply, AllocError>
-        ensures { MatchResult result (λ reply. (state_of self.new ≡ after (state_of self.old) op.now) × (reply ≡ replied (state_of self.old) op.now)) (λ _. state_of self.new ≡ state_of self.old) };
-
-    /// The same reply once more. It takes no memory.
-    fn copy_reply(reply: &Self::Reply) -> Self::Reply
-        ensures { result ≡ reply.now };
+    fn apply(
+        &mut self,
+        alloc: Global,
+        op: &Self::Op,
+        room: &mut Self::Room,
+    ) -> Result<Self::Reply, AllocError>
+        ensures room { MatchResult result (λ reply. shows room.old room.new reply) (λ _. room.new ≡ room.old) }
+        ensures does { MatchResult result (λ reply. (state_of self.new ≡ after (state_of self.old) op.now) × (reply ≡ replied (state_of self.old) op.now)) (λ _. state_of self.new ≡ state_of self.old) };
 }

@@ -38,7 +38,7 @@ impl<T: Replays> Play<Slot<T>, Seen<T>> for Look<T> {
     ghost then = { looked T.History.entries T.state_of T.replied T.after };
 }
 
-/// An entry is added to what all see.
+/// An entry is added to what all see: the last one of the value that the step announces.
 pub struct Note<T> {
     of: PhantomData<T>,
 }

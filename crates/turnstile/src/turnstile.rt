@@ -1,10 +1,11 @@
 //! The turnstile.
-ghost use Rattle.std.specs.Prelude.{◌≡◌, ◌<◌, ◌≤◌, length, IfOk, MatchResult};
+ghost use Rattle.std.specs.Prelude.{◌≡◌, ◌<◌, ◌≤◌, length, IfOk, MatchResult, Some};
 
-use crate::history::{Entry, StoredHistory};
+use crate::history::StoredHistory;
 use crate::lock::Lock;
 use crate::pass::{Pass, PassOf};
 use crate::replays::Replays;
+use crate::rule::Slot;
 use crate::view::{Held, Opening};
 use atomic_table::{Refused, Table};
 use std::alloc::{AllocError, Global};
@@ -38,13 +39,39 @@ impl<T: Replays> Model for Turnstile<T> {
     ghost view = { λ t. opened t.lock.table.shared.table_id (start_of T.state_of t.lock.table.shared.key) };
 }
 
-struct Outcome<T: Replays> {
-    held: Held<T, T::History>,
-    answer: Result<T::Reply, Refusal>,
+/// What a pass holds while it has its turn.
+///
+/// A contract sees the history, and the state of the object. It has to be given back, by
+/// [`Turnstile::leave`].
+pub struct Turn<T: Replays> {
+    slot: Slot<T>,
+}
+
+impl<T: Replays> Model for Turn<T> {
+    ghost use Rattle.turnstile.specs.Passes.{TurnView, turn_view};
+
+    ghost Value = { TurnView T.Op T.Reply T.State };
+
+    ghost view = { λ t. turn_view T.History.entries T.state_of t.slot };
+}
+
+impl<T: Replays> Turn<T> {
+    ghost use Rattle.std.specs.Option.{IsSome};
+
+    /// The object, to be looked at while the turn lasts.
+    pub fn object(&self) -> &T
+        requires { IsSome self.now.state }
+        ensures { self.now.state ≡ Some (T.state_of result.now) }
+    {
+        match &self.slot {
+            Some(held) => &held.object,
+            None => unreachable!(),
+        }
+    }
 }
 
 impl<T: Replays> Turnstile<T> {
-    ghost use Rattle.turnstile.specs.Calls.{first_pass, IsOf, HasOnlySeen, IsFull, Called, Found};
+    ghost use Rattle.turnstile.specs.Calls.{first_pass, outside, IsOf, IsTurn, HasEntered, HasOnlySeen, IsFull, Called, CalledNext, Does, Found, FoundNone, Waited};
     ghost use Rattle.turnstile.specs.Plays.{Applied, Kept};
 
     /// A turnstile over an object, whose history may have `limit` entries, and its first pass, with number 0.
@@ -86,44 +113,82 @@ impl<T: Replays> Turnstile<T> {
     // Does an op on what is held, and adds its entry.
     fn apply(
         alloc: Global,
-        held: Held<T, T::History>,
+        held: &mut Held<T, T::History>,
         limit: u64,
         number: u64,
         op: T::Op,
-    ) -> Outcome<T>
-        requires { length (T.History.entries held.history) ≤ limit }
-        ensures { MatchResult result.answer (λ r. Applied T.History.entries T.state_of T.replied T.after held number op r result.held × (length (T.History.entries held.history) < limit)) (λ e. Kept T.History.entries T.state_of held result.held × IsFull e (length (T.History.entries held.history)) limit) }
+        room: &mut T::Room,
+    ) -> Result<T::Reply, Refusal>
+        requires { length (T.History.entries held.old.history) ≤ limit }
+        ensures room { MatchResult result (λ r. T.shows room.old room.new r) (λ _. room.new ≡ room.old) }
+        ensures does { MatchResult result (λ r. Applied T.History.entries T.state_of T.replied T.after held.old number op r held.new × (length (T.History.entries held.old.history) < limit)) (λ e. Kept T.History.entries T.state_of held.old held.new × IsFull e (length (T.History.entries held.old.history)) limit) }
     {
-        let Held {
-            mut history,
-            mut object,
-        } = held;
-        if history.len() as u64 >= limit {
-            return Outcome {
-                held: Held { history, object },
-                answer: Err(Refusal::HistoryFull),
-            };
+        if held.history.len() as u64 >= limit {
+            return Err(Refusal::HistoryFull);
         }
-        if history.reserve().is_err() {
-            return Outcome {
-                held: Held { history, object },
-                answer: Err(Refusal::Memory),
-            };
+        if held.history.reserve().is_err() {
+            return Err(Refusal::Memory);
         }
-        match object.apply(alloc, &op) {
-            Err(_) => Outcome {
-                held: Held { history, object },
-                answer: Err(Refusal::Memory),
-            },
-            Ok(answer) => {
-                let reply = T::copy_reply(&answer);
-                history.push(Entry { number, op, reply });
-                Outcome {
-                    held: Held { history, object },
-                    answer: Ok(answer),
-                }
+        match held.object.apply(alloc, &op, room) {
+            Err(_) => Err(Refusal::Memory),
+            Ok(reply) => {
+                held.history.push(number, op, &reply);
+                Ok(reply)
             }
         }
+    }
+
+    /// Waits for its turn, and keeps it until [`leave`](Turnstile::leave). The pass has then seen the whole
+    /// history: others may have made calls before the turn came, and make none while it lasts.
+    pub fn enter<R: Wait>(&self, rt: &R, pass: &mut PassOf<T>) -> Turn<T>
+        requires { IsOf self.now pass.old }
+        ensures pass { HasEntered self.now pass.old pass.new }
+        ensures turn { IsTurn T.replied T.after self.now pass.new result }
+        ensures seen { Waited pass.old pass.new.seen }
+    {
+        let held = self.lock.begin(rt, &mut pass.seat);
+        pass.len = held.history.len() as u64;
+        Turn { slot: Some(held) }
+    }
+
+    /// Does an op in a turn, and adds its entry to the history, right after what the pass has seen.
+    ///
+    /// # Errors
+    /// `HistoryFull` where the history has as many entries as it may have, and `Memory` where the call failed
+    /// to allocate. Nothing is added, and the object is as before.
+    pub fn call_in(
+        &self,
+        alloc: Global,
+        pass: &mut PassOf<T>,
+        turn: &mut Turn<T>,
+        op: T::Op,
+        room: &mut T::Room,
+    ) -> Result<T::Reply, Refusal>
+        requires { IsTurn T.replied T.after self.now pass.old turn.old }
+        ensures pass { HasOnlySeen pass.old pass.new }
+        ensures turn { IsTurn T.replied T.after self.now pass.new turn.new }
+        ensures call { MatchResult result (λ r. CalledNext pass.old op r pass.new.seen) (λ e. FoundNone self.now.start pass.old e pass.new.seen) }
+        ensures room { MatchResult result (λ r. T.shows room.old room.new r) (λ _. room.new ≡ room.old) }
+        ensures does { IfOk result (λ r. Does T.replied T.after turn.old op r turn.new) }
+    {
+        let Some(held) = &mut turn.slot else {
+            unreachable!()
+        };
+        let answer = Turnstile::apply(alloc, held, self.lock.limit, pass.number, op, room);
+        if answer.is_ok() {
+            pass.len += 1;
+            self.lock.note(&mut pass.seat, &turn.slot, pass.len);
+        }
+        answer
+    }
+
+    /// Gives the turn up.
+    pub fn leave(&self, pass: &mut PassOf<T>, turn: Turn<T>)
+        requires { IsTurn T.replied T.after self.now pass.old turn }
+        ensures { pass.new ≡ outside self.now pass.old }
+    {
+        let Turn { slot } = turn;
+        self.lock.leave(&mut pass.seat, slot.unwrap());
     }
 
     /// Waits for its turn, does an op, and adds its entry to the history. The pass has then seen the
@@ -139,29 +204,16 @@ impl<T: Replays> Turnstile<T> {
         alloc: Global,
         pass: &mut PassOf<T>,
         op: T::Op,
+        room: &mut T::Room,
     ) -> Result<T::Reply, Refusal>
         requires { IsOf self.now pass.old }
         ensures pass { HasOnlySeen pass.old pass.new }
         ensures call { MatchResult result (λ r. Called T.replied T.after self.now.start pass.old op r pass.new.seen) (λ e. Found T.replied T.after self.now.start pass.old e pass.new.seen) }
+        ensures room { MatchResult result (λ r. T.shows room.old room.new r) (λ _. room.new ≡ room.old) }
     {
-        let held = self.lock.begin(rt, &mut pass.seat);
-        let Outcome { held, answer } = Turnstile::apply(
-            alloc,
-            held,
-            self.lock.limit,
-            pass.number,
-            op,
-        );
-        pass.len = held.history.len() as u64;
-        match answer {
-            Ok(reply) => {
-                self.lock.note(&mut pass.seat, held);
-                Ok(reply)
-            }
-            Err(refusal) => {
-                self.lock.leave(&mut pass.seat, held);
-                Err(refusal)
-            }
-        }
+        let mut turn = self.enter(rt, pass);
+        let answer = self.call_in(alloc, pass, &mut turn, op, room);
+        self.leave(pass, turn);
+        answer
     }
 }

@@ -1,12 +1,14 @@
-use Rattle.std.proofs.Common.{◌≡◌, vec_len}
-use Rattle.cluster_callers.specs.Calls.{AllZipFront, AreAlike, joined_passes}
+use Rattle.std.proofs.Common.{List, vec_len}
+use Rattle.silo_loops.specs.Lines.{QueuePass}
+use Rattle.cluster_callers.specs.Calls.{AllZipFront, AreAlike, JoinsAll}
 use Rattle.cluster_callers.proofs.caller.join_all.Given as goal
 
+-- what is made of the rest from here on is made of all
 abbrev pub invariant-loop-other : goal.invariant-loop-other
 invariant-loop-other g l =
     record {
       alike : AllZipFront AreAlike l.queues.items l.others.items;
-      joined : joined_passes l.queues.items l.others.items ≡ joined_passes l.fn.queues.items l.fn.others.items;
+      later : (rs : List QueuePass) → JoinsAll l.queues.items l.others.items rs → JoinsAll l.fn.queues.items l.fn.others.items rs;
     }
 
 abbrev pub decreases-loop-other : goal.decreases-loop-other

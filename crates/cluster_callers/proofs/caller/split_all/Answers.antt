@@ -1,6 +1,6 @@
 use Rattle.std.proofs.Common.{arith, refl, rules}
 use Rattle.std.proofs.lemmas.Grind.{common_steps}
-use Rattle.cluster_callers.proofs.Splitting.{none-back, on-err, refused-alike, refused-back, split-more, splits-off, takes-back}
+use Rattle.cluster_callers.proofs.Splitting.{all-whole, none-back, on-err, refused-alike, refused-back, split-more, splits-off, takes-back}
 use Rattle.cluster_callers.proofs.caller.split_all.Goals as goal
 
 pub returns-in_err-made-clause-err : goal.returns-in_err-made-clause-err
@@ -18,7 +18,7 @@ returns-in-Err-clause-err g c =
     let kept = c.loop-at.invariant in
     takes-back _ _
     (refused-back c.args.queues.now.items c.loop-at.queues.items _ c.join_all.new.queues.items c.loop-at.made.items c.loop-at.at c.index_mut-queue.result.now c.split.new.self (first_of (omega (arith, below, len), search rules, grind (arith, common_steps))) kept.same kept.made kept.off
-    c.index_mut-queue.ensures.value c.in-Err.ensures.refused refl c.join_all.ensures)
+    c.index_mut-queue.ensures.value c.in-Err.ensures.refused refl (all-whole _ _ _ c.join_all.ensures))
 
 pub loop-at-preserved : goal.loop-at-preserved
 loop-at-preserved g c =

@@ -5,29 +5,26 @@ use Rattle.stream_model.specs.declared.reply.Reply.{Reply}
 use Rattle.turnstile.specs.declared.turnstile.Refusal.{Refusal}
 use Rattle.cluster_ending.specs.declared.asking.Quiet.{Quiet}
 use Rattle.cluster_ending.specs.Asking.{AsksQuiet, AsksUpTo}
-use Rattle.cluster_ending.proofs.Looking.{asked-next, asks-no-other, quiet-all, quiet-next}
+use Rattle.cluster_ending.proofs.Looking.{asked-next, pending-reply, quiet-all, quiet-next, quiet-told}
 use Rattle.cluster_ending.proofs.asking.ask_quiet.Goals as goal
 
-pub returns-in_err-call-clause-asks : goal.returns-in_err-call-clause-asks
-returns-in_err-call-clause-asks g c =
+pub returns-in_err-answer-clause-asks : goal.returns-in_err-answer-clause-asks
+returns-in_err-answer-clause-asks g c =
     let p = err_from_is_err_and c.from_residual.result c.from_residual.ensures.1 in
-    let same : p.0 ≡ c.in_err-call.field-0.0 = p.2 in
+    let same : p.0 ≡ c.in_err-answer.field-0.0 = p.2 in
     subst (λ (r : Result Quiet Refusal). AsksQuiet c.args.caller.now r c.call.new.self) (sym (p.1 ∙ ap (λ (e : Refusal). Err e) same))
-    (c.loop-queue.queue, asked-next c.loop-queue.queue (Err c.in_err-call.field-0.0) c.args.caller.now c.loop-queue.caller c.call.new.self c.loop-queue.invariant.quiet c.in_err-call.ensures.calls)
+    (c.loop-queue.queue, asked-next c.loop-queue.queue (Err c.in_err-answer.field-0.0) c.args.caller.now c.loop-queue.caller c.call.new.self c.loop-queue.invariant.quiet c.in_err-answer.ensures.calls)
 
-pub returns-in-NotQuiet-clause-asks : goal.returns-in-NotQuiet-clause-asks
-returns-in-NotQuiet-clause-asks g c =
-    subst (λ (r : Reply). AsksUpTo c.loop-queue.queue (Ok r) c.args.caller.now c.call.new.self) c.in-NotQuiet.is
-    (asked-next c.loop-queue.queue (Ok c.in_ok-call.field-0) c.args.caller.now c.loop-queue.caller c.call.new.self c.loop-queue.invariant.quiet c.in_ok-call.ensures.calls)
-
-pub unreachable-requires : goal.unreachable-requires
-unreachable-requires g c =
-    asks-no-other c.in_ok-call.field-0 _ _ c.in_ok-call.ensures.calls.calls c.in_default.not-IsQuiet c.in_default.not-NotQuiet
+pub returns-in-Some-clause-asks : goal.returns-in-Some-clause-asks
+returns-in-Some-clause-asks g c =
+    let calls = c.in_ok-answer.ensures.calls in
+    subst (λ (r : Reply). AsksUpTo c.loop-queue.queue (Ok r) c.args.caller.now c.call.new.self) (pending-reply c.in_ok-answer.answer c.in-Some.why (sym c.pending_of.ensures ∙ c.in-Some.is))
+    (asked-next c.loop-queue.queue (Ok c.in_ok-answer.answer) c.args.caller.now c.loop-queue.caller c.call.new.self c.loop-queue.invariant.quiet calls)
 
 pub loop-queue-preserved : goal.loop-queue-preserved
 loop-queue-preserved g c =
     record {
-      quiet = quiet-next c.loop-queue.queue c.in_ok-call.field-0 c.args.caller.now c.loop-queue.caller c.call.new.self c.loop-queue.invariant.quiet c.in_ok-call.ensures.calls c.in-IsQuiet.is;
+      quiet = quiet-next c.loop-queue.queue c.in_ok-answer.answer c.args.caller.now c.loop-queue.caller c.call.new.self c.loop-queue.invariant.quiet c.in_ok-answer.ensures.calls (quiet-told c.in_ok-answer.answer _ _ c.in_ok-answer.ensures.calls.calls (sym c.pending_of.ensures ∙ c.in-None.is));
       at = c.call.ensures.turnstiles ∙ c.loop-queue.invariant.at;
     }
 

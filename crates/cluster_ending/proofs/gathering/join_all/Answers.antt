@@ -1,9 +1,8 @@
 use Rattle.std.proofs.Common.{◌≡◌, List, [], arith, refl, rules, set, subst, sym}
 use Rattle.std.proofs.lemmas.Grind.{common_steps}
 use Rattle.silo_loops.specs.Lines.{QueuePass}
-use Rattle.cluster_callers.proofs.Splitting.{join-next}
-use Rattle.cluster_ending.specs.Gathering.{JoinsAll}
-use Rattle.cluster_ending.proofs.Taking.{join-more}
+use Rattle.cluster_callers.specs.Calls.{JoinsAll}
+use Rattle.cluster_callers.proofs.Splitting.{join-more, join-next}
 use Rattle.cluster_ending.proofs.gathering.join_all.Goals as goal
 
 pub loop-other-init : goal.loop-other-init

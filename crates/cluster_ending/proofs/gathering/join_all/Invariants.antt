@@ -1,7 +1,6 @@
 use Rattle.std.proofs.Common.{List, vec_len}
 use Rattle.silo_loops.specs.Lines.{QueuePass}
-use Rattle.cluster_callers.specs.Calls.{AllZipFront, AreAlike}
-use Rattle.cluster_ending.specs.Gathering.{JoinsAll}
+use Rattle.cluster_callers.specs.Calls.{AllZipFront, AreAlike, JoinsAll}
 use Rattle.cluster_ending.proofs.gathering.join_all.Given as goal
 
 -- what is made of the rest from here on is made of all

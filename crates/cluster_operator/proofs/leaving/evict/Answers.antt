@@ -65,3 +65,9 @@ returns-in_err-deactivate_everywhere-in-Grain-clause-holds g c =
     let taken = subst (λ (r : Release). Releases c.args.silo e (Ok r) f) c.in-Grain.is c.in_ok-grain.ensures in
     passed-on (λ (why : Halt). HoldsGrains why c.args.silo d f lines) c.from_residual-in_err-deactivate_everywhere-in-Grain.result c.in_err-deactivate_everywhere-in-Grain.field-0.0 c.from_residual-in_err-deactivate_everywhere-in-Grain.ensures.1
     (none-released c.args.silo d e f c.in-Grain.grain c.loop.invariant.directory taken c.loop.invariant.none, inr c.in_err-deactivate_everywhere-in-Grain.ensures.found)
+
+pub returns-in_err-grain-clause-directory : goal.returns-in_err-grain-clause-directory
+returns-in_err-grain-clause-directory g c = on-trans c.args.directory.now c.loop.directory c.take_grain.new.directory c.loop.invariant.directory (released-on c.args.silo c.loop.directory c.take_grain.result c.take_grain.new.directory c.take_grain.ensures)
+
+pub returns-in-NoneLeft-clause-directory : goal.returns-in-NoneLeft-clause-directory
+returns-in-NoneLeft-clause-directory g c = on-trans c.args.directory.now c.loop.directory c.take_grain.new.directory c.loop.invariant.directory (released-on c.args.silo c.loop.directory c.take_grain.result c.take_grain.new.directory c.take_grain.ensures)

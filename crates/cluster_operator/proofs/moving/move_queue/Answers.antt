@@ -1,4 +1,4 @@
-use Rattle.std.proofs.Common.{◌≢◌, ◌∙◌, Ok, inl, inr, refl, subst, sym}
+use Rattle.std.proofs.Common.{◌≢◌, ◌∙◌, Ok, refl, subst, sym}
 use Rattle.stream_model.specs.declared.op.Op.TheVariants as op
 use Rattle.stream_model.specs.declared.reply.Reply.{Reply}
 use Rattle.shared_partition.specs.Partitions.{after, replied}
@@ -6,31 +6,34 @@ use Rattle.silo_loops.specs.Lines.{CallsOn}
 use Rattle.cluster_operator.specs.declared.halt.Halt.{Halt}
 use Rattle.cluster_operator.specs.Changes.{IsMove, IsUnmoved, halt_of}
 use Rattle.cluster_operator.proofs.Changing.{unmoved-refused, unmoved-spent}
-use Rattle.cluster_operator.proofs.Making.{called-reply, made-called, passed-on}
-use Rattle.cluster_operator.proofs.Replies.{move-replies}
+use Rattle.cluster_operator.proofs.Making.{called-reply, goes-called, made-called, passed-on}
+use Rattle.cluster_operator.proofs.Replies.{MovesOrSpent, move-replies, moved-reply, spent-reply}
 use Rattle.cluster_operator.proofs.moving.move_queue.Goals as goal
 
-pub returns-in-Moved-clause-moved : goal.returns-in-Moved-clause-moved
-returns-in-Moved-clause-moved g c =
+pub returns-in-Some-clause-moved : goal.returns-in-Some-clause-moved
+returns-in-Some-clause-moved g c =
     λ other.
-    made-called replied after (IsMove c.args.to) c.args.line.now.pass _ c.in_ok-generation.field-0 c.call.new.self.pass c.in_ok-generation.ensures.call (refl, (c.in-Moved.generation, c.in-Moved.low, c.in-Moved.is))
+    let moved = moved-reply c.in_ok-answer.answer c.in-Some.generation (sym c.moved_of.ensures ∙ c.in-Some.is) in
+    made-called replied after (IsMove c.args.to) c.args.line.now.pass _ c.in_ok-answer.answer c.call.new.self.pass c.in_ok-answer.ensures.call (refl, (c.in-Some.generation, moved.0, moved.1))
 
-pub returns-in_err-generation-clause-unmoved : goal.returns-in_err-generation-clause-unmoved
-returns-in_err-generation-clause-unmoved g c =
-    let e = c.in_err-generation.field-0.0 in
+pub returns-in_err-answer-clause-unmoved : goal.returns-in_err-answer-clause-unmoved
+returns-in_err-answer-clause-unmoved g c =
+    let e = c.in_err-answer.field-0.0 in
     passed-on (λ (why : Halt). c.args.to ≢ c.args.from × IsUnmoved why c.args.to c.args.line.now c.call.new.self) c.from_residual.result (halt_of e) c.from_residual.ensures.1
-    ((λ same. c.if-from-to.false (sym same)), unmoved-refused c.args.line.now c.args.to e c.call.new.self c.in_err-generation.ensures)
+    ((λ same. c.if-from-to.false (sym same)), unmoved-refused c.args.line.now c.args.to e c.call.new.self c.in_err-answer.ensures)
 
-pub unreachable-requires : goal.unreachable-requires
-unreachable-requires g c =
-    let gets = called-reply replied after c.args.line.now.pass (op.Move c.args.to) c.in_ok-generation.field-0 c.call.new.self.pass c.in_ok-generation.ensures.call in
-    elim (move-replies gets.0 c.args.to) as (λ s. ⊥) [
-      | inl spent ↦ c.in_default.not-Spent (gets.1 ∙ spent)
-      | inr moved ↦ c.in_default.not-Moved moved.0 moved.1 (gets.1 ∙ moved.2)
-    ]
+pub returns-clause-unmoved : goal.returns-clause-unmoved
+returns-clause-unmoved g c =
+    let calls = c.in_ok-answer.ensures in
+    let gets = called-reply replied after c.args.line.now.pass (op.Move c.args.to) c.in_ok-answer.answer c.call.new.self.pass calls.call in
+    let spent = spent-reply c.in_ok-answer.answer (subst MovesOrSpent (sym gets.1) (move-replies gets.0 c.args.to)) (sym c.moved_of.ensures ∙ c.in-None.is) in
+    ((λ same. c.if-from-to.false (sym same)), unmoved-spent c.args.line.now c.args.to c.call.new.self (subst (λ (r : Reply). CallsOn c.args.line.now (op.Move c.args.to) (Ok r) c.call.new.self) spent calls))
 
-pub returns-in-Spent-clause-unmoved : goal.returns-in-Spent-clause-unmoved
-returns-in-Spent-clause-unmoved g c = (
-  λ same. c.if-from-to.false (sym same),
-  unmoved-spent c.args.line.now c.args.to c.call.new.self (subst (λ (r : Reply). CallsOn c.args.line.now (op.Move c.args.to) (Ok r) c.call.new.self) c.in-Spent.is c.in_ok-generation.ensures),
-)
+pub returns-in_err-answer-clause-on : goal.returns-in_err-answer-clause-on
+returns-in_err-answer-clause-on g c = goes-called replied after c.args.line.now.pass _ c.call.result c.call.new.self.pass c.call.ensures.call
+
+pub returns-in-Some-clause-on : goal.returns-in-Some-clause-on
+returns-in-Some-clause-on g c = goes-called replied after c.args.line.now.pass _ c.call.result c.call.new.self.pass c.call.ensures.call
+
+pub returns-clause-on : goal.returns-clause-on
+returns-clause-on g c = goes-called replied after c.args.line.now.pass _ c.call.result c.call.new.self.pass c.call.ensures.call

@@ -1,11 +1,13 @@
-use Rattle.std.proofs.Common.{arith, refl, rules, set}
+use Rattle.std.proofs.Common.{◌≡◌, List, [], arith, refl, rules, set, subst, sym}
 use Rattle.std.proofs.lemmas.Grind.{common_steps}
-use Rattle.silo_crew.specs.Silos.{joined_lines}
-use Rattle.silo_crew.proofs.Going.{goes-refl, join-more, join-next, joined-more}
+use Rattle.silo_loops.specs.Lines.{LineView}
+use Rattle.cluster_callers.specs.Calls.{AllZipFront}
+use Rattle.silo_crew.specs.Silos.{HasTakenIn, joined_lines}
+use Rattle.silo_crew.proofs.Going.{goes-refl, join-more, join-next, joined-more, takes-more}
 use Rattle.silo_crew.proofs.lines.join_front.Goals as goal
 
 pub loop-other-init : goal.loop-other-init
-loop-other-init g c = record { alike = c.requires; on = goes-refl c.args.lines.now.items; joined = refl }
+loop-other-init g c = record { alike = c.requires; on = goes-refl c.args.lines.now.items; joined = refl; takes = λ ms on front. front }
 
 pub index_mut-line-requires : goal.index_mut-line-requires
 index_mut-line-requires g c =
@@ -26,4 +28,11 @@ loop-other-preserved g c =
     c.loop-other.invariant.alike c.index_mut-line.ensures.value c.join.ensures.joined c.join.ensures.agree refl c.loop-other.invariant.on in
     let joined = joined-more c.loop-other.lines.items c.loop-other.others.items c.pop.new.self.items (set c.loop-other.lines.items c.len.result c.join.new.self) (joined_lines c.args.lines.now.items c.args.others.items) c.len.result c.index_mut-line.result.now c.in-Some.other c.join.new.self c.in-Some.ensures.items (first_of (omega (arith, len), search rules, grind (arith, common_steps)))
     c.loop-other.invariant.alike c.index_mut-line.ensures.value c.join.ensures.joined refl c.loop-other.invariant.joined in
-    record { alike = more.0; on = more.1; joined = joined }
+    let takes = takes-more c.loop-other.lines.items c.loop-other.others.items c.pop.new.self.items c.args.others.items c.len.result c.index_mut-line.result.now c.in-Some.other c.join.new.self c.in-Some.ensures.items (first_of (omega (arith, len), search rules, grind (arith, common_steps)))
+    c.loop-other.invariant.alike c.index_mut-line.ensures.value c.join.ensures.joined c.join.ensures.agree c.loop-other.invariant.takes in
+    record { alike = more.0; on = more.1; joined = joined; takes = takes }
+
+pub returns-clause-taken : goal.returns-clause-taken
+returns-clause-taken g c =
+    let none : c.loop-other.others.items ≡ [] = first_of (search rules, grind (arith, common_steps)) in
+    c.loop-other.invariant.takes c.loop-other.lines.items (goes-refl c.loop-other.lines.items) (subst (λ (es : List LineView). AllZipFront HasTakenIn c.loop-other.lines.items es) (sym none) tt)

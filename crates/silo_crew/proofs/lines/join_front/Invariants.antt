@@ -1,6 +1,7 @@
 use Rattle.std.proofs.Common.{◌≡◌, vec_len}
 use Rattle.cluster_callers.specs.Calls.{AllZipFront}
 use Rattle.silo_crew.specs.Silos.{AreAlike, GoOn, joined_lines}
+use Rattle.silo_crew.proofs.Going.{Takes}
 use Rattle.silo_crew.proofs.lines.join_front.Given as goal
 
 abbrev pub invariant-loop-other : goal.invariant-loop-other
@@ -9,6 +10,7 @@ invariant-loop-other g l =
       alike : AllZipFront AreAlike l.lines.items l.others.items;
       on : GoOn l.fn.lines.items l.lines.items;
       joined : joined_lines l.lines.items l.others.items ≡ joined_lines l.fn.lines.items l.fn.others.items;
+      takes : Takes l.lines.items l.others.items l.fn.others.items;
     }
 
 abbrev pub decreases-loop-other : goal.decreases-loop-other

@@ -2,32 +2,35 @@ use Rattle.std.proofs.Common.{refl, rules}
 use Rattle.silo_loops.proofs.Advancing.{between-is-at, idle-at, round-begun, round-idle, round-none}
 use Rattle.silo_loops.proofs.worker.begin_round.Goals as goal
 
-pub take_step-requires-clause-at : goal.take_step-requires-clause-at
-take_step-requires-clause-at g c =
-    let h = between-is-at c.args.silo c.args.lines.now.items c.start_round.new.lines.items c.args.directory.now c.args.walk.now c.start_round.new.walk c.args.events.now.items c.args.rounds.now c.args.rounds.now c.args.over.now
+pub look-requires-after_bounds : goal.look-requires-after_bounds
+look-requires-after_bounds g c κs within =
+    let h = between-is-at 0 c.args.lines.now.items c.start_round.new.lines.items c.args.directory.now c.args.walk.now c.start_round.new.walk c.args.events.now.items c.args.rounds.now c.args.rounds.now c.args.over.now
     c.in-Begun.ensures.starts.0 c.start_round.ensures.walk c.requires.at in
     search (rules, h)
 
 pub returns-in-Begun-clause-advances : goal.returns-in-Begun-clause-advances
 returns-in-Begun-clause-advances g c =
-    round-begun c.args.silo c.args.lines.now.items c.start_round.new.lines.items c.args.directory.now c.args.walk.now c.start_round.new.walk c.args.events.now.items c.args.rounds.now c.start_round.new.rounds c.args.over.now _ _ _
-    c.in-Begun.ensures.starts.0 c.in-Begun.ensures.starts.1 c.start_round.ensures.walk c.requires.goes_on c.take_step.ensures.answer refl refl
-    (c.take_step.ensures.steps c.args.rounds.now c.start_round.new.rounds)
+    λ silo.
+    round-begun silo c.args.lines.now.items c.start_round.new.lines.items c.args.directory.now c.args.walk.now c.start_round.new.walk c.args.events.now.items c.args.rounds.now c.start_round.new.rounds c.args.over.now _ _ _
+    c.in-Begun.ensures.starts.0 c.in-Begun.ensures.starts.1 c.start_round.ensures.walk c.requires.goes_on c.told.ensures refl refl
+    (c.look.ensures.looks silo c.args.rounds.now c.start_round.new.rounds)
 
 pub returns-in-Idle-clause-at : goal.returns-in-Idle-clause-at
 returns-in-Idle-clause-at g c =
-    idle-at c.args.silo _ _ c.args.directory.now _ _ c.args.events.now.items c.args.rounds.now c.args.rounds.now c.args.over.now c.in-Idle.ensures.starts.1 c.requires.rest c.start_round.ensures.walk c.requires.at
+    idle-at 0 _ _ c.args.directory.now _ _ c.args.events.now.items c.args.rounds.now c.args.rounds.now c.args.over.now c.in-Idle.ensures.starts.1 c.requires.rest c.start_round.ensures.walk c.requires.at
 
 pub returns-in-Idle-clause-advances : goal.returns-in-Idle-clause-advances
 returns-in-Idle-clause-advances g c =
-    round-idle c.args.silo c.args.lines.now.items c.start_round.new.lines.items c.args.directory.now c.args.walk.now c.start_round.new.walk c.args.events.now.items c.args.rounds.now c.start_round.new.rounds c.args.over.now _
+    λ silo.
+    round-idle silo c.args.lines.now.items c.start_round.new.lines.items c.args.directory.now c.args.walk.now c.start_round.new.walk c.args.events.now.items c.args.rounds.now c.start_round.new.rounds c.args.over.now _
     c.in-Idle.ensures.starts.0 c.in-Idle.ensures.starts.1 c.in-Idle.ensures.starts.2 c.requires.rest c.start_round.ensures.walk c.requires.goes_on refl
 
 pub returns-in-RanOut-clause-at : goal.returns-in-RanOut-clause-at
 returns-in-RanOut-clause-at g c =
-    between-is-at c.args.silo _ _ c.args.directory.now _ _ c.args.events.now.items c.args.rounds.now c.args.rounds.now c.args.over.now c.in-RanOut.ensures.starts.0 c.start_round.ensures.walk c.requires.at
+    between-is-at 0 _ _ c.args.directory.now _ _ c.args.events.now.items c.args.rounds.now c.args.rounds.now c.args.over.now c.in-RanOut.ensures.starts.0 c.start_round.ensures.walk c.requires.at
 
 pub returns-in-RanOut-clause-advances : goal.returns-in-RanOut-clause-advances
 returns-in-RanOut-clause-advances g c =
-    round-none c.args.silo c.args.lines.now.items c.start_round.new.lines.items c.args.directory.now c.args.walk.now c.start_round.new.walk c.args.events.now.items c.args.rounds.now c.start_round.new.rounds c.args.over.now _
-    c.in-RanOut.ensures.starts.0 c.in-RanOut.ensures.starts.1 c.in-RanOut.ensures.starts.2 c.requires.rest c.start_round.ensures.walk c.requires.goes_on c.told.ensures
+    λ silo.
+    round-none silo c.args.lines.now.items c.start_round.new.lines.items c.args.directory.now c.args.walk.now c.start_round.new.walk c.args.events.now.items c.args.rounds.now c.start_round.new.rounds c.args.over.now _
+    c.in-RanOut.ensures.starts.0 c.in-RanOut.ensures.starts.1 c.in-RanOut.ensures.starts.2 c.requires.rest c.start_round.ensures.walk c.requires.goes_on c.told-in-RanOut.ensures

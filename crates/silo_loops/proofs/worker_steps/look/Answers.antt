@@ -1,6 +1,5 @@
 use Rattle.std.proofs.Common.{rules, arith}
 use Rattle.std.proofs.lemmas.Grind.{common_steps}
-use Rattle.silo_loops.proofs.Advancing.{steps-called}
 use Rattle.silo_loops.proofs.Stepping.{looked, within}
 use Rattle.silo_loops.proofs.Working.{free-at}
 use Rattle.silo_loops.proofs.worker_steps.look.Goals as goal
@@ -15,7 +14,7 @@ returns-clause-at g c =
     let len = c.len.ensures in
     free-at c.after_look.new.self c.hear_at-answer.new.lines.items c.args.directory.now (first_of (omega (arith, below, len), search rules, grind (arith, common_steps))) c.after_look.ensures.free c.requires.line
 
-pub returns-clause-steps : goal.returns-clause-steps
-returns-clause-steps g c =
+pub returns-clause-looks : goal.returns-clause-looks
+returns-clause-looks g c =
     λ silo rounds counted.
-    steps-called _ _ _ (looked c.args.lines.now.items c.hear_at-answer.new.lines.items c.args.directory.now c.args.walk.now c.after_look.new.self _ c.args.events.now.items c.hear_at-answer.new.events.items c.hear_at-answer.result c.after_look.result _ c.hear_at-answer.ensures.heard c.after_look.ensures.over c.after_look.ensures.free silo rounds counted)
+    looked c.args.lines.now.items c.hear_at-answer.new.lines.items c.args.directory.now c.args.walk.now c.after_look.new.self _ c.args.events.now.items c.hear_at-answer.new.events.items c.hear_at-answer.result c.after_look.result _ c.hear_at-answer.ensures.heard c.after_look.ensures.over c.after_look.ensures.free silo rounds counted

@@ -3,7 +3,6 @@ use Rattle.std.specs.Prelude.{OnErr}
 use Rattle.stream_model.proofs.Refusals.{deliver-stale, deliver-unknown}
 use Rattle.step_core.proofs.RecordOps.{no-record}
 use Rattle.stream_model.specs.declared.reply.Reply.TheVariants as reply
-use Rattle.stream_model.specs.declared.plain.Subscription.{Subscription}
 use Rattle.stream_model.specs.Step.{takes_memory}
 use Rattle.grain_table.specs.Grains.{number_of}
 use Rattle.pubsub_registry.specs.declared.registration.Registration.{Registration}

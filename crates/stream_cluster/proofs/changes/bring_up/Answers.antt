@@ -4,10 +4,10 @@ use Rattle.silo_crew.specs.Silos.{IsSiloAt, SiloView}
 use Rattle.cluster_operator.specs.declared.halt.Halt.{Halt}
 use Rattle.cluster_operator.specs.declared.halt.Halt.TheVariants as halt
 use Rattle.cluster_operator.specs.Operators.{HasSpread, IsUnspread, OperatorView}
-use Rattle.stream_cluster.specs.Clusters.{HasMetLimit, RunsOn}
+use Rattle.stream_cluster.specs.Clusters.{AreFresh, HasMetLimit, RunsOn}
 use Rattle.stream_ident.proofs.EachOf.{All-push}
 use Rattle.cluster_operator.proofs.Changing.{op-trans}
-use Rattle.stream_cluster.proofs.Standing.{came-some, op-refl, op-same, sits-on, spread-from, spread-met}
+use Rattle.stream_cluster.proofs.Standing.{came-some, fresh-push, op-refl, op-same, sits-on, spread-from, spread-met}
 use Rattle.stream_cluster.proofs.changes.bring_up.Goals as goal
 
 pub returns-in_err-reserve-clause-on : goal.returns-in_err-reserve-clause-on
@@ -71,3 +71,16 @@ returns-clause-limit g c =
     IfErr-weaker c.spread.result (λ (why : Halt). IsUnspread why v.assignment v.live v.lines w.lines) (λ (why : Halt). why ≡ halt.Limit → HasMetLimit u w)
     (λ why unspread is. spread-met u v w on (λ none. came-some c.start_silo.new.operator.live c.args.silo (sym live ∙ none)) why is unspread)
     c.spread.ensures.unspread
+
+pub returns-in_err-start_silo-clause-fresh : goal.returns-in_err-start_silo-clause-fresh
+returns-in_err-start_silo-clause-fresh g c = subst (λ (ss : List SiloView). AreFresh c.args.rounds ss) (sym c.reserve.ensures.items) c.requires.fresh
+
+pub returns-in_err-enlist-clause-fresh : goal.returns-in_err-enlist-clause-fresh
+returns-in_err-enlist-clause-fresh g c =
+    let whole = c.push_reserved.ensures.items ∙ ap (λ (ss : List SiloView). ss ++ c.in_ok-start_silo.field-0 ∷ []) c.reserve.ensures.items in
+    subst (λ (ss : List SiloView). AreFresh c.args.rounds ss) (sym whole) (fresh-push c.args.rounds c.args.silo c.args.silos.now.items c.in_ok-start_silo.field-0 c.requires.fresh c.in_ok-start_silo.ensures.started.0)
+
+pub returns-clause-fresh : goal.returns-clause-fresh
+returns-clause-fresh g c =
+    let whole = c.push_reserved.ensures.items ∙ ap (λ (ss : List SiloView). ss ++ c.in_ok-start_silo.field-0 ∷ []) c.reserve.ensures.items in
+    subst (λ (ss : List SiloView). AreFresh c.args.rounds ss) (sym whole) (fresh-push c.args.rounds c.args.silo c.args.silos.now.items c.in_ok-start_silo.field-0 c.requires.fresh c.in_ok-start_silo.ensures.started.0)

@@ -8,7 +8,7 @@ use Rattle.cluster_operator.specs.Operators.{HasSpread, IsUnspread, OperatorView
 use Rattle.cluster_operator.proofs.Making.{passed-on}
 use Rattle.stream_cluster.specs.Clusters.{HasLeft, HasMetLimit}
 use Rattle.cluster_operator.proofs.Changing.{op-trans}
-use Rattle.stream_cluster.proofs.Standing.{evict-met, left-some, left-whole, op-same, spread-met}
+use Rattle.stream_cluster.proofs.Standing.{evict-met, left-some, left-whole, op-same, spread-met, taken-op}
 use Rattle.stream_cluster.proofs.changes.leave.Goals as goal
 
 pub returns-in_err-evict-clause-on : goal.returns-in_err-evict-clause-on
@@ -61,3 +61,12 @@ returns-clause-limit g c =
     IfErr-weaker c.spread.result (λ (why : Halt). IsUnspread why v.assignment v.live v.lines w.lines) (λ (why : Halt). why ≡ halt.Limit → HasMetLimit u w)
     (λ why unspread is. spread-met u v w on (λ none. left-some c.evict.new.self.live c.args.place within more (sym live ∙ none)) why is unspread)
     c.spread.ensures.unspread
+
+pub returns-in_err-evict-clause-taken : goal.returns-in_err-evict-clause-taken
+returns-in_err-evict-clause-taken g c = taken-op c.take_back.new.self c.evict.new.self c.args.loops c.evict.ensures.only.on c.take_back.ensures.taken
+
+pub returns-clause-taken : goal.returns-clause-taken
+returns-clause-taken g c =
+    let gone = op-same c.evict.new.self c.dismiss.new.self (ap (λ (o : OperatorView). o.lines) c.dismiss.ensures) (ap (λ (o : OperatorView). o.directory) c.dismiss.ensures) in
+    let on = op-trans c.evict.new.self c.dismiss.new.self c.spread.new.self gone c.spread.ensures.on in
+    taken-op c.take_back.new.self c.spread.new.self c.args.loops (op-trans c.take_back.new.self c.evict.new.self c.spread.new.self c.evict.ensures.only.on on) c.take_back.ensures.taken

@@ -1,4 +1,5 @@
-use Rattle.std.proofs.Common.{List, ap, length, map, subst, sym, ◌+◌, ◌∙◌}
+use Rattle.std.proofs.Common.{◌≡◌, ℕ, List, ap, arith, length, map, rules, subst, sym, ◌+◌, ◌∙◌}
+use Rattle.std.proofs.lemmas.Grind.{common_steps}
 use Rattle.std.proofs.lemmas.List.{length_push}
 use Rattle.silo_crew.specs.Silos.{SiloView}
 use Rattle.cluster_operator.proofs.Spreading.{only-refl}
@@ -39,3 +40,10 @@ loop-silo-preserved g c =
       runs = subst (λ (ss : List SiloView). RunsOn c.make_loops.new.self ss) (sym c.push_reserved.ensures.items) more.2;
       room = c.push_reserved.ensures.capacity ∙ c.loop-silo.invariant.room;
     }
+
+pub returns-clause-made : goal.returns-clause-made
+returns-clause-made g c =
+    let past = c.loop-silo-test.false in
+    let end = c.loop-silo.auto.silo-end in
+    let same : c.loop-silo.silo ≡ c.args.silos = first_of (omega (arith, past, end), search rules, grind (arith, common_steps)) in
+    (subst (λ (n : ℕ). AreStarted n c.loop-silo.made.items) same c.loop-silo.invariant.started, c.loop-silo.invariant.fresh, c.loop-silo.invariant.runs)

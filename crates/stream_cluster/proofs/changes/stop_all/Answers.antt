@@ -3,7 +3,7 @@ use Rattle.silo_crew.specs.Silos.{SiloView}
 use Rattle.cluster_ending.specs.declared.ends.LoopEnds.{LoopEnds}
 use Rattle.cluster_operator.proofs.Spreading.{only-refl}
 use Rattle.stream_cluster.specs.Clusters.{EndsBy, RunsOn}
-use Rattle.stream_cluster.proofs.Standing.{ends-push, only-trans, same-at, sits-on}
+use Rattle.stream_cluster.proofs.Standing.{ends-on, ends-push, only-trans, same-at, sits-on}
 use Rattle.stream_cluster.proofs.changes.stop_all.Goals as goal
 
 pub take_back-requires-after_bounds : goal.take_back-requires-after_bounds
@@ -21,6 +21,8 @@ loop-silo-preserved g c =
     record {
       only = only-trans c.args.operator.now c.loop-silo.operator c.take_back.new.self c.loop-silo.invariant.only c.take_back.ensures.only;
       runs = sits-on c.loop-silo.operator c.take_back.new.self _ c.take_back.ensures.only.on runs.1;
-      ends = subst (λ (e : LoopEnds). EndsBy c.args.ends (c.loop-silo.yielded ++ c.in-Some.silo ∷ []) e) (sym c.note_ends-ends.ensures)
-          (ends-push c.args.ends c.loop-silo.ends c.loop-silo.yielded c.in-Some.silo c.stop-loops.result c.loop-silo.invariant.ends c.stop-loops.ensures);
+      ends = subst (λ (e : LoopEnds). EndsBy c.take_back.new.self.lines c.take_back.new.self.directory c.args.ends (c.loop-silo.yielded ++ c.in-Some.silo ∷ []) e) (sym c.note_ends-ends.ensures.noted)
+          (ends-push c.take_back.new.self c.args.ends c.loop-silo.ends c.loop-silo.yielded c.in-Some.silo c.stop-loops.result
+          (ends-on c.loop-silo.operator c.take_back.new.self c.args.ends c.loop-silo.ends c.loop-silo.yielded c.take_back.ensures.only.on c.loop-silo.invariant.ends) c.stop-loops.ensures
+          (record { taken = c.take_back.ensures.taken; causes = c.note_ends-ends.ensures.causes }));
     }

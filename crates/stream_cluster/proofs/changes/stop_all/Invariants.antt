@@ -7,5 +7,5 @@ invariant-loop-silo g l =
     record {
       only : HasOnlyGoneOn l.fn.operator l.operator;
       runs : RunsOn l.operator l.silo-iterator.rest.items;
-      ends : EndsBy l.fn.ends l.yielded l.ends;
+      ends : EndsBy l.operator.lines l.operator.directory l.fn.ends l.yielded l.ends;
     }

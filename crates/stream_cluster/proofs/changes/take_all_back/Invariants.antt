@@ -1,6 +1,7 @@
 use Rattle.std.proofs.Common.{◌≡◌}
+use Rattle.std.specs.List.{AllByRecursion}
 use Rattle.cluster_operator.specs.Operators.{HasOnlyGoneOn}
-use Rattle.stream_cluster.specs.Clusters.{RunsOn, all_noted}
+use Rattle.stream_cluster.specs.Clusters.{HaveComeBack, RunsOn, all_noted}
 use Rattle.stream_cluster.proofs.changes.take_all_back.Given as goal
 
 abbrev pub invariant-loop-loops : goal.invariant-loop-loops
@@ -9,4 +10,5 @@ invariant-loop-loops g l =
       only : HasOnlyGoneOn l.fn.operator l.operator;
       runs : RunsOn l.operator l.loops-iterator.rest.items;
       ends : l.ends ≡ all_noted l.fn.ends l.yielded;
+      back : AllByRecursion (HaveComeBack l.operator.lines l.operator.directory) l.yielded;
     }

@@ -1,5 +1,4 @@
 use Rattle.std.proofs.Common.{ap, ◌∙◌}
-use Rattle.stream_cluster.specs.Clusters.{opening_directory}
 use Rattle.turnstile.specs.declared.view.Start.{Start}
 use Rattle.activation_directory.specs.Plain.{PlainDirectory}
 use Rattle.stream_cluster.proofs.opening.open_places.Goals as goal

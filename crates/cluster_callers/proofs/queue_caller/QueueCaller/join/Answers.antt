@@ -5,5 +5,5 @@ use Rattle.cluster_callers.proofs.queue_caller.QueueCaller.join.Goals as goal
 
 pub returns-clause-agree : goal.returns-clause-agree
 returns-clause-agree g c =
-    subst (λ (p : QueuePass). Agree p c.args.other c.join.new.pass) c.self.view_is
-    (subst (λ (q : QueuePass). Agree c.self.inside.pass q c.join.new.pass) c.into_parts-turnstile.ensures.pass c.join.ensures.agree)
+    subst (λ (p : QueuePass). Agree p c.args.other c.join.new.self) c.self.view_is
+    (subst (λ (q : QueuePass). Agree c.self.inside.handle q c.join.new.self) c.other.view_is c.join.ensures.agree)

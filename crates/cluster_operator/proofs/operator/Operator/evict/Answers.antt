@@ -1,8 +1,22 @@
-use Rattle.std.proofs.Common.{OnOk, subst}
-use Rattle.cluster_operator.specs.Changes.{AreDeactivated}
+use Rattle.std.proofs.Common.{◌∙◌, IfErr, OnOk, subst, sym}
+use Rattle.silo_crew.proofs.Going.{goes-length, goes-some}
+use Rattle.cluster_operator.specs.declared.halt.Halt.{Halt}
+use Rattle.cluster_operator.specs.Changes.{AreDeactivated, HoldsGrains}
 use Rattle.cluster_operator.specs.Operators.{OperatorView}
 use Rattle.cluster_operator.proofs.operator.Operator.evict.Goals as goal
 
 pub returns-clause-deactivated : goal.returns-clause-deactivated
 returns-clause-deactivated g c =
     subst (λ (v : OperatorView). OnOk c.evict.result (AreDeactivated c.args.silo v.directory c.evict.new.directory v.lines c.evict.new.lines.items)) c.self.view_is c.evict.ensures.deactivated
+
+pub invariant_of-self : goal.invariant_of-self
+invariant_of-self g c =
+    record {
+      some = goes-some c.self.inside.lines.items c.evict.new.lines.items c.evict.ensures.on c.self.invariant.some;
+      assigned = c.self.invariant.assigned ∙ sym (goes-length c.self.inside.lines.items c.evict.new.lines.items c.evict.ensures.on);
+      once = c.self.invariant.once;
+    }
+
+pub returns-clause-holds : goal.returns-clause-holds
+returns-clause-holds g c =
+    subst (λ (v : OperatorView). IfErr c.evict.result (λ (why : Halt). HoldsGrains why c.args.silo v.directory c.evict.new.directory c.evict.new.lines.items)) c.self.view_is c.evict.ensures.holds

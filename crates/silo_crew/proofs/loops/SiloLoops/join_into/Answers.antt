@@ -1,6 +1,6 @@
 use Rattle.std.proofs.Common.{◌∙◌, subst, sym}
-use Rattle.silo_crew.specs.Silos.{IsSiloAt, SiloView}
-use Rattle.silo_crew.proofs.Going.{goes-trans, silent-trans, still-at}
+use Rattle.silo_crew.specs.Silos.{AreTakenIn, IsSiloAt, SiloView}
+use Rattle.silo_crew.proofs.Going.{goes-trans, silent-trans, still-at, taken-goes, taken-lines}
 use Rattle.silo_crew.proofs.loops.SiloLoops.join_into.Goals as goal
 
 pub join_worker-requires-after_bounds : goal.join_worker-requires-after_bounds
@@ -23,3 +23,16 @@ returns-clause-go_on g c =
 
 pub returns-clause-directory : goal.returns-clause-directory
 returns-clause-directory g c = silent-trans c.args.directory.now c.join_worker.new.directory c.join_worker-2.new.directory c.join_worker.ensures.directory c.join_worker-2.ensures.directory
+
+pub returns-clause-taken : goal.returns-clause-taken
+returns-clause-taken g c =
+    let two = c.join_worker-2.ensures.go_on in
+    let both = goes-trans c.join_agent.new.lines.items c.join_worker.new.lines.items c.join_worker-2.new.lines.items c.join_worker.ensures.go_on two in
+    subst (λ (s : SiloView). AreTakenIn c.join_worker-2.new.lines.items c.join_worker-2.new.directory s) c.self.view_is
+    (record {
+      agent = taken-lines c.join_agent.new.lines.items c.join_worker-2.new.lines.items c.self.inside.agent.lines both c.join_agent.ensures.taken;
+      first = taken-lines c.join_worker.new.lines.items c.join_worker-2.new.lines.items c.self.inside.first.lines two c.join_worker.ensures.taken;
+      second = c.join_worker-2.ensures.taken;
+      first_asks = taken-goes c.self.inside.first.directory c.join_worker.new.directory c.join_worker-2.new.directory c.join_worker.ensures.asks c.join_worker-2.ensures.directory.on;
+      second_asks = c.join_worker-2.ensures.asks;
+    })

@@ -1,5 +1,5 @@
-use Rattle.silo_loops.specs.Workers.{IsBeside}
+use Rattle.silo_loops.specs.Workers.{WorkerRuns}
 use Rattle.silo_loops.proofs.worker.WorkerLoop.run.Given as goal
 
 abbrev pub invariant-loop : goal.invariant-loop
-invariant-loop g l = IsBeside l.fn.self l.worker
+invariant-loop g l = WorkerRuns l.fn.self l.worker

@@ -1,4 +1,6 @@
-use Rattle.std.proofs.Common.{refl, sym, ◌∙◌}
+use Rattle.std.proofs.Common.{◌≡◌, List, false, refl, subst, sym, true, ◌∙◌}
+use Rattle.silo_crew.specs.Silos.{SiloView}
+use Rattle.stream_cluster.specs.Clusters.{AreFresh, RunsOn}
 use Rattle.stream_cluster.proofs.Standing.{ends-none, opened-on}
 use Rattle.stream_cluster.proofs.cluster.Cluster.parked.Goals as goal
 
@@ -7,3 +9,12 @@ returns g c =
     let opened = opened-on c.args.config.now c.in_ok-operator.operator c.make_all.new.operator c.in_ok-operator.caller c.make_all.ensures.only c.in_ok-operator.ensures in
     let made = c.in_ok-loops.ensures.made in
     record { opened = opened; parked = refl; goes_on = refl; none = ends-none c.default.result c.default.ensures.0 c.default.ensures.1.0 c.default.ensures.1.1; rounds = refl; looks = refl; silos = made.0 ∙ sym opened.live; fresh = made.1; at = made.2 }
+
+pub invariant_of-cluster : goal.invariant_of-cluster
+invariant_of-cluster g c =
+    record {
+      at = subst (λ (ss : List SiloView). RunsOn c.make_all.new.operator ss) (sym c.new.ensures.items) tt;
+      fresh = subst (λ (ss : List SiloView). AreFresh c.args.config.now.rounds ss) (sym c.new.ensures.items) tt;
+      loops = λ fixed. let differ : true ≡ false = fixed in absurd (cc (differ));
+      parked = λ is. c.new.ensures.items;
+    }

@@ -41,7 +41,7 @@ returns-in-Ok g c =
     let named : c.loops.inside.silo ≡ c.args.loops.silo = ap (λ (s : SiloView). s.silo) c.loops.view_is in
     subst (λ (u : ClusterView). IsRetired u c.args.loops w) c.self.view_is
     (retire-done v w c.args.loops c.in-Some.place c.loops.inside.silo c.args.loops.silo c.if-self.false (λ one. c.if-live_count-eq1.false (c.live_count.ensures ∙ one)) c.in-Some.ensures named refl c.leave.ensures.on c.in-Ok.ensures.left (refl, refl, refl) c.if-self.false
-    c.note_ends-self-inside.ensures)
+    (c.note_ends-self-inside.ensures.noted, record { taken = c.leave.ensures.taken; causes = c.note_ends-self-inside.ensures.causes }))
 
 pub returns-in-Err : goal.returns-in-Err
 returns-in-Err g c =
@@ -50,4 +50,4 @@ returns-in-Err g c =
     let named : c.loops.inside.silo ≡ c.args.loops.silo = ap (λ (s : SiloView). s.silo) c.loops.view_is in
     let may = may-go v c.in-Some.place c.args.loops.silo (c.in-Some.ensures ∙ ap (λ (k : ℕ). Some k) named) (λ one. c.if-live_count-eq1.false (c.live_count.ensures ∙ one)) in
     subst (λ (u : ClusterView). AnswersRetire u c.args.loops c.retired_by.result w) c.self.view_is
-    (halted-retire v w c.args.loops c.in-Err.halt c.retired_by.result c.retired_by.ensures (c.if-self.false, may, record { on = c.leave.ensures.on; assignment = c.in-Err.ensures.kept; same = (refl, refl, refl); halted = refl }, c.note_ends-self-inside.ensures) c.in-Err.ensures.limit)
+    (halted-retire v w c.args.loops c.in-Err.halt c.retired_by.result c.retired_by.ensures (c.if-self.false, may, record { on = c.leave.ensures.on; assignment = c.in-Err.ensures.kept; same = (refl, refl, refl); halted = refl }, (c.note_ends-self-inside.ensures.noted, record { taken = c.leave.ensures.taken; causes = c.note_ends-self-inside.ensures.causes })) c.in-Err.ensures.limit)

@@ -10,7 +10,7 @@ invariant_of-self g c =
     let v : ClusterView = record { operator = c.self.inside.operator; silos = c.self.inside.silos.items; ends = c.self.inside.ends; is_parked = c.self.inside.parked; is_halted = c.self.inside.halted; rounds = c.self.inside.rounds; looks = c.self.inside.looks } in
     let started = c.in-Ok.ensures.started in
     let fresh : IsFresh c.self.inside.rounds c.args.silo started.0 = started.2 in
-    cluster-came v v.ends c.bring_up.new.operator c.bring_up.new.silos.items c.args.silo started.0 c.if-self.false c.if-self-2.false c.self.invariant started.1 fresh.0 c.bring_up.ensures.at c.in-Ok.ensures.live
+    cluster-came v v.ends c.bring_up.new.operator c.bring_up.new.silos.items c.args.silo started.0 c.if-self.false c.if-self-2.false c.self.invariant started.1 fresh.0 c.bring_up.ensures.at c.bring_up.ensures.fresh c.in-Ok.ensures.live
 
 pub returns-in-Ok : goal.returns-in-Ok
 returns-in-Ok g c =

@@ -11,7 +11,7 @@ loop-asked-preserved g c =
     let same = c.deref-asked-items.ensures.value in
     let is : asked ≡ get_or history.asked.items k asked = c.asked-item.is ∙ ap (λ l. get_or l k asked) same in
     again_done g.T.Replays.replied g.T.Replays.after (g.T.Replays.state_of c.args.object.now) history.asked.items (recorded history.replies) k asked c.loop-asked.replies.items c.push.new.self.items (g.T.Replays.state_of c.loop-asked.object) (g.T.Replays.state_of c.apply.new.self) c.in_ok-apply.field-0
-    history.counted (omega (arith, c.loop-asked-test.true, ap length same)) is c.loop-asked.invariant c.in_ok-push.ensures.items c.in_ok-apply.ensures.0 c.in_ok-apply.ensures.1
+    history.counted (omega (arith, c.loop-asked-test.true, ap length same)) is c.loop-asked.invariant c.in_ok-push.ensures.items c.in_ok-apply.ensures.does.0 c.in_ok-apply.ensures.does.1
 
 pub returns : goal.returns
 returns g c =

@@ -6,6 +6,5 @@ use Rattle.turnstile.proofs.asked.AskedHistoryStoredHistory.push.Goals as goal
 pub returns : goal.returns
 returns g c =
     let history = c.args.self.now in
-    let entry = c.args.entry in
     (λ i. answered (c.push_reserved.ensures.items i) (c.add.ensures i))
-    ∙ answered-snoc history.asked.items (recorded history.replies) record { number = entry.number; op = entry.op } entry.reply history.counted
+    ∙ answered-snoc history.asked.items (recorded history.replies) record { number = c.args.number; op = c.args.op } c.args.reply.now history.counted

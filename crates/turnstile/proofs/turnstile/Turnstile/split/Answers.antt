@@ -7,7 +7,7 @@ pub split_seat-seat-requires : goal.split_seat-seat-requires
 split_seat-seat-requires g c =
     let shape = c.self.inside.lock.shape in
     let here = seated _ _ _ _ c.pass.inside.seat.me.0 c.pass.inside.number _ c.pass.view_is c.self.view_is c.requires in
-    (here.0, omega (arith, shape), splits _ _ _ _ _ _ _ c.pass.invariant.come)
+    (here.0, omega (arith, shape), splits _ _ _ _ _ _ _ here.2)
 
 pub compare_exchange-found-requires : goal.compare_exchange-found-requires
 compare_exchange-found-requires g c =

@@ -1,0 +1,12 @@
+-- Steps of a loop, one after another.
+use Rattle.silo_loops.specs.declared.advance.Advance.{Advance}
+use Rattle.silo_loops.specs.declared.advance.Advance.TheVariants.{Did}
+
+-- from one state to another by such steps, or by none
+pub data Chain {A : Type 0} (Step : A → A → Type 0) : A → A → Type 0 where
+  Stays : {v : A} → Chain Step v v
+  Steps : {v u w : A} → Step v u → Chain Step u w → Chain Step v w
+
+-- calls and pieces of work, or none, and then the step that did this
+abbrev pub Visits : {V : Type 0} → (Advance → V → V → Type 0) → Advance → V → V → Type 0
+Visits {V} advances did v w = (u : V) × Chain (advances Did) v u × advances did u w

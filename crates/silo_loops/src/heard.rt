@@ -1,0 +1,101 @@
+//! What a loop takes from an answer at a queue.
+ghost use Rattle.std.specs.Prelude.{◌≡◌};
+ghost use Rattle.step_core.specs.Replied.{Says, reply_of};
+ghost use Rattle.stream_model.specs.declared.reply.Reply.{Reply};
+ghost use Rattle.silo_loops.specs.Answers.{heard_of, end_in};
+
+use crate::advance::{Over, end_by};
+use step_core::{Answer, Outcome, Told};
+use stream_ident::{GrainId, SubName, Token};
+use turnstile::Refusal;
+
+/// An answer at a queue as far as loops go by it, without the events of a turn.
+#[derive(Clone, Copy)]
+pub(crate) enum Heard {
+    /// The loop ends.
+    Ended(Over),
+    /// A ready grain.
+    Next(GrainId),
+    /// A turn runs.
+    Turn {
+        sub: SubName,
+        activation: u64,
+        turn: u64,
+        note: u64,
+    },
+    /// The turn is committed.
+    Committed {
+        sub: SubName,
+        token: Token,
+    },
+    /// A subscription is due.
+    Due {
+        sub: SubName,
+        ack: Option<Token>,
+    },
+    /// Another agent is the current one.
+    StaleAgent,
+    /// Something was pulled, delivered, acknowledged or dropped.
+    Changed,
+    /// Nothing that a loop goes by.
+    Other,
+}
+
+impl Heard {
+    /// How the answer ends a loop, where it does.
+    pub(crate) fn end(&self) -> Option<Over>
+        ensures { result ≡ end_in self.now }
+    {
+        match *self {
+            Heard::Ended(end) => Some(end),
+            _ => None,
+        }
+    }
+
+    /// Whether a turn began, or something was pulled, delivered, acknowledged or dropped.
+    pub(crate) fn is_change(&self) -> bool {
+        matches!(*self, Heard::Turn { .. } | Heard::Changed)
+    }
+}
+
+/// What an answer says, without the events of a turn.
+pub(crate) fn heard_of(answer: &Result<Answer, Refusal>) -> Heard
+    ensures { result ≡ heard_of answer.now }
+{
+    match answer {
+        Ok(answer) => heard_in(answer.outcome()),
+        Err(refusal) => Heard::Ended(end_by(*refusal)),
+    }
+}
+
+// What an outcome says.
+fn heard_in(outcome: &Outcome) -> Heard
+    ensures { (r : Reply) → Says outcome.now r → result ≡ heard_of (Ok r) }
+{
+    match outcome {
+        Outcome::Told(told) => heard_told(told),
+        Outcome::Turn(turn) => Heard::Turn {
+            sub: turn.sub,
+            activation: turn.activation,
+            turn: turn.turn,
+            note: turn.note,
+        },
+    }
+}
+
+// What a reply says that isn't a turn.
+fn heard_told(told: &Told) -> Heard
+    ensures { result ≡ heard_of (Ok (reply_of told.now)) }
+{
+    match *told {
+        Told::TooMany | Told::Spent => Heard::Ended(Over::Limit),
+        Told::Next(grain) => Heard::Next(grain),
+        Told::Committed { sub, token } => Heard::Committed { sub, token },
+        Told::DueSub { sub, ack } => Heard::Due { sub, ack },
+        Told::StaleAgent { .. } => Heard::StaleAgent,
+        Told::Pulled { .. } | Told::Delivered { .. } | Told::Acked | Told::Dropped { .. } => {
+            Heard::Changed
+        }
+        _ => Heard::Other,
+    }
+}
