@@ -95,7 +95,7 @@ impl<H: StoredHistory<DirectoryOp, DirectoryReply>> SharedDirectory<H> {
         ensures stands { LeavesLegal turnstile.now.start pass.new.seen }
     {
         one_permit_at_a_time();
-        turnstile.call(rt, alloc, pass, op, &mut ())
+        turnstile.call(rt, alloc, pass, op)
     }
 
     /// Does one operation by a handle, in the turn that it keeps or in one that it waits for. It says what

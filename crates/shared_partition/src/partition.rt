@@ -3,7 +3,7 @@ ghost use Rattle.std.specs.Prelude.{◌≡◌, ◌≤◌, IfOk, MatchResult};
 ghost use Rattle.stream_model.specs.Bounds.{AreLimits};
 ghost use Rattle.step_core.specs.Replied.{Shows};
 ghost use Rattle.stream_model.specs.Positions.{empty};
-ghost use Rattle.turnstile.specs.Calls.{Called, CalledNext, CallsBy, Does, Found, FoundNone, HasOnlySeen, IsOf, IsTurn};
+ghost use Rattle.turnstile.specs.Calls.{Called, CallsBy, Found, HasOnlySeen, IsOf};
 ghost use Rattle.turnstile.specs.Passes.{Origin};
 ghost use Rattle.stream_model.specs.declared.plain.PlainPartition.{PlainPartition};
 ghost use Rattle.shared_partition.specs.Partitions.{BeganEmpty, IsOfEmpty, LeavesLegal, TellsOneHistory, after, replied};
@@ -16,7 +16,7 @@ use step_core::{Answer, Partition};
 use stream_ident::Event;
 use stream_laws::one_history;
 use stream_model::{Limits, Op, PlainPartition};
-use turnstile::{Handle, Hold, PassOf, Refusal, Replays, StoredHistory, Turnstile};
+use turnstile::{Handle, PassOf, Refusal, Replays, StoredHistory, Turnstile};
 
 /// The partition of a queue, with a gate that sees each operation before it is applied.
 ///
@@ -143,7 +143,7 @@ impl<G: Gate, H: StoredHistory<Op, Answer>> SharedPartition<G, H> {
         ensures stands { LeavesLegal turnstile.now.start pass.new.seen }
     {
         one_history();
-        turnstile.call(rt, alloc, pass, op, events)
+        turnstile.call_into(rt, alloc, pass, op, events)
     }
 
     /// Does one operation by a handle, in the turn that it keeps or in one that it waits for. It says what
@@ -166,32 +166,5 @@ impl<G: Gate, H: StoredHistory<Op, Answer>> SharedPartition<G, H> {
     {
         one_history();
         handle.call(rt, alloc, op, events)
-    }
-
-    /// Does one operation in a turn that is held. All that the pass has seen then is one history of the
-    /// partition, as at [`call`](SharedPartition::call).
-    ///
-    /// # Errors
-    /// They are those of `call`. Nothing is added, and the partition is as before.
-    pub fn call_held(
-        hold: &mut Hold<'_, SharedPartition<G, H>>,
-        alloc: Global,
-        op: Op,
-        events: &mut Vec<Event>,
-    ) -> Result<Answer, Refusal>
-        requires turn { IsTurn replied after hold.old.turnstile.now hold.old.pass.now hold.old.turn }
-        requires empty { BeganEmpty hold.old.turnstile.now.start }
-        ensures same { hold.new.pass.ghost_name ≡ hold.old.pass.ghost_name }
-        ensures turnstile { hold.new.turnstile.now ≡ hold.old.turnstile.now }
-        ensures pass { HasOnlySeen hold.old.pass.now hold.new.pass.now }
-        ensures turn { IsTurn replied after hold.new.turnstile.now hold.new.pass.now hold.new.turn }
-        ensures call { MatchResult result (λ r. CalledNext hold.old.pass.now op r hold.new.pass.now.seen) (λ e. FoundNone hold.old.turnstile.now.start hold.old.pass.now e hold.new.pass.now.seen) }
-        ensures does { IfOk result (λ r. Does replied after hold.old.turn op r hold.new.turn) }
-        ensures shows { MatchResult result (λ r. Shows events.old events.new r) (λ _. events.new ≡ events.old) }
-        ensures headline { TellsOneHistory hold.new.pass.now.seen }
-        ensures stands { LeavesLegal hold.new.turnstile.now.start hold.new.pass.now.seen }
-    {
-        one_history();
-        hold.call(alloc, op, events)
     }
 }

@@ -11,8 +11,7 @@ module _ {S O R : Type 0} (reply : S → O → R) (after : S → O → S) (t : O
       → MatchResult result (λ r. CalledNext b op r q.seen) (λ e. FoundNone t.start b e q.seen) → IsTurn reply after t q h
       → MatchResult result (λ r. Called reply after t.start (outside t p) op r q.seen) (λ e. Found reply after t.start (outside t p) e q.seen)
   in-turn (Ok r) h same waited called turn =
-      let number : b.number ≡ p.number = ap (λ (w : PassView O R S). w.number) same in
-      (
+      let number : b.number ≡ p.number = ap (λ (w : PassView O R S). w.number) same in (
         waited.0,
         called ∙ ap (λ n. b.seen ++ entry n op r ∷ []) number ∙ ap (λ es. es ++ entry p.number op r ∷ []) waited.1,
         waited.2,

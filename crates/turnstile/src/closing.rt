@@ -104,7 +104,11 @@ impl<T: Replays> Turnstile<T> {
         ensures { IfSome result (λ t. IsTrace T.replied T.after T.state_of self.start pass (T.History.entries t.history) t.object) }
     {
         let Turnstile { lock } = self;
-        let Lock { table, limit: _ } = lock;
+        let Lock {
+            table,
+            limit: _,
+            crowd: _,
+        } = lock;
         let Pass {
             seat,
             number: _,

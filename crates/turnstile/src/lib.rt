@@ -5,15 +5,15 @@
 //! beginning of one history, in which each call got the reply that the object gives there, and at the end
 //! the object is what these calls make of it.
 //!
-//! Calls take turns in the order in which they drew a ticket. Not claimed: that a turn comes, that a
-//! thread which waits gets on, and any order in time between passes that never met.
+//! Calls take turns. Who comes while another has a turn waits before it draws a ticket, so that the order in which
+//! passes came isn't that of their turns. Not claimed: that a turn comes, that a thread which waits gets on, and any
+//! order in time between passes that never met.
 #![tactic(auto)]
 
 mod asked;
 mod closing;
 mod handle;
 mod history;
-mod hold;
 mod lock;
 mod pass;
 mod passes;
@@ -27,7 +27,6 @@ pub use asked::{Asked, AskedHistory};
 pub use closing::{Closed, NotAll, Traced};
 pub use handle::Handle;
 pub use history::{Entry, StoredHistory};
-pub use hold::Hold;
 pub use pass::{Pass, PassOf};
 pub use passes::NoNumberLeft;
 pub use recorded::{ProofHistory, Recorded};

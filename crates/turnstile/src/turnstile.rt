@@ -12,6 +12,7 @@ use std::alloc::{AllocError, Global};
 use std::marker::Model;
 use std::snapshot::Snapshot;
 use std::sync::Wait;
+use std::sync::atomic::AtomicU64;
 
 /// Why a call was refused. The history and the object are then as before.
 #[derive(Debug, Clone, Copy, PartialEq, Eq)]
@@ -96,7 +97,11 @@ impl<T: Replays> Turnstile<T> {
         match Table::new(alloc, &[1, 0, 0, 0], slots, &about) {
             Ok((table, seat)) => Ok((
                 Turnstile {
-                    lock: Lock { table, limit },
+                    lock: Lock {
+                        table,
+                        limit,
+                        crowd: AtomicU64::new(0),
+                    },
                 },
                 Pass {
                     seat,
@@ -192,13 +197,13 @@ impl<T: Replays> Turnstile<T> {
     }
 
     /// Waits for its turn, does an op, and adds its entry to the history. The pass has then seen the
-    /// history up to this call.
+    /// history up to this call. What the object shows beside its reply stands in `room`.
     ///
     /// # Errors
     /// `HistoryFull` where the history has as many entries as it may have, and `Memory` where the call failed
     /// to allocate. No entry is added, the object is as before, and the pass has seen the whole history as it
     /// was found.
-    pub fn call<R: Wait>(
+    pub fn call_into<R: Wait>(
         &self,
         rt: &R,
         alloc: Global,
@@ -215,5 +220,27 @@ impl<T: Replays> Turnstile<T> {
         let answer = self.call_in(alloc, pass, &mut turn, op, room);
         self.leave(pass, turn);
         answer
+    }
+}
+
+impl<T: Replays<Room = ()>> Turnstile<T> {
+    ghost use Rattle.turnstile.specs.Calls.{IsOf, HasOnlySeen, Called, Found};
+
+    /// A call of an object that shows nothing beside its replies, as [`call_into`](Turnstile::call_into) does it.
+    ///
+    /// # Errors
+    /// They are those of `call_into`.
+    pub fn call<R: Wait>(
+        &self,
+        rt: &R,
+        alloc: Global,
+        pass: &mut PassOf<T>,
+        op: T::Op,
+    ) -> Result<T::Reply, Refusal>
+        requires { IsOf self.now pass.old }
+        ensures pass { HasOnlySeen pass.old pass.new }
+        ensures call { MatchResult result (λ r. Called T.replied T.after self.now.start pass.old op r pass.new.seen) (λ e. Found T.replied T.after self.now.start pass.old e pass.new.seen) }
+    {
+        self.call_into(rt, alloc, pass, op, &mut ())
     }
 }
