@@ -1,23 +1,26 @@
 //! A caller of all queues.
-ghost use Rattle.std.specs.Prelude.{◌≡◌, ◌<◌, length, IfOk, OnErr};
+ghost use Rattle.std.specs.Prelude.{◌≡◌, ◌<◌, length, IfOk, MatchResult, OnErr};
+ghost use Rattle.step_core.specs.Replied.{Shows};
 ghost use Rattle.cluster_callers.specs.Calls.{AllZipFront, AreAlike, CallerCalls, CallerSplits, JoinsAll, SplitsOff, TakesBack, joined_passes, turnstiles};
 
 use crate::queue_caller::QueueCaller;
 use shared_partition::Gate;
-use silo_loops::Doorbell;
+use silo_loops::{Doorbell, TurnRoom};
 use std::alloc::{AllocError, Global};
 use std::marker::Model;
 use std::sync::{Arc, Wait};
 use step_core::Answer;
-use stream_model::Op;
+use stream_ident::Event;
+use stream_model::{Op, Reply};
 use turnstile::{Refusal, StoredHistory};
 
-/// A caller of each queue of a cluster, and the doorbell of its loops.
+/// A caller of each queue of a cluster, the doorbell of its loops, and room for the events of a turn.
 ///
 /// A contract sees it as the passes, in the order of the queues.
 pub struct Caller<G: Gate, H: StoredHistory<Op, Answer>> {
     doorbell: Arc<Doorbell, Global>,
     queues: Vec<QueueCaller<G, H>>,
+    events: Vec<Event>,
 }
 
 impl<G: Gate + Drop, H: StoredHistory<Op, Answer> + Drop> Drop for Caller<G, H> {
@@ -25,25 +28,36 @@ impl<G: Gate + Drop, H: StoredHistory<Op, Answer> + Drop> Drop for Caller<G, H> 
         let Self {
             doorbell: _,
             queues: _,
+            events: _,
         } = self;
     }
 }
 
 impl<G: Gate, H: StoredHistory<Op, Answer>> Model for Caller<G, H> {
-    ghost use Rattle.std.specs.Prelude.{List};
+    ghost use Rattle.std.specs.Prelude.{◌≤◌, List, vec_capacity};
     ghost use Rattle.silo_loops.specs.Lines.{QueuePass};
 
     ghost Value = { List QueuePass };
 
     ghost view = { λ c. c.queues.items };
+
+    ghost invariant = { λ c. 16 ≤ vec_capacity c.events };
 }
 
 impl<G: Gate, H: StoredHistory<Op, Answer>> Caller<G, H> {
     /// A caller of these queues, which rings at this doorbell.
-    pub fn new(doorbell: Arc<Doorbell, Global>, queues: Vec<QueueCaller<G, H>>) -> Caller<G, H>
+    pub fn new(
+        doorbell: Arc<Doorbell, Global>,
+        queues: Vec<QueueCaller<G, H>>,
+        room: TurnRoom,
+    ) -> Caller<G, H>
         ensures { result ≡ queues.items }
     {
-        Caller { doorbell, queues }
+        Caller {
+            doorbell,
+            queues,
+            events: room.into_events(),
+        }
     }
 
     /// How many queues there are.
@@ -70,12 +84,51 @@ impl<G: Gate, H: StoredHistory<Op, Answer>> Caller<G, H> {
         alloc: Global,
         queue: usize,
         op: Op,
-    ) -> Result<Answer, Refusal>
+    ) -> Result<Reply, Refusal>
         requires { queue < length self.old }
         ensures calls { CallerCalls self.old queue op result self.new }
         ensures turnstiles { turnstiles self.new ≡ turnstiles self.old }
     {
-        call_at(rt, alloc, &self.doorbell, &mut self.queues, queue, op)
+        let answer = ask_at(
+            rt,
+            alloc,
+            &self.doorbell,
+            &mut self.queues,
+            queue,
+            op,
+            &mut self.events,
+        )?;
+        Ok(answer.reply(&self.events))
+    }
+
+    /// The same call, with an answer that stands for the reply, which is never made. The events of a turn are put into
+    /// `events`, in the place of those before, where that has room for sixteen. Who wants none of them lends a vector
+    /// without room, which takes no memory.
+    ///
+    /// # Errors
+    /// They are those of [`call`](Caller::call).
+    pub fn ask<R: Wait>(
+        &mut self,
+        rt: &R,
+        alloc: Global,
+        queue: usize,
+        op: Op,
+        events: &mut Vec<Event>,
+    ) -> Result<Answer, Refusal>
+        requires { queue < length self.old }
+        ensures calls { CallerCalls self.old queue op result self.new }
+        ensures turnstiles { turnstiles self.new ≡ turnstiles self.old }
+        ensures shows { MatchResult result (λ r. Shows events.old events.new r) (λ _. events.new ≡ events.old) }
+    {
+        ask_at(
+            rt,
+            alloc,
+            &self.doorbell,
+            &mut self.queues,
+            queue,
+            op,
+            events,
+        )
     }
 
     /// A caller with a pass of its own at each queue, each of which has seen as much and has made no call.
@@ -87,8 +140,9 @@ impl<G: Gate, H: StoredHistory<Op, Answer>> Caller<G, H> {
         ensures { CallerSplits self.old result self.new }
     {
         let doorbell = Arc::try_clone(&self.doorbell)?;
+        let room = TurnRoom::new(alloc)?;
         let queues = split_all(alloc, &mut self.queues)?;
-        Ok(Caller { doorbell, queues })
+        Ok(Caller::new(doorbell, queues, room))
     }
 
     /// Takes in another caller of the same queues: at each queue the numbers of its pass, and what that has
@@ -109,25 +163,28 @@ impl<G: Gate, H: StoredHistory<Op, Answer>> Caller<G, H> {
         let Caller {
             doorbell: _doorbell,
             queues,
+            events: _,
         } = self;
         queues
     }
 }
 
 // One call at one queue.
-fn call_at<G: Gate, H: StoredHistory<Op, Answer>, R: Wait>(
+fn ask_at<G: Gate, H: StoredHistory<Op, Answer>, R: Wait>(
     rt: &R,
     alloc: Global,
     doorbell: &Doorbell,
     queues: &mut Vec<QueueCaller<G, H>>,
     queue: usize,
     op: Op,
+    events: &mut Vec<Event>,
 ) -> Result<Answer, Refusal>
     requires { queue < length queues.old.items }
-    ensures { CallerCalls queues.old.items queue op result queues.new.items }
+    ensures calls { CallerCalls queues.old.items queue op result queues.new.items }
+    ensures shows { MatchResult result (λ r. Shows events.old events.new r) (λ _. events.new ≡ events.old) }
 {
     let caller = &mut queues[queue];
-    caller.call(rt, alloc, doorbell, op)
+    caller.ask(rt, alloc, doorbell, op, events)
 }
 
 // A new caller of each queue, for which there is room before a pass is split.

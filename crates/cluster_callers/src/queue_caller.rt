@@ -1,7 +1,8 @@
 //! A pass at the turnstile of a queue, as a producer holds it.
-ghost use Rattle.std.specs.Prelude.{◌≡◌, IfOk, OnErr, OnOk};
+ghost use Rattle.std.specs.Prelude.{◌≡◌, IfOk, MatchResult, OnErr, OnOk};
 ghost use Rattle.std.specs.Arc.{arc_value};
 ghost use Rattle.turnstile.specs.Calls.{Agree, HasOnlyMade, IsOf, IsSplitOff, joined_pass};
+ghost use Rattle.step_core.specs.Replied.{Shows};
 ghost use Rattle.shared_partition.specs.Partitions.{BeganEmpty};
 ghost use Rattle.cluster_callers.specs.Calls.{IsUnused, QueueCalls};
 
@@ -11,6 +12,7 @@ use std::alloc::{AllocError, Global};
 use std::marker::Model;
 use std::sync::{Arc, Wait};
 use step_core::Answer;
+use stream_ident::Event;
 use stream_model::{Op, PlainPartition};
 use turnstile::{Handle, Pass, Refusal, StoredHistory, Turnstile};
 
@@ -51,27 +53,24 @@ impl<G: Gate, H: StoredHistory<Op, Answer>> QueueCaller<G, H> {
         }
     }
 
-    /// Waits for its turn, does an operation, and rings where a loop may then find more to do.
+    /// Waits for its turn, does an operation, and rings where a loop may then find more to do. The events of a turn
+    /// are put into `events`, in the place of those before, where that has room for sixteen.
     ///
     /// # Errors
     /// `HistoryFull` where the history has as many entries as it may have, and else `Memory`. No entry is
     /// added, the partition is as before, and the pass has seen the whole history as it was found.
-    pub fn call<R: Wait>(
+    pub fn ask<R: Wait>(
         &mut self,
         rt: &R,
         alloc: Global,
         doorbell: &Doorbell,
         op: Op,
+        events: &mut Vec<Event>,
     ) -> Result<Answer, Refusal>
-        ensures { QueueCalls self.old op result self.new }
+        ensures calls { QueueCalls self.old op result self.new }
+        ensures shows { MatchResult result (λ r. Shows events.old events.new r) (λ _. events.new ≡ events.old) }
     {
-        let answer = SharedPartition::call_by(
-            &mut self.handle,
-            rt,
-            alloc,
-            op,
-            &mut Vec::new(alloc),
-        );
+        let answer = SharedPartition::call_by(&mut self.handle, rt, alloc, op, events);
         if let Ok(ref reply) = answer
             && rings(reply)
         {

@@ -40,7 +40,7 @@ pub fn ask_quiet<G: Gate, H: StoredHistory<Op, Answer>, R: Wait>(
     ensures turnstiles { turnstiles caller.new ≡ turnstiles caller.old }
 {
     for queue in 0..caller.queues() {
-        let answer = caller.call(rt, alloc, queue, Op::Quiet)?;
+        let answer = caller.ask(rt, alloc, queue, Op::Quiet, &mut Vec::new(alloc))?;
         match pending_of(&answer) {
             Some(why) => return Ok(Quiet::NotQuiet { queue, why }),
             None => {}

@@ -7,7 +7,7 @@ ghost use Rattle.cluster_ending.specs.Gathering.{AreAt, Gathers, JoinsEach, pass
 
 use cluster_callers::{Caller, QueueCaller};
 use shared_partition::Gate;
-use silo_loops::{Doorbell, Line};
+use silo_loops::{Doorbell, Line, TurnRoom};
 use std::alloc::{AllocError, Global};
 use std::sync::Arc;
 use step_core::Answer;
@@ -28,9 +28,10 @@ pub fn gather<G: Gate, H: StoredHistory<Op, Answer>>(
     requires { AllByRecursion (AreAt (places lines.items)) callers.items }
     ensures { IfOk result (Gathers (passes_of lines.items) callers.items) }
 {
+    let room = TurnRoom::new(alloc)?;
     let mut queues = line_callers(alloc, lines)?;
     join_each(&mut queues, callers);
-    Ok(Caller::new(doorbell, queues))
+    Ok(Caller::new(doorbell, queues, room))
 }
 
 // A caller with the pass of each line.

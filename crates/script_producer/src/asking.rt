@@ -80,7 +80,7 @@ fn ask_once<G: Gate, H: StoredHistory<Op, step_core::Answer>, R: Wait>(
     ensures asks { AsksOnce caller.old queue op result caller.new }
     ensures turnstiles { turnstiles caller.new ≡ turnstiles caller.old }
 {
-    match caller.call(rt, alloc, queue, op) {
+    match caller.ask(rt, alloc, queue, op, &mut Vec::new(alloc)) {
         Ok(reply) => Ok(answer_of(&reply)),
         Err(Refusal::HistoryFull) => Ok(Answer::Limit),
         Err(Refusal::Memory) => Err(AllocError),

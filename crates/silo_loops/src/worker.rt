@@ -43,6 +43,13 @@ impl TurnRoom {
         let events = Vec::with_capacity(alloc, 16)?;
         Ok(TurnRoom { events })
     }
+
+    /// The room, without events.
+    pub fn into_events(self) -> Vec<Event>
+        ensures { 16 ≤ vec_capacity result }
+    {
+        self.events
+    }
 }
 
 /// The loop of a turn worker, with its passes. A round is for each queue, and there for each ready grain:

@@ -7,6 +7,7 @@ use Rattle.stream_ident.specs.declared.event.Event.{Event}
 use Rattle.stream_ident.specs.Event.{events_at}
 use Rattle.stream_model.specs.declared.reply.Reply.{Reply}
 use Rattle.stream_model.specs.declared.reply.Reply.TheVariants as reply
+use Rattle.step_core.specs.declared.outcome.NewTurn.{NewTurn}
 use Rattle.step_core.specs.declared.outcome.Outcome.{Outcome}
 use Rattle.step_core.specs.declared.outcome.Outcome.TheVariants as outcome
 use Rattle.step_core.specs.declared.outcome.Told.{Told}
@@ -61,10 +62,14 @@ abbrev pub outcome_of_told : Result Told AllocError → Result Outcome AllocErro
 outcome_of_told (Ok answer) = Ok (outcome.Told answer)
 outcome_of_told (Err e) = Err e
 
+-- a turn with these events
+abbrev pub turn_with : NewTurn → List Event → Reply
+turn_with turn events = reply.Turn turn.sub turn.activation turn.turn events turn.note
+
 -- a turn has the events of the log at its positions
 abbrev pub reply_with : List Event → Outcome → Reply
 reply_with log (outcome.Told answer) = reply_of answer
-reply_with log (outcome.Turn turn) = reply.Turn turn.sub turn.activation turn.turn (events_at log turn.positions) turn.note
+reply_with log (outcome.Turn turn) = turn_with turn (events_at log turn.positions)
 
 abbrev pub answered : List Event → Result Outcome AllocError → Result Reply AllocError
 answered log (Ok came) = Ok (reply_with log came)
@@ -78,7 +83,12 @@ IsOfLog log (outcome.Turn turn) = AllByRecursion (λ position. position < length
 -- the reply that an outcome stands for, whatever the events of its turn are
 abbrev pub Says : Outcome → Reply → Type 0
 Says (outcome.Told answer) r = r ≡ reply_of answer
-Says (outcome.Turn turn) r = (events : List Event) × (r ≡ reply.Turn turn.sub turn.activation turn.turn events turn.note)
+Says (outcome.Turn turn) r = (events : List Event) × (r ≡ turn_with turn events)
+
+-- where it is a turn, its events are these
+abbrev pub HasEvents : Reply → List Event → Type 0
+HasEvents (reply.Turn sub activation turn events note) shown = shown ≡ events
+HasEvents _ shown = Unit {0}
 
 -- the events of a turn take the place of those before
 abbrev pub events_after : Reply → List Event → List Event

@@ -1,11 +1,13 @@
 //! An answer that stands for a reply.
-ghost use Rattle.std.specs.Prelude.{◌≡◌};
-ghost use Rattle.step_core.specs.Replied.{reply_with, Says};
+ghost use Rattle.std.specs.Prelude.{◌≡◌, ◌<◌, ◌≤◌, length};
+ghost use Rattle.step_core.specs.Replied.{reply_with, turn_with, HasEvents, Says};
 
-use crate::outcome::Outcome;
+use crate::outcome::{NewTurn, Outcome};
 use partition_queue::PartitionQueue;
 use std::marker::Model;
 use std::snapshot::Snapshot;
+use stream_ident::{Event, Row};
+use stream_model::{Events, Reply};
 
 /// What an operation came to, and, for proofs alone, the log that has the events of its turn.
 ///
@@ -42,4 +44,43 @@ impl Answer {
     {
         &self.outcome
     }
+
+    /// The reply. The events of a turn are those that the call has put into the room that was lent to it.
+    pub fn reply(&self, events: &[Event]) -> Reply
+        requires { HasEvents self.now events.now }
+        ensures { result ≡ self.now }
+    {
+        match &self.outcome {
+            Outcome::Told(told) => told.reply(),
+            Outcome::Turn(turn) => turn_reply(turn, events),
+        }
+    }
+}
+
+// The reply of a turn, with as many events as it has positions.
+fn turn_reply(turn: &NewTurn, events: &[Event]) -> Reply
+    requires { length events.now ≡ length turn.now.positions }
+    ensures { result ≡ turn_with turn.now events.now }
+{
+    Reply::Turn {
+        sub: turn.sub,
+        activation: turn.activation,
+        turn: turn.turn,
+        events: row_of(events, turn.positions.len()),
+        note: turn.note,
+    }
+}
+
+// So many events in a row.
+fn row_of(events: &[Event], count: usize) -> Events
+    requires count { count ≡ length events.now }
+    requires some { 0 < count }
+    requires most { count ≤ 16 }
+    ensures { result ≡ events.now }
+{
+    let mut row = Row::of(events[0]);
+    for event in &events[1..count] {
+        row.push(*event);
+    }
+    row
 }

@@ -103,7 +103,7 @@ fn put_events(queue: &PartitionQueue, positions: &Row<usize>, into: &mut Vec<Eve
 }
 
 /// A reply that isn't a turn. It takes some 200 bytes.
-#[derive(Drop)]
+#[derive(Clone, Copy)]
 pub enum Told {
     /// The batch was accepted.
     Published {

@@ -12,7 +12,7 @@ use cluster_callers::{Caller, QueueCaller};
 use cluster_operator::Operator;
 use shared_partition::{Gate, SharedDirectory, SharedPartition};
 use silo_crew::split_lines;
-use silo_loops::{DirectoryLine, Doorbell, Line};
+use silo_loops::{DirectoryLine, Doorbell, Line, TurnRoom};
 use std::alloc::{AllocError, Global};
 use std::sync::{Arc, Wait};
 use step_core::Answer;
@@ -113,7 +113,8 @@ fn first_caller<G: Gate, H: StoredHistory<Op, Answer>>(
 {
     let own = split_lines(alloc, lines)?;
     let queues = queue_callers(alloc, own)?;
-    Ok(Caller::new(doorbell, queues))
+    let room = TurnRoom::new(alloc)?;
+    Ok(Caller::new(doorbell, queues, room))
 }
 
 // A caller of each queue with the pass of its line.

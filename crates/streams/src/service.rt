@@ -256,6 +256,8 @@ impl<R: Host, G: Gate + 'static> Service<R, G> {
         requires { queue < length self.old.caller }
         ensures { Calls self.old queue op result self.new }
     {
-        self.caller.call(&self.rt, self.rt.alloc(), queue, op)
+        let alloc = self.rt.alloc();
+        self.caller
+            .ask(&self.rt, alloc, queue, op, &mut Vec::new(alloc))
     }
 }

@@ -1,9 +1,9 @@
 //! The history of a turnstile as it is stored.
-ghost use Rattle.std.specs.Prelude.{◌≡◌, ◌++◌, ◌∷◌, [], List, Bool, true, length, OnOk};
+ghost use Rattle.std.specs.Prelude.{◌≡◌, ◌++◌, ◌∷◌, [], List, Bool, true, length, nat_lt, vec_capacity, OnOk};
 
 use std::alloc::{AllocError, Global};
 
-/// A call in a history: the number of the pass that made it, the op and its reply. No value of it is made.
+/// A call in a history: the number of the pass that made it, the op and its reply.
 #[derive(Drop)]
 pub struct Entry<O, R> {
     /// The number of the pass.
@@ -44,4 +44,53 @@ pub trait StoredHistory<O, R>: Drop {
     fn push(&mut self, number: u64, op: O, reply: &R)
         requires { has_room self.old ≡ true }
         ensures { entries self.new ≡ entries self.old ++ record { number = number; op = op; reply = reply.now } ∷ [] };
+}
+
+/// A history that is stored as it stands, entry after entry. It is for replies that can be copied; where they are
+/// large, or stand for a plain value that they don't hold, an [`AskedHistory`](crate::AskedHistory) gives them again.
+///
+/// A contract sees it as its entries, and whether there is room for one more.
+#[derive(Drop)]
+pub struct PlainHistory<O, R> {
+    entries: Vec<Entry<O, R>>,
+}
+
+impl<O, R> PlainHistory<O, R> {
+    /// The entries, in order.
+    pub fn as_slice(&self) -> &[Entry<O, R>]
+        ensures { result.now ≡ self.now.entries.items }
+    {
+        self.entries.as_slice()
+    }
+}
+
+impl<O: Drop, R: Copy> StoredHistory<O, R> for PlainHistory<O, R> {
+    ghost entries = { λ h. h.entries.items };
+
+    ghost has_room = { λ h. nat_lt (length h.entries.items) (vec_capacity h.entries) };
+
+    fn empty(alloc: Global) -> PlainHistory<O, R> {
+        PlainHistory {
+            entries: Vec::new(alloc),
+        }
+    }
+
+    fn len(&self) -> usize {
+        self.entries.len()
+    }
+
+    fn reserve(&mut self) -> Result<(), AllocError> {
+        self.entries.reserve(1)
+    }
+
+    fn push(&mut self, number: u64, op: O, reply: &R)
+        requires { nat_lt (length self.old.entries.items) (vec_capacity self.old.entries) ≡ true }
+        ensures { self.new.entries.items ≡ self.old.entries.items ++ record { number = number; op = op; reply = reply.now } ∷ [] }
+    {
+        self.entries.push_reserved(Entry {
+            number,
+            op,
+            reply: *reply,
+        });
+    }
 }

@@ -26,7 +26,7 @@ mod view;
 pub use asked::{Asked, AskedHistory};
 pub use closing::{Closed, NotAll, Traced};
 pub use handle::Handle;
-pub use history::{Entry, StoredHistory};
+pub use history::{Entry, PlainHistory, StoredHistory};
 pub use pass::{Pass, PassOf};
 pub use passes::NoNumberLeft;
 pub use recorded::{ProofHistory, Recorded};

@@ -12,20 +12,20 @@ pub returns-in_err-answer-clause-asks : goal.returns-in_err-answer-clause-asks
 returns-in_err-answer-clause-asks g c =
     let p = err_from_is_err_and c.from_residual.result c.from_residual.ensures.1 in
     let same : p.0 ≡ c.in_err-answer.field-0.0 = p.2 in
-    subst (λ (r : Result Quiet Refusal). AsksQuiet c.args.caller.now r c.call.new.self) (sym (p.1 ∙ ap (λ (e : Refusal). Err e) same))
-    (c.loop-queue.queue, asked-next c.loop-queue.queue (Err c.in_err-answer.field-0.0) c.args.caller.now c.loop-queue.caller c.call.new.self c.loop-queue.invariant.quiet c.in_err-answer.ensures.calls)
+    subst (λ (r : Result Quiet Refusal). AsksQuiet c.args.caller.now r c.ask.new.self) (sym (p.1 ∙ ap (λ (e : Refusal). Err e) same))
+    (c.loop-queue.queue, asked-next c.loop-queue.queue (Err c.in_err-answer.field-0.0) c.args.caller.now c.loop-queue.caller c.ask.new.self c.loop-queue.invariant.quiet c.in_err-answer.ensures.calls)
 
 pub returns-in-Some-clause-asks : goal.returns-in-Some-clause-asks
 returns-in-Some-clause-asks g c =
     let calls = c.in_ok-answer.ensures.calls in
-    subst (λ (r : Reply). AsksUpTo c.loop-queue.queue (Ok r) c.args.caller.now c.call.new.self) (pending-reply c.in_ok-answer.answer c.in-Some.why (sym c.pending_of.ensures ∙ c.in-Some.is))
-    (asked-next c.loop-queue.queue (Ok c.in_ok-answer.answer) c.args.caller.now c.loop-queue.caller c.call.new.self c.loop-queue.invariant.quiet calls)
+    subst (λ (r : Reply). AsksUpTo c.loop-queue.queue (Ok r) c.args.caller.now c.ask.new.self) (pending-reply c.in_ok-answer.answer c.in-Some.why (sym c.pending_of.ensures ∙ c.in-Some.is))
+    (asked-next c.loop-queue.queue (Ok c.in_ok-answer.answer) c.args.caller.now c.loop-queue.caller c.ask.new.self c.loop-queue.invariant.quiet calls)
 
 pub loop-queue-preserved : goal.loop-queue-preserved
 loop-queue-preserved g c =
     record {
-      quiet = quiet-next c.loop-queue.queue c.in_ok-answer.answer c.args.caller.now c.loop-queue.caller c.call.new.self c.loop-queue.invariant.quiet c.in_ok-answer.ensures.calls (quiet-told c.in_ok-answer.answer _ _ c.in_ok-answer.ensures.calls.calls (sym c.pending_of.ensures ∙ c.in-None.is));
-      at = c.call.ensures.turnstiles ∙ c.loop-queue.invariant.at;
+      quiet = quiet-next c.loop-queue.queue c.in_ok-answer.answer c.args.caller.now c.loop-queue.caller c.ask.new.self c.loop-queue.invariant.quiet c.in_ok-answer.ensures.calls (quiet-told c.in_ok-answer.answer _ _ c.in_ok-answer.ensures.calls.calls (sym c.pending_of.ensures ∙ c.in-None.is));
+      at = c.ask.ensures.turnstiles ∙ c.loop-queue.invariant.at;
     }
 
 pub returns-clause-asks : goal.returns-clause-asks
