@@ -6,9 +6,9 @@ use Rattle.shared_partition.proofs.partition.SharedPartition.call.Goals as goal
 pub returns-clause-headline : goal.returns-clause-headline
 returns-clause-headline g c =
     legal-tells c.args.turnstile.now.start _ c.one_history.ensures c.requires.empty
-    (seen-legal replied after c.args.turnstile.now.start c.args.pass.now c.args.op c.call.result c.call.new.pass.seen c.call.ensures.call)
+    (seen-legal replied after c.args.turnstile.now.start c.args.pass.now c.args.op c.call_into.result c.call_into.new.pass.seen c.call_into.ensures.call)
 
 pub returns-clause-stands : goal.returns-clause-stands
 returns-clause-stands g c =
     legal-leaves c.args.turnstile.now.start _
-    (seen-legal replied after c.args.turnstile.now.start c.args.pass.now c.args.op c.call.result c.call.new.pass.seen c.call.ensures.call)
+    (seen-legal replied after c.args.turnstile.now.start c.args.pass.now c.args.op c.call_into.result c.call_into.new.pass.seen c.call_into.ensures.call)
