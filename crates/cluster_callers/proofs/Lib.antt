@@ -1,2 +1,3 @@
 pub mod Fronts
+pub mod Showing
 pub mod Splitting
