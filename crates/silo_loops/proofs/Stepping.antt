@@ -1,9 +1,9 @@
 -- What the steps of a worker do.
-use Rattle.std.proofs.Common.{◌≡◌, ℕ, ◌<◌, ◌≤◌, ◌+◌, ◌⊎◌, inl, inr, List, length, drop, Option, Some, None, Result, refl, sym, ap, subst, ◌∙◌, add-one}
+use Rattle.std.proofs.Common.{◌≡◌, ℕ, ◌<◌, ◌≤◌, ◌+◌, ◌⊎◌, inl, inr, List, [], length, drop, Option, Some, None, Result, refl, sym, ap, subst, ◌∙◌, add-one}
 use Rattle.std.specs.List.{slice_get}
 use Rattle.std.specs.Option.{unwrap_or}
 use Rattle.std.proofs.Math.Seq.{drop-cons}
-use Rattle.std.proofs.lemmas.List.{length-set}
+use Rattle.std.proofs.lemmas.List.{drop_all, length-set}
 use Rattle.std.proofs.lemmas.Option.{slice_get_within}
 use Rattle.stream_ident.specs.declared.event.Event.{Event}
 use Rattle.stream_ident.specs.declared.ident.GrainId.{GrainId}
@@ -57,15 +57,16 @@ at-call walk w lines new d e o room old fresh answer s h at is fits =
     }
 
 module _ (lines new : List LineView) (d : DirectoryPass) (walk w : Walk) (room : ℕ) (old fresh : List Event) (answer : Heard) (over : Option Over) where
-  pub looked : (last : Option GrainId) → HearsAt lines walk.at (op.Ready last) new room old fresh answer → over ≡ end_in answer → IsFree w.step
+  pub looked : (last : Option GrainId) → IsFree walk.step → HearsAt lines walk.at (op.Ready last) new room old fresh answer → over ≡ end_in answer → IsFree w.step
       → (silo rounds counted : ℕ) → WorkerLooks (worker_at silo lines d walk old rounds None) (worker_at silo new d w fresh counted over)
-  looked last h ended free silo rounds counted = (
+  looked last was h ended free silo rounds counted = (
     record {
       at = walk.at;
       op = op.Ready last;
       result = h.result;
       calls = h.calls;
       may = tt;
+      free = free-work walk.at walk.step old was;
       over = ends over answer h.result ended h.heard;
       work = free-work w.at w.step fresh free;
       directory = refl;
@@ -84,6 +85,7 @@ module _ (lines new : List LineView) (d : DirectoryPass) (walk w : Walk) (room :
         result = h.result;
         calls = h.calls;
         may = (refl, (permit, fits-at walk lines d (step.Begin grain permit) is at));
+        free = ap (λ s. work_in walk.at s old) is;
         over = ends over answer h.result ended h.heard;
         work =
             ap (λ k. work_in k w.step fresh) place ∙ ap (λ s. work_in walk.at s fresh) (next ∙ ap (λ a. step_after_begin grain permit a) h.heard)
@@ -98,11 +100,11 @@ module _ (lines new : List LineView) (d : DirectoryPass) (walk w : Walk) (room :
       at-call walk w lines new d d (op.Begin grain 16) room old fresh answer (step_after_begin grain permit (heard_of h.result)) h place (next ∙ ap (λ a. step_after_begin grain permit a) h.heard)
       (begun-fits d h.calls.was.pass h.calls.is.pass grain permit 16 h.result (fits-at walk lines d (step.Begin grain permit) is at) h.calls.calls.call)
 
-  pub committed : (grain : GrainId) (permit : ℕ) (turn : Turn) → walk.step ≡ step.Handle grain permit turn → IsAt walk lines d
+  pub committed : (grain : GrainId) (permit : ℕ) (turn : Turn) → walk.step ≡ step.Handle grain permit turn → length old ≤ turn.next → IsAt walk lines d
       → HearsAt lines walk.at (op.Commit grain turn.activation turn.number turn.note) new room old fresh answer → w.at ≡ walk.at
       → w.step ≡ step_after_commit grain permit answer → over ≡ end_in answer
       → (silo rounds counted : ℕ) → WorkerCalls (worker_at silo lines d walk old rounds None) (worker_at silo new d w fresh counted over)
-  committed grain permit turn is at h place next ended silo rounds counted =
+  committed grain permit turn is handled at h place next ended silo rounds counted =
       record {
         at = walk.at;
         op = op.Commit grain turn.activation turn.number turn.note;
@@ -111,6 +113,7 @@ module _ (lines new : List LineView) (d : DirectoryPass) (walk w : Walk) (room :
         may =
             subst (λ (l : LineView). Runs l.pass grain turn.activation turn.number) (one-line lines walk.at at.line h.calls.was at.had h.calls.had)
             (fits-at walk lines d (step.Handle grain permit turn) is at).1;
+        free = ap (λ s. work_in walk.at s old) is ∙ ap (λ es. Turning walk.at es turn.note) (drop_all turn.next old handled);
         over = ends over answer h.result ended h.heard;
         work =
             ap (λ k. work_in k w.step fresh) place ∙ ap (λ s. work_in walk.at s fresh) (next ∙ ap (λ a. step_after_commit grain permit a) h.heard)
@@ -136,16 +139,17 @@ module _ (lines new : List LineView) (d : DirectoryPass) (walk w : Walk) (room :
         | inr leave ↦ at-call walk w lines new d d (op.Ready last) room old fresh answer (step.Leave grain permit) h place leave keeps
       ]
 
-  pub asked-again : (grain : GrainId) (permit : ℕ) (last : Option GrainId) → HearsAt lines walk.at (op.Ready last) new room old fresh answer → over ≡ end_in answer
+  pub asked-again : (grain : GrainId) (permit : ℕ) (last : Option GrainId) → walk.step ≡ step.Again grain permit → HearsAt lines walk.at (op.Ready last) new room old fresh answer → over ≡ end_in answer
       → (w.step ≡ step.Begin grain permit) ⊎ (w.step ≡ step.Leave grain permit)
       → (silo rounds counted : ℕ) → WorkerCalls (worker_at silo lines d walk old rounds None) (worker_at silo new d w fresh counted over)
-  asked-again grain permit last h ended next silo rounds counted =
+  asked-again grain permit last is h ended next silo rounds counted =
       record {
         at = walk.at;
         op = op.Ready last;
         result = h.result;
         calls = h.calls;
         may = tt;
+        free = ap (λ s. work_in walk.at s old) is;
         over = ends over answer h.result ended h.heard;
         work =
             elim next as (λ s. work_in w.at w.step fresh ≡ Nothing) [
@@ -207,9 +211,9 @@ module _ (lines : List LineView) (d : DirectoryPass) (walk w : Walk) (grain : Gr
       subst (λ v. IsAt v lines d) (sym is)
       (moved-at walk lines d d (step.Handle grain permit (record turn { note = note; next = next })) at (fits-at walk lines d (step.Handle grain permit turn) was at))
 
-  one-more : (at k : ℕ) (events : List Event) (event : Event) → k < length events → HasWorked (Turning at (drop k events)) (Turning at (drop (k + 1) events))
-  one-more at k events event some =
-      subst (λ es. HasWorked (Turning at es) (Turning at (drop (k + 1) events))) (sym (drop-cons events k event some)) (ap (λ n. Turning at (drop n events)) (add-one k))
+  one-more : (at k note next : ℕ) (events : List Event) (event : Event) → k < length events → HasWorked (Turning at (drop k events) note) (Turning at (drop (k + 1) events) next)
+  one-more at k note next events event some =
+      subst (λ es. HasWorked (Turning at es note) (Turning at (drop (k + 1) events) next)) (sym (drop-cons events k event some)) (next, ap (λ n. Turning at (drop n events) next) (add-one k))
 
   pub handled : (turn : Turn) (note : ℕ) (events : List Event) (event : Event) → walk.step ≡ step.Handle grain permit turn → turn.next < length events
       → w ≡ record walk { step = step.Handle grain permit (record turn { note = note; next = turn.next + 1 }) } → (silo rounds counted : ℕ) → IsAt walk lines d
@@ -221,7 +225,7 @@ module _ (lines : List LineView) (d : DirectoryPass) (walk w : Walk) (grain : Gr
             (at.line, at.had, (grain, turn.activation, turn.number, (fits-at walk lines d (step.Handle grain permit turn) was at).1));
         worked =
             subst (λ s. HasWorked (work_in walk.at s events) (work_in w.at w.step events)) (sym was)
-            (subst (λ (v : Walk). HasWorked (Turning walk.at (drop turn.next events)) (work_in v.at v.step events)) (sym is) (one-more walk.at turn.next events event some));
+            (subst (λ (v : Walk). HasWorked (Turning walk.at (drop turn.next events) turn.note) (work_in v.at v.step events)) (sym is) (one-more walk.at turn.next turn.note note events event some));
         lines = refl;
         directory = refl;
         silo = refl;

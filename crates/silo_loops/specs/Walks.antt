@@ -19,11 +19,11 @@ use Rattle.silo_loops.specs.declared.worker_walk.Walk.{Walk}
 use Rattle.silo_loops.specs.Lines.{DirectoryPass, LineView, QueuePass}
 use Rattle.silo_loops.specs.Passes.{LastOwn}
 
--- What a worker has in hand: nothing; a turn of this queue, with the events that the handler is still to have; a
--- commit at this queue to tell of.
+-- What a worker has in hand: nothing; a turn of this queue, with the events that the handler is still to have, and the
+-- note for the next of them; a commit at this queue to tell of.
 pub data Work : Type 0 where
   Nothing : Work
-  Turning : ℕ → List Event → Work
+  Turning : ℕ → List Event → ℕ → Work
   Telling : ℕ → SubName → Token → Work
 
 -- a worker with nothing in hand and no permit
@@ -34,7 +34,7 @@ IsFree (step.Enter grain) = Unit {0}
 IsFree _ = ⊥
 
 abbrev pub work_in : ℕ → Step → List Event → Work
-work_in at (step.Handle grain permit turn) events = Turning at (drop turn.next events)
+work_in at (step.Handle grain permit turn) events = Turning at (drop turn.next events) turn.note
 work_in at (step.Tell grain permit sub token) events = Telling at sub token
 work_in at _ events = Nothing
 

@@ -1,5 +1,5 @@
 -- What a worker may do.
-use Rattle.std.specs.Prelude.{◌≡◌, ℕ, ◌+◌, ◌⊎◌, List, ◌∷◌, true, Option, Some, None, Result, Ok, slice_get, map, All}
+use Rattle.std.specs.Prelude.{◌≡◌, ℕ, ◌+◌, ◌⊎◌, List, [], ◌∷◌, true, Option, Some, None, Result, Ok, slice_get, map, All}
 use Rattle.stream_ident.specs.declared.event.Event.{Event}
 use Rattle.stream_model.specs.declared.op.Op.{Op}
 use Rattle.stream_model.specs.declared.op.Op.TheVariants as op
@@ -48,7 +48,7 @@ WorkerMayAsk own d _ = ⊥
 
 -- what the answer to a Begin puts in hand, and the one to a Commit
 abbrev pub turn_in : ℕ → Result Reply Refusal → Work
-turn_in at (Ok (reply.Turn sub activation turn events note)) = Turning at events
+turn_in at (Ok (reply.Turn sub activation turn events note)) = Turning at events note
 turn_in at _ = Nothing
 
 abbrev pub commit_in : ℕ → Result Reply Refusal → Work
@@ -60,6 +60,12 @@ work_of at (op.Begin grain most) result = turn_in at result
 work_of at (op.Commit grain activation turn note) result = commit_in at result
 work_of at _ result = Nothing
 
+-- What a worker has in hand where it makes such a call: for a Commit a turn of this queue whose events were all handled,
+-- and the note that the last of them left; for any other call nothing.
+abbrev pub IsFreeTo : Op → ℕ → Work → Type 0
+IsFreeTo (op.Commit grain activation turn note) at work = work ≡ Turning at [] note
+IsFreeTo _ at work = work ≡ Nothing
+
 -- a call of a worker at a queue
 pub record WorkerCalls (v w : WorkerView) : Type 0 where
   pub at : ℕ
@@ -67,6 +73,7 @@ pub record WorkerCalls (v w : WorkerView) : Type 0 where
   pub result : Result Reply Refusal
   pub calls : CallsAt v.lines at op result w.lines
   pub may : WorkerMay v.directory calls.was.pass op
+  pub free : IsFreeTo op at v.work
   pub over : w.over ≡ end_of result
   pub work : w.work ≡ work_of at op result
   pub directory : w.directory ≡ v.directory
@@ -87,16 +94,16 @@ pub record WorkerAsks (v w : WorkerView) : Type 0 where
   pub lines : w.lines ≡ v.lines
   pub silo : w.silo ≡ v.silo
 
--- the handler has had one event more, or the commit was told
+-- the handler has had one event more, and has given the note for the next one; or the commit was told
 abbrev pub HasWorked : Work → Work → Type 0
-HasWorked (Turning at (event ∷ events)) work = work ≡ Turning at events
+HasWorked (Turning at (event ∷ events) note) work = (next : ℕ) × (work ≡ Turning at events next)
 HasWorked (Telling at sub token) work = work ≡ Nothing
 HasWorked _ work = ⊥
 
 -- the turn in hand runs: its Begin is the last call of the pass there; or its Commit is
 abbrev pub IsInHand : List LineView → Work → Type 0
 IsInHand lines Nothing = Unit {0}
-IsInHand lines (Turning at events) =
+IsInHand lines (Turning at events note) =
     (line : LineView) × (slice_get lines at ≡ Some line) × ((grain : _) × (activation : ℕ) × (turn : ℕ) × Runs line.pass grain activation turn)
 IsInHand lines (Telling at sub token) = (line : LineView) × (slice_get lines at ≡ Some line) × HasCommitted line.pass sub token
 

@@ -3,7 +3,7 @@ ghost use Rattle.std.specs.Prelude.{◌≡◌, ℕ, ◌<◌, ◌≤◌, false, l
 ghost use Rattle.stream_model.specs.Producers.{is_producer};
 ghost use Rattle.silo_loops.specs.Lines.{DirectoryPass, HearsAt, LineView};
 ghost use Rattle.stream_ident.specs.declared.event.Event.{Event};
-ghost use Rattle.silo_loops.specs.Walks.{IsAt};
+ghost use Rattle.silo_loops.specs.Walks.{IsAt, IsFree};
 ghost use Rattle.silo_loops.specs.Workers.{WorkerLooks, WorkerSteps, WorkerWorks, worker_at};
 ghost use Rattle.silo_loops.specs.declared.worker_walk.Step.TheVariants as step;
 
@@ -59,7 +59,8 @@ pub(crate) fn look<
     walk: &mut Walk,
     events: &mut Vec<Event>,
 ) -> Option<Over>
-    requires { IsAt walk.old lines.old.items directory.now }
+    requires at { IsAt walk.old lines.old.items directory.now }
+    requires free { IsFree walk.old.step }
     ensures at { IsAt walk.new lines.new.items directory.now }
     ensures room { vec_capacity events.new ≡ vec_capacity events.old }
     ensures looks { (silo rounds counted : ℕ) → WorkerLooks (worker_at silo lines.old.items directory.now walk.old events.old.items rounds None) (worker_at silo lines.new.items directory.now walk.new events.new.items counted result) }
@@ -154,6 +155,7 @@ pub(crate) fn commit<
 ) -> Option<Over>
     requires at { IsAt walk.old lines.old.items directory.now }
     requires step { walk.old.step ≡ step.Handle grain.now permit turn.now }
+    requires handled { length events.old.items ≤ turn.now.next }
     ensures at { IsAt walk.new lines.new.items directory.now }
     ensures room { vec_capacity events.new ≡ vec_capacity events.old }
     ensures steps { (silo rounds counted : ℕ) → WorkerSteps (worker_at silo lines.old.items directory.now walk.old events.old.items rounds None) (worker_at silo lines.new.items directory.now walk.new events.new.items counted result) result }

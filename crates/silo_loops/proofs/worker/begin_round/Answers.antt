@@ -2,8 +2,8 @@ use Rattle.std.proofs.Common.{refl, rules}
 use Rattle.silo_loops.proofs.Advancing.{between-is-at, idle-at, round-begun, round-idle, round-none}
 use Rattle.silo_loops.proofs.worker.begin_round.Goals as goal
 
-pub look-requires-after_bounds : goal.look-requires-after_bounds
-look-requires-after_bounds g c κs within =
+pub look-requires-clause-at : goal.look-requires-clause-at
+look-requires-clause-at g c =
     let h = between-is-at 0 c.args.lines.now.items c.start_round.new.lines.items c.args.directory.now c.args.walk.now c.start_round.new.walk c.args.events.now.items c.args.rounds.now c.args.rounds.now c.args.over.now
     c.in-Begun.ensures.starts.0 c.start_round.ensures.walk c.requires.at in
     search (rules, h)
