@@ -2,6 +2,7 @@ pub mod Advancing
 pub mod Causes
 pub mod Holding
 pub mod Kept
+pub mod Naming
 pub mod Owning
 pub mod Resting
 pub mod Running

@@ -9,7 +9,7 @@ use Rattle.turnstile.specs.declared.view.Start.{Start}
 use Rattle.turnstile.specs.Calls.{Agree, Called, Found, IsSplitOff, joined_pass, numbers_of}
 use Rattle.turnstile.specs.History.{Claims, Foreign, entry}
 use Rattle.turnstile.specs.Passes.{PassView}
-use Rattle.silo_loops.specs.Passes.{CallsBy, HasOwnPast, LastOwn, OwnsNone}
+use Rattle.silo_loops.specs.Passes.{CallsBy, HasOwnPast, LastOf, LastOwn, OwnsNone}
 
 either : {A : Type 0} (xs ys : List ℕ) (k : ℕ) → (Contains xs k → A) → (Contains ys k → A) → Contains (xs ++ ys) k → A
 either {A} xs ys k f g c = elim (Contains-append_cases xs ys k c) as (λ w. A) [ inl x ↦ f x | inr y ↦ g y ]
@@ -161,4 +161,28 @@ module _ {S O R : Type 0} (reply : S → O → R) (after : S → O → S) where
             calls.call.1 ∙ ap (λ n. (p.seen ++ calls.call.0) ++ entry n op r ∷ []) (sym (calls-number p op (Ok r) q calls))
             ∙ sym (append-nil ((p.seen ++ calls.call.0) ++ entry q.number op r ∷ []));
         others = tt;
+      }
+
+  -- so it is the last of those that the test picks, where it picks it
+  pub last-of-answered : (test : O → Bool) (p : PassView O R S) (op : O) (r : R) (q : PassView O R S) → CallsBy reply after p op (Ok r) q → test op ≡ true → LastOf test q op r
+  last-of-answered test p op r q calls picked =
+      let last = last-answered p op r q calls in
+      record { before = last.before; later = last.later; whole = last.whole; picked = picked; none = owns-foreign test (numbers_of q) last.later last.others }
+
+  -- and else the one that was
+  pub last-of-called : (test : O → Bool) (p : PassView O R S) (op : O) (r : R) (q : PassView O R S) → CallsBy reply after p op (Ok r) q → test op ≡ false → (o : O) (s : R) → LastOf test p o s → LastOf test q o s
+  last-of-called test p op r q calls none o s last =
+      let numbers = numbers_of p in
+      let between = calls.call.0 in
+      let own = entry p.number op r ∷ [] in
+      record {
+        before = last.before;
+        later = last.later ++ (between ++ own);
+        whole =
+            calls.call.1 ∙ append_assoc p.seen between own ∙ ap (λ es. es ++ (between ++ own)) last.whole ∙ append_assoc (last.before ++ entry p.number o s ∷ []) last.later (between ++ own)
+            ∙ ap (λ n. (last.before ++ entry n o s ∷ []) ++ (last.later ++ (between ++ own))) (sym (calls-number p op (Ok r) q calls));
+        picked = last.picked;
+        none =
+            subst (λ ks. OwnsNone test ks (last.later ++ (between ++ own))) (sym (ap numbers_of calls.only))
+            (owns-append test numbers last.later (between ++ own) last.none (owns-append test numbers between own (owns-foreign test numbers between calls.call.2) ((λ _. none), tt)));
       }

@@ -1,5 +1,5 @@
 -- What the steps of a worker do.
-use Rattle.std.proofs.Common.{◌≡◌, ℕ, ◌<◌, ◌≤◌, ◌+◌, ◌⊎◌, inl, inr, List, [], length, drop, Option, Some, None, Result, refl, sym, ap, subst, ◌∙◌, add-one}
+use Rattle.std.proofs.Common.{◌≡◌, ℕ, ◌<◌, ◌≤◌, ◌+◌, ◌⊎◌, inl, inr, List, length, drop, Option, Some, None, Result, refl, sym, ap, subst, ◌∙◌, add-one}
 use Rattle.std.specs.List.{slice_get}
 use Rattle.std.specs.Option.{unwrap_or}
 use Rattle.std.proofs.Math.Seq.{drop-cons}
@@ -249,7 +249,7 @@ module _ (lines : List LineView) (d : DirectoryPass) (walk w : Walk) (grain : Gr
       }
 
 -- what an agent's call is
-pub agent-asked : (lines new : List LineView) (at : ℕ) (o : Op) (room : ℕ) (old fresh : List Event) (answer : Heard) (over : Option Over) (generation : ℕ) → HearsAt lines at o new room old fresh answer → AgentMay generation o
+pub agent-asked : (lines new : List LineView) (at : ℕ) (o : Op) (room : ℕ) (old fresh : List Event) (answer : Heard) (over : Option Over) (generation : ℕ) → (h : HearsAt lines at o new room old fresh answer) → AgentMay h.calls.was.pass generation o
     → over ≡ end_in answer → (held was : List (Option ℕ)) (rounds counted : ℕ) → slice_get held at ≡ Some (Some generation) → AgentCalls (agent_at lines was rounds None) (agent_at new held counted over)
 agent-asked lines new at o room old fresh answer over generation h may ended held was rounds counted holds =
     record {

@@ -1,15 +1,18 @@
 -- What an agent may do.
-use Rattle.std.specs.Prelude.{◌≡◌, ℕ, ◌+◌, ◌<◌, ◌⊎◌, List, length, Option, Some, None, Result, slice_get, slice_index_or, map}
+use Rattle.std.specs.Prelude.{◌≡◌, Bool, true, false, ℕ, ◌+◌, ◌<◌, ◌⊎◌, List, length, Option, Some, None, Result, slice_get, slice_index_or, map}
+use Rattle.stream_ident.specs.declared.ident.SubName.{SubName}
 use Rattle.stream_model.specs.declared.op.Op.{Op}
 use Rattle.stream_model.specs.declared.op.Op.TheVariants.{Pull, Due, Ack, Deliver}
 use Rattle.stream_model.specs.declared.reply.Reply.{Reply}
+use Rattle.stream_model.specs.declared.reply.Reply.TheVariants.{DueSub}
 use Rattle.turnstile.specs.declared.turnstile.Refusal.{Refusal}
 use Rattle.silo_loops.specs.declared.advance.Advance.{Advance}
 use Rattle.silo_loops.specs.declared.advance.Advance.TheVariants as advance
 use Rattle.silo_loops.specs.declared.advance.Over as why
 use Rattle.silo_loops.specs.declared.advance.Over.TheVariants as over
 use Rattle.silo_loops.specs.Answers.{end_of}
-use Rattle.silo_loops.specs.Lines.{CallsAt, HasPulled, LineIsAtLimit, LineView, places, rested}
+use Rattle.silo_loops.specs.Lines.{CallsAt, HasPulled, LineIsAtLimit, LineView, QueuePass, places, rested}
+use Rattle.silo_loops.specs.Passes.{LastOf}
 use Rattle.silo_loops.specs.Chains.{Chain}
 
 -- an agent: its lines in queue order, the generation under which it holds each queue, where it does, how many
@@ -24,13 +27,29 @@ pub record AgentView : Type 0 where
 abbrev pub agent_at : List LineView → List (Option ℕ) → ℕ → Option why.Over → AgentView
 agent_at lines held rounds over = record { lines = lines; held = held; rounds = rounds; over = over }
 
--- What an agent may ask of a queue that it holds: an agent's operations, under the generation that it was told.
-abbrev pub AgentMay : ℕ → Op → Type 0
-AgentMay generation (Pull named most) = (named ≡ generation) × (most ≡ 32)
-AgentMay generation (Deliver named sub) = named ≡ generation
-AgentMay generation (Ack named sub token) = named ≡ generation
-AgentMay generation (Due last) = Unit {0}
-AgentMay generation _ = ⊥
+-- a visit of a queue begins with a Pull, and then asks for one due subscription after another
+abbrev pub is_pull_or_due : Op → Bool
+is_pull_or_due (Pull generation most) = true
+is_pull_or_due (Due last) = true
+is_pull_or_due _ = false
+
+-- the due subscription that a call names
+abbrev pub named_by : Op → Reply → Option SubName
+named_by (Due last) (DueSub sub ack) = Some sub
+named_by _ _ = None
+
+-- The due subscription that was named last at the queue of this pass since the pass pulled there, or none.
+abbrev pub IsNamedLast : QueuePass → Option SubName → Type 0
+IsNamedLast p last = (op : Op) × (reply : Reply) × LastOf is_pull_or_due p op reply × (last ≡ named_by op reply)
+
+-- What an agent may ask of a queue that it holds: an agent's operations, under the generation that it was told; and for
+-- the due subscription behind the one that was named last.
+abbrev pub AgentMay : QueuePass → ℕ → Op → Type 0
+AgentMay p generation (Pull named most) = (named ≡ generation) × (most ≡ 32)
+AgentMay p generation (Deliver named sub) = named ≡ generation
+AgentMay p generation (Ack named sub token) = named ≡ generation
+AgentMay p generation (Due last) = IsNamedLast p last
+AgentMay p generation _ = ⊥
 
 -- a call of an agent
 pub record AgentCalls (v w : AgentView) : Type 0 where
@@ -40,7 +59,7 @@ pub record AgentCalls (v w : AgentView) : Type 0 where
   pub generation : ℕ
   pub holds : slice_get w.held at ≡ Some (Some generation)
   pub calls : CallsAt v.lines at op result w.lines
-  pub may : AgentMay generation op
+  pub may : AgentMay calls.was.pass generation op
   pub over : w.over ≡ end_of result
 
 -- each queue that is held was pulled

@@ -49,6 +49,14 @@ module _ {O R S : Type 0} where
     pub past : mark ≤ length before
     pub picked : test op ≡ true
 
+  -- The last of the pass's own calls with an operation that the test picks: past it stands none.
+  pub record LastOf (test : O → Bool) (p : PassView O R S) (op : O) (reply : R) : Type 0 where
+    pub before : List (Entry O R)
+    pub later : List (Entry O R)
+    pub whole : p.seen ≡ (before ++ entry p.number op reply ∷ []) ++ later
+    pub picked : test op ≡ true
+    pub none : OwnsNone test (numbers_of p) later
+
   -- A limit has ended a loop at this pass, where its answers end loops so: the answer to its last call, or what it has
   -- seen is a full history.
   abbrev pub IsAtLimit : (Result R Refusal → Option Over) → PassView O R S → Type 0

@@ -3,8 +3,9 @@ ghost use Rattle.std.specs.Prelude.{◌≡◌, ℕ, ◌<◌, ◌≤◌, length, 
 ghost use Rattle.silo_loops.specs.declared.advance.Advance.TheVariants.{Idle};
 ghost use Rattle.silo_loops.specs.Agents.{AgentAdvances, AgentAdvancesFrom, AgentCalls, AgentHasCause, AgentRuns, HasSamePlaces, OnesPulled, agent_at};
 ghost use Rattle.silo_loops.specs.Answers.{advance_of};
-ghost use Rattle.silo_loops.specs.Lines.{HasPulled, rested};
+ghost use Rattle.silo_loops.specs.Lines.{HasPulled, LineView, rested};
 ghost use Rattle.silo_loops.specs.Chains.{Visits};
+ghost use Rattle.silo_loops.specs.Visiting.{IsVisiting};
 
 use crate::advance::{Advance, Over, told};
 use crate::agent_walk::Visit;
@@ -58,12 +59,13 @@ impl<G: Gate + Drop, H: StoredHistory<Op, Answer> + Drop> Drop for AgentLoop<G, 
 impl<G: Gate, H: StoredHistory<Op, Answer>> Model for AgentLoop<G, H> {
     ghost use Rattle.std.specs.Prelude.{◌≡◌, ◌≤◌, length};
     ghost use Rattle.silo_loops.specs.Agents.{AgentHasCause, AgentView, agent_at};
+    ghost use Rattle.silo_loops.specs.Visiting.{IsVisiting};
 
     ghost Value = { AgentView };
 
     ghost view = { λ a. agent_at a.lines.items a.held.items a.rounds a.over };
 
-    ghost invariant = { λ a. (length a.held.items ≡ length a.lines.items) × AgentHasCause (agent_at a.lines.items a.held.items a.rounds a.over) };
+    ghost invariant = { λ a. (length a.held.items ≡ length a.lines.items) × IsVisiting a.visit a.lines.items × AgentHasCause (agent_at a.lines.items a.held.items a.rounds a.over) };
 }
 
 // The generation under which the agent holds the queue at which it is, or else the next queue that it holds.
@@ -72,6 +74,7 @@ fn next_held(assigned: &Assigned, held: &mut Vec<Option<u64>>, visit: &mut Visit
     ensures same { length held.new.items ≡ length held.old.items }
     ensures held { IfSome result (λ generation. slice_get held.new.items visit.new.at ≡ Some (Some generation)) }
     ensures place { IfSome result (λ generation. visit.new.at < length held.new.items) }
+    ensures visiting { (lines : List LineView) → IsVisiting visit.old lines → IsVisiting visit.new lines }
     ensures none { IfNone result ((at : ℕ) → at < length held.new.items → visit.old.at ≤ at → slice_get held.new.items at ≡ Some None) }
 {
     for at in visit.at..held.len() {
@@ -122,8 +125,10 @@ fn ask<G: Gate, H: StoredHistory<Op, Answer>, R: Wait>(
     visit: &mut Visit,
     generation: u64,
 ) -> Option<Over>
-    requires { visit.old.at < length lines.old.items }
+    requires here { visit.old.at < length lines.old.items }
+    requires visiting { IsVisiting visit.old lines.old.items }
     ensures length { length lines.new.items ≡ length lines.old.items }
+    ensures visiting { IsVisiting visit.new lines.new.items }
     ensures calls { (held was : List (Option ℕ)) (rounds counted : ℕ) → slice_get held visit.old.at ≡ Some (Some generation) → AgentCalls (agent_at lines.old.items was rounds None) (agent_at lines.new.items held counted result) }
 {
     let mut none = Vec::new(alloc);
@@ -137,8 +142,10 @@ fn rest<G: Gate, H: StoredHistory<Op, Answer>>(
     lines: &mut Vec<Line<G, H>>,
     visit: &mut Visit,
 ) -> Advance
+    requires { IsVisiting visit.old lines.old.items }
     ensures idle { result ≡ Idle }
     ensures lines { lines.new.items ≡ map rested lines.old.items }
+    ensures visiting { IsVisiting visit.new lines.new.items }
 {
     rest_all(lines);
     visit.changed = true;
@@ -155,8 +162,10 @@ fn take_step<G: Gate, H: StoredHistory<Op, Answer>, R: Wait>(
     generation: u64,
     over: &mut Option<Over>,
 ) -> Advance
-    requires { visit.old.at < length lines.old.items }
+    requires here { visit.old.at < length lines.old.items }
+    requires visiting { IsVisiting visit.old lines.old.items }
     ensures length { length lines.new.items ≡ length lines.old.items }
+    ensures visiting { IsVisiting visit.new lines.new.items }
     ensures answer { result ≡ advance_of over.new }
     ensures calls { (held was : List (Option ℕ)) (rounds counted : ℕ) → slice_get held visit.old.at ≡ Some (Some generation) → AgentCalls (agent_at lines.old.items was rounds None) (agent_at lines.new.items held counted over.new) }
 {
@@ -179,6 +188,7 @@ fn begin_round<G: Gate, H: StoredHistory<Op, Answer>, R: Wait>(
     requires held { length held.old.items ≡ length lines.old.items }
     requires goes_on { over.old ≡ None }
     ensures held { length held.new.items ≡ length lines.new.items }
+    ensures visiting { IsVisiting visit.new lines.new.items }
     ensures advances { (was : List (Option ℕ)) → AgentAdvancesFrom None result (agent_at lines.old.items was rounds.old over.old) (agent_at lines.new.items held.new.items rounds.new over.new) }
 {
     visit.begin();
@@ -206,8 +216,10 @@ fn end_round<G: Gate, H: StoredHistory<Op, Answer>, R: Wait>(
     over: &mut Option<Over>,
 ) -> Advance
     requires held { length held.old.items ≡ length lines.old.items }
+    requires visiting { IsVisiting visit.old lines.old.items }
     requires goes_on { over.old ≡ None }
     ensures held { length held.new.items ≡ length lines.new.items }
+    ensures visiting { IsVisiting visit.new lines.new.items }
     ensures advances { (was : List (Option ℕ)) → AgentAdvancesFrom None result (agent_at lines.old.items was rounds.old over.old) (agent_at lines.new.items held.new.items rounds.new over.new) }
 {
     if is_done(lines, held, visit) {
@@ -246,8 +258,10 @@ fn go_on<G: Gate, H: StoredHistory<Op, Answer>, R: Wait>(
     over: &mut Option<Over>,
 ) -> Advance
     requires held { length held.old.items ≡ length lines.old.items }
+    requires visiting { IsVisiting visit.old lines.old.items }
     requires goes_on { over.old ≡ None }
     ensures held { length held.new.items ≡ length lines.new.items }
+    ensures visiting { IsVisiting visit.new lines.new.items }
     ensures advances { AgentAdvancesFrom None result (agent_at lines.old.items held.old.items rounds.old over.old) (agent_at lines.new.items held.new.items rounds.new over.new) }
 {
     match next_held(assigned, held, visit) {
@@ -271,7 +285,9 @@ fn advance_parts<G: Gate, H: StoredHistory<Op, Answer>, R: Wait>(
     over: &mut Option<Over>,
 ) -> Advance
     requires held { length held.old.items ≡ length lines.old.items }
+    requires visiting { IsVisiting visit.old lines.old.items }
     ensures held { length held.new.items ≡ length lines.new.items }
+    ensures visiting { IsVisiting visit.new lines.new.items }
     ensures advances { AgentAdvances result (agent_at lines.old.items held.old.items rounds.old over.old) (agent_at lines.new.items held.new.items rounds.new over.new) }
 {
     match *over {
@@ -316,8 +332,9 @@ impl<G: Gate, H: StoredHistory<Op, Answer>> AgentLoop<G, H> {
     /// Makes the next single call of the round; or answers that the round found nothing to do, or why the loop
     /// has ended.
     ///
-    /// It makes an agent's operations alone, under the generation that it was told. It is idle only where it
-    /// has pulled each queue that it then holds since it was made or last idle.
+    /// It makes an agent's operations alone, under the generation that it was told. It asks for the due subscription
+    /// behind the one that was named last. It is idle only where it has pulled each queue that it then holds since it
+    /// was made or last idle.
     pub fn advance<R: Wait>(&mut self, rt: &R, alloc: Global) -> Advance
         ensures advances { AgentAdvances result self.old self.new }
         ensures beside { HasSamePlaces self.old self.new }

@@ -1,7 +1,9 @@
 //! Where an agent is, and what it does next.
-ghost use Rattle.std.specs.Prelude.{◌≡◌, false};
-ghost use Rattle.silo_loops.specs.Agents.{AgentMay};
+ghost use Rattle.std.specs.Prelude.{◌≡◌, false, true, None};
 ghost use Rattle.silo_loops.specs.Answers.{end_in};
+ghost use Rattle.silo_loops.specs.Visiting.{GoesOnTo, op_of};
+ghost use Rattle.silo_loops.specs.declared.agent_walk.AgentStep.TheVariants as step;
+ghost use Rattle.silo_loops.specs.declared.heard.Heard.TheVariants as heard;
 ghost use Rattle.stream_model.specs.Producers.{is_producer};
 
 use crate::advance::Over;
@@ -41,7 +43,9 @@ pub(crate) struct Visit {
 
 impl Visit {
     /// Before the first round over so many queues.
-    pub(crate) fn new(queues: usize) -> Visit {
+    pub(crate) fn new(queues: usize) -> Visit
+        ensures { result ≡ record { at = queues; last = None; laps = result.laps; changed = true; step = step.Pull } }
+    {
         Visit {
             at: queues,
             last: None,
@@ -53,7 +57,7 @@ impl Visit {
 
     /// At this queue, before anything is done there.
     pub(crate) fn arrive(&mut self, at: usize)
-        ensures { self.new.at ≡ at }
+        ensures { self.new ≡ record self.old { at = at; last = None; laps = self.new.laps; step = step.Pull } }
     {
         self.at = at;
         self.last = None;
@@ -63,7 +67,7 @@ impl Visit {
 
     /// Begins another round.
     pub(crate) fn begin(&mut self)
-        ensures { self.new.at ≡ 0 }
+        ensures { self.new ≡ record self.old { at = 0; last = None; laps = self.new.laps; changed = self.new.changed; step = step.Pull } }
     {
         self.arrive(0);
         self.changed = false;
@@ -71,7 +75,7 @@ impl Visit {
 
     /// What it asks next, under this generation.
     pub(crate) fn op(&self, generation: u64) -> Op
-        ensures may { AgentMay generation result }
+        ensures op { result ≡ op_of generation self.now.step self.now.last }
         ensures producer { is_producer result ≡ false }
     {
         match self.step {
@@ -90,23 +94,28 @@ impl Visit {
     }
 
     /// What it does after this answer. It goes on with the next queue where another agent is the current one,
-    /// and where each due subscription was named twice since something last changed here.
+    /// where each due subscription was named twice since something last changed here, and where it ends.
     pub(crate) fn after(&mut self, answer: &Heard) -> Option<Over>
-        ensures { result ≡ end_in answer.now }
+        ensures over { result ≡ end_in answer.now }
+        ensures goes { GoesOnTo self.new.step self.old answer.now self.new }
     {
         if answer.is_change() {
             self.changed = true;
         }
-        if matches!(*answer, Heard::StaleAgent) {
+        let over = answer.end();
+        if over.is_some() || matches!(*answer, Heard::StaleAgent) {
             self.leave();
         } else {
             self.go_on(answer);
         }
-        answer.end()
+        over
     }
 
     // What it does after any other answer.
-    fn go_on(&mut self, answer: &Heard) {
+    fn go_on(&mut self, answer: &Heard)
+        requires { end_in answer.now ≡ None }
+        ensures { GoesOnTo self.new.step self.old answer.now self.new }
+    {
         let step = self.step;
         match step {
             AgentStep::Pull => self.step = AgentStep::Due,
@@ -123,14 +132,20 @@ impl Visit {
     }
 
     // What is left of a lap in which something changed doesn't count.
-    fn note_change(&mut self, answer: &Heard) {
+    fn note_change(&mut self, answer: &Heard)
+        ensures { self.new ≡ record self.old { laps = self.new.laps } }
+    {
         if answer.is_change() {
             self.laps = LAPS + 1;
         }
     }
 
     // Subscriptions are named in their order, so one that isn't past the last begins another lap.
-    fn after_due(&mut self, answer: &Heard) {
+    fn after_due(&mut self, answer: &Heard)
+        requires step { self.old.step ≡ step.Due }
+        requires goes_on { end_in answer.now ≡ None }
+        ensures { GoesOnTo self.new.step self.old answer.now self.new }
+    {
         match *answer {
             Heard::Due { ref sub, ack } => self.serve(sub, ack),
             _ => self.leave(),
@@ -138,7 +153,10 @@ impl Visit {
     }
 
     // What it does for a due subscription.
-    fn serve(&mut self, sub: &SubName, ack: Option<Token>) {
+    fn serve(&mut self, sub: &SubName, ack: Option<Token>)
+        requires { self.old.step ≡ step.Due }
+        ensures { GoesOnTo self.new.step self.old (heard.Due sub.now ack) self.new }
+    {
         if !self.is_new(sub) {
             self.laps = self.laps.saturating_sub(1);
         }
@@ -162,7 +180,9 @@ impl Visit {
     }
 
     // On to the next queue.
-    fn leave(&mut self) {
+    fn leave(&mut self)
+        ensures { self.new ≡ record self.old { at = self.new.at; last = None; laps = self.new.laps; step = step.Pull } }
+    {
         let next = self.at.saturating_add(1);
         self.arrive(next);
     }

@@ -383,7 +383,8 @@ impl<
     /// Makes the next single call of the round, or has the gate handle one event of the turn in hand, or tells
     /// it of the commit in hand; or answers that the round found nothing to do, or why the loop has ended.
     ///
-    /// It begins a turn only of a grain whose permit it keeps, and commits only the turn that it began. It is
+    /// It begins a turn only of a grain whose permit it keeps. It commits only the turn that it began, once each event
+    /// of it was handled, with the note that the handler gave last. It makes no other call while a turn is in hand. It is
     /// idle only where it has asked each queue for a ready grain since it was made or last idle.
     pub fn advance<R: Wait>(&mut self, rt: &R, alloc: Global) -> Advance
         ensures advances { WorkerAdvances result self.old self.new }
