@@ -152,6 +152,39 @@ fn rest<G: Gate, H: StoredHistory<Op, Answer>>(
     Advance::Idle
 }
 
+// Keeps its turn at the queue at which it is, where it is to keep one. A turn at another queue is given up before, so
+// that it waits for no turn with another one in hand.
+fn keep_here<G: Gate, H: StoredHistory<Op, Answer>, R: Wait>(
+    rt: &R,
+    doorbell: &Doorbell,
+    lines: &mut Vec<Line<G, H>>,
+    visit: &mut Visit,
+)
+    ensures lines { lines.new.items ≡ lines.old.items }
+    ensures visit { visit.new ≡ record visit.old { kept = visit.new.kept } }
+{
+    if visit.keeps && visit.kept != Some(visit.at) {
+        leave_kept(rt, doorbell, lines, visit);
+        keep_at(lines, visit.at);
+        visit.kept = Some(visit.at);
+    }
+}
+
+// Gives up the turn that it may have.
+fn leave_kept<G: Gate, H: StoredHistory<Op, Answer>, R: Wait>(
+    rt: &R,
+    doorbell: &Doorbell,
+    lines: &mut Vec<Line<G, H>>,
+    visit: &mut Visit,
+)
+    ensures lines { lines.new.items ≡ lines.old.items }
+    ensures visit { visit.new ≡ record visit.old { kept = None } }
+{
+    if let Some(at) = visit.kept.take() {
+        leave_at(rt, doorbell, lines, at);
+    }
+}
+
 // The next call at the queue at which the agent is, and what it answers.
 fn take_step<G: Gate, H: StoredHistory<Op, Answer>, R: Wait>(
     rt: &R,
@@ -169,6 +202,7 @@ fn take_step<G: Gate, H: StoredHistory<Op, Answer>, R: Wait>(
     ensures answer { result ≡ advance_of over.new }
     ensures calls { (held was : List (Option ℕ)) (rounds counted : ℕ) → slice_get held visit.old.at ≡ Some (Some generation) → AgentCalls (agent_at lines.old.items was rounds None) (agent_at lines.new.items held counted over.new) }
 {
+    keep_here(rt, doorbell, lines, visit);
     *over = ask(rt, alloc, doorbell, lines, visit, generation);
     told(rt, doorbell, *over)
 }
@@ -352,40 +386,41 @@ impl<G: Gate, H: StoredHistory<Op, Answer>> AgentLoop<G, H> {
         )
     }
 
-    /// Makes steps of the round, each as [`advance`](AgentLoop::advance) makes it, as long as they are calls at the
-    /// queue at which it is, and at most 64. It keeps its turn there meanwhile, and rings once for all of them.
+    /// Makes steps of the round, each as [`advance`](AgentLoop::advance) makes it, as long as they are calls at one
+    /// queue, and at most 64. It keeps its turn there meanwhile, and rings once for all of them. Where the queue is taken
+    /// from it before the last of them, it gives the turn up before it calls another.
     pub fn visit<R: Wait>(&mut self, rt: &R, alloc: Global) -> Advance
         ensures steps { Visits AgentAdvances result self.old self.new }
         ensures beside { HasSamePlaces self.old self.new }
     {
-        let at = self.visit.at;
-        self.keep(at);
+        self.keep();
         let mut did = self.advance(rt, alloc);
         for _ in 1..MOST_STEPS {
             let Advance::Did = did else {
                 break;
             };
-            if self.visit.at != at {
+            if self.visit.kept != Some(self.visit.at) {
                 break;
             }
             did = self.advance(rt, alloc);
         }
-        self.leave(rt, at);
+        self.leave(rt);
         did
     }
 
-    // Keeps its turn at a queue from the next call there on.
-    fn keep(&mut self, at: usize)
+    // Keeps its turn from the next call on.
+    fn keep(&mut self)
         ensures { self.new ≡ self.old }
     {
-        keep_at(&mut self.lines, at);
+        self.visit.keeps = true;
     }
 
-    // Gives up the turn that it may have at a queue.
-    fn leave<R: Wait>(&mut self, rt: &R, at: usize)
+    // Gives up the turn that it may have, and keeps none from now on.
+    fn leave<R: Wait>(&mut self, rt: &R)
         ensures { self.new ≡ self.old }
     {
-        leave_at(rt, &self.doorbell, &mut self.lines, at);
+        leave_kept(rt, &self.doorbell, &mut self.lines, &mut self.visit);
+        self.visit.keeps = false;
     }
 
     /// How many more rounds it may begin.

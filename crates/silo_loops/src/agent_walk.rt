@@ -31,7 +31,8 @@ pub(crate) enum AgentStep {
 }
 
 /// The queue at which an agent is, the due subscription that was named there last, how many more laps over the
-/// due ones it makes, whether the round changed anything, and what it does next.
+/// due ones it makes, whether the round changed anything, and what it does next; whether it keeps its turn between
+/// calls, and at which queue it may have one.
 #[derive(Drop)]
 pub(crate) struct Visit {
     pub(crate) at: usize,
@@ -39,12 +40,14 @@ pub(crate) struct Visit {
     pub(crate) laps: u8,
     pub(crate) changed: bool,
     pub(crate) step: AgentStep,
+    pub(crate) keeps: bool,
+    pub(crate) kept: Option<usize>,
 }
 
 impl Visit {
     /// Before the first round over so many queues.
     pub(crate) fn new(queues: usize) -> Visit
-        ensures { result ≡ record { at = queues; last = None; laps = result.laps; changed = true; step = step.Pull } }
+        ensures { result ≡ record { at = queues; last = None; laps = result.laps; changed = true; step = step.Pull; keeps = false; kept = None } }
     {
         Visit {
             at: queues,
@@ -52,6 +55,8 @@ impl Visit {
             laps: LAPS,
             changed: true,
             step: AgentStep::Pull,
+            keeps: false,
+            kept: None,
         }
     }
 

@@ -9,5 +9,5 @@ join_each-requires-after_bounds g c κs within = lines-at c.args.lines.items c.i
 
 pub returns : goal.returns
 returns g c =
-    subst (λ (es : List QueuePass). Gathers (passes_of c.args.lines.items) c.args.callers.items es) (sym c.new.ensures)
+    subst (λ (es : List QueuePass). Gathers (passes_of c.args.lines.items) c.args.callers.items es) (sym c.new-2.ensures)
     (lines-gather c.args.lines.items c.in_ok-queues.queues.items c.args.callers.items c.join_each.new.queues.items c.in_ok-queues.ensures.passes c.requires c.in_ok-queues.ensures.never c.join_each.ensures)
