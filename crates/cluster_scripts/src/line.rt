@@ -19,7 +19,7 @@ use std::alloc::{AllocError, Global};
 use std::sync::Wait;
 use std::thread::Threads;
 use stream_cluster::{Cluster, SiloDown, SiloUp};
-use stream_model::{Op, Reply};
+use stream_model::Op;
 use turnstile::StoredHistory;
 
 /// Why a script isn't done to its end.
@@ -36,7 +36,7 @@ pub(crate) enum Stop {
 // A silo comes by a line.
 fn up<
     G: Gate + 'static,
-    H: StoredHistory<Op, Reply> + Send + 'static,
+    H: StoredHistory<Op, step_core::Answer> + Send + 'static,
     D: StoredHistory<DirectoryOp, DirectoryReply> + Send + 'static,
     R: Threads + Wait + Copy + Send + 'static,
 >(rt: &R, alloc: Global, cluster: &mut Cluster<G, H, D>, silo: u8) -> Result<Answer, Stop>
@@ -57,7 +57,7 @@ fn up<
 // A silo goes by a line.
 fn down<
     G: Gate,
-    H: StoredHistory<Op, Reply>,
+    H: StoredHistory<Op, step_core::Answer>,
     D: StoredHistory<DirectoryOp, DirectoryReply>,
     R: Threads + Wait,
 >(rt: &R, alloc: Global, cluster: &mut Cluster<G, H, D>, silo: u8) -> Result<Answer, Stop>
@@ -79,7 +79,7 @@ fn down<
 /// Does one line of a script. A line that is stopped may be done in part.
 pub(crate) fn do_line<
     G: Gate + 'static,
-    H: StoredHistory<Op, Reply> + Send + 'static,
+    H: StoredHistory<Op, step_core::Answer> + Send + 'static,
     D: StoredHistory<DirectoryOp, DirectoryReply> + Send + 'static,
     R: Threads + Wait + Copy + Send + 'static,
 >(
@@ -123,7 +123,7 @@ fn unless_limit(asked: Result<Answer, AllocError>) -> Result<Answer, Stop>
 }
 
 /// Waits until all queues are quiet.
-pub(crate) fn wait_until_quiet<G: Gate, H: StoredHistory<Op, Reply>, R: Wait>(
+pub(crate) fn wait_until_quiet<G: Gate, H: StoredHistory<Op, step_core::Answer>, R: Wait>(
     rt: &R,
     alloc: Global,
     caller: &mut Caller<G, H>,

@@ -13,8 +13,9 @@ use shared_partition::Gate;
 use std::alloc::{AllocError, Global};
 use std::sync::{Arc, Wait};
 use std::thread::Threads;
+use step_core::Answer;
 use stream_cluster::{Cluster, Config};
-use stream_model::{Op, Reply};
+use stream_model::Op;
 use turnstile::StoredHistory;
 
 /// Why a run has no report. Where several are so, it is the first.
@@ -68,7 +69,7 @@ impl<H: Drop> Drop for Ran<H> {
 /// A call failed to allocate, or a thread can't be made. No thread is left then either.
 pub fn run<
     G: Gate + 'static,
-    H: StoredHistory<Op, Reply> + Send + 'static,
+    H: StoredHistory<Op, Answer> + Send + 'static,
     D: StoredHistory<DirectoryOp, DirectoryReply> + Send + 'static,
     R: Threads + Wait + Copy + Send + 'static,
 >(

@@ -19,7 +19,7 @@ use std::alloc::{AllocError, Global};
 use std::sync::Wait;
 use std::thread::Threads;
 use stream_cluster::Cluster;
-use stream_model::{Op, Reply};
+use stream_model::Op;
 use turnstile::StoredHistory;
 
 /// How a script has ended.
@@ -51,7 +51,7 @@ pub struct ScriptRun {
 /// A call failed to allocate, or a thread can't be made. The lines before were done.
 pub fn run_script<
     G: Gate + 'static,
-    H: StoredHistory<Op, Reply> + Send + 'static,
+    H: StoredHistory<Op, step_core::Answer> + Send + 'static,
     D: StoredHistory<DirectoryOp, DirectoryReply> + Send + 'static,
     R: Threads + Wait + Copy + Send + 'static,
 >(
@@ -87,7 +87,7 @@ pub fn run_script<
 // Does the lines, and then waits until all queues are quiet.
 fn do_lines<
     G: Gate + 'static,
-    H: StoredHistory<Op, Reply> + Send + 'static,
+    H: StoredHistory<Op, step_core::Answer> + Send + 'static,
     D: StoredHistory<DirectoryOp, DirectoryReply> + Send + 'static,
     R: Threads + Wait + Copy + Send + 'static,
 >(

@@ -16,9 +16,9 @@ use std::alloc::Global;
 use std::io::Write;
 use std::sync::{Arc, Wait};
 use std::thread::Threads;
-use step_core::Partition;
+use step_core::{Answer, Partition};
 use stream_cluster::Config;
-use stream_model::{Op, Reply};
+use stream_model::Op;
 use stream_script::{SimError, Source, read_script};
 use trace_printer::queue_trace;
 use turnstile::{AskedHistory, ProofHistory, StoredHistory};
@@ -42,7 +42,7 @@ pub fn run_on_silos<T: Threads + Wait + Copy + Send + 'static, R: Source, W: Wri
     ensures { IfSome (R.remaining source.old) (λ input.
         PrintsRun config.now input (W.contents sink.old) (W.contents sink.new) result) }
 {
-    let ran = run_source::<ProofHistory<Op, Reply>, T, R>(rt, alloc, config, source)?;
+    let ran = run_source::<ProofHistory<Op, Answer>, T, R>(rt, alloc, config, source)?;
     write_text(&run_text(alloc, &ran)?, sink)?;
     match ran.end {
         RunEnd::Report { .. } => Ok(()),
@@ -68,13 +68,13 @@ pub fn trace_on_silos<T: Threads + Wait + Copy + Send + 'static, R: Source, W: W
     ensures { IfSome (R.remaining source.old) (λ input.
         PrintsTrace config.now input (W.contents sink.old) (W.contents sink.new) result) }
 {
-    let ran = run_source::<AskedHistory<Op, Reply>, T, R>(rt, alloc, config, source)?;
+    let ran = run_source::<AskedHistory<Op, Answer>, T, R>(rt, alloc, config, source)?;
     write_end(alloc, config, &ran.end, sink)
 }
 
 /// Reads a script and runs it on silos.
 fn run_source<
-    H: StoredHistory<Op, Reply> + Send + 'static,
+    H: StoredHistory<Op, Answer> + Send + 'static,
     T: Threads + Wait + Copy + Send + 'static,
     R: Source,
 >(rt: &T, alloc: Global, config: &Config, source: &mut R) -> Result<Ran<H>, ProgramFault>
@@ -98,7 +98,7 @@ fn run_source<
 fn write_end<W: Write>(
     alloc: Global,
     config: &Config,
-    end: &RunEnd<AskedHistory<Op, Reply>>,
+    end: &RunEnd<AskedHistory<Op, Answer>>,
     sink: &mut W,
 ) -> Result<(), ProgramFault>
     requires config { IsConfig config.now }
@@ -118,7 +118,7 @@ fn write_end<W: Write>(
 fn write_left<W: Write>(
     alloc: Global,
     config: &Config,
-    left: &Option<Traces<AskedHistory<Op, Reply>>>,
+    left: &Option<Traces<AskedHistory<Op, Answer>>>,
     sink: &mut W,
 ) -> Result<(), SimError>
     requires config { IsConfig config.now }
@@ -135,7 +135,7 @@ fn write_left<W: Write>(
 fn write_traces<W: Write>(
     alloc: Global,
     config: &Config,
-    traces: &Traces<AskedHistory<Op, Reply>>,
+    traces: &Traces<AskedHistory<Op, Answer>>,
     sink: &mut W,
 ) -> Result<(), SimError>
     requires config { IsConfig config.now }
@@ -153,7 +153,7 @@ fn write_trace<W: Write>(
     alloc: Global,
     config: &Config,
     queue: usize,
-    history: &AskedHistory<Op, Reply>,
+    history: &AskedHistory<Op, Answer>,
     sink: &mut W,
 ) -> Result<(), SimError>
     requires config { IsConfig config.now }

@@ -28,9 +28,9 @@ use std::process::ExitCode;
 use std::rt::Runtime;
 use std::sync::{Arc, Wait};
 use std::thread::Threads;
-use step_core::Partition;
+use step_core::{Answer, Partition};
 use stream_cluster::Config;
-use stream_model::{Limits, Op, Reply};
+use stream_model::{Limits, Op};
 use stream_script::{Counted, SimConfig, read_script, sim};
 use trace_printer::queue_trace;
 use turnstile::{AskedHistory, ProofHistory, StoredHistory};
@@ -198,13 +198,13 @@ fn runs<R: Runtime + AllocGlobal + Threads + Wait + Copy + Send + 'static>(
 ) -> anyhow::Result<bool>
     requires { IsConfig config.now }
 {
-    let ran = run_example::<ProofHistory<Op, Reply>, R>(rt, name, config)?;
+    let ran = run_example::<ProofHistory<Op, Answer>, R>(rt, name, config)?;
     shows(rt, name, run_text(rt.alloc(), &ran)?.as_slice())
 }
 
 /// Runs an example on silos.
 fn run_example<
-    H: StoredHistory<Op, Reply> + Send + 'static,
+    H: StoredHistory<Op, Answer> + Send + 'static,
     R: Runtime + AllocGlobal + Threads + Wait + Copy + Send + 'static,
 >(rt: &R, name: &str, config: &Config) -> anyhow::Result<Ran<H>>
     requires { IsConfig config.now }
@@ -231,7 +231,7 @@ fn repeats<R: Runtime + AllocGlobal + Threads + Wait + Copy + Send + 'static>(
 ) -> anyhow::Result<bool>
     requires { IsConfig config.now }
 {
-    let ran = run_example::<AskedHistory<Op, Reply>, R>(rt, name, config)?;
+    let ran = run_example::<AskedHistory<Op, Answer>, R>(rt, name, config)?;
     let same = match &ran.end {
         RunEnd::Report { text: _, traces } => are_repeated(rt.alloc(), config, traces)?,
         RunEnd::Unfinished { .. } => false,
@@ -249,7 +249,7 @@ fn repeats<R: Runtime + AllocGlobal + Threads + Wait + Copy + Send + 'static>(
 fn are_repeated(
     alloc: Global,
     config: &Config,
-    traces: &Traces<AskedHistory<Op, Reply>>,
+    traces: &Traces<AskedHistory<Op, Answer>>,
 ) -> anyhow::Result<bool>
     requires config { IsConfig config.now }
     requires legal { AreLegal asked_entries config.now traces.now }
@@ -267,7 +267,7 @@ fn trace_of(
     alloc: Global,
     config: &Config,
     queue: usize,
-    history: &AskedHistory<Op, Reply>,
+    history: &AskedHistory<Op, Answer>,
 ) -> anyhow::Result<Vec<u8>>
     requires config { IsConfig config.now }
     requires legal { IsLegal replied after (empty config.now.blocks config.now.limits) (asked_entries history.now) }

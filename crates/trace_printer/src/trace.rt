@@ -9,7 +9,7 @@ use crate::write::write_op;
 use itoa::Buffer;
 use script_printer::reply_line;
 use std::alloc::{AllocError, Global};
-use step_core::Partition;
+use step_core::{Answer, Partition};
 use stream_model::{Op, Reply};
 use turnstile::AskedHistory;
 
@@ -26,7 +26,7 @@ pub fn queue_trace(
     alloc: Global,
     queue: usize,
     partition: &mut Partition,
-    history: &AskedHistory<Op, Reply>,
+    history: &AskedHistory<Op, Answer>,
 ) -> Result<Vec<u8>, AllocError>
     requires { IsLegal replied after partition.old (asked_entries history.now) }
     ensures { IfOk result (λ text. text.items ≡ trace_text queue (asked_entries history.now)) }
