@@ -11,14 +11,15 @@ use std::alloc::Global;
 use std::rt::Clock;
 use std::sync::Wait;
 use std::thread::Threads;
-use stream_model::{Op, Reply};
+use step_core::Answer;
+use stream_model::Op;
 use turnstile::{AskedHistory, ProofHistory, StoredHistory};
 
 /// A history that stores what was asked, as that of a trace.
-type WithoutReplies = AskedHistory<Op, Reply>;
+type WithoutReplies = AskedHistory<Op, Answer>;
 
 /// One that stores how many calls there were, as that of a service.
-type Number = ProofHistory<Op, Reply>;
+type Number = ProofHistory<Op, Answer>;
 
 /// How many calls are made where nothing is measured.
 const FEW: usize = 1_000;
@@ -73,7 +74,7 @@ fn see_difference<R: Clock + Threads + Wait + Sync>(
 }
 
 /// A line for a kind of history: how many times as long as the operation alone a call takes.
-fn print_row<H: StoredHistory<Op, Reply> + Send, R: Print + Clock + Threads + Wait + Sync>(
+fn print_row<H: StoredHistory<Op, Answer> + Send, R: Print + Clock + Threads + Wait + Sync>(
     rt: &R,
     alloc: Global,
     asking: &Asking,
@@ -115,7 +116,7 @@ impl Seconds {
 }
 
 /// Goes each way once, and fails where they don't agree.
-fn go<H: StoredHistory<Op, Reply> + Send, R: Clock + Threads + Wait + Sync>(
+fn go<H: StoredHistory<Op, Answer> + Send, R: Clock + Threads + Wait + Sync>(
     rt: &R,
     alloc: Global,
     asking: &Asking,
@@ -131,7 +132,7 @@ fn go<H: StoredHistory<Op, Reply> + Send, R: Clock + Threads + Wait + Sync>(
 }
 
 /// The seconds of the calls on so many threads, which are told the same as a partition alone.
-fn compare<H: StoredHistory<Op, Reply> + Send, R: Clock + Threads + Wait + Sync>(
+fn compare<H: StoredHistory<Op, Answer> + Send, R: Clock + Threads + Wait + Sync>(
     rt: &R,
     alloc: Global,
     threads: usize,

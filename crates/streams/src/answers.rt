@@ -1,7 +1,5 @@
 //! What the calls of a service answer, and how that is read from the replies of a queue and of a cluster.
-ghost use Rattle.std.specs.Prelude.{◌≡◌, Ok};
-ghost use Rattle.step_core.specs.Replied.{Says, reply_of};
-ghost use Rattle.stream_model.specs.declared.reply.Reply.{Reply};
+ghost use Rattle.std.specs.Prelude.{◌≡◌};
 ghost use Rattle.streams.specs.Answers as read;
 
 use cluster_ending::{Finished, Traces};
@@ -179,30 +177,13 @@ pub(crate) fn published(reply: Result<Answer, Refusal>) -> Result<Token, Publish
     ensures { result ≡ read.published reply }
 {
     match reply {
-        Ok(answer) => published_by(answer.outcome()),
+        Ok(answer) => match answer.outcome() {
+            Outcome::Told(Told::Published { seq }) => Ok(Token { seq: *seq, idx: 0 }),
+            Outcome::Told(Told::BadBatch) => Err(PublishError::BadBatch),
+            _ => Err(PublishError::Limit),
+        },
         Err(Refusal::HistoryFull) => Err(PublishError::Limit),
         Err(Refusal::Memory) => Err(PublishError::Memory),
-    }
-}
-
-// The same by the outcome.
-fn published_by(outcome: &Outcome) -> Result<Token, PublishError>
-    ensures { (r : Reply) → Says outcome.now r → result ≡ read.published (Ok r) }
-{
-    match outcome {
-        Outcome::Told(told) => published_told(told),
-        Outcome::Turn(_) => Err(PublishError::Limit),
-    }
-}
-
-// The same by a reply that isn't a turn.
-fn published_told(told: &Told) -> Result<Token, PublishError>
-    ensures { result ≡ read.published (Ok (reply_of told.now)) }
-{
-    match *told {
-        Told::Published { seq } => Ok(Token { seq, idx: 0 }),
-        Told::BadBatch => Err(PublishError::BadBatch),
-        _ => Err(PublishError::Limit),
     }
 }
 
@@ -214,30 +195,19 @@ pub(crate) fn subscribed(
     ensures { result ≡ read.subscribed queue reply }
 {
     match reply {
-        Ok(answer) => subscribed_by(queue, answer.outcome()),
+        Ok(answer) => match answer.outcome() {
+            Outcome::Told(Told::Subscribed { number }) => Ok(Subscription {
+                queue,
+                number: *number,
+            }),
+            Outcome::Told(Told::Miss { low, high, .. }) => Err(SubscribeError::Miss {
+                low: *low,
+                high: *high,
+            }),
+            _ => Err(SubscribeError::Limit),
+        },
         Err(Refusal::HistoryFull) => Err(SubscribeError::Limit),
         Err(Refusal::Memory) => Err(SubscribeError::Memory),
-    }
-}
-
-// The same by the outcome.
-fn subscribed_by(queue: usize, outcome: &Outcome) -> Result<Subscription, SubscribeError>
-    ensures { (r : Reply) → Says outcome.now r → result ≡ read.subscribed queue (Ok r) }
-{
-    match outcome {
-        Outcome::Told(told) => subscribed_told(queue, told),
-        Outcome::Turn(_) => Err(SubscribeError::Limit),
-    }
-}
-
-// The same by a reply that isn't a turn.
-fn subscribed_told(queue: usize, told: &Told) -> Result<Subscription, SubscribeError>
-    ensures { result ≡ read.subscribed queue (Ok (reply_of told.now)) }
-{
-    match *told {
-        Told::Subscribed { number } => Ok(Subscription { queue, number }),
-        Told::Miss { low, high, .. } => Err(SubscribeError::Miss { low, high }),
-        _ => Err(SubscribeError::Limit),
     }
 }
 
@@ -246,30 +216,13 @@ pub(crate) fn unsubscribed(reply: Result<Answer, Refusal>) -> Result<usize, Unsu
     ensures { result ≡ read.unsubscribed reply }
 {
     match reply {
-        Ok(answer) => unsubscribed_by(answer.outcome()),
+        Ok(answer) => match answer.outcome() {
+            Outcome::Told(Told::Unsubscribed { handled }) => Ok(*handled),
+            Outcome::Told(Told::Closed) => Err(UnsubscribeError::Closed),
+            _ => Err(UnsubscribeError::NoSuch),
+        },
         Err(Refusal::HistoryFull) => Err(UnsubscribeError::Limit),
         Err(Refusal::Memory) => Err(UnsubscribeError::Memory),
-    }
-}
-
-// The same by the outcome.
-fn unsubscribed_by(outcome: &Outcome) -> Result<usize, UnsubscribeError>
-    ensures { (r : Reply) → Says outcome.now r → result ≡ read.unsubscribed (Ok r) }
-{
-    match outcome {
-        Outcome::Told(told) => unsubscribed_told(told),
-        Outcome::Turn(_) => Err(UnsubscribeError::NoSuch),
-    }
-}
-
-// The same by a reply that isn't a turn.
-fn unsubscribed_told(told: &Told) -> Result<usize, UnsubscribeError>
-    ensures { result ≡ read.unsubscribed (Ok (reply_of told.now)) }
-{
-    match *told {
-        Told::Unsubscribed { handled } => Ok(handled),
-        Told::Closed => Err(UnsubscribeError::Closed),
-        _ => Err(UnsubscribeError::NoSuch),
     }
 }
 
@@ -278,30 +231,13 @@ pub(crate) fn rule_added(reply: Result<Answer, Refusal>) -> Result<bool, CallErr
     ensures { result ≡ read.rule_added reply }
 {
     match reply {
-        Ok(answer) => rule_added_by(answer.outcome()),
+        Ok(answer) => match answer.outcome() {
+            Outcome::Told(Told::RuleAdded { .. }) => Ok(true),
+            Outcome::Told(Told::RuleThere) => Ok(false),
+            _ => Err(CallError::Limit),
+        },
         Err(Refusal::HistoryFull) => Err(CallError::Limit),
         Err(Refusal::Memory) => Err(CallError::Memory),
-    }
-}
-
-// The same by the outcome.
-fn rule_added_by(outcome: &Outcome) -> Result<bool, CallError>
-    ensures { (r : Reply) → Says outcome.now r → result ≡ read.rule_added (Ok r) }
-{
-    match outcome {
-        Outcome::Told(told) => rule_added_told(told),
-        Outcome::Turn(_) => Err(CallError::Limit),
-    }
-}
-
-// The same by a reply that isn't a turn.
-fn rule_added_told(told: &Told) -> Result<bool, CallError>
-    ensures { result ≡ read.rule_added (Ok (reply_of told.now)) }
-{
-    match *told {
-        Told::RuleAdded { .. } => Ok(true),
-        Told::RuleThere => Ok(false),
-        _ => Err(CallError::Limit),
     }
 }
 
@@ -310,29 +246,12 @@ pub(crate) fn pending_of(reply: Result<Answer, Refusal>) -> Result<Option<Pendin
     ensures { result ≡ read.pending_of reply }
 {
     match reply {
-        Ok(answer) => pending_of_by(answer.outcome()),
+        Ok(answer) => match answer.outcome() {
+            Outcome::Told(Told::NotQuiet(why)) => Ok(Some(*why)),
+            _ => Ok(None),
+        },
         Err(Refusal::HistoryFull) => Err(CallError::Limit),
         Err(Refusal::Memory) => Err(CallError::Memory),
-    }
-}
-
-// The same by the outcome.
-fn pending_of_by(outcome: &Outcome) -> Result<Option<Pending>, CallError>
-    ensures { (r : Reply) → Says outcome.now r → result ≡ read.pending_of (Ok r) }
-{
-    match outcome {
-        Outcome::Told(told) => pending_of_told(told),
-        Outcome::Turn(_) => Ok(None),
-    }
-}
-
-// The same by a reply that isn't a turn.
-fn pending_of_told(told: &Told) -> Result<Option<Pending>, CallError>
-    ensures { result ≡ read.pending_of (Ok (reply_of told.now)) }
-{
-    match *told {
-        Told::NotQuiet(why) => Ok(Some(why)),
-        _ => Ok(None),
     }
 }
 

@@ -1,8 +1,9 @@
-//! What is asked over and over, and what of a reply counts.
+//! What is asked over and over, and what of an answer counts.
 use anyhow::Result;
 use std::alloc::{AllocError, Global};
+use step_core::{Answer, Outcome, Told};
 use stream_ident::{Batch, Payload, StreamId};
-use stream_model::{Op, Reply};
+use stream_model::Op;
 
 /// What is asked over and over, of a partition that is empty at first.
 #[derive(Clone, Copy)]
@@ -39,12 +40,12 @@ impl Asking {
     }
 }
 
-/// A number for a reply: the number of the batch and one more, or one, and 0 where what was asked for isn't done. So the
-/// sum of all replies is the same in whatever order they come.
-pub fn number(reply: &Reply) -> u64 {
-    match reply {
-        Reply::Published { seq } => seq.wrapping_add(1),
-        Reply::IsQuiet => 1,
+/// A number for an answer: the number of the batch and one more, or one, and 0 where what was asked for isn't done. So the
+/// sum of all answers is the same in whatever order they come.
+pub fn number(answer: &Answer) -> u64 {
+    match answer.outcome() {
+        Outcome::Told(Told::Published { seq }) => seq.wrapping_add(1),
+        Outcome::Told(Told::IsQuiet) => 1,
         _ => 0,
     }
 }

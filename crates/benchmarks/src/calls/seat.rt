@@ -9,18 +9,19 @@ use shared_partition::{Counting, SharedPartition};
 use std::alloc::{AllocError, Global};
 use std::marker::Model;
 use std::sync::{Arc, Wait};
-use stream_model::{Limits, Op, PlainPartition, Reply};
+use step_core::Answer;
+use stream_model::{Limits, Op, PlainPartition};
 use turnstile::{Pass, PassOf, StoredHistory, Turnstile};
 
 type Shared<H> = SharedPartition<Counting, H>;
 
 /// The turnstile of a shared partition, and a pass of it. A contract sees how many entries the pass has seen.
-pub struct Seat<H: StoredHistory<Op, Reply>> {
+pub struct Seat<H: StoredHistory<Op, Answer>> {
     turnstile: Arc<Turnstile<Shared<H>>, Global>,
-    pass: Pass<Shared<H>, H, Op, Reply, PlainPartition>,
+    pass: Pass<Shared<H>, H, Op, Answer, PlainPartition>,
 }
 
-impl<H: StoredHistory<Op, Reply> + Drop> Drop for Seat<H> {
+impl<H: StoredHistory<Op, Answer> + Drop> Drop for Seat<H> {
     fn drop(self) {
         let Self {
             turnstile: _,
@@ -29,7 +30,7 @@ impl<H: StoredHistory<Op, Reply> + Drop> Drop for Seat<H> {
     }
 }
 
-impl<H: StoredHistory<Op, Reply>> Model for Seat<H> {
+impl<H: StoredHistory<Op, Answer>> Model for Seat<H> {
     ghost use Rattle.std.specs.Arc.{arc_value};
     ghost use Rattle.std.specs.Prelude.{ℕ, length};
     ghost use Rattle.turnstile.specs.Calls.{IsOf};
@@ -43,7 +44,7 @@ impl<H: StoredHistory<Op, Reply>> Model for Seat<H> {
 }
 
 /// A turnstile over an empty partition with four blocks, and its first pass.
-fn opened<H: StoredHistory<Op, Reply>>(
+fn opened<H: StoredHistory<Op, Answer>>(
     alloc: Global,
 ) -> Result<(Turnstile<Shared<H>>, PassOf<Shared<H>>), AllocError>
     ensures { IfOk result (λ r. IsOf r.0 r.1 × BeganEmpty r.0.start) }
@@ -54,7 +55,7 @@ fn opened<H: StoredHistory<Op, Reply>>(
     Ok((turnstile, pass))
 }
 
-impl<H: StoredHistory<Op, Reply>> Seat<H> {
+impl<H: StoredHistory<Op, Answer>> Seat<H> {
     /// The first pass at an empty partition.
     pub fn open(alloc: Global) -> Result<Seat<H>, AllocError> {
         let (turnstile, pass) = opened(alloc)?;
@@ -82,15 +83,16 @@ impl<H: StoredHistory<Op, Reply>> Seat<H> {
         Ok(seats)
     }
 
-    /// The number of a reply.
+    /// The number of an answer.
     fn ask<R: Wait>(&mut self, rt: &R, alloc: Global, op: Op) -> u64 {
-        match SharedPartition::call(&self.turnstile, rt, alloc, &mut self.pass, op) {
-            Ok(reply) => number(&reply),
+        let room = &mut Vec::new(alloc);
+        match SharedPartition::call(&self.turnstile, rt, alloc, &mut self.pass, op, room) {
+            Ok(answer) => number(&answer),
             Err(_) => 0,
         }
     }
 
-    /// The sum of the numbers of so many replies.
+    /// The sum of the numbers of so many answers.
     pub fn ask_all<R: Wait>(
         &mut self,
         rt: &R,

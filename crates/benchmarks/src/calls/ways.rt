@@ -1,4 +1,4 @@
-//! The ways to the same replies: a partition alone, and shared ones.
+//! The ways to the same answers: a partition alone, and shared ones.
 use crate::calls::asking::{Asking, number};
 use crate::calls::seat::Seat;
 use anyhow::{Result, ensure};
@@ -7,15 +7,15 @@ use std::rt::Clock;
 use std::sync::Wait;
 use std::thread::{Threads, map_vec};
 use std::time::Instant;
-use step_core::Partition;
-use stream_model::{Limits, Op, Reply};
+use step_core::{Answer, Partition};
+use stream_model::{Limits, Op};
 use turnstile::StoredHistory;
 
 /// What was told to so many calls, and how long they took.
 #[derive(Clone, Copy)]
 pub struct Told {
     pub calls: usize,
-    /// The sum of the numbers of all replies.
+    /// The sum of the numbers of all answers.
     pub sum: u64,
     pub seconds: f64,
 }
@@ -32,7 +32,8 @@ pub fn alone<C: Clock>(clock: &C, alloc: Global, asking: &Asking, calls: usize) 
     let start = Instant::now(clock)?;
     for _ in 0..calls {
         let op = asking.operation(alloc)?;
-        sum = sum.wrapping_add(number(&partition.apply(alloc, &op)?));
+        let answer = partition.answer(alloc, &op, &mut Vec::new(alloc))?;
+        sum = sum.wrapping_add(number(&answer));
     }
     let seconds = start.elapsed(clock)?.as_secs_f64();
     Ok(Told {
@@ -44,7 +45,7 @@ pub fn alone<C: Clock>(clock: &C, alloc: Global, asking: &Asking, calls: usize) 
 
 /// So many threads make the calls at a shared partition, each as many as the others, and then all of them are in its
 /// history.
-pub fn shared<H: StoredHistory<Op, Reply> + Send, R: Clock + Threads + Wait + Sync>(
+pub fn shared<H: StoredHistory<Op, Answer> + Send, R: Clock + Threads + Wait + Sync>(
     rt: &R,
     alloc: Global,
     threads: usize,
@@ -66,8 +67,8 @@ pub fn shared<H: StoredHistory<Op, Reply> + Send, R: Clock + Threads + Wait + Sy
     })
 }
 
-/// Each pass makes so many calls, in a thread of its own: the seconds of all, and the sum of the numbers of the replies.
-fn ask_in_threads<H: StoredHistory<Op, Reply> + Send, R: Clock + Threads + Wait + Sync>(
+/// Each pass makes so many calls, in a thread of its own: the seconds of all, and the sum of the numbers of the answers.
+fn ask_in_threads<H: StoredHistory<Op, Answer> + Send, R: Clock + Threads + Wait + Sync>(
     rt: &R,
     alloc: Global,
     seats: Vec<Seat<H>>,
