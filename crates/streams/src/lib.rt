@@ -5,8 +5,9 @@
 //!
 //! A service is a [`Cluster`] with its first [`Caller`]. Whoever publishes from several threads makes these two by
 //! [`UntracedCluster::new`](Cluster::new): [`Caller::split`] gives a caller for another thread, which publishes by
-//! [`Caller::call`] at the queue that [`queue`]`(&stream, caller.queues())` gives. [`Caller::join`] takes a caller in
-//! again, and [`Cluster::finish`] ends the cluster with all callers that are left.
+//! [`Caller::call`] at the queue that [`queue`]`(&stream, caller.queues())` gives, or by [`Caller::ask`], whose small
+//! [`Answer`] stands for the [`Reply`]. [`Caller::join`] takes a caller in again, and [`Cluster::finish`] ends the
+//! cluster with all callers that are left.
 //!
 //! What a call of a service promises is proved here: what it asks, at which queue, and how its answer is read from the
 //! reply. What the others promise stands in the crate that each comes from, and is proved there.

@@ -40,8 +40,8 @@ impl Asking {
     }
 }
 
-/// A number for an answer: the number of the batch and one more, or one, and 0 where what was asked for isn't done. So the
-/// sum of all answers is the same in whatever order they come.
+/// A number for an answer: the number of the batch and one more, or one, and 0 where what was asked for isn't done. So
+/// the sum of all answers is the same in whatever order they come.
 pub fn number(answer: &Answer) -> u64 {
     match answer.outcome() {
         Outcome::Told(Told::Published { seq }) => seq.wrapping_add(1),

@@ -67,7 +67,8 @@ pub fn shared<H: StoredHistory<Op, Answer> + Send, R: Clock + Threads + Wait + S
     })
 }
 
-/// Each pass makes so many calls, in a thread of its own: the seconds of all, and the sum of the numbers of the answers.
+/// Each pass makes so many calls, in a thread of its own: the seconds of all, and the sum of the numbers of the
+/// answers.
 fn ask_in_threads<H: StoredHistory<Op, Answer> + Send, R: Clock + Threads + Wait + Sync>(
     rt: &R,
     alloc: Global,
