@@ -1,5 +1,6 @@
 //! The loops of a silo over one queue, step by step.
 use crate::fresh::{Asked, History};
+use crate::gate::Recorder;
 use crate::operations::{Call, Told, reply};
 use crate::rows::assert_row;
 use crate::silo::{KEY, Loop, Silo, ask, publish};
@@ -8,7 +9,7 @@ use silo_loops::{Advance, Over};
 use std::alloc::Global;
 use std::process::Abort;
 use std::sync::Wait;
-use step_core::{Op, Reply};
+use step_core::{Answer, Op};
 use turnstile::StoredHistory;
 
 // What the gate was told: events, commits, and how much of it was out of order.
@@ -31,8 +32,8 @@ enum Step {
     Count,
     // The worker takes a step. So many calls were made by then, and the gate was told so much.
     Did(u64, Work),
-    // The worker finds nothing to do.
-    Idle,
+    // A loop finds nothing to do.
+    Idle(Loop),
     // The gate was told so much.
     Works(Work),
     // So many events were handled, with nothing out of order.
@@ -43,10 +44,10 @@ enum Step {
 
 // Whether a loop ends so.
 fn ends<
-    H: StoredHistory<Op, Reply>,
+    H: StoredHistory<Op, Answer>,
     D: StoredHistory<DirectoryOp, DirectoryReply>,
     R: Wait + Abort,
->(rt: &R, alloc: Global, silo: &mut Silo<H, D>, which: Loop, over: Over) -> bool {
+>(rt: &R, alloc: Global, silo: &mut Silo<Recorder, H, D>, which: Loop, over: Over) -> bool {
     for _ in 0..100 {
         let rung = silo.rung(rt);
         if let Advance::Over(end) = silo.advance(rt, alloc, which) {
@@ -58,16 +59,16 @@ fn ends<
 
 // Takes a step, and tells whether what is seen then is as it should be. The calls are counted from a number on.
 fn is_met<
-    H: StoredHistory<Op, Reply>,
+    H: StoredHistory<Op, Answer>,
     D: StoredHistory<DirectoryOp, DirectoryReply>,
     R: Wait + Abort,
->(rt: &R, alloc: Global, silo: &mut Silo<H, D>, since: &mut u64, step: &Step) -> bool {
+>(rt: &R, alloc: Global, silo: &mut Silo<Recorder, H, D>, since: &mut u64, step: &Step) -> bool {
     match step {
         Step::Ask(call, told) => {
-            let replied = ask(rt, alloc, &mut silo.producer, &silo.doorbell, *call);
+            let replied = ask(rt, alloc, &mut silo.producer, 0, *call);
             return replied == reply(*told);
         }
-        Step::Publish(events) => publish(rt, alloc, &mut silo.producer, &silo.doorbell, *events),
+        Step::Publish(events) => publish(rt, alloc, &mut silo.producer, 0, KEY, *events),
         Step::Assign(generation) => silo.assign(*generation),
         Step::Rest(which) => silo.rest(rt, alloc, *which),
         Step::Settle => silo.settle(rt, alloc),
@@ -77,7 +78,7 @@ fn is_met<
             let made = silo.gate.calls().wrapping_sub(*since);
             return is_so && made == *calls && silo.gate.work() == *work;
         }
-        Step::Idle => return silo.advance(rt, alloc, Loop::Worker) == Advance::Idle,
+        Step::Idle(which) => return silo.advance(rt, alloc, *which) == Advance::Idle,
         Step::Works(work) => return silo.gate.work() == *work,
         Step::Handled(events) => {
             let (handled, _, astray) = silo.gate.work();
@@ -90,11 +91,11 @@ fn is_met<
 
 // Plays a case.
 fn play<
-    H: StoredHistory<Op, Reply>,
+    H: StoredHistory<Op, Answer>,
     D: StoredHistory<DirectoryOp, DirectoryReply>,
     R: Wait + Abort,
 >(rt: &R, alloc: Global, case: usize, calls: u64, rounds: u64, steps: &[Step]) {
-    let mut silo = Silo::<H, D>::new(rt, alloc, calls, rounds);
+    let mut silo = Silo::<Recorder, H, D>::new(rt, alloc, Recorder::new(), 1, calls, rounds);
     let mut since = 0;
     for (row, step) in steps.iter().enumerate() {
         assert_row(
@@ -113,9 +114,9 @@ const BEGIN: Step = Step::Ask(Call::Subscribe(KEY, KEY), Told::Subscribed(1));
 const QUIET: Step = Step::Ask(Call::Quiet, Told::IsQuiet);
 
 // What stands after each step of a worker for three events: each step is one call, one event or one commit that is
-// told. The calls are Ready, Enter (which isn't a call of the partition), Begin, Commit, Leave, and Ready twice,
-// since the round changed something.
-const TURN: [Step; 19] = [
+// told. The calls are Ready, Enter (which isn't a call of the partition), Begin, Commit, Ready with the permit in hand,
+// Leave, and Ready twice, since the round changed something.
+const TURN: [Step; 20] = [
     BEGIN,
     Step::Publish(3),
     Step::Rest(Loop::Agent),
@@ -128,10 +129,11 @@ const TURN: [Step; 19] = [
     Step::Did(2, (3, 0, 0)),
     Step::Did(3, (3, 0, 0)),
     Step::Did(3, (3, 1, 0)),
-    Step::Did(3, (3, 1, 0)),
+    Step::Did(4, (3, 1, 0)),
     Step::Did(4, (3, 1, 0)),
     Step::Did(5, (3, 1, 0)),
-    Step::Idle,
+    Step::Did(6, (3, 1, 0)),
+    Step::Idle(Loop::Worker),
     Step::Settle,
     Step::Handled(3),
     QUIET,
@@ -233,6 +235,21 @@ const ROUNDS: [Step; 4] = [
     Step::Ends(Loop::Agent, Over::Rounds),
 ];
 
+// An agent that holds no queue is idle and uses up no round: here it still has its only one then. It is idle also where
+// no round is left.
+const WITHOUT_A_QUEUE: [Step; 10] = [
+    Step::Assign(None),
+    Step::Idle(Loop::Agent),
+    Step::Idle(Loop::Agent),
+    Step::Assign(Some(0)),
+    Step::Rest(Loop::Agent),
+    Step::Assign(None),
+    Step::Idle(Loop::Agent),
+    Step::Idle(Loop::Agent),
+    Step::Assign(Some(0)),
+    Step::Ends(Loop::Agent, Over::Rounds),
+];
+
 // A history that has as many calls as it may have ends each loop.
 const LIMIT: [Step; 2] = [
     Step::Ends(Loop::Agent, Over::Limit),
@@ -243,13 +260,14 @@ const LIMIT: [Step; 2] = [
 const MANY: u64 = 1_000_000;
 
 // How many calls the history may have, how many rounds each loop may begin, and what is done.
-static CASES: [(u64, u64, &[Step]); 7] = [
+static CASES: [(u64, u64, &[Step]); 8] = [
     (MANY, MANY, &TURN),
     (MANY, MANY, &LOST),
     (MANY, MANY, &PRODUCED),
     (MANY, MANY, &FULL),
     (MANY, MANY, &STALE),
     (MANY, 3, &ROUNDS),
+    (MANY, 1, &WITHOUT_A_QUEUE),
     (10, MANY, &LIMIT),
 ];
 

@@ -11,11 +11,11 @@ use silo_loops::{DirectoryLine, Line};
 use std::alloc::{AllocError, Global};
 use std::process::Abort;
 use std::sync::Arc;
-use step_core::{Limits, Op, Reply};
-use turnstile::{PassOf, PlainHistory, StoredHistory, Turnstile};
+use step_core::{Answer, Limits, Op};
+use turnstile::{AskedHistory, PassOf, PlainHistory, StoredHistory, Turnstile};
 
 /// How the calls of a partition are stored.
-pub type History = PlainHistory<Op, Reply>;
+pub type History = AskedHistory<Op, Answer>;
 
 /// How the calls of a directory are stored.
 pub type Asked = PlainHistory<DirectoryOp, DirectoryReply>;
@@ -25,7 +25,7 @@ const BLOCKS: usize = 4;
 
 // A turnstile over an empty partition whose cache has so many blocks, and its first pass. The history has at most so
 // many calls.
-fn partition<G: Gate, H: StoredHistory<Op, Reply>>(
+fn partition<G: Gate, H: StoredHistory<Op, Answer>>(
     alloc: Global,
     gate: Arc<G, Global>,
     queue: usize,
@@ -48,7 +48,7 @@ fn partition<G: Gate, H: StoredHistory<Op, Reply>>(
 }
 
 /// The first line of an empty queue, whose history has at most so many calls.
-pub fn line<G: Gate, H: StoredHistory<Op, Reply>>(
+pub fn line<G: Gate, H: StoredHistory<Op, Answer>>(
     alloc: Global,
     gate: Arc<G, Global>,
     queue: usize,
@@ -59,7 +59,7 @@ pub fn line<G: Gate, H: StoredHistory<Op, Reply>>(
 }
 
 /// A caller with the pass of a line.
-pub fn caller_of<G: Gate, H: StoredHistory<Op, Reply>>(line: Line<G, H>) -> QueueCaller<G, H> {
+pub fn caller_of<G: Gate, H: StoredHistory<Op, Answer>>(line: Line<G, H>) -> QueueCaller<G, H> {
     let (turnstile, pass) = line.into_parts();
     QueueCaller::new(turnstile, pass)
 }

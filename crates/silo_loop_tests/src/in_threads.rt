@@ -10,7 +10,7 @@ use std::sync::Wait;
 use std::sync::atomic::{AtomicBool, Ordering};
 use std::thread;
 use std::thread::{Threads, join};
-use step_core::{Op, Reply};
+use step_core::{Answer, Op};
 use turnstile::StoredHistory;
 
 // How many rounds each loop may begin. A loop that doesn't wait has begun them soon.
@@ -25,7 +25,7 @@ trait Runs: Send + Drop {
     fn left(&self) -> u64;
 }
 
-impl<H: StoredHistory<Op, Reply> + Send> Runs for AgentLoop<Recorder, H> {
+impl<H: StoredHistory<Op, Answer> + Send> Runs for AgentLoop<Recorder, H> {
     fn go<R: Wait>(self, rt: &R, alloc: Global, stop: &AtomicBool) -> AgentLoop<Recorder, H> {
         self.run(rt, alloc, stop)
     }
@@ -35,7 +35,7 @@ impl<H: StoredHistory<Op, Reply> + Send> Runs for AgentLoop<Recorder, H> {
     }
 }
 
-impl<H: StoredHistory<Op, Reply> + Send, D: StoredHistory<DirectoryOp, DirectoryReply> + Send> Runs
+impl<H: StoredHistory<Op, Answer> + Send, D: StoredHistory<DirectoryOp, DirectoryReply> + Send> Runs
     for WorkerLoop<Recorder, H, D> {
     fn go<R: Wait>(self, rt: &R, alloc: Global, stop: &AtomicBool) -> WorkerLoop<Recorder, H, D> {
         self.run(rt, alloc, stop)
@@ -99,7 +99,7 @@ fn waits<L: Runs, R: Threads + Wait + Abort + Sync>(
 
 // The agent pulls and asks for a due subscription, and the worker asks for a ready grain.
 fn both_wait<
-    H: StoredHistory<Op, Reply> + Send,
+    H: StoredHistory<Op, Answer> + Send,
     D: StoredHistory<DirectoryOp, DirectoryReply> + Send,
     R: Threads + Wait + Abort + Sync,
 >(rt: &R, alloc: Global) {
@@ -110,7 +110,7 @@ fn both_wait<
         producer: _,
         agent,
         worker,
-    } = Silo::<H, D>::new(rt, alloc, 1_000_000, ROUNDS);
+    } = Silo::<Recorder, H, D>::new(rt, alloc, Recorder::new(), 1, 1_000_000, ROUNDS);
     waits(rt, alloc, agent, &gate, &doorbell, 2);
     waits(rt, alloc, worker, &gate, &doorbell, 1);
 }

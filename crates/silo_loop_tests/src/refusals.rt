@@ -1,5 +1,5 @@
-//! Calls of a shared partition of which one allocation is refused, at each kind of history that takes memory.
-use crate::fresh::{caller_of, line};
+//! Calls of a shared partition of which one allocation is refused, at a history that takes memory.
+use crate::fresh::{History, caller_of, line};
 use crate::operations::{Call, operation};
 use cluster_callers::QueueCaller;
 use shared_partition::Counting;
@@ -7,9 +7,9 @@ use silo_loops::Doorbell;
 use std::alloc::{AllocError, Global};
 use std::process::Abort;
 use std::sync::{Arc, Wait};
-use step_core::{Op, Reply};
+use step_core::{Answer, Op};
 use stream_ident::Token;
-use turnstile::{AskedHistory, PlainHistory, Refusal, StoredHistory};
+use turnstile::{Refusal, StoredHistory};
 
 const STREAM: u8 = b'k';
 
@@ -45,7 +45,7 @@ static CALLS: [Call; 20] = [
 ];
 
 // A caller of an empty queue.
-fn opened<H: StoredHistory<Op, Reply>>(
+fn opened<H: StoredHistory<Op, Answer>>(
     alloc: Global,
 ) -> Result<QueueCaller<Counting, H>, AllocError> {
     let gate = Arc::new(alloc, Counting)?;
@@ -53,7 +53,7 @@ fn opened<H: StoredHistory<Op, Reply>>(
 }
 
 // Makes a call. Whether it is answered, and not refused memory.
-fn is_answered<H: StoredHistory<Op, Reply>, R: Wait + Abort>(
+fn is_answered<H: StoredHistory<Op, Answer>, R: Wait + Abort>(
     rt: &R,
     alloc: Global,
     caller: &mut QueueCaller<Counting, H>,
@@ -63,8 +63,8 @@ fn is_answered<H: StoredHistory<Op, Reply>, R: Wait + Abort>(
     let Ok(op) = operation(rt, alloc, call) else {
         return false;
     };
-    match caller.call(rt, alloc, doorbell, op) {
-        Ok(_reply) => true,
+    match caller.ask(rt, alloc, doorbell, op, &mut Vec::new(alloc)) {
+        Ok(_answer) => true,
         Err(refusal) => {
             assert!(rt; refusal == Refusal::Memory);
             false
@@ -73,7 +73,7 @@ fn is_answered<H: StoredHistory<Op, Reply>, R: Wait + Abort>(
 }
 
 // Makes all calls, each of them once more where memory was refused. Each has one entry then.
-fn insist<H: StoredHistory<Op, Reply>, R: Wait + Abort>(rt: &R, alloc: Global) {
+fn insist<H: StoredHistory<Op, Answer>, R: Wait + Abort>(rt: &R, alloc: Global) {
     let mut caller = match opened::<H>(alloc) {
         Ok(caller) => caller,
         Err(AllocError) => opened::<H>(alloc).expect(rt, "memory"),
@@ -91,6 +91,5 @@ fn insist<H: StoredHistory<Op, Reply>, R: Wait + Abort>(rt: &R, alloc: Global) {
 // Run it with each allocation failing in turn.
 #[test]
 fn one_allocation_refused(rt: HostRuntime) {
-    insist::<PlainHistory<Op, Reply>, HostRuntime>(&rt, rt.alloc());
-    insist::<AskedHistory<Op, Reply>, HostRuntime>(&rt, rt.alloc());
+    insist::<History, HostRuntime>(&rt, rt.alloc());
 }

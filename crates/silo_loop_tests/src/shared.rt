@@ -10,7 +10,7 @@ use std::sync::atomic::{AtomicU64, Ordering};
 use std::sync::{Arc, Wait};
 use std::thread;
 use std::thread::{Threads, join};
-use step_core::{Op, Reply};
+use step_core::{Answer, Op};
 use stream_ident::{Event, GrainId, SubName};
 use turnstile::StoredHistory;
 
@@ -51,10 +51,11 @@ trait Asks: Send + Drop {
     fn ask<R: Wait + Abort>(&mut self, rt: &R, alloc: Global, doorbell: &Doorbell, call: Call);
 }
 
-impl<H: StoredHistory<Op, Reply> + Send> Asks for QueueCaller<Entered, H> {
+impl<H: StoredHistory<Op, Answer> + Send> Asks for QueueCaller<Entered, H> {
     fn ask<R: Wait + Abort>(&mut self, rt: &R, alloc: Global, doorbell: &Doorbell, call: Call) {
         let op = operation(rt, alloc, call).expect(rt, "memory");
-        let _reply = self.call(rt, alloc, doorbell, op).expect(rt, "a reply");
+        let answer = self.ask(rt, alloc, doorbell, op, &mut Vec::new(alloc));
+        let _answer = answer.expect(rt, "an answer");
     }
 }
 
@@ -91,7 +92,7 @@ fn in_two_threads<C: Asks, R: Threads + Wait + Abort + Sync>(
 }
 
 // Two threads call a queue at once. Each call has entered the gate once, and no two were inside at once.
-fn check<H: StoredHistory<Op, Reply> + Send, R: Threads + Wait + Abort + Sync>(
+fn check<H: StoredHistory<Op, Answer> + Send, R: Threads + Wait + Abort + Sync>(
     rt: &R,
     alloc: Global,
 ) {

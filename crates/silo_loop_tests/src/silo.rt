@@ -1,17 +1,17 @@
-//! One queue with a producer, an agent and a worker, by hand.
+//! Queues with a producer, an agent and a worker, by hand.
 use crate::fresh::{caller_of, directory_line, line};
-use crate::gate::Recorder;
 use crate::operations::{Call, operation};
-use crate::passes::alone;
+use crate::passes::{alone, push};
 use activation_directory::{DirectoryOp, DirectoryReply};
-use cluster_callers::QueueCaller;
+use cluster_callers::{Caller, QueueCaller};
+use shared_partition::Gate;
 use silo_loops::{
     Advance, AgentLoop, Assigned, DirectoryLine, Doorbell, Line, TurnRoom, WorkerLoop,
 };
 use std::alloc::Global;
 use std::process::Abort;
 use std::sync::{Arc, Wait};
-use step_core::{Op, Reply};
+use step_core::{Answer, Op, Reply};
 use turnstile::StoredHistory;
 
 /// The key of the stream and of the grain.
@@ -24,95 +24,180 @@ pub enum Loop {
     Worker,
 }
 
-/// A queue with a producer, and the loops of a silo over it: an agent and a worker.
+/// Queues with a producer, and the loops of a silo over them: an agent and a worker.
 #[derive(Drop)]
-pub struct Silo<H: StoredHistory<Op, Reply>, D: StoredHistory<DirectoryOp, DirectoryReply>> {
-    pub gate: Arc<Recorder, Global>,
+pub struct Silo<
+    G: Gate,
+    H: StoredHistory<Op, Answer>,
+    D: StoredHistory<DirectoryOp, DirectoryReply>,
+> {
+    pub gate: Arc<G, Global>,
     pub doorbell: Arc<Doorbell, Global>,
     pub assigned: Arc<Assigned, Global>,
-    pub producer: QueueCaller<Recorder, H>,
-    pub agent: AgentLoop<Recorder, H>,
-    pub worker: WorkerLoop<Recorder, H, D>,
+    pub producer: Caller<G, H>,
+    pub agent: AgentLoop<G, H>,
+    pub worker: WorkerLoop<G, H, D>,
 }
 
-fn new_agent<H: StoredHistory<Op, Reply>, R: Abort>(
+// The first line of each of so many empty queues.
+fn first_lines<G: Gate, H: StoredHistory<Op, Answer>, R: Abort>(
+    rt: &R,
+    alloc: Global,
+    gate: &Arc<G, Global>,
+    queues: usize,
+    calls: u64,
+) -> Vec<Line<G, H>> {
+    let mut lines = Vec::new(alloc);
+    for queue in 0..queues {
+        let shared = Arc::try_clone(gate).expect(rt, "memory");
+        let line = line(alloc, shared, queue, calls).expect(rt, "memory");
+        push(rt, &mut lines, line);
+    }
+    lines
+}
+
+// A line that is split off each of these.
+fn split_lines<G: Gate, H: StoredHistory<Op, Answer>, R: Abort>(
+    rt: &R,
+    alloc: Global,
+    lines: &mut Vec<Line<G, H>>,
+) -> Vec<Line<G, H>> {
+    let mut others = Vec::new(alloc);
+    for at in 0..lines.len() {
+        let line = &mut lines[at];
+        let other = line.split().expect(rt, "a pass");
+        push(rt, &mut others, other);
+    }
+    others
+}
+
+fn callers_of<G: Gate, H: StoredHistory<Op, Answer>, R: Abort>(
+    rt: &R,
+    alloc: Global,
+    lines: Vec<Line<G, H>>,
+) -> Vec<QueueCaller<G, H>> {
+    let mut callers = Vec::new(alloc);
+    for line in lines {
+        push(rt, &mut callers, caller_of(line));
+    }
+    callers
+}
+
+// So many queues, each of which the agent has.
+fn all_assigned<R: Abort>(rt: &R, alloc: Global, queues: usize) -> Arc<Assigned, Global> {
+    let assigned = Assigned::new(alloc, queues).expect(rt, "memory");
+    for queue in 0..queues {
+        assigned.assign(queue, 0);
+    }
+    Arc::new(alloc, assigned).expect(rt, "memory")
+}
+
+fn new_producer<G: Gate, H: StoredHistory<Op, Answer>, R: Abort>(
+    rt: &R,
+    alloc: Global,
+    doorbell: &Arc<Doorbell, Global>,
+    lines: Vec<Line<G, H>>,
+) -> Caller<G, H> {
+    let doorbell = Arc::try_clone(doorbell).expect(rt, "memory");
+    let room = TurnRoom::new(alloc).expect(rt, "memory");
+    Caller::new(doorbell, callers_of(rt, alloc, lines), room)
+}
+
+fn new_agent<G: Gate, H: StoredHistory<Op, Answer>, R: Abort>(
     rt: &R,
     alloc: Global,
     doorbell: &Arc<Doorbell, Global>,
     assigned: &Arc<Assigned, Global>,
-    line: Line<Recorder, H>,
+    lines: Vec<Line<G, H>>,
     rounds: u64,
-) -> AgentLoop<Recorder, H> {
+) -> AgentLoop<G, H> {
     let doorbell = Arc::try_clone(doorbell).expect(rt, "memory");
     let assigned = Arc::try_clone(assigned).expect(rt, "memory");
-    match AgentLoop::new(alloc, doorbell, assigned, alone(rt, alloc, line), rounds) {
+    match AgentLoop::new(alloc, doorbell, assigned, lines, rounds) {
         Ok(agent) => agent,
         Err(_lines) => panic!(rt; "memory"),
     }
 }
 
-fn new_worker<H: StoredHistory<Op, Reply>, D: StoredHistory<DirectoryOp, DirectoryReply>, R: Abort>(
+fn new_worker<
+    G: Gate,
+    H: StoredHistory<Op, Answer>,
+    D: StoredHistory<DirectoryOp, DirectoryReply>,
+    R: Abort,
+>(
     rt: &R,
     alloc: Global,
-    gate: &Arc<Recorder, Global>,
+    gate: &Arc<G, Global>,
     doorbell: &Arc<Doorbell, Global>,
-    line: Line<Recorder, H>,
+    lines: Vec<Line<G, H>>,
+    directory: DirectoryLine<D>,
     rounds: u64,
-) -> WorkerLoop<Recorder, H, D> {
+) -> WorkerLoop<G, H, D> {
+    assert!(rt; !lines.is_empty());
     let gate = Arc::try_clone(gate).expect(rt, "memory");
     let doorbell = Arc::try_clone(doorbell).expect(rt, "memory");
-    let lines = alone(rt, alloc, line);
-    let directory: DirectoryLine<D> = directory_line(rt, alloc);
     let room = TurnRoom::new(alloc).expect(rt, "memory");
     WorkerLoop::new(0, gate, doorbell, lines, directory, room, rounds)
 }
 
-/// The reply to a producer.
-pub fn ask<H: StoredHistory<Op, Reply>, R: Wait + Abort>(
+/// The reply to a producer at a queue.
+pub fn ask<G: Gate, H: StoredHistory<Op, Answer>, R: Wait + Abort>(
     rt: &R,
     alloc: Global,
-    producer: &mut QueueCaller<Recorder, H>,
-    doorbell: &Doorbell,
+    producer: &mut Caller<G, H>,
+    queue: usize,
     call: Call,
 ) -> Reply {
+    assert!(rt; queue < producer.queues());
     let op = operation(rt, alloc, call).expect(rt, "memory");
-    producer.call(rt, alloc, doorbell, op).expect(rt, "a reply")
+    producer.call(rt, alloc, queue, op).expect(rt, "a reply")
 }
 
-/// Publishes so many events, each in a batch of its own.
-pub fn publish<H: StoredHistory<Op, Reply>, R: Wait + Abort>(
+/// Publishes so many events to a stream, each in a batch of its own.
+pub fn publish<G: Gate, H: StoredHistory<Op, Answer>, R: Wait + Abort>(
     rt: &R,
     alloc: Global,
-    producer: &mut QueueCaller<Recorder, H>,
-    doorbell: &Doorbell,
+    producer: &mut Caller<G, H>,
+    queue: usize,
+    key: u8,
     count: u64,
 ) {
     for _ in 0..count {
-        let reply = ask(rt, alloc, producer, doorbell, Call::Publish(KEY));
+        let reply = ask(rt, alloc, producer, queue, Call::Publish(key));
         assert!(rt; matches!(reply, Reply::Published { .. }));
     }
 }
 
-impl<H: StoredHistory<Op, Reply>, D: StoredHistory<DirectoryOp, DirectoryReply>> Silo<H, D> {
-    /// An empty queue, which the agent has, whose history may have so many calls and whose loops may begin so many
-    /// rounds each. The doorbell's count is about to wrap.
-    pub fn new<R: Abort>(rt: &R, alloc: Global, calls: u64, rounds: u64) -> Silo<H, D> {
-        let gate = Arc::new(alloc, Recorder::new()).expect(rt, "memory");
+impl<G: Gate, H: StoredHistory<Op, Answer>, D: StoredHistory<DirectoryOp, DirectoryReply>> Silo<
+    G,
+    H,
+    D,
+> {
+    /// So many empty queues, each of which the agent has, whose histories may have so many calls each and whose loops
+    /// may begin so many rounds each. The doorbell's count is about to wrap.
+    pub fn new<R: Abort>(
+        rt: &R,
+        alloc: Global,
+        gate: G,
+        queues: usize,
+        calls: u64,
+        rounds: u64,
+    ) -> Silo<G, H, D> {
+        let gate = Arc::new(alloc, gate).expect(rt, "memory");
         let doorbell = Arc::new(alloc, Doorbell::new(u64::MAX)).expect(rt, "memory");
-        let assigned = Assigned::new(alloc, 1).expect(rt, "memory");
-        assigned.assign(0, 0);
-        let assigned = Arc::new(alloc, assigned).expect(rt, "memory");
-        let shared = Arc::try_clone(&gate).expect(rt, "memory");
-        let mut line = line(alloc, shared, 0, calls).expect(rt, "memory");
-        let pulling = line.split().expect(rt, "a pass");
-        let working = line.split().expect(rt, "a pass");
+        let assigned = all_assigned(rt, alloc, queues);
+        let mut lines = first_lines(rt, alloc, &gate, queues, calls);
+        let pulling = split_lines(rt, alloc, &mut lines);
+        let working = split_lines(rt, alloc, &mut lines);
+        let directory = directory_line(rt, alloc);
         let agent = new_agent(rt, alloc, &doorbell, &assigned, pulling, rounds);
-        let worker = new_worker(rt, alloc, &gate, &doorbell, working, rounds);
+        let worker = new_worker(rt, alloc, &gate, &doorbell, working, directory, rounds);
+        let producer = new_producer(rt, alloc, &doorbell, lines);
         Silo {
             gate,
             doorbell,
             assigned,
-            producer: caller_of(line),
+            producer,
             agent,
             worker,
         }
@@ -123,7 +208,7 @@ impl<H: StoredHistory<Op, Reply>, D: StoredHistory<DirectoryOp, DirectoryReply>>
         self.doorbell.now(rt).wrapping_add(1)
     }
 
-    /// The agent has the queue from now on, under this generation, or has it no more.
+    /// The agent has the first queue from now on, under this generation, or has it no more.
     pub fn assign(&self, generation: Option<u64>) {
         match generation {
             Some(generation) => self.assigned.assign(0, generation),

@@ -43,6 +43,8 @@ impl<H: StoredHistory<Addition, u64>> Replays for Total<H> {
 
     type History = H;
 
+    type Room = ();
+
     type State = u64;
 
     ghost state_of = { λ t. t.sum };
@@ -51,14 +53,12 @@ impl<H: StoredHistory<Addition, u64>> Replays for Total<H> {
 
     ghost after = { λ s op. (s + op.amount) % 2 ^ 64 };
 
-    fn apply(&mut self, alloc: Global, op: &Addition) -> Result<u64, AllocError> {
+    ghost shows = { λ _ _ _. Unit {0} };
+
+    fn apply(&mut self, alloc: Global, op: &Addition, _room: &mut ()) -> Result<u64, AllocError> {
         let _room: Vec<u64> = Vec::with_capacity(alloc, op.room)?;
         self.sum = self.sum.wrapping_add(op.amount);
         Ok(self.sum)
-    }
-
-    fn copy_reply(reply: &u64) -> u64 {
-        *reply
     }
 }
 

@@ -50,7 +50,7 @@ fn a_fresh_object_gives_the_replies_again(rt: HostRuntime) {
     let mut fresh = Total::<Unanswered>::new();
     let replies = done
         .history
-        .replay(rt.alloc(), &mut fresh)
+        .replay(rt.alloc(), &mut fresh, &mut ())
         .expect(&rt, "memory");
     assert!(rt; replies.as_slice() == [5, 7, 8, 12, 15].as_slice());
 }
