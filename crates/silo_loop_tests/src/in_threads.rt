@@ -3,6 +3,7 @@ use crate::fresh::{Asked, History};
 use crate::gate::Recorder;
 use crate::silo::Silo;
 use activation_directory::{DirectoryOp, DirectoryReply};
+use shared_partition::Gate;
 use silo_loops::{AgentLoop, Doorbell, WorkerLoop};
 use std::alloc::Global;
 use std::process::Abort;
@@ -16,17 +17,17 @@ use turnstile::StoredHistory;
 // How many rounds each loop may begin. A loop that doesn't wait has begun them soon.
 const ROUNDS: u64 = 10_000;
 
-// A loop of a silo.
-trait Runs: Send + Drop {
-    // Steps until it is told to stop.
+/// A loop of a silo.
+pub trait Runs: Send + Drop {
+    /// Visits until it is told to stop.
     fn go<R: Wait>(self, rt: &R, alloc: Global, stop: &AtomicBool) -> Self;
 
-    // How many more rounds it may begin.
+    /// How many more rounds it may begin.
     fn left(&self) -> u64;
 }
 
-impl<H: StoredHistory<Op, Answer> + Send> Runs for AgentLoop<Recorder, H> {
-    fn go<R: Wait>(self, rt: &R, alloc: Global, stop: &AtomicBool) -> AgentLoop<Recorder, H> {
+impl<G: Gate, H: StoredHistory<Op, Answer> + Send> Runs for AgentLoop<G, H> {
+    fn go<R: Wait>(self, rt: &R, alloc: Global, stop: &AtomicBool) -> AgentLoop<G, H> {
         self.run(rt, alloc, stop)
     }
 
@@ -35,9 +36,12 @@ impl<H: StoredHistory<Op, Answer> + Send> Runs for AgentLoop<Recorder, H> {
     }
 }
 
-impl<H: StoredHistory<Op, Answer> + Send, D: StoredHistory<DirectoryOp, DirectoryReply> + Send> Runs
-    for WorkerLoop<Recorder, H, D> {
-    fn go<R: Wait>(self, rt: &R, alloc: Global, stop: &AtomicBool) -> WorkerLoop<Recorder, H, D> {
+impl<
+    G: Gate,
+    H: StoredHistory<Op, Answer> + Send,
+    D: StoredHistory<DirectoryOp, DirectoryReply> + Send,
+> Runs for WorkerLoop<G, H, D> {
+    fn go<R: Wait>(self, rt: &R, alloc: Global, stop: &AtomicBool) -> WorkerLoop<G, H, D> {
         self.run(rt, alloc, stop)
     }
 

@@ -23,10 +23,18 @@ mod refusals;
 #[cfg(test)]
 mod rows;
 #[cfg(test)]
+mod running;
+#[cfg(test)]
+mod seven;
+#[cfg(test)]
 mod shared;
 #[cfg(test)]
 mod silo;
 #[cfg(test)]
+mod tally;
+#[cfg(test)]
 mod total;
 #[cfg(test)]
 mod turns;
+#[cfg(test)]
+mod visits;

@@ -140,6 +140,29 @@ fn new_worker<
     WorkerLoop::new(0, gate, doorbell, lines, directory, room, rounds)
 }
 
+/// A worker, and another one beside it, with passes of its own.
+pub fn two_workers<
+    G: Gate,
+    H: StoredHistory<Op, Answer>,
+    D: StoredHistory<DirectoryOp, DirectoryReply>,
+    R: Abort,
+>(
+    rt: &R,
+    alloc: Global,
+    gate: &Arc<G, Global>,
+    doorbell: &Arc<Doorbell, Global>,
+    worker: WorkerLoop<G, H, D>,
+) -> (WorkerLoop<G, H, D>, WorkerLoop<G, H, D>) {
+    let rounds = worker.rounds();
+    let (mut lines, mut directory) = worker.into_parts();
+    let others = split_lines(rt, alloc, &mut lines);
+    let other = directory.split().expect(rt, "a pass");
+    (
+        new_worker(rt, alloc, gate, doorbell, lines, directory, rounds),
+        new_worker(rt, alloc, gate, doorbell, others, other, rounds),
+    )
+}
+
 /// The reply to a producer at a queue.
 pub fn ask<G: Gate, H: StoredHistory<Op, Answer>, R: Wait + Abort>(
     rt: &R,

@@ -11,7 +11,7 @@ use std::alloc::Global;
 use std::process::Abort;
 use std::sync::{Arc, Wait};
 use std::thread::Threads;
-use step_core::{Op, Reply};
+use step_core::{Answer, Op};
 use turnstile::StoredHistory;
 
 /// What is done to a cluster.
@@ -52,7 +52,7 @@ pub struct Case {
 // Whether a step is done.
 fn is_met<
     G: Gate + 'static,
-    H: StoredHistory<Op, Reply> + Send + 'static,
+    H: StoredHistory<Op, Answer> + Send + 'static,
     D: StoredHistory<DirectoryOp, DirectoryReply> + Send + 'static,
     R: Threads + Wait + Abort + Copy + Send + 'static,
 >(
@@ -76,7 +76,7 @@ fn is_met<
 /// A cluster of a case, to which its steps are done, and a producer of it.
 pub fn prepare<
     G: Gate + 'static,
-    H: StoredHistory<Op, Reply> + Send + 'static,
+    H: StoredHistory<Op, Answer> + Send + 'static,
     D: StoredHistory<DirectoryOp, DirectoryReply> + Send + 'static,
     R: Threads + Wait + Abort + Copy + Send + 'static,
 >(
@@ -100,7 +100,7 @@ pub fn prepare<
 /// Whether a cluster ends as its case says.
 pub fn ends<
     G: Gate + 'static,
-    H: StoredHistory<Op, Reply> + Send + 'static,
+    H: StoredHistory<Op, Answer> + Send + 'static,
     D: StoredHistory<DirectoryOp, DirectoryReply> + Send + 'static,
     R: Threads + Wait + Abort,
 >(rt: &R, alloc: Global, running: Running<G, H, D>, producer: Producer<G, H>, case: &Case) -> bool
@@ -130,7 +130,7 @@ pub fn ends<
 }
 
 // The passes of a producer, but that of its first queue, which is lost.
-fn but_first<G: Gate, H: StoredHistory<Op, Reply>>(
+fn but_first<G: Gate, H: StoredHistory<Op, Answer>>(
     producer: Producer<G, H>,
 ) -> Vec<QueueCaller<G, H>> {
     let (caller, _told) = producer.into_parts();
@@ -185,7 +185,7 @@ static CASES: [Case; 4] = [
 
 // Does what each case says, and sees how it ends.
 fn check<
-    H: StoredHistory<Op, Reply> + Send + 'static,
+    H: StoredHistory<Op, Answer> + Send + 'static,
     D: StoredHistory<DirectoryOp, DirectoryReply> + Send + 'static,
     R: Threads + Wait + Abort + Copy + Send + 'static,
 >(rt: &R, alloc: Global) {

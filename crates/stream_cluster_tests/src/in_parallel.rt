@@ -11,7 +11,7 @@ use std::process::Abort;
 use std::sync::atomic::Ordering;
 use std::sync::{Arc, Wait};
 use std::thread::{Threads, join};
-use step_core::{Op, Reply};
+use step_core::{Answer, Op};
 use turnstile::StoredHistory;
 
 const STEPS: [Step; 4] = [
@@ -30,7 +30,7 @@ static CROSSED: Case = Case {
 
 // Two grains handle an event each. The one that comes first waits until the other has committed.
 fn cross<
-    H: StoredHistory<Op, Reply> + Send + 'static,
+    H: StoredHistory<Op, Answer> + Send + 'static,
     D: StoredHistory<DirectoryOp, DirectoryReply> + Send + 'static,
     R: Threads + Wait + Abort + Copy + Send + 'static,
 >(rt: &R, alloc: Global) {
@@ -51,7 +51,7 @@ static BESIDE: Case = Case {
 };
 
 // Publishes to a queue: to the second one while a call of the first one waits.
-fn publish<H: StoredHistory<Op, Reply>, R: Wait + Abort>(
+fn publish<H: StoredHistory<Op, Answer>, R: Wait + Abort>(
     rt: &R,
     alloc: Global,
     gate: &Meeting,
@@ -71,7 +71,7 @@ fn publish<H: StoredHistory<Op, Reply>, R: Wait + Abort>(
 }
 
 // Publishes to the first queue, whose next call waits until a call of the second queue was answered.
-fn publish_beside<H: StoredHistory<Op, Reply> + Send + 'static, R: Threads + Wait + Abort + Sync>(
+fn publish_beside<H: StoredHistory<Op, Answer> + Send + 'static, R: Threads + Wait + Abort + Sync>(
     rt: &R,
     alloc: Global,
     gate: &Meeting,
@@ -91,7 +91,7 @@ fn publish_beside<H: StoredHistory<Op, Reply> + Send + 'static, R: Threads + Wai
 
 // A call of the second queue is answered while one of the first holds its turn.
 fn call_beside<
-    H: StoredHistory<Op, Reply> + Send + 'static,
+    H: StoredHistory<Op, Answer> + Send + 'static,
     D: StoredHistory<DirectoryOp, DirectoryReply> + Send + 'static,
     R: Threads + Wait + Abort + Copy + Send + Sync + 'static,
 >(rt: &R, alloc: Global) {

@@ -24,6 +24,8 @@ mod producer;
 #[cfg(test)]
 mod refusals;
 #[cfg(test)]
+mod replayed;
+#[cfg(test)]
 mod running;
 #[cfg(test)]
 mod scarce;

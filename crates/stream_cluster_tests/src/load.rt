@@ -12,7 +12,7 @@ use std::snapshot::Snapshot;
 use std::sync::{Arc, Barrier, Wait};
 use std::thread;
 use std::thread::{Promise, PromisedHandle, Threads};
-use step_core::{Op, Reply};
+use step_core::{Answer, Op};
 use turnstile::{ProofHistory, StoredHistory};
 
 // How many clusters there are, one after another.
@@ -45,7 +45,7 @@ type Silos<H, D> = Running<Counting, H, D>;
 
 // In each round all silos but one go, and come again. The one that stays is another one in each round.
 fn change_silos<
-    H: StoredHistory<Op, Reply> + Send + 'static,
+    H: StoredHistory<Op, Answer> + Send + 'static,
     D: StoredHistory<DirectoryOp, DirectoryReply> + Send + 'static,
     R: Threads + Wait + Abort + Copy + Send + 'static,
 >(rt: &R, alloc: Global, rounds: &Barrier, running: &mut Silos<H, D>, from: usize)
@@ -63,7 +63,7 @@ fn change_silos<
 }
 
 // Publishes in each round, beside the silos that change.
-fn publish<H: StoredHistory<Op, Reply>, R: Wait + Abort>(
+fn publish<H: StoredHistory<Op, Answer>, R: Wait + Abort>(
     rt: &R,
     alloc: Global,
     rounds: &Barrier,
@@ -87,9 +87,9 @@ fn publish<H: StoredHistory<Op, Reply>, R: Wait + Abort>(
 
 // The producer that comes back has its passes at the turnstiles of the one that was sent.
 #[derive(Drop)]
-struct Beside<H: StoredHistory<Op, Reply>>(Snapshot<Publisher<H>>);
+struct Beside<H: StoredHistory<Op, Answer>>(Snapshot<Publisher<H>>);
 
-impl<H: StoredHistory<Op, Reply>> Promise<Publisher<H>> for Beside<H> {
+impl<H: StoredHistory<Op, Answer>> Promise<Publisher<H>> for Beside<H> {
     ghost kept_by = { λ p producer. producer ≡ p.0.value };
 }
 
@@ -97,7 +97,7 @@ type Publishing<H> = PromisedHandle<Publisher<H>, Beside<H>>;
 
 // A producer beside another one publishes in a thread.
 fn spawn<
-    H: StoredHistory<Op, Reply> + Send + 'static,
+    H: StoredHistory<Op, Answer> + Send + 'static,
     R: Threads + Wait + Abort + Copy + Send + 'static,
 >(
     rt: &R,
@@ -122,7 +122,7 @@ fn spawn<
 
 // The silos change beside two producers in threads, which are taken in when they come back.
 fn publish_beside<
-    H: StoredHistory<Op, Reply> + Send + 'static,
+    H: StoredHistory<Op, Answer> + Send + 'static,
     D: StoredHistory<DirectoryOp, DirectoryReply> + Send + 'static,
     R: Threads + Wait + Abort + Copy + Send + 'static,
 >(rt: &R, alloc: Global, running: &mut Silos<H, D>, producer: &mut Publisher<H>, from: usize)
@@ -148,7 +148,7 @@ fn is_whole<H, R: Abort>(rt: &R, alloc: Global, ended: &Ended<H>, told: &[Told])
 
 // One cluster, from its start to its report. At each queue two grains subscribe.
 fn run<
-    H: StoredHistory<Op, Reply> + Send + 'static,
+    H: StoredHistory<Op, Answer> + Send + 'static,
     D: StoredHistory<DirectoryOp, DirectoryReply> + Send + 'static,
     R: Threads + Wait + Abort + Copy + Send + 'static,
 >(rt: &R, alloc: Global, gate: Arc<Counting, Global>, from: usize) -> bool {
@@ -165,7 +165,7 @@ fn run<
 // from one silo on, which is another one in each cluster, and the one before it stays. Nothing that the producers were
 // told was published is lost, and nothing is left of a cluster.
 fn run_each<
-    H: StoredHistory<Op, Reply> + Send + 'static,
+    H: StoredHistory<Op, Answer> + Send + 'static,
     D: StoredHistory<DirectoryOp, DirectoryReply> + Send + 'static,
     R: Threads + Wait + Abort + Copy + Send + 'static,
 >(rt: &R, alloc: Global) {
@@ -179,7 +179,7 @@ fn run_each<
 
 #[test]
 fn silos_go_and_come(rt: HostRuntime) {
-    run_each::<ProofHistory<Op, Reply>, ProofHistory<DirectoryOp, DirectoryReply>, HostRuntime>(
+    run_each::<ProofHistory<Op, Answer>, ProofHistory<DirectoryOp, DirectoryReply>, HostRuntime>(
         &rt,
         rt.alloc(),
     );

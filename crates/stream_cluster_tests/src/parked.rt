@@ -7,7 +7,7 @@ use crate::asking::{Produced, production};
 use crate::running::Ended;
 use activation_directory::{DirectoryOp, DirectoryReply};
 use cluster_callers::Caller;
-use script_producer::Answer;
+use script_producer::Answer as Answered;
 use shared_partition::Counting;
 use silo_crew::SiloLoops;
 use silo_loops::Advance;
@@ -15,7 +15,7 @@ use std::alloc::{AllocError, Global};
 use std::marker::Model;
 use std::process::Abort;
 use std::sync::{Arc, Wait};
-use step_core::{Limits, Op, Reply};
+use step_core::{Answer, Limits, Op};
 use stream_cluster::{Cluster, Config, Retired};
 use turnstile::StoredHistory;
 
@@ -53,13 +53,13 @@ pub enum Astray {
 /// A parked cluster, its caller, and the loops of its silos that weren't given back.
 ///
 /// A contract sees of how many silos it has the loops.
-pub struct Parked<H: StoredHistory<Op, Reply>, D: StoredHistory<DirectoryOp, DirectoryReply>> {
+pub struct Parked<H: StoredHistory<Op, Answer>, D: StoredHistory<DirectoryOp, DirectoryReply>> {
     cluster: Cluster<Counting, H, D>,
     pub caller: Caller<Counting, H>,
     pub crew: Vec<Loops<H, D>>,
 }
 
-impl<H: StoredHistory<Op, Reply> + Drop, D: StoredHistory<DirectoryOp, DirectoryReply> + Drop> Drop
+impl<H: StoredHistory<Op, Answer> + Drop, D: StoredHistory<DirectoryOp, DirectoryReply> + Drop> Drop
     for Parked<H, D> {
     fn drop(self) {
         let Self {
@@ -70,7 +70,7 @@ impl<H: StoredHistory<Op, Reply> + Drop, D: StoredHistory<DirectoryOp, Directory
     }
 }
 
-impl<H: StoredHistory<Op, Reply>, D: StoredHistory<DirectoryOp, DirectoryReply>> Model
+impl<H: StoredHistory<Op, Answer>, D: StoredHistory<DirectoryOp, DirectoryReply>> Model
     for Parked<H, D> {
     ghost use Rattle.std.specs.Prelude.{ℕ, length};
     ghost use Rattle.stream_cluster_tests.specs.Parked.{IsWhole};
@@ -83,7 +83,7 @@ impl<H: StoredHistory<Op, Reply>, D: StoredHistory<DirectoryOp, DirectoryReply>>
 }
 
 // One step of a loop.
-fn step<H: StoredHistory<Op, Reply>, D: StoredHistory<DirectoryOp, DirectoryReply>, R: Wait>(
+fn step<H: StoredHistory<Op, Answer>, D: StoredHistory<DirectoryOp, DirectoryReply>, R: Wait>(
     rt: &R,
     alloc: Global,
     loops: &mut Loops<H, D>,
@@ -99,7 +99,7 @@ fn step<H: StoredHistory<Op, Reply>, D: StoredHistory<DirectoryOp, DirectoryRepl
 }
 
 // The loops that are kept, where they are.
-fn go_astray<H: StoredHistory<Op, Reply>, D: StoredHistory<DirectoryOp, DirectoryReply>>(
+fn go_astray<H: StoredHistory<Op, Answer>, D: StoredHistory<DirectoryOp, DirectoryReply>>(
     loops: Loops<H, D>,
     astray: Astray,
 ) -> Option<Loops<H, D>> {
@@ -110,7 +110,7 @@ fn go_astray<H: StoredHistory<Op, Reply>, D: StoredHistory<DirectoryOp, Director
 }
 
 // What a retire answered. Loops that were handed out again come to their place.
-fn sort_out<H: StoredHistory<Op, Reply>, D: StoredHistory<DirectoryOp, DirectoryReply>, R: Abort>(
+fn sort_out<H: StoredHistory<Op, Answer>, D: StoredHistory<DirectoryOp, DirectoryReply>, R: Abort>(
     rt: &R,
     crew: &mut Vec<Loops<H, D>>,
     at: usize,
@@ -134,7 +134,7 @@ fn sort_out<H: StoredHistory<Op, Reply>, D: StoredHistory<DirectoryOp, Directory
     }
 }
 
-impl<H: StoredHistory<Op, Reply>, D: StoredHistory<DirectoryOp, DirectoryReply>> Parked<H, D> {
+impl<H: StoredHistory<Op, Answer>, D: StoredHistory<DirectoryOp, DirectoryReply>> Parked<H, D> {
     /// A parked cluster of so many silos, whose histories have at most so many calls each, and at whose queues there are
     /// at most so many moves and turns.
     pub fn new<R: Wait + Abort>(
@@ -178,7 +178,7 @@ impl<H: StoredHistory<Op, Reply>, D: StoredHistory<DirectoryOp, DirectoryReply>>
         alloc: Global,
         queue: usize,
         asked: &Produced,
-    ) -> Result<Answer, AllocError> {
+    ) -> Result<Answered, AllocError> {
         assert!(rt; queue < self.caller.queues());
         let op = production(rt, alloc, asked)?;
         script_producer::ask(rt, alloc, &mut self.caller, queue, op)

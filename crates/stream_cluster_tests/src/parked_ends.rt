@@ -4,18 +4,18 @@ use crate::parked::{Astray, Parked, QUEUES, Went};
 use crate::running::{Calls, End, Places, is_so};
 use crate::story::{REPORT, begin, tell_the_rest};
 use activation_directory::{DirectoryOp, DirectoryReply};
-use script_producer::Answer;
+use script_producer::Answer as Answered;
 use std::alloc::Global;
 use std::process::Abort;
 use std::sync::Wait;
-use step_core::{Op, Reply};
+use step_core::{Answer, Op};
 use turnstile::StoredHistory;
 
 static WENT: [Went; 3] = [Went::Down, Went::Down, Went::LastSilo];
 
 // Silos are retired one after another, up to the last, whose loops are handed out again.
 fn retire_all<
-    H: StoredHistory<Op, Reply>,
+    H: StoredHistory<Op, Answer>,
     D: StoredHistory<DirectoryOp, DirectoryReply>,
     R: Wait + Abort,
 >(rt: &R, alloc: Global) {
@@ -37,7 +37,7 @@ static ASTRAY: [(usize, Astray, End); 2] = [
 ];
 
 fn go_astray<
-    H: StoredHistory<Op, Reply>,
+    H: StoredHistory<Op, Answer>,
     D: StoredHistory<DirectoryOp, DirectoryReply>,
     R: Wait + Abort,
 >(rt: &R, alloc: Global) {
@@ -53,15 +53,20 @@ const CALLS: usize = 20;
 
 // How many calls a history has at most, how often a queue moves, how a producer is answered in the end, and how the
 // cluster ends.
-static LIMITED: [(u64, u64, Answer, End); 2] = [
-    (CALLS as u64, 1_000, Answer::Limit, End::Full(CALLS, QUEUES)),
-    (1_000, 1, Answer::Refused, End::Report(b"report\n")),
+static LIMITED: [(u64, u64, Answered, End); 2] = [
+    (
+        CALLS as u64,
+        1_000,
+        Answered::Limit,
+        End::Full(CALLS, QUEUES),
+    ),
+    (1_000, 1, Answered::Refused, End::Report(b"report\n")),
 ];
 
 // A queue can't leave its silo, as its history is full or it has moved as often as it may. The silos don't change any
 // more then.
 fn stay<
-    H: StoredHistory<Op, Reply>,
+    H: StoredHistory<Op, Answer>,
     D: StoredHistory<DirectoryOp, DirectoryReply>,
     R: Wait + Abort,
 >(rt: &R, alloc: Global) {

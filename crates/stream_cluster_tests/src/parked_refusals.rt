@@ -7,12 +7,12 @@ use cluster_ending::Finished;
 use std::alloc::{AllocError, Global};
 use std::process::Abort;
 use std::sync::Wait;
-use step_core::{Op, Reply};
+use step_core::{Answer, Op};
 use turnstile::StoredHistory;
 
 // A parked cluster of three silos, asked for once more where memory was refused.
 fn opened<
-    H: StoredHistory<Op, Reply>,
+    H: StoredHistory<Op, Answer>,
     D: StoredHistory<DirectoryOp, DirectoryReply>,
     R: Wait + Abort,
 >(rt: &R, alloc: Global) -> Parked<H, D> {
@@ -34,7 +34,7 @@ fn is_otherwise<H>(ended: &Ended<H>, went: Went) -> bool {
 // A silo is retired after so many steps. Where that was refused, the silos don't change any more; no pass is lost, and
 // what isn't done is told.
 fn retire_after<
-    H: StoredHistory<Op, Reply>,
+    H: StoredHistory<Op, Answer>,
     D: StoredHistory<DirectoryOp, DirectoryReply>,
     R: Wait + Abort,
 >(rt: &R, alloc: Global, steps: usize) {
@@ -53,7 +53,7 @@ fn retire_after<
 static STEPS: [usize; 2] = [0, 60];
 
 fn retire_each<
-    H: StoredHistory<Op, Reply>,
+    H: StoredHistory<Op, Answer>,
     D: StoredHistory<DirectoryOp, DirectoryReply>,
     R: Wait + Abort,
 >(rt: &R, alloc: Global) {

@@ -13,7 +13,7 @@ use std::alloc::{AllocError, Global};
 use std::process::Abort;
 use std::sync::{Arc, Wait};
 use std::thread::Threads;
-use step_core::{Op, Reply};
+use step_core::{Answer, Op};
 use turnstile::{ProofHistory, StoredHistory};
 
 const QUEUES: usize = 3;
@@ -28,7 +28,7 @@ static SIZE: Size = Size {
     room: ROOM,
 };
 
-type Calls = ProofHistory<Op, Reply>;
+type Calls = ProofHistory<Op, Answer>;
 
 type Places = ProofHistory<DirectoryOp, DirectoryReply>;
 
@@ -47,7 +47,7 @@ fn shared_gate<R: Abort>(rt: &R, alloc: Global) -> Arc<Counting, Global> {
 // A cluster of one silo, asked for once more where it was refused: nothing is left of the first one then. Whether it
 // was refused.
 fn opened<
-    H: StoredHistory<Op, Reply> + Send + 'static,
+    H: StoredHistory<Op, Answer> + Send + 'static,
     D: StoredHistory<DirectoryOp, DirectoryReply> + Send + 'static,
     R: Threads + Wait + Abort + Copy + Send + 'static,
 >(rt: &R, alloc: Global, gate: &Arc<Counting, Global>) -> (Silos<H, D>, Publisher<H>, bool)
@@ -66,7 +66,7 @@ fn opened<
 }
 
 // Another producer, asked for once more where it was refused. Whether it was.
-fn split<H: StoredHistory<Op, Reply>, R: Abort>(
+fn split<H: StoredHistory<Op, Answer>, R: Abort>(
     rt: &R,
     alloc: Global,
     producer: &mut Publisher<H>,
@@ -82,7 +82,7 @@ fn split<H: StoredHistory<Op, Reply>, R: Abort>(
 
 // A silo comes or goes, or where that is refused, none comes or goes any more. Whether it was refused.
 fn is_kept<
-    H: StoredHistory<Op, Reply> + Send + 'static,
+    H: StoredHistory<Op, Answer> + Send + 'static,
     D: StoredHistory<DirectoryOp, DirectoryReply> + Send + 'static,
     R: Threads + Wait + Abort + Copy + Send + 'static,
 >(rt: &R, alloc: Global, running: &mut Silos<H, D>, silo: u8, comes: bool) -> bool
@@ -155,7 +155,7 @@ fn is_wanted<R: Abort>(rt: &R, alloc: Global, told: &[Told], text: &Vec<u8>) -> 
 // A silo comes and the other one goes, and two producers publish before, between and after. The one that goes has all
 // grains.
 fn change<
-    H: StoredHistory<Op, Reply> + Send + 'static,
+    H: StoredHistory<Op, Answer> + Send + 'static,
     D: StoredHistory<DirectoryOp, DirectoryReply> + Send + 'static,
     R: Threads + Wait + Abort + Copy + Send + 'static,
 >(
@@ -195,7 +195,7 @@ enum Life {
 }
 
 fn live<
-    H: StoredHistory<Op, Reply> + Send + 'static,
+    H: StoredHistory<Op, Answer> + Send + 'static,
     D: StoredHistory<DirectoryOp, DirectoryReply> + Send + 'static,
     R: Threads + Wait + Abort + Copy + Send + 'static,
 >(rt: &R, alloc: Global) -> Life {
@@ -215,7 +215,7 @@ fn live<
 }
 
 fn is_undisturbed_at_last<
-    H: StoredHistory<Op, Reply> + Send + 'static,
+    H: StoredHistory<Op, Answer> + Send + 'static,
     D: StoredHistory<DirectoryOp, DirectoryReply> + Send + 'static,
     R: Threads + Wait + Abort + Copy + Send + 'static,
 >(rt: &R, alloc: Global) -> bool {
@@ -233,7 +233,7 @@ fn one_refused(rt: HostRuntime) {
 // Four grains are on a silo that goes, and the directory refuses the call after each of them in turn. The silo's queues
 // have no agent then, and what is published to them is left to do.
 fn go_by_each_half<
-    H: StoredHistory<Op, Reply> + Send + 'static,
+    H: StoredHistory<Op, Answer> + Send + 'static,
     R: Threads + Wait + Abort + Copy + Send + 'static,
 >(rt: &R, alloc: Global) {
     holds(rt, live::<H, Scarce<1>, R>(rt, alloc) == Life::Half, 0, 1);

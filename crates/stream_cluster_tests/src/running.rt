@@ -12,12 +12,12 @@ use std::marker::Model;
 use std::process::Abort;
 use std::sync::{Arc, Wait};
 use std::thread::Threads;
-use step_core::{Limits, Op, Reply};
+use step_core::{Answer, Limits, Op};
 use stream_cluster::{Cluster, Config, SiloDown, SiloUp};
-use turnstile::{PlainHistory, StoredHistory};
+use turnstile::{AskedHistory, PlainHistory, StoredHistory};
 
 /// How the calls of a queue are stored.
-pub type Calls = PlainHistory<Op, Reply>;
+pub type Calls = AskedHistory<Op, Answer>;
 
 /// How the calls of a directory are stored.
 pub type Places = PlainHistory<DirectoryOp, DirectoryReply>;
@@ -28,7 +28,7 @@ pub type Ended<H> = Result<Finished<H>, AllocError>;
 /// A cluster whose queues and directory have these histories. A contract sees the turnstiles of its queues.
 pub struct Running<
     G: Gate,
-    H: StoredHistory<Op, Reply>,
+    H: StoredHistory<Op, Answer>,
     D: StoredHistory<DirectoryOp, DirectoryReply>,
 > {
     cluster: Cluster<G, H, D>,
@@ -36,7 +36,7 @@ pub struct Running<
 
 impl<
     G: Gate + Drop,
-    H: StoredHistory<Op, Reply> + Drop,
+    H: StoredHistory<Op, Answer> + Drop,
     D: StoredHistory<DirectoryOp, DirectoryReply> + Drop,
 > Drop for Running<G, H, D> {
     fn drop(self) {
@@ -44,7 +44,7 @@ impl<
     }
 }
 
-impl<G: Gate, H: StoredHistory<Op, Reply>, D: StoredHistory<DirectoryOp, DirectoryReply>> Model
+impl<G: Gate, H: StoredHistory<Op, Answer>, D: StoredHistory<DirectoryOp, DirectoryReply>> Model
     for Running<G, H, D> {
     ghost use Rattle.std.specs.Prelude.{List, Option};
     ghost use Rattle.silo_loops.specs.Lines.{places};
@@ -73,7 +73,7 @@ pub struct Size {
 /// The call failed to allocate, or a thread can't be made.
 pub fn start<
     G: Gate + 'static,
-    H: StoredHistory<Op, Reply> + Send + 'static,
+    H: StoredHistory<Op, Answer> + Send + 'static,
     D: StoredHistory<DirectoryOp, DirectoryReply> + Send + 'static,
     R: Threads + Wait + Abort + Copy + Send + 'static,
 >(
@@ -129,7 +129,7 @@ fn went<R: Abort>(rt: &R, answer: Result<SiloDown, AllocError>) -> Result<bool, 
 
 impl<
     G: Gate + 'static,
-    H: StoredHistory<Op, Reply> + Send + 'static,
+    H: StoredHistory<Op, Answer> + Send + 'static,
     D: StoredHistory<DirectoryOp, DirectoryReply> + Send + 'static,
 > Running<G, H, D> {
     fn up<R: Threads + Wait + Abort + Copy + Send + 'static>(
@@ -177,7 +177,7 @@ impl<
     }
 }
 
-impl<G: Gate, H: StoredHistory<Op, Reply>, D: StoredHistory<DirectoryOp, DirectoryReply>> Running<
+impl<G: Gate, H: StoredHistory<Op, Answer>, D: StoredHistory<DirectoryOp, DirectoryReply>> Running<
     G,
     H,
     D,
@@ -221,7 +221,7 @@ impl<G: Gate, H: StoredHistory<Op, Reply>, D: StoredHistory<DirectoryOp, Directo
 }
 
 // Room for two callers. A want of memory is answered by asking again.
-fn room_for_two<G: Gate, H: StoredHistory<Op, Reply>, R: Abort>(
+fn room_for_two<G: Gate, H: StoredHistory<Op, Answer>, R: Abort>(
     rt: &R,
     alloc: Global,
 ) -> Vec<Caller<G, H>>
@@ -250,7 +250,7 @@ pub enum End {
 }
 
 // Whether the second of so many histories has so many calls.
-fn are_full<H: StoredHistory<Op, Reply>>(traces: &Traces<H>, calls: usize, queues: usize) -> bool {
+fn are_full<H: StoredHistory<Op, Answer>>(traces: &Traces<H>, calls: usize, queues: usize) -> bool {
     match traces.histories.get(1) {
         Some(history) => {
             history.len() == calls
@@ -270,7 +270,7 @@ pub fn is_reported<H>(ended: &Ended<H>, report: &[u8]) -> bool {
 }
 
 /// Whether it ended so.
-pub fn is_so<H: StoredHistory<Op, Reply>>(ended: &Ended<H>, end: End) -> bool {
+pub fn is_so<H: StoredHistory<Op, Answer>>(ended: &Ended<H>, end: End) -> bool {
     match end {
         End::Report(report) => is_reported(ended, report),
         End::LeftOr(report) => match ended {

@@ -47,14 +47,18 @@ impl<const RELEASED: usize> StoredHistory<DirectoryOp, DirectoryReply> for Scarc
         Ok(())
     }
 
-    fn push(&mut self, entry: Entry<DirectoryOp, DirectoryReply>)
+    fn push(&mut self, number: u64, op: DirectoryOp, reply: &DirectoryReply)
         requires { nat_lt self.old.len (2 ^ 64 - 1) ≡ true }
-        ensures { recorded self.new.calls ≡ recorded self.old.calls ++ entry ∷ [] }
+        ensures { recorded self.new.calls ≡ recorded self.old.calls ++ record { number = number; op = op; reply = reply.now } ∷ [] }
     {
-        if matches!(entry.reply, DirectoryReply::Released { .. }) {
+        if matches!(reply, DirectoryReply::Released { .. }) {
             self.released = self.released.saturating_add(1);
         }
-        self.calls.add(&entry);
+        self.calls.add(&Entry {
+            number,
+            op,
+            reply: *reply,
+        });
         self.len += 1;
     }
 }

@@ -9,8 +9,8 @@ use std::alloc::Global;
 use std::process::Abort;
 use std::sync::{Arc, Wait};
 use std::thread::Threads;
-use step_core::{Op, Reply};
-use turnstile::{Entry, StoredHistory};
+use step_core::{Answer, Op};
+use turnstile::{Asked, StoredHistory};
 
 // Silos come and go, and an event is published to each queue before the first of these changes and after each.
 const CHANGES: [Step; 16] = [
@@ -72,7 +72,7 @@ static LOADS: [[(usize, usize); 3]; 7] = [
 
 // How a cluster ends in which that was done.
 fn change<
-    H: StoredHistory<Op, Reply> + Send + 'static,
+    H: StoredHistory<Op, Answer> + Send + 'static,
     D: StoredHistory<DirectoryOp, DirectoryReply> + Send + 'static,
     R: Threads + Wait + Abort + Copy + Send + 'static,
 >(rt: &R, alloc: Global) -> Ended<H> {
@@ -83,12 +83,12 @@ fn change<
 
 // The silo of a queue when the event with this number is published there. It moves once at most from one event to the
 // next.
-fn silo_at<R: Abort>(rt: &R, history: &[Entry<Op, Reply>], number: usize) -> usize {
+fn silo_at<R: Abort>(rt: &R, history: &[Asked<Op>], number: usize) -> usize {
     let mut silo = 0;
     let mut published: usize = 0;
     let mut has_moved = false;
-    for entry in history {
-        match entry.op {
+    for asked in history {
+        match asked.op {
             Op::Move { silo: to } => {
                 assert!(rt; !has_moved && usize::from(to) != silo);
                 silo = usize::from(to);

@@ -1,14 +1,15 @@
 //! Parked clusters: a silo is stopped after any number of steps, or none is.
 use crate::asking::holds;
 use crate::parked::{Parked, Went};
+use crate::replayed::astray_in;
 use crate::running::{Calls, Ended, Places};
-use crate::story::{Order, REPORT, advance, begin, lost_in, stale_in, tell_the_rest};
+use crate::story::{Order, REPORT, advance, begin, tell_the_rest};
 use activation_directory::{DirectoryOp, DirectoryReply};
 use cluster_ending::Finished;
 use std::alloc::Global;
 use std::process::Abort;
 use std::sync::Wait;
-use step_core::{Op, Reply};
+use step_core::{Answer, Op};
 use turnstile::StoredHistory;
 
 // How many steps the loops make at most before a silo is stopped, in fours.
@@ -55,7 +56,7 @@ static ROWS: [Row; 5] = [
 
 // How a cluster of a row ends in which the silo at a place is stopped after so many steps, where one is.
 fn told<
-    H: StoredHistory<Op, Reply>,
+    H: StoredHistory<Op, Answer>,
     D: StoredHistory<DirectoryOp, DirectoryReply>,
     R: Wait + Abort,
 >(rt: &R, alloc: Global, table: usize, row: &Row, steps: usize, at: usize) -> Ended<H> {
@@ -71,15 +72,15 @@ fn told<
 
 // How many deliveries were lost to deactivations in a cluster that ended with the report of the story. Where no silo
 // went, there are none, and no agent has called at a queue that another agent has.
-fn lost<R: Abort>(rt: &R, ended: &Ended<Calls>, row: &Row) -> usize {
+fn lost<R: Abort>(rt: &R, alloc: Global, ended: &Ended<Calls>, row: &Row) -> usize {
     let Ok(Finished::Report { text, traces }) = ended else {
         panic!(rt; "it reports");
     };
     assert!(rt; text.as_slice() == REPORT);
-    let lost = lost_in(traces);
+    let astray = astray_in(rt, alloc, traces);
     let went = matches!(row.went, Some(Went::Down));
-    assert!(rt; went || (lost == 0 && stale_in(traces) == 0));
-    lost
+    assert!(rt; went || (astray.lost == 0 && astray.stale == 0));
+    astray.lost
 }
 
 // How many deliveries were lost where each silo in turn is stopped, or none is.
@@ -90,7 +91,7 @@ fn all_lost<R: Wait + Abort>(rt: &R, alloc: Global, table: usize, row: &Row) -> 
         for at in 0..usize::from(stopped) {
             let steps = fours.wrapping_mul(4);
             let ended = told::<Calls, Places, R>(rt, alloc, table, row, steps, at);
-            all = all.wrapping_add(lost(rt, &ended, row));
+            all = all.wrapping_add(lost(rt, alloc, &ended, row));
         }
     }
     all

@@ -1,42 +1,41 @@
 //! What producers ask of a cluster, and how its loops get on.
 use crate::asking::Produced;
 use crate::parked::{Loop, Parked};
-use crate::running::{Calls, Ended};
+use crate::running::Ended;
 use activation_directory::{DirectoryOp, DirectoryReply};
-use cluster_ending::Traces;
-use script_producer::Answer;
+use script_producer::Answer as Answered;
 use silo_loops::Advance;
 use std::alloc::{AllocError, Global};
 use std::process::Abort;
 use std::sync::Wait;
-use step_core::{Op, Reply};
+use step_core::{Answer, Op};
 use turnstile::StoredHistory;
 
 // What is asked at a queue, and how the producer of a script is answered.
-type Asked = (usize, Produced<'static>, Answer);
+type Asked = (usize, Produced<'static>, Answered);
 
 // What is asked before the loops have done anything.
 static FIRST: [Asked; 13] = [
-    (0, Produced::Subscribe(b"x", b"x"), Answer::Taken),
-    (0, Produced::Publish(b"x", &[b"a", b"b"]), Answer::Taken),
-    (0, Produced::Publish(b"x", &[]), Answer::Refused),
-    (0, Produced::Subscribe(b"x", b"w"), Answer::Taken),
-    (0, Produced::Publish(b"x", &[b"c"]), Answer::Taken),
-    (1, Produced::Rule, Answer::Taken),
-    (1, Produced::Rule, Answer::Refused),
-    (1, Produced::Subscribe(b"y", b"x"), Answer::Taken),
-    (1, Produced::Publish(b"y", &[b"a"]), Answer::Taken),
-    (1, Produced::Publish(b"z", &[b"b"]), Answer::Taken),
-    (2, Produced::Subscribe(b"u", b"u"), Answer::Taken),
-    (2, Produced::Rule, Answer::Taken),
-    (2, Produced::Publish(b"u", &[b"a"]), Answer::Taken),
+    (0, Produced::Subscribe(b"x", b"x"), Answered::Taken),
+    (0, Produced::Publish(b"x", &[b"a", b"b"]), Answered::Taken),
+    (0, Produced::Publish(b"x", &[]), Answered::Refused),
+    (0, Produced::Subscribe(b"x", b"w"), Answered::Taken),
+    (0, Produced::Publish(b"x", &[b"c"]), Answered::Taken),
+    (1, Produced::Rule, Answered::Taken),
+    (1, Produced::Rule, Answered::Refused),
+    (1, Produced::Subscribe(b"y", b"x"), Answered::Taken),
+    (1, Produced::Publish(b"y", &[b"a"]), Answered::Taken),
+    (1, Produced::Publish(b"z", &[b"b"]), Answered::Taken),
+    (2, Produced::Subscribe(b"u", b"u"), Answered::Taken),
+    (2, Produced::Rule, Answered::Taken),
+    (2, Produced::Publish(b"u", &[b"a"]), Answered::Taken),
 ];
 
 // What is asked later.
 static LATER: [Asked; 3] = [
-    (0, Produced::Publish(b"x", &[b"d"]), Answer::Taken),
-    (1, Produced::Publish(b"y", &[b"c"]), Answer::Taken),
-    (2, Produced::Publish(b"u", &[b"b"]), Answer::Taken),
+    (0, Produced::Publish(b"x", &[b"d"]), Answered::Taken),
+    (1, Produced::Publish(b"y", &[b"c"]), Answered::Taken),
+    (2, Produced::Publish(b"u", &[b"b"]), Answered::Taken),
 ];
 
 /// What is reported of all that.
@@ -67,10 +66,10 @@ pub const REPORT: &[u8] = b"report
 
 // The answer at a queue. It is asked for once more where memory was refused.
 fn answer<
-    H: StoredHistory<Op, Reply>,
+    H: StoredHistory<Op, Answer>,
     D: StoredHistory<DirectoryOp, DirectoryReply>,
     R: Wait + Abort,
->(rt: &R, alloc: Global, parked: &mut Parked<H, D>, queue: usize, asked: &Produced) -> Answer {
+>(rt: &R, alloc: Global, parked: &mut Parked<H, D>, queue: usize, asked: &Produced) -> Answered {
     match parked.ask(rt, alloc, queue, asked) {
         Ok(answer) => answer,
         Err(AllocError) => parked.ask(rt, alloc, queue, asked).expect(rt, "memory"),
@@ -79,7 +78,7 @@ fn answer<
 
 // Asks for each of these.
 fn ask_all<
-    H: StoredHistory<Op, Reply>,
+    H: StoredHistory<Op, Answer>,
     D: StoredHistory<DirectoryOp, DirectoryReply>,
     R: Wait + Abort,
 >(rt: &R, alloc: Global, parked: &mut Parked<H, D>, asks: &[Asked]) {
@@ -90,7 +89,7 @@ fn ask_all<
 
 /// Asks for what is asked before the loops have done anything.
 pub fn begin<
-    H: StoredHistory<Op, Reply>,
+    H: StoredHistory<Op, Answer>,
     D: StoredHistory<DirectoryOp, DirectoryReply>,
     R: Wait + Abort,
 >(rt: &R, alloc: Global, parked: &mut Parked<H, D>) {
@@ -110,7 +109,7 @@ static LOOPS: [Loop; 3] = [Loop::Agent, Loop::First, Loop::Second];
 
 /// Advances the loops by so many steps in all.
 pub fn advance<
-    H: StoredHistory<Op, Reply>,
+    H: StoredHistory<Op, Answer>,
     D: StoredHistory<DirectoryOp, DirectoryReply>,
     R: Wait + Abort,
 >(rt: &R, alloc: Global, parked: &mut Parked<H, D>, order: Order, steps: usize) {
@@ -127,7 +126,7 @@ pub fn advance<
 
 // Steps of a loop, until it is idle or has ended.
 fn rest<
-    H: StoredHistory<Op, Reply>,
+    H: StoredHistory<Op, Answer>,
     D: StoredHistory<DirectoryOp, DirectoryReply>,
     R: Wait + Abort,
 >(rt: &R, alloc: Global, parked: &mut Parked<H, D>, at: usize, which: Loop) {
@@ -139,19 +138,30 @@ fn rest<
     panic!(rt; "a loop is idle at some time");
 }
 
-// Steps of all loops, until none finds anything to do.
-fn settle<
-    H: StoredHistory<Op, Reply>,
+// Steps of each loop, until it is idle or has ended.
+fn rest_all<
+    H: StoredHistory<Op, Answer>,
     D: StoredHistory<DirectoryOp, DirectoryReply>,
     R: Wait + Abort,
 >(rt: &R, alloc: Global, parked: &mut Parked<H, D>) {
+    for at in 0..parked.crew.len() {
+        for which in &LOOPS {
+            rest(rt, alloc, parked, at, *which);
+        }
+    }
+}
+
+// Steps of all loops, until none finds anything to do. Each ends the round in which it is first, since that may have
+// passed a queue at which there is more by now.
+fn settle<
+    H: StoredHistory<Op, Answer>,
+    D: StoredHistory<DirectoryOp, DirectoryReply>,
+    R: Wait + Abort,
+>(rt: &R, alloc: Global, parked: &mut Parked<H, D>) {
+    rest_all(rt, alloc, parked);
     for _ in 0..1_000 {
         let seen = parked.caller.doorbell().now(rt);
-        for at in 0..parked.crew.len() {
-            for which in &LOOPS {
-                rest(rt, alloc, parked, at, *which);
-            }
-        }
+        rest_all(rt, alloc, parked);
         if parked.caller.doorbell().now(rt) == seen {
             return;
         }
@@ -161,7 +171,7 @@ fn settle<
 
 /// Asks for the rest, and ends the cluster once no loop finds anything to do.
 pub fn tell_the_rest<
-    H: StoredHistory<Op, Reply>,
+    H: StoredHistory<Op, Answer>,
     D: StoredHistory<DirectoryOp, DirectoryReply>,
     R: Wait + Abort,
 >(rt: &R, alloc: Global, parked: Parked<H, D>) -> Ended<H> {
@@ -169,30 +179,4 @@ pub fn tell_the_rest<
     ask_all(rt, alloc, &mut parked, &LATER);
     settle(rt, alloc, &mut parked);
     parked.finish(rt, alloc)
-}
-
-/// How many deliveries were lost to deactivations.
-pub fn lost_in(traces: &Traces<Calls>) -> usize {
-    let mut lost = 0usize;
-    for history in &traces.histories {
-        for entry in history.as_slice() {
-            if let Reply::Deactivated { lost: more } = &entry.reply {
-                lost = lost.wrapping_add(*more);
-            }
-        }
-    }
-    lost
-}
-
-/// How often an agent has called at a queue that another agent has.
-pub fn stale_in(traces: &Traces<Calls>) -> usize {
-    let mut stale = 0usize;
-    for history in &traces.histories {
-        for entry in history.as_slice() {
-            if matches!(entry.reply, Reply::StaleAgent { .. }) {
-                stale = stale.wrapping_add(1);
-            }
-        }
-    }
-    stale
 }

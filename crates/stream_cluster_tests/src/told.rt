@@ -6,7 +6,7 @@ use shared_partition::Gate;
 use std::alloc::{AllocError, Global};
 use std::process::Abort;
 use std::sync::Wait;
-use step_core::{Op, Reply};
+use step_core::{Answer, Op};
 use turnstile::StoredHistory;
 
 /// An event that a producer was told was published, in a batch of its own.
@@ -82,7 +82,7 @@ pub fn report_of(
 }
 
 /// Two grains subscribe at each queue. Whether that was refused somewhere; then it was asked for once more.
-pub fn subscribe_all<G: Gate, H: StoredHistory<Op, Reply>, R: Wait + Abort>(
+pub fn subscribe_all<G: Gate, H: StoredHistory<Op, Answer>, R: Wait + Abort>(
     rt: &R,
     alloc: Global,
     producer: &mut Producer<G, H>,

@@ -1,0 +1,144 @@
+//! The loops of a silo in threads, with events to handle.
+use crate::fresh::{Asked, History};
+use crate::in_threads::Runs;
+use crate::seven::{are_quiet, begun, publish_each};
+use crate::silo::{Silo, two_workers};
+use crate::tally::Tally;
+use activation_directory::{DirectoryOp, DirectoryReply};
+use cluster_callers::Caller;
+use silo_loops::Doorbell;
+use std::alloc::Global;
+use std::process::Abort;
+use std::sync::Wait;
+use std::sync::atomic::{AtomicBool, Ordering};
+use std::thread;
+use std::thread::{Threads, join};
+use step_core::{Answer, Op};
+use turnstile::StoredHistory;
+
+// How many events of each stream are there before the loops run, and how many come beside them.
+const BEFORE: u64 = 40;
+
+const BESIDE: u64 = 300;
+
+// How many there are in all.
+const EVENTS: u64 = 7 * (BEFORE + BESIDE);
+
+// Looks so often at most whether all is handled.
+const LOOKS: u32 = 10_000_000;
+
+// A producer beside the loops.
+trait Produces: Send + Drop {
+    // Publishes to each stream.
+    fn publish<R: Wait + Abort>(&mut self, rt: &R, alloc: Global);
+
+    // Whether each queue is quiet.
+    fn is_quiet<R: Wait + Abort>(&mut self, rt: &R, alloc: Global) -> bool;
+}
+
+impl<H: StoredHistory<Op, Answer> + Send> Produces for Caller<Tally, H> {
+    fn publish<R: Wait + Abort>(&mut self, rt: &R, alloc: Global) {
+        publish_each(rt, alloc, self, BESIDE);
+    }
+
+    fn is_quiet<R: Wait + Abort>(&mut self, rt: &R, alloc: Global) -> bool {
+        are_quiet(rt, alloc, self)
+    }
+}
+
+// Waits until all is handled and each queue is quiet, or a loop has ended.
+fn wait<P: Produces, R: Wait + Abort>(
+    rt: &R,
+    alloc: Global,
+    gate: &Tally,
+    doorbell: &Doorbell,
+    producer: &mut P,
+) {
+    for _ in 0..LOOKS {
+        let (handled, _, _) = gate.work();
+        if doorbell.has_ended() || (handled >= EVENTS && producer.is_quiet(rt, alloc)) {
+            return;
+        }
+        thread::yield_now();
+    }
+}
+
+// Publishes, and tells the loops to stop once all is handled.
+fn produce<P: Produces, R: Wait + Abort>(
+    rt: &R,
+    alloc: Global,
+    gate: &Tally,
+    doorbell: &Doorbell,
+    mut producer: P,
+    stop: &AtomicBool,
+) -> bool {
+    producer.publish(rt, alloc);
+    wait(rt, alloc, gate, doorbell, &mut producer);
+    stop.store(true, Ordering::SeqCst);
+    doorbell.ring(rt);
+    producer.is_quiet(rt, alloc)
+}
+
+// Two loops, each in a thread.
+fn go_both<A: Runs, B: Runs, R: Threads + Wait + Sync>(
+    rt: &R,
+    alloc: Global,
+    one: A,
+    other: B,
+    stop: &AtomicBool,
+) {
+    join(rt, || one.go(rt, alloc, stop), || other.go(rt, alloc, stop));
+}
+
+// Three loops and a producer, each in a thread. Whether each queue is quiet in the end.
+fn go_all<A: Runs, B: Runs, P: Produces, R: Threads + Wait + Abort + Sync>(
+    rt: &R,
+    alloc: Global,
+    gate: &Tally,
+    doorbell: &Doorbell,
+    agent: A,
+    workers: (B, B),
+    producer: P,
+) -> bool {
+    let stop = AtomicBool::new(false);
+    let (first, second) = workers;
+    let (((), _agent), quiet) = join(
+        rt,
+        || {
+            join(
+                rt,
+                || go_both(rt, alloc, first, second, &stop),
+                || agent.go(rt, alloc, &stop),
+            )
+        },
+        || produce(rt, alloc, gate, doorbell, producer, &stop),
+    );
+    quiet
+}
+
+// Each event is handled once and in order. The agent has delivered several events to each grain of a queue before its
+// turn there ended, so there are turns of several events.
+fn all_run<
+    H: StoredHistory<Op, Answer> + Send,
+    D: StoredHistory<DirectoryOp, DirectoryReply> + Send,
+    R: Threads + Wait + Abort + Sync,
+>(rt: &R, alloc: Global) {
+    let Silo {
+        gate,
+        doorbell,
+        assigned: _,
+        producer,
+        agent,
+        worker,
+    } = begun::<H, D, R>(rt, alloc, Tally::new(false), BEFORE);
+    let workers = two_workers(rt, alloc, &gate, &doorbell, worker);
+    assert!(rt; go_all(rt, alloc, &gate, &doorbell, agent, workers, producer));
+    let (handled, done, astray) = gate.work();
+    assert!(rt; handled == EVENTS && astray == 0);
+    assert!(rt; done < EVENTS);
+}
+
+#[test]
+fn loops_run_in_threads(rt: HostRuntime) {
+    all_run::<History, Asked, HostRuntime>(&rt, rt.alloc());
+}

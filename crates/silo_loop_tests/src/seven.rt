@@ -1,0 +1,68 @@
+//! Seven streams at two queues, each of which a grain consumes.
+use crate::operations::Call;
+use crate::silo::{Silo, ask, publish};
+use crate::tally::Tally;
+use activation_directory::{DirectoryOp, DirectoryReply};
+use cluster_callers::Caller;
+use std::alloc::Global;
+use std::process::Abort;
+use std::sync::Wait;
+use step_core::{Answer, Op, Reply};
+use turnstile::StoredHistory;
+
+/// How many queues there are.
+pub const QUEUES: usize = 2;
+
+/// The key of each stream, and its queue.
+static STREAMS: [(u8, usize); 7] = [
+    (b'a', 0),
+    (b'b', 1),
+    (b'c', 0),
+    (b'd', 1),
+    (b'e', 0),
+    (b'f', 1),
+    (b'g', 0),
+];
+
+/// Publishes so many events to each stream, in turn.
+pub fn publish_each<H: StoredHistory<Op, Answer>, R: Wait + Abort>(
+    rt: &R,
+    alloc: Global,
+    producer: &mut Caller<Tally, H>,
+    count: u64,
+) {
+    for _ in 0..count {
+        for (key, queue) in &STREAMS {
+            publish(rt, alloc, producer, *queue, *key, 1);
+        }
+    }
+}
+
+/// Whether each queue is quiet.
+pub fn are_quiet<H: StoredHistory<Op, Answer>, R: Wait + Abort>(
+    rt: &R,
+    alloc: Global,
+    producer: &mut Caller<Tally, H>,
+) -> bool {
+    let mut quiet = true;
+    for queue in 0..QUEUES {
+        let reply = ask(rt, alloc, producer, queue, Call::Quiet);
+        quiet &= matches!(reply, Reply::IsQuiet);
+    }
+    quiet
+}
+
+/// A silo over the queues, before its loops have done anything. So many events were published to each stream.
+pub fn begun<
+    H: StoredHistory<Op, Answer>,
+    D: StoredHistory<DirectoryOp, DirectoryReply>,
+    R: Wait + Abort,
+>(rt: &R, alloc: Global, gate: Tally, count: u64) -> Silo<Tally, H, D> {
+    let mut silo = Silo::<Tally, H, D>::new(rt, alloc, gate, QUEUES, 1_000_000, 1_000_000);
+    for queue in 0..QUEUES {
+        let reply = ask(rt, alloc, &mut silo.producer, queue, Call::Rule);
+        assert!(rt; matches!(reply, Reply::RuleAdded { .. }));
+    }
+    publish_each(rt, alloc, &mut silo.producer, count);
+    silo
+}
