@@ -10,7 +10,8 @@ use step_core::{DrainEnd, Limits, Op, Partition, Reply};
 
 /// A partition, its twin and the plain program, to which the same operations are done.
 ///
-/// The twin is given one operation after another, also where the partition is given several at once.
+/// The twin is given one operation after another, also where the partition is given several at once, and gives answers
+/// that stand for replies.
 pub struct SideBySide {
     place: Place,
     partition: Partition,
@@ -86,7 +87,9 @@ impl SideBySide {
     /// Does an operation to the twin and to the plain program, which have to reply so.
     fn follow(&mut self, op: &Op, reply: &Reply) -> Result<(), Fault> {
         let alloc = self.place.alloc;
-        self.place.compare(reply, &self.twin.apply(alloc, op)?)?;
+        let mut events = Vec::with_capacity(alloc, 16)?;
+        let answer = self.twin.answer(alloc, op, &mut events)?;
+        self.place.compare(reply, &answer.reply(&events))?;
         let expected = self.reference.step(alloc, op.copy(alloc)?)?;
         self.place.compare(reply, &expected)?;
         self.place.operation = self.place.operation.saturating_add(1);

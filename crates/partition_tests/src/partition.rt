@@ -7,7 +7,7 @@ use std::fmt::Debug;
 use std::process::Abort;
 use std::test::Fail;
 use step_core::{Limits, Op, Partition, Reply, Start};
-use stream_ident::{SubName, Token};
+use stream_ident::{Event, SubName, Token};
 
 const FIRST: Token = Token { seq: 0, idx: 0 };
 
@@ -27,6 +27,8 @@ pub(crate) enum Call {
     Deliver(u32),
     /// The grain g/KEY begins a turn of up to so many events.
     Begin(u8, u32),
+    /// The grain g/KEY does so, and the answer stands for the reply.
+    Answer(u8, u32),
     /// The queue goes to another silo.
     Move(u8),
     /// All that is left is done.
@@ -69,7 +71,7 @@ fn op<R: Abort>(rt: &R, alloc: Global, call: &Call) -> Result<Op, AllocError> {
             generation,
             sub: SubName::Explicit(number),
         },
-        Call::Begin(key, max) => Op::Begin {
+        Call::Begin(key, max) | Call::Answer(key, max) => Op::Begin {
             grain: grain(rt, b'g', key),
             max,
         },
@@ -102,6 +104,29 @@ fn steps<R: Abort>(
 ) -> Result<bool, AllocError> {
     let op = op(rt, alloc, call)?;
     replies(alloc, &partition.step(alloc, op)?, text)
+}
+
+/// Whether the answer to the operation of a call stands for a reply that reads so. The events of a turn come beside it.
+fn answers<R: Abort>(
+    rt: &R,
+    alloc: Global,
+    partition: &mut Partition,
+    call: &Call,
+    text: &str,
+) -> Result<bool, AllocError> {
+    let op = op(rt, alloc, call)?;
+    let mut events = Vec::with_capacity(alloc, 16)?;
+    let answer = partition.answer(alloc, &op, &mut events)?;
+    let reply = answer.reply(&events);
+    Ok(replies(alloc, &reply, text)? && has_events(&reply, &events))
+}
+
+/// Whether the events of a turn are these.
+fn has_events(reply: &Reply, shown: &[Event]) -> bool {
+    match reply {
+        Reply::Turn { events, .. } => events.as_slice() == shown,
+        _ => shown.is_empty(),
+    }
 }
 
 /// Whether the run of one operation is replied to so.
@@ -148,6 +173,7 @@ impl Asked for Partition {
         match *call {
             Call::Run(key) => runs(alloc, self, subscription(rt, key, Start::Latest), text),
             Call::Drain => reads(alloc, &self.drain(alloc)?, text),
+            Call::Answer(..) => answers(rt, alloc, self, call, text),
             Call::Quiet | Call::Handled(_) | Call::Subs | Call::Cache | Call::Print => {
                 shows(alloc, self, call, text)
             }
@@ -202,6 +228,30 @@ const STUCK: [(Call, &str); 10] = [
     (Call::Drain, "Stuck { grain: GrainId { kind: g, key: y } }"),
     (Call::Handled(1), "0"),
     (Call::Handled(2), "0"),
+];
+
+/// Answers stand for replies.
+const ANSWERED: [(Call, &str); 8] = [
+    (
+        Call::Subscribe(b'x', Start::Latest),
+        "Subscribed { number: 1 }",
+    ),
+    (Call::Answer(b'x', 2), "Empty"),
+    (Call::Publish(b'k', 2), "Published { seq: 0 }"),
+    (
+        Call::Pull(2),
+        "Pulled { count: 2, low: Token { seq: 0, idx: 0 }, high: Token { seq: 1, idx: 0 } }",
+    ),
+    (
+        Call::Deliver(1),
+        "Delivered { token: Token { seq: 0, idx: 0 } }",
+    ),
+    (
+        Call::Deliver(1),
+        "Delivered { token: Token { seq: 0, idx: 1 } }",
+    ),
+    (Call::Answer(b'x', 2), "Explicit(1)"),
+    (Call::Answer(b'x', 2), "Busy"),
 ];
 
 /// Operations run, and show.
@@ -343,9 +393,10 @@ const MADE: [(Call, &str); 6] = [
 ];
 
 /// The limits of a partition, and what is asked of it.
-static CASES: [(Limits, &[(Call, &str)]); 9] = [
+static CASES: [(Limits, &[(Call, &str)]); 10] = [
     (Limits::GREATEST, &DRAINED),
     (Limits::GREATEST, &STUCK),
+    (Limits::GREATEST, &ANSWERED),
     (Limits::GREATEST, &SHOWN),
     (Limits::GREATEST, &ORDERED),
     (Limits::GREATEST, &PRINTED),
