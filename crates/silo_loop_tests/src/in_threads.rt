@@ -1,9 +1,8 @@
 //! The loops of a silo in threads, with nothing to do.
 use crate::fresh::{Asked, History};
-use crate::gate::Recorder;
 use crate::silo::Silo;
+use crate::tally::Tally;
 use activation_directory::{DirectoryOp, DirectoryReply};
-use shared_partition::Gate;
 use silo_loops::{AgentLoop, Doorbell, WorkerLoop};
 use std::alloc::Global;
 use std::process::Abort;
@@ -26,8 +25,8 @@ pub trait Runs: Send + Drop {
     fn left(&self) -> u64;
 }
 
-impl<G: Gate, H: StoredHistory<Op, Answer> + Send> Runs for AgentLoop<G, H> {
-    fn go<R: Wait>(self, rt: &R, alloc: Global, stop: &AtomicBool) -> AgentLoop<G, H> {
+impl<H: StoredHistory<Op, Answer> + Send> Runs for AgentLoop<Tally, H> {
+    fn go<R: Wait>(self, rt: &R, alloc: Global, stop: &AtomicBool) -> AgentLoop<Tally, H> {
         self.run(rt, alloc, stop)
     }
 
@@ -36,12 +35,9 @@ impl<G: Gate, H: StoredHistory<Op, Answer> + Send> Runs for AgentLoop<G, H> {
     }
 }
 
-impl<
-    G: Gate,
-    H: StoredHistory<Op, Answer> + Send,
-    D: StoredHistory<DirectoryOp, DirectoryReply> + Send,
-> Runs for WorkerLoop<G, H, D> {
-    fn go<R: Wait>(self, rt: &R, alloc: Global, stop: &AtomicBool) -> WorkerLoop<G, H, D> {
+impl<H: StoredHistory<Op, Answer> + Send, D: StoredHistory<DirectoryOp, DirectoryReply> + Send> Runs
+    for WorkerLoop<Tally, H, D> {
+    fn go<R: Wait>(self, rt: &R, alloc: Global, stop: &AtomicBool) -> WorkerLoop<Tally, H, D> {
         self.run(rt, alloc, stop)
     }
 
@@ -51,9 +47,9 @@ impl<
 }
 
 // Waits until there were so many calls, or the loop has ended, and looks away for a while. No further call was made.
-fn watch<R: Wait + Abort>(rt: &R, gate: &Recorder, doorbell: &Doorbell, calls: u64) {
+fn watch<R: Wait + Abort>(rt: &R, gate: &Tally, doorbell: &Doorbell, calls: u64) {
     for _ in rt.forever() {
-        if gate.calls() >= calls || doorbell.has_ended() {
+        if gate.calls().0 >= calls || doorbell.has_ended() {
             break;
         }
         thread::yield_now();
@@ -61,13 +57,13 @@ fn watch<R: Wait + Abort>(rt: &R, gate: &Recorder, doorbell: &Doorbell, calls: u
     for _ in 0..100_000 {
         thread::yield_now();
     }
-    assert!(rt; gate.calls() == calls);
+    assert!(rt; gate.calls().0 == calls);
 }
 
 // Sees a round of so many calls, rings, and sees another round. Then it tells the loop to stop.
 fn attend<R: Wait + Abort>(
     rt: &R,
-    gate: &Recorder,
+    gate: &Tally,
     doorbell: &Doorbell,
     stop: &AtomicBool,
     before: u64,
@@ -87,11 +83,11 @@ fn waits<L: Runs, R: Threads + Wait + Abort + Sync>(
     rt: &R,
     alloc: Global,
     it: L,
-    gate: &Recorder,
+    gate: &Tally,
     doorbell: &Doorbell,
     calls: u64,
 ) {
-    let before = gate.calls();
+    let (before, _) = gate.calls();
     let stop = AtomicBool::new(false);
     let (it, ()) = join(
         rt,
@@ -114,7 +110,7 @@ fn both_wait<
         producer: _,
         agent,
         worker,
-    } = Silo::<Recorder, H, D>::new(rt, alloc, Recorder::new(), 1, 1_000_000, ROUNDS);
+    } = Silo::<Tally, H, D>::new(rt, alloc, Tally::new(false), 1, 1_000_000, ROUNDS);
     waits(rt, alloc, agent, &gate, &doorbell, 2);
     waits(rt, alloc, worker, &gate, &doorbell, 1);
 }
