@@ -28,6 +28,7 @@ use Rattle.cluster_ending.specs.Closing.{AreTraces, IsTraceOf}
 use Rattle.cluster_ending.specs.Finishing.{CameTo}
 use Rattle.cluster_ending.specs.Gathering.{gathered, passes_of}
 use Rattle.stream_cluster.specs.declared.config.Config.{Config}
+use Rattle.silo_crew.specs.Silos.{SiloView}
 use Rattle.stream_cluster.specs.Clusters.{AreAtQueues, ClusterView, HasFinished, IsAtQueue, IsNew}
 use Rattle.stream_cluster.proofs.Standing.{line-turnstiles}
 use Rattle.cluster_scripts.specs.declared.running.ScriptEnd.{ScriptEnd}
@@ -113,7 +114,7 @@ module _ {H : Type 0} (entries : H → List (Entry Op Reply)) where
         each = all.1;
       }
 
-  pub run-legal : (config : Config) (c w : ClusterView) (caller now : List QueuePass) (answer : Finished H) (how : ScriptEnd) → IsNew config c caller → GoOn c.operator.lines w.operator.lines → HasFinished entries w (now ∷ []) answer → LeavesLegalTraces entries config (run_end answer how)
+  pub run-legal : {back : List SiloView} (config : Config) (c w : ClusterView) (caller now : List QueuePass) (answer : Finished H) (how : ScriptEnd) → IsNew config c caller → GoOn c.operator.lines w.operator.lines → HasFinished entries w (now ∷ []) back answer → LeavesLegalTraces entries config (run_end answer how)
   run-legal config c w caller now (finished.Report text traces) end.Done new first fin =
       traces-legal config c w caller now fin.lines fin.finished.asked fin.finished.last traces new first fin.on fin.finished.came_to fin.finished.answers.2
   run-legal config c w caller now (finished.Report text traces) end.Limit new first fin =

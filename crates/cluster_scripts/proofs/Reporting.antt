@@ -24,6 +24,7 @@ use Rattle.cluster_ending.proofs.Looking.{turnstiles-length}
 use Rattle.cluster_ending.proofs.Rows.{zip-at}
 use Rattle.script_printer.specs.Report.{queue_report, report_from}
 use Rattle.stream_cluster.specs.declared.config.Config.{Config}
+use Rattle.silo_crew.specs.Silos.{SiloView}
 use Rattle.stream_cluster.specs.Clusters.{ClusterView, HasFinished, IsAtQueue, IsConfig, IsNew}
 use Rattle.script_reader.specs.declared.line.Line.{Line}
 use Rattle.script_reader.specs.declared.script_line.ScriptLine.{ScriptLine}
@@ -152,8 +153,8 @@ module _ {H : Type 0} (entries : H → List (Entry Op Reply)) where
   front-printed config lines c w caller now found end.NotQuiet is new ends others = let front = ends.1 in (front.done, front.left, front.whole, front.printed config.silos (untouched config c caller is new) others)
   front-printed config lines c w caller now found end.Halted is new ends others = absurd (true≢false (sym ends.0 ∙ new.goes_on))
 
-  pub run-ends : (config : Config) (lines : List Line) (c w : ClusterView) (caller now : List QueuePass) (found : List ScriptLine) (answer : Finished H) (how : ScriptEnd) → IsConfig config → IsNew config c caller → turnstiles now ≡ turnstiles caller
-      → EndsScript how lines c caller found w now → HasFinished entries w (now ∷ []) answer → EndsRun entries config lines found (run_end answer how)
+  pub run-ends : {back : List SiloView} (config : Config) (lines : List Line) (c w : ClusterView) (caller now : List QueuePass) (found : List ScriptLine) (answer : Finished H) (how : ScriptEnd) → IsConfig config → IsNew config c caller → turnstiles now ≡ turnstiles caller
+      → EndsScript how lines c caller found w now → HasFinished entries w (now ∷ []) back answer → EndsRun entries config lines found (run_end answer how)
   run-ends config lines c w caller now found (finished.Report text traces) end.Done is new same ends fin =
       let done = ends.1 in
       let histories = map entries traces.histories.items in

@@ -14,6 +14,7 @@ use Rattle.cluster_ending.specs.declared.closing.Traces.{Traces}
 use Rattle.cluster_ending.specs.declared.finishing.Finished.{Finished}
 use Rattle.cluster_ending.specs.declared.finishing.Finished.TheVariants as finished
 use Rattle.stream_cluster.specs.declared.config.Config.{Config}
+use Rattle.silo_crew.specs.Silos.{SiloView}
 use Rattle.stream_cluster.specs.Clusters.{ClusterView, HasFinished, IsNew, is_fixed}
 use Rattle.script_reader.specs.declared.line.Line.{Line}
 use Rattle.script_reader.specs.declared.script_line.ScriptLine.{ScriptLine}
@@ -141,7 +142,7 @@ run_end (finished.NotAll queue missing) how = ends.Unfinished unfinished.Limit N
 run_end finished.InUse how = ends.Unfinished unfinished.Limit None
 
 -- A run made a cluster, did the script on it and ended it, and tells what came of both. The caller that went into the
--- end has gone on from the new cluster's.
+-- end has gone on from the new cluster's, and the loops of the silos came back as these.
 pub record RunsAndEnds {H : Type 0} (entries : H → List (Entry Op Reply)) (config : Config) (lines : List Line) (ran : Ran H) : Type 0 where
   pub cluster : ClusterView
   pub caller : List QueuePass
@@ -151,8 +152,9 @@ pub record RunsAndEnds {H : Type 0} (entries : H → List (Entry Op Reply)) (con
   pub now : List QueuePass
   pub on : AllZip HasGoneOn caller now
   pub does : AnswersScript lines cluster caller script later now
+  pub back : List SiloView
   pub finished : Finished H
-  pub ends : HasFinished entries later (now ∷ []) finished
+  pub ends : HasFinished entries later (now ∷ []) back finished
   pub tells : ran ≡ record { printed = script.printed; end = run_end finished script.end }
 
 -- what goes out of a run: its lines, and the report where there is one

@@ -89,8 +89,8 @@ pub fn run<
     let (mut cluster, mut caller) = Cluster::<G, H, D>::new(rt, alloc, config, gate)?;
     let script = run_script(rt, alloc, &mut cluster, &mut caller, lines);
     callers.push_reserved(caller);
-    let finished = cluster.finish(rt, alloc, callers);
-    Ok(conclude(script?, finished?))
+    let ended = cluster.finish(rt, alloc, callers);
+    Ok(conclude(script?, ended?.finished))
 }
 
 // What came of a run whose script and whose cluster have ended so.

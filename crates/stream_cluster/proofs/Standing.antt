@@ -31,7 +31,7 @@ use Rattle.cluster_operator.specs.Changes.{AreDeactivated, HasFound, HasMade, Ha
 use Rattle.cluster_operator.specs.Operators.{HasOnlyGoneOn, HasSpread, IsUnspread, OperatorGoesOn, OperatorView}
 use Rattle.cluster_operator.proofs.Changing.{each-earlier, each-later, goes-at, goes-back, op-trans}
 use Rattle.cluster_operator.proofs.Making.{goes-longer, made-earlier, made-later, made-since-silent}
-use Rattle.stream_cluster.specs.Clusters.{AnswersDown, AnswersRetire, AnswersUp, AreAtQueues, AreFresh, AreNoted, AreStarted, ClusterView, EndsBy, HasEnded, HasHalted, HasLeft, HasMetLimit, HasNoted, HaveComeBack, IsAtDirectory, IsBrokenOff, IsCluster, IsDownBy, IsLimitedAt, IsOpened, IsRetired, IsRetiredBy, IsUpBy, MayGo, RunsOn, WereMoved, all_noted, is_fixed, none_ended, noted}
+use Rattle.stream_cluster.specs.Clusters.{AnswersDown, AnswersRetire, AnswersUp, AreAtQueues, AreFresh, AreNoted, AreStarted, ClusterView, HasEnded, HasHalted, HasLeft, HasMetLimit, HasNoted, HaveComeBack, HaveEnded, IsAtDirectory, IsBrokenOff, IsCluster, IsDownBy, IsLimitedAt, IsOpened, IsRetired, IsRetiredBy, IsUpBy, MayGo, RunsOn, WereMoved, all_noted, is_fixed, none_ended, noted}
 use Rattle.stream_cluster.specs.declared.config.Config.{Config}
 use Rattle.stream_cluster.specs.declared.cluster.Retired.{Retired}
 use Rattle.stream_cluster.specs.declared.cluster.SiloDown.{SiloDown}
@@ -412,11 +412,6 @@ has-noted v w place silo s back fresh within read named ran came ends =
       (back, ran, came, ends),
     )
 
--- one silo more whose loops came back
-pub ends-push : (v : OperatorView) (ends mid : LoopEnds) (ss : List SiloView) (s back : SiloView) → EndsBy v.lines v.directory ends ss mid → HasRun s back → HaveComeBack v.lines v.directory back → EndsBy v.lines v.directory ends (ss ++ s ∷ []) (noted mid back)
-ends-push v ends mid [] s back by ran came = (back, ran, came, ap (λ (e : LoopEnds). noted e back) by)
-ends-push v ends mid (x ∷ ss) s back by ran came = (by.0, by.1, by.2, ends-push v (noted ends by.0) mid ss s back by.3 ran came)
-
 -- what came back stays so
 pub taken-op : (v w : OperatorView) (s : SiloView) → OperatorGoesOn v w → AreTakenIn v.lines v.directory s → AreTakenIn w.lines w.directory s
 taken-op v w s on taken = taken-silo v.lines w.lines v.directory w.directory s on.lines on.directory taken
@@ -427,10 +422,6 @@ back-op v w s on came = record { taken = taken-op v w s on came.taken; causes = 
 pub all-back : (v w : OperatorView) (ss : List SiloView) → OperatorGoesOn v w → AllByRecursion (HaveComeBack v.lines v.directory) ss → AllByRecursion (HaveComeBack w.lines w.directory) ss
 all-back v w [] on all = tt
 all-back v w (s ∷ ss) on all = (back-op v w s on all.0, all-back v w ss on all.1)
-
-pub ends-on : (v w : OperatorView) (ends new : LoopEnds) (ss : List SiloView) → OperatorGoesOn v w → EndsBy v.lines v.directory ends ss new → EndsBy w.lines w.directory ends ss new
-ends-on v w ends new [] on by = by
-ends-on v w ends new (s ∷ ss) on by = (by.0, by.1, back-op v w by.0 on by.2, ends-on v w (noted ends by.0) new ss on by.3)
 
 -- callers of lines are at them while those go on
 pub callers-on : (ls ms : List LineView) (callers : List (List QueuePass)) → GoOn ls ms → AllByRecursion (AreAt (places ls)) callers → AllByRecursion (AreAt (places ms)) callers
@@ -457,6 +448,12 @@ made-more rounds v w ss s n only started fresh runs new at =
 pub noted-push : (ends : LoopEnds) (ss : List SiloView) (s : SiloView) → all_noted ends (ss ++ s ∷ []) ≡ noted (all_noted ends ss) s
 noted-push ends [] s = refl
 noted-push ends (x ∷ ss) s = noted-push (noted ends x) ss s
+
+-- one silo more whose loops came back
+pub ended-push : (v w : OperatorView) (ends mid new : LoopEnds) (back : List SiloView) (s : SiloView) → OperatorGoesOn v w → HaveEnded ends back v.lines v.directory mid → new ≡ noted mid s → HaveComeBack w.lines w.directory s
+    → HaveEnded ends (back ++ s ∷ []) w.lines w.directory new
+ended-push v w ends mid new back s on had is came =
+    (is ∙ ap (λ (e : LoopEnds). noted e s) had.0 ∙ sym (noted-push ends back s), All-push (HaveComeBack w.lines w.directory) back s (all-back v w back on had.1) came)
 
 -- a parked cluster stays one, whose loops are elsewhere
 pub parked-stays : (v : ClusterView) (ends : LoopEnds) (o : OperatorView) (halted : Bool) → v.is_parked ≡ true → IsCluster v → IsCluster (record { operator = o; silos = v.silos; ends = ends; is_parked = v.is_parked; is_halted = halted; rounds = v.rounds; looks = v.looks })

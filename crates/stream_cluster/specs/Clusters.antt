@@ -1,6 +1,6 @@
 -- What contracts see of a cluster, and what its calls say.
 use Rattle.std.specs.Prelude.{◌≡◌, ◌≢◌, ◌⊎◌, ℕ, ◌-◌, ◌^◌, ◌≤◌, ◌<◌, Bool, true, false, ◌||◌, List, [], ◌∷◌, ◌++◌, length, map, remove, replicate, slice_get, slice_index, Contains, Some, Result, Ok, Err, IsErr}
-use Rattle.std.specs.List.{AllByRecursion, range_with_len}
+use Rattle.std.specs.List.{AllByRecursion, AllZip, range_with_len}
 use Rattle.std.specs.declared.alloc.AllocError.{AllocError}
 use Rattle.stream_model.specs.Bounds.{AreLimits}
 use Rattle.stream_model.specs.declared.limits.Limits.{Limits}
@@ -134,10 +134,13 @@ pub record HaveComeBack (lines : List LineView) (d : DirectoryPass) (s : SiloVie
   pub taken : AreTakenIn lines d s
   pub causes : HaveCauses s
 
--- the loops of these silos have run and came back, and it was noted how they have ended
-abbrev pub EndsBy : List LineView → DirectoryPass → LoopEnds → List SiloView → LoopEnds → Type 0
-EndsBy lines d ends [] new = new ≡ ends
-EndsBy lines d ends (s ∷ ss) new = (back : SiloView) × HasRun s back × HaveComeBack lines d back × EndsBy lines d (noted ends back) ss new
+-- the loops of this silo have run and came back, and it was noted how they have ended
+abbrev pub EndsBy : List LineView → DirectoryPass → LoopEnds → SiloView → LoopEnds → Type 0
+EndsBy lines d ends s new = (back : SiloView) × HasRun s back × HaveComeBack lines d back × (new ≡ noted ends back)
+
+-- the loops of these silos came back so, and it was noted how they have ended
+abbrev pub HaveEnded : LoopEnds → List SiloView → List LineView → DirectoryPass → LoopEnds → Type 0
+HaveEnded ends back lines d new = (new ≡ all_noted ends back) × AllByRecursion (HaveComeBack lines d) back
 
 -- Calls were refused on the way: what was answered stands, each queue still counts for the silo that it had, and no silo
 -- comes or goes any more.
@@ -213,7 +216,7 @@ MayGo v silo = Contains v.operator.live silo × (1 < length v.operator.live)
 
 -- the loops of the silo, which had done nothing where they were started, came back, and it was noted how they have ended
 abbrev pub HasNoted : ClusterView → ℕ → ClusterView → Type 0
-HasNoted v silo w = (place : ℕ) × (s : SiloView) × (slice_get v.silos place ≡ Some s) × IsFresh v.rounds silo s × EndsBy w.operator.lines w.operator.directory v.ends (s ∷ []) w.ends
+HasNoted v silo w = (place : ℕ) × (s : SiloView) × (slice_get v.silos place ≡ Some s) × IsFresh v.rounds silo s × EndsBy w.operator.lines w.operator.directory v.ends s w.ends
 
 -- what `silo_down` answers, by the silos that live
 abbrev pub AnswersDown : ClusterView → ℕ → Result SiloDown AllocError → ClusterView → Type 0
@@ -303,10 +306,12 @@ pub record HasEnded {H : Type 0} (entries : H → List (Entry Op Reply)) (c : Cl
   pub producers : OnHistories entries (CallersAloneProduce callers) answer
 
 module _ {H : Type 0} (entries : H → List (Entry Op Reply)) where
-  -- a cluster has ended whose silos were threads
-  abbrev pub HasFinished : ClusterView → List (List QueuePass) → Finished H → Type 0
-  HasFinished c callers answer = HasEnded entries c (λ lines d ends. AreFresh c.rounds c.silos × EndsBy lines d c.ends c.silos ends) callers answer
+  -- A cluster has ended whose silos were threads: their loops, which had done nothing where they were started, have run
+  -- and came back as these.
+  abbrev pub HasFinished : ClusterView → List (List QueuePass) → List SiloView → Finished H → Type 0
+  HasFinished c callers back answer =
+      HasEnded entries c (λ lines d ends. AreFresh c.rounds c.silos × AllZip HasRun c.silos back × HaveEnded c.ends back lines d ends) callers answer
 
   -- a parked cluster has ended, to which these loops came back
   abbrev pub HasFinishedParked : ClusterView → List SiloView → List (List QueuePass) → Finished H → Type 0
-  HasFinishedParked c loops callers answer = HasEnded entries c (λ lines d ends. (ends ≡ all_noted c.ends loops) × AllByRecursion (HaveComeBack lines d) loops) callers answer
+  HasFinishedParked c loops callers answer = HasEnded entries c (HaveEnded c.ends loops) callers answer

@@ -1,9 +1,10 @@
 //! Silos that come and go.
 ghost use Rattle.std.specs.Prelude.{◌≡◌, ◌<◌, [], ◌∷◌, ◌++◌, length, map, Contains, Some, slice_get, IfErr, IfOk, OnErr, OnOk};
-ghost use Rattle.std.specs.List.{AllByRecursion, range_with_len};
-ghost use Rattle.silo_crew.specs.Silos.{AreTakenIn, HaveCauses, IsFresh, IsSiloAt, SiloView};
+ghost use Rattle.std.specs.List.{AllByRecursion, AllZip, range_with_len};
+ghost use Rattle.turnstile.specs.Recorded.{recorded};
+ghost use Rattle.silo_crew.specs.Silos.{AreTakenIn, HasRun, HaveCauses, IsFresh, IsSiloAt, SiloView};
 ghost use Rattle.cluster_operator.specs.Operators.{HasOnlyGoneOn, HasSpread, OperatorGoesOn};
-ghost use Rattle.stream_cluster.specs.Clusters.{AreFresh, AreStarted, EndsBy, HasLeft, HasMetLimit, HaveComeBack, RunsOn, all_noted, noted};
+ghost use Rattle.stream_cluster.specs.Clusters.{AreFresh, AreStarted, HasLeft, HasMetLimit, HaveComeBack, HaveEnded, RunsOn, all_noted, noted};
 
 use activation_directory::{DirectoryOp, DirectoryReply};
 use cluster_ending::LoopEnds;
@@ -15,7 +16,7 @@ use std::sync::Wait;
 use std::thread::Threads;
 use step_core::Answer;
 use stream_model::Op;
-use turnstile::StoredHistory;
+use turnstile::{Recorded, StoredHistory};
 
 // Starts the loops of a silo. Where they can't be started, their passes are joined back.
 pub(crate) fn start_silo<
@@ -127,7 +128,7 @@ pub(crate) fn start_all<
         match start_silo(rt, alloc, operator, silo, rounds) {
             Ok(started) => running.push_reserved(started),
             Err(AllocError) => {
-                let _ends = stop_all(rt, operator, running, LoopEnds::default());
+                let _stopped = stop_all(rt, operator, running, LoopEnds::default());
                 return Err(AllocError);
             }
         }
@@ -151,7 +152,8 @@ pub(crate) fn note_ends<
     ends
 }
 
-// Stops the loops of silos, joins their passes back, and notes how they have ended.
+// Stops the loops of silos, joins their passes back, and notes how they have ended. For proofs alone it gives the loops
+// as they came back.
 pub(crate) fn stop_all<
     G: Gate,
     H: StoredHistory<Op, Answer>,
@@ -162,18 +164,21 @@ pub(crate) fn stop_all<
     operator: &mut Operator<G, H, D>,
     silos: Vec<RunningSilo<G, H, D>>,
     ends: LoopEnds,
-) -> LoopEnds
+) -> (LoopEnds, Recorded<SiloLoops<G, H, D>>)
     requires { RunsOn operator.old silos.items }
     ensures only { HasOnlyGoneOn operator.old operator.new }
-    ensures ends { EndsBy operator.new.lines operator.new.directory ends silos.items result }
+    ensures ran { AllZip HasRun silos.items (recorded result.1) }
+    ensures ends { HaveEnded ends (recorded result.1) operator.new.lines operator.new.directory result.0 }
 {
     let mut ends = ends;
+    let mut back = Recorded::Nothing;
     for silo in silos {
         let loops = silo.stop(rt, operator.doorbell());
         ends = note_ends(ends, &loops);
+        back.add(&loops);
         operator.take_back(loops);
     }
-    ends
+    (ends, back)
 }
 
 // Makes the loops of the silos that live. Where those of one can't be made, all passes are joined back.

@@ -1,6 +1,7 @@
 //! A cluster whose silos are threads, or parked.
 ghost use Rattle.std.specs.Prelude.{◌≡◌, ◌<◌, true, false, Contains, IfOk};
 ghost use Rattle.std.specs.List.{AllByRecursion};
+ghost use Rattle.turnstile.specs.Recorded.{recorded};
 ghost use Rattle.silo_crew.specs.Silos.{IsSiloAt};
 ghost use Rattle.silo_loops.specs.Lines.{places};
 ghost use Rattle.cluster_ending.specs.Gathering.{AreAt};
@@ -21,7 +22,7 @@ use std::sync::{Arc, Wait};
 use std::thread::Threads;
 use step_core::Answer;
 use stream_model::Op;
-use turnstile::StoredHistory;
+use turnstile::{Recorded, StoredHistory};
 
 /// What became of a silo that was to come.
 #[derive(Clone, Copy, Debug, PartialEq, Eq)]
@@ -76,6 +77,20 @@ pub enum Retired<
         /// The loops as they were given.
         loops: SiloLoops<G, H, D>,
     },
+}
+
+/// How a cluster has ended, and the loops of its silos as they came back. These are for proofs alone, which learn by
+/// them what each loop has done and why it has ended; they take one byte.
+#[derive(Drop)]
+pub struct Ended<
+    G: Gate,
+    H: StoredHistory<Op, Answer>,
+    D: StoredHistory<DirectoryOp, DirectoryReply>,
+> {
+    /// How the cluster has ended.
+    pub finished: Finished<H>,
+    /// The loops of the silos that lived, in the order of the silos.
+    pub loops: Recorded<SiloLoops<G, H, D>>,
 }
 
 // How a change of silos that was broken off is answered.
@@ -313,9 +328,9 @@ impl<G: Gate, H: StoredHistory<Op, Answer>, D: StoredHistory<DirectoryOp, Direct
         rt: &R,
         alloc: Global,
         callers: Vec<Caller<G, H>>,
-    ) -> Result<Finished<H>, AllocError>
+    ) -> Result<Ended<G, H, D>, AllocError>
         requires { AllByRecursion (AreAt (places self.operator.lines)) callers.items }
-        ensures { IfOk result (HasFinished H.entries self callers.items) }
+        ensures { IfOk result (λ ended. HasFinished H.entries self callers.items (recorded ended.loops) ended.finished) }
     {
         let Cluster {
             mut operator,
@@ -326,10 +341,12 @@ impl<G: Gate, H: StoredHistory<Op, Answer>, D: StoredHistory<DirectoryOp, Direct
             rounds: _,
             looks: _,
         } = self;
-        let ends = stop_all(rt, &mut operator, silos, ends);
+        let (ends, loops) = stop_all(rt, &mut operator, silos, ends);
         let (doorbell, lines) = operator.into_lines();
-        finish(rt, alloc, doorbell, lines, callers, ends)
+        let finished = finish(rt, alloc, doorbell, lines, callers, ends)?;
+        Ok(Ended { finished, loops })
     }
+
     /// A parked cluster, its first caller, and the loops of its silos, which have done nothing yet. The silos are
     /// numbered from 0 on, and the loops are in their order; the queues are spread over the silos, from silo 0 on which
     /// all are at first.

@@ -13,5 +13,5 @@ mod cluster;
 mod config;
 mod opening;
 
-pub use cluster::{Cluster, Retired, SiloDown, SiloUp};
+pub use cluster::{Cluster, Ended, Retired, SiloDown, SiloUp};
 pub use config::Config;

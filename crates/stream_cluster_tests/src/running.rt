@@ -195,7 +195,7 @@ impl<G: Gate, H: StoredHistory<Op, Answer>, D: StoredHistory<DirectoryOp, Direct
         let (caller, told) = producer.into_parts();
         let mut callers = Vec::with_capacity(alloc, 1).expect(rt, "memory");
         callers.push_reserved(caller);
-        (cluster.finish(rt, alloc, callers), told)
+        (without_loops(cluster.finish(rt, alloc, callers)), told)
     }
 
     /// Ends with these producers, and gives what they were told.
@@ -216,8 +216,17 @@ impl<G: Gate, H: StoredHistory<Op, Answer>, D: StoredHistory<DirectoryOp, Direct
         let mut callers = room_for_two(rt, alloc);
         callers.push_reserved(first);
         callers.push_reserved(second);
-        (cluster.finish(rt, alloc, callers), told)
+        (without_loops(cluster.finish(rt, alloc, callers)), told)
     }
+}
+
+// How a cluster has ended, without the loops that came back.
+fn without_loops<
+    G: Gate,
+    H: StoredHistory<Op, Answer>,
+    D: StoredHistory<DirectoryOp, DirectoryReply>,
+>(ended: Result<stream_cluster::Ended<G, H, D>, AllocError>) -> Ended<H> {
+    Ok(ended?.finished)
 }
 
 // Room for two callers. A want of memory is answered by asking again.

@@ -23,6 +23,7 @@ use Rattle.script_producer.specs.Telling.{EndsLooking, HasGoneOn}
 use Rattle.stream_cluster.specs.declared.cluster.SiloDown.{SiloDown}
 use Rattle.stream_cluster.specs.declared.cluster.SiloUp.{SiloUp}
 use Rattle.stream_cluster.specs.declared.config.Config.{Config}
+use Rattle.silo_crew.specs.Silos.{SiloView}
 use Rattle.stream_cluster.specs.Clusters.{AnswersDown, AnswersUp, ClusterView, HasFinished, IsNew}
 use Rattle.streams.specs.declared.answers.CallError.{CallError}
 use Rattle.streams.specs.declared.answers.CallError.TheVariants as call
@@ -147,5 +148,5 @@ calls_of h = answered (recorded h.asked) (recorded h.replies)
 -- was no memory for its end.
 abbrev pub Closes : ServiceView → Result Closed CloseError → Type 0
 Closes s result =
-    ((finished : Finished (ProofHistory Op Reply)) × HasFinished calls_of s.cluster (s.caller ∷ []) finished × (result ≡ read.closing finished))
+    ((back : List SiloView) × (finished : Finished (ProofHistory Op Reply)) × HasFinished calls_of s.cluster (s.caller ∷ []) back finished × (result ≡ read.closing finished))
     ⊎ (result ≡ Err close.Memory)

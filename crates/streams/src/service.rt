@@ -246,7 +246,7 @@ impl<R: Host, G: Gate + 'static> Service<R, G> {
         } = self;
         callers.push_reserved(caller);
         match cluster.finish(&rt, rt.alloc(), callers) {
-            Ok(finished) => closing(finished),
+            Ok(ended) => closing(ended.finished),
             Err(_) => Err(CloseError::Memory),
         }
     }

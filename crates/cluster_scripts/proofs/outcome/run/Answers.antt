@@ -1,5 +1,6 @@
 use Rattle.std.proofs.Common.{◌∙◌, ◌++◌, List, [], ◌∷◌, ap, arith, subst, sym}
 use Rattle.std.specs.List.{AllByRecursion}
+use Rattle.turnstile.specs.Recorded.{recorded}
 use Rattle.silo_loops.specs.Lines.{QueuePass, places}
 use Rattle.cluster_ending.specs.Gathering.{AreAt}
 use Rattle.stream_cluster.specs.Clusters.{HasFinished}
@@ -17,8 +18,8 @@ pub run_script-script-requires-clause-script : goal.run_script-script-requires-c
 run_script-script-requires-clause-script g c κs within =
     subst (λ queues. IsScript queues c.args.lines.items) (sym (new-queues c.args.config.now c.in_ok-cluster.cluster c.in_ok-cluster.caller c.in_ok-cluster.ensures)) c.requires.script
 
-pub finish-finished-requires-after_bounds : goal.finish-finished-requires-after_bounds
-finish-finished-requires-after_bounds g c κs within =
+pub finish-ended-requires-after_bounds : goal.finish-ended-requires-after_bounds
+finish-ended-requires-after_bounds g c κs within =
     let now = c.run_script-script.new.caller in
     let w = c.run_script-script.new.cluster in
     let all = c.push_reserved.ensures.items ∙ ap (λ (before : List (List QueuePass)). before ++ now ∷ []) c.in_ok-callers.ensures.items in
@@ -31,18 +32,18 @@ returns-clause-script g c =
     let now = c.run_script-script.new.caller in
     let w = c.run_script-script.new.cluster in
     let all = c.push_reserved.ensures.items ∙ ap (λ (before : List (List QueuePass)). before ++ now ∷ []) c.in_ok-callers.ensures.items in
-    let fin = subst (λ (callers : List (List QueuePass)). HasFinished g.H.StoredHistory.entries w callers c.in_ok-finished.field-0) all c.in_ok-finished.ensures in
+    let fin = subst (λ (callers : List (List QueuePass)). HasFinished g.H.StoredHistory.entries w callers (recorded c.in_ok-ended.field-0.loops) c.in_ok-ended.field-0.finished) all c.in_ok-ended.ensures in
     subst (λ ran. RunsScript g.H.StoredHistory.entries c.args.config.now c.args.lines.items ran) (sym c.conclude.ensures)
-    (run-ends g.H.StoredHistory.entries c.args.config.now c.args.lines.items c.in_ok-cluster.cluster w c.in_ok-cluster.caller now c.in_ok-script.field-0.printed.items c.in_ok-finished.field-0 c.in_ok-script.field-0.end c.requires.config c.in_ok-cluster.ensures c.run_script-script.ensures.turnstiles c.in_ok-script.ensures.script fin)
+    (run-ends g.H.StoredHistory.entries c.args.config.now c.args.lines.items c.in_ok-cluster.cluster w c.in_ok-cluster.caller now c.in_ok-script.field-0.printed.items c.in_ok-ended.field-0.finished c.in_ok-script.field-0.end c.requires.config c.in_ok-cluster.ensures c.run_script-script.ensures.turnstiles c.in_ok-script.ensures.script fin)
 
 pub returns-clause-legal : goal.returns-clause-legal
 returns-clause-legal g c =
     let now = c.run_script-script.new.caller in
     let w = c.run_script-script.new.cluster in
     let all = c.push_reserved.ensures.items ∙ ap (λ (before : List (List QueuePass)). before ++ now ∷ []) c.in_ok-callers.ensures.items in
-    let fin = subst (λ (callers : List (List QueuePass)). HasFinished g.H.StoredHistory.entries w callers c.in_ok-finished.field-0) all c.in_ok-finished.ensures in
+    let fin = subst (λ (callers : List (List QueuePass)). HasFinished g.H.StoredHistory.entries w callers (recorded c.in_ok-ended.field-0.loops) c.in_ok-ended.field-0.finished) all c.in_ok-ended.ensures in
     subst (λ ran. LeavesLegalTraces g.H.StoredHistory.entries c.args.config.now ran.end) (sym c.conclude.ensures)
-    (run-legal g.H.StoredHistory.entries c.args.config.now c.in_ok-cluster.cluster w c.in_ok-cluster.caller now c.in_ok-finished.field-0 c.in_ok-script.field-0.end c.in_ok-cluster.ensures c.run_script-script.ensures.cluster.lines fin)
+    (run-legal g.H.StoredHistory.entries c.args.config.now c.in_ok-cluster.cluster w c.in_ok-cluster.caller now c.in_ok-ended.field-0.finished c.in_ok-script.field-0.end c.in_ok-cluster.ensures c.run_script-script.ensures.cluster.lines fin)
 
 pub returns-clause-ends : goal.returns-clause-ends
 returns-clause-ends g c =
@@ -58,7 +59,8 @@ returns-clause-ends g c =
       now = now;
       on = c.run_script-script.ensures.on;
       does = c.in_ok-script.ensures.script;
-      finished = c.in_ok-finished.field-0;
-      ends = subst (λ (callers : List (List QueuePass)). HasFinished g.H.StoredHistory.entries w callers c.in_ok-finished.field-0) all c.in_ok-finished.ensures;
+      back = recorded c.in_ok-ended.field-0.loops;
+      finished = c.in_ok-ended.field-0.finished;
+      ends = subst (λ (callers : List (List QueuePass)). HasFinished g.H.StoredHistory.entries w callers (recorded c.in_ok-ended.field-0.loops) c.in_ok-ended.field-0.finished) all c.in_ok-ended.ensures;
       tells = c.conclude.ensures;
     }

@@ -21,12 +21,12 @@ loop-silo-init g c =
       room = c.in_ok-running.ensures.exact ∙ c.from.ensures;
     }
 
-pub stop_all-ends-requires-after_bounds : goal.stop_all-ends-requires-after_bounds
-stop_all-ends-requires-after_bounds g c κs within = sits-on c.loop-silo.operator c.start_silo.new.operator c.loop-silo.running.items c.start_silo.ensures.only.on c.loop-silo.invariant.runs
+pub stop_all-stopped-requires-after_bounds : goal.stop_all-stopped-requires-after_bounds
+stop_all-stopped-requires-after_bounds g c κs within = sits-on c.loop-silo.operator c.start_silo.new.operator c.loop-silo.running.items c.start_silo.ensures.only.on c.loop-silo.invariant.runs
 
 pub returns-in-Err-clause-only : goal.returns-in-Err-clause-only
 returns-in-Err-clause-only g c =
-    only-trans c.args.operator.now c.start_silo.new.operator c.stop_all-ends.new.operator (only-trans c.args.operator.now c.loop-silo.operator c.start_silo.new.operator c.loop-silo.invariant.only c.start_silo.ensures.only) c.stop_all-ends.ensures.only
+    only-trans c.args.operator.now c.start_silo.new.operator c.stop_all-stopped.new.operator (only-trans c.args.operator.now c.loop-silo.operator c.start_silo.new.operator c.loop-silo.invariant.only c.start_silo.ensures.only) c.stop_all-stopped.ensures.only
 
 pub loop-silo-preserved : goal.loop-silo-preserved
 loop-silo-preserved g c =

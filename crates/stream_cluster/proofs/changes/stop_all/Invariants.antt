@@ -1,5 +1,8 @@
+use Rattle.std.specs.List.{AllZip}
+use Rattle.turnstile.specs.Recorded.{recorded}
+use Rattle.silo_crew.specs.Silos.{HasRun}
 use Rattle.cluster_operator.specs.Operators.{HasOnlyGoneOn}
-use Rattle.stream_cluster.specs.Clusters.{EndsBy, RunsOn}
+use Rattle.stream_cluster.specs.Clusters.{HaveEnded, RunsOn}
 use Rattle.stream_cluster.proofs.changes.stop_all.Given as goal
 
 abbrev pub invariant-loop-silo : goal.invariant-loop-silo
@@ -7,5 +10,6 @@ invariant-loop-silo g l =
     record {
       only : HasOnlyGoneOn l.fn.operator l.operator;
       runs : RunsOn l.operator l.silo-iterator.rest.items;
-      ends : EndsBy l.operator.lines l.operator.directory l.fn.ends l.yielded l.ends;
+      ran : AllZip HasRun l.yielded (recorded l.back);
+      ends : HaveEnded l.fn.ends (recorded l.back) l.operator.lines l.operator.directory l.ends;
     }
