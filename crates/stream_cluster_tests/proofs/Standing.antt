@@ -1,7 +1,8 @@
 -- The loops of silos: one of them takes a step, goes, or comes again.
-use Rattle.std.proofs.Common.{◌≡◌, ℕ, zero, suc, ◌<◌, List, [], ◌∷◌, length, get_or, set, remove, Some, refl, sym, ap, ◌∙◌, arith}
+use Rattle.std.proofs.Common.{◌≡◌, ℕ, zero, suc, ◌<◌, List, [], ◌∷◌, length, get_or, set, remove, Some, refl, sym, ap, subst, ◌∙◌, arith}
+use Rattle.std.proofs.lemmas.List.FromFn.{get_or-range_with_len, length-range_with_len}
 use Rattle.std.proofs.lemmas.Option.{get_or_from_slice_get, slice_get_within}
-use Rattle.std.specs.List.{AllByRecursion, insert, slice_get}
+use Rattle.std.specs.List.{AllByRecursion, insert, range_with_len, slice_get}
 use Rattle.std.specs.Option.{unwrap_or}
 use Rattle.queue_balancer.specs.Balance.{HasNoDoubles}
 use Rattle.silo_crew.specs.Silos.{SiloView}
@@ -19,6 +20,13 @@ one-place (y ∷ ys) (suc i) zero x once a b =
     absurd (once 0 (suc i) x (omega arith) (omega (arith, within)) (ap (λ o. unwrap_or o x) b ∙ sym (get_or_from_slice_get ys i x x a)))
 one-place (y ∷ ys) (suc i) (suc j) x once a b =
     ap (λ k. suc k) (one-place ys i j x (λ k l d before within. once (suc k) (suc l) d (omega arith) (omega arith)) a b)
+
+-- numbers in a row
+pub range-once : (a n : ℕ) → HasNoDoubles (range_with_len a n)
+range-once a n k l d before within same =
+    let there : l < n = subst (λ m. l < m) (length-range_with_len a n) within in
+    let here : k < n = omega (arith, before, there) in
+    omega (arith, get_or-range_with_len a n k d here, get_or-range_with_len a n l d there, same, before)
 
 module _ {A : Type 0} where
   pub all-set : (P : A → Type 0) (xs : List A) (at : ℕ) (x : A) → AllByRecursion P xs → P x → AllByRecursion P (set xs at x)

@@ -1,5 +1,5 @@
 -- A parked cluster and all that was handed out with it stay whole.
-use Rattle.std.proofs.Common.{◌≡◌, ◌≢◌, ℕ, ◌<◌, true, false, List, length, get_or, set, remove, Contains, Some, Result, Ok, Err, refl, sym, ap, subst, ◌∙◌}
+use Rattle.std.proofs.Common.{◌≡◌, ◌≢◌, ℕ, ◌<◌, true, false, List, length, get_or, set, remove, Contains, Some, Result, Ok, Err, sym, ap, subst, ◌∙◌}
 use Rattle.std.proofs.lemmas.List.{length-map}
 use Rattle.std.proofs.lemmas.List.Quantifiers.{all_pairs_remove}
 use Rattle.std.specs.List.{insert, slice_get}
@@ -10,15 +10,27 @@ use Rattle.silo_loops.specs.Lines.{QueuePass}
 use Rattle.silo_crew.specs.Silos.{HasRun, IsSiloAt, SiloView}
 use Rattle.silo_crew.proofs.Going.{goes-places}
 use Rattle.cluster_operator.specs.Operators.{OperatorGoesOn}
-use Rattle.stream_cluster.specs.Clusters.{AnswersRetire, ClusterView, HasHalted, IsDown, RunsOn}
+use Rattle.stream_cluster.specs.Clusters.{AnswersRetire, ClusterView, HasHalted, IsDown, IsNewParked, RunsOn}
+use Rattle.stream_cluster.specs.declared.config.Config.{Config}
 use Rattle.stream_cluster.specs.declared.cluster.Retired.{Retired}
 use Rattle.stream_cluster.specs.declared.cluster.Retired.TheVariants as retired
 use Rattle.stream_cluster.proofs.Standing.{all-remove, lives-at, map-remove, same-at, silo-place, sits-on}
 use Rattle.stream_cluster_tests.specs.Parked.{IsLeft, IsWhole, silos_of}
-use Rattle.stream_cluster_tests.proofs.Standing.{all-set, insert-remove, one-place, silos-set}
+use Rattle.stream_cluster_tests.proofs.Standing.{all-set, insert-remove, one-place, range-once, silos-set}
+
+-- a new parked cluster
+pub whole-new : (config : Config) (c : ClusterView) (caller : List QueuePass) (crew : List SiloView) → IsNewParked config c caller crew → IsWhole c caller crew
+whole-new config c caller crew new =
+    record {
+      parked = new.parked;
+      runs = new.at;
+      live = λ goes. new.silos;
+      once = subst (λ (xs : List ℕ). HasNoDoubles xs) (sym (new.silos ∙ new.opened.live)) (range-once 0 config.silos);
+      beside = new.opened.beside;
+    }
 
 -- the loops of one silo at a place
-runs-at : (c : ClusterView) (crew : List SiloView) (at : ℕ) (s : SiloView) → at < length crew → s ≡ get_or crew at s → RunsOn c.operator crew → IsSiloAt c.operator.lines c.operator.directory s
+pub runs-at : (c : ClusterView) (crew : List SiloView) (at : ℕ) (s : SiloView) → at < length crew → s ≡ get_or crew at s → RunsOn c.operator crew → IsSiloAt c.operator.lines c.operator.directory s
 runs-at c crew at s within is runs = subst (λ (x : SiloView). IsSiloAt c.operator.lines c.operator.directory x) (sym is) (All-at (IsSiloAt c.operator.lines c.operator.directory) crew at s runs within)
 
 -- a step of a loop of the silo at a place
