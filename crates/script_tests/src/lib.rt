@@ -6,6 +6,8 @@
 #![tactic(auto)]
 
 #[cfg(test)]
+mod cuts;
+#[cfg(test)]
 mod ends;
 #[cfg(test)]
 mod examples;
@@ -29,5 +31,7 @@ mod sim;
 mod tasks;
 #[cfg(test)]
 mod traces;
+#[cfg(test)]
+mod transfers;
 #[cfg(test)]
 mod words;

@@ -72,7 +72,7 @@ impl<W: Write> Write for Flaky<W> {
 }
 
 /// One queue with these limits.
-fn one_queue(limits: Limits) -> SimConfig
+pub fn one_queue(limits: Limits) -> SimConfig
     requires { AreLimits limits }
     ensures { IsSimConfig result }
 {
@@ -117,19 +117,20 @@ fn simulate_over(alloc: Global, script: &[u8], reads: Calls, writes: Calls) -> E
 }
 
 /// Whether a script ends so, and writes these replies.
-fn does(alloc: Global, script: &[u8], outcome: &Result<(), SimError>, replies: &[u8]) -> bool {
+pub fn does(alloc: Global, script: &[u8], outcome: &Result<(), SimError>, replies: &[u8]) -> bool {
     let end = simulate_over(alloc, script, SOUND, SOUND);
     end.outcome == *outcome && end.text.as_slice() == replies
 }
 
-fn faulty(line: usize, kind: FaultKind) -> Result<(), SimError> {
+pub fn faulty(line: usize, kind: FaultKind) -> Result<(), SimError> {
     Err(SimError::ScriptFault(Fault { line, kind }))
 }
 
-const SCRIPT: &[u8] =
+/// An event on its way, step by step.
+pub const SCRIPT: &[u8] =
     b"sub o/k g/x latest\npub o/k \"a\"\npull 0 0 32\ndeliver 0 0:1\nbegin 0 g/x\ncommit 0 g/x 1 1 1\n";
 
-const REPLIES: &[u8] =
+pub const REPLIES: &[u8] =
     b"0 subscribed 1\n0 published 0\n0 pulled 1 low 0.0 high 1.0\n0 delivered 0.0\n0 turn 1 sub 1 activation 1 event 0.0 \"a\" note 0\n0 committed 1 0.0\n";
 
 /// A script for which the log has room for two events, and its replies.
@@ -229,10 +230,10 @@ fn a_failed_read_is_told(rt: HostRuntime) {
 }
 
 /// Three events, done by a drain.
-const DRAINED: &[u8] =
+pub const DRAINED: &[u8] =
     b"sub o/k g/x latest\npub o/k \"a\"\npub o/k \"b\"\npub o/k \"c\"\ndrain\nreport\n";
 
-const DRAINED_REPLIES: &[u8] =
+pub const DRAINED_REPLIES: &[u8] =
     b"0 subscribed 1\n0 published 0\n0 published 1\n0 published 2\n0 drained 3\nreport\n0:1 o/k g/x 0.0 3\n  0.0 \"a\"\n  1.0 \"b\"\n  2.0 \"c\"\n";
 
 /// A script and how its writes go; how it ends, how often a write has failed, and what was written.
