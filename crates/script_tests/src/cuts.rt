@@ -107,23 +107,23 @@ fn a_cut_text_and_a_cut_commit_are_told(rt: HostRuntime) {
     }
 }
 
-/// The fault of a line that is one byte, or none where it is passed over.
-fn fault_of(byte: u8) -> Option<FaultKind> {
+/// The end of a script whose second line is this byte.
+fn end_at_byte(byte: u8) -> Result<(), SimError> {
     match byte {
-        b'\n' | b'\r' | b' ' | b'#' => None,
-        b'"' => Some(FaultKind::BadText),
-        b'!'..=b'~' => Some(FaultKind::BadCommand),
-        _ => Some(FaultKind::BadByte),
+        b'\n' | b'\r' | b' ' | b'#' => Ok(()),
+        b'"' => faulty(2, FaultKind::BadText),
+        b'!'..=b'~' => faulty(2, FaultKind::BadCommand),
+        _ => faulty(2, FaultKind::BadByte),
     }
 }
 
-/// Whether a script ends so whose second line is this byte, with a line feed behind it and without.
+/// Whether a script whose second line is this byte ends so, with a line feed behind the byte and without.
 fn is_read_so(alloc: Global, byte: u8) -> bool {
     let mut script = *b"pub o/k \"a\"\n?\n";
     script[12] = byte;
-    let outcome = outcome(fault_of(byte).map(|kind| (2, kind)));
-    does(alloc, &script, &outcome, b"0 published 0\n")
-        && does(alloc, &script[..13], &outcome, b"0 published 0\n")
+    let end = end_at_byte(byte);
+    does(alloc, &script, &end, b"0 published 0\n")
+        && does(alloc, &script[..13], &end, b"0 published 0\n")
 }
 
 #[test]
