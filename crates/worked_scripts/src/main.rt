@@ -86,8 +86,8 @@ fn perform<R: AllocGlobal + Threads + Wait + Copy + Send + 'static>(
     printed: &mut Vec<u8>,
 ) -> Result<(), ProgramFault> {
     let alloc = rt.alloc();
-    let mut owned = vec![in alloc; String::from_str(alloc, "streams")?]?;
-    for word in words.split_whitespace() {
+    let mut owned = Vec::new(alloc);
+    for word in format!(in alloc; "streams {words}")?.split_whitespace() {
         owned.push(String::from_str(alloc, word)?)?;
     }
     let request = parse_options(alloc, owned.as_slice())?;
