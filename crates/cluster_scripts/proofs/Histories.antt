@@ -114,20 +114,20 @@ module _ {H : Type 0} (entries : H → List (Entry Op Reply)) where
         each = all.1;
       }
 
-  pub run-legal : {back : List SiloView} (config : Config) (c w : ClusterView) (caller now : List QueuePass) (answer : Finished H) (how : ScriptEnd) → IsNew config c caller → GoOn c.operator.lines w.operator.lines → HasFinished entries w (now ∷ []) back answer → LeavesLegalTraces entries config (run_end answer how)
-  run-legal config c w caller now (finished.Report text traces) end.Done new first fin =
+  pub run-legal : (back : List SiloView) (config : Config) (c w : ClusterView) (caller now : List QueuePass) (answer : Finished H) (how : ScriptEnd) → IsNew config c caller → GoOn c.operator.lines w.operator.lines → HasFinished entries w (now ∷ []) back answer → LeavesLegalTraces entries config (run_end answer how)
+  run-legal back config c w caller now (finished.Report text traces) end.Done new first fin =
       traces-legal config c w caller now fin.lines fin.finished.asked fin.finished.last traces new first fin.on fin.finished.came_to fin.finished.answers.2
-  run-legal config c w caller now (finished.Report text traces) end.Limit new first fin =
+  run-legal back config c w caller now (finished.Report text traces) end.Limit new first fin =
       traces-legal config c w caller now fin.lines fin.finished.asked fin.finished.last traces new first fin.on fin.finished.came_to fin.finished.answers.2
-  run-legal config c w caller now (finished.Report text traces) end.NotQuiet new first fin =
+  run-legal back config c w caller now (finished.Report text traces) end.NotQuiet new first fin =
       traces-legal config c w caller now fin.lines fin.finished.asked fin.finished.last traces new first fin.on fin.finished.came_to fin.finished.answers.2
-  run-legal config c w caller now (finished.Report text traces) end.Halted new first fin =
+  run-legal back config c w caller now (finished.Report text traces) end.Halted new first fin =
       traces-legal config c w caller now fin.lines fin.finished.asked fin.finished.last traces new first fin.on fin.finished.came_to fin.finished.answers.2
-  run-legal config c w caller now (finished.NotQuiet queue why traces) how new first fin =
+  run-legal back config c w caller now (finished.NotQuiet queue why traces) how new first fin =
       traces-legal config c w caller now fin.lines fin.finished.asked fin.finished.last traces new first fin.on fin.finished.came_to fin.finished.answers.2
-  run-legal config c w caller now (finished.RoundLimit traces) how new first fin =
+  run-legal back config c w caller now (finished.RoundLimit traces) how new first fin =
       traces-legal config c w caller now fin.lines fin.finished.asked fin.finished.last traces new first fin.on fin.finished.came_to fin.finished.answers.3
-  run-legal config c w caller now (finished.Limit traces) how new first fin =
+  run-legal back config c w caller now (finished.Limit traces) how new first fin =
       traces-legal config c w caller now fin.lines fin.finished.asked fin.finished.last traces new first fin.on fin.finished.came_to fin.finished.answers.1
-  run-legal config c w caller now (finished.NotAll queue missing) how new first fin = tt
-  run-legal config c w caller now finished.InUse how new first fin = tt
+  run-legal back config c w caller now (finished.NotAll queue missing) how new first fin = tt
+  run-legal back config c w caller now finished.InUse how new first fin = tt

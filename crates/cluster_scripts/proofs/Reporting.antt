@@ -153,9 +153,9 @@ module _ {H : Type 0} (entries : H → List (Entry Op Reply)) where
   front-printed config lines c w caller now found end.NotQuiet is new ends others = let front = ends.1 in (front.done, front.left, front.whole, front.printed config.silos (untouched config c caller is new) others)
   front-printed config lines c w caller now found end.Halted is new ends others = absurd (true≢false (sym ends.0 ∙ new.goes_on))
 
-  pub run-ends : {back : List SiloView} (config : Config) (lines : List Line) (c w : ClusterView) (caller now : List QueuePass) (found : List ScriptLine) (answer : Finished H) (how : ScriptEnd) → IsConfig config → IsNew config c caller → turnstiles now ≡ turnstiles caller
+  pub run-ends : (back : List SiloView) (config : Config) (lines : List Line) (c w : ClusterView) (caller now : List QueuePass) (found : List ScriptLine) (answer : Finished H) (how : ScriptEnd) → IsConfig config → IsNew config c caller → turnstiles now ≡ turnstiles caller
       → EndsScript how lines c caller found w now → HasFinished entries w (now ∷ []) back answer → EndsRun entries config lines found (run_end answer how)
-  run-ends config lines c w caller now found (finished.Report text traces) end.Done is new same ends fin =
+  run-ends back config lines c w caller now found (finished.Report text traces) end.Done is new same ends fin =
       let done = ends.1 in
       let histories = map entries traces.histories.items in
       let begun = fin.begun.of_callers.0 in
@@ -170,17 +170,17 @@ module _ {H : Type 0} (entries : H → List (Entry Op Reply)) where
         answers.4 ∙ ap (λ (rest : List ℕ). codes "report\n" ++ rest) (whole ∙ ap (λ (many : ℕ). flat_map (λ q. told_report q (script.told missed q lines)) (range_with_len 0 many)) queues),
         tell,
       )
-  run-ends config lines c w caller now found (finished.Report text traces) end.Limit is new same ends fin =
+  run-ends back config lines c w caller now found (finished.Report text traces) end.Limit is new same ends fin =
       front-printed config lines c w caller now found end.Limit is new ends (alone now (map entries traces.histories.items) fin.begun.of_callers.0 fin.producers)
-  run-ends config lines c w caller now found (finished.Report text traces) end.NotQuiet is new same ends fin =
+  run-ends back config lines c w caller now found (finished.Report text traces) end.NotQuiet is new same ends fin =
       front-printed config lines c w caller now found end.NotQuiet is new ends (alone now (map entries traces.histories.items) fin.begun.of_callers.0 fin.producers)
-  run-ends config lines c w caller now found (finished.Report text traces) end.Halted is new same ends fin =
+  run-ends back config lines c w caller now found (finished.Report text traces) end.Halted is new same ends fin =
       front-printed config lines c w caller now found end.Halted is new ends (alone now (map entries traces.histories.items) fin.begun.of_callers.0 fin.producers)
-  run-ends config lines c w caller now found (finished.NotQuiet queue why traces) how is new same ends fin =
+  run-ends back config lines c w caller now found (finished.NotQuiet queue why traces) how is new same ends fin =
       front-printed config lines c w caller now found how is new ends (alone now (map entries traces.histories.items) fin.begun.of_callers.0 fin.producers)
-  run-ends config lines c w caller now found (finished.RoundLimit traces) how is new same ends fin =
+  run-ends back config lines c w caller now found (finished.RoundLimit traces) how is new same ends fin =
       front-printed config lines c w caller now found how is new ends (alone now (map entries traces.histories.items) fin.begun.of_callers.0 fin.producers)
-  run-ends config lines c w caller now found (finished.Limit traces) how is new same ends fin =
+  run-ends back config lines c w caller now found (finished.Limit traces) how is new same ends fin =
       front-printed config lines c w caller now found how is new ends (alone now (map entries traces.histories.items) fin.begun.of_callers.0 fin.producers)
-  run-ends config lines c w caller now found (finished.NotAll queue missing) how is new same ends fin = tt
-  run-ends config lines c w caller now found finished.InUse how is new same ends fin = tt
+  run-ends back config lines c w caller now found (finished.NotAll queue missing) how is new same ends fin = tt
+  run-ends back config lines c w caller now found finished.InUse how is new same ends fin = tt
