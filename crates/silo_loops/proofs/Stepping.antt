@@ -122,11 +122,11 @@ module _ (lines new : List LineView) (d : DirectoryPass) (walk w : Walk) (room :
         silo = refl;
       }
 
-  pub committed-at : (grain : GrainId) (permit : ℕ) (turn : Turn) → walk.step ≡ step.Handle grain permit turn → IsAt walk lines d
-      → HearsAt lines walk.at (op.Commit grain turn.activation turn.number turn.note) new room old fresh answer → w.at ≡ walk.at
+  pub committed-at : (grain : GrainId) (permit note : ℕ) (turn : Turn) → walk.step ≡ step.Handle grain permit turn → IsAt walk lines d
+      → HearsAt lines walk.at (op.Commit grain turn.activation turn.number note) new room old fresh answer → w.at ≡ walk.at
       → w.step ≡ step_after_commit grain permit answer → IsAt w new d
-  committed-at grain permit turn is at h place next =
-      let o = op.Commit grain turn.activation turn.number turn.note in
+  committed-at grain permit note turn is at h place next =
+      let o = op.Commit grain turn.activation turn.number note in
       at-call walk w lines new d d o room old fresh answer (step_after_commit grain permit (heard_of h.result)) h place (next ∙ ap (λ a. step_after_commit grain permit a) h.heard)
       (committed-fits d h.calls.was.pass h.calls.is.pass grain permit o h.result (fits-at walk lines d (step.Handle grain permit turn) is at).0 h.calls.calls.call)
 

@@ -10,7 +10,7 @@ hear_at-answer-requires-clause-here g c =
 
 pub returns-clause-at : goal.returns-clause-at
 returns-clause-at g c =
-    committed-at c.args.lines.now.items c.hear_at-answer.new.lines.items c.args.directory.now c.args.walk.now c.after_commit.new.self _ c.args.events.now.items c.hear_at-answer.new.events.items c.hear_at-answer.result c.after_commit.result c.args.grain.now c.args.permit c.args.turn.now c.requires.step c.requires.at c.hear_at-answer.ensures.heard
+    committed-at c.args.lines.now.items c.hear_at-answer.new.lines.items c.args.directory.now c.args.walk.now c.after_commit.new.self _ c.args.events.now.items c.hear_at-answer.new.events.items c.hear_at-answer.result c.after_commit.result c.args.grain.now c.args.permit _ c.args.turn.now c.requires.step c.requires.at c.hear_at-answer.ensures.heard
     (ap (λ (w : Walk). w.at) c.after_commit.ensures.walk) (ap (λ (w : Walk). w.step) c.after_commit.ensures.walk)
 
 pub returns-clause-steps : goal.returns-clause-steps
