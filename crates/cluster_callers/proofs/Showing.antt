@@ -2,7 +2,7 @@
 use Rattle.std.specs.Prelude.{◌≡◌, ◌≤◌, vec_capacity}
 use Rattle.std.specs.Global.{Vec}
 use Rattle.stream_ident.specs.declared.event.Event.{Event}
-use Rattle.stream_model.specs.declared.reply.Reply.{Reply}
+use Rattle.stream_model.specs.Replies.{Reply}
 use Rattle.stream_model.specs.declared.reply.Reply.TheVariants as reply
 use Rattle.step_core.specs.Replied.{HasEvents, Shows}
 

@@ -5,7 +5,7 @@ use Rattle.std.specs.List.{slice_get, slice_index}
 use Rattle.stream_ident.specs.declared.ident.GrainId.{GrainId}
 use Rattle.stream_model.specs.declared.op.Op.{Op}
 use Rattle.stream_model.specs.declared.op.Op.TheVariants as op
-use Rattle.stream_model.specs.declared.reply.Reply.{Reply}
+use Rattle.stream_model.specs.Replies.{Reply}
 use Rattle.stream_model.specs.declared.reply.Reply.TheVariants as reply
 use Rattle.activation_directory.specs.declared.op.DirectoryOp.TheVariants as asked
 use Rattle.activation_directory.specs.declared.reply.DirectoryReply.TheVariants as directory

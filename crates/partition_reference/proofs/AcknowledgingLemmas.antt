@@ -7,7 +7,7 @@ use Rattle.stream_ident.specs.declared.token.Token.{Token}
 use Rattle.stream_ident.specs.SubName.{same_sub}
 use Rattle.stream_model.specs.declared.plain.PlainPartition.{PlainPartition}
 use Rattle.stream_model.specs.declared.plain.Subscription.{Subscription}
-use Rattle.stream_model.specs.declared.reply.Reply.{Reply}
+use Rattle.stream_model.specs.Replies.{Reply}
 use Rattle.stream_model.specs.declared.reply.Reply.TheVariants as reply
 use Rattle.stream_model.specs.Positions.{sub_at, with_sub}
 use Rattle.stream_model.specs.Pulling.{ack, ack_of, ack_position, acknowledged, handled_at, is_stale, retry, retry_of, rewound}

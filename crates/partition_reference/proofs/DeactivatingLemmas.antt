@@ -6,7 +6,7 @@ use Rattle.stream_ident.specs.Name.{same_grain}
 use Rattle.stream_model.specs.declared.plain.Grain.{Grain}
 use Rattle.stream_model.specs.declared.plain.PlainPartition.{PlainPartition}
 use Rattle.stream_model.specs.declared.plain.Subscription.{Subscription}
-use Rattle.stream_model.specs.declared.reply.Reply.{Reply}
+use Rattle.stream_model.specs.Replies.{Reply}
 use Rattle.stream_model.specs.declared.reply.Reply.TheVariants as reply
 use Rattle.stream_model.specs.Pulling.{rewound_where}
 use Rattle.stream_model.specs.Turns.{deactivate, deactivate_in, deactivated, running_count}

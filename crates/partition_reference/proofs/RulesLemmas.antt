@@ -5,7 +5,7 @@ use Rattle.std.specs.List.{list_any}
 use Rattle.stream_ident.specs.Name.{same_name}
 use Rattle.stream_model.specs.declared.plain.PlainPartition.{PlainPartition}
 use Rattle.stream_ident.specs.declared.rule.Rule.{Rule}
-use Rattle.stream_model.specs.declared.reply.Reply.{Reply}
+use Rattle.stream_model.specs.Replies.{Reply}
 use Rattle.stream_model.specs.declared.reply.Reply.TheVariants as reply
 use Rattle.stream_model.specs.Publishing.{add_rule}
 use Rattle.stream_model.specs.Step.{takes_memory}

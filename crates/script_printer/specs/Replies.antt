@@ -9,7 +9,7 @@ use Rattle.stream_model.specs.declared.drain_end.DrainEnd.{DrainEnd}
 use Rattle.stream_model.specs.declared.drain_end.DrainEnd.TheVariants as ending
 use Rattle.stream_model.specs.declared.reply.Pending.{Pending}
 use Rattle.stream_model.specs.declared.reply.Pending.TheVariants as pending
-use Rattle.stream_model.specs.declared.reply.Reply.{Reply}
+use Rattle.stream_model.specs.Replies.{Reply}
 use Rattle.stream_model.specs.declared.reply.Reply.TheVariants as reply
 use Rattle.script_parser.specs.Pieces.{Text, spelling}
 use Rattle.script_parser.specs.Spelling.{grain_text, name_text}

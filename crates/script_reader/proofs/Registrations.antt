@@ -15,7 +15,7 @@ use Rattle.stream_model.specs.declared.plain.Grain.{Grain}
 use Rattle.stream_model.specs.declared.plain.PlainPartition.{PlainPartition}
 use Rattle.stream_model.specs.declared.plain.RunningTurn.{RunningTurn}
 use Rattle.stream_model.specs.declared.plain.Subscription.{Subscription}
-use Rattle.stream_model.specs.declared.reply.Reply.{Reply}
+use Rattle.stream_model.specs.Replies.{Reply}
 use Rattle.stream_model.specs.Positions.{grain_at, is_spent, next_position, sub_at}
 use Rattle.stream_model.specs.Publishing.{publish, unsubscribe, unsubscribe_from}
 use Rattle.stream_model.specs.Pulling.{ack, ack_of, ack_position, acknowledged, caught_up, deliver, deliver_position, deliver_to, handled_at, is_stale, move, move_to, purge, purge_to, retry, retry_of, rewound, rewound_where}

@@ -18,7 +18,7 @@ use Rattle.stream_model.specs.declared.op.Start.{Start}
 use Rattle.stream_model.specs.declared.op.Start.TheVariants.{Latest, At}
 use Rattle.stream_model.specs.declared.plain.PlainPartition.{PlainPartition}
 use Rattle.stream_model.specs.declared.plain.Subscription.{Subscription}
-use Rattle.stream_model.specs.declared.reply.Reply.{Reply}
+use Rattle.stream_model.specs.Replies.{Reply}
 use Rattle.stream_model.specs.declared.reply.Reply.TheVariants as reply
 use Rattle.stream_model.specs.History.{Entry, is_closed}
 use Rattle.stream_model.specs.Positions.{empty, low_token, lower_bound, sub_at}

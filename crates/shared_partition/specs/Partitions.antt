@@ -4,7 +4,7 @@ use Rattle.stream_laws.specs.Laws.{IsOneHistory}
 use Rattle.stream_model.specs.declared.limits.Limits.{Limits}
 use Rattle.stream_model.specs.declared.op.Op.{Op}
 use Rattle.stream_model.specs.declared.plain.PlainPartition.{PlainPartition}
-use Rattle.stream_model.specs.declared.reply.Reply.{Reply}
+use Rattle.stream_model.specs.Replies.{Reply}
 use Rattle.stream_model.specs.History as told
 use Rattle.stream_model.specs.Positions.{empty}
 use Rattle.stream_model.specs.Step.{Stands, step}

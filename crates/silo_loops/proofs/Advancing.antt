@@ -6,7 +6,7 @@ use Rattle.std.specs.Option.{option_map, unwrap_or}
 use Rattle.std.proofs.lemmas.Option.{get_or_from_slice_get, none-some}
 use Rattle.stream_ident.specs.declared.event.Event.{Event}
 use Rattle.stream_model.specs.declared.op.Op.{Op}
-use Rattle.stream_model.specs.declared.reply.Reply.{Reply}
+use Rattle.stream_model.specs.Replies.{Reply}
 use Rattle.turnstile.specs.declared.turnstile.Refusal.{Refusal}
 use Rattle.silo_loops.specs.declared.advance.Advance.{Advance}
 use Rattle.silo_loops.specs.declared.advance.Advance.TheVariants as advance

@@ -3,7 +3,7 @@ use Rattle.std.specs.Prelude.{◌≡◌, Bool, true, false, ℕ, ◌+◌, ◌<�
 use Rattle.stream_ident.specs.declared.ident.SubName.{SubName}
 use Rattle.stream_model.specs.declared.op.Op.{Op}
 use Rattle.stream_model.specs.declared.op.Op.TheVariants.{Pull, Due, Ack, Deliver}
-use Rattle.stream_model.specs.declared.reply.Reply.{Reply}
+use Rattle.stream_model.specs.Replies.{Reply}
 use Rattle.stream_model.specs.declared.reply.Reply.TheVariants.{DueSub}
 use Rattle.turnstile.specs.declared.turnstile.Refusal.{Refusal}
 use Rattle.silo_loops.specs.declared.advance.Advance.{Advance}

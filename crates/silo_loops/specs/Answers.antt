@@ -2,7 +2,7 @@
 use Rattle.std.specs.Prelude.{List, Option, Some, None, Result, Ok, Err, Bool, true, false}
 use Rattle.stream_ident.specs.declared.event.Event.{Event}
 use Rattle.step_core.specs.Replied as told
-use Rattle.stream_model.specs.declared.reply.Reply.{Reply}
+use Rattle.stream_model.specs.Replies.{Reply}
 use Rattle.stream_model.specs.declared.reply.Reply.TheVariants as reply
 use Rattle.activation_directory.specs.declared.reply.DirectoryReply.{DirectoryReply}
 use Rattle.activation_directory.specs.declared.reply.DirectoryReply.TheVariants as directory

@@ -3,7 +3,7 @@ use Rattle.std.specs.Prelude.{◌≡◌, ◌↔◌, ℕ, ◌≤◌, Bool, true, 
 use Rattle.stream_model.specs.declared.op.Op.{Op}
 use Rattle.stream_model.specs.declared.op.Op.TheVariants.{Pull, Ready}
 use Rattle.stream_model.specs.declared.plain.PlainPartition.{PlainPartition}
-use Rattle.stream_model.specs.declared.reply.Reply.{Reply}
+use Rattle.stream_model.specs.Replies.{Reply}
 use Rattle.stream_model.specs.Producers.{is_producer}
 use Rattle.activation_directory.specs.declared.op.DirectoryOp.{DirectoryOp}
 use Rattle.activation_directory.specs.declared.reply.DirectoryReply.{DirectoryReply}

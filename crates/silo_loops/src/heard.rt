@@ -1,7 +1,7 @@
 //! What a loop takes from an answer at a queue.
 ghost use Rattle.std.specs.Prelude.{◌≡◌};
 ghost use Rattle.step_core.specs.Replied.{Says, reply_of};
-ghost use Rattle.stream_model.specs.declared.reply.Reply.{Reply};
+ghost use Rattle.stream_model.specs.Replies.{Reply};
 ghost use Rattle.silo_loops.specs.Answers.{heard_of, end_in};
 
 use crate::advance::{Over, end_by};

@@ -8,7 +8,7 @@ use Rattle.stream_ident.specs.declared.ident.SubName.{SubName}
 use Rattle.stream_ident.specs.declared.ident.SubName.TheVariants as name
 use Rattle.stream_ident.specs.declared.token.Token.{Token}
 use Rattle.stream_model.specs.declared.plain.PlainPartition.{PlainPartition}
-use Rattle.stream_model.specs.declared.reply.Reply.{Reply}
+use Rattle.stream_model.specs.Replies.{Reply}
 use Rattle.stream_model.specs.Publishing as plain
 use Rattle.stream_model.specs.Step.{takes_memory}
 use Rattle.pubsub_registry.specs.declared.registration.Registration.{Registration}

@@ -16,7 +16,7 @@ use Rattle.stream_ident.specs.SubName.{same_sub}
 use Rattle.stream_ident.specs.Words.{changed_value, place_of, value_at}
 use Rattle.stream_model.specs.declared.plain.Grain.{Grain}
 use Rattle.stream_model.specs.declared.plain.PlainPartition.{PlainPartition}
-use Rattle.stream_model.specs.declared.reply.Reply.{Reply}
+use Rattle.stream_model.specs.Replies.{Reply}
 use Rattle.stream_model.specs.declared.reply.Reply.TheVariants as reply
 use Rattle.stream_model.specs.Publishing as plain
 use Rattle.stream_model.proofs.ChangedValues.{All-changed, place_of-changed, place_of-unchanged}

@@ -16,7 +16,7 @@ use Rattle.stream_ident.specs.Words.{change_at, first_at, place_of}
 use Rattle.stream_model.specs.declared.plain.Grain.{Grain}
 use Rattle.stream_model.specs.declared.plain.PlainPartition.{PlainPartition}
 use Rattle.stream_model.specs.declared.plain.Subscription.{Subscription}
-use Rattle.stream_model.specs.declared.reply.Reply.{Reply}
+use Rattle.stream_model.specs.Replies.{Reply}
 use Rattle.stream_model.specs.declared.reply.Reply.TheVariants as reply
 use Rattle.stream_model.specs.Positions.{grain_at, is_outstanding, lower_bound, next_position, token_at, with_grain, with_sub}
 use Rattle.stream_model.specs.Pulling as plain

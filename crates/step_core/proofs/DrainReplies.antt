@@ -4,7 +4,7 @@ use Rattle.stream_ident.specs.declared.ident.GrainId.{GrainId}
 use Rattle.stream_ident.specs.declared.ident.SubName.{SubName}
 use Rattle.stream_model.specs.declared.op.Op.TheVariants.{Pull}
 use Rattle.stream_model.specs.declared.plain.PlainPartition.{PlainPartition}
-use Rattle.stream_model.specs.declared.reply.Reply.{Reply}
+use Rattle.stream_model.specs.Replies.{Reply}
 use Rattle.stream_model.specs.declared.reply.Reply.TheVariants as reply
 use Rattle.stream_model.specs.Draining.{Astray, Progress, after_ack, after_commit, after_deliver, after_last_deliver, after_pull, and_then, ask, done, drain_round, stopped, take_turn, deliver_up_to}
 use Rattle.step_core.specs.DrainPhases.{deliver_told, is_acknowledged, is_committed, is_nothing, pull_told}

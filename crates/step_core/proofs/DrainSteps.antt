@@ -3,7 +3,7 @@ use Rattle.std.proofs.Common.{◌≡◌, ◌∙◌, ap, sym, refl, subst, Bool, 
 use Rattle.std.proofs.lemmas.List.{append_assoc}
 use Rattle.stream_model.specs.declared.op.Op.{Op}
 use Rattle.stream_model.specs.declared.plain.PlainPartition.{PlainPartition}
-use Rattle.stream_model.specs.declared.reply.Reply.{Reply}
+use Rattle.stream_model.specs.Replies.{Reply}
 use Rattle.stream_model.specs.Draining as draining
 use Rattle.stream_model.specs.Draining.{AtTooMany, AtSpent, Astray, Progress, and_then, ask, done, go_on, joined, stopped}
 use Rattle.stream_ident.specs.Words.{IsPrefixOf}

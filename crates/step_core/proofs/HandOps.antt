@@ -15,7 +15,7 @@ use Rattle.stream_ident.specs.Words.{change_at, past, place_of, Performs}
 use Rattle.stream_model.specs.declared.plain.Grain.{Grain}
 use Rattle.stream_model.specs.declared.plain.PlainPartition.{PlainPartition}
 use Rattle.stream_model.specs.declared.plain.Subscription.{Subscription}
-use Rattle.stream_model.specs.declared.reply.Reply.{Reply}
+use Rattle.stream_model.specs.Replies.{Reply}
 use Rattle.stream_model.specs.declared.reply.Reply.TheVariants as reply
 use Rattle.stream_model.specs.Positions.{is_outstanding, is_spent, is_unacknowledged, next_position, running_in, sub_at, token_at, waiting_in}
 use Rattle.stream_model.specs.Pulling as plain

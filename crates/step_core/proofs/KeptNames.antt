@@ -14,7 +14,7 @@ use Rattle.stream_model.specs.declared.plain.Grain.{Grain}
 use Rattle.stream_model.specs.declared.plain.PlainPartition.{PlainPartition}
 use Rattle.stream_model.specs.declared.plain.RunningTurn.{RunningTurn}
 use Rattle.stream_model.specs.declared.plain.Subscription.{Subscription}
-use Rattle.stream_model.specs.declared.reply.Reply.{Reply}
+use Rattle.stream_model.specs.Replies.{Reply}
 use Rattle.stream_model.specs.declared.reply.Reply.TheVariants as reply
 use Rattle.stream_model.specs.Draining as draining
 use Rattle.stream_model.specs.Draining.{Progress, acknowledge, after_ack, after_begin, after_commit, after_deliver, after_last_deliver, and_then, ask, deliver_all, deliver_once_more, go_on, in_order, last_handled, next_note, open_names, serve, take_turn}

@@ -7,7 +7,7 @@ use Rattle.stream_ident.specs.declared.rule.Rule.{Rule}
 use Rattle.stream_ident.specs.Name.{same_name}
 use Rattle.stream_model.specs.declared.reply.Reply.TheVariants as reply
 use Rattle.stream_model.specs.declared.plain.PlainPartition.{PlainPartition}
-use Rattle.stream_model.specs.declared.reply.Reply.{Reply}
+use Rattle.stream_model.specs.Replies.{Reply}
 use Rattle.stream_ident.specs.Event.{events_of}
 use Rattle.stream_model.specs.Publishing.{publish, add_rule}
 use Rattle.partition_queue.specs.declared.appended.Appended.{Appended}

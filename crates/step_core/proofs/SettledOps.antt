@@ -9,7 +9,7 @@ use Rattle.stream_ident.specs.Words.{past}
 use Rattle.stream_model.specs.declared.op.Op.TheVariants.{Ack, Deliver}
 use Rattle.stream_model.specs.declared.plain.PlainPartition.{PlainPartition}
 use Rattle.stream_model.specs.declared.plain.Subscription.{Subscription}
-use Rattle.stream_model.specs.declared.reply.Reply.{Reply}
+use Rattle.stream_model.specs.Replies.{Reply}
 use Rattle.stream_model.specs.declared.reply.Reply.TheVariants as reply
 use Rattle.stream_model.specs.Draining.{acknowledge, after_ack, after_deliver, after_last_deliver, deliver_all, deliver_once_more, done, last_handled, serve}
 use Rattle.stream_model.specs.Positions.{grain_at, is_outstanding, is_unacknowledged, running_in, sub_at, token_at, waiting_in, with_sub}

@@ -13,7 +13,7 @@ use Rattle.stream_model.specs.declared.plain.Delivery as plain_delivery
 use Rattle.stream_model.specs.declared.plain.Grain.{Grain}
 use Rattle.stream_model.specs.declared.plain.RunningTurn as plain_turn
 use Rattle.stream_model.specs.declared.plain.PlainPartition.{PlainPartition}
-use Rattle.stream_model.specs.declared.reply.Reply.{Reply}
+use Rattle.stream_model.specs.Replies.{Reply}
 use Rattle.stream_model.specs.declared.reply.Reply.TheVariants as reply
 use Rattle.stream_model.specs.Positions.{with_sub}
 use Rattle.stream_model.specs.Publishing as plain

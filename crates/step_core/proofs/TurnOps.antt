@@ -9,7 +9,7 @@ use Rattle.stream_ident.specs.Name.{same_grain}
 use Rattle.stream_ident.specs.Words.{change_at, past, place_of}
 use Rattle.stream_model.specs.declared.plain.Grain.{Grain}
 use Rattle.stream_model.specs.declared.plain.PlainPartition.{PlainPartition}
-use Rattle.stream_model.specs.declared.reply.Reply.{Reply}
+use Rattle.stream_model.specs.Replies.{Reply}
 use Rattle.stream_model.specs.declared.reply.Reply.TheVariants as reply
 use Rattle.stream_model.specs.declared.plain.Subscription.{Subscription}
 use Rattle.stream_ident.specs.declared.token.Token.{Token}

@@ -4,7 +4,7 @@ use Rattle.stream_model.specs.declared.op.Op.{Op}
 use Rattle.stream_model.specs.declared.plain.PlainPartition.{PlainPartition}
 use Rattle.step_core.specs.declared.draining.Stop.{Stop}
 use Rattle.step_core.specs.declared.draining.Stop.TheVariants as stop
-use Rattle.stream_model.specs.declared.reply.Reply.{Reply}
+use Rattle.stream_model.specs.Replies.{Reply}
 use Rattle.stream_model.specs.declared.reply.Reply.TheVariants as reply
 use Rattle.stream_model.specs.Draining as draining
 use Rattle.stream_model.specs.Draining.{AtTooMany, AtSpent, Astray, Progress, acknowledge, after_deliver, and_then, ask, deliver_once_more, last_handled}

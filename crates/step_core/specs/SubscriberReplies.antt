@@ -1,5 +1,5 @@
 -- What subscribers are told, from what the table of subscriptions tells.
-use Rattle.stream_model.specs.declared.reply.Reply.{Reply}
+use Rattle.stream_model.specs.Replies.{Reply}
 use Rattle.stream_model.specs.declared.reply.Reply.TheVariants as reply
 use Rattle.pubsub_registry.specs.declared.told.Added.{Added}
 use Rattle.pubsub_registry.specs.declared.told.Added.TheVariants as add_told

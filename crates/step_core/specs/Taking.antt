@@ -2,7 +2,7 @@
 use Rattle.std.specs.Prelude.{ℕ, ◌+◌, ◌*◌, List}
 use Rattle.stream_ident.specs.declared.event.Event.{Event}
 use Rattle.stream_model.specs.declared.plain.PlainPartition.{PlainPartition}
-use Rattle.stream_model.specs.declared.reply.Reply.{Reply}
+use Rattle.stream_model.specs.Replies.{Reply}
 use Rattle.stream_model.specs.Positions.{between}
 use Rattle.stream_model.specs.Pulling.{pull_events, subs_with}
 use Rattle.pulling_agent.specs.Agent.{pulled}

@@ -1,8 +1,8 @@
 //! An answer that stands for a reply.
 ghost use Rattle.std.specs.Prelude.{◌≡◌, ◌<◌, ◌≤◌, length};
-ghost use Rattle.step_core.specs.Replied.{reply_with, turn_with, HasEvents, Says};
+ghost use Rattle.step_core.specs.Replied.{reply_with, HasEvents, Says};
 
-use crate::outcome::{NewTurn, Outcome};
+use crate::outcome::Outcome;
 use partition_queue::PartitionQueue;
 use std::marker::Model;
 use std::snapshot::Snapshot;
@@ -19,7 +19,7 @@ pub struct Answer {
 }
 
 impl Model for Answer {
-    ghost use Rattle.stream_model.specs.declared.reply.Reply.{Reply};
+    ghost use Rattle.stream_model.specs.Replies.{Reply};
     ghost use Rattle.step_core.specs.Replied.{reply_with};
 
     ghost Value = { Reply };
@@ -50,24 +50,22 @@ impl Answer {
         requires { HasEvents self.now events.now }
         ensures { result ≡ self.now }
     {
-        match &self.outcome {
-            Outcome::Told(told) => told.reply(),
-            Outcome::Turn(turn) => turn_reply(turn, events),
+        match self.outcome {
+            Reply::Turn {
+                sub,
+                activation,
+                turn,
+                events: ref positions,
+                note,
+            } => Reply::Turn {
+                sub,
+                activation,
+                turn,
+                events: row_of(events, positions.len()),
+                note,
+            },
+            _ => self.outcome.no_turn(),
         }
-    }
-}
-
-// The reply of a turn, with as many events as it has positions.
-fn turn_reply(turn: &NewTurn, events: &[Event]) -> Reply
-    requires { length events.now ≡ length turn.now.positions }
-    ensures { result ≡ turn_with turn.now events.now }
-{
-    Reply::Turn {
-        sub: turn.sub,
-        activation: turn.activation,
-        turn: turn.turn,
-        events: row_of(events, turn.positions.len()),
-        note: turn.note,
     }
 }
 

@@ -1,5 +1,5 @@
 //! What the agent hands to a subscription.
-ghost use Rattle.std.specs.Prelude.{◌≡◌, ◌+◌, ◌^◌, ◌<◌, ◌≤◌, None, OnErr, Some, length, not, true};
+ghost use Rattle.std.specs.Prelude.{◌≡◌, ◌+◌, ◌^◌, ◌<◌, ◌≤◌, None, OnErr, Some, length, not, true, IfOk};
 ghost use Rattle.stream_model.specs.Memory.{is_untouched};
 ghost use Rattle.stream_model.specs.Positions.{is_outstanding, sub_at, token_at};
 ghost use Rattle.stream_model.specs.Pulling.{deliver};
@@ -8,6 +8,7 @@ ghost use Rattle.stream_ident.specs.Words.{Performs};
 ghost use Rattle.grain_table.specs.Changes.{activation_at};
 ghost use Rattle.grain_table.specs.Grains.{number_of};
 ghost use Rattle.subscription_table.specs.Table.{name_at};
+ghost use Rattle.stream_model.specs.Replies.{IsNoTurn};
 ghost use Rattle.step_core.specs.Assembly.{Agrees, IsAssembled};
 ghost use Rattle.step_core.specs.Handing.{sent, IsNext};
 ghost use Rattle.step_core.specs.PlainOf.{plain_of};
@@ -16,13 +17,14 @@ ghost use Rattle.step_core.specs.Replied.{replied, reply_of};
 ghost use Rattle.step_core.specs.Serving.{CatchesUp};
 ghost use Rattle.stream_model.specs.declared.reply.Reply.TheVariants.{Delivered};
 
-use crate::outcome::Told;
+use crate::outcome::Outcome;
 use crate::parts::Parts;
 use crate::reading::is_spent;
 use consumer_grain::{Delivery, Offered};
 use pulling_agent::StaleAgent;
 use std::alloc::{AllocError, Global};
 use stream_ident::SubName;
+use stream_model::Reply;
 use subscription_table::Sought;
 
 /// The agent hands a subscription its next event.
@@ -36,18 +38,19 @@ pub(crate) fn deliver(
     alloc: Global,
     generation: u64,
     sub: &SubName,
-) -> Result<Told, AllocError>
+) -> Result<Outcome, AllocError>
     requires { Agrees parts.old }
     ensures assembled { IsAssembled parts.new }
     ensures performs { Performs (plain_of parts.old) (plain_of parts.new) (replied result) (deliver (plain_of parts.old) generation sub.now) }
+    ensures told { IfOk result IsNoTurn }
     ensures memory { OnErr result (takes_memory (deliver (plain_of parts.old) generation sub.now).1 ≡ true) }
     ensures first { OnErr result (is_untouched (plain_of parts.old) sub.now (sub_at (plain_of parts.old) sub.now) ≡ true) }
 {
     if let Err(StaleAgent { now }) = parts.agent.check(generation) {
-        return Ok(Told::StaleAgent { now });
+        return Ok(Reply::StaleAgent { now });
     }
     let Some(number) = parts.subs.find(sub) else {
-        return Ok(Told::NoSuch);
+        return Ok(Reply::NoSuch);
     };
     let grain = parts.grains.find(&parts.subs.registration(number).grain);
     let outstanding = is_outstanding(parts, number, grain);
@@ -62,8 +65,8 @@ pub(crate) fn deliver(
             };
             hand_over(parts, alloc, delivery, grain)
         }
-        Sought::Nothing => Ok(Told::Nothing),
-        Sought::Closed => Ok(Told::Closed),
+        Sought::Nothing => Ok(Reply::Nothing),
+        Sought::Closed => Ok(Reply::Closed),
     }
 }
 
@@ -128,12 +131,13 @@ fn hand_over(
     alloc: Global,
     delivery: Delivery,
     grain: Option<usize>,
-) -> Result<Told, AllocError>
+) -> Result<Outcome, AllocError>
     requires agrees { Agrees parts.old }
     requires next { IsNext parts.old delivery }
     requires grain { number_of parts.old.grains (record_of parts.old delivery.sub).grain ≡ grain }
     ensures assembled { IsAssembled parts.new }
     ensures performs { Performs (plain_of parts.old) (plain_of parts.new) (replied result) (deliver (plain_of parts.old) parts.old.agent.generation (name_at parts.old.subs delivery.sub)) }
+    ensures told { IfOk result IsNoTurn }
     ensures memory { OnErr result (takes_memory (deliver (plain_of parts.old) parts.old.agent.generation (name_at parts.old.subs delivery.sub)).1 ≡ true) }
     ensures first { OnErr result (is_untouched (plain_of parts.old) (name_at parts.old.subs delivery.sub) (Some (record_of parts.old delivery.sub)) ≡ true) }
 {
@@ -154,22 +158,23 @@ fn hand_to(
     alloc: Global,
     grain: usize,
     delivery: Delivery,
-) -> Result<Told, AllocError>
+) -> Result<Outcome, AllocError>
     requires agrees { Agrees parts.old }
     requires next { IsNext parts.old delivery }
     requires grain { number_of parts.old.grains (record_of parts.old delivery.sub).grain ≡ Some grain }
     ensures assembled { IsAssembled parts.new }
     ensures performs { Performs (plain_of parts.old) (plain_of parts.new) (replied result) (deliver (plain_of parts.old) parts.old.agent.generation (name_at parts.old.subs delivery.sub)) }
+    ensures told { IfOk result IsNoTurn }
     ensures memory { OnErr result (takes_memory (deliver (plain_of parts.old) parts.old.agent.generation (name_at parts.old.subs delivery.sub)).1 ≡ true) }
     ensures first { OnErr result (is_untouched (plain_of parts.old) (name_at parts.old.subs delivery.sub) (Some (record_of parts.old delivery.sub)) ≡ true) }
 {
     let wakes = !parts.grains.at(grain).is_active();
     // Nothing waits for a grain that isn't active, so that its mailbox isn't full.
     if wakes && is_spent(parts) {
-        return Ok(Told::Spent);
+        return Ok(Reply::Spent);
     }
     match parts.grains.offer(alloc, grain, delivery)? {
-        Offered::MailboxFull => Ok(Told::MailboxFull),
+        Offered::MailboxFull => Ok(Reply::MailboxFull),
         Offered::Delivered => Ok(sent(parts, delivery, wakes)),
     }
 }
@@ -180,17 +185,18 @@ fn hand_to(
 /// The call failed to allocate, and nothing has changed. That can happen only where the event would be handed
 /// over, and only where the subscription has handled nothing, nothing of it is on its way, and its cursor
 /// stands at its resume.
-fn hand_first(parts: &mut Parts, alloc: Global, delivery: Delivery) -> Result<Told, AllocError>
+fn hand_first(parts: &mut Parts, alloc: Global, delivery: Delivery) -> Result<Outcome, AllocError>
     requires agrees { Agrees parts.old }
     requires next { IsNext parts.old delivery }
     requires first { number_of parts.old.grains (record_of parts.old delivery.sub).grain ≡ None }
     ensures assembled { IsAssembled parts.new }
     ensures performs { Performs (plain_of parts.old) (plain_of parts.new) (replied result) (deliver (plain_of parts.old) parts.old.agent.generation (name_at parts.old.subs delivery.sub)) }
+    ensures told { IfOk result IsNoTurn }
     ensures memory { OnErr result (takes_memory (deliver (plain_of parts.old) parts.old.agent.generation (name_at parts.old.subs delivery.sub)).1 ≡ true) }
     ensures first { OnErr result (is_untouched (plain_of parts.old) (name_at parts.old.subs delivery.sub) (Some (record_of parts.old delivery.sub)) ≡ true) }
 {
     if is_spent(parts) {
-        return Ok(Told::Spent);
+        return Ok(Reply::Spent);
     }
     let grain = parts.subs.registration(delivery.sub).grain;
     parts.grains.add(alloc, grain, delivery)?;
@@ -199,17 +205,18 @@ fn hand_first(parts: &mut Parts, alloc: Global, delivery: Delivery) -> Result<To
 
 /// The subscription of an event that waits for its grain now goes on past it. Where the grain wakes, that
 /// is a rise.
-fn sent(parts: &mut Parts, delivery: Delivery, wakes: bool) -> Told
+fn sent(parts: &mut Parts, delivery: Delivery, wakes: bool) -> Outcome
     requires number { delivery.sub < length parts.old.subs.registry.names }
     requires position { delivery.position < length parts.old.queue.events }
     requires room { delivery.position + 3 < 2 ^ 64 }
     requires rises { parts.old.rises + 1 < 2 ^ 64 }
     ensures parts { parts.new ≡ sent parts.old delivery wakes }
     ensures reply { reply_of result ≡ Delivered (token_at (plain_of parts.old) delivery.position) }
+    ensures told { IsNoTurn result }
 {
     parts.rises += u64::from(wakes);
     parts.subs.advance(delivery.sub, delivery.position);
-    Told::Delivered {
+    Reply::Delivered {
         token: parts.queue.token_at(delivery.position),
     }
 }

@@ -11,11 +11,11 @@ ghost use Rattle.step_core.specs.DrainPhases.{Asks, BreaksOff, Follows, after_de
 ghost use Rattle.step_core.specs.Replied.{reply_of, reply_with};
 ghost use Rattle.step_core.specs.Serving.{name_of};
 
-use crate::outcome::{Outcome, Told};
+use crate::outcome::Outcome;
 use crate::partition::Partition;
 use std::alloc::{AllocError, Global};
 use stream_ident::{GrainId, SubName};
-use stream_model::DrainEnd;
+use stream_model::{DrainEnd, Reply};
 
 /// The most events of a pull.
 const PULL_MAX: u32 = 32;
@@ -110,13 +110,13 @@ fn pull_next(partition: &mut Partition, alloc: Global) -> Result<bool, Stop>
 }
 
 /// Whether the reply of an operation says that events went into the cache, or that the queue had none.
-fn is_pulled(told: Told) -> Result<bool, Stop>
+fn is_pulled(told: Outcome) -> Result<bool, Stop>
     ensures { result ≡ pull_told (reply_of told) }
 {
     match told {
-        Told::Pulled { .. } => Ok(true),
-        Told::Dry => Ok(false),
-        Told::TooMany => Err(Stop::TooMany),
+        Reply::Pulled { .. } => Ok(true),
+        Reply::Dry => Ok(false),
+        Reply::TooMany => Err(Stop::TooMany),
         _ => Err(Stop::Astray),
     }
 }
@@ -228,13 +228,13 @@ fn deliver_next(partition: &mut Partition, alloc: Global, sub: &SubName) -> Resu
 }
 
 /// Whether the reply of an operation says that an event went into the mailbox, or that there was none.
-fn is_delivered(told: Told) -> Result<bool, Stop>
+fn is_delivered(told: Outcome) -> Result<bool, Stop>
     ensures { result ≡ deliver_told (reply_of told) }
 {
     match told {
-        Told::Delivered { .. } => Ok(true),
-        Told::Nothing => Ok(false),
-        Told::Spent => Err(Stop::Spent),
+        Reply::Delivered { .. } => Ok(true),
+        Reply::Nothing => Ok(false),
+        Reply::Spent => Err(Stop::Spent),
         _ => Err(Stop::Astray),
     }
 }
@@ -257,12 +257,17 @@ fn follow_begin(
     ensures { Follows partition.old partition.new result (after_begin grain.now partition.old (reply_with partition.old.log outcome.now)) }
 {
     match outcome {
-        Outcome::Turn(begun) => {
-            let note = next_note(begun.note);
-            end_turn(partition, alloc, grain, begun.activation, begun.turn, note)
+        Reply::Turn {
+            activation,
+            turn,
+            note,
+            ..
+        } => {
+            let note = next_note(*note);
+            end_turn(partition, alloc, grain, *activation, *turn, note)
         }
-        Outcome::Told(Told::Dropped { .. }) => Ok(()),
-        Outcome::Told(Told::Spent) => Err(Stop::Spent),
+        Reply::Dropped { .. } => Ok(()),
+        Reply::Spent => Err(Stop::Spent),
         _ => Err(Stop::Astray),
     }
 }
@@ -298,10 +303,10 @@ fn end_turn(
 }
 
 /// Whether the reply of an operation says that the events of a turn are handled.
-fn is_committed(told: Told) -> bool
+fn is_committed(told: Outcome) -> bool
     ensures { result ≡ is_committed (reply_of told) }
 {
-    matches!(told, Told::Committed { .. })
+    matches!(told, Reply::Committed { .. })
 }
 
 /// Acknowledges the last event that a subscription has handled, where there is one.
@@ -320,10 +325,10 @@ fn acknowledge(partition: &mut Partition, sub: &SubName) -> Result<(), Stop>
 }
 
 /// Whether the reply of an operation says that the resume stands past an event.
-fn is_acknowledged(told: Told) -> bool
+fn is_acknowledged(told: Outcome) -> bool
     ensures { result ≡ is_acknowledged (reply_of told) }
 {
-    matches!(told, Told::Acked)
+    matches!(told, Reply::Acked)
 }
 
 /// Delivers to a subscription for which the cache has nothing more, so that its resume follows.
@@ -343,8 +348,8 @@ fn deliver_once_more(partition: &mut Partition, alloc: Global, sub: &SubName) ->
 }
 
 /// Whether the reply of an operation says that the cache has no further event.
-fn is_nothing(told: Told) -> bool
+fn is_nothing(told: Outcome) -> bool
     ensures { result ≡ is_nothing (reply_of told) }
 {
-    matches!(told, Told::Nothing)
+    matches!(told, Reply::Nothing)
 }

@@ -21,7 +21,7 @@ mod stepping;
 mod turns;
 
 pub use answer::Answer;
-pub use outcome::{NewTurn, Outcome, Told};
+pub use outcome::Outcome;
 pub use partition::Partition;
 pub use ranked_index::{Leaf, Resumes};
 pub use reading::SubSummary;

@@ -10,6 +10,7 @@ ghost use Rattle.stream_model.specs.Looks.{due, is_running, pending_in, quiet, r
 ghost use Rattle.consumer_grain.specs.Subscriptions.{is_unacknowledged};
 ghost use Rattle.partition_queue.specs.Queue.{token_at};
 ghost use Rattle.subscription_table.specs.Table.{name_at};
+ghost use Rattle.stream_model.specs.Replies.{IsNoTurn};
 ghost use Rattle.step_core.specs.Assembly.{Agrees};
 ghost use Rattle.step_core.specs.Deliverables.{is_deliverable};
 ghost use Rattle.step_core.specs.PlainOf.{plain_of};
@@ -17,39 +18,41 @@ ghost use Rattle.step_core.specs.Records.{record_of};
 ghost use Rattle.step_core.specs.Replied.{reply_of};
 ghost use Rattle.step_core.specs.Serving.{next_due};
 
-use crate::outcome::Told;
+use crate::outcome::Outcome;
 use crate::parts::Parts;
 use consumer_grain::SubState;
 use partition_queue::PartitionQueue;
 use pulling_agent::next;
 use stream_ident::{GrainId, SubName, Token};
-use stream_model::Pending;
+use stream_model::{Pending, Reply};
 
 /// A worker asks for a grain for which something waits and no turn runs: the least such grain after the
 /// given one, else the least.
-pub(crate) fn ready(parts: &Parts, after: Option<GrainId>) -> Told
+pub(crate) fn ready(parts: &Parts, after: Option<GrainId>) -> Outcome
     requires { Agrees parts.now }
-    ensures { reply_of result ≡ ready (plain_of parts.now) after }
+    ensures reply { reply_of result ≡ ready (plain_of parts.now) after }
+    ensures told { IsNoTurn result }
 {
     match parts.grains.ready_after(after.as_ref()) {
-        Some(grain) => Told::Next(grain),
-        None => Told::NoneReady,
+        Some(grain) => Reply::Next(grain),
+        None => Reply::NoneReady,
     }
 }
 
 /// The agent asks for a subscription that has something to acknowledge or to look for: the least such name
 /// after the given one, else the least.
-pub(crate) fn due(parts: &Parts, after: Option<SubName>) -> Told
+pub(crate) fn due(parts: &Parts, after: Option<SubName>) -> Outcome
     requires { Agrees parts.now }
-    ensures { reply_of result ≡ due (plain_of parts.now) after }
+    ensures reply { reply_of result ≡ due (plain_of parts.now) after }
+    ensures told { IsNoTurn result }
 {
     let high = parts.agent.cache().high();
     match parts.subs.due_after(after.as_ref(), high) {
-        Some(number) => Told::DueSub {
+        Some(number) => Reply::DueSub {
             sub: *parts.subs.name(number),
             ack: to_acknowledge(parts.subs.state(number), &parts.queue),
         },
-        None => Told::NoneDue,
+        None => Reply::NoneDue,
     }
 }
 
@@ -93,13 +96,14 @@ fn to_acknowledge(state: &SubState, queue: &PartitionQueue) -> Option<Token>
 }
 
 /// Asks whether everything is pulled, delivered and handled.
-pub(crate) fn quiet(parts: &Parts) -> Told
+pub(crate) fn quiet(parts: &Parts) -> Outcome
     requires { Agrees parts.now }
-    ensures { reply_of result ≡ quiet (plain_of parts.now) }
+    ensures reply { reply_of result ≡ quiet (plain_of parts.now) }
+    ensures told { IsNoTurn result }
 {
     match pending(parts) {
-        Some(why) => Told::NotQuiet(why),
-        None => Told::IsQuiet,
+        Some(why) => Reply::NotQuiet(why),
+        None => Reply::IsQuiet,
     }
 }
 

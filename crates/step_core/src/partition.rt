@@ -21,7 +21,7 @@ mod asking;
 use crate::answer::Answer;
 use crate::draining::Served;
 use crate::looking::{all_waiting, least_running, least_waiting, next_due, pending};
-use crate::outcome::Outcome;
+use crate::outcome::{Outcome, reply_of, show};
 use crate::parts::Parts;
 use crate::reading::{
     SubSummary, handled, handled_positions, high_token, is_settled, last_handled, low_token,
@@ -118,7 +118,7 @@ impl Partition {
         ensures memory { OnErr result (may_allocate self.old op.now ≡ true) }
     {
         let outcome = self.advance(alloc, op)?;
-        Ok(outcome.reply(&self.parts.queue))
+        Ok(reply_of(&outcome, &self.parts.queue))
     }
 
     /// Does one operation that is lent, as `step` does it, and gives an answer that stands for the reply. The events
@@ -137,7 +137,7 @@ impl Partition {
         ensures shows { MatchResult result (λ r. Shows events.old events.new r) (λ _. events.new ≡ events.old) }
     {
         let outcome = self.advance(alloc, op)?;
-        outcome.show(&self.parts.queue, events);
+        show(&outcome, &self.parts.queue, events);
         Ok(Answer::new(outcome, &self.parts.queue))
     }
 

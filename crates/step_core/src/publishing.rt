@@ -1,18 +1,19 @@
 //! What producers and subscribers ask.
-ghost use Rattle.std.specs.Prelude.{◌≡◌, ◌≤◌, true, OnErr};
+ghost use Rattle.std.specs.Prelude.{◌≡◌, ◌≤◌, true, OnErr, IfOk};
 ghost use Rattle.stream_ident.specs.Words.{Performs, changed_value};
 ghost use Rattle.stream_ident.specs.Name.{same_grain};
 ghost use Rattle.stream_model.specs.Publishing.{add_rule, publish, subscribe, subscribe_at, unsubscribe};
 ghost use Rattle.stream_model.specs.Step.{takes_memory};
 ghost use Rattle.pulling_agent.specs.Cache.{high};
 ghost use Rattle.consumer_grain.specs.Activations.{forgotten};
+ghost use Rattle.stream_model.specs.Replies.{IsNoTurn};
 ghost use Rattle.step_core.specs.Assembly.{Agrees, IsAssembled};
 ghost use Rattle.step_core.specs.PlainOf.{plain_of};
 ghost use Rattle.step_core.specs.Replies.{of_append, of_rule};
 ghost use Rattle.step_core.specs.Replied.{replied, reply_of};
 ghost use Rattle.step_core.specs.SubscriberReplies.{of_added};
 
-use crate::outcome::Told;
+use crate::outcome::Outcome;
 use crate::parts::Parts;
 use crate::reading::{high_token, low_token};
 use grain_table::GrainTable;
@@ -21,7 +22,7 @@ use pubsub_registry::{Added, Closing, RuleAdded};
 use pulling_agent::lower;
 use std::alloc::{AllocError, Global};
 use stream_ident::{Batch, GrainId, Name, StreamId, SubName, Token};
-use stream_model::Start;
+use stream_model::{Reply, Start};
 
 /// A producer publishes a batch: its events go to the end of the log.
 ///
@@ -33,10 +34,11 @@ pub(crate) fn publish(
     alloc: Global,
     stream: StreamId,
     payloads: &Batch,
-) -> Result<Told, AllocError>
+) -> Result<Outcome, AllocError>
     requires { Agrees parts.old }
     ensures assembled { IsAssembled parts.new }
     ensures performs { Performs (plain_of parts.old) (plain_of parts.new) (replied result) (publish (plain_of parts.old) stream payloads.now) }
+    ensures told { IfOk result IsNoTurn }
     ensures memory { OnErr result (takes_memory (publish (plain_of parts.old) stream payloads.now).1 ≡ true) }
 {
     let appended = parts.queue.append(alloc, stream, payloads)?;
@@ -44,13 +46,14 @@ pub(crate) fn publish(
 }
 
 /// The reply to the producer of a batch.
-fn told_of_batch(appended: Appended) -> Told
-    ensures { reply_of result ≡ of_append appended }
+fn told_of_batch(appended: Appended) -> Outcome
+    ensures reply { reply_of result ≡ of_append appended }
+    ensures told { IsNoTurn result }
 {
     match appended {
-        Appended::Accepted { seq } => Told::Published { seq },
-        Appended::BadBatch => Told::BadBatch,
-        Appended::QueueFull => Told::QueueFull,
+        Appended::Accepted { seq } => Reply::Published { seq },
+        Appended::BadBatch => Reply::BadBatch,
+        Appended::QueueFull => Reply::QueueFull,
     }
 }
 
@@ -63,10 +66,11 @@ pub(crate) fn add_rule(
     alloc: Global,
     kind: Name,
     namespace: Name,
-) -> Result<Told, AllocError>
+) -> Result<Outcome, AllocError>
     requires { Agrees parts.old }
     ensures assembled { IsAssembled parts.new }
     ensures performs { Performs (plain_of parts.old) (plain_of parts.new) (replied result) (add_rule (plain_of parts.old) kind namespace) }
+    ensures told { IfOk result IsNoTurn }
     ensures memory { OnErr result (takes_memory (add_rule (plain_of parts.old) kind namespace).1 ≡ true) }
 {
     let from = parts.queue.batches();
@@ -75,13 +79,14 @@ pub(crate) fn add_rule(
 }
 
 /// The reply to a rule that is to hold from a batch on.
-fn told_of_rule(from: u64, added: RuleAdded) -> Told
-    ensures { reply_of result ≡ of_rule from added }
+fn told_of_rule(from: u64, added: RuleAdded) -> Outcome
+    ensures reply { reply_of result ≡ of_rule from added }
+    ensures told { IsNoTurn result }
 {
     match added {
-        RuleAdded::Added => Told::RuleAdded { from },
-        RuleAdded::RuleThere => Told::RuleThere,
-        RuleAdded::TooMany => Told::TooMany,
+        RuleAdded::Added => Reply::RuleAdded { from },
+        RuleAdded::RuleThere => Reply::RuleThere,
+        RuleAdded::TooMany => Reply::TooMany,
     }
 }
 
@@ -96,10 +101,11 @@ pub(crate) fn subscribe(
     stream: StreamId,
     grain: GrainId,
     start: Start,
-) -> Result<Told, AllocError>
+) -> Result<Outcome, AllocError>
     requires { Agrees parts.old }
     ensures assembled { IsAssembled parts.new }
     ensures performs { Performs (plain_of parts.old) (plain_of parts.new) (replied result) (subscribe (plain_of parts.old) stream grain start) }
+    ensures told { IfOk result IsNoTurn }
     ensures memory { OnErr result (takes_memory (subscribe (plain_of parts.old) stream grain start).1 ≡ true) }
 {
     match start {
@@ -115,7 +121,7 @@ pub(crate) fn subscribe(
             let low = low_token(parts);
             if token.is_before(&low) {
                 let high = high_token(parts);
-                return Ok(Told::Miss {
+                return Ok(Reply::Miss {
                     requested: token,
                     low,
                     high,
@@ -128,24 +134,25 @@ pub(crate) fn subscribe(
 }
 
 /// The grain of an explicit subscription unsubscribes. It takes no memory.
-pub(crate) fn unsubscribe(parts: &mut Parts, sub: &SubName) -> Told
+pub(crate) fn unsubscribe(parts: &mut Parts, sub: &SubName) -> Outcome
     requires { Agrees parts.old }
     ensures assembled { IsAssembled parts.new }
     ensures performs { (plain_of parts.new, reply_of result) ≡ unsubscribe (plain_of parts.old) sub.now }
+    ensures told { IsNoTurn result }
 {
     let Some(number) = parts.subs.find(sub) else {
-        return Told::NoSuch;
+        return Reply::NoSuch;
     };
     let grain = parts.subs.registration(number).grain;
     let handled = parts.subs.state(number).handled().len();
     match parts.subs.close(number) {
         Closing::Done => {
             forget(&mut parts.grains, &grain, number);
-            Told::Unsubscribed { handled }
+            Reply::Unsubscribed { handled }
         }
-        Closing::NoSuch => Told::NoSuch,
-        Closing::Implicit => Told::Implicit,
-        Closing::Closed => Told::Closed,
+        Closing::NoSuch => Reply::NoSuch,
+        Closing::Implicit => Reply::Implicit,
+        Closing::Closed => Reply::Closed,
     }
 }
 
@@ -170,11 +177,12 @@ fn subscribe_at(
     grain: GrainId,
     start: Token,
     position: usize,
-) -> Result<Told, AllocError>
+) -> Result<Outcome, AllocError>
     requires agrees { Agrees parts.old }
     requires position { position ≤ high parts.old.agent.cache }
     ensures assembled { IsAssembled parts.new }
     ensures performs { Performs (plain_of parts.old) (plain_of parts.new) (replied result) (subscribe_at (plain_of parts.old) stream grain start position) }
+    ensures told { IfOk result IsNoTurn }
     ensures memory { OnErr result (takes_memory (subscribe_at (plain_of parts.old) stream grain start position).1 ≡ true) }
 {
     let added = parts.subs.subscribe(alloc, stream, grain, start, position)?;
@@ -182,11 +190,12 @@ fn subscribe_at(
 }
 
 /// The reply to a grain that subscribes.
-fn told_of_sub(added: Added) -> Told
-    ensures { reply_of result ≡ of_added added }
+fn told_of_sub(added: Added) -> Outcome
+    ensures reply { reply_of result ≡ of_added added }
+    ensures told { IsNoTurn result }
 {
     match added {
-        Added::Added { number } => Told::Subscribed { number },
-        Added::TooMany => Told::TooMany,
+        Added::Added { number } => Reply::Subscribed { number },
+        Added::TooMany => Reply::TooMany,
     }
 }

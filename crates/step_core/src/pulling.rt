@@ -1,5 +1,5 @@
 //! What the agent takes from the queue.
-ghost use Rattle.std.specs.Prelude.{◌≡◌, ◌+◌, ◌*◌, ◌<◌, ◌≤◌, OnErr, length, true, unwrap_or};
+ghost use Rattle.std.specs.Prelude.{◌≡◌, ◌+◌, ◌*◌, ◌<◌, ◌≤◌, OnErr, length, true, unwrap_or, IfOk};
 ghost use Rattle.stream_model.specs.Positions.{slowest, slowest_name, token_at};
 ghost use Rattle.stream_model.specs.Pulling.{pull};
 ghost use Rattle.stream_model.specs.Step.{takes_memory};
@@ -7,13 +7,14 @@ ghost use Rattle.stream_ident.specs.Words.{Performs};
 ghost use Rattle.pulling_agent.specs.Agent.{IsTakeable};
 ghost use Rattle.pulling_agent.specs.Cache.{high, room};
 ghost use Rattle.queue_mapper.specs.Place.{tags_of};
+ghost use Rattle.stream_model.specs.Replies.{IsNoTurn};
 ghost use Rattle.step_core.specs.Assembly.{Agrees, IsAssembled};
 ghost use Rattle.step_core.specs.PlainOf.{plain_of};
 ghost use Rattle.step_core.specs.Taking.{ahead, filled, taken};
 ghost use Rattle.step_core.specs.Replied.{replied, reply_of};
 ghost use Rattle.stream_model.specs.declared.reply.Reply.TheVariants.{Pulled};
 
-use crate::outcome::Told;
+use crate::outcome::Outcome;
 use crate::parts::Parts;
 use crate::reading::least_resume;
 use partition_queue::Excerpt;
@@ -21,6 +22,7 @@ use pubsub_registry::Implied;
 use pulling_agent::{Plan, StaleAgent};
 use std::alloc::{AllocError, Global};
 use stream_ident::{Event, SubName};
+use stream_model::Reply;
 
 /// The agent takes events from the queue into its cache, and the rules make subscriptions of them. On their
 /// way the events stand in an excerpt of the log, so that they need no further memory.
@@ -34,21 +36,22 @@ pub(crate) fn pull(
     alloc: Global,
     generation: u64,
     max: u32,
-) -> Result<Told, AllocError>
+) -> Result<Outcome, AllocError>
     requires { Agrees parts.old }
     ensures assembled { IsAssembled parts.new }
     ensures performs { Performs (plain_of parts.old) (plain_of parts.new) (replied result) (pull (plain_of parts.old) generation max) }
+    ensures told { IfOk result IsNoTurn }
     ensures memory { OnErr result (takes_memory (pull (plain_of parts.old) generation max).1 ≡ true) }
     ensures makes { OnErr result (length (plain_of parts.old).subs < length (pull (plain_of parts.old) generation max).0.subs) }
 {
     if let Err(StaleAgent { now }) = parts.agent.check(generation) {
-        return Ok(Told::StaleAgent { now });
+        return Ok(Reply::StaleAgent { now });
     }
     let least = least_resume(parts);
     let len = parts.queue.len();
     match parts.agent.plan_pull(max as usize, len, least) {
-        Plan::Dry => Ok(Told::Dry),
-        Plan::Pressed => Ok(Told::Pressed { by: slowest(parts) }),
+        Plan::Dry => Ok(Reply::Dry),
+        Plan::Pressed => Ok(Reply::Pressed { by: slowest(parts) }),
         Plan::Take { drops, count } => take(parts, excerpt, alloc, drops, count),
     }
 }
@@ -71,11 +74,12 @@ fn take(
     alloc: Global,
     drops: usize,
     count: usize,
-) -> Result<Told, AllocError>
+) -> Result<Outcome, AllocError>
     requires agrees { Agrees parts.old }
     requires takeable { IsTakeable parts.old.agent (length parts.old.queue.events) (slowest (plain_of parts.old)) drops count }
     ensures assembled { IsAssembled parts.new }
     ensures performs { Performs (plain_of parts.old) (plain_of parts.new) (replied result) (taken (plain_of parts.old) drops count) }
+    ensures told { IfOk result IsNoTurn }
     ensures memory { OnErr result (takes_memory (taken (plain_of parts.old) drops count).1 ≡ true) }
     ensures makes { OnErr result (length (plain_of parts.old).subs < length (taken (plain_of parts.old) drops count).0.subs) }
 {
@@ -84,14 +88,14 @@ fn take(
     let events = excerpt.as_slice();
     // The rules come first: they may find too many subscriptions, or no memory.
     match parts.subs.imply(alloc, events, high)? {
-        Implied::TooMany => Ok(Told::TooMany),
+        Implied::TooMany => Ok(Reply::TooMany),
         Implied::Implied => Ok(fill(parts, drops, count, events, excerpt.tags())),
     }
 }
 
 /// Drops blocks of the cache, and takes so many events into it, which are the next of the queue, with the
 /// tags of their streams.
-fn fill(parts: &mut Parts, drops: usize, count: usize, events: &[Event], tags: &[u8]) -> Told
+fn fill(parts: &mut Parts, drops: usize, count: usize, events: &[Event], tags: &[u8]) -> Outcome
     requires blocks { 64 * drops ≤ length parts.old.agent.cache.events }
     requires room { count ≤ room parts.old.agent.cache + 64 * drops }
     requires there { high parts.old.agent.cache + count ≤ length parts.old.queue.events }
@@ -101,10 +105,11 @@ fn fill(parts: &mut Parts, drops: usize, count: usize, events: &[Event], tags: &
     requires tags { tags.now ≡ tags_of events.now }
     ensures parts { parts.new ≡ filled parts.old drops count }
     ensures reply { reply_of result ≡ Pulled count (token_at (plain_of parts.new) parts.new.agent.cache.low) (token_at (plain_of parts.new) (high parts.new.agent.cache)) }
+    ensures told { IsNoTurn result }
 {
     parts.agent.pull(drops, events, tags);
     let cache = parts.agent.cache();
-    Told::Pulled {
+    Reply::Pulled {
         count,
         low: parts.queue.token_at(cache.low()),
         high: parts.queue.token_at(cache.high()),

@@ -1,5 +1,5 @@
 //! The turns of a grain, which workers ask for, and its end.
-ghost use Rattle.std.specs.Prelude.{◌≡◌, ◌+◌, ◌^◌, ◌<◌, ◌∷◌, List, None, OnErr, Some, length, pred, suc, true, if◌then◌else◌};
+ghost use Rattle.std.specs.Prelude.{◌≡◌, ◌+◌, ◌^◌, ◌<◌, ◌∷◌, List, None, OnErr, Some, length, pred, suc, true, if◌then◌else◌, IfOk};
 ghost use Rattle.std.specs.List.{AllByRecursion};
 ghost use Rattle.stream_ident.specs.Words.{past, Performs};
 ghost use Rattle.stream_model.specs.Positions.{is_spent};
@@ -9,18 +9,20 @@ ghost use Rattle.consumer_grain.specs.declared.mailbox.Delivery.{Delivery};
 ghost use Rattle.consumer_grain.specs.Subscriptions.{rises_from};
 ghost use Rattle.grain_table.specs.Changes.{activation_at};
 ghost use Rattle.subscription_table.specs.Table.{state_at};
+ghost use Rattle.stream_model.specs.Replies.{IsNoTurn};
 ghost use Rattle.step_core.specs.Assembly.{Agrees, IsAssembled};
 ghost use Rattle.step_core.specs.PlainOf.{plain_of};
 ghost use Rattle.step_core.specs.TurnReplies.{after_begun, handle, of_begun, IsOfParts};
 ghost use Rattle.step_core.specs.Replied.{replied, reply_of, reply_with, IsOfLog};
 
-use crate::outcome::{NewTurn, Outcome, Told};
+use crate::outcome::Outcome;
 use crate::parts::Parts;
 use crate::reading::is_spent;
 use consumer_grain::{Begun, RunningTurn};
 use partition_queue::PartitionQueue;
 use std::alloc::{AllocError, Global};
 use stream_ident::{GrainId, Row};
+use stream_model::Reply;
 use subscription_table::SubscriptionTable;
 
 /// A worker begins a turn of a grain. It takes no memory.
@@ -31,7 +33,7 @@ pub(crate) fn begin(parts: &mut Parts, grain: &GrainId, max: u32) -> Outcome
     ensures of_log { IsOfLog parts.new.queue.events result }
 {
     let Some(number) = parts.grains.find(grain) else {
-        return Outcome::Told(Told::Empty);
+        return Reply::Empty;
     };
     let activation = parts.grains.at(number).number();
     let past = past_of_front(parts, number);
@@ -50,23 +52,23 @@ fn outcome_of_begun(parts: &mut Parts, activation: u64, begun: Begun) -> Outcome
     ensures of_log { IsOfLog parts.new.queue.events result }
 {
     match begun {
-        Begun::Busy => Outcome::Told(Told::Busy),
-        Begun::Empty => Outcome::Told(Told::Empty),
-        Begun::Spent => Outcome::Told(Told::Spent),
-        Begun::Dropped(delivery) => Outcome::Told(Told::Dropped {
+        Begun::Busy => Reply::Busy,
+        Begun::Empty => Reply::Empty,
+        Begun::Spent => Reply::Spent,
+        Begun::Dropped(delivery) => Reply::Dropped {
             sub: *parts.subs.name(delivery.sub),
             token: parts.queue.token_at(delivery.position),
-        }),
+        },
         Begun::Turn { sub, positions } => {
             parts.rises += 1;
             parts.turns += 1;
-            Outcome::Turn(NewTurn {
+            Reply::Turn {
                 sub: *parts.subs.name(sub),
                 activation,
                 turn: parts.turns,
-                positions,
+                events: positions,
                 note: parts.subs.state(sub).note(),
-            })
+            }
         }
     }
 }
@@ -108,17 +110,18 @@ pub(crate) fn commit(
     activation: u64,
     turn: u64,
     note: u64,
-) -> Result<Told, AllocError>
+) -> Result<Outcome, AllocError>
     requires { Agrees parts.old }
     ensures assembled { IsAssembled parts.new }
     ensures performs { Performs (plain_of parts.old) (plain_of parts.new) (replied result) (commit (plain_of parts.old) grain.now activation turn note) }
+    ensures told { IfOk result IsNoTurn }
     ensures memory { OnErr result (takes_memory (commit (plain_of parts.old) grain.now activation turn note).1 ≡ true) }
 {
     let Some(number) = parts.grains.find(grain) else {
-        return Ok(Told::Stale);
+        return Ok(Reply::Stale);
     };
     let Some(run) = parts.grains.at(number).current_turn(activation, turn) else {
-        return Ok(Told::Stale);
+        return Ok(Reply::Stale);
     };
     let told = handle(&mut parts.subs, alloc, &parts.queue, run, note)?;
     parts.grains.end_turn(number);
@@ -135,19 +138,20 @@ fn handle(
     queue: &PartitionQueue,
     run: &RunningTurn,
     note: u64,
-) -> Result<Told, AllocError>
+) -> Result<Outcome, AllocError>
     requires within { run.now.sub < length subs.old.registry.names }
     requires positions { AllByRecursion (λ position. position < length queue.now.events) run.now.positions }
     requires rising { rises_from (past (state_at subs.old run.now.sub).handled) run.now.positions ≡ true }
     requires room { past run.now.positions < 2 ^ 64 }
     ensures performs { Performs subs.old subs.new (replied result) (handle subs.old queue.now run.now note) }
+    ensures told { IfOk result IsNoTurn }
     ensures memory { OnErr result ((state_at subs.old run.now.sub).is_open ≡ true) }
 {
     if !subs.state(run.sub).is_open() {
-        return Ok(Told::Closed);
+        return Ok(Reply::Closed);
     }
     subs.commit(alloc, run.sub, &run.positions, note)?;
-    Ok(Told::Committed {
+    Ok(Reply::Committed {
         sub: *subs.name(run.sub),
         token: queue.token_at(last_position(&run.positions)),
     })
@@ -164,18 +168,19 @@ fn last_position(positions: &Row<usize>) -> usize
 /// A grain leaves memory: what waits and what runs is lost, and the cursors of its open subscriptions go
 /// back to their resumes. It takes no memory, and looks only at the subscriptions that something was offered
 /// for: the cursors of the others are at their resumes.
-pub(crate) fn deactivate(parts: &mut Parts, grain: &GrainId) -> Told
+pub(crate) fn deactivate(parts: &mut Parts, grain: &GrainId) -> Outcome
     requires { Agrees parts.old }
     ensures assembled { IsAssembled parts.new }
     ensures performs { (plain_of parts.new, reply_of result) ≡ deactivate (plain_of parts.old) grain.now }
+    ensures told { IsNoTurn result }
 {
     let Some(number) = parts.grains.find(grain) else {
-        return Told::NotActive;
+        return Reply::NotActive;
     };
     if !parts.grains.at(number).is_active() {
-        return Told::NotActive;
+        return Reply::NotActive;
     }
     parts.subs.rewind(parts.grains.at(number).subs());
     let lost = parts.grains.deactivate(number);
-    Told::Deactivated { lost }
+    Reply::Deactivated { lost }
 }

@@ -19,7 +19,7 @@ use Rattle.cluster_ending.specs.Gathering.{AreAt, gathered, passes_of}
 use Rattle.stream_ident.proofs.EachOf.{All-push}
 use Rattle.stream_ident.proofs.WordLemmas.{All-at}
 use Rattle.stream_model.specs.declared.op.Op.{Op}
-use Rattle.stream_model.specs.declared.reply.Reply.{Reply}
+use Rattle.stream_model.specs.Replies.{Reply}
 use Rattle.turnstile.specs.declared.history.Entry.{Entry}
 use Rattle.silo_loops.specs.Lines.{DirectoryPass, LineView, QueuePass, places}
 use Rattle.silo_loops.proofs.Running.{agent-stays, worker-stays}

@@ -5,7 +5,7 @@ use Rattle.std.specs.declared.alloc.AllocError.{AllocError}
 use Rattle.stream_model.specs.Bounds.{AreLimits}
 use Rattle.stream_model.specs.declared.limits.Limits.{Limits}
 use Rattle.stream_model.specs.declared.op.Op.{Op}
-use Rattle.stream_model.specs.declared.reply.Reply.{Reply}
+use Rattle.stream_model.specs.Replies.{Reply}
 use Rattle.stream_model.specs.Positions.{empty}
 use Rattle.stream_model.specs.declared.plain.PlainPartition.{PlainPartition}
 use Rattle.activation_directory.specs.Plain.{PlainDirectory}

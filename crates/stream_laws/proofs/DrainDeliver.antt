@@ -9,7 +9,7 @@ use Rattle.stream_model.specs.declared.plain.Delivery.{Delivery}
 use Rattle.stream_model.specs.declared.plain.Grain.{Grain}
 use Rattle.stream_model.specs.declared.plain.PlainPartition.{PlainPartition}
 use Rattle.stream_model.specs.declared.plain.Subscription.{Subscription}
-use Rattle.stream_model.specs.declared.reply.Reply.{Reply}
+use Rattle.stream_model.specs.Replies.{Reply}
 use Rattle.stream_model.specs.declared.reply.Reply.TheVariants as reply
 use Rattle.stream_ident.specs.Event.{is_owed}
 use Rattle.stream_model.specs.Positions.{between, grain_at, is_spent, next_position, sub_at, token_at, with_sub}

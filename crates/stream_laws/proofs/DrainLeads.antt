@@ -8,7 +8,7 @@ use Rattle.stream_model.specs.declared.op.Op.{Op}
 use Rattle.stream_model.specs.declared.op.Op.TheVariants.{Pull, Deliver, Ack, Begin, Commit}
 use Rattle.stream_model.specs.declared.plain.PlainPartition.{PlainPartition}
 use Rattle.stream_model.specs.declared.plain.Subscription.{Subscription}
-use Rattle.stream_model.specs.declared.reply.Reply.{Reply}
+use Rattle.stream_model.specs.Replies.{Reply}
 use Rattle.stream_model.specs.declared.reply.Reply.TheVariants as reply
 use Rattle.stream_model.specs.Draining.{Progress, Stop, acknowledge, after_ack, after_begin, after_commit, after_deliver, after_last_deliver, after_pull, all_waiting, and_then, ask, deliver_all, deliver_once_more, drain, drain_all, drain_round, drain_where, empty_mailboxes, go_on, last_handled, least_waiting, next_note, open_names, serve, serve_each, take_turn, take_turns}
 use Rattle.stream_laws.specs.DrainLaws.{DrainStands}

@@ -3,7 +3,7 @@
 use Rattle.std.proofs.Common.{◌≡◌, ℕ, suc, ◌+◌, true, false, List, [], ◌∷◌, ◌++◌, length, filter, Option, Some, None, if◌then◌else◌, refl, sym, subst, arith}
 use Rattle.stream_model.specs.declared.op.Op.{Op}
 use Rattle.stream_model.specs.declared.plain.PlainPartition.{PlainPartition}
-use Rattle.stream_model.specs.declared.reply.Reply.{Reply}
+use Rattle.stream_model.specs.Replies.{Reply}
 use Rattle.stream_model.specs.Draining.{Progress, Stop, AtTooMany, AtSpent, Astray, and_then, ask, commits, go_on, is_commit}
 use Rattle.stream_model.specs.History.{Entry}
 use Rattle.stream_model.specs.Step.{step}

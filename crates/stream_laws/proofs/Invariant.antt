@@ -15,7 +15,7 @@ use Rattle.stream_model.specs.declared.plain.PlainPartition.{PlainPartition}
 use Rattle.stream_ident.specs.declared.rule.Rule.{Rule}
 use Rattle.stream_model.specs.declared.plain.RunningTurn.{RunningTurn}
 use Rattle.stream_model.specs.declared.plain.Subscription.{Subscription}
-use Rattle.stream_model.specs.declared.reply.Reply.{Reply}
+use Rattle.stream_model.specs.Replies.{Reply}
 use Rattle.stream_ident.specs.Event.{batch_token, is_owed}
 use Rattle.stream_model.specs.NewestFirst.{Binding, bound_by_rule}
 use Rattle.stream_model.specs.Positions.{events_at, grain_at, low_token, no_event, running_in, sub_at, waiting_in}

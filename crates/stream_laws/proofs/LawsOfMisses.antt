@@ -8,7 +8,7 @@ use Rattle.stream_ident.specs.Token.{token_lt}
 use Rattle.stream_model.specs.declared.op.Op.TheVariants.{Subscribe}
 use Rattle.stream_model.specs.declared.op.Start.TheVariants.{At, Latest}
 use Rattle.stream_model.specs.declared.plain.PlainPartition.{PlainPartition}
-use Rattle.stream_model.specs.declared.reply.Reply.{Reply}
+use Rattle.stream_model.specs.Replies.{Reply}
 use Rattle.stream_model.specs.declared.reply.Reply.TheVariants.{Miss}
 use Rattle.stream_laws.specs.Laws.{LatestIsNeverMissed, MissesBelowLow}
 use Rattle.stream_ident.specs.Event.{batch_token}

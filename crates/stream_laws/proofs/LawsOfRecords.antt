@@ -22,7 +22,7 @@ use Rattle.stream_model.specs.declared.op.Start.{Start}
 use Rattle.stream_model.specs.declared.op.Start.TheVariants.{At, Latest}
 use Rattle.stream_model.specs.declared.plain.PlainPartition.{PlainPartition}
 use Rattle.stream_model.specs.declared.plain.Subscription.{Subscription}
-use Rattle.stream_model.specs.declared.reply.Reply.{Reply}
+use Rattle.stream_model.specs.Replies.{Reply}
 use Rattle.stream_model.specs.declared.reply.Reply.TheVariants.{RuleAdded, Subscribed}
 use Rattle.stream_model.specs.NewestFirst.{Binding, Entry, binding_after, binding_of, owed_of}
 use Rattle.stream_model.specs.Positions.{low_token, lower_bound, sub_at}

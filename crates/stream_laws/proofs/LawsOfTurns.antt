@@ -7,7 +7,7 @@ use Rattle.stream_ident.specs.SubName.{same_sub}
 use Rattle.stream_model.specs.declared.op.Op.{Op}
 use Rattle.stream_model.specs.declared.op.Op.TheVariants.{Commit, Unsubscribe}
 use Rattle.stream_model.specs.declared.plain.PlainPartition.{PlainPartition}
-use Rattle.stream_model.specs.declared.reply.Reply.{Reply}
+use Rattle.stream_model.specs.Replies.{Reply}
 use Rattle.stream_model.specs.declared.reply.Reply.TheVariants.{Committed, Turn, Unsubscribed}
 use Rattle.stream_model.specs.NewestFirst.{Entry, closed_after, handled_after, handled_events}
 use Rattle.stream_laws.specs.Laws.{CommitsBegun, CommittedOnce, NoneAfterClose, TurnsInOrder}

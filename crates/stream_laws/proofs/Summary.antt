@@ -5,7 +5,7 @@ use Rattle.stream_ident.specs.declared.ident.SubName.{SubName}
 use Rattle.stream_ident.specs.declared.token.Token.{Token}
 use Rattle.stream_model.specs.declared.op.Op.{Op}
 use Rattle.stream_model.specs.declared.op.Op.TheVariants.{Commit}
-use Rattle.stream_model.specs.declared.reply.Reply.{Reply}
+use Rattle.stream_model.specs.Replies.{Reply}
 use Rattle.stream_model.specs.declared.reply.Reply.TheVariants.{Turn, Committed}
 use Rattle.stream_model.specs.NewestFirst.{Binding, Entry, batch_count, batches_after, begun_after, binding_after, binding_of, closed_after, committed_after, handled_after, handled_events, is_closed, last_note, low_after, low_told, note_after, owed_of, published_after, published_events, times_begun, times_committed, turn_after, turn_events}
 

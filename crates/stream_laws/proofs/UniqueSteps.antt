@@ -22,7 +22,7 @@ use Rattle.stream_model.specs.declared.plain.PlainPartition.{PlainPartition}
 use Rattle.stream_ident.specs.declared.rule.Rule.{Rule}
 use Rattle.stream_model.specs.declared.plain.RunningTurn.{RunningTurn}
 use Rattle.stream_model.specs.declared.plain.Subscription.{Subscription}
-use Rattle.stream_model.specs.declared.reply.Reply.{Reply}
+use Rattle.stream_model.specs.Replies.{Reply}
 use Rattle.stream_ident.specs.Event.{batch_token}
 use Rattle.stream_model.specs.NewestFirst.{Entry}
 use Rattle.stream_model.specs.Positions.{between, empty, grain_at, is_spent, low_token, lower_bound, new_subscription, next_position, sub_at, with_sub}

@@ -15,7 +15,7 @@ use Rattle.stream_model.specs.declared.op.Op.TheVariants.{Publish, Subscribe, Un
 use Rattle.stream_model.specs.declared.op.Start.TheVariants.{Latest, At}
 use Rattle.stream_model.specs.declared.plain.PlainPartition.{PlainPartition}
 use Rattle.stream_model.specs.declared.plain.Subscription.{Subscription}
-use Rattle.stream_model.specs.declared.reply.Reply.{Reply}
+use Rattle.stream_model.specs.Replies.{Reply}
 use Rattle.stream_model.specs.declared.reply.Reply.TheVariants as reply
 use Rattle.stream_model.specs.Draining.{drain, drain_all, after_pull, serve_each, serve, deliver_all, after_deliver, acknowledge, deliver_once_more, take_turn, take_turns}
 use Rattle.stream_model.specs.NewestFirst.{Entry, handled_events, is_closed, last_note, owed_events, published_events}

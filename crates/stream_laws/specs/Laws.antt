@@ -18,7 +18,7 @@ use Rattle.stream_model.specs.declared.op.Start.TheVariants.{Latest, At}
 use Rattle.stream_model.specs.declared.plain.Delivery.{Delivery}
 use Rattle.stream_model.specs.declared.plain.PlainPartition.{PlainPartition}
 use Rattle.stream_model.specs.declared.plain.Subscription.{Subscription}
-use Rattle.stream_model.specs.declared.reply.Reply.{Reply}
+use Rattle.stream_model.specs.Replies.{Reply}
 use Rattle.stream_model.specs.declared.reply.Reply.TheVariants.{Subscribed, Miss, Turn, Committed, Closed, Deactivated, IsQuiet}
 use Rattle.stream_model.specs.Bounds.{AreLimits, IsWithinLimits}
 use Rattle.stream_model.specs.History.{Entry, binding_of, handled_events, is_closed, last_note, low_told, owed_events, published_events, times_begun, times_committed}

@@ -19,6 +19,7 @@ pub mod PurgingBounds
 pub mod Reaching
 pub mod RecordBounds
 pub mod Refusals
+pub mod Retyping
 pub mod RulesBounds
 pub mod StepBounds
 pub mod SubNames

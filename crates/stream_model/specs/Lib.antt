@@ -10,6 +10,7 @@ pub mod Positions
 pub mod Producers
 pub mod Publishing
 pub mod Pulling
+pub mod Replies
 pub mod Step
 pub mod Turns
 pub use Rattle.stream_ident.specs.Alphabet

@@ -14,7 +14,7 @@ use Rattle.stream_model.specs.declared.op.Op.{Op}
 use Rattle.stream_model.specs.declared.op.Op.TheVariants.{Publish, Subscribe, Unsubscribe, AddRule, Commit}
 use Rattle.stream_model.specs.declared.op.Start.{Start}
 use Rattle.stream_model.specs.declared.op.Start.TheVariants.{Latest, At}
-use Rattle.stream_model.specs.declared.reply.Reply.{Reply}
+use Rattle.stream_model.specs.Replies.{Reply}
 use Rattle.stream_model.specs.declared.reply.Reply.TheVariants.{Published, Subscribed, Unsubscribed, RuleAdded, Pulled, Purged, Moved, Turn, Committed}
 use Rattle.stream_ident.specs.Words.{or_else}
 

@@ -10,7 +10,7 @@ use Rattle.stream_model.specs.declared.plain.Grain.{Grain}
 use Rattle.stream_model.specs.declared.plain.PlainPartition.{PlainPartition}
 use Rattle.stream_model.specs.declared.plain.RunningTurn.{RunningTurn}
 use Rattle.stream_model.specs.declared.plain.Subscription.{Subscription}
-use Rattle.stream_model.specs.declared.reply.Reply.{Reply}
+use Rattle.stream_model.specs.Replies.{Reply}
 use Rattle.stream_model.specs.declared.reply.Reply.TheVariants as reply
 use Rattle.stream_model.specs.Positions.{token_at, events_at, sub_at, grain_at, with_sub, with_grain, is_spent}
 use Rattle.stream_model.specs.Pulling.{rewound_where}

@@ -1,5 +1,6 @@
 //! The replies of a partition.
 ghost use Rattle.std.specs.Prelude.{◌≡◌};
+ghost use Rattle.stream_model.specs.Replies.{with_events, IsNoTurn};
 
 use stream_ident::{Event, GrainId, Row, SubName, Token};
 
@@ -20,8 +21,10 @@ pub enum Pending {
 }
 
 /// The reply to an operation. A refusal changes nothing, save where it says so.
+///
+/// `E` is what it has of the events of a turn: the events themselves, where no other type is named.
 #[derive(Debug, Drop, PartialEq, Eq)]
-pub enum Reply {
+pub enum Reply<E = Events> {
     /// The batch was accepted.
     Published {
         /// Its number.
@@ -117,7 +120,7 @@ pub enum Reply {
         /// The number of the turn.
         turn: u64,
         /// Its events, 1 to 16.
-        events: Events,
+        events: E,
         /// The note of the subscription's last commit, 0 at first.
         note: u64,
     },
@@ -176,10 +179,11 @@ pub enum Reply {
     NotQuiet(Pending),
 }
 
-impl Reply {
-    /// An equal reply. It takes no memory.
-    pub fn copy(&self) -> Reply
-        ensures { result ≡ self.now }
+impl<E> Reply<E> {
+    /// The same reply, which is no turn, whatever the type of the events that a turn would have. It takes no memory.
+    pub fn no_turn<F>(&self) -> Reply<F>
+        requires { IsNoTurn self.now }
+        ensures { (events : E → F) → result ≡ with_events events self.now }
     {
         match *self {
             Reply::Published { seq } => Reply::Published { seq },
@@ -213,19 +217,6 @@ impl Reply {
             Reply::Acked => Reply::Acked,
             Reply::NotHandled => Reply::NotHandled,
             Reply::Purged { low } => Reply::Purged { low },
-            Reply::Turn {
-                sub,
-                activation,
-                turn,
-                ref events,
-                note,
-            } => Reply::Turn {
-                sub,
-                activation,
-                turn,
-                events: events.copy(),
-                note,
-            },
             Reply::Dropped { sub, token } => Reply::Dropped { sub, token },
             Reply::Empty => Reply::Empty,
             Reply::Busy => Reply::Busy,
@@ -241,6 +232,31 @@ impl Reply {
             Reply::Spent => Reply::Spent,
             Reply::IsQuiet => Reply::IsQuiet,
             Reply::NotQuiet(why) => Reply::NotQuiet(why),
+            Reply::Turn { .. } => unreachable!(),
+        }
+    }
+}
+
+impl<T: Copy> Reply<Row<T>> {
+    /// An equal reply. It takes no memory.
+    pub fn copy(&self) -> Reply<Row<T>>
+        ensures { result ≡ self.now }
+    {
+        match *self {
+            Reply::Turn {
+                sub,
+                activation,
+                turn,
+                ref events,
+                note,
+            } => Reply::Turn {
+                sub,
+                activation,
+                turn,
+                events: events.copy(),
+                note,
+            },
+            _ => self.no_turn(),
         }
     }
 }

@@ -8,7 +8,7 @@ use Rattle.stream_model.specs.Bounds.{AreLimits}
 use Rattle.stream_model.specs.declared.drain_end.DrainEnd.{DrainEnd}
 use Rattle.stream_model.specs.declared.op.Op.{Op}
 use Rattle.stream_model.specs.declared.plain.PlainPartition.{PlainPartition}
-use Rattle.stream_model.specs.declared.reply.Reply.{Reply}
+use Rattle.stream_model.specs.Replies.{Reply}
 use Rattle.stream_model.specs.Draining.{Progress, drain}
 use Rattle.stream_model.specs.Positions.{empty}
 use Rattle.stream_model.specs.Step.{step}

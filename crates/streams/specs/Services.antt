@@ -9,7 +9,7 @@ use Rattle.stream_model.specs.declared.op.Op.{Op}
 use Rattle.stream_model.specs.declared.op.Op.TheVariants as op
 use Rattle.stream_model.specs.declared.op.Start.{Start}
 use Rattle.stream_model.specs.declared.reply.Pending.{Pending}
-use Rattle.stream_model.specs.declared.reply.Reply.{Reply}
+use Rattle.stream_model.specs.Replies.{Reply}
 use Rattle.queue_mapper.specs.Place.{place_of}
 use Rattle.turnstile.specs.declared.history.Entry.{Entry}
 use Rattle.turnstile.specs.declared.recorded.ProofHistory.{ProofHistory}

@@ -12,7 +12,7 @@ ghost use Rattle.step_core.specs.Serving.{name_of, CatchesUp};
 
 use crate::acknowledging::ack;
 use crate::delivering::{catch_up, deliver};
-use crate::outcome::{Outcome, Told};
+use crate::outcome::Outcome;
 use crate::partition::Partition;
 use crate::parts::Parts;
 use crate::pulling::pull;
@@ -26,7 +26,7 @@ impl Partition {
     ///
     /// # Errors
     /// The call failed to allocate, as `step` may, and nothing has changed.
-    pub(crate) fn pull(&mut self, alloc: Global, max: u32) -> Result<Told, AllocError>
+    pub(crate) fn pull(&mut self, alloc: Global, max: u32) -> Result<Outcome, AllocError>
         ensures memory { OnErr result (may_allocate self.old (Pull self.old.generation max) ≡ true) }
         ensures performs { Performs self.old self.new (replied result) (step self.old (Pull self.old.generation max)) }
     {
@@ -39,7 +39,7 @@ impl Partition {
     ///
     /// # Errors
     /// The call failed to allocate, as `step` may, and nothing has changed.
-    pub(crate) fn deliver(&mut self, alloc: Global, sub: &SubName) -> Result<Told, AllocError>
+    pub(crate) fn deliver(&mut self, alloc: Global, sub: &SubName) -> Result<Outcome, AllocError>
         ensures memory { OnErr result (may_allocate self.old (Deliver self.old.generation sub.now) ≡ true) }
         ensures performs { Performs self.old self.new (replied result) (step self.old (Deliver self.old.generation sub.now)) }
     {
@@ -61,7 +61,7 @@ impl Partition {
     }
 
     /// The agent learns that a subscription has handled an event and all that it was owed before.
-    pub(crate) fn ack(&mut self, sub: &SubName, token: Token) -> Told
+    pub(crate) fn ack(&mut self, sub: &SubName, token: Token) -> Outcome
         ensures { (self.new, reply_of result) ≡ step self.old (Ack self.old.generation sub.now token) }
     {
         let told = ack_now(&mut self.parts, sub, token);
@@ -89,7 +89,7 @@ impl Partition {
         activation: u64,
         turn: u64,
         note: u64,
-    ) -> Result<Told, AllocError>
+    ) -> Result<Outcome, AllocError>
         ensures memory { OnErr result (may_allocate self.old (Commit grain.now activation turn note) ≡ true) }
         ensures performs { Performs self.old self.new (replied result) (step self.old (Commit grain.now activation turn note)) }
     {
@@ -105,7 +105,7 @@ fn pull_now(
     excerpt: &mut Excerpt,
     alloc: Global,
     max: u32,
-) -> Result<Told, AllocError>
+) -> Result<Outcome, AllocError>
     requires { Agrees parts.old }
     ensures assembled { IsAssembled parts.new }
     ensures performs { Performs (plain_of parts.old) (plain_of parts.new) (replied result) (step (plain_of parts.old) (Pull parts.old.agent.generation max)) }
@@ -116,7 +116,7 @@ fn pull_now(
 }
 
 /// The current agent delivers.
-fn deliver_now(parts: &mut Parts, alloc: Global, sub: &SubName) -> Result<Told, AllocError>
+fn deliver_now(parts: &mut Parts, alloc: Global, sub: &SubName) -> Result<Outcome, AllocError>
     requires { Agrees parts.old }
     ensures assembled { IsAssembled parts.new }
     ensures performs { Performs (plain_of parts.old) (plain_of parts.new) (replied result) (step (plain_of parts.old) (Deliver parts.old.agent.generation sub.now)) }
@@ -127,7 +127,7 @@ fn deliver_now(parts: &mut Parts, alloc: Global, sub: &SubName) -> Result<Told, 
 }
 
 /// The current agent acknowledges.
-fn ack_now(parts: &mut Parts, sub: &SubName, token: Token) -> Told
+fn ack_now(parts: &mut Parts, sub: &SubName, token: Token) -> Outcome
     requires { Agrees parts.old }
     ensures assembled { IsAssembled parts.new }
     ensures performs { (plain_of parts.new, reply_of result) ≡ step (plain_of parts.old) (Ack parts.old.agent.generation sub.now token) }
@@ -153,7 +153,7 @@ fn commit_now(
     activation: u64,
     turn: u64,
     note: u64,
-) -> Result<Told, AllocError>
+) -> Result<Outcome, AllocError>
     requires { Agrees parts.old }
     ensures assembled { IsAssembled parts.new }
     ensures performs { Performs (plain_of parts.old) (plain_of parts.new) (replied result) (step (plain_of parts.old) (Commit grain.now activation turn note)) }

@@ -1,7 +1,7 @@
 use Rattle.std.proofs.Common.{◌≡◌, ◌∙◌, Result, Ok, Err, arith, ap, sym, subst, rules}
 use Rattle.std.proofs.lemmas.Grind.{common_steps}
 use Rattle.std.proofs.lemmas.Result.{err_from_is_err_and}
-use Rattle.stream_model.specs.declared.reply.Reply.{Reply}
+use Rattle.stream_model.specs.Replies.{Reply}
 use Rattle.turnstile.specs.declared.turnstile.Refusal.{Refusal}
 use Rattle.cluster_ending.specs.declared.asking.Quiet.{Quiet}
 use Rattle.cluster_ending.specs.Asking.{AsksQuiet, AsksUpTo}

@@ -1,6 +1,6 @@
 use Rattle.std.proofs.Common.{◌≢◌, ◌∙◌, Ok, refl, subst, sym}
 use Rattle.stream_model.specs.declared.op.Op.TheVariants as op
-use Rattle.stream_model.specs.declared.reply.Reply.{Reply}
+use Rattle.stream_model.specs.Replies.{Reply}
 use Rattle.shared_partition.specs.Partitions.{after, replied}
 use Rattle.silo_loops.specs.Lines.{CallsOn}
 use Rattle.cluster_operator.specs.declared.halt.Halt.{Halt}

@@ -2,7 +2,7 @@ use Rattle.std.proofs.lemmas.Bool.{eq-eqb, ne_eqb}
 use Rattle.std.proofs.Common.{◌≡◌, true, sym, subst, ◌∙◌, ap, not}
 use Rattle.std.specs.Prelude.{OnErr}
 use Rattle.stream_model.specs.declared.plain.PlainPartition.{PlainPartition}
-use Rattle.stream_model.specs.declared.reply.Reply.{Reply}
+use Rattle.stream_model.specs.Replies.{Reply}
 use Rattle.stream_model.specs.Step.{takes_memory}
 use Rattle.stream_ident.specs.Words.{Performs}
 use Rattle.stream_ident.specs.SubName.{same_sub}

@@ -2,7 +2,7 @@ use Rattle.std.proofs.Common.{drop, sym, ap, ◌∙◌}
 use Rattle.stream_ident.specs.Name.{same_grain}
 use Rattle.stream_model.specs.declared.plain.Grain.{Grain}
 use Rattle.stream_model.specs.declared.plain.PlainPartition.{PlainPartition}
-use Rattle.stream_model.specs.declared.reply.Reply.{Reply}
+use Rattle.stream_model.specs.Replies.{Reply}
 use Rattle.stream_model.specs.declared.reply.Reply.TheVariants as reply
 use Rattle.stream_model.specs.Positions.{grain_at}
 use Rattle.stream_model.proofs.Beginning.{begin_front-unknown, begin_front-handled, begin_front-spent, begin_front-turn, grain_at-place}

@@ -1,6 +1,6 @@
 use Rattle.std.proofs.Common.{◌∙◌, ap}
 use Rattle.stream_model.specs.declared.plain.PlainPartition.{PlainPartition}
-use Rattle.stream_model.specs.declared.reply.Reply.{Reply}
+use Rattle.stream_model.specs.Replies.{Reply}
 use Rattle.subscription_table.specs.Progress.{ack}
 use Rattle.subscription_table.specs.Table.{state_at}
 use Rattle.step_core.specs.PlainOf.{plain_of}
@@ -26,5 +26,5 @@ returns-clause-assembled c =
 pub returns-clause-performs : goal.returns-clause-performs
 returns-clause-performs c =
     let parts = c.args.parts.now in
-    ap {B = PlainPartition × Reply} (λ told. (plain_of (record parts { subs = c.ack.new.self }), told)) c.told_of_ack.ensures
+    ap {B = PlainPartition × Reply} (λ told. (plain_of (record parts { subs = c.ack.new.self }), told)) c.told_of_ack.ensures.reply
     ∙ ack-performs parts c.args.generation c.args.sub.now c.args.token c.in_default.field-0 c.in_default.ensures c.in-Some.number c.ack.new.self c.ack.result c.requires.records c.in-Some.ensures.number c.ack.ensures

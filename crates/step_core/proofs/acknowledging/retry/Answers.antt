@@ -1,6 +1,6 @@
 use Rattle.std.proofs.Common.{◌∙◌, ap}
 use Rattle.stream_model.specs.declared.plain.PlainPartition.{PlainPartition}
-use Rattle.stream_model.specs.declared.reply.Reply.{Reply}
+use Rattle.stream_model.specs.Replies.{Reply}
 use Rattle.subscription_table.specs.Progress.{retry}
 use Rattle.subscription_table.specs.Table.{state_at}
 use Rattle.step_core.specs.PlainOf.{plain_of}
@@ -23,5 +23,5 @@ returns-clause-assembled c =
 pub returns-clause-performs : goal.returns-clause-performs
 returns-clause-performs c =
     let parts = c.args.parts.now in
-    ap {B = PlainPartition × Reply} (λ told. (plain_of (record parts { subs = c.retry.new.self }), told)) c.told_of_retry.ensures
+    ap {B = PlainPartition × Reply} (λ told. (plain_of (record parts { subs = c.retry.new.self }), told)) c.told_of_retry.ensures.reply
     ∙ retry-performs parts c.args.generation c.args.sub.now c.in_default.field-0 c.in_default.ensures c.in-Some.number c.retry.new.self c.retry.result c.requires.records c.in-Some.ensures.number c.retry.ensures

@@ -18,8 +18,8 @@ to_acknowledge-requires c =
     subst (λ (s : PlainState). AllByRecursion (λ position. position < length parts.queue.events) s.handled) (sym c.state.ensures)
     (handled-within parts c.in-Some.number c.requires.within (sym c.requires.records.long) c.in-Some.ensures.within)
 
-pub returns-in-Some : goal.returns-in-Some
-returns-in-Some c =
+pub returns-in-Some-clause-reply : goal.returns-in-Some-clause-reply
+returns-in-Some-clause-reply c =
     let parts = c.args.parts.now in
     let leaves = leaves_of parts.subs.registry.names parts.subs.states in
     let is_high = c.high-high.ensures ∙ ap high c.cache.ensures in
@@ -28,8 +28,8 @@ returns-in-Some c =
     let ack = c.to_acknowledge.ensures ∙ ap (λ (s : PlainState). if is_unacknowledged s then Some (token_at parts.queue (pred (past s.handled))) else None) c.state.ensures in
     due-some parts c.args.after c.in-Some.number c.name.result.now c.to_acknowledge.result (distinct-of-unique parts.subs.registry.names c.requires.unique) (sym c.requires.records.long) c.in-Some.ensures.within is_due c.name.ensures ack
 
-pub returns-in-None : goal.returns-in-None
-returns-in-None c =
+pub returns-in-None-clause-reply : goal.returns-in-None-clause-reply
+returns-in-None-clause-reply c =
     let parts = c.args.parts.now in
     let leaves = leaves_of parts.subs.registry.names parts.subs.states in
     let is_high = c.high-high.ensures ∙ ap high c.cache.ensures in

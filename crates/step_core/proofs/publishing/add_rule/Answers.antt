@@ -1,6 +1,6 @@
 use Rattle.std.proofs.Common.{◌≡◌, ◌∙◌, ap, sym, subst}
 use Rattle.stream_model.specs.declared.plain.PlainPartition.{PlainPartition}
-use Rattle.stream_model.specs.declared.reply.Reply.{Reply}
+use Rattle.stream_model.specs.Replies.{Reply}
 use Rattle.stream_model.proofs.Answering.{on-error}
 use Rattle.pubsub_registry.specs.declared.told.RuleAdded.{RuleAdded}
 use Rattle.subscription_table.specs.Table.{PlainTable}
@@ -23,5 +23,5 @@ returns-clause-assembled c =
 pub returns-clause-performs : goal.returns-clause-performs
 returns-clause-performs c =
     let parts = c.args.parts.now in
-    ap {B = PlainPartition × Reply} (λ told. (plain_of (record parts { subs = c.add_rule.new.self }), told)) c.told_of_rule.ensures
+    ap {B = PlainPartition × Reply} (λ told. (plain_of (record parts { subs = c.add_rule.new.self }), told)) c.told_of_rule.ensures.reply
     ∙ rule-performs parts c.args.kind c.args.namespace c.batches-from.result c.add_rule.new.self c.in_ok-added.added c.requires.assembled c.batches-from.ensures.count c.in_ok-added.ensures.performs

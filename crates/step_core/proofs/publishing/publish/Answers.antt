@@ -1,6 +1,6 @@
 use Rattle.std.proofs.Common.{◌≡◌, ◌∙◌, ap, sym, subst}
 use Rattle.stream_model.specs.declared.plain.PlainPartition.{PlainPartition}
-use Rattle.stream_model.specs.declared.reply.Reply.{Reply}
+use Rattle.stream_model.specs.Replies.{Reply}
 use Rattle.stream_model.proofs.Answering.{on-error}
 use Rattle.partition_queue.specs.declared.appended.Appended.{Appended}
 use Rattle.partition_queue.specs.Queue.{PlainQueue}
@@ -24,5 +24,5 @@ returns-clause-assembled c =
 pub returns-clause-performs : goal.returns-clause-performs
 returns-clause-performs c =
     let parts = c.args.parts.now in
-    ap {B = PlainPartition × Reply} (λ told. (plain_of (record parts { queue = c.append.new.self }), told)) c.told_of_batch.ensures
+    ap {B = PlainPartition × Reply} (λ told. (plain_of (record parts { queue = c.append.new.self }), told)) c.told_of_batch.ensures.reply
     ∙ append-performs parts c.args.stream c.args.payloads.now c.append.new.self c.in_ok-appended.appended c.requires.assembled c.in_ok-appended.ensures.performs

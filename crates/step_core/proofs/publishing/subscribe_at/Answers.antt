@@ -1,6 +1,6 @@
 use Rattle.std.proofs.Common.{◌≡◌, ◌∙◌, ap, sym, subst, arith}
 use Rattle.stream_model.specs.declared.plain.PlainPartition.{PlainPartition}
-use Rattle.stream_model.specs.declared.reply.Reply.{Reply}
+use Rattle.stream_model.specs.Replies.{Reply}
 use Rattle.stream_model.proofs.Answering.{on-error}
 use Rattle.pubsub_registry.specs.declared.told.Added.{Added}
 use Rattle.subscription_table.specs.Table.{PlainTable}
@@ -33,5 +33,5 @@ returns-clause-assembled c =
 pub returns-clause-performs : goal.returns-clause-performs
 returns-clause-performs c =
     let parts = c.args.parts.now in
-    ap {B = PlainPartition × Reply} (λ told. (plain_of (record parts { subs = c.subscribe.new.self }), told)) c.told_of_sub.ensures
+    ap {B = PlainPartition × Reply} (λ told. (plain_of (record parts { subs = c.subscribe.new.self }), told)) c.told_of_sub.ensures.reply
     ∙ added-performs parts c.args.stream c.args.grain c.args.start c.args.position c.subscribe.new.self c.in_ok-added.added c.requires.agrees c.requires.agrees.records c.in_ok-added.ensures.performs

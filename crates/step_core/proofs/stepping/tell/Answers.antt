@@ -1,6 +1,6 @@
 use Rattle.std.proofs.Common.{sym, ap, ◌∙◌}
 use Rattle.stream_model.specs.declared.plain.PlainPartition.{PlainPartition}
-use Rattle.stream_model.specs.declared.reply.Reply.{Reply}
+use Rattle.stream_model.specs.Replies.{Reply}
 use Rattle.stream_model.specs.Step.{step}
 use Rattle.step_core.specs.PlainOf.{plain_of}
 use Rattle.step_core.proofs.stepping.tell.Goals as goal
@@ -32,14 +32,14 @@ returns-in-Move-clause-performs c = c.move_queue.ensures.performs ∙ ap (step (
 pub returns-in-Ready-clause-performs : goal.returns-in-Ready-clause-performs
 unfolding step
 returns-in-Ready-clause-performs c =
-    ap {B = PlainPartition × Reply} (λ told. (plain_of c.args.parts.now, told)) c.ready.ensures ∙ ap (step (plain_of c.args.parts.now)) (sym c.in-Ready.is)
+    ap {B = PlainPartition × Reply} (λ told. (plain_of c.args.parts.now, told)) c.ready.ensures.reply ∙ ap (step (plain_of c.args.parts.now)) (sym c.in-Ready.is)
 
 pub returns-in-Due-clause-performs : goal.returns-in-Due-clause-performs
 unfolding step
 returns-in-Due-clause-performs c =
-    ap {B = PlainPartition × Reply} (λ told. (plain_of c.args.parts.now, told)) c.due.ensures ∙ ap (step (plain_of c.args.parts.now)) (sym c.in-Due.is)
+    ap {B = PlainPartition × Reply} (λ told. (plain_of c.args.parts.now, told)) c.due.ensures.reply ∙ ap (step (plain_of c.args.parts.now)) (sym c.in-Due.is)
 
 pub returns-in-Quiet-clause-performs : goal.returns-in-Quiet-clause-performs
 unfolding step
 returns-in-Quiet-clause-performs c =
-    ap {B = PlainPartition × Reply} (λ told. (plain_of c.args.parts.now, told)) c.quiet.ensures ∙ ap (step (plain_of c.args.parts.now)) (sym c.in-Quiet.is)
+    ap {B = PlainPartition × Reply} (λ told. (plain_of c.args.parts.now, told)) c.quiet.ensures.reply ∙ ap (step (plain_of c.args.parts.now)) (sym c.in-Quiet.is)

@@ -1,7 +1,7 @@
 use Rattle.std.proofs.Common.{◌≡◌, ◌∙◌, ◌++◌, arith, ap, get_or, length, sym}
 use Rattle.std.proofs.lemmas.List.{append-nil}
 use Rattle.stream_model.specs.declared.plain.PlainPartition.{PlainPartition}
-use Rattle.stream_model.specs.declared.reply.Reply.{Reply}
+use Rattle.stream_model.specs.Replies.{Reply}
 use Rattle.turnstile.specs.Recorded.{recorded}
 use Rattle.trace_printer.specs.Traces.{heading}
 use Rattle.trace_printer.proofs.Printing.{printed-all, printed-next}
