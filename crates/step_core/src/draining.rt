@@ -1,5 +1,5 @@
 //! A drain of a partition: operations, one after another, until nothing is left to do.
-ghost use Rattle.std.specs.Prelude.{◌≡◌, ◌<◌, length, None, OnErr};
+ghost use Rattle.std.specs.Prelude.{◌≡◌, ◌<◌, length, IfOk, None, OnErr};
 ghost use Rattle.stream_model.specs.declared.op.Op.TheVariants.{Commit, Deliver, Pull};
 ghost use Rattle.stream_model.specs.Draining.{acknowledge, after_begin, after_commit, ask, deliver_once_more, drain, drain_all, drain_round, empty_mailboxes, last_handled, next_note, open_names, serve, serve_each, take_turn, DrainsTo, deliver_up_to};
 ghost use Rattle.stream_ident.specs.Name.{grain_lt};
@@ -8,6 +8,7 @@ ghost use Rattle.stream_model.specs.Looks.{is_running};
 ghost use Rattle.stream_model.specs.Positions.{sub_at};
 ghost use Rattle.step_core.specs.declared.draining.Stop.TheVariants.{Memory};
 ghost use Rattle.step_core.specs.DrainPhases.{Asks, BreaksOff, Follows, after_deliveries, deliver_told, is_acknowledged, is_committed, is_nothing, pull_told};
+ghost use Rattle.step_core.specs.Finishing.{Finishes};
 ghost use Rattle.step_core.specs.Replied.{reply_of, reply_with};
 ghost use Rattle.step_core.specs.Serving.{name_of};
 
@@ -62,6 +63,7 @@ impl Partition {
     /// it is committed or its grain deactivated.
     pub fn drain(&mut self, alloc: Global) -> Result<DrainEnd, AllocError>
         ensures drains { DrainsTo self.old self.new result }
+        ensures finishes { IfOk result (Finishes self.old self.new) }
         ensures memory { OnErr result (BreaksOff self.old self.new (drain self.old).0.entries) }
         ensures idle { OnErr result (least grain_lt (keys_where is_running self.old.grains) ≡ None) }
     {

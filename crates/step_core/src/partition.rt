@@ -1,5 +1,5 @@
 //! The partition.
-ghost use Rattle.std.specs.Prelude.{◌≡◌, ◌<◌, ◌≤◌, true, length, slice_index_or, IfOk, IfSome, MatchResult, OnErr, OnOk};
+ghost use Rattle.std.specs.Prelude.{◌≡◌, ◌<◌, ◌≤◌, true, length, None, slice_index_or, IfOk, IfSome, MatchResult, OnErr, OnOk};
 ghost use Rattle.std.specs.List.{AllByRecursion};
 ghost use Rattle.std.specs.Option.{option_map};
 ghost use Rattle.stream_ident.specs.Event.{no_event};
@@ -11,6 +11,7 @@ ghost use Rattle.stream_model.specs.Looks.{is_running, pending_in};
 ghost use Rattle.stream_model.specs.Positions.{empty, high_token, low_token, sub_at};
 ghost use Rattle.stream_model.specs.Memory.{may_allocate};
 ghost use Rattle.stream_model.specs.Step.{step, IsReached};
+ghost use Rattle.step_core.specs.Finishing.{OwesNothing};
 ghost use Rattle.step_core.specs.Reads.{handled_of, handled_positions, summaries_in_order};
 ghost use Rattle.step_core.specs.Replied.{answered, IsOfLog, Shows};
 ghost use Rattle.step_core.specs.Run.{Does, StopsBefore};
@@ -290,7 +291,8 @@ impl Partition {
     /// Why the partition isn't quiet, the first reason that holds, or none where everything is pulled,
     /// delivered and handled. It takes no memory.
     pub fn quiet(&self) -> Option<Pending>
-        ensures { result ≡ pending_in self.now }
+        ensures pending { result ≡ pending_in self.now }
+        ensures owes { result ≡ None → OwesNothing self.now }
     {
         pending(&self.parts)
     }

@@ -4,6 +4,7 @@ use Rattle.stream_model.specs.Draining.{AtSpent, AtTooMany, Astray, commits, dra
 use Rattle.stream_laws.proofs.DrainTurns.{turns-since}
 use Rattle.step_core.specs.DrainPhases.{Ends, halted}
 use Rattle.step_core.proofs.DrainRounds.{drains-ended, drains-in-part, drains-stuck, drains-wanting, least_running, never-astray}
+use Rattle.step_core.proofs.FinishingLemmas.{finishes}
 use Rattle.step_core.proofs.partition.Partition.drain.Goals as goal
 
 pub returns-in-Some-clause-drains : goal.returns-in-Some-clause-drains
@@ -66,3 +67,7 @@ returns-in-Err-Memory-clause-memory c =
 
 pub returns-in-Err-Memory-clause-idle : goal.returns-in-Err-Memory-clause-idle
 returns-in-Err-Memory-clause-idle c = sym (sym c.in_default.is ∙ c.least_running.ensures)
+
+pub returns-in-Ok-clause-finishes : goal.returns-in-Ok-clause-finishes
+returns-in-Ok-clause-finishes c =
+    finishes c.args.self.now c.drain_all.new.partition (c.turns.result - c.turns-turns.result) c.turns-turns.ensures.reached (returns-in-Ok-clause-drains c)
