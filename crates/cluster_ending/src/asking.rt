@@ -8,7 +8,7 @@ use cluster_callers::Caller;
 use shared_partition::Gate;
 use std::alloc::Global;
 use std::sync::Wait;
-use step_core::{Answer, Outcome, Told};
+use step_core::{Answer, Reply};
 use stream_model::{Op, Pending};
 use turnstile::{Refusal, StoredHistory};
 
@@ -53,18 +53,8 @@ pub fn ask_quiet<G: Gate, H: StoredHistory<Op, Answer>, R: Wait>(
 fn pending_of(answer: &Answer) -> Option<Pending>
     ensures { result ≡ pending_of answer.now }
 {
-    match answer.outcome() {
-        Outcome::Told(told) => pending_told(told),
-        Outcome::Turn(_) => None,
-    }
-}
-
-// The same of a reply that isn't a turn.
-fn pending_told(told: &Told) -> Option<Pending>
-    ensures { result ≡ pending_of (reply_of told.now) }
-{
-    match *told {
-        Told::NotQuiet(why) => Some(why),
+    match *answer.outcome() {
+        Reply::NotQuiet(why) => Some(why),
         _ => None,
     }
 }

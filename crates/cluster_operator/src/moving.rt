@@ -9,7 +9,7 @@ use shared_partition::Gate;
 use silo_loops::{Assigned, Doorbell, Line};
 use std::alloc::Global;
 use std::sync::{Arc, Wait};
-use step_core::{Answer, Outcome, Told};
+use step_core::{Answer, Reply};
 use stream_model::Op;
 use turnstile::StoredHistory;
 
@@ -47,18 +47,8 @@ fn move_queue<G: Gate, H: StoredHistory<Op, Answer>, R: Wait>(
 fn moved_of(answer: &Answer) -> Option<u64>
     ensures { result ≡ moved_of answer.now }
 {
-    match answer.outcome() {
-        Outcome::Told(told) => moved_told(told),
-        Outcome::Turn(_) => None,
-    }
-}
-
-// The same of a reply that isn't a turn.
-fn moved_told(told: &Told) -> Option<u64>
-    ensures { result ≡ moved_of (reply_of told.now) }
-{
-    match *told {
-        Told::Moved { generation, low: _ } => Some(generation),
+    match *answer.outcome() {
+        Reply::Moved { generation, low: _ } => Some(generation),
         _ => None,
     }
 }

@@ -1,71 +1,21 @@
 //! The texts of replies.
-ghost use Rattle.std.specs.Prelude.{◌≡◌, ◌<◌, ◌++◌, [], ◌∷◌, length, OnOk, OnErr, codes};
+ghost use Rattle.std.specs.Prelude.{◌≡◌, ◌<◌, ◌++◌, List, [], ◌∷◌, length, OnOk, OnErr, codes};
 ghost use Rattle.std.specs.Fmt.{decimal};
 ghost use Rattle.std.specs.List.{AllByRecursion, flat_map};
 ghost use Rattle.stream_ident.specs.Event.{events_at};
 ghost use Rattle.stream_ident.specs.Token.{token_text};
-ghost use Rattle.step_core.specs.Replied.{reply_of, reply_with, IsOfLog};
+ghost use Rattle.stream_ident.specs.declared.event.Event.{Event};
+ghost use Rattle.stream_model.specs.Replies.{with_events, IsNoTurn};
+ghost use Rattle.step_core.specs.Replied.{reply_with, IsOfLog};
 ghost use Rattle.script_printer.specs.Replies.{reply_text, reply_line, drain_text, drain_line, event_text, ack_text, pending_text};
 ghost use Rattle.script_parser.specs.Spelling.{name_text};
 ghost use Rattle.script_printer.specs.Writing.{Writes};
 
 use crate::parts::{push_count, push_grain, push_named, push_placed, push_quoted, push_text};
 use std::alloc::AllocError;
-use step_core::{NewTurn, Outcome, Partition, Told};
+use step_core::{Outcome, Partition};
 use stream_ident::{Event, SubName, Token};
 use stream_model::{DrainEnd, Pending, Reply};
-
-/// Appends the text of an answer. A `Reply` and a `Told` have all these variants, and a `Reply` has one more, a turn,
-/// whose arm stands behind.
-macro_rules! push_answer {
-    ($of:ident, $answer:expr, $out:expr $(, $turn:pat => $push:expr)?) => {
-        match $answer {
-            $of::Published { seq } => push_count(b"published ", *seq, $out),
-            $of::QueueFull => push_text(b"queue-full", $out),
-            $of::BadBatch => push_text(b"bad-batch", $out),
-            $of::Subscribed { number } => push_count(b"subscribed ", u64::from(*number), $out),
-            $of::Miss {
-                requested,
-                low,
-                high,
-            } => push_miss(*requested, *low, *high, $out),
-            $of::TooMany => push_text(b"too-many", $out),
-            $of::Unsubscribed { handled } => push_count(b"unsubscribed ", *handled as u64, $out),
-            $of::NoSuch => push_text(b"no-such", $out),
-            $of::Closed => push_text(b"closed", $out),
-            $of::Implicit => push_text(b"implicit", $out),
-            $of::RuleAdded { from } => push_count(b"rule-added ", *from, $out),
-            $of::RuleThere => push_text(b"rule-there", $out),
-            $of::Pulled { count, low, high } => push_pulled(*count as u64, *low, *high, $out),
-            $of::Pressed { by } => push_named(b"pressed ", by, $out),
-            $of::Dry => push_text(b"dry", $out),
-            $of::StaleAgent { now } => push_count(b"stale-agent ", *now, $out),
-            $of::Delivered { token } => push_placed(b"delivered ", *token, $out),
-            $of::Nothing => push_text(b"nothing", $out),
-            $of::MailboxFull => push_text(b"mailbox-full", $out),
-            $of::Rewound => push_text(b"rewound", $out),
-            $of::Acked => push_text(b"acked", $out),
-            $of::NotHandled => push_text(b"not-handled", $out),
-            $of::Purged { low } => push_placed(b"purged low ", *low, $out),
-            $of::Dropped { sub, token } => push_handled(b"dropped ", sub, *token, $out),
-            $of::Empty => push_text(b"empty", $out),
-            $of::Busy => push_text(b"busy", $out),
-            $of::Committed { sub, token } => push_handled(b"committed ", sub, *token, $out),
-            $of::Stale => push_text(b"stale", $out),
-            $of::Deactivated { lost } => push_count(b"deactivated ", *lost as u64, $out),
-            $of::NotActive => push_text(b"not-active", $out),
-            $of::Moved { generation, low } => push_moved(*generation, *low, $out),
-            $of::Next(grain) => push_grain(b"next ", grain, $out),
-            $of::NoneReady => push_text(b"none-ready", $out),
-            $of::DueSub { sub, ack } => push_due(sub, *ack, $out),
-            $of::NoneDue => push_text(b"none-due", $out),
-            $of::Spent => push_text(b"spent", $out),
-            $of::IsQuiet => push_text(b"quiet", $out),
-            $of::NotQuiet(why) => push_pending(why, $out),
-            $($turn => $push,)?
-        }
-    };
-}
 
 /// Appends the text of a reply.
 ///
@@ -127,14 +77,16 @@ fn push_queue(queue: usize, out: &mut Vec<u8>) -> Result<(), AllocError>
 fn push_reply(reply: &Reply, out: &mut Vec<u8>) -> Result<(), AllocError>
     ensures { Writes out.old.items out.new.items result (reply_text reply.now) }
 {
-    push_answer!(Reply, reply, out,
+    match reply {
         Reply::Turn {
             sub,
             activation,
             turn,
             events,
             note,
-        } => push_turn(sub, *activation, *turn, events.as_slice(), *note, out))
+        } => push_turn(sub, *activation, *turn, events.as_slice(), *note, out),
+        _ => push_told(reply, out),
+    }
 }
 
 /// Appends the text of what an operation came to, or a front of it where memory runs out.
@@ -147,27 +99,71 @@ fn push_outcome(
     ensures { Writes out.old.items out.new.items result (reply_text (reply_with partition.now.log outcome.now)) }
 {
     match outcome {
-        Outcome::Told(told) => push_told(told, out),
-        Outcome::Turn(turn) => push_new_turn(turn, partition, out),
+        Reply::Turn {
+            sub,
+            activation,
+            turn,
+            events: positions,
+            note,
+        } => {
+            push_running(sub, *activation, *turn, out)?;
+            push_read(positions.as_slice(), partition, *note, out)
+        }
+        _ => push_told(outcome, out),
     }
 }
 
 /// Appends the text of a reply that isn't a turn, or a front of it where memory runs out.
 #[tactic(auto, unfolding(crate::specs::Replies::reply_text))]
-fn push_told(told: &Told, out: &mut Vec<u8>) -> Result<(), AllocError>
-    ensures { Writes out.old.items out.new.items result (reply_text (reply_of told.now)) }
+fn push_told<E>(reply: &Reply<E>, out: &mut Vec<u8>) -> Result<(), AllocError>
+    requires { IsNoTurn reply.now }
+    ensures { (events : E → List Event) → Writes out.old.items out.new.items result (reply_text (with_events events reply.now)) }
 {
-    push_answer!(Told, told, out)
-}
-
-/// Appends the text of a turn, whose events it reads from the log.
-#[tactic(auto, unfolding(crate::specs::Replies::reply_text))]
-fn push_new_turn(turn: &NewTurn, partition: &Partition, out: &mut Vec<u8>) -> Result<(), AllocError>
-    requires { AllByRecursion (λ position. position < length partition.now.log) turn.now.positions }
-    ensures { Writes out.old.items out.new.items result (reply_text (reply_with partition.now.log (Outcome.Turn turn.now))) }
-{
-    push_running(&turn.sub, turn.activation, turn.turn, out)?;
-    push_read(turn.positions.as_slice(), partition, turn.note, out)
+    match reply {
+        Reply::Published { seq } => push_count(b"published ", *seq, out),
+        Reply::QueueFull => push_text(b"queue-full", out),
+        Reply::BadBatch => push_text(b"bad-batch", out),
+        Reply::Subscribed { number } => push_count(b"subscribed ", u64::from(*number), out),
+        Reply::Miss {
+            requested,
+            low,
+            high,
+        } => push_miss(*requested, *low, *high, out),
+        Reply::TooMany => push_text(b"too-many", out),
+        Reply::Unsubscribed { handled } => push_count(b"unsubscribed ", *handled as u64, out),
+        Reply::NoSuch => push_text(b"no-such", out),
+        Reply::Closed => push_text(b"closed", out),
+        Reply::Implicit => push_text(b"implicit", out),
+        Reply::RuleAdded { from } => push_count(b"rule-added ", *from, out),
+        Reply::RuleThere => push_text(b"rule-there", out),
+        Reply::Pulled { count, low, high } => push_pulled(*count as u64, *low, *high, out),
+        Reply::Pressed { by } => push_named(b"pressed ", by, out),
+        Reply::Dry => push_text(b"dry", out),
+        Reply::StaleAgent { now } => push_count(b"stale-agent ", *now, out),
+        Reply::Delivered { token } => push_placed(b"delivered ", *token, out),
+        Reply::Nothing => push_text(b"nothing", out),
+        Reply::MailboxFull => push_text(b"mailbox-full", out),
+        Reply::Rewound => push_text(b"rewound", out),
+        Reply::Acked => push_text(b"acked", out),
+        Reply::NotHandled => push_text(b"not-handled", out),
+        Reply::Purged { low } => push_placed(b"purged low ", *low, out),
+        Reply::Dropped { sub, token } => push_handled(b"dropped ", sub, *token, out),
+        Reply::Empty => push_text(b"empty", out),
+        Reply::Busy => push_text(b"busy", out),
+        Reply::Committed { sub, token } => push_handled(b"committed ", sub, *token, out),
+        Reply::Stale => push_text(b"stale", out),
+        Reply::Deactivated { lost } => push_count(b"deactivated ", *lost as u64, out),
+        Reply::NotActive => push_text(b"not-active", out),
+        Reply::Moved { generation, low } => push_moved(*generation, *low, out),
+        Reply::Next(grain) => push_grain(b"next ", grain, out),
+        Reply::NoneReady => push_text(b"none-ready", out),
+        Reply::DueSub { sub, ack } => push_due(sub, *ack, out),
+        Reply::NoneDue => push_text(b"none-due", out),
+        Reply::Spent => push_text(b"spent", out),
+        Reply::IsQuiet => push_text(b"quiet", out),
+        Reply::NotQuiet(why) => push_pending(why, out),
+        Reply::Turn { .. } => unreachable!(),
+    }
 }
 
 /// Appends what a turn is handed: the events at these positions, and the note.

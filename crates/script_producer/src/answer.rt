@@ -1,9 +1,8 @@
 //! How the lines of a script are answered.
 ghost use Rattle.std.specs.Prelude.{◌≡◌};
-ghost use Rattle.step_core.specs.Replied.{reply_of};
 ghost use Rattle.script_producer.specs.Telling as told;
 
-use step_core::{Outcome, Told};
+use step_core::Reply;
 
 /// How a line of a script is answered that asks for something at a queue.
 #[derive(Clone, Copy, Debug, PartialEq, Eq)]
@@ -24,19 +23,9 @@ pub(crate) fn answer_of(reply: &step_core::Answer) -> Answer
     ensures { result ≡ told.answer_of reply.now }
 {
     match reply.outcome() {
-        Outcome::Told(told) => answer_told(told),
-        Outcome::Turn(_) => Answer::Taken,
-    }
-}
-
-// How one that isn't a turn does.
-fn answer_told(reply: &Told) -> Answer
-    ensures { result ≡ told.answer_of (reply_of reply.now) }
-{
-    match reply {
-        Told::QueueFull | Told::TooMany | Told::Spent => Answer::Limit,
-        Told::Miss { .. } => Answer::Missed,
-        Told::BadBatch | Told::NoSuch | Told::Closed | Told::Implicit | Told::RuleThere => {
+        Reply::QueueFull | Reply::TooMany | Reply::Spent => Answer::Limit,
+        Reply::Miss { .. } => Answer::Missed,
+        Reply::BadBatch | Reply::NoSuch | Reply::Closed | Reply::Implicit | Reply::RuleThere => {
             Answer::Refused
         }
         _ => Answer::Taken,

@@ -6,7 +6,7 @@ ghost use Rattle.silo_loops.specs.Answers.{directory_rings, rings};
 use activation_directory::DirectoryReply;
 use std::sync::atomic::{AtomicBool, Ordering};
 use std::sync::{Condvar, Mutex, Wait};
-use step_core::{Answer, Outcome, Told};
+use step_core::{Answer, Reply};
 
 /// A count of what happened, at which loops that found nothing to do wait for more. It wraps.
 ///
@@ -107,30 +107,20 @@ impl Bell {
 pub fn rings(answer: &Answer) -> bool
     ensures { result ≡ rings answer.now }
 {
-    match answer.outcome() {
-        Outcome::Told(told) => told_rings(told),
-        Outcome::Turn(_) => false,
-    }
-}
-
-// Whether it may after a reply that isn't a turn.
-fn told_rings(told: &Told) -> bool
-    ensures { result ≡ rings (reply_of told.now) }
-{
     matches!(
-        told,
-        Told::Published { .. }
-            | Told::Subscribed { .. }
-            | Told::Unsubscribed { .. }
-            | Told::RuleAdded { .. }
-            | Told::Pulled { .. }
-            | Told::Delivered { .. }
-            | Told::Rewound
-            | Told::Acked
-            | Told::Committed { .. }
-            | Told::Dropped { .. }
-            | Told::Deactivated { .. }
-            | Told::Moved { .. }
+        answer.outcome(),
+        Reply::Published { .. }
+            | Reply::Subscribed { .. }
+            | Reply::Unsubscribed { .. }
+            | Reply::RuleAdded { .. }
+            | Reply::Pulled { .. }
+            | Reply::Delivered { .. }
+            | Reply::Rewound
+            | Reply::Acked
+            | Reply::Committed { .. }
+            | Reply::Dropped { .. }
+            | Reply::Deactivated { .. }
+            | Reply::Moved { .. }
     )
 }
 

@@ -1,11 +1,11 @@
 //! What a loop takes from an answer at a queue.
 ghost use Rattle.std.specs.Prelude.{◌≡◌};
-ghost use Rattle.step_core.specs.Replied.{Says, reply_of};
+ghost use Rattle.step_core.specs.Replied.{Says};
 ghost use Rattle.stream_model.specs.Replies.{Reply};
 ghost use Rattle.silo_loops.specs.Answers.{heard_of, end_in};
 
 use crate::advance::{Over, end_by};
-use step_core::{Answer, Outcome, Told};
+use step_core::{Answer, Outcome, Reply};
 use stream_ident::{GrainId, SubName, Token};
 use turnstile::Refusal;
 
@@ -72,28 +72,25 @@ pub(crate) fn heard_of(answer: &Result<Answer, Refusal>) -> Heard
 fn heard_in(outcome: &Outcome) -> Heard
     ensures { (r : Reply) → Says outcome.now r → result ≡ heard_of (Ok r) }
 {
-    match outcome {
-        Outcome::Told(told) => heard_told(told),
-        Outcome::Turn(turn) => Heard::Turn {
-            sub: turn.sub,
-            activation: turn.activation,
-            turn: turn.turn,
-            note: turn.note,
+    match *outcome {
+        Reply::Turn {
+            sub,
+            activation,
+            turn,
+            note,
+            ..
+        } => Heard::Turn {
+            sub,
+            activation,
+            turn,
+            note,
         },
-    }
-}
-
-// What a reply says that isn't a turn.
-fn heard_told(told: &Told) -> Heard
-    ensures { result ≡ heard_of (Ok (reply_of told.now)) }
-{
-    match *told {
-        Told::TooMany | Told::Spent => Heard::Ended(Over::Limit),
-        Told::Next(grain) => Heard::Next(grain),
-        Told::Committed { sub, token } => Heard::Committed { sub, token },
-        Told::DueSub { sub, ack } => Heard::Due { sub, ack },
-        Told::StaleAgent { .. } => Heard::StaleAgent,
-        Told::Pulled { .. } | Told::Delivered { .. } | Told::Acked | Told::Dropped { .. } => {
+        Reply::TooMany | Reply::Spent => Heard::Ended(Over::Limit),
+        Reply::Next(grain) => Heard::Next(grain),
+        Reply::Committed { sub, token } => Heard::Committed { sub, token },
+        Reply::DueSub { sub, ack } => Heard::Due { sub, ack },
+        Reply::StaleAgent { .. } => Heard::StaleAgent,
+        Reply::Pulled { .. } | Reply::Delivered { .. } | Reply::Acked | Reply::Dropped { .. } => {
             Heard::Changed
         }
         _ => Heard::Other,

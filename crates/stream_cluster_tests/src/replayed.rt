@@ -3,7 +3,7 @@ use crate::running::Calls;
 use cluster_ending::Traces;
 use std::alloc::Global;
 use std::process::Abort;
-use step_core::{Limits, Op, Outcome, Partition, Told};
+use step_core::{Limits, Op, Partition, Reply};
 use turnstile::Asked;
 
 /// What can come to pass where a silo goes.
@@ -19,8 +19,8 @@ pub struct Astray {
 fn replay<R: Abort>(rt: &R, alloc: Global, partition: &mut Partition, op: &Op, all: &mut Astray) {
     let answer = partition.answer(alloc, op, &mut Vec::new(alloc));
     match *answer.expect(rt, "memory").outcome() {
-        Outcome::Told(Told::Deactivated { lost }) => all.lost = all.lost.wrapping_add(lost),
-        Outcome::Told(Told::StaleAgent { .. }) => all.stale = all.stale.wrapping_add(1),
+        Reply::Deactivated { lost } => all.lost = all.lost.wrapping_add(lost),
+        Reply::StaleAgent { .. } => all.stale = all.stale.wrapping_add(1),
         _ => {}
     }
 }

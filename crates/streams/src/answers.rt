@@ -5,7 +5,7 @@ ghost use Rattle.streams.specs.Answers as read;
 use cluster_ending::{Finished, Traces};
 use script_producer::Drained;
 use std::alloc::AllocError;
-use step_core::{Answer, Outcome, Partition, Told};
+use step_core::{Answer, Partition, Reply};
 use stream_cluster::{SiloDown, SiloUp};
 use stream_ident::{SubName, Token};
 use stream_model::Pending;
@@ -178,8 +178,8 @@ pub(crate) fn published(reply: Result<Answer, Refusal>) -> Result<Token, Publish
 {
     match reply {
         Ok(answer) => match answer.outcome() {
-            Outcome::Told(Told::Published { seq }) => Ok(Token { seq: *seq, idx: 0 }),
-            Outcome::Told(Told::BadBatch) => Err(PublishError::BadBatch),
+            Reply::Published { seq } => Ok(Token { seq: *seq, idx: 0 }),
+            Reply::BadBatch => Err(PublishError::BadBatch),
             _ => Err(PublishError::Limit),
         },
         Err(Refusal::HistoryFull) => Err(PublishError::Limit),
@@ -196,11 +196,11 @@ pub(crate) fn subscribed(
 {
     match reply {
         Ok(answer) => match answer.outcome() {
-            Outcome::Told(Told::Subscribed { number }) => Ok(Subscription {
+            Reply::Subscribed { number } => Ok(Subscription {
                 queue,
                 number: *number,
             }),
-            Outcome::Told(Told::Miss { low, high, .. }) => Err(SubscribeError::Miss {
+            Reply::Miss { low, high, .. } => Err(SubscribeError::Miss {
                 low: *low,
                 high: *high,
             }),
@@ -217,8 +217,8 @@ pub(crate) fn unsubscribed(reply: Result<Answer, Refusal>) -> Result<usize, Unsu
 {
     match reply {
         Ok(answer) => match answer.outcome() {
-            Outcome::Told(Told::Unsubscribed { handled }) => Ok(*handled),
-            Outcome::Told(Told::Closed) => Err(UnsubscribeError::Closed),
+            Reply::Unsubscribed { handled } => Ok(*handled),
+            Reply::Closed => Err(UnsubscribeError::Closed),
             _ => Err(UnsubscribeError::NoSuch),
         },
         Err(Refusal::HistoryFull) => Err(UnsubscribeError::Limit),
@@ -232,8 +232,8 @@ pub(crate) fn rule_added(reply: Result<Answer, Refusal>) -> Result<bool, CallErr
 {
     match reply {
         Ok(answer) => match answer.outcome() {
-            Outcome::Told(Told::RuleAdded { .. }) => Ok(true),
-            Outcome::Told(Told::RuleThere) => Ok(false),
+            Reply::RuleAdded { .. } => Ok(true),
+            Reply::RuleThere => Ok(false),
             _ => Err(CallError::Limit),
         },
         Err(Refusal::HistoryFull) => Err(CallError::Limit),
@@ -247,7 +247,7 @@ pub(crate) fn pending_of(reply: Result<Answer, Refusal>) -> Result<Option<Pendin
 {
     match reply {
         Ok(answer) => match answer.outcome() {
-            Outcome::Told(Told::NotQuiet(why)) => Ok(Some(*why)),
+            Reply::NotQuiet(why) => Ok(Some(*why)),
             _ => Ok(None),
         },
         Err(Refusal::HistoryFull) => Err(CallError::Limit),

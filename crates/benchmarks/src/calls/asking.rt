@@ -1,7 +1,7 @@
 //! What is asked over and over, and what of an answer counts.
 use anyhow::Result;
 use std::alloc::{AllocError, Global};
-use step_core::{Answer, Outcome, Told};
+use step_core::{Answer, Reply};
 use stream_ident::{Batch, Payload, StreamId};
 use stream_model::Op;
 
@@ -44,8 +44,8 @@ impl Asking {
 /// the sum of all answers is the same in whatever order they come.
 pub fn number(answer: &Answer) -> u64 {
     match answer.outcome() {
-        Outcome::Told(Told::Published { seq }) => seq.wrapping_add(1),
-        Outcome::Told(Told::IsQuiet) => 1,
+        Reply::Published { seq } => seq.wrapping_add(1),
+        Reply::IsQuiet => 1,
         _ => 0,
     }
 }
