@@ -1,5 +1,5 @@
 -- What comes of an operation that begins no turn.
-use Rattle.std.proofs.Common.{◌≡◌, [], List, Result, Ok, Err, subst, ap, refl}
+use Rattle.std.proofs.Common.{◌≡◌, [], List, Result, Ok, Err, subst, ap, sym, ◌∙◌, refl}
 use Rattle.std.specs.Prelude.{IfOk, OnErr}
 use Rattle.std.specs.declared.alloc.AllocError.{AllocError}
 use Rattle.stream_ident.specs.declared.event.Event.{Event}
@@ -33,6 +33,11 @@ pub performs-as : (old new : PlainPartition) (log : List Event) (r : Result Outc
     → Performs old new (replied r) said → IfOk r IsNoTurn → said ≡ wanted → Performs old new (answered log r) wanted
 performs-as old new log r said wanted performs told same =
     subst (λ x. Performs old new x wanted) (answered-as log r told) (subst (λ x. Performs old new (replied r) x) same performs)
+
+pub told-as : (log : List Event) (came : Outcome) (p : PlainPartition) (said wanted : PlainPartition × Reply)
+    → (p, reply_of came) ≡ said → IsNoTurn came → said ≡ wanted → (p, reply_with log came) ≡ wanted
+told-as log came p said wanted is told same =
+    ap {B = PlainPartition × Reply} (λ r. (p, r)) (sym (of-any-log log came told)) ∙ (is ∙ same)
 
 -- two facts of one failure
 pub both-fail : (P Q : Type 0) (r : Result Outcome AllocError) → OnErr r P → OnErr r Q → OnErr r (P × Q)

@@ -15,6 +15,7 @@ use stream_model::Reply;
 use subscription_table::{Acked, Retried};
 
 /// The agent sets a subscription's cursor back to its resume. It takes no memory.
+#[inline(never)]
 pub(crate) fn retry(parts: &mut Parts, generation: u64, sub: &SubName) -> Outcome
     requires { Agrees parts.old }
     ensures assembled { IsAssembled parts.new }
@@ -32,6 +33,7 @@ pub(crate) fn retry(parts: &mut Parts, generation: u64, sub: &SubName) -> Outcom
 
 /// The agent learns that a subscription has handled an event and all that it was owed before. It takes no
 /// memory.
+#[inline(never)]
 pub(crate) fn ack(parts: &mut Parts, generation: u64, sub: &SubName, token: Token) -> Outcome
     requires { Agrees parts.old }
     ensures assembled { IsAssembled parts.new }

@@ -33,6 +33,7 @@ use subscription_table::Sought;
 /// The call failed to allocate, and nothing has changed. That can happen only where the event would be handed
 /// over, and only where the subscription has handled nothing, nothing of it is on its way, and its cursor
 /// stands at its resume.
+#[inline(never)]
 pub(crate) fn deliver(
     parts: &mut Parts,
     alloc: Global,
@@ -153,6 +154,7 @@ fn hand_over(
 /// The call failed to allocate, and nothing has changed. That can happen only where the event would be handed
 /// over, and only where the subscription has handled nothing, nothing of it is on its way, and its cursor
 /// stands at its resume.
+#[inline(never)]
 fn hand_to(
     parts: &mut Parts,
     alloc: Global,
@@ -185,6 +187,7 @@ fn hand_to(
 /// The call failed to allocate, and nothing has changed. That can happen only where the event would be handed
 /// over, and only where the subscription has handled nothing, nothing of it is on its way, and its cursor
 /// stands at its resume.
+#[inline(never)]
 fn hand_first(parts: &mut Parts, alloc: Global, delivery: Delivery) -> Result<Outcome, AllocError>
     requires agrees { Agrees parts.old }
     requires next { IsNext parts.old delivery }

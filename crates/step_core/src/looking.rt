@@ -28,6 +28,7 @@ use stream_model::{Pending, Reply};
 
 /// A worker asks for a grain for which something waits and no turn runs: the least such grain after the
 /// given one, else the least.
+#[inline(never)]
 pub(crate) fn ready(parts: &Parts, after: Option<GrainId>) -> Outcome
     requires { Agrees parts.now }
     ensures reply { reply_of result ≡ ready (plain_of parts.now) after }
@@ -41,6 +42,7 @@ pub(crate) fn ready(parts: &Parts, after: Option<GrainId>) -> Outcome
 
 /// The agent asks for a subscription that has something to acknowledge or to look for: the least such name
 /// after the given one, else the least.
+#[inline(never)]
 pub(crate) fn due(parts: &Parts, after: Option<SubName>) -> Outcome
     requires { Agrees parts.now }
     ensures reply { reply_of result ≡ due (plain_of parts.now) after }
@@ -96,6 +98,7 @@ fn to_acknowledge(state: &SubState, queue: &PartitionQueue) -> Option<Token>
 }
 
 /// Asks whether everything is pulled, delivered and handled.
+#[inline(never)]
 pub(crate) fn quiet(parts: &Parts) -> Outcome
     requires { Agrees parts.now }
     ensures reply { reply_of result ≡ quiet (plain_of parts.now) }

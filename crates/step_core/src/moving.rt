@@ -14,6 +14,7 @@ use stream_model::Reply;
 
 /// The agent drops the blocks of its cache that no open subscription needs, beyond those that it keeps. It
 /// takes no memory.
+#[inline(never)]
 pub(crate) fn purge(parts: &mut Parts, generation: u64, keep: u32) -> Outcome
     requires { Agrees parts.old }
     ensures assembled { IsAssembled parts.new }
@@ -33,6 +34,7 @@ pub(crate) fn purge(parts: &mut Parts, generation: u64, keep: u32) -> Outcome
 /// The queue goes to an agent on another silo, under a new generation. Its cache is empty and begins at
 /// the slowest resume, and the cursor of each open subscription goes back to its resume. It takes no
 /// memory.
+#[inline(never)]
 pub(crate) fn move_queue(parts: &mut Parts, silo: u8) -> Outcome
     requires { Agrees parts.old }
     ensures assembled { IsAssembled parts.new }

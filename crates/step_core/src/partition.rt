@@ -114,6 +114,7 @@ impl Partition {
     ///
     /// # Errors
     /// They are those of `step`.
+    #[inline(never)]
     pub fn apply(&mut self, alloc: Global, op: &Op) -> Result<Reply, AllocError>
         ensures performs { Performs self.old self.new result (step self.old op.now) }
         ensures memory { OnErr result (may_allocate self.old op.now ≡ true) }
@@ -127,6 +128,7 @@ impl Partition {
     ///
     /// # Errors
     /// They are those of `step`.
+    #[inline(never)]
     pub fn answer(
         &mut self,
         alloc: Global,
@@ -174,6 +176,7 @@ impl Partition {
     ///
     /// # Errors
     /// They are those of `step`.
+    #[inline(never)]
     pub fn advance(&mut self, alloc: Global, op: &Op) -> Result<Outcome, AllocError>
         ensures performs { Performs self.old self.new (answered self.new.log result) (step self.old op.now) }
         ensures of_log { IfOk result (IsOfLog self.new.log) }

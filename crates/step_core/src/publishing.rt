@@ -29,6 +29,7 @@ use stream_model::{Reply, Start};
 /// # Errors
 /// The call failed to allocate, and nothing has changed. That can happen only at a batch that would be
 /// accepted.
+#[inline(never)]
 pub(crate) fn publish(
     parts: &mut Parts,
     alloc: Global,
@@ -61,6 +62,7 @@ fn told_of_batch(appended: Appended) -> Outcome
 ///
 /// # Errors
 /// The call failed to allocate, and nothing has changed. That can happen only where the rule would be added.
+#[inline(never)]
 pub(crate) fn add_rule(
     parts: &mut Parts,
     alloc: Global,
@@ -95,6 +97,7 @@ fn told_of_rule(from: u64, added: RuleAdded) -> Outcome
 /// # Errors
 /// The call failed to allocate, and nothing has changed. That can happen only where the subscription would be
 /// added.
+#[inline(never)]
 pub(crate) fn subscribe(
     parts: &mut Parts,
     alloc: Global,
@@ -134,6 +137,7 @@ pub(crate) fn subscribe(
 }
 
 /// The grain of an explicit subscription unsubscribes. It takes no memory.
+#[inline(never)]
 pub(crate) fn unsubscribe(parts: &mut Parts, sub: &SubName) -> Outcome
     requires { Agrees parts.old }
     ensures assembled { IsAssembled parts.new }

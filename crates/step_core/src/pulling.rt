@@ -30,6 +30,7 @@ use stream_model::Reply;
 /// # Errors
 /// The call failed to allocate, and nothing has changed. That can happen only where the events would be taken
 /// and the rules would make a subscription.
+#[inline(never)]
 pub(crate) fn pull(
     parts: &mut Parts,
     excerpt: &mut Excerpt,
@@ -68,6 +69,7 @@ fn slowest(parts: &Parts) -> SubName
 /// # Errors
 /// The call failed to allocate, and nothing has changed. That can happen only where the events would be
 /// taken and the rules would make a subscription.
+#[inline(never)]
 fn take(
     parts: &mut Parts,
     excerpt: &mut Excerpt,

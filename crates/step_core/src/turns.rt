@@ -26,6 +26,7 @@ use stream_model::Reply;
 use subscription_table::SubscriptionTable;
 
 /// A worker begins a turn of a grain. It takes no memory.
+#[inline(never)]
 pub(crate) fn begin(parts: &mut Parts, grain: &GrainId, max: u32) -> Outcome
     requires { Agrees parts.old }
     ensures assembled { IsAssembled parts.new }
@@ -103,6 +104,7 @@ fn next_turn(parts: &Parts) -> Option<u64>
 /// # Errors
 /// The call failed to allocate, and nothing has changed. That can happen only where the events would be
 /// handled.
+#[inline(never)]
 pub(crate) fn commit(
     parts: &mut Parts,
     alloc: Global,
@@ -168,6 +170,7 @@ fn last_position(positions: &Row<usize>) -> usize
 /// A grain leaves memory: what waits and what runs is lost, and the cursors of its open subscriptions go
 /// back to their resumes. It takes no memory, and looks only at the subscriptions that something was offered
 /// for: the cursors of the others are at their resumes.
+#[inline(never)]
 pub(crate) fn deactivate(parts: &mut Parts, grain: &GrainId) -> Outcome
     requires { Agrees parts.old }
     ensures assembled { IsAssembled parts.new }

@@ -65,7 +65,3 @@ pub returns-in-Commit-clause-memory : goal.returns-in-Commit-clause-memory
 unfolding step
 returns-in-Commit-clause-memory c =
     fails c.commit.result c.commit.ensures.memory (λ wants. ap (may_allocate (plain_of c.args.parts.now)) c.in-Commit.is ∙ and_from _ _ wants refl)
-
-pub returns-in-Begin-clause-performs : goal.returns-in-Begin-clause-performs
-unfolding step
-returns-in-Begin-clause-performs c = c.begin.ensures.performs ∙ ap (step (plain_of c.args.parts.now)) (sym c.in-Begin.is)
