@@ -7,13 +7,14 @@ mod ways;
 use crate::calls::asking::{Asking, askings};
 use crate::calls::ways::{Told, agree, alone, shared};
 use anyhow::{Result, ensure};
+use shared_partition::QueueHistory;
 use std::alloc::Global;
 use std::rt::Clock;
 use std::sync::Wait;
 use std::thread::Threads;
 use step_core::Answer;
 use stream_model::Op;
-use turnstile::{AskedHistory, ProofHistory, StoredHistory};
+use turnstile::{AskedHistory, ProofHistory};
 
 /// A history that stores what was asked, as that of a trace.
 type WithoutReplies = AskedHistory<Op, Answer>;
@@ -74,7 +75,7 @@ fn see_difference<R: Clock + Threads + Wait + Sync>(
 }
 
 /// A line for a kind of history: how many times as long as the operation alone a call takes.
-fn print_row<H: StoredHistory<Op, Answer> + Send, R: Print + Clock + Threads + Wait + Sync>(
+fn print_row<H: QueueHistory + Send, R: Print + Clock + Threads + Wait + Sync>(
     rt: &R,
     alloc: Global,
     asking: &Asking,
@@ -116,7 +117,7 @@ impl Seconds {
 }
 
 /// Goes each way once, and fails where they don't agree.
-fn go<H: StoredHistory<Op, Answer> + Send, R: Clock + Threads + Wait + Sync>(
+fn go<H: QueueHistory + Send, R: Clock + Threads + Wait + Sync>(
     rt: &R,
     alloc: Global,
     asking: &Asking,
@@ -132,7 +133,7 @@ fn go<H: StoredHistory<Op, Answer> + Send, R: Clock + Threads + Wait + Sync>(
 }
 
 /// The seconds of the calls on so many threads, which are told the same as a partition alone.
-fn compare<H: StoredHistory<Op, Answer> + Send, R: Clock + Threads + Wait + Sync>(
+fn compare<H: QueueHistory + Send, R: Clock + Threads + Wait + Sync>(
     rt: &R,
     alloc: Global,
     threads: usize,

@@ -4,7 +4,7 @@ ghost use Rattle.step_core.specs.Replied.{Shows};
 ghost use Rattle.cluster_callers.specs.Calls.{AllZipFront, AreAlike, CallerCalls, CallerSplits, JoinsAll, SplitsOff, TakesBack, joined_passes, turnstiles};
 
 use crate::queue_caller::QueueCaller;
-use shared_partition::Gate;
+use shared_partition::{Gate, QueueHistory};
 use silo_loops::{Doorbell, TurnRoom};
 use std::alloc::{AllocError, Global};
 use std::marker::Model;
@@ -12,18 +12,18 @@ use std::sync::{Arc, Wait};
 use step_core::Answer;
 use stream_ident::Event;
 use stream_model::{Op, Reply};
-use turnstile::{Refusal, StoredHistory};
+use turnstile::Refusal;
 
 /// A caller of each queue of a cluster, the doorbell of its loops, and room for the events of a turn.
 ///
 /// A contract sees it as the passes, in the order of the queues.
-pub struct Caller<G: Gate, H: StoredHistory<Op, Answer>> {
+pub struct Caller<G: Gate, H: QueueHistory> {
     doorbell: Arc<Doorbell, Global>,
     queues: Vec<QueueCaller<G, H>>,
     events: Vec<Event>,
 }
 
-impl<G: Gate + Drop, H: StoredHistory<Op, Answer> + Drop> Drop for Caller<G, H> {
+impl<G: Gate + Drop, H: QueueHistory + Drop> Drop for Caller<G, H> {
     fn drop(self) {
         let Self {
             doorbell: _,
@@ -33,7 +33,7 @@ impl<G: Gate + Drop, H: StoredHistory<Op, Answer> + Drop> Drop for Caller<G, H> 
     }
 }
 
-impl<G: Gate, H: StoredHistory<Op, Answer>> Model for Caller<G, H> {
+impl<G: Gate, H: QueueHistory> Model for Caller<G, H> {
     ghost use Rattle.std.specs.Prelude.{◌≤◌, List, vec_capacity};
     ghost use Rattle.silo_loops.specs.Lines.{QueuePass};
 
@@ -44,7 +44,7 @@ impl<G: Gate, H: StoredHistory<Op, Answer>> Model for Caller<G, H> {
     ghost invariant = { λ c. 16 ≤ vec_capacity c.events };
 }
 
-impl<G: Gate, H: StoredHistory<Op, Answer>> Caller<G, H> {
+impl<G: Gate, H: QueueHistory> Caller<G, H> {
     /// A caller of these queues, which rings at this doorbell.
     pub fn new(
         doorbell: Arc<Doorbell, Global>,
@@ -170,7 +170,7 @@ impl<G: Gate, H: StoredHistory<Op, Answer>> Caller<G, H> {
 }
 
 // One call at one queue.
-fn ask_at<G: Gate, H: StoredHistory<Op, Answer>, R: Wait>(
+fn ask_at<G: Gate, H: QueueHistory, R: Wait>(
     rt: &R,
     alloc: Global,
     doorbell: &Doorbell,
@@ -188,7 +188,7 @@ fn ask_at<G: Gate, H: StoredHistory<Op, Answer>, R: Wait>(
 }
 
 // A new caller of each queue, for which there is room before a pass is split.
-fn split_all<G: Gate, H: StoredHistory<Op, Answer>>(
+fn split_all<G: Gate, H: QueueHistory>(
     alloc: Global,
     queues: &mut Vec<QueueCaller<G, H>>,
 ) -> Result<Vec<QueueCaller<G, H>>, AllocError>
@@ -210,7 +210,7 @@ fn split_all<G: Gate, H: StoredHistory<Op, Answer>>(
 }
 
 // Joins each of the others to the one at its place. There may be fewer of them.
-fn join_all<G: Gate, H: StoredHistory<Op, Answer>>(
+fn join_all<G: Gate, H: QueueHistory>(
     queues: &mut Vec<QueueCaller<G, H>>,
     mut others: Vec<QueueCaller<G, H>>,
 )

@@ -6,7 +6,7 @@ ghost use Rattle.step_core.specs.Replied.{Shows};
 ghost use Rattle.shared_partition.specs.Partitions.{BeganEmpty};
 ghost use Rattle.cluster_callers.specs.Calls.{IsUnused, QueueCalls};
 
-use shared_partition::{Gate, SharedPartition};
+use shared_partition::{Gate, QueueHistory, SharedPartition};
 use silo_loops::{Doorbell, rings};
 use std::alloc::{AllocError, Global};
 use std::marker::Model;
@@ -14,20 +14,20 @@ use std::sync::{Arc, Wait};
 use step_core::Answer;
 use stream_ident::Event;
 use stream_model::{Op, PlainPartition};
-use turnstile::{Handle, Pass, Refusal, StoredHistory, Turnstile};
+use turnstile::{Handle, Pass, Refusal, Turnstile};
 
 /// A producer's pass at a queue, with its turnstile. A contract sees the pass.
-pub struct QueueCaller<G: Gate, H: StoredHistory<Op, Answer>> {
+pub struct QueueCaller<G: Gate, H: QueueHistory> {
     handle: Handle<SharedPartition<G, H>>,
 }
 
-impl<G: Gate + Drop, H: StoredHistory<Op, Answer> + Drop> Drop for QueueCaller<G, H> {
+impl<G: Gate + Drop, H: QueueHistory + Drop> Drop for QueueCaller<G, H> {
     fn drop(self) {
         let Self { handle: _ } = self;
     }
 }
 
-impl<G: Gate, H: StoredHistory<Op, Answer>> Model for QueueCaller<G, H> {
+impl<G: Gate, H: QueueHistory> Model for QueueCaller<G, H> {
     ghost use Rattle.shared_partition.specs.Partitions.{IsOfEmpty};
     ghost use Rattle.silo_loops.specs.Lines.{QueuePass};
 
@@ -38,7 +38,7 @@ impl<G: Gate, H: StoredHistory<Op, Answer>> Model for QueueCaller<G, H> {
     ghost invariant = { λ c. IsOfEmpty c.handle };
 }
 
-impl<G: Gate, H: StoredHistory<Op, Answer>> QueueCaller<G, H> {
+impl<G: Gate, H: QueueHistory> QueueCaller<G, H> {
     /// A caller with this pass.
     pub fn new(
         turnstile: Arc<Turnstile<SharedPartition<G, H>>, Global>,

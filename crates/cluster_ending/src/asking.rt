@@ -5,12 +5,12 @@ ghost use Rattle.step_core.specs.Replied.{reply_of};
 ghost use Rattle.cluster_ending.specs.Asking.{AsksQuiet, pending_of};
 
 use cluster_callers::Caller;
-use shared_partition::Gate;
+use shared_partition::{Gate, QueueHistory};
 use std::alloc::Global;
 use std::sync::Wait;
 use step_core::{Answer, Reply};
 use stream_model::{Op, Pending};
-use turnstile::{Refusal, StoredHistory};
+use turnstile::Refusal;
 
 /// What the queues of a cluster answer.
 #[derive(Clone, Copy, Debug, PartialEq, Eq)]
@@ -31,7 +31,7 @@ pub enum Quiet {
 /// # Errors
 /// A queue refused the call, as [`Caller::call`] says. Each queue before it is quiet, and those behind it
 /// weren't asked.
-pub fn ask_quiet<G: Gate, H: StoredHistory<Op, Answer>, R: Wait>(
+pub fn ask_quiet<G: Gate, H: QueueHistory, R: Wait>(
     rt: &R,
     alloc: Global,
     caller: &mut Caller<G, H>,

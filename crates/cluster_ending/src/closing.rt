@@ -4,13 +4,11 @@ ghost use Rattle.silo_loops.specs.Lines.{QueuePass};
 ghost use Rattle.cluster_ending.specs.Closing.{AreTracesOf, IsClosing, IsEnd};
 
 use cluster_callers::{Caller, QueueCaller};
-use shared_partition::{Gate, SharedPartition};
+use shared_partition::{Gate, QueueHistory, SharedPartition};
 use std::alloc::{AllocError, Global};
 use std::sync::Arc;
-use step_core::{Answer, Partition};
-use stream_laws::one_history;
-use stream_model::Op;
-use turnstile::{Closed, PassOf, StoredHistory};
+use step_core::Partition;
+use turnstile::{Closed, PassOf};
 
 /// All that was done in a cluster: of each queue its history, and its partition at the end.
 #[derive(Drop)]
@@ -52,7 +50,7 @@ enum End<H> {
 ///
 /// # Errors
 /// The call failed to allocate. What the caller had is lost then.
-pub fn close<G: Gate, H: StoredHistory<Op, Answer>>(
+pub fn close<G: Gate, H: QueueHistory>(
     alloc: Global,
     caller: Caller<G, H>,
 ) -> Result<Closing<H>, AllocError>
@@ -69,10 +67,7 @@ pub fn close<G: Gate, H: StoredHistory<Op, Answer>>(
 }
 
 // The same with one more queue behind.
-fn with_end<H: StoredHistory<Op, Answer>>(
-    closing: Closing<H>,
-    end: End<H>,
-) -> Result<Closing<H>, AllocError>
+fn with_end<H: QueueHistory>(closing: Closing<H>, end: End<H>) -> Result<Closing<H>, AllocError>
     ensures { IfOk result (λ new. (passes : List QueuePass) (pass : QueuePass) → IsClosing H.entries passes closing → IsEnd H.entries pass end → IsClosing H.entries (passes ++ pass ∷ []) new) }
 {
     match closing {
@@ -86,7 +81,7 @@ fn with_end<H: StoredHistory<Op, Answer>>(
 }
 
 // The same where no pass was missing so far.
-fn traces_with_end<H: StoredHistory<Op, Answer>>(
+fn traces_with_end<H: QueueHistory>(
     mut traces: Traces<H>,
     end: End<H>,
 ) -> Result<Closing<H>, AllocError>
@@ -107,13 +102,12 @@ fn traces_with_end<H: StoredHistory<Op, Answer>>(
 }
 
 // Ends the turnstile of one queue.
-fn close_queue<G: Gate, H: StoredHistory<Op, Answer>>(
+fn close_queue<G: Gate, H: QueueHistory>(
     alloc: Global,
     queue: QueueCaller<G, H>,
 ) -> Result<End<H>, AllocError>
     ensures { IfOk result (IsEnd H.entries queue) }
 {
-    one_history();
     let (shared, pass) = queue.into_parts();
     let passes = alone(alloc, pass)?;
     let Some(turnstile) = Arc::into_inner(shared) else {
@@ -132,7 +126,7 @@ fn close_queue<G: Gate, H: StoredHistory<Op, Answer>>(
 }
 
 // A vector of one pass.
-fn alone<G: Gate, H: StoredHistory<Op, Answer>>(
+fn alone<G: Gate, H: QueueHistory>(
     alloc: Global,
     pass: PassOf<SharedPartition<G, H>>,
 ) -> Result<Vec<PassOf<SharedPartition<G, H>>>, AllocError>

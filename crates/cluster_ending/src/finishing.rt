@@ -13,14 +13,14 @@ use crate::ends::LoopEnds;
 use crate::gathering::gather;
 use cluster_callers::Caller;
 use script_printer::report_text;
-use shared_partition::Gate;
+use shared_partition::{Gate, QueueHistory};
 use silo_loops::{Doorbell, Line};
 use std::alloc::{AllocError, Global};
 use std::sync::{Arc, Wait};
-use step_core::{Answer, Partition};
+use step_core::Partition;
 use stream_laws::quiet_is_done;
-use stream_model::{Op, Pending};
-use turnstile::{Refusal, StoredHistory};
+use stream_model::Pending;
+use turnstile::Refusal;
 
 /// How a cluster has ended.
 #[derive(Drop)]
@@ -71,7 +71,7 @@ pub enum Finished<H> {
 ///
 /// # Errors
 /// The call failed to allocate, or a loop failed to before. What was given is lost then. It goes before all answers.
-pub fn finish<G: Gate, H: StoredHistory<Op, Answer>, R: Wait>(
+pub fn finish<G: Gate, H: QueueHistory, R: Wait>(
     rt: &R,
     alloc: Global,
     doorbell: Arc<Doorbell, Global>,
@@ -103,7 +103,7 @@ pub fn finish<G: Gate, H: StoredHistory<Op, Answer>, R: Wait>(
 }
 
 // The answer where all passes came back; `asked` is none where a history was full.
-fn answer<H: StoredHistory<Op, Answer>>(
+fn answer<H: QueueHistory>(
     alloc: Global,
     ends: LoopEnds,
     asked: Option<Quiet>,

@@ -6,20 +6,17 @@ ghost use Rattle.cluster_callers.specs.Calls.{AllZipFront, AreAlike, JoinsAll, t
 ghost use Rattle.cluster_ending.specs.Gathering.{AreAt, Gathers, JoinsEach, passes_of};
 
 use cluster_callers::{Caller, QueueCaller};
-use shared_partition::Gate;
+use shared_partition::{Gate, QueueHistory};
 use silo_loops::{Doorbell, Line, TurnRoom};
 use std::alloc::{AllocError, Global};
 use std::sync::Arc;
-use step_core::Answer;
-use stream_model::Op;
-use turnstile::StoredHistory;
 
 /// One caller with the passes of these lines, which has taken in those of the callers, one caller after
 /// another.
 ///
 /// # Errors
 /// The call failed to allocate. What was given is lost then.
-pub fn gather<G: Gate, H: StoredHistory<Op, Answer>>(
+pub fn gather<G: Gate, H: QueueHistory>(
     alloc: Global,
     doorbell: Arc<Doorbell, Global>,
     lines: Vec<Line<G, H>>,
@@ -35,7 +32,7 @@ pub fn gather<G: Gate, H: StoredHistory<Op, Answer>>(
 }
 
 // A caller with the pass of each line.
-fn line_callers<G: Gate, H: StoredHistory<Op, Answer>>(
+fn line_callers<G: Gate, H: QueueHistory>(
     alloc: Global,
     lines: Vec<Line<G, H>>,
 ) -> Result<Vec<QueueCaller<G, H>>, AllocError>
@@ -50,7 +47,7 @@ fn line_callers<G: Gate, H: StoredHistory<Op, Answer>>(
 }
 
 // A caller with the pass of a line.
-fn line_caller<G: Gate, H: StoredHistory<Op, Answer>>(line: Line<G, H>) -> QueueCaller<G, H>
+fn line_caller<G: Gate, H: QueueHistory>(line: Line<G, H>) -> QueueCaller<G, H>
     ensures pass { result ≡ line.pass }
     ensures never { NeverProduces line.pass }
 {
@@ -59,7 +56,7 @@ fn line_caller<G: Gate, H: StoredHistory<Op, Answer>>(line: Line<G, H>) -> Queue
 }
 
 // Joins one caller after another.
-fn join_each<G: Gate, H: StoredHistory<Op, Answer>>(
+fn join_each<G: Gate, H: QueueHistory>(
     queues: &mut Vec<QueueCaller<G, H>>,
     callers: Vec<Caller<G, H>>,
 )
@@ -72,7 +69,7 @@ fn join_each<G: Gate, H: StoredHistory<Op, Answer>>(
 }
 
 // Joins each of the others to the one at its place, from the last on. There may be fewer of them.
-fn join_all<G: Gate, H: StoredHistory<Op, Answer>>(
+fn join_all<G: Gate, H: QueueHistory>(
     queues: &mut Vec<QueueCaller<G, H>>,
     mut others: Vec<QueueCaller<G, H>>,
 )

@@ -5,17 +5,15 @@ ghost use Rattle.cluster_operator.specs.Changes.{AreDeactivated, HasFound, HasFo
 
 use crate::halt::Halt;
 use activation_directory::{DirectoryOp, DirectoryReply};
-use shared_partition::Gate;
+use shared_partition::{DirectoryHistory, Gate, QueueHistory};
 use silo_loops::{DirectoryLine, Doorbell, Line};
 use std::alloc::Global;
 use std::sync::Wait;
-use step_core::Answer;
 use stream_ident::GrainId;
 use stream_model::Op;
-use turnstile::StoredHistory;
 
 // Deactivates a grain at one queue, where it is active there.
-fn deactivate<G: Gate, H: StoredHistory<Op, Answer>, R: Wait>(
+fn deactivate<G: Gate, H: QueueHistory, R: Wait>(
     rt: &R,
     alloc: Global,
     doorbell: &Doorbell,
@@ -31,7 +29,7 @@ fn deactivate<G: Gate, H: StoredHistory<Op, Answer>, R: Wait>(
 }
 
 // Deactivates a grain at each queue.
-fn deactivate_everywhere<G: Gate, H: StoredHistory<Op, Answer>, R: Wait>(
+fn deactivate_everywhere<G: Gate, H: QueueHistory, R: Wait>(
     rt: &R,
     alloc: Global,
     doorbell: &Doorbell,
@@ -56,7 +54,7 @@ enum Release {
 }
 
 // Takes one grain of the silo from the directory, where there is one.
-fn take_grain<D: StoredHistory<DirectoryOp, DirectoryReply>, R: Wait>(
+fn take_grain<D: DirectoryHistory, R: Wait>(
     rt: &R,
     alloc: Global,
     doorbell: &Doorbell,
@@ -78,8 +76,8 @@ fn take_grain<D: StoredHistory<DirectoryOp, DirectoryReply>, R: Wait>(
 /// A call was refused. Those before it stand.
 pub(crate) fn evict<
     G: Gate,
-    H: StoredHistory<Op, Answer>,
-    D: StoredHistory<DirectoryOp, DirectoryReply>,
+    H: QueueHistory,
+    D: DirectoryHistory,
     R: Wait,
 >(
     rt: &R,

@@ -5,17 +5,16 @@ ghost use Rattle.step_core.specs.Replied.{reply_of};
 ghost use Rattle.cluster_operator.specs.Changes.{HasSince, HaveMoved, IsMove, IsUnmoved, StaysBehind, moved_of};
 
 use crate::halt::Halt;
-use shared_partition::Gate;
+use shared_partition::{Gate, QueueHistory};
 use silo_loops::{Assigned, Doorbell, Line};
 use std::alloc::Global;
 use std::sync::{Arc, Wait};
 use step_core::{Answer, Reply};
 use stream_model::Op;
-use turnstile::StoredHistory;
 
 // The queue goes to an agent on another silo, where it is another. Each agent is told before the doorbell is rung
 // for the last time.
-fn move_queue<G: Gate, H: StoredHistory<Op, Answer>, R: Wait>(
+fn move_queue<G: Gate, H: QueueHistory, R: Wait>(
     rt: &R,
     alloc: Global,
     doorbell: &Doorbell,
@@ -67,7 +66,7 @@ fn tell(agents: &Vec<Arc<Assigned, Global>>, queue: usize, from: u8, to: u8, gen
 ///
 /// # Errors
 /// A move was refused. Those before it stand.
-pub(crate) fn spread<G: Gate, H: StoredHistory<Op, Answer>, R: Wait>(
+pub(crate) fn spread<G: Gate, H: QueueHistory, R: Wait>(
     rt: &R,
     alloc: Global,
     doorbell: &Doorbell,

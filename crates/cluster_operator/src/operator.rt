@@ -8,23 +8,19 @@ ghost use Rattle.cluster_operator.specs.Operators.{HasOnlyGoneOn, HasSpread, IsU
 use crate::halt::Halt;
 use crate::leaving::evict;
 use crate::moving::spread;
-use activation_directory::{DirectoryOp, DirectoryReply};
 use queue_balancer::{RebalanceError, rebalance};
-use shared_partition::Gate;
+use shared_partition::{DirectoryHistory, Gate, QueueHistory};
 use silo_crew::{SiloLoops, SiloTools};
 use silo_loops::{Assigned, DirectoryLine, Doorbell, Line};
 use std::alloc::{AllocError, Global};
 use std::marker::Model;
 use std::sync::{Arc, Wait};
-use step_core::Answer;
-use stream_model::Op;
-use turnstile::StoredHistory;
 
 /// What changes the silos of a cluster.
 pub struct Operator<
     G: Gate,
-    H: StoredHistory<Op, Answer>,
-    D: StoredHistory<DirectoryOp, DirectoryReply>,
+    H: QueueHistory,
+    D: DirectoryHistory,
 > {
     gate: Arc<G, Global>,
     doorbell: Arc<Doorbell, Global>,
@@ -38,8 +34,8 @@ pub struct Operator<
 
 impl<
     G: Gate + Drop,
-    H: StoredHistory<Op, Answer> + Drop,
-    D: StoredHistory<DirectoryOp, DirectoryReply> + Drop,
+    H: QueueHistory + Drop,
+    D: DirectoryHistory + Drop,
 > Drop for Operator<G, H, D> {
     fn drop(self) {
         let Self {
@@ -54,7 +50,7 @@ impl<
     }
 }
 
-impl<G: Gate, H: StoredHistory<Op, Answer>, D: StoredHistory<DirectoryOp, DirectoryReply>> Model
+impl<G: Gate, H: QueueHistory, D: DirectoryHistory> Model
     for Operator<G, H, D> {
     ghost use Rattle.cluster_operator.specs.Operators.{IsOperator, OperatorView};
 
@@ -78,7 +74,7 @@ fn no_queues(alloc: Global, queues: usize) -> Result<Vec<Arc<Assigned, Global>>,
 }
 
 // Spreads the queues over the silos that live.
-fn spread_queues<G: Gate, H: StoredHistory<Op, Answer>, R: Wait>(
+fn spread_queues<G: Gate, H: QueueHistory, R: Wait>(
     rt: &R,
     alloc: Global,
     doorbell: &Doorbell,
@@ -114,7 +110,7 @@ fn spread_queues<G: Gate, H: StoredHistory<Op, Answer>, R: Wait>(
     Ok(())
 }
 
-impl<G: Gate, H: StoredHistory<Op, Answer>, D: StoredHistory<DirectoryOp, DirectoryReply>> Operator<
+impl<G: Gate, H: QueueHistory, D: DirectoryHistory> Operator<
     G,
     H,
     D,

@@ -10,17 +10,14 @@ ghost use Rattle.cluster_operator.specs.Operators.{OperatorGoesOn};
 ghost use Rattle.stream_cluster.specs.Clusters.{HasMetLimit, is_fixed};
 ghost use Rattle.cluster_scripts.specs.Lines.{ChangesBy, DoesLine, IsUnquiet, StopsBy};
 
-use activation_directory::{DirectoryOp, DirectoryReply};
 use cluster_callers::Caller;
 use script_parser::Command;
 use script_producer::{Answer, Drained, ask, ask_each, drain};
-use shared_partition::Gate;
+use shared_partition::{DirectoryHistory, Gate, QueueHistory};
 use std::alloc::{AllocError, Global};
 use std::sync::Wait;
 use std::thread::Threads;
 use stream_cluster::{Cluster, SiloDown, SiloUp};
-use stream_model::Op;
-use turnstile::StoredHistory;
 
 /// Why a script isn't done to its end.
 #[derive(Clone, Copy, Debug, PartialEq, Eq)]
@@ -36,8 +33,8 @@ pub(crate) enum Stop {
 // A silo comes by a line.
 fn up<
     G: Gate + 'static,
-    H: StoredHistory<Op, step_core::Answer> + Send + 'static,
-    D: StoredHistory<DirectoryOp, DirectoryReply> + Send + 'static,
+    H: QueueHistory + Send + 'static,
+    D: DirectoryHistory + Send + 'static,
     R: Threads + Wait + Copy + Send + 'static,
 >(rt: &R, alloc: Global, cluster: &mut Cluster<G, H, D>, silo: u8) -> Result<Answer, Stop>
     requires { silo < 16 }
@@ -57,8 +54,8 @@ fn up<
 // A silo goes by a line.
 fn down<
     G: Gate,
-    H: StoredHistory<Op, step_core::Answer>,
-    D: StoredHistory<DirectoryOp, DirectoryReply>,
+    H: QueueHistory,
+    D: DirectoryHistory,
     R: Threads + Wait,
 >(rt: &R, alloc: Global, cluster: &mut Cluster<G, H, D>, silo: u8) -> Result<Answer, Stop>
     requires { silo < 16 }
@@ -79,8 +76,8 @@ fn down<
 /// Does one line of a script. A line that is stopped may be done in part.
 pub(crate) fn do_line<
     G: Gate + 'static,
-    H: StoredHistory<Op, step_core::Answer> + Send + 'static,
-    D: StoredHistory<DirectoryOp, DirectoryReply> + Send + 'static,
+    H: QueueHistory + Send + 'static,
+    D: DirectoryHistory + Send + 'static,
     R: Threads + Wait + Copy + Send + 'static,
 >(
     rt: &R,
@@ -123,7 +120,7 @@ fn unless_limit(asked: Result<Answer, AllocError>) -> Result<Answer, Stop>
 }
 
 /// Waits until all queues are quiet.
-pub(crate) fn wait_until_quiet<G: Gate, H: StoredHistory<Op, step_core::Answer>, R: Wait>(
+pub(crate) fn wait_until_quiet<G: Gate, H: QueueHistory, R: Wait>(
     rt: &R,
     alloc: Global,
     caller: &mut Caller<G, H>,

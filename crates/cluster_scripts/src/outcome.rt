@@ -6,17 +6,13 @@ ghost use Rattle.cluster_scripts.specs.declared.outcome.RunEnd.TheVariants as en
 ghost use Rattle.cluster_scripts.specs.Runs.{LeavesLegalTraces, RunsAndEnds, RunsScript, run_end, why_after};
 
 use crate::running::{ScriptEnd, ScriptRun, run_script};
-use activation_directory::{DirectoryOp, DirectoryReply};
 use cluster_ending::{Finished, Traces};
 use script_reader::{Line, ScriptLine};
-use shared_partition::Gate;
+use shared_partition::{DirectoryHistory, Gate, QueueHistory};
 use std::alloc::{AllocError, Global};
 use std::sync::{Arc, Wait};
 use std::thread::Threads;
-use step_core::Answer;
 use stream_cluster::{Cluster, Config};
-use stream_model::Op;
-use turnstile::StoredHistory;
 
 /// Why a run has no report. Where several are so, it is the first.
 #[derive(Clone, Copy, Debug, PartialEq, Eq)]
@@ -69,8 +65,8 @@ impl<H: Drop> Drop for Ran<H> {
 /// A call failed to allocate, or a thread can't be made. No thread is left then either.
 pub fn run<
     G: Gate + 'static,
-    H: StoredHistory<Op, Answer> + Send + 'static,
-    D: StoredHistory<DirectoryOp, DirectoryReply> + Send + 'static,
+    H: QueueHistory + Send + 'static,
+    D: DirectoryHistory + Send + 'static,
     R: Threads + Wait + Copy + Send + 'static,
 >(
     rt: &R,

@@ -10,17 +10,14 @@ ghost use Rattle.cluster_scripts.specs.Lines.{StopsBy};
 ghost use Rattle.cluster_scripts.specs.Runs.{AnswersScript, DoesAll, DoesFront};
 
 use crate::line::{Stop, do_line, wait_until_quiet};
-use activation_directory::{DirectoryOp, DirectoryReply};
 use cluster_callers::Caller;
 use script_producer::Answer;
 use script_reader::{Line, ScriptLine};
-use shared_partition::Gate;
+use shared_partition::{DirectoryHistory, Gate, QueueHistory};
 use std::alloc::{AllocError, Global};
 use std::sync::Wait;
 use std::thread::Threads;
 use stream_cluster::Cluster;
-use stream_model::Op;
-use turnstile::StoredHistory;
 
 /// How a script has ended.
 #[derive(Clone, Copy, Debug, PartialEq, Eq)]
@@ -51,8 +48,8 @@ pub struct ScriptRun {
 /// A call failed to allocate, or a thread can't be made. The lines before were done.
 pub fn run_script<
     G: Gate + 'static,
-    H: StoredHistory<Op, step_core::Answer> + Send + 'static,
-    D: StoredHistory<DirectoryOp, DirectoryReply> + Send + 'static,
+    H: QueueHistory + Send + 'static,
+    D: DirectoryHistory + Send + 'static,
     R: Threads + Wait + Copy + Send + 'static,
 >(
     rt: &R,
@@ -87,8 +84,8 @@ pub fn run_script<
 // Does the lines, and then waits until all queues are quiet.
 fn do_lines<
     G: Gate + 'static,
-    H: StoredHistory<Op, step_core::Answer> + Send + 'static,
-    D: StoredHistory<DirectoryOp, DirectoryReply> + Send + 'static,
+    H: QueueHistory + Send + 'static,
+    D: DirectoryHistory + Send + 'static,
     R: Threads + Wait + Copy + Send + 'static,
 >(
     rt: &R,

@@ -10,17 +10,17 @@ ghost use Rattle.script_producer.specs.Telling.{AsksOnce, EndsAsking, HasGoneOn,
 use crate::answer::{Answer, answer_of};
 use cluster_callers::Caller;
 use script_parser::EachOp;
-use shared_partition::Gate;
+use shared_partition::{Gate, QueueHistory};
 use std::alloc::{AllocError, Global};
 use std::sync::Wait;
 use stream_model::Op;
-use turnstile::{Refusal, StoredHistory};
+use turnstile::Refusal;
 
 /// Asks for an operation of a producer at a queue.
 ///
 /// # Errors
 /// The call failed to allocate. The partition is as before.
-pub fn ask<G: Gate, H: StoredHistory<Op, step_core::Answer>, R: Wait>(
+pub fn ask<G: Gate, H: QueueHistory, R: Wait>(
     rt: &R,
     alloc: Global,
     caller: &mut Caller<G, H>,
@@ -43,7 +43,7 @@ pub fn ask<G: Gate, H: StoredHistory<Op, step_core::Answer>, R: Wait>(
 ///
 /// # Errors
 /// A call failed to allocate. The queues before it were asked.
-pub fn ask_each<G: Gate, H: StoredHistory<Op, step_core::Answer>, R: Wait>(
+pub fn ask_each<G: Gate, H: QueueHistory, R: Wait>(
     rt: &R,
     alloc: Global,
     caller: &mut Caller<G, H>,
@@ -69,7 +69,7 @@ pub fn ask_each<G: Gate, H: StoredHistory<Op, step_core::Answer>, R: Wait>(
 }
 
 // One call at a queue, and what its reply answers.
-fn ask_once<G: Gate, H: StoredHistory<Op, step_core::Answer>, R: Wait>(
+fn ask_once<G: Gate, H: QueueHistory, R: Wait>(
     rt: &R,
     alloc: Global,
     caller: &mut Caller<G, H>,

@@ -8,14 +8,12 @@ ghost use Rattle.script_producer.specs.Telling.{EndsLooking, HasGoneOn, Tells};
 
 use cluster_callers::Caller;
 use cluster_ending::{Quiet, ask_quiet};
-use shared_partition::Gate;
+use shared_partition::{Gate, QueueHistory};
 use std::alloc::{AllocError, Global};
 use std::sync::Wait;
 use std::sync::atomic::AtomicBool;
 use std::thread;
-use step_core::Answer;
-use stream_model::Op;
-use turnstile::{Refusal, StoredHistory};
+use turnstile::Refusal;
 
 /// How often a drain yields before a look, at most.
 const MOST_YIELDS: u32 = 5_000;
@@ -38,7 +36,7 @@ pub enum Drained {
 ///
 /// # Errors
 /// A call failed to allocate. Nothing was done but looks.
-pub fn drain<G: Gate, H: StoredHistory<Op, Answer>, R: Wait>(
+pub fn drain<G: Gate, H: QueueHistory, R: Wait>(
     rt: &R,
     alloc: Global,
     caller: &mut Caller<G, H>,

@@ -11,7 +11,7 @@ use activation_directory::{DirectoryOp, DirectoryReply};
 use cluster_ending::Traces;
 use cluster_scripts::{Ran, RunEnd, run, run_text};
 use script_reader::{Script, read_lines};
-use shared_partition::Counting;
+use shared_partition::{Counting, QueueHistory};
 use std::alloc::Global;
 use std::io::Write;
 use std::sync::{Arc, Wait};
@@ -21,7 +21,7 @@ use stream_cluster::Config;
 use stream_model::Op;
 use stream_script::{SimError, Source, read_script};
 use trace_printer::queue_trace;
-use turnstile::{AskedHistory, ProofHistory, StoredHistory};
+use turnstile::{AskedHistory, ProofHistory};
 
 /// Runs a script on silos, and writes what the run prints. All of the script is read before a thread is started, and
 /// no thread is left when the text is written.
@@ -74,7 +74,7 @@ pub fn trace_on_silos<T: Threads + Wait + Copy + Send + 'static, R: Source, W: W
 
 /// Reads a script and runs it on silos.
 fn run_source<
-    H: StoredHistory<Op, Answer> + Send + 'static,
+    H: QueueHistory + Send + 'static,
     T: Threads + Wait + Copy + Send + 'static,
     R: Source,
 >(rt: &T, alloc: Global, config: &Config, source: &mut R) -> Result<Ran<H>, ProgramFault>

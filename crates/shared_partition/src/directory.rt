@@ -5,12 +5,12 @@ ghost use Rattle.turnstile.specs.Calls.{Called, CallsBy, Found, HasOnlySeen, IsO
 ghost use Rattle.turnstile.specs.Passes.{Origin};
 ghost use Rattle.shared_partition.specs.Directories.{BeganEmpty, IsOfEmpty, LeavesLegal, TellsOnePermit, after, replied};
 
-use activation_directory::laws::one_permit_at_a_time;
+use crate::history::DirectoryHistory;
 use activation_directory::{Directory, DirectoryOp, DirectoryReply};
 use std::alloc::{AllocError, Global};
 use std::marker::{Model, PhantomData};
 use std::sync::Wait;
-use turnstile::{Handle, PassOf, Refusal, Replays, StoredHistory, Turnstile};
+use turnstile::{Handle, PassOf, Refusal, Replays, Turnstile};
 
 /// A directory of grains, with a way to store the history of its calls.
 ///
@@ -29,7 +29,7 @@ impl<H> Model for SharedDirectory<H> {
     ghost view = { λ s. s.directory };
 }
 
-impl<H: StoredHistory<DirectoryOp, DirectoryReply>> Replays for SharedDirectory<H> {
+impl<H: DirectoryHistory> Replays for SharedDirectory<H> {
     type Op = DirectoryOp;
 
     type Reply = DirectoryReply;
@@ -58,7 +58,7 @@ impl<H: StoredHistory<DirectoryOp, DirectoryReply>> Replays for SharedDirectory<
     }
 }
 
-impl<H: StoredHistory<DirectoryOp, DirectoryReply>> SharedDirectory<H> {
+impl<H: DirectoryHistory> SharedDirectory<H> {
     /// A directory in which no grain is placed, and which gives this many permits in all, at most
     /// 4,000,000. It takes no memory.
     pub fn new(alloc: Global, permits: u64) -> SharedDirectory<H>
@@ -94,7 +94,6 @@ impl<H: StoredHistory<DirectoryOp, DirectoryReply>> SharedDirectory<H> {
         ensures permit { TellsOnePermit pass.new.seen }
         ensures stands { LeavesLegal turnstile.now.start pass.new.seen }
     {
-        one_permit_at_a_time();
         turnstile.call(rt, alloc, pass, op)
     }
 
@@ -114,7 +113,6 @@ impl<H: StoredHistory<DirectoryOp, DirectoryReply>> SharedDirectory<H> {
         ensures permit { TellsOnePermit handle.new.seen }
         ensures stands { (t : Origin PlainDirectory) → IsOf t handle.old → LeavesLegal t.start handle.new.seen }
     {
-        one_permit_at_a_time();
         handle.call(rt, alloc, op, &mut ())
     }
 }

@@ -9,8 +9,10 @@
 
 mod directory;
 mod gate;
+mod history;
 mod partition;
 
 pub use directory::SharedDirectory;
 pub use gate::{Counting, Gate};
+pub use history::{DirectoryHistory, QueueHistory};
 pub use partition::SharedPartition;

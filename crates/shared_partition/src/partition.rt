@@ -9,14 +9,14 @@ ghost use Rattle.stream_model.specs.declared.plain.PlainPartition.{PlainPartitio
 ghost use Rattle.shared_partition.specs.Partitions.{BeganEmpty, IsOfEmpty, LeavesLegal, TellsOneHistory, after, replied};
 
 use crate::gate::Gate;
+use crate::history::QueueHistory;
 use std::alloc::{AllocError, Global};
 use std::marker::{Model, PhantomData};
 use std::sync::{Arc, Wait};
 use step_core::{Answer, Partition};
 use stream_ident::Event;
-use stream_laws::one_history;
 use stream_model::{Limits, Op, PlainPartition};
-use turnstile::{Handle, PassOf, Refusal, Replays, StoredHistory, Turnstile};
+use turnstile::{Handle, PassOf, Refusal, Replays, Turnstile};
 
 /// The partition of a queue, with a gate that sees each operation before it is applied.
 ///
@@ -47,7 +47,7 @@ impl<G, H> Model for SharedPartition<G, H> {
     ghost view = { λ s. s.partition.value };
 }
 
-impl<G: Gate, H: StoredHistory<Op, Answer>> Replays for SharedPartition<G, H> {
+impl<G: Gate, H: QueueHistory> Replays for SharedPartition<G, H> {
     type Op = Op;
 
     type Reply = Answer;
@@ -77,7 +77,7 @@ impl<G: Gate, H: StoredHistory<Op, Answer>> Replays for SharedPartition<G, H> {
     }
 }
 
-impl<G: Gate, H: StoredHistory<Op, Answer>> SharedPartition<G, H> {
+impl<G: Gate, H: QueueHistory> SharedPartition<G, H> {
     /// A partition without events and subscriptions, whose cache has this many blocks of 64 events.
     ///
     /// # Errors
@@ -126,6 +126,7 @@ impl<G: Gate, H: StoredHistory<Op, Answer>> SharedPartition<G, H> {
     /// # Errors
     /// `HistoryFull` where the history has as many entries as it may have, and else `Memory`. No entry is
     /// added, the partition is as before, and the pass has seen the whole history as it was found.
+    #[inline(never)]
     pub fn call<R: Wait>(
         turnstile: &Turnstile<SharedPartition<G, H>>,
         rt: &R,
@@ -142,7 +143,6 @@ impl<G: Gate, H: StoredHistory<Op, Answer>> SharedPartition<G, H> {
         ensures headline { TellsOneHistory pass.new.seen }
         ensures stands { LeavesLegal turnstile.now.start pass.new.seen }
     {
-        one_history();
         turnstile.call_into(rt, alloc, pass, op, events)
     }
 
@@ -151,6 +151,7 @@ impl<G: Gate, H: StoredHistory<Op, Answer>> SharedPartition<G, H> {
     ///
     /// # Errors
     /// They are those of `call`.
+    #[inline(never)]
     pub fn call_by<R: Wait>(
         handle: &mut Handle<SharedPartition<G, H>>,
         rt: &R,
@@ -164,7 +165,6 @@ impl<G: Gate, H: StoredHistory<Op, Answer>> SharedPartition<G, H> {
         ensures headline { TellsOneHistory handle.new.seen }
         ensures stands { (t : Origin PlainPartition) → IsOf t handle.old → LeavesLegal t.start handle.new.seen }
     {
-        one_history();
         handle.call(rt, alloc, op, events)
     }
 }

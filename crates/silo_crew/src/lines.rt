@@ -5,19 +5,16 @@ ghost use Rattle.std.specs.List.{AllZip};
 ghost use Rattle.cluster_callers.specs.Calls.{AllZipFront};
 ghost use Rattle.silo_crew.specs.Silos.{AreAlike, GoOn, HasTakenIn, IsSplitLine, joined_lines};
 
-use shared_partition::Gate;
+use shared_partition::{Gate, QueueHistory};
 use silo_loops::Line;
 use std::alloc::{AllocError, Global};
-use step_core::Answer;
-use stream_model::Op;
-use turnstile::StoredHistory;
 
 /// A line with a pass of its own beside each of these.
 ///
 /// # Errors
 /// The call failed to allocate, or a turnstile has no number for another pass. The passes that were split off by
 /// then are joined back.
-pub fn split_lines<G: Gate, H: StoredHistory<Op, Answer>>(
+pub fn split_lines<G: Gate, H: QueueHistory>(
     alloc: Global,
     lines: &mut Vec<Line<G, H>>,
 ) -> Result<Vec<Line<G, H>>, AllocError>
@@ -40,7 +37,7 @@ pub fn split_lines<G: Gate, H: StoredHistory<Op, Answer>>(
 }
 
 /// Takes in the passes of other lines, at the same turnstiles in the same order. It takes no memory.
-pub fn join_lines<G: Gate, H: StoredHistory<Op, Answer>>(
+pub fn join_lines<G: Gate, H: QueueHistory>(
     lines: &mut Vec<Line<G, H>>,
     others: Vec<Line<G, H>>,
 )
@@ -53,7 +50,7 @@ pub fn join_lines<G: Gate, H: StoredHistory<Op, Answer>>(
 }
 
 // Takes in the passes of other lines, which are at the turnstiles of the first of these.
-fn join_front<G: Gate, H: StoredHistory<Op, Answer>>(
+fn join_front<G: Gate, H: QueueHistory>(
     lines: &mut Vec<Line<G, H>>,
     mut others: Vec<Line<G, H>>,
 )

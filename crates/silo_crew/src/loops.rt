@@ -6,15 +6,11 @@ ghost use Rattle.silo_loops.specs.Passes.{IsOtherIn};
 ghost use Rattle.silo_crew.specs.Silos.{AreTakenIn, GoOn, HasTakenIn, HaveJoined, IsAgentAt, IsFresh, IsFreshAgent, IsFreshWorker, IsSilent, IsSiloAt, IsWorkerAt, joined_lines};
 
 use crate::lines::{join_lines, split_lines};
-use activation_directory::{DirectoryOp, DirectoryReply};
-use shared_partition::Gate;
+use shared_partition::{DirectoryHistory, Gate, QueueHistory};
 use silo_loops::{AgentLoop, Assigned, DirectoryLine, Doorbell, Line, TurnRoom, WorkerLoop};
 use std::alloc::{AllocError, Global};
 use std::marker::Model;
 use std::sync::Arc;
-use step_core::Answer;
-use stream_model::Op;
-use turnstile::StoredHistory;
 
 /// What the loops of a silo go by: the gate, the doorbell, the queues that are assigned to its agent, and how many rounds
 /// each of them may begin.
@@ -51,8 +47,8 @@ impl<G: Drop> SiloTools<G> {
 #[derive(Drop)]
 pub struct SiloLoops<
     G: Gate,
-    H: StoredHistory<Op, Answer>,
-    D: StoredHistory<DirectoryOp, DirectoryReply>,
+    H: QueueHistory,
+    D: DirectoryHistory,
 > {
     /// The silo, a number.
     pub silo: u8,
@@ -64,7 +60,7 @@ pub struct SiloLoops<
     pub second: WorkerLoop<G, H, D>,
 }
 
-impl<G: Gate, H: StoredHistory<Op, Answer>, D: StoredHistory<DirectoryOp, DirectoryReply>> Model
+impl<G: Gate, H: QueueHistory, D: DirectoryHistory> Model
     for SiloLoops<G, H, D> {
     ghost use Rattle.silo_crew.specs.Silos.{SiloView};
 
@@ -74,7 +70,7 @@ impl<G: Gate, H: StoredHistory<Op, Answer>, D: StoredHistory<DirectoryOp, Direct
 }
 
 // An agent with passes that are split off.
-fn make_agent<G: Gate, H: StoredHistory<Op, Answer>>(
+fn make_agent<G: Gate, H: QueueHistory>(
     alloc: Global,
     rounds: u64,
     tools: SiloTools<G>,
@@ -96,8 +92,8 @@ fn make_agent<G: Gate, H: StoredHistory<Op, Answer>>(
 // A worker with passes that are split off.
 fn make_worker<
     G: Gate,
-    H: StoredHistory<Op, Answer>,
-    D: StoredHistory<DirectoryOp, DirectoryReply>,
+    H: QueueHistory,
+    D: DirectoryHistory,
 >(
     alloc: Global,
     silo: u8,
@@ -123,7 +119,7 @@ fn make_worker<
 }
 
 // Takes back the passes of an agent.
-fn join_agent<G: Gate, H: StoredHistory<Op, Answer>>(
+fn join_agent<G: Gate, H: QueueHistory>(
     lines: &mut Vec<Line<G, H>>,
     agent: AgentLoop<G, H>,
 )
@@ -138,8 +134,8 @@ fn join_agent<G: Gate, H: StoredHistory<Op, Answer>>(
 // Takes back the passes of a worker.
 fn join_worker<
     G: Gate,
-    H: StoredHistory<Op, Answer>,
-    D: StoredHistory<DirectoryOp, DirectoryReply>,
+    H: QueueHistory,
+    D: DirectoryHistory,
 >(lines: &mut Vec<Line<G, H>>, directory: &mut DirectoryLine<D>, worker: WorkerLoop<G, H, D>)
     requires { IsWorkerAt lines.old.items directory.old worker }
     ensures go_on { GoOn lines.old.items lines.new.items }
@@ -157,8 +153,8 @@ fn join_worker<
 // Two workers of a silo.
 fn make_workers<
     G: Gate,
-    H: StoredHistory<Op, Answer>,
-    D: StoredHistory<DirectoryOp, DirectoryReply>,
+    H: QueueHistory,
+    D: DirectoryHistory,
 >(
     alloc: Global,
     silo: u8,
@@ -187,8 +183,8 @@ fn make_workers<
 
 impl<
     G: Gate,
-    H: StoredHistory<Op, Answer>,
-    D: StoredHistory<DirectoryOp, DirectoryReply>,
+    H: QueueHistory,
+    D: DirectoryHistory,
 > SiloLoops<G, H, D> {
     /// The loops of a silo, which have done nothing yet, with passes that are split off from these.
     ///

@@ -5,8 +5,7 @@ ghost use Rattle.silo_loops.specs.Workers.{WorkerRuns};
 ghost use Rattle.silo_crew.specs.Silos.{HasRun};
 
 use crate::loops::SiloLoops;
-use activation_directory::{DirectoryOp, DirectoryReply};
-use shared_partition::Gate;
+use shared_partition::{DirectoryHistory, Gate, QueueHistory};
 use silo_loops::{AgentLoop, Doorbell, WorkerLoop};
 use std::alloc::Global;
 use std::marker::Model;
@@ -15,15 +14,12 @@ use std::sync::atomic::{AtomicBool, Ordering};
 use std::sync::{Arc, Wait};
 use std::thread;
 use std::thread::{Promise, PromisedHandle, Threads};
-use step_core::Answer;
-use stream_model::Op;
-use turnstile::StoredHistory;
 
 /// The agent that comes back is the one that was started, after some steps or none.
 #[derive(Drop)]
-pub struct AgentPromise<G: Gate, H: StoredHistory<Op, Answer>>(Snapshot<AgentLoop<G, H>>);
+pub struct AgentPromise<G: Gate, H: QueueHistory>(Snapshot<AgentLoop<G, H>>);
 
-impl<G: Gate, H: StoredHistory<Op, Answer>> Promise<AgentLoop<G, H>> for AgentPromise<G, H> {
+impl<G: Gate, H: QueueHistory> Promise<AgentLoop<G, H>> for AgentPromise<G, H> {
     ghost kept_by = { λ p a. AgentRuns p.0.value a };
 }
 
@@ -31,11 +27,11 @@ impl<G: Gate, H: StoredHistory<Op, Answer>> Promise<AgentLoop<G, H>> for AgentPr
 #[derive(Drop)]
 pub struct WorkerPromise<
     G: Gate,
-    H: StoredHistory<Op, Answer>,
-    D: StoredHistory<DirectoryOp, DirectoryReply>,
+    H: QueueHistory,
+    D: DirectoryHistory,
 >(Snapshot<WorkerLoop<G, H, D>>);
 
-impl<G: Gate, H: StoredHistory<Op, Answer>, D: StoredHistory<DirectoryOp, DirectoryReply>> Promise<
+impl<G: Gate, H: QueueHistory, D: DirectoryHistory> Promise<
     WorkerLoop<G, H, D>,
 > for WorkerPromise<G, H, D> {
     ghost kept_by = { λ p w. WorkerRuns p.0.value w };
@@ -49,7 +45,7 @@ type WorkerThread<G, H, D> = PromisedHandle<WorkerLoop<G, H, D>, WorkerPromise<G
 // agent comes back.
 fn start_agent<
     G: Gate + 'static,
-    H: StoredHistory<Op, Answer> + Send + 'static,
+    H: QueueHistory + Send + 'static,
     R: Threads + Wait + Copy + Send + 'static,
 >(
     rt: &R,
@@ -77,8 +73,8 @@ fn start_agent<
 // worker comes back.
 fn start_worker<
     G: Gate + 'static,
-    H: StoredHistory<Op, Answer> + Send + 'static,
-    D: StoredHistory<DirectoryOp, DirectoryReply> + Send + 'static,
+    H: QueueHistory + Send + 'static,
+    D: DirectoryHistory + Send + 'static,
     R: Threads + Wait + Copy + Send + 'static,
 >(
     rt: &R,
@@ -108,8 +104,8 @@ fn start_worker<
 #[derive(Drop)]
 pub struct RunningSilo<
     G: Gate,
-    H: StoredHistory<Op, Answer>,
-    D: StoredHistory<DirectoryOp, DirectoryReply>,
+    H: QueueHistory,
+    D: DirectoryHistory,
 > {
     silo: u8,
     stop: Arc<AtomicBool, Global>,
@@ -118,7 +114,7 @@ pub struct RunningSilo<
     second: WorkerThread<G, H, D>,
 }
 
-impl<G: Gate, H: StoredHistory<Op, Answer>, D: StoredHistory<DirectoryOp, DirectoryReply>> Model
+impl<G: Gate, H: QueueHistory, D: DirectoryHistory> Model
     for RunningSilo<G, H, D> {
     ghost use Rattle.silo_crew.specs.Silos.{SiloView};
 
@@ -136,8 +132,8 @@ fn tell_to_stop<R: Wait>(rt: &R, doorbell: &Doorbell, stop: &AtomicBool) {
 // Starts two workers. Where one can't be started, both come back.
 fn start_workers<
     G: Gate + 'static,
-    H: StoredHistory<Op, Answer> + Send + 'static,
-    D: StoredHistory<DirectoryOp, DirectoryReply> + Send + 'static,
+    H: QueueHistory + Send + 'static,
+    D: DirectoryHistory + Send + 'static,
     R: Threads + Wait + Copy + Send + 'static,
 >(
     rt: &R,
@@ -168,8 +164,8 @@ fn start_workers<
 
 impl<
     G: Gate + 'static,
-    H: StoredHistory<Op, Answer> + Send + 'static,
-    D: StoredHistory<DirectoryOp, DirectoryReply> + Send + 'static,
+    H: QueueHistory + Send + 'static,
+    D: DirectoryHistory + Send + 'static,
 > RunningSilo<G, H, D> {
     /// Starts the loops of a silo, each in a thread of its own. The doorbell is the one at which they wait.
     ///
@@ -226,8 +222,8 @@ impl<
 
 impl<
     G: Gate,
-    H: StoredHistory<Op, Answer>,
-    D: StoredHistory<DirectoryOp, DirectoryReply>,
+    H: QueueHistory,
+    D: DirectoryHistory,
 > RunningSilo<G, H, D> {
     /// The silo, a number.
     pub fn silo(&self) -> u8

@@ -4,13 +4,11 @@ use crate::gate::Recorder;
 use crate::operations::{Call, Told, reply};
 use crate::rows::assert_row;
 use crate::silo::{KEY, Loop, Silo, ask, publish};
-use activation_directory::{DirectoryOp, DirectoryReply};
+use shared_partition::{DirectoryHistory, QueueHistory};
 use silo_loops::{Advance, Over};
 use std::alloc::Global;
 use std::process::Abort;
 use std::sync::Wait;
-use step_core::{Answer, Op};
-use turnstile::StoredHistory;
 
 // What the gate was told: events, commits, and how much of it was out of order.
 type Work = (u64, u64, u64);
@@ -44,8 +42,8 @@ enum Step {
 
 // Whether a loop ends so.
 fn ends<
-    H: StoredHistory<Op, Answer>,
-    D: StoredHistory<DirectoryOp, DirectoryReply>,
+    H: QueueHistory,
+    D: DirectoryHistory,
     R: Wait + Abort,
 >(rt: &R, alloc: Global, silo: &mut Silo<Recorder, H, D>, which: Loop, over: Over) -> bool {
     for _ in 0..100 {
@@ -59,8 +57,8 @@ fn ends<
 
 // Takes a step, and tells whether what is seen then is as it should be. The calls are counted from a number on.
 fn is_met<
-    H: StoredHistory<Op, Answer>,
-    D: StoredHistory<DirectoryOp, DirectoryReply>,
+    H: QueueHistory,
+    D: DirectoryHistory,
     R: Wait + Abort,
 >(rt: &R, alloc: Global, silo: &mut Silo<Recorder, H, D>, since: &mut u64, step: &Step) -> bool {
     match step {
@@ -91,8 +89,8 @@ fn is_met<
 
 // Plays a case.
 fn play<
-    H: StoredHistory<Op, Answer>,
-    D: StoredHistory<DirectoryOp, DirectoryReply>,
+    H: QueueHistory,
+    D: DirectoryHistory,
     R: Wait + Abort,
 >(rt: &R, alloc: Global, case: usize, calls: u64, rounds: u64, steps: &[Step]) {
     let mut silo = Silo::<Recorder, H, D>::new(rt, alloc, Recorder::new(), 1, calls, rounds);

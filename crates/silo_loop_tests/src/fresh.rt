@@ -6,13 +6,13 @@ ghost use Rattle.shared_partition.specs.Partitions as partitions;
 
 use activation_directory::{DirectoryOp, DirectoryReply};
 use cluster_callers::QueueCaller;
-use shared_partition::{Gate, SharedDirectory, SharedPartition};
+use shared_partition::{DirectoryHistory, Gate, QueueHistory, SharedDirectory, SharedPartition};
 use silo_loops::{DirectoryLine, Line};
 use std::alloc::{AllocError, Global};
 use std::process::Abort;
 use std::sync::Arc;
 use step_core::{Answer, Limits, Op};
-use turnstile::{AskedHistory, PassOf, PlainHistory, StoredHistory, Turnstile};
+use turnstile::{AskedHistory, PassOf, PlainHistory, Turnstile};
 
 /// How the calls of a partition are stored.
 pub type History = AskedHistory<Op, Answer>;
@@ -25,7 +25,7 @@ const BLOCKS: usize = 4;
 
 // A turnstile over an empty partition whose cache has so many blocks, and its first pass. The history has at most so
 // many calls.
-fn partition<G: Gate, H: StoredHistory<Op, Answer>>(
+fn partition<G: Gate, H: QueueHistory>(
     alloc: Global,
     gate: Arc<G, Global>,
     queue: usize,
@@ -48,7 +48,7 @@ fn partition<G: Gate, H: StoredHistory<Op, Answer>>(
 }
 
 /// The first line of an empty queue, whose history has at most so many calls.
-pub fn line<G: Gate, H: StoredHistory<Op, Answer>>(
+pub fn line<G: Gate, H: QueueHistory>(
     alloc: Global,
     gate: Arc<G, Global>,
     queue: usize,
@@ -59,14 +59,14 @@ pub fn line<G: Gate, H: StoredHistory<Op, Answer>>(
 }
 
 /// A caller with the pass of a line.
-pub fn caller_of<G: Gate, H: StoredHistory<Op, Answer>>(line: Line<G, H>) -> QueueCaller<G, H> {
+pub fn caller_of<G: Gate, H: QueueHistory>(line: Line<G, H>) -> QueueCaller<G, H> {
     let (turnstile, pass) = line.into_parts();
     QueueCaller::new(turnstile, pass)
 }
 
 // A turnstile over an empty directory, which gives so many permits, and its first pass. The history has at most so
 // many calls.
-fn directory<D: StoredHistory<DirectoryOp, DirectoryReply>>(
+fn directory<D: DirectoryHistory>(
     alloc: Global,
     permits: u64,
     calls: u64,
@@ -80,7 +80,7 @@ fn directory<D: StoredHistory<DirectoryOp, DirectoryReply>>(
 }
 
 /// The first line of an empty directory.
-pub fn directory_line<D: StoredHistory<DirectoryOp, DirectoryReply>, R: Abort>(
+pub fn directory_line<D: DirectoryHistory, R: Abort>(
     rt: &R,
     alloc: Global,
 ) -> DirectoryLine<D> {

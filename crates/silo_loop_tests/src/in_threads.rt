@@ -2,7 +2,7 @@
 use crate::fresh::{Asked, History};
 use crate::silo::Silo;
 use crate::tally::Tally;
-use activation_directory::{DirectoryOp, DirectoryReply};
+use shared_partition::{DirectoryHistory, QueueHistory};
 use silo_loops::{AgentLoop, Doorbell, WorkerLoop};
 use std::alloc::Global;
 use std::process::Abort;
@@ -10,8 +10,6 @@ use std::sync::Wait;
 use std::sync::atomic::{AtomicBool, Ordering};
 use std::thread;
 use std::thread::{Threads, join};
-use step_core::{Answer, Op};
-use turnstile::StoredHistory;
 
 // How many rounds each loop may begin. A loop that doesn't wait has begun them soon.
 const ROUNDS: u64 = 10_000;
@@ -25,7 +23,7 @@ pub trait Runs: Send + Drop {
     fn left(&self) -> u64;
 }
 
-impl<H: StoredHistory<Op, Answer> + Send> Runs for AgentLoop<Tally, H> {
+impl<H: QueueHistory + Send> Runs for AgentLoop<Tally, H> {
     fn go<R: Wait>(self, rt: &R, alloc: Global, stop: &AtomicBool) -> AgentLoop<Tally, H> {
         self.run(rt, alloc, stop)
     }
@@ -35,7 +33,7 @@ impl<H: StoredHistory<Op, Answer> + Send> Runs for AgentLoop<Tally, H> {
     }
 }
 
-impl<H: StoredHistory<Op, Answer> + Send, D: StoredHistory<DirectoryOp, DirectoryReply> + Send> Runs
+impl<H: QueueHistory + Send, D: DirectoryHistory + Send> Runs
     for WorkerLoop<Tally, H, D> {
     fn go<R: Wait>(self, rt: &R, alloc: Global, stop: &AtomicBool) -> WorkerLoop<Tally, H, D> {
         self.run(rt, alloc, stop)
@@ -99,8 +97,8 @@ fn waits<L: Runs, R: Threads + Wait + Abort + Sync>(
 
 // The agent pulls and asks for a due subscription, and the worker asks for a ready grain.
 fn both_wait<
-    H: StoredHistory<Op, Answer> + Send,
-    D: StoredHistory<DirectoryOp, DirectoryReply> + Send,
+    H: QueueHistory + Send,
+    D: DirectoryHistory + Send,
     R: Threads + Wait + Abort + Sync,
 >(rt: &R, alloc: Global) {
     let Silo {

@@ -2,14 +2,13 @@
 use crate::fresh::{History, caller_of, line};
 use crate::operations::{Call, operation};
 use cluster_callers::QueueCaller;
-use shared_partition::Counting;
+use shared_partition::{Counting, QueueHistory};
 use silo_loops::Doorbell;
 use std::alloc::{AllocError, Global};
 use std::process::Abort;
 use std::sync::{Arc, Wait};
-use step_core::{Answer, Op};
 use stream_ident::Token;
-use turnstile::{Refusal, StoredHistory};
+use turnstile::Refusal;
 
 const STREAM: u8 = b'k';
 
@@ -45,7 +44,7 @@ static CALLS: [Call; 20] = [
 ];
 
 // A caller of an empty queue.
-fn opened<H: StoredHistory<Op, Answer>>(
+fn opened<H: QueueHistory>(
     alloc: Global,
 ) -> Result<QueueCaller<Counting, H>, AllocError> {
     let gate = Arc::new(alloc, Counting)?;
@@ -53,7 +52,7 @@ fn opened<H: StoredHistory<Op, Answer>>(
 }
 
 // Makes a call. Whether it is answered, and not refused memory.
-fn is_answered<H: StoredHistory<Op, Answer>, R: Wait + Abort>(
+fn is_answered<H: QueueHistory, R: Wait + Abort>(
     rt: &R,
     alloc: Global,
     caller: &mut QueueCaller<Counting, H>,
@@ -73,7 +72,7 @@ fn is_answered<H: StoredHistory<Op, Answer>, R: Wait + Abort>(
 }
 
 // Makes all calls, each of them once more where memory was refused. Each has one entry then.
-fn insist<H: StoredHistory<Op, Answer>, R: Wait + Abort>(rt: &R, alloc: Global) {
+fn insist<H: QueueHistory, R: Wait + Abort>(rt: &R, alloc: Global) {
     let mut caller = match opened::<H>(alloc) {
         Ok(caller) => caller,
         Err(AllocError) => opened::<H>(alloc).expect(rt, "memory"),

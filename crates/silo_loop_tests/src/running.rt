@@ -4,8 +4,8 @@ use crate::in_threads::Runs;
 use crate::seven::{are_quiet, begun, publish_each};
 use crate::silo::{Silo, two_workers};
 use crate::tally::Tally;
-use activation_directory::{DirectoryOp, DirectoryReply};
 use cluster_callers::Caller;
+use shared_partition::{DirectoryHistory, QueueHistory};
 use silo_loops::Doorbell;
 use std::alloc::Global;
 use std::process::Abort;
@@ -13,8 +13,6 @@ use std::sync::Wait;
 use std::sync::atomic::{AtomicBool, Ordering};
 use std::thread;
 use std::thread::{Threads, join};
-use step_core::{Answer, Op};
-use turnstile::StoredHistory;
 
 // How many events of each stream are there before the loops run, and how many come beside them.
 const BEFORE: u64 = 40;
@@ -36,7 +34,7 @@ trait Produces: Send + Drop {
     fn is_quiet<R: Wait + Abort>(&mut self, rt: &R, alloc: Global) -> bool;
 }
 
-impl<H: StoredHistory<Op, Answer> + Send> Produces for Caller<Tally, H> {
+impl<H: QueueHistory + Send> Produces for Caller<Tally, H> {
     fn publish<R: Wait + Abort>(&mut self, rt: &R, alloc: Global) {
         publish_each(rt, alloc, self, BESIDE);
     }
@@ -119,8 +117,8 @@ fn go_all<A: Runs, B: Runs, P: Produces, R: Threads + Wait + Abort + Sync>(
 // Each event is handled once and in order. The agent has delivered several events to each grain of a queue before its
 // turn there ended, so there are turns of several events.
 fn all_run<
-    H: StoredHistory<Op, Answer> + Send,
-    D: StoredHistory<DirectoryOp, DirectoryReply> + Send,
+    H: QueueHistory + Send,
+    D: DirectoryHistory + Send,
     R: Threads + Wait + Abort + Sync,
 >(rt: &R, alloc: Global) {
     let Silo {

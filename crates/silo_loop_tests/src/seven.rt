@@ -2,13 +2,12 @@
 use crate::operations::Call;
 use crate::silo::{Silo, ask, publish};
 use crate::tally::Tally;
-use activation_directory::{DirectoryOp, DirectoryReply};
 use cluster_callers::Caller;
+use shared_partition::{DirectoryHistory, QueueHistory};
 use std::alloc::Global;
 use std::process::Abort;
 use std::sync::Wait;
-use step_core::{Answer, Op, Reply};
-use turnstile::StoredHistory;
+use step_core::Reply;
 
 /// How many queues there are.
 pub const QUEUES: usize = 2;
@@ -25,7 +24,7 @@ static STREAMS: [(u8, usize); 7] = [
 ];
 
 /// Publishes so many events to each stream, in turn.
-pub fn publish_each<H: StoredHistory<Op, Answer>, R: Wait + Abort>(
+pub fn publish_each<H: QueueHistory, R: Wait + Abort>(
     rt: &R,
     alloc: Global,
     producer: &mut Caller<Tally, H>,
@@ -39,7 +38,7 @@ pub fn publish_each<H: StoredHistory<Op, Answer>, R: Wait + Abort>(
 }
 
 /// Whether each queue is quiet.
-pub fn are_quiet<H: StoredHistory<Op, Answer>, R: Wait + Abort>(
+pub fn are_quiet<H: QueueHistory, R: Wait + Abort>(
     rt: &R,
     alloc: Global,
     producer: &mut Caller<Tally, H>,
@@ -54,8 +53,8 @@ pub fn are_quiet<H: StoredHistory<Op, Answer>, R: Wait + Abort>(
 
 /// A silo over the queues, before its loops have done anything. So many events were published to each stream.
 pub fn begun<
-    H: StoredHistory<Op, Answer>,
-    D: StoredHistory<DirectoryOp, DirectoryReply>,
+    H: QueueHistory,
+    D: DirectoryHistory,
     R: Wait + Abort,
 >(rt: &R, alloc: Global, gate: Tally, count: u64) -> Silo<Tally, H, D> {
     let mut silo = Silo::<Tally, H, D>::new(rt, alloc, gate, QUEUES, 1_000_000, 1_000_000);

@@ -2,7 +2,7 @@
 use crate::fresh::{History, caller_of, line};
 use crate::operations::{Call, operation};
 use cluster_callers::QueueCaller;
-use shared_partition::Gate;
+use shared_partition::{Gate, QueueHistory};
 use silo_loops::Doorbell;
 use std::alloc::Global;
 use std::process::Abort;
@@ -10,9 +10,7 @@ use std::sync::atomic::{AtomicU64, Ordering};
 use std::sync::{Arc, Wait};
 use std::thread;
 use std::thread::{Threads, join};
-use step_core::{Answer, Op};
 use stream_ident::{Event, GrainId, SubName};
-use turnstile::StoredHistory;
 
 const QUEUE: usize = 5;
 
@@ -51,7 +49,7 @@ trait Asks: Send + Drop {
     fn ask<R: Wait + Abort>(&mut self, rt: &R, alloc: Global, doorbell: &Doorbell, call: Call);
 }
 
-impl<H: StoredHistory<Op, Answer> + Send> Asks for QueueCaller<Entered, H> {
+impl<H: QueueHistory + Send> Asks for QueueCaller<Entered, H> {
     fn ask<R: Wait + Abort>(&mut self, rt: &R, alloc: Global, doorbell: &Doorbell, call: Call) {
         let op = operation(rt, alloc, call).expect(rt, "memory");
         let answer = self.ask(rt, alloc, doorbell, op, &mut Vec::new(alloc));
@@ -92,7 +90,7 @@ fn in_two_threads<C: Asks, R: Threads + Wait + Abort + Sync>(
 }
 
 // Two threads call a queue at once. Each call has entered the gate once, and no two were inside at once.
-fn check<H: StoredHistory<Op, Answer> + Send, R: Threads + Wait + Abort + Sync>(
+fn check<H: QueueHistory + Send, R: Threads + Wait + Abort + Sync>(
     rt: &R,
     alloc: Global,
 ) {

@@ -2,17 +2,15 @@
 use crate::fresh::{caller_of, directory_line, line};
 use crate::operations::{Call, operation};
 use crate::passes::{alone, push};
-use activation_directory::{DirectoryOp, DirectoryReply};
 use cluster_callers::{Caller, QueueCaller};
-use shared_partition::Gate;
+use shared_partition::{DirectoryHistory, Gate, QueueHistory};
 use silo_loops::{
     Advance, AgentLoop, Assigned, DirectoryLine, Doorbell, Line, TurnRoom, WorkerLoop,
 };
 use std::alloc::Global;
 use std::process::Abort;
 use std::sync::{Arc, Wait};
-use step_core::{Answer, Op, Reply};
-use turnstile::StoredHistory;
+use step_core::Reply;
 
 /// The key of the stream and of the grain.
 pub const KEY: u8 = b'a';
@@ -28,8 +26,8 @@ pub enum Loop {
 #[derive(Drop)]
 pub struct Silo<
     G: Gate,
-    H: StoredHistory<Op, Answer>,
-    D: StoredHistory<DirectoryOp, DirectoryReply>,
+    H: QueueHistory,
+    D: DirectoryHistory,
 > {
     pub gate: Arc<G, Global>,
     pub doorbell: Arc<Doorbell, Global>,
@@ -40,7 +38,7 @@ pub struct Silo<
 }
 
 // The first line of each of so many empty queues.
-fn first_lines<G: Gate, H: StoredHistory<Op, Answer>, R: Abort>(
+fn first_lines<G: Gate, H: QueueHistory, R: Abort>(
     rt: &R,
     alloc: Global,
     gate: &Arc<G, Global>,
@@ -57,7 +55,7 @@ fn first_lines<G: Gate, H: StoredHistory<Op, Answer>, R: Abort>(
 }
 
 // A line that is split off each of these.
-fn split_lines<G: Gate, H: StoredHistory<Op, Answer>, R: Abort>(
+fn split_lines<G: Gate, H: QueueHistory, R: Abort>(
     rt: &R,
     alloc: Global,
     lines: &mut Vec<Line<G, H>>,
@@ -71,7 +69,7 @@ fn split_lines<G: Gate, H: StoredHistory<Op, Answer>, R: Abort>(
     others
 }
 
-fn callers_of<G: Gate, H: StoredHistory<Op, Answer>, R: Abort>(
+fn callers_of<G: Gate, H: QueueHistory, R: Abort>(
     rt: &R,
     alloc: Global,
     lines: Vec<Line<G, H>>,
@@ -92,7 +90,7 @@ fn all_assigned<R: Abort>(rt: &R, alloc: Global, queues: usize) -> Arc<Assigned,
     Arc::new(alloc, assigned).expect(rt, "memory")
 }
 
-fn new_producer<G: Gate, H: StoredHistory<Op, Answer>, R: Abort>(
+fn new_producer<G: Gate, H: QueueHistory, R: Abort>(
     rt: &R,
     alloc: Global,
     doorbell: &Arc<Doorbell, Global>,
@@ -103,7 +101,7 @@ fn new_producer<G: Gate, H: StoredHistory<Op, Answer>, R: Abort>(
     Caller::new(doorbell, callers_of(rt, alloc, lines), room)
 }
 
-fn new_agent<G: Gate, H: StoredHistory<Op, Answer>, R: Abort>(
+fn new_agent<G: Gate, H: QueueHistory, R: Abort>(
     rt: &R,
     alloc: Global,
     doorbell: &Arc<Doorbell, Global>,
@@ -121,8 +119,8 @@ fn new_agent<G: Gate, H: StoredHistory<Op, Answer>, R: Abort>(
 
 fn new_worker<
     G: Gate,
-    H: StoredHistory<Op, Answer>,
-    D: StoredHistory<DirectoryOp, DirectoryReply>,
+    H: QueueHistory,
+    D: DirectoryHistory,
     R: Abort,
 >(
     rt: &R,
@@ -143,8 +141,8 @@ fn new_worker<
 /// A worker, and another one beside it, with passes of its own.
 pub fn two_workers<
     G: Gate,
-    H: StoredHistory<Op, Answer>,
-    D: StoredHistory<DirectoryOp, DirectoryReply>,
+    H: QueueHistory,
+    D: DirectoryHistory,
     R: Abort,
 >(
     rt: &R,
@@ -164,7 +162,7 @@ pub fn two_workers<
 }
 
 /// The reply to a producer at a queue.
-pub fn ask<G: Gate, H: StoredHistory<Op, Answer>, R: Wait + Abort>(
+pub fn ask<G: Gate, H: QueueHistory, R: Wait + Abort>(
     rt: &R,
     alloc: Global,
     producer: &mut Caller<G, H>,
@@ -177,7 +175,7 @@ pub fn ask<G: Gate, H: StoredHistory<Op, Answer>, R: Wait + Abort>(
 }
 
 /// Publishes so many events to a stream, each in a batch of its own.
-pub fn publish<G: Gate, H: StoredHistory<Op, Answer>, R: Wait + Abort>(
+pub fn publish<G: Gate, H: QueueHistory, R: Wait + Abort>(
     rt: &R,
     alloc: Global,
     producer: &mut Caller<G, H>,
@@ -191,7 +189,7 @@ pub fn publish<G: Gate, H: StoredHistory<Op, Answer>, R: Wait + Abort>(
     }
 }
 
-impl<G: Gate, H: StoredHistory<Op, Answer>, D: StoredHistory<DirectoryOp, DirectoryReply>> Silo<
+impl<G: Gate, H: QueueHistory, D: DirectoryHistory> Silo<
     G,
     H,
     D,

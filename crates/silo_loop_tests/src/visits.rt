@@ -3,8 +3,8 @@ use crate::fresh::{Asked, History};
 use crate::seven::{are_quiet, begun};
 use crate::silo::{Loop, Silo};
 use crate::tally::Tally;
-use activation_directory::{DirectoryOp, DirectoryReply};
 use cluster_callers::Caller;
+use shared_partition::{DirectoryHistory, QueueHistory};
 use silo_loops::{Advance, AgentLoop, WorkerLoop};
 use std::alloc::Global;
 use std::process::Abort;
@@ -12,14 +12,12 @@ use std::sync::Wait;
 use std::sync::atomic::{AtomicBool, Ordering};
 use std::thread;
 use std::thread::{Threads, join};
-use step_core::{Answer, Op};
-use turnstile::StoredHistory;
 
 // More visits than a loop makes until it is idle.
 const VISITS: usize = 10_000;
 
 // One visit of an agent, and how many calls it has made. All of them are at one queue.
-fn agent_visit<H: StoredHistory<Op, Answer>, R: Wait + Abort>(
+fn agent_visit<H: QueueHistory, R: Wait + Abort>(
     rt: &R,
     alloc: Global,
     gate: &Tally,
@@ -34,7 +32,7 @@ fn agent_visit<H: StoredHistory<Op, Answer>, R: Wait + Abort>(
 }
 
 // The most calls of a visit of an agent that goes on until it is idle.
-fn most_calls<H: StoredHistory<Op, Answer>, R: Wait + Abort>(
+fn most_calls<H: QueueHistory, R: Wait + Abort>(
     rt: &R,
     alloc: Global,
     gate: &Tally,
@@ -55,8 +53,8 @@ fn most_calls<H: StoredHistory<Op, Answer>, R: Wait + Abort>(
 
 // The four streams of the first queue have more events than the agent delivers in one visit.
 fn visit_as_agent<
-    H: StoredHistory<Op, Answer>,
-    D: StoredHistory<DirectoryOp, DirectoryReply>,
+    H: QueueHistory,
+    D: DirectoryHistory,
     R: Wait + Abort,
 >(rt: &R, alloc: Global) {
     let mut silo = begun::<H, D, R>(rt, alloc, Tally::new(false), 10);
@@ -70,8 +68,8 @@ trait Visits: Send + Drop {
 }
 
 impl<
-    H: StoredHistory<Op, Answer> + Send,
-    D: StoredHistory<DirectoryOp, DirectoryReply> + Send,
+    H: QueueHistory + Send,
+    D: DirectoryHistory + Send,
 > Visits for WorkerLoop<Tally, H, D> {
     fn does<R: Wait>(&mut self, rt: &R, alloc: Global) -> bool {
         self.visit(rt, alloc) == Advance::Did
@@ -84,7 +82,7 @@ trait Asks: Send + Drop {
     fn ask_each<R: Wait + Abort>(&mut self, rt: &R, alloc: Global);
 }
 
-impl<H: StoredHistory<Op, Answer> + Send> Asks for Caller<Tally, H> {
+impl<H: QueueHistory + Send> Asks for Caller<Tally, H> {
     fn ask_each<R: Wait + Abort>(&mut self, rt: &R, alloc: Global) {
         let _are_quiet = are_quiet(rt, alloc, self);
     }
@@ -137,8 +135,8 @@ fn visit_beside<V: Visits, A: Asks, R: Threads + Wait + Abort + Sync>(
 // No turn is kept while a worker handles an event or tells of a commit: another thread calls each queue then. Each grain
 // handles its events in one turn.
 fn visit_as_worker<
-    H: StoredHistory<Op, Answer> + Send,
-    D: StoredHistory<DirectoryOp, DirectoryReply> + Send,
+    H: QueueHistory + Send,
+    D: DirectoryHistory + Send,
     R: Threads + Wait + Abort + Sync,
 >(rt: &R, alloc: Global) {
     let mut silo = begun::<H, D, R>(rt, alloc, Tally::new(true), 3);

@@ -13,14 +13,11 @@ use crate::assigned::Assigned;
 use crate::doorbell::Doorbell;
 use crate::line::{Line, keep_at, leave_at, rest_all};
 use crate::worker_steps::hear_at;
-use shared_partition::Gate;
+use shared_partition::{Gate, QueueHistory};
 use std::alloc::Global;
 use std::marker::Model;
 use std::sync::atomic::{AtomicBool, Ordering};
 use std::sync::{Arc, Wait};
-use step_core::Answer;
-use stream_model::Op;
-use turnstile::StoredHistory;
 
 // The most steps of a visit.
 const MOST_STEPS: u32 = 64;
@@ -32,7 +29,7 @@ const MOST_STEPS: u32 = 64;
 ///
 /// A contract sees its lines, the generation under which it holds each queue, as it last looked, how many more
 /// rounds it may begin, and why it has ended.
-pub struct AgentLoop<G: Gate, H: StoredHistory<Op, Answer>> {
+pub struct AgentLoop<G: Gate, H: QueueHistory> {
     doorbell: Arc<Doorbell, Global>,
     assigned: Arc<Assigned, Global>,
     lines: Vec<Line<G, H>>,
@@ -42,7 +39,7 @@ pub struct AgentLoop<G: Gate, H: StoredHistory<Op, Answer>> {
     over: Option<Over>,
 }
 
-impl<G: Gate + Drop, H: StoredHistory<Op, Answer> + Drop> Drop for AgentLoop<G, H> {
+impl<G: Gate + Drop, H: QueueHistory + Drop> Drop for AgentLoop<G, H> {
     fn drop(self) {
         let Self {
             doorbell: _,
@@ -56,7 +53,7 @@ impl<G: Gate + Drop, H: StoredHistory<Op, Answer> + Drop> Drop for AgentLoop<G, 
     }
 }
 
-impl<G: Gate, H: StoredHistory<Op, Answer>> Model for AgentLoop<G, H> {
+impl<G: Gate, H: QueueHistory> Model for AgentLoop<G, H> {
     ghost use Rattle.std.specs.Prelude.{◌≡◌, ◌≤◌, length};
     ghost use Rattle.silo_loops.specs.Agents.{AgentHasCause, AgentView, agent_at};
     ghost use Rattle.silo_loops.specs.Visiting.{IsVisiting};
@@ -91,7 +88,7 @@ fn next_held(assigned: &Assigned, held: &mut Vec<Option<u64>>, visit: &mut Visit
 }
 
 // Whether each queue that it holds was pulled since its mark.
-fn all_pulled<G: Gate, H: StoredHistory<Op, Answer>>(
+fn all_pulled<G: Gate, H: QueueHistory>(
     lines: &Vec<Line<G, H>>,
     held: &Vec<Option<u64>>,
 ) -> bool
@@ -107,7 +104,7 @@ fn all_pulled<G: Gate, H: StoredHistory<Op, Answer>>(
 }
 
 // Whether a queue was pulled since its mark, where it is held.
-fn is_pulled<G: Gate, H: StoredHistory<Op, Answer>>(line: &Line<G, H>, held: Option<u64>) -> bool
+fn is_pulled<G: Gate, H: QueueHistory>(line: &Line<G, H>, held: Option<u64>) -> bool
     ensures { result ≡ true → (generation : ℕ) → held ≡ Some generation → HasPulled line.now }
 {
     match held {
@@ -117,7 +114,7 @@ fn is_pulled<G: Gate, H: StoredHistory<Op, Answer>>(line: &Line<G, H>, held: Opt
 }
 
 // The next call, at the queue at which it is.
-fn ask<G: Gate, H: StoredHistory<Op, Answer>, R: Wait>(
+fn ask<G: Gate, H: QueueHistory, R: Wait>(
     rt: &R,
     alloc: Global,
     doorbell: &Doorbell,
@@ -138,7 +135,7 @@ fn ask<G: Gate, H: StoredHistory<Op, Answer>, R: Wait>(
 }
 
 // Each line begins anew, and the next step begins a round.
-fn rest<G: Gate, H: StoredHistory<Op, Answer>>(
+fn rest<G: Gate, H: QueueHistory>(
     lines: &mut Vec<Line<G, H>>,
     visit: &mut Visit,
 ) -> Advance
@@ -154,7 +151,7 @@ fn rest<G: Gate, H: StoredHistory<Op, Answer>>(
 
 // Keeps its turn at the queue at which it is, where it is to keep one. A turn at another queue is given up before, so
 // that it waits for no turn with another one in hand.
-fn keep_here<G: Gate, H: StoredHistory<Op, Answer>, R: Wait>(
+fn keep_here<G: Gate, H: QueueHistory, R: Wait>(
     rt: &R,
     doorbell: &Doorbell,
     lines: &mut Vec<Line<G, H>>,
@@ -171,7 +168,7 @@ fn keep_here<G: Gate, H: StoredHistory<Op, Answer>, R: Wait>(
 }
 
 // Gives up the turn that it may have.
-fn leave_kept<G: Gate, H: StoredHistory<Op, Answer>, R: Wait>(
+fn leave_kept<G: Gate, H: QueueHistory, R: Wait>(
     rt: &R,
     doorbell: &Doorbell,
     lines: &mut Vec<Line<G, H>>,
@@ -186,7 +183,7 @@ fn leave_kept<G: Gate, H: StoredHistory<Op, Answer>, R: Wait>(
 }
 
 // The next call at the queue at which the agent is, and what it answers.
-fn take_step<G: Gate, H: StoredHistory<Op, Answer>, R: Wait>(
+fn take_step<G: Gate, H: QueueHistory, R: Wait>(
     rt: &R,
     alloc: Global,
     doorbell: &Doorbell,
@@ -208,7 +205,7 @@ fn take_step<G: Gate, H: StoredHistory<Op, Answer>, R: Wait>(
 }
 
 // The first step of another round, where one may be made. Where the agent holds no queue it is idle, and no round counts.
-fn begin_round<G: Gate, H: StoredHistory<Op, Answer>, R: Wait>(
+fn begin_round<G: Gate, H: QueueHistory, R: Wait>(
     rt: &R,
     alloc: Global,
     assigned: &Assigned,
@@ -238,7 +235,7 @@ fn begin_round<G: Gate, H: StoredHistory<Op, Answer>, R: Wait>(
 }
 
 // The step after the last call of a round.
-fn end_round<G: Gate, H: StoredHistory<Op, Answer>, R: Wait>(
+fn end_round<G: Gate, H: QueueHistory, R: Wait>(
     rt: &R,
     alloc: Global,
     assigned: &Assigned,
@@ -265,7 +262,7 @@ fn end_round<G: Gate, H: StoredHistory<Op, Answer>, R: Wait>(
 }
 
 // Whether the round changed nothing.
-fn is_done<G: Gate, H: StoredHistory<Op, Answer>>(
+fn is_done<G: Gate, H: QueueHistory>(
     lines: &Vec<Line<G, H>>,
     held: &Vec<Option<u64>>,
     visit: &Visit,
@@ -280,7 +277,7 @@ fn is_done<G: Gate, H: StoredHistory<Op, Answer>>(
 }
 
 // The next step of an agent that hasn't ended.
-fn go_on<G: Gate, H: StoredHistory<Op, Answer>, R: Wait>(
+fn go_on<G: Gate, H: QueueHistory, R: Wait>(
     rt: &R,
     alloc: Global,
     assigned: &Assigned,
@@ -307,7 +304,7 @@ fn go_on<G: Gate, H: StoredHistory<Op, Answer>, R: Wait>(
 }
 
 // The next step of an agent.
-fn advance_parts<G: Gate, H: StoredHistory<Op, Answer>, R: Wait>(
+fn advance_parts<G: Gate, H: QueueHistory, R: Wait>(
     rt: &R,
     alloc: Global,
     assigned: &Assigned,
@@ -332,7 +329,7 @@ fn advance_parts<G: Gate, H: StoredHistory<Op, Answer>, R: Wait>(
     }
 }
 
-impl<G: Gate, H: StoredHistory<Op, Answer>> AgentLoop<G, H> {
+impl<G: Gate, H: QueueHistory> AgentLoop<G, H> {
     /// An agent that has done nothing yet, with a line for each queue, in their order, and so many rounds that it may
     /// begin. What is assigned to it others may change at any time.
     ///

@@ -7,25 +7,25 @@ ghost use Rattle.silo_loops.specs.Lines.{DirectoryCalls};
 
 use crate::doorbell::{Bell, Doorbell, directory_rings};
 use activation_directory::{Directory, DirectoryOp, DirectoryReply};
-use shared_partition::SharedDirectory;
+use shared_partition::{DirectoryHistory, SharedDirectory};
 use std::alloc::{AllocError, Global};
 use std::marker::Model;
 use std::sync::{Arc, Wait};
-use turnstile::{Handle, Pass, Refusal, StoredHistory, Turnstile};
+use turnstile::{Handle, Pass, Refusal, Turnstile};
 
 /// A loop's pass at the directory, with its turnstile. A contract sees the pass.
-pub struct DirectoryLine<D: StoredHistory<DirectoryOp, DirectoryReply>> {
+pub struct DirectoryLine<D: DirectoryHistory> {
     handle: Handle<SharedDirectory<D>>,
     bell: Bell,
 }
 
-impl<D: StoredHistory<DirectoryOp, DirectoryReply> + Drop> Drop for DirectoryLine<D> {
+impl<D: DirectoryHistory + Drop> Drop for DirectoryLine<D> {
     fn drop(self) {
         let Self { handle: _, bell: _ } = self;
     }
 }
 
-impl<D: StoredHistory<DirectoryOp, DirectoryReply>> Model for DirectoryLine<D> {
+impl<D: DirectoryHistory> Model for DirectoryLine<D> {
     ghost use Rattle.shared_partition.specs.Directories.{IsOfEmpty};
     ghost use Rattle.silo_loops.specs.Lines.{DirectoryPass};
 
@@ -36,7 +36,7 @@ impl<D: StoredHistory<DirectoryOp, DirectoryReply>> Model for DirectoryLine<D> {
     ghost invariant = { λ l. IsOfEmpty l.handle };
 }
 
-impl<D: StoredHistory<DirectoryOp, DirectoryReply>> DirectoryLine<D> {
+impl<D: DirectoryHistory> DirectoryLine<D> {
     /// A line of a pass.
     pub fn new(
         turnstile: Arc<Turnstile<SharedDirectory<D>>, Global>,

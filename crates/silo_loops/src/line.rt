@@ -9,21 +9,21 @@ ghost use Rattle.silo_loops.specs.Lines.{CallsOn, Hears, HasLooked, HasPulled, N
 
 use crate::doorbell::{Bell, Doorbell, rings};
 use crate::heard::{Heard, heard_of};
-use shared_partition::{Gate, SharedPartition};
+use shared_partition::{Gate, QueueHistory, SharedPartition};
 use std::alloc::{AllocError, Global};
 use std::marker::Model;
 use std::sync::{Arc, Wait};
 use step_core::Answer;
 use stream_ident::Event;
 use stream_model::{Op, PlainPartition};
-use turnstile::{Handle, Pass, Refusal, StoredHistory, Turnstile};
+use turnstile::{Handle, Pass, Refusal, Turnstile};
 
 /// A loop's pass at a queue, with its turnstile, and a mark: how much the pass had seen when the loop was
 /// made or last idle. No call of the pass is a producer's. After a call it gives its turn up, or keeps it for the
 /// next one.
 ///
 /// A contract sees the pass and the mark.
-pub struct Line<G: Gate, H: StoredHistory<Op, Answer>> {
+pub struct Line<G: Gate, H: QueueHistory> {
     handle: Handle<SharedPartition<G, H>>,
     mark: u64,
     // whether the pass has asked for a ready grain past the mark, and whether it has pulled
@@ -32,7 +32,7 @@ pub struct Line<G: Gate, H: StoredHistory<Op, Answer>> {
     bell: Bell,
 }
 
-impl<G: Gate + Drop, H: StoredHistory<Op, Answer> + Drop> Drop for Line<G, H> {
+impl<G: Gate + Drop, H: QueueHistory + Drop> Drop for Line<G, H> {
     fn drop(self) {
         let Self {
             handle: _,
@@ -44,7 +44,7 @@ impl<G: Gate + Drop, H: StoredHistory<Op, Answer> + Drop> Drop for Line<G, H> {
     }
 }
 
-impl<G: Gate, H: StoredHistory<Op, Answer>> Model for Line<G, H> {
+impl<G: Gate, H: QueueHistory> Model for Line<G, H> {
     ghost use Rattle.shared_partition.specs.Partitions.{IsOfEmpty};
     ghost use Rattle.silo_loops.specs.Lines.{LineView, IsKept};
 
@@ -55,7 +55,7 @@ impl<G: Gate, H: StoredHistory<Op, Answer>> Model for Line<G, H> {
     ghost invariant = { λ l. IsOfEmpty l.handle × IsKept (record { pass = l.handle; mark = l.mark }) l.looked l.pulled };
 }
 
-impl<G: Gate, H: StoredHistory<Op, Answer>> Line<G, H> {
+impl<G: Gate, H: QueueHistory> Line<G, H> {
     /// A line of a pass that has made no producer's call, nor any pass that was joined to it. Its mark is
     /// what the pass has seen.
     pub fn new(
@@ -225,7 +225,7 @@ impl<G: Gate, H: StoredHistory<Op, Answer>> Line<G, H> {
 }
 
 // A line whose mark is what the pass has seen.
-fn line_of<G: Gate, H: StoredHistory<Op, Answer>>(
+fn line_of<G: Gate, H: QueueHistory>(
     handle: Handle<SharedPartition<G, H>>,
 ) -> Line<G, H>
     requires of { IsOfEmpty handle }
@@ -257,7 +257,7 @@ fn is_pull(op: &Op) -> bool
 }
 
 /// Each line begins anew.
-pub(crate) fn rest_all<G: Gate, H: StoredHistory<Op, Answer>>(lines: &mut Vec<Line<G, H>>)
+pub(crate) fn rest_all<G: Gate, H: QueueHistory>(lines: &mut Vec<Line<G, H>>)
     ensures { lines.new.items ≡ map rested lines.old.items }
 {
     for at in 0..lines.len() {
@@ -266,7 +266,7 @@ pub(crate) fn rest_all<G: Gate, H: StoredHistory<Op, Answer>>(lines: &mut Vec<Li
 }
 
 /// The line at this place keeps its turn from the next call on.
-pub(crate) fn keep_at<G: Gate, H: StoredHistory<Op, Answer>>(lines: &mut Vec<Line<G, H>>, at: usize)
+pub(crate) fn keep_at<G: Gate, H: QueueHistory>(lines: &mut Vec<Line<G, H>>, at: usize)
     ensures { lines.new.items ≡ lines.old.items }
 {
     if at < lines.len() {
@@ -276,7 +276,7 @@ pub(crate) fn keep_at<G: Gate, H: StoredHistory<Op, Answer>>(lines: &mut Vec<Lin
 }
 
 /// The line at this place gives up the turn that it may have.
-pub(crate) fn leave_at<G: Gate, H: StoredHistory<Op, Answer>, R: Wait>(
+pub(crate) fn leave_at<G: Gate, H: QueueHistory, R: Wait>(
     rt: &R,
     doorbell: &Doorbell,
     lines: &mut Vec<Line<G, H>>,

@@ -13,16 +13,12 @@ use crate::doorbell::Doorbell;
 use crate::line::{Line, keep_at, leave_at, rest_all};
 use crate::worker_steps::{again, begin, commit, enter, handle, leave, look, tell};
 use crate::worker_walk::{Step, Walk};
-use activation_directory::{DirectoryOp, DirectoryReply};
-use shared_partition::Gate;
+use shared_partition::{DirectoryHistory, Gate, QueueHistory};
 use std::alloc::{AllocError, Global};
 use std::marker::Model;
 use std::sync::atomic::{AtomicBool, Ordering};
 use std::sync::{Arc, Wait};
-use step_core::Answer;
 use stream_ident::Event;
-use stream_model::Op;
-use turnstile::StoredHistory;
 
 // The most steps of a visit.
 const MOST_STEPS: u32 = 64;
@@ -60,8 +56,8 @@ impl TurnRoom {
 /// begin, and why it has ended.
 pub struct WorkerLoop<
     G: Gate,
-    H: StoredHistory<Op, Answer>,
-    D: StoredHistory<DirectoryOp, DirectoryReply>,
+    H: QueueHistory,
+    D: DirectoryHistory,
 > {
     silo: u8,
     gate: Arc<G, Global>,
@@ -76,8 +72,8 @@ pub struct WorkerLoop<
 
 impl<
     G: Gate + Drop,
-    H: StoredHistory<Op, Answer> + Drop,
-    D: StoredHistory<DirectoryOp, DirectoryReply> + Drop,
+    H: QueueHistory + Drop,
+    D: DirectoryHistory + Drop,
 > Drop for WorkerLoop<G, H, D> {
     fn drop(self) {
         let Self {
@@ -94,7 +90,7 @@ impl<
     }
 }
 
-impl<G: Gate, H: StoredHistory<Op, Answer>, D: StoredHistory<DirectoryOp, DirectoryReply>> Model
+impl<G: Gate, H: QueueHistory, D: DirectoryHistory> Model
     for WorkerLoop<G, H, D> {
     ghost use Rattle.std.specs.Prelude.{◌≤◌, vec_capacity};
     ghost use Rattle.silo_loops.specs.Walks.{IsAt};
@@ -116,7 +112,7 @@ enum Start {
 
 // Begins another round, where the last one found something to do. Where it found nothing, each line begins
 // anew instead.
-fn start_round<G: Gate, H: StoredHistory<Op, Answer>>(
+fn start_round<G: Gate, H: QueueHistory>(
     lines: &mut Vec<Line<G, H>>,
     walk: &mut Walk,
     rounds: &mut u64,
@@ -138,7 +134,7 @@ fn start_round<G: Gate, H: StoredHistory<Op, Answer>>(
 }
 
 // Whether each line has asked for a ready grain past its mark.
-fn all_looked<G: Gate, H: StoredHistory<Op, Answer>>(lines: &Vec<Line<G, H>>) -> bool
+fn all_looked<G: Gate, H: QueueHistory>(lines: &Vec<Line<G, H>>) -> bool
     ensures { result ≡ true → All HasLooked lines.now.items }
 {
     for line in lines {
@@ -152,8 +148,8 @@ fn all_looked<G: Gate, H: StoredHistory<Op, Answer>>(lines: &Vec<Line<G, H>>) ->
 // The next call of the round, or the next piece of work in hand.
 fn step<
     G: Gate,
-    H: StoredHistory<Op, Answer>,
-    D: StoredHistory<DirectoryOp, DirectoryReply>,
+    H: QueueHistory,
+    D: DirectoryHistory,
     R: Wait,
 >(
     rt: &R,
@@ -213,8 +209,8 @@ fn step<
 // The next call of the round, or the next piece of work in hand, and what it answers.
 fn take_step<
     G: Gate,
-    H: StoredHistory<Op, Answer>,
-    D: StoredHistory<DirectoryOp, DirectoryReply>,
+    H: QueueHistory,
+    D: DirectoryHistory,
     R: Wait,
 >(
     rt: &R,
@@ -245,8 +241,8 @@ fn take_step<
 // no more may be made.
 fn begin_round<
     G: Gate,
-    H: StoredHistory<Op, Answer>,
-    D: StoredHistory<DirectoryOp, DirectoryReply>,
+    H: QueueHistory,
+    D: DirectoryHistory,
     R: Wait,
 >(
     rt: &R,
@@ -282,8 +278,8 @@ fn begin_round<
 // The next step of a worker that hasn't ended.
 fn go_on<
     G: Gate,
-    H: StoredHistory<Op, Answer>,
-    D: StoredHistory<DirectoryOp, DirectoryReply>,
+    H: QueueHistory,
+    D: DirectoryHistory,
     R: Wait,
 >(
     rt: &R,
@@ -318,8 +314,8 @@ fn go_on<
 // The next step of a worker.
 fn advance_parts<
     G: Gate,
-    H: StoredHistory<Op, Answer>,
-    D: StoredHistory<DirectoryOp, DirectoryReply>,
+    H: QueueHistory,
+    D: DirectoryHistory,
     R: Wait,
 >(
     rt: &R,
@@ -350,8 +346,8 @@ fn advance_parts<
 
 impl<
     G: Gate,
-    H: StoredHistory<Op, Answer>,
-    D: StoredHistory<DirectoryOp, DirectoryReply>,
+    H: QueueHistory,
+    D: DirectoryHistory,
 > WorkerLoop<G, H, D> {
     /// A worker of this silo that has done nothing yet, with a line for each queue, in their order, and so many rounds
     /// that it may begin.

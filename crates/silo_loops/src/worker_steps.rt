@@ -13,20 +13,18 @@ use crate::doorbell::Doorbell;
 use crate::heard::Heard;
 use crate::line::Line;
 use crate::worker_walk::{Commit, Step, Turn, Walk, end_of_asking};
-use activation_directory::{DirectoryOp, DirectoryReply};
-use shared_partition::Gate;
+use activation_directory::DirectoryOp;
+use shared_partition::{DirectoryHistory, Gate, QueueHistory};
 use std::alloc::Global;
 use std::sync::Wait;
-use step_core::Answer;
 use stream_ident::{Event, GrainId, SubName, Token};
 use stream_model::Op;
-use turnstile::StoredHistory;
 
 // The most events of a turn.
 const MOST_EVENTS: u32 = 16;
 
 // One call at one queue.
-pub(crate) fn hear_at<G: Gate, H: StoredHistory<Op, Answer>, R: Wait>(
+pub(crate) fn hear_at<G: Gate, H: QueueHistory, R: Wait>(
     rt: &R,
     alloc: Global,
     doorbell: &Doorbell,
@@ -47,8 +45,8 @@ pub(crate) fn hear_at<G: Gate, H: StoredHistory<Op, Answer>, R: Wait>(
 // Asks the queue for a ready grain.
 pub(crate) fn look<
     G: Gate,
-    H: StoredHistory<Op, Answer>,
-    D: StoredHistory<DirectoryOp, DirectoryReply>,
+    H: QueueHistory,
+    D: DirectoryHistory,
     R: Wait,
 >(
     rt: &R,
@@ -79,7 +77,7 @@ pub(crate) fn look<
 }
 
 // Asks the directory for the permit of a grain.
-pub(crate) fn enter<D: StoredHistory<DirectoryOp, DirectoryReply>, R: Wait>(
+pub(crate) fn enter<D: DirectoryHistory, R: Wait>(
     rt: &R,
     alloc: Global,
     doorbell: &Doorbell,
@@ -106,8 +104,8 @@ pub(crate) fn enter<D: StoredHistory<DirectoryOp, DirectoryReply>, R: Wait>(
 // Begins a turn of the grain whose permit the worker has.
 pub(crate) fn begin<
     G: Gate,
-    H: StoredHistory<Op, Answer>,
-    D: StoredHistory<DirectoryOp, DirectoryReply>,
+    H: QueueHistory,
+    D: DirectoryHistory,
     R: Wait,
 >(
     rt: &R,
@@ -138,8 +136,8 @@ pub(crate) fn begin<
 // Commits the turn, all of whose events were handled.
 pub(crate) fn commit<
     G: Gate,
-    H: StoredHistory<Op, Answer>,
-    D: StoredHistory<DirectoryOp, DirectoryReply>,
+    H: QueueHistory,
+    D: DirectoryHistory,
     R: Wait,
 >(
     rt: &R,
@@ -171,7 +169,7 @@ pub(crate) fn commit<
 }
 
 // Gives the permit back.
-pub(crate) fn leave<D: StoredHistory<DirectoryOp, DirectoryReply>, R: Wait>(
+pub(crate) fn leave<D: DirectoryHistory, R: Wait>(
     rt: &R,
     alloc: Global,
     doorbell: &Doorbell,
@@ -226,8 +224,8 @@ pub(crate) fn handle<G: Gate>(
 // Asks which grain is ready next, with the permit of one in hand.
 pub(crate) fn again<
     G: Gate,
-    H: StoredHistory<Op, Answer>,
-    D: StoredHistory<DirectoryOp, DirectoryReply>,
+    H: QueueHistory,
+    D: DirectoryHistory,
     R: Wait,
 >(
     rt: &R,

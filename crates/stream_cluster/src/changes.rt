@@ -6,23 +6,20 @@ ghost use Rattle.silo_crew.specs.Silos.{AreTakenIn, HasRun, HaveCauses, IsFresh,
 ghost use Rattle.cluster_operator.specs.Operators.{HasOnlyGoneOn, HasSpread, OperatorGoesOn};
 ghost use Rattle.stream_cluster.specs.Clusters.{AreFresh, AreStarted, HasLeft, HasMetLimit, HaveComeBack, HaveEnded, RunsOn, all_noted, noted};
 
-use activation_directory::{DirectoryOp, DirectoryReply};
 use cluster_ending::LoopEnds;
 use cluster_operator::{Halt, Operator};
-use shared_partition::Gate;
+use shared_partition::{DirectoryHistory, Gate, QueueHistory};
 use silo_crew::{RunningSilo, SiloLoops};
 use std::alloc::{AllocError, Global};
 use std::sync::Wait;
 use std::thread::Threads;
-use step_core::Answer;
-use stream_model::Op;
-use turnstile::{Recorded, StoredHistory};
+use turnstile::Recorded;
 
 // Starts the loops of a silo. Where they can't be started, their passes are joined back.
 pub(crate) fn start_silo<
     G: Gate + 'static,
-    H: StoredHistory<Op, Answer> + Send + 'static,
-    D: StoredHistory<DirectoryOp, DirectoryReply> + Send + 'static,
+    H: QueueHistory + Send + 'static,
+    D: DirectoryHistory + Send + 'static,
     R: Threads + Wait + Copy + Send + 'static,
 >(
     rt: &R,
@@ -47,8 +44,8 @@ pub(crate) fn start_silo<
 // Brings a silo up: its loops are started, and the queues are spread anew.
 pub(crate) fn bring_up<
     G: Gate + 'static,
-    H: StoredHistory<Op, Answer> + Send + 'static,
-    D: StoredHistory<DirectoryOp, DirectoryReply> + Send + 'static,
+    H: QueueHistory + Send + 'static,
+    D: DirectoryHistory + Send + 'static,
     R: Threads + Wait + Copy + Send + 'static,
 >(
     rt: &R,
@@ -80,8 +77,8 @@ pub(crate) fn bring_up<
 // spread over the silos that are left.
 pub(crate) fn leave<
     G: Gate,
-    H: StoredHistory<Op, Answer>,
-    D: StoredHistory<DirectoryOp, DirectoryReply>,
+    H: QueueHistory,
+    D: DirectoryHistory,
     R: Wait,
 >(
     rt: &R,
@@ -110,8 +107,8 @@ pub(crate) fn leave<
 // joined back.
 pub(crate) fn start_all<
     G: Gate + 'static,
-    H: StoredHistory<Op, Answer> + Send + 'static,
-    D: StoredHistory<DirectoryOp, DirectoryReply> + Send + 'static,
+    H: QueueHistory + Send + 'static,
+    D: DirectoryHistory + Send + 'static,
     R: Threads + Wait + Copy + Send + 'static,
 >(
     rt: &R,
@@ -139,8 +136,8 @@ pub(crate) fn start_all<
 // Notes how the loops of a silo have ended.
 pub(crate) fn note_ends<
     G: Gate,
-    H: StoredHistory<Op, Answer>,
-    D: StoredHistory<DirectoryOp, DirectoryReply>,
+    H: QueueHistory,
+    D: DirectoryHistory,
 >(ends: LoopEnds, loops: &SiloLoops<G, H, D>) -> LoopEnds
     ensures noted { result ≡ noted ends loops.now }
     ensures causes { HaveCauses loops.now }
@@ -156,8 +153,8 @@ pub(crate) fn note_ends<
 // as they came back.
 pub(crate) fn stop_all<
     G: Gate,
-    H: StoredHistory<Op, Answer>,
-    D: StoredHistory<DirectoryOp, DirectoryReply>,
+    H: QueueHistory,
+    D: DirectoryHistory,
     R: Threads + Wait,
 >(
     rt: &R,
@@ -184,8 +181,8 @@ pub(crate) fn stop_all<
 // Makes the loops of the silos that live. Where those of one can't be made, all passes are joined back.
 pub(crate) fn make_all<
     G: Gate,
-    H: StoredHistory<Op, Answer>,
-    D: StoredHistory<DirectoryOp, DirectoryReply>,
+    H: QueueHistory,
+    D: DirectoryHistory,
 >(
     alloc: Global,
     operator: &mut Operator<G, H, D>,
@@ -211,8 +208,8 @@ pub(crate) fn make_all<
 // Joins the passes of loops back, and notes how the loops have ended.
 pub(crate) fn take_all_back<
     G: Gate,
-    H: StoredHistory<Op, Answer>,
-    D: StoredHistory<DirectoryOp, DirectoryReply>,
+    H: QueueHistory,
+    D: DirectoryHistory,
 >(operator: &mut Operator<G, H, D>, silos: Vec<SiloLoops<G, H, D>>, ends: LoopEnds) -> LoopEnds
     requires { RunsOn operator.old silos.items }
     ensures only { HasOnlyGoneOn operator.old operator.new }

@@ -10,19 +10,16 @@ ghost use Rattle.stream_cluster.specs.Clusters.{AnswersDown, AnswersRetire, Answ
 use crate::changes::{bring_up, leave, make_all, note_ends, start_all, stop_all, take_all_back};
 use crate::config::Config;
 use crate::opening::open;
-use activation_directory::{DirectoryOp, DirectoryReply};
 use cluster_callers::Caller;
 use cluster_ending::{Finished, LoopEnds, finish};
 use cluster_operator::{Halt, Operator};
-use shared_partition::Gate;
+use shared_partition::{DirectoryHistory, Gate, QueueHistory};
 use silo_crew::{RunningSilo, SiloLoops};
 use std::alloc::{AllocError, Global};
 use std::marker::Model;
 use std::sync::{Arc, Wait};
 use std::thread::Threads;
-use step_core::Answer;
-use stream_model::Op;
-use turnstile::{Recorded, StoredHistory};
+use turnstile::Recorded;
 
 /// What became of a silo that was to come.
 #[derive(Clone, Copy, Debug, PartialEq, Eq)]
@@ -59,8 +56,8 @@ pub enum SiloDown {
 #[derive(Drop)]
 pub enum Retired<
     G: Gate,
-    H: StoredHistory<Op, Answer>,
-    D: StoredHistory<DirectoryOp, DirectoryReply>,
+    H: QueueHistory,
+    D: DirectoryHistory,
 > {
     /// It lives no more: its grains are deactivated, and the queues are spread over the silos that live.
     Down,
@@ -84,8 +81,8 @@ pub enum Retired<
 #[derive(Drop)]
 pub struct Ended<
     G: Gate,
-    H: StoredHistory<Op, Answer>,
-    D: StoredHistory<DirectoryOp, DirectoryReply>,
+    H: QueueHistory,
+    D: DirectoryHistory,
 > {
     /// How the cluster has ended.
     pub finished: Finished<H>,
@@ -112,7 +109,7 @@ fn down_by(halt: Halt) -> Result<SiloDown, AllocError>
     }
 }
 
-fn retired_by<G: Gate, H: StoredHistory<Op, Answer>, D: StoredHistory<DirectoryOp, DirectoryReply>>(
+fn retired_by<G: Gate, H: QueueHistory, D: DirectoryHistory>(
     halt: Halt,
 ) -> Result<Retired<G, H, D>, AllocError>
     ensures { IsRetiredBy halt result }
@@ -136,8 +133,8 @@ fn retired_by<G: Gate, H: StoredHistory<Op, Answer>, D: StoredHistory<DirectoryO
 /// rounds each loop may begin, and how often a drain looks at the queues.
 pub struct Cluster<
     G: Gate,
-    H: StoredHistory<Op, Answer>,
-    D: StoredHistory<DirectoryOp, DirectoryReply>,
+    H: QueueHistory,
+    D: DirectoryHistory,
 > {
     operator: Operator<G, H, D>,
     silos: Vec<RunningSilo<G, H, D>>,
@@ -155,8 +152,8 @@ pub struct Cluster<
 
 impl<
     G: Gate + Drop,
-    H: StoredHistory<Op, Answer> + Drop,
-    D: StoredHistory<DirectoryOp, DirectoryReply> + Drop,
+    H: QueueHistory + Drop,
+    D: DirectoryHistory + Drop,
 > Drop for Cluster<G, H, D> {
     fn drop(self) {
         let Self {
@@ -171,7 +168,7 @@ impl<
     }
 }
 
-impl<G: Gate, H: StoredHistory<Op, Answer>, D: StoredHistory<DirectoryOp, DirectoryReply>> Model
+impl<G: Gate, H: QueueHistory, D: DirectoryHistory> Model
     for Cluster<G, H, D> {
     ghost use Rattle.stream_cluster.specs.Clusters.{ClusterView, IsCluster};
 
@@ -184,8 +181,8 @@ impl<G: Gate, H: StoredHistory<Op, Answer>, D: StoredHistory<DirectoryOp, Direct
 
 impl<
     G: Gate + 'static,
-    H: StoredHistory<Op, Answer> + Send + 'static,
-    D: StoredHistory<DirectoryOp, DirectoryReply> + Send + 'static,
+    H: QueueHistory + Send + 'static,
+    D: DirectoryHistory + Send + 'static,
 > Cluster<G, H, D> {
     /// A cluster and its first caller. The silos are numbered from 0 on, and their loops run; the queues are spread
     /// over them, from silo 0 on which all are at first.
@@ -254,7 +251,7 @@ impl<
     }
 }
 
-impl<G: Gate, H: StoredHistory<Op, Answer>, D: StoredHistory<DirectoryOp, DirectoryReply>> Cluster<
+impl<G: Gate, H: QueueHistory, D: DirectoryHistory> Cluster<
     G,
     H,
     D,

@@ -7,23 +7,20 @@ ghost use Rattle.silo_loops.specs.Lines.{LineView, places};
 ghost use Rattle.stream_cluster.specs.Clusters.{AreAtQueues, IsAtDirectory, IsAtQueue, IsConfig, IsOpened, opening, opening_directory};
 
 use crate::config::Config;
-use activation_directory::{DirectoryOp, DirectoryReply};
 use cluster_callers::{Caller, QueueCaller};
 use cluster_operator::Operator;
-use shared_partition::{Gate, SharedDirectory, SharedPartition};
+use shared_partition::{DirectoryHistory, Gate, QueueHistory, SharedDirectory, SharedPartition};
 use silo_crew::split_lines;
 use silo_loops::{DirectoryLine, Doorbell, Line, TurnRoom};
 use std::alloc::{AllocError, Global};
 use std::sync::{Arc, Wait};
-use step_core::Answer;
-use stream_model::Op;
-use turnstile::{PassOf, StoredHistory, Turnstile};
+use turnstile::{PassOf, Turnstile};
 
 // The most permits that a directory gives.
 const MOST_PERMITS: u64 = 4_000_000;
 
 // A turnstile over an empty partition, and the first pass of it.
-fn open_turnstile<G: Gate, H: StoredHistory<Op, Answer>>(
+fn open_turnstile<G: Gate, H: QueueHistory>(
     alloc: Global,
     gate: Arc<G, Global>,
     config: &Config,
@@ -44,7 +41,7 @@ fn open_turnstile<G: Gate, H: StoredHistory<Op, Answer>>(
 }
 
 // A line with the first pass of the partition of a queue.
-fn open_queue<G: Gate, H: StoredHistory<Op, Answer>>(
+fn open_queue<G: Gate, H: QueueHistory>(
     alloc: Global,
     gate: &Arc<G, Global>,
     config: &Config,
@@ -60,7 +57,7 @@ fn open_queue<G: Gate, H: StoredHistory<Op, Answer>>(
 }
 
 // The partition of each queue behind its turnstile.
-fn open_queues<G: Gate, H: StoredHistory<Op, Answer>>(
+fn open_queues<G: Gate, H: QueueHistory>(
     alloc: Global,
     gate: &Arc<G, Global>,
     config: &Config,
@@ -77,7 +74,7 @@ fn open_queues<G: Gate, H: StoredHistory<Op, Answer>>(
 }
 
 // A turnstile over a directory without grains, and the first pass of it.
-fn open_places<D: StoredHistory<DirectoryOp, DirectoryReply>>(
+fn open_places<D: DirectoryHistory>(
     alloc: Global,
     config: &Config,
 ) -> Result<(Turnstile<SharedDirectory<D>>, PassOf<SharedDirectory<D>>), AllocError>
@@ -90,7 +87,7 @@ fn open_places<D: StoredHistory<DirectoryOp, DirectoryReply>>(
 }
 
 // A line with the first pass of the directory.
-fn open_directory<D: StoredHistory<DirectoryOp, DirectoryReply>>(
+fn open_directory<D: DirectoryHistory>(
     alloc: Global,
     config: &Config,
 ) -> Result<DirectoryLine<D>, AllocError>
@@ -102,7 +99,7 @@ fn open_directory<D: StoredHistory<DirectoryOp, DirectoryReply>>(
 }
 
 // A caller with a pass that is split off at each queue.
-fn first_caller<G: Gate, H: StoredHistory<Op, Answer>>(
+fn first_caller<G: Gate, H: QueueHistory>(
     alloc: Global,
     doorbell: Arc<Doorbell, Global>,
     lines: &mut Vec<Line<G, H>>,
@@ -118,7 +115,7 @@ fn first_caller<G: Gate, H: StoredHistory<Op, Answer>>(
 }
 
 // A caller of each queue with the pass of its line.
-fn queue_callers<G: Gate, H: StoredHistory<Op, Answer>>(
+fn queue_callers<G: Gate, H: QueueHistory>(
     alloc: Global,
     lines: Vec<Line<G, H>>,
 ) -> Result<Vec<QueueCaller<G, H>>, AllocError>
@@ -135,8 +132,8 @@ fn queue_callers<G: Gate, H: StoredHistory<Op, Answer>>(
 // So many silos live from now on, numbered from 0 on.
 fn enlist_first<
     G: Gate,
-    H: StoredHistory<Op, Answer>,
-    D: StoredHistory<DirectoryOp, DirectoryReply>,
+    H: QueueHistory,
+    D: DirectoryHistory,
 >(operator: &mut Operator<G, H, D>, silos: u8) -> Result<(), AllocError>
     requires { operator.old.live ≡ [] }
     ensures { OnOk result (operator.new ≡ record operator.old { live = range_with_len 0 silos }) }
@@ -151,8 +148,8 @@ fn enlist_first<
 // silos: these moves are the first calls, so that no limit refuses one.
 pub(crate) fn open<
     G: Gate,
-    H: StoredHistory<Op, Answer>,
-    D: StoredHistory<DirectoryOp, DirectoryReply>,
+    H: QueueHistory,
+    D: DirectoryHistory,
     R: Wait,
 >(
     rt: &R,

@@ -4,15 +4,12 @@ ghost use Rattle.std.specs.Prelude.{◌≡◌};
 use crate::asking::holds;
 use crate::producer::Producer;
 use crate::running::{Calls, End, Places, Running, Size, is_so, start};
-use activation_directory::{DirectoryOp, DirectoryReply};
 use cluster_callers::QueueCaller;
-use shared_partition::{Counting, Gate};
+use shared_partition::{Counting, DirectoryHistory, Gate, QueueHistory};
 use std::alloc::Global;
 use std::process::Abort;
 use std::sync::{Arc, Wait};
 use std::thread::Threads;
-use step_core::{Answer, Op};
-use turnstile::StoredHistory;
 
 /// What is done to a cluster.
 #[derive(Clone, Copy)]
@@ -52,8 +49,8 @@ pub struct Case {
 // Whether a step is done.
 fn is_met<
     G: Gate + 'static,
-    H: StoredHistory<Op, Answer> + Send + 'static,
-    D: StoredHistory<DirectoryOp, DirectoryReply> + Send + 'static,
+    H: QueueHistory + Send + 'static,
+    D: DirectoryHistory + Send + 'static,
     R: Threads + Wait + Abort + Copy + Send + 'static,
 >(
     rt: &R,
@@ -76,8 +73,8 @@ fn is_met<
 /// A cluster of a case, to which its steps are done, and a producer of it.
 pub fn prepare<
     G: Gate + 'static,
-    H: StoredHistory<Op, Answer> + Send + 'static,
-    D: StoredHistory<DirectoryOp, DirectoryReply> + Send + 'static,
+    H: QueueHistory + Send + 'static,
+    D: DirectoryHistory + Send + 'static,
     R: Threads + Wait + Abort + Copy + Send + 'static,
 >(
     rt: &R,
@@ -100,8 +97,8 @@ pub fn prepare<
 /// Whether a cluster ends as its case says.
 pub fn ends<
     G: Gate + 'static,
-    H: StoredHistory<Op, Answer> + Send + 'static,
-    D: StoredHistory<DirectoryOp, DirectoryReply> + Send + 'static,
+    H: QueueHistory + Send + 'static,
+    D: DirectoryHistory + Send + 'static,
     R: Threads + Wait + Abort,
 >(rt: &R, alloc: Global, running: Running<G, H, D>, producer: Producer<G, H>, case: &Case) -> bool
     requires { producer ≡ running }
@@ -130,7 +127,7 @@ pub fn ends<
 }
 
 // The passes of a producer, but that of its first queue, which is lost.
-fn but_first<G: Gate, H: StoredHistory<Op, Answer>>(
+fn but_first<G: Gate, H: QueueHistory>(
     producer: Producer<G, H>,
 ) -> Vec<QueueCaller<G, H>> {
     let (caller, _told) = producer.into_parts();
@@ -185,8 +182,8 @@ static CASES: [Case; 4] = [
 
 // Does what each case says, and sees how it ends.
 fn check<
-    H: StoredHistory<Op, Answer> + Send + 'static,
-    D: StoredHistory<DirectoryOp, DirectoryReply> + Send + 'static,
+    H: QueueHistory + Send + 'static,
+    D: DirectoryHistory + Send + 'static,
     R: Threads + Wait + Abort + Copy + Send + 'static,
 >(rt: &R, alloc: Global) {
     for (table, case) in CASES.iter().enumerate() {

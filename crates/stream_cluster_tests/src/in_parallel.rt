@@ -5,14 +5,12 @@ use crate::cases::{Case, ONE, Second, Step, ends, prepare};
 use crate::gates::{Meeting, wait_for};
 use crate::producer::Producer;
 use crate::running::{Calls, End, Places, Size};
-use activation_directory::{DirectoryOp, DirectoryReply};
+use shared_partition::{DirectoryHistory, QueueHistory};
 use std::alloc::Global;
 use std::process::Abort;
 use std::sync::atomic::Ordering;
 use std::sync::{Arc, Wait};
 use std::thread::{Threads, join};
-use step_core::{Answer, Op};
-use turnstile::StoredHistory;
 
 const STEPS: [Step; 4] = [
     Step::Subscribe(0, 5),
@@ -30,8 +28,8 @@ static CROSSED: Case = Case {
 
 // Two grains handle an event each. The one that comes first waits until the other has committed.
 fn cross<
-    H: StoredHistory<Op, Answer> + Send + 'static,
-    D: StoredHistory<DirectoryOp, DirectoryReply> + Send + 'static,
+    H: QueueHistory + Send + 'static,
+    D: DirectoryHistory + Send + 'static,
     R: Threads + Wait + Abort + Copy + Send + 'static,
 >(rt: &R, alloc: Global) {
     let gate = Arc::new(alloc, Meeting::new(true)).expect(rt, "memory");
@@ -51,7 +49,7 @@ static BESIDE: Case = Case {
 };
 
 // Publishes to a queue: to the second one while a call of the first one waits.
-fn publish<H: StoredHistory<Op, Answer>, R: Wait + Abort>(
+fn publish<H: QueueHistory, R: Wait + Abort>(
     rt: &R,
     alloc: Global,
     gate: &Meeting,
@@ -71,7 +69,7 @@ fn publish<H: StoredHistory<Op, Answer>, R: Wait + Abort>(
 }
 
 // Publishes to the first queue, whose next call waits until a call of the second queue was answered.
-fn publish_beside<H: StoredHistory<Op, Answer> + Send + 'static, R: Threads + Wait + Abort + Sync>(
+fn publish_beside<H: QueueHistory + Send + 'static, R: Threads + Wait + Abort + Sync>(
     rt: &R,
     alloc: Global,
     gate: &Meeting,
@@ -91,8 +89,8 @@ fn publish_beside<H: StoredHistory<Op, Answer> + Send + 'static, R: Threads + Wa
 
 // A call of the second queue is answered while one of the first holds its turn.
 fn call_beside<
-    H: StoredHistory<Op, Answer> + Send + 'static,
-    D: StoredHistory<DirectoryOp, DirectoryReply> + Send + 'static,
+    H: QueueHistory + Send + 'static,
+    D: DirectoryHistory + Send + 'static,
     R: Threads + Wait + Abort + Copy + Send + Sync + 'static,
 >(rt: &R, alloc: Global) {
     let gate = Arc::new(alloc, Meeting::new(false)).expect(rt, "memory");

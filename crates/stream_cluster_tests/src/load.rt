@@ -5,7 +5,7 @@ use crate::producer::Producer;
 use crate::running::{Ended, Running, Size, is_reported, start};
 use crate::told::{Told, report_of, subscribe_all};
 use activation_directory::{DirectoryOp, DirectoryReply};
-use shared_partition::Counting;
+use shared_partition::{Counting, DirectoryHistory, QueueHistory};
 use std::alloc::Global;
 use std::process::Abort;
 use std::snapshot::Snapshot;
@@ -13,7 +13,7 @@ use std::sync::{Arc, Barrier, Wait};
 use std::thread;
 use std::thread::{Promise, PromisedHandle, Threads};
 use step_core::{Answer, Op};
-use turnstile::{ProofHistory, StoredHistory};
+use turnstile::ProofHistory;
 
 // How many clusters there are, one after another.
 const CLUSTERS: usize = 2;
@@ -45,8 +45,8 @@ type Silos<H, D> = Running<Counting, H, D>;
 
 // In each round all silos but one go, and come again. The one that stays is another one in each round.
 fn change_silos<
-    H: StoredHistory<Op, Answer> + Send + 'static,
-    D: StoredHistory<DirectoryOp, DirectoryReply> + Send + 'static,
+    H: QueueHistory + Send + 'static,
+    D: DirectoryHistory + Send + 'static,
     R: Threads + Wait + Abort + Copy + Send + 'static,
 >(rt: &R, alloc: Global, rounds: &Barrier, running: &mut Silos<H, D>, from: usize)
     ensures { running.new ≡ running.old }
@@ -63,7 +63,7 @@ fn change_silos<
 }
 
 // Publishes in each round, beside the silos that change.
-fn publish<H: StoredHistory<Op, Answer>, R: Wait + Abort>(
+fn publish<H: QueueHistory, R: Wait + Abort>(
     rt: &R,
     alloc: Global,
     rounds: &Barrier,
@@ -87,9 +87,9 @@ fn publish<H: StoredHistory<Op, Answer>, R: Wait + Abort>(
 
 // The producer that comes back has its passes at the turnstiles of the one that was sent.
 #[derive(Drop)]
-struct Beside<H: StoredHistory<Op, Answer>>(Snapshot<Publisher<H>>);
+struct Beside<H: QueueHistory>(Snapshot<Publisher<H>>);
 
-impl<H: StoredHistory<Op, Answer>> Promise<Publisher<H>> for Beside<H> {
+impl<H: QueueHistory> Promise<Publisher<H>> for Beside<H> {
     ghost kept_by = { λ p producer. producer ≡ p.0.value };
 }
 
@@ -97,7 +97,7 @@ type Publishing<H> = PromisedHandle<Publisher<H>, Beside<H>>;
 
 // A producer beside another one publishes in a thread.
 fn spawn<
-    H: StoredHistory<Op, Answer> + Send + 'static,
+    H: QueueHistory + Send + 'static,
     R: Threads + Wait + Abort + Copy + Send + 'static,
 >(
     rt: &R,
@@ -122,8 +122,8 @@ fn spawn<
 
 // The silos change beside two producers in threads, which are taken in when they come back.
 fn publish_beside<
-    H: StoredHistory<Op, Answer> + Send + 'static,
-    D: StoredHistory<DirectoryOp, DirectoryReply> + Send + 'static,
+    H: QueueHistory + Send + 'static,
+    D: DirectoryHistory + Send + 'static,
     R: Threads + Wait + Abort + Copy + Send + 'static,
 >(rt: &R, alloc: Global, running: &mut Silos<H, D>, producer: &mut Publisher<H>, from: usize)
     ensures running { running.new ≡ running.old }
@@ -148,8 +148,8 @@ fn is_whole<H, R: Abort>(rt: &R, alloc: Global, ended: &Ended<H>, told: &[Told])
 
 // One cluster, from its start to its report. At each queue two grains subscribe.
 fn run<
-    H: StoredHistory<Op, Answer> + Send + 'static,
-    D: StoredHistory<DirectoryOp, DirectoryReply> + Send + 'static,
+    H: QueueHistory + Send + 'static,
+    D: DirectoryHistory + Send + 'static,
     R: Threads + Wait + Abort + Copy + Send + 'static,
 >(rt: &R, alloc: Global, gate: Arc<Counting, Global>, from: usize) -> bool {
     let started = start::<Counting, H, D, R>(rt, alloc, &SIZE, gate);
@@ -165,8 +165,8 @@ fn run<
 // from one silo on, which is another one in each cluster, and the one before it stays. Nothing that the producers were
 // told was published is lost, and nothing is left of a cluster.
 fn run_each<
-    H: StoredHistory<Op, Answer> + Send + 'static,
-    D: StoredHistory<DirectoryOp, DirectoryReply> + Send + 'static,
+    H: QueueHistory + Send + 'static,
+    D: DirectoryHistory + Send + 'static,
     R: Threads + Wait + Abort + Copy + Send + 'static,
 >(rt: &R, alloc: Global) {
     let gate = Arc::new(alloc, Counting).expect(rt, "memory");

@@ -5,19 +5,17 @@ ghost use Rattle.stream_cluster_tests.specs.Parked.{IsLeft};
 
 use crate::asking::{Produced, production};
 use crate::running::Ended;
-use activation_directory::{DirectoryOp, DirectoryReply};
 use cluster_callers::Caller;
 use script_producer::Answer as Answered;
-use shared_partition::Counting;
+use shared_partition::{Counting, DirectoryHistory, QueueHistory};
 use silo_crew::SiloLoops;
 use silo_loops::Advance;
 use std::alloc::{AllocError, Global};
 use std::marker::Model;
 use std::process::Abort;
 use std::sync::{Arc, Wait};
-use step_core::{Answer, Limits, Op};
+use step_core::Limits;
 use stream_cluster::{Cluster, Config, Retired};
-use turnstile::StoredHistory;
 
 /// The loops of a silo.
 pub type Loops<H, D> = SiloLoops<Counting, H, D>;
@@ -53,13 +51,13 @@ pub enum Astray {
 /// A parked cluster, its caller, and the loops of its silos that weren't given back.
 ///
 /// A contract sees of how many silos it has the loops.
-pub struct Parked<H: StoredHistory<Op, Answer>, D: StoredHistory<DirectoryOp, DirectoryReply>> {
+pub struct Parked<H: QueueHistory, D: DirectoryHistory> {
     cluster: Cluster<Counting, H, D>,
     pub caller: Caller<Counting, H>,
     pub crew: Vec<Loops<H, D>>,
 }
 
-impl<H: StoredHistory<Op, Answer> + Drop, D: StoredHistory<DirectoryOp, DirectoryReply> + Drop> Drop
+impl<H: QueueHistory + Drop, D: DirectoryHistory + Drop> Drop
     for Parked<H, D> {
     fn drop(self) {
         let Self {
@@ -70,7 +68,7 @@ impl<H: StoredHistory<Op, Answer> + Drop, D: StoredHistory<DirectoryOp, Director
     }
 }
 
-impl<H: StoredHistory<Op, Answer>, D: StoredHistory<DirectoryOp, DirectoryReply>> Model
+impl<H: QueueHistory, D: DirectoryHistory> Model
     for Parked<H, D> {
     ghost use Rattle.std.specs.Prelude.{ℕ, length};
     ghost use Rattle.stream_cluster_tests.specs.Parked.{IsWhole};
@@ -83,7 +81,7 @@ impl<H: StoredHistory<Op, Answer>, D: StoredHistory<DirectoryOp, DirectoryReply>
 }
 
 // One step of a loop.
-fn step<H: StoredHistory<Op, Answer>, D: StoredHistory<DirectoryOp, DirectoryReply>, R: Wait>(
+fn step<H: QueueHistory, D: DirectoryHistory, R: Wait>(
     rt: &R,
     alloc: Global,
     loops: &mut Loops<H, D>,
@@ -99,7 +97,7 @@ fn step<H: StoredHistory<Op, Answer>, D: StoredHistory<DirectoryOp, DirectoryRep
 }
 
 // The loops that are kept, where they are.
-fn go_astray<H: StoredHistory<Op, Answer>, D: StoredHistory<DirectoryOp, DirectoryReply>>(
+fn go_astray<H: QueueHistory, D: DirectoryHistory>(
     loops: Loops<H, D>,
     astray: Astray,
 ) -> Option<Loops<H, D>> {
@@ -110,7 +108,7 @@ fn go_astray<H: StoredHistory<Op, Answer>, D: StoredHistory<DirectoryOp, Directo
 }
 
 // What a retire answered. Loops that were handed out again come to their place.
-fn sort_out<H: StoredHistory<Op, Answer>, D: StoredHistory<DirectoryOp, DirectoryReply>, R: Abort>(
+fn sort_out<H: QueueHistory, D: DirectoryHistory, R: Abort>(
     rt: &R,
     crew: &mut Vec<Loops<H, D>>,
     at: usize,
@@ -134,7 +132,7 @@ fn sort_out<H: StoredHistory<Op, Answer>, D: StoredHistory<DirectoryOp, Director
     }
 }
 
-impl<H: StoredHistory<Op, Answer>, D: StoredHistory<DirectoryOp, DirectoryReply>> Parked<H, D> {
+impl<H: QueueHistory, D: DirectoryHistory> Parked<H, D> {
     /// A parked cluster of so many silos, whose histories have at most so many calls each, and at whose queues there are
     /// at most so many moves and turns.
     pub fn new<R: Wait + Abort>(

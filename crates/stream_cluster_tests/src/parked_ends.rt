@@ -3,20 +3,18 @@ use crate::asking::{Produced, holds};
 use crate::parked::{Astray, Parked, QUEUES, Went};
 use crate::running::{Calls, End, Places, is_so};
 use crate::story::{REPORT, begin, tell_the_rest};
-use activation_directory::{DirectoryOp, DirectoryReply};
 use script_producer::Answer as Answered;
+use shared_partition::{DirectoryHistory, QueueHistory};
 use std::alloc::Global;
 use std::process::Abort;
 use std::sync::Wait;
-use step_core::{Answer, Op};
-use turnstile::StoredHistory;
 
 static WENT: [Went; 3] = [Went::Down, Went::Down, Went::LastSilo];
 
 // Silos are retired one after another, up to the last, whose loops are handed out again.
 fn retire_all<
-    H: StoredHistory<Op, Answer>,
-    D: StoredHistory<DirectoryOp, DirectoryReply>,
+    H: QueueHistory,
+    D: DirectoryHistory,
     R: Wait + Abort,
 >(rt: &R, alloc: Global) {
     let mut parked = Parked::<H, D>::new(rt, alloc, 3, 1_000_000, 1_000).expect(rt, "memory");
@@ -37,8 +35,8 @@ static ASTRAY: [(usize, Astray, End); 2] = [
 ];
 
 fn go_astray<
-    H: StoredHistory<Op, Answer>,
-    D: StoredHistory<DirectoryOp, DirectoryReply>,
+    H: QueueHistory,
+    D: DirectoryHistory,
     R: Wait + Abort,
 >(rt: &R, alloc: Global) {
     for (at, astray, end) in &ASTRAY {
@@ -66,8 +64,8 @@ static LIMITED: [(u64, u64, Answered, End); 2] = [
 // A queue can't leave its silo, as its history is full or it has moved as often as it may. The silos don't change any
 // more then.
 fn stay<
-    H: StoredHistory<Op, Answer>,
-    D: StoredHistory<DirectoryOp, DirectoryReply>,
+    H: QueueHistory,
+    D: DirectoryHistory,
     R: Wait + Abort,
 >(rt: &R, alloc: Global) {
     for (row, (history, rises, wanted, end)) in LIMITED.iter().enumerate() {

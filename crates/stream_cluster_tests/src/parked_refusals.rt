@@ -2,18 +2,16 @@
 use crate::parked::{Parked, Went};
 use crate::running::{Calls, Ended, Places, is_reported};
 use crate::story::{Order, REPORT, advance, begin, tell_the_rest};
-use activation_directory::{DirectoryOp, DirectoryReply};
 use cluster_ending::Finished;
+use shared_partition::{DirectoryHistory, QueueHistory};
 use std::alloc::{AllocError, Global};
 use std::process::Abort;
 use std::sync::Wait;
-use step_core::{Answer, Op};
-use turnstile::StoredHistory;
 
 // A parked cluster of three silos, asked for once more where memory was refused.
 fn opened<
-    H: StoredHistory<Op, Answer>,
-    D: StoredHistory<DirectoryOp, DirectoryReply>,
+    H: QueueHistory,
+    D: DirectoryHistory,
     R: Wait + Abort,
 >(rt: &R, alloc: Global) -> Parked<H, D> {
     match Parked::new(rt, alloc, 3, 1_000_000, 1_000) {
@@ -34,8 +32,8 @@ fn is_otherwise<H>(ended: &Ended<H>, went: Went) -> bool {
 // A silo is retired after so many steps. Where that was refused, the silos don't change any more; no pass is lost, and
 // what isn't done is told.
 fn retire_after<
-    H: StoredHistory<Op, Answer>,
-    D: StoredHistory<DirectoryOp, DirectoryReply>,
+    H: QueueHistory,
+    D: DirectoryHistory,
     R: Wait + Abort,
 >(rt: &R, alloc: Global, steps: usize) {
     let mut parked = opened::<H, D, R>(rt, alloc);
@@ -53,8 +51,8 @@ fn retire_after<
 static STEPS: [usize; 2] = [0, 60];
 
 fn retire_each<
-    H: StoredHistory<Op, Answer>,
-    D: StoredHistory<DirectoryOp, DirectoryReply>,
+    H: QueueHistory,
+    D: DirectoryHistory,
     R: Wait + Abort,
 >(rt: &R, alloc: Global) {
     for steps in &STEPS {

@@ -6,27 +6,27 @@ use crate::asking::{Produced, production};
 use crate::told::Told;
 use cluster_callers::Caller;
 use script_producer::{Drained, drain};
-use shared_partition::Gate;
+use shared_partition::{Gate, QueueHistory};
 use std::alloc::{AllocError, Global};
 use std::marker::Model;
 use std::process::Abort;
 use std::sync::Wait;
-use step_core::{Answer, Op, Reply};
-use turnstile::{Refusal, StoredHistory};
+use step_core::Reply;
+use turnstile::Refusal;
 
 /// A caller of a cluster, and what it was told was published. A contract sees the turnstiles of its passes.
-pub struct Producer<G: Gate, H: StoredHistory<Op, Answer>> {
+pub struct Producer<G: Gate, H: QueueHistory> {
     caller: Caller<G, H>,
     told: Vec<Told>,
 }
 
-impl<G: Gate + Drop, H: StoredHistory<Op, Answer> + Drop> Drop for Producer<G, H> {
+impl<G: Gate + Drop, H: QueueHistory + Drop> Drop for Producer<G, H> {
     fn drop(self) {
         let Self { caller: _, told: _ } = self;
     }
 }
 
-impl<G: Gate, H: StoredHistory<Op, Answer>> Model for Producer<G, H> {
+impl<G: Gate, H: QueueHistory> Model for Producer<G, H> {
     ghost use Rattle.std.specs.Prelude.{List, Option};
     ghost use Rattle.stream_model.specs.declared.plain.PlainPartition.{PlainPartition};
     ghost use Rattle.cluster_callers.specs.Calls.{turnstiles};
@@ -47,7 +47,7 @@ fn number_of(reply: &Reply) -> Option<u64> {
 }
 
 // The number that a queue answers. It is refused only for want of memory.
-fn ask<G: Gate, H: StoredHistory<Op, Answer>, R: Wait + Abort>(
+fn ask<G: Gate, H: QueueHistory, R: Wait + Abort>(
     rt: &R,
     alloc: Global,
     caller: &mut Caller<G, H>,
@@ -65,7 +65,7 @@ fn ask<G: Gate, H: StoredHistory<Op, Answer>, R: Wait + Abort>(
     }
 }
 
-impl<G: Gate, H: StoredHistory<Op, Answer>> Producer<G, H> {
+impl<G: Gate, H: QueueHistory> Producer<G, H> {
     /// A producer with this caller, which was told nothing yet, and has room to be told of so many events.
     pub fn new(caller: Caller<G, H>, told: Vec<Told>) -> Producer<G, H>
         ensures { result ≡ turnstiles caller }

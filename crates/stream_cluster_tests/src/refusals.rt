@@ -8,13 +8,13 @@ use crate::scarce::Scarce;
 use crate::told::{Told, report_of, subscribe_all};
 use activation_directory::{DirectoryOp, DirectoryReply};
 use cluster_ending::Finished;
-use shared_partition::Counting;
+use shared_partition::{Counting, DirectoryHistory, QueueHistory};
 use std::alloc::{AllocError, Global};
 use std::process::Abort;
 use std::sync::{Arc, Wait};
 use std::thread::Threads;
 use step_core::{Answer, Op};
-use turnstile::{ProofHistory, StoredHistory};
+use turnstile::ProofHistory;
 
 const QUEUES: usize = 3;
 
@@ -47,8 +47,8 @@ fn shared_gate<R: Abort>(rt: &R, alloc: Global) -> Arc<Counting, Global> {
 // A cluster of one silo, asked for once more where it was refused: nothing is left of the first one then. Whether it
 // was refused.
 fn opened<
-    H: StoredHistory<Op, Answer> + Send + 'static,
-    D: StoredHistory<DirectoryOp, DirectoryReply> + Send + 'static,
+    H: QueueHistory + Send + 'static,
+    D: DirectoryHistory + Send + 'static,
     R: Threads + Wait + Abort + Copy + Send + 'static,
 >(rt: &R, alloc: Global, gate: &Arc<Counting, Global>) -> (Silos<H, D>, Publisher<H>, bool)
     ensures { result.1 ≡ result.0 }
@@ -66,7 +66,7 @@ fn opened<
 }
 
 // Another producer, asked for once more where it was refused. Whether it was.
-fn split<H: StoredHistory<Op, Answer>, R: Abort>(
+fn split<H: QueueHistory, R: Abort>(
     rt: &R,
     alloc: Global,
     producer: &mut Publisher<H>,
@@ -82,8 +82,8 @@ fn split<H: StoredHistory<Op, Answer>, R: Abort>(
 
 // A silo comes or goes, or where that is refused, none comes or goes any more. Whether it was refused.
 fn is_kept<
-    H: StoredHistory<Op, Answer> + Send + 'static,
-    D: StoredHistory<DirectoryOp, DirectoryReply> + Send + 'static,
+    H: QueueHistory + Send + 'static,
+    D: DirectoryHistory + Send + 'static,
     R: Threads + Wait + Abort + Copy + Send + 'static,
 >(rt: &R, alloc: Global, running: &mut Silos<H, D>, silo: u8, comes: bool) -> bool
     ensures { running.new ≡ running.old }
@@ -155,8 +155,8 @@ fn is_wanted<R: Abort>(rt: &R, alloc: Global, told: &[Told], text: &Vec<u8>) -> 
 // A silo comes and the other one goes, and two producers publish before, between and after. The one that goes has all
 // grains.
 fn change<
-    H: StoredHistory<Op, Answer> + Send + 'static,
-    D: StoredHistory<DirectoryOp, DirectoryReply> + Send + 'static,
+    H: QueueHistory + Send + 'static,
+    D: DirectoryHistory + Send + 'static,
     R: Threads + Wait + Abort + Copy + Send + 'static,
 >(
     rt: &R,
@@ -195,8 +195,8 @@ enum Life {
 }
 
 fn live<
-    H: StoredHistory<Op, Answer> + Send + 'static,
-    D: StoredHistory<DirectoryOp, DirectoryReply> + Send + 'static,
+    H: QueueHistory + Send + 'static,
+    D: DirectoryHistory + Send + 'static,
     R: Threads + Wait + Abort + Copy + Send + 'static,
 >(rt: &R, alloc: Global) -> Life {
     let gate = shared_gate(rt, alloc);
@@ -215,8 +215,8 @@ fn live<
 }
 
 fn is_undisturbed_at_last<
-    H: StoredHistory<Op, Answer> + Send + 'static,
-    D: StoredHistory<DirectoryOp, DirectoryReply> + Send + 'static,
+    H: QueueHistory + Send + 'static,
+    D: DirectoryHistory + Send + 'static,
     R: Threads + Wait + Abort + Copy + Send + 'static,
 >(rt: &R, alloc: Global) -> bool {
     live::<H, D, R>(rt, alloc) == Life::Undisturbed
@@ -233,7 +233,7 @@ fn one_refused(rt: HostRuntime) {
 // Four grains are on a silo that goes, and the directory refuses the call after each of them in turn. The silo's queues
 // have no agent then, and what is published to them is left to do.
 fn go_by_each_half<
-    H: StoredHistory<Op, Answer> + Send + 'static,
+    H: QueueHistory + Send + 'static,
     R: Threads + Wait + Abort + Copy + Send + 'static,
 >(rt: &R, alloc: Global) {
     holds(rt, live::<H, Scarce<1>, R>(rt, alloc) == Life::Half, 0, 1);

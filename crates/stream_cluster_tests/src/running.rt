@@ -6,7 +6,7 @@ use crate::told::Told;
 use activation_directory::{DirectoryOp, DirectoryReply};
 use cluster_callers::Caller;
 use cluster_ending::{Finished, Traces};
-use shared_partition::Gate;
+use shared_partition::{DirectoryHistory, Gate, QueueHistory};
 use std::alloc::{AllocError, Global};
 use std::marker::Model;
 use std::process::Abort;
@@ -14,7 +14,7 @@ use std::sync::{Arc, Wait};
 use std::thread::Threads;
 use step_core::{Answer, Limits, Op};
 use stream_cluster::{Cluster, Config, SiloDown, SiloUp};
-use turnstile::{AskedHistory, PlainHistory, StoredHistory};
+use turnstile::{AskedHistory, PlainHistory};
 
 /// How the calls of a queue are stored.
 pub type Calls = AskedHistory<Op, Answer>;
@@ -28,23 +28,23 @@ pub type Ended<H> = Result<Finished<H>, AllocError>;
 /// A cluster whose queues and directory have these histories. A contract sees the turnstiles of its queues.
 pub struct Running<
     G: Gate,
-    H: StoredHistory<Op, Answer>,
-    D: StoredHistory<DirectoryOp, DirectoryReply>,
+    H: QueueHistory,
+    D: DirectoryHistory,
 > {
     cluster: Cluster<G, H, D>,
 }
 
 impl<
     G: Gate + Drop,
-    H: StoredHistory<Op, Answer> + Drop,
-    D: StoredHistory<DirectoryOp, DirectoryReply> + Drop,
+    H: QueueHistory + Drop,
+    D: DirectoryHistory + Drop,
 > Drop for Running<G, H, D> {
     fn drop(self) {
         let Self { cluster: _ } = self;
     }
 }
 
-impl<G: Gate, H: StoredHistory<Op, Answer>, D: StoredHistory<DirectoryOp, DirectoryReply>> Model
+impl<G: Gate, H: QueueHistory, D: DirectoryHistory> Model
     for Running<G, H, D> {
     ghost use Rattle.std.specs.Prelude.{List, Option};
     ghost use Rattle.silo_loops.specs.Lines.{places};
@@ -73,8 +73,8 @@ pub struct Size {
 /// The call failed to allocate, or a thread can't be made.
 pub fn start<
     G: Gate + 'static,
-    H: StoredHistory<Op, Answer> + Send + 'static,
-    D: StoredHistory<DirectoryOp, DirectoryReply> + Send + 'static,
+    H: QueueHistory + Send + 'static,
+    D: DirectoryHistory + Send + 'static,
     R: Threads + Wait + Abort + Copy + Send + 'static,
 >(
     rt: &R,
@@ -129,8 +129,8 @@ fn went<R: Abort>(rt: &R, answer: Result<SiloDown, AllocError>) -> Result<bool, 
 
 impl<
     G: Gate + 'static,
-    H: StoredHistory<Op, Answer> + Send + 'static,
-    D: StoredHistory<DirectoryOp, DirectoryReply> + Send + 'static,
+    H: QueueHistory + Send + 'static,
+    D: DirectoryHistory + Send + 'static,
 > Running<G, H, D> {
     fn up<R: Threads + Wait + Abort + Copy + Send + 'static>(
         &mut self,
@@ -177,7 +177,7 @@ impl<
     }
 }
 
-impl<G: Gate, H: StoredHistory<Op, Answer>, D: StoredHistory<DirectoryOp, DirectoryReply>> Running<
+impl<G: Gate, H: QueueHistory, D: DirectoryHistory> Running<
     G,
     H,
     D,
@@ -223,14 +223,14 @@ impl<G: Gate, H: StoredHistory<Op, Answer>, D: StoredHistory<DirectoryOp, Direct
 // How a cluster has ended, without the loops that came back.
 fn without_loops<
     G: Gate,
-    H: StoredHistory<Op, Answer>,
-    D: StoredHistory<DirectoryOp, DirectoryReply>,
+    H: QueueHistory,
+    D: DirectoryHistory,
 >(ended: Result<stream_cluster::Ended<G, H, D>, AllocError>) -> Ended<H> {
     Ok(ended?.finished)
 }
 
 // Room for two callers. A want of memory is answered by asking again.
-fn room_for_two<G: Gate, H: StoredHistory<Op, Answer>, R: Abort>(
+fn room_for_two<G: Gate, H: QueueHistory, R: Abort>(
     rt: &R,
     alloc: Global,
 ) -> Vec<Caller<G, H>>
@@ -259,7 +259,7 @@ pub enum End {
 }
 
 // Whether the second of so many histories has so many calls.
-fn are_full<H: StoredHistory<Op, Answer>>(traces: &Traces<H>, calls: usize, queues: usize) -> bool {
+fn are_full<H: QueueHistory>(traces: &Traces<H>, calls: usize, queues: usize) -> bool {
     match traces.histories.get(1) {
         Some(history) => {
             history.len() == calls
@@ -279,7 +279,7 @@ pub fn is_reported<H>(ended: &Ended<H>, report: &[u8]) -> bool {
 }
 
 /// Whether it ended so.
-pub fn is_so<H: StoredHistory<Op, Answer>>(ended: &Ended<H>, end: End) -> bool {
+pub fn is_so<H: QueueHistory>(ended: &Ended<H>, end: End) -> bool {
     match end {
         End::Report(report) => is_reported(ended, report),
         End::LeftOr(report) => match ended {

@@ -2,15 +2,14 @@
 use crate::asking::holds;
 use crate::cases::{Case, ONE, Second, Step, prepare};
 use crate::running::{Calls, End, Ended, Places, Size, is_so};
-use activation_directory::{DirectoryOp, DirectoryReply};
 use cluster_ending::Finished;
-use shared_partition::Counting;
+use shared_partition::{Counting, DirectoryHistory, QueueHistory};
 use std::alloc::Global;
 use std::process::Abort;
 use std::sync::{Arc, Wait};
 use std::thread::Threads;
-use step_core::{Answer, Op};
-use turnstile::{Asked, StoredHistory};
+use step_core::Op;
+use turnstile::Asked;
 
 // Silos come and go, and an event is published to each queue before the first of these changes and after each.
 const CHANGES: [Step; 16] = [
@@ -72,8 +71,8 @@ static LOADS: [[(usize, usize); 3]; 7] = [
 
 // How a cluster ends in which that was done.
 fn change<
-    H: StoredHistory<Op, Answer> + Send + 'static,
-    D: StoredHistory<DirectoryOp, DirectoryReply> + Send + 'static,
+    H: QueueHistory + Send + 'static,
+    D: DirectoryHistory + Send + 'static,
     R: Threads + Wait + Abort + Copy + Send + 'static,
 >(rt: &R, alloc: Global) -> Ended<H> {
     let gate = Arc::new(alloc, Counting).expect(rt, "memory");

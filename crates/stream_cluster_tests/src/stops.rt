@@ -4,13 +4,11 @@ use crate::parked::{Parked, Went};
 use crate::replayed::astray_in;
 use crate::running::{Calls, Ended, Places};
 use crate::story::{Order, REPORT, advance, begin, tell_the_rest};
-use activation_directory::{DirectoryOp, DirectoryReply};
 use cluster_ending::Finished;
+use shared_partition::{DirectoryHistory, QueueHistory};
 use std::alloc::Global;
 use std::process::Abort;
 use std::sync::Wait;
-use step_core::{Answer, Op};
-use turnstile::StoredHistory;
 
 // How many steps the loops make at most before a silo is stopped, in fours.
 const FOURS: usize = 50;
@@ -56,8 +54,8 @@ static ROWS: [Row; 5] = [
 
 // How a cluster of a row ends in which the silo at a place is stopped after so many steps, where one is.
 fn told<
-    H: StoredHistory<Op, Answer>,
-    D: StoredHistory<DirectoryOp, DirectoryReply>,
+    H: QueueHistory,
+    D: DirectoryHistory,
     R: Wait + Abort,
 >(rt: &R, alloc: Global, table: usize, row: &Row, steps: usize, at: usize) -> Ended<H> {
     let made = Parked::<H, D>::new(rt, alloc, row.silos, 1_000_000, 1_000);

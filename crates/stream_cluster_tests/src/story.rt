@@ -2,14 +2,12 @@
 use crate::asking::Produced;
 use crate::parked::{Loop, Parked};
 use crate::running::Ended;
-use activation_directory::{DirectoryOp, DirectoryReply};
 use script_producer::Answer as Answered;
+use shared_partition::{DirectoryHistory, QueueHistory};
 use silo_loops::Advance;
 use std::alloc::{AllocError, Global};
 use std::process::Abort;
 use std::sync::Wait;
-use step_core::{Answer, Op};
-use turnstile::StoredHistory;
 
 // What is asked at a queue, and how the producer of a script is answered.
 type Asked = (usize, Produced<'static>, Answered);
@@ -66,8 +64,8 @@ pub const REPORT: &[u8] = b"report
 
 // The answer at a queue. It is asked for once more where memory was refused.
 fn answer<
-    H: StoredHistory<Op, Answer>,
-    D: StoredHistory<DirectoryOp, DirectoryReply>,
+    H: QueueHistory,
+    D: DirectoryHistory,
     R: Wait + Abort,
 >(rt: &R, alloc: Global, parked: &mut Parked<H, D>, queue: usize, asked: &Produced) -> Answered {
     match parked.ask(rt, alloc, queue, asked) {
@@ -78,8 +76,8 @@ fn answer<
 
 // Asks for each of these.
 fn ask_all<
-    H: StoredHistory<Op, Answer>,
-    D: StoredHistory<DirectoryOp, DirectoryReply>,
+    H: QueueHistory,
+    D: DirectoryHistory,
     R: Wait + Abort,
 >(rt: &R, alloc: Global, parked: &mut Parked<H, D>, asks: &[Asked]) {
     for (queue, asked, wanted) in asks {
@@ -89,8 +87,8 @@ fn ask_all<
 
 /// Asks for what is asked before the loops have done anything.
 pub fn begin<
-    H: StoredHistory<Op, Answer>,
-    D: StoredHistory<DirectoryOp, DirectoryReply>,
+    H: QueueHistory,
+    D: DirectoryHistory,
     R: Wait + Abort,
 >(rt: &R, alloc: Global, parked: &mut Parked<H, D>) {
     ask_all(rt, alloc, parked, &FIRST);
@@ -109,8 +107,8 @@ static LOOPS: [Loop; 3] = [Loop::Agent, Loop::First, Loop::Second];
 
 /// Advances the loops by so many steps in all.
 pub fn advance<
-    H: StoredHistory<Op, Answer>,
-    D: StoredHistory<DirectoryOp, DirectoryReply>,
+    H: QueueHistory,
+    D: DirectoryHistory,
     R: Wait + Abort,
 >(rt: &R, alloc: Global, parked: &mut Parked<H, D>, order: Order, steps: usize) {
     let loops = parked.crew.len().wrapping_mul(3);
@@ -126,8 +124,8 @@ pub fn advance<
 
 // Steps of a loop, until it is idle or has ended.
 fn rest<
-    H: StoredHistory<Op, Answer>,
-    D: StoredHistory<DirectoryOp, DirectoryReply>,
+    H: QueueHistory,
+    D: DirectoryHistory,
     R: Wait + Abort,
 >(rt: &R, alloc: Global, parked: &mut Parked<H, D>, at: usize, which: Loop) {
     for _ in 0..10_000 {
@@ -140,8 +138,8 @@ fn rest<
 
 // Steps of each loop, until it is idle or has ended.
 fn rest_all<
-    H: StoredHistory<Op, Answer>,
-    D: StoredHistory<DirectoryOp, DirectoryReply>,
+    H: QueueHistory,
+    D: DirectoryHistory,
     R: Wait + Abort,
 >(rt: &R, alloc: Global, parked: &mut Parked<H, D>) {
     for at in 0..parked.crew.len() {
@@ -154,8 +152,8 @@ fn rest_all<
 // Steps of all loops, until none finds anything to do. Each ends the round in which it is first, since that may have
 // passed a queue at which there is more by now.
 fn settle<
-    H: StoredHistory<Op, Answer>,
-    D: StoredHistory<DirectoryOp, DirectoryReply>,
+    H: QueueHistory,
+    D: DirectoryHistory,
     R: Wait + Abort,
 >(rt: &R, alloc: Global, parked: &mut Parked<H, D>) {
     rest_all(rt, alloc, parked);
@@ -171,8 +169,8 @@ fn settle<
 
 /// Asks for the rest, and ends the cluster once no loop finds anything to do.
 pub fn tell_the_rest<
-    H: StoredHistory<Op, Answer>,
-    D: StoredHistory<DirectoryOp, DirectoryReply>,
+    H: QueueHistory,
+    D: DirectoryHistory,
     R: Wait + Abort,
 >(rt: &R, alloc: Global, parked: Parked<H, D>) -> Ended<H> {
     let mut parked = parked;

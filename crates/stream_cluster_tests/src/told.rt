@@ -2,12 +2,10 @@
 ghost use Rattle.std.specs.Prelude.{◌≡◌};
 
 use crate::producer::Producer;
-use shared_partition::Gate;
+use shared_partition::{Gate, QueueHistory};
 use std::alloc::{AllocError, Global};
 use std::process::Abort;
 use std::sync::Wait;
-use step_core::{Answer, Op};
-use turnstile::StoredHistory;
 
 /// An event that a producer was told was published, in a batch of its own.
 #[derive(Clone, Copy)]
@@ -82,7 +80,7 @@ pub fn report_of(
 }
 
 /// Two grains subscribe at each queue. Whether that was refused somewhere; then it was asked for once more.
-pub fn subscribe_all<G: Gate, H: StoredHistory<Op, Answer>, R: Wait + Abort>(
+pub fn subscribe_all<G: Gate, H: QueueHistory, R: Wait + Abort>(
     rt: &R,
     alloc: Global,
     producer: &mut Producer<G, H>,

@@ -21,7 +21,7 @@ use activation_directory::{DirectoryOp, DirectoryReply};
 use cluster_ending::Traces;
 use cluster_scripts::{Ran, RunEnd, run, run_text};
 use script_reader::{Script, read_lines};
-use shared_partition::Counting;
+use shared_partition::{Counting, QueueHistory};
 use std::alloc::{AllocError, Global};
 use std::fs::{self, Files};
 use std::process::ExitCode;
@@ -33,7 +33,7 @@ use stream_cluster::Config;
 use stream_model::{Limits, Op};
 use stream_script::{Counted, SimConfig, read_script, sim};
 use trace_printer::queue_trace;
-use turnstile::{AskedHistory, ProofHistory, StoredHistory};
+use turnstile::{AskedHistory, ProofHistory};
 
 /// Files of worked examples, how many queues they have and how many blocks the cache of each, and how many of the examples
 /// don't give their replies then. Those of a cache of one block show in a larger one that a difference is seen.
@@ -204,7 +204,7 @@ fn runs<R: Runtime + AllocGlobal + Threads + Wait + Copy + Send + 'static>(
 
 /// Runs an example on silos.
 fn run_example<
-    H: StoredHistory<Op, Answer> + Send + 'static,
+    H: QueueHistory + Send + 'static,
     R: Runtime + AllocGlobal + Threads + Wait + Copy + Send + 'static,
 >(rt: &R, name: &str, config: &Config) -> anyhow::Result<Ran<H>>
     requires { IsConfig config.now }

@@ -12,7 +12,7 @@ use Rattle.stream_laws.specs.Laws.{FrontsAreLegal, HistoriesGrow, LimitsAreKept,
 use Rattle.stream_laws.proofs.LawsOfEvents.{handled_in_order-from}
 use Rattle.stream_laws.proofs.LawsOfMisses.{misses_below_low-from}
 use Rattle.stream_laws.proofs.LawsOfTokens.{none_twice-from}
-use Rattle.stream_laws.proofs.LawsOfTurns.{none_after_close-from}
+use Rattle.stream_laws.proofs.LawsOfTurns.{commits_begun-from, committed_once-from, none_after_close-from}
 use Rattle.stream_laws.proofs.Legal.{StepsKeep, leads-split}
 use Rattle.stream_laws.proofs.UniqueSteps.{steady-legal}
 
@@ -46,5 +46,7 @@ one_history-from keep blocks limits history p stands = record {
   closed = λ before later parts s closed.
       ap (λ told. handled_events told s) parts
       ∙ none_after_close-from keep blocks limits before later p (subst (λ told. Stands blocks limits told p) parts stands) s closed;
+  begun = λ before e later parts. commits_begun-from keep blocks limits before e later p (subst (λ told. Stands blocks limits told p) parts stands);
+  committed = λ turn. (committed_once-from keep blocks limits history p stands turn).1;
   misses = λ before e later parts. misses_below_low-from keep blocks limits before e later p (subst (λ told. Stands blocks limits told p) parts stands);
 }

@@ -63,10 +63,13 @@ NoneAfterClose =
     → handled_events (before ++ later) s ≡ handled_events before s
 
 -- A commit has the number of exactly one turn before it.
+abbrev pub IsBegunOnce : List Entry → Entry → Type 0
+IsBegunOnce before e =
+    (grain : GrainId) (activation turn note : ℕ) (s : SubName) (token : Token)
+    → e.op ≡ Commit grain activation turn note → e.reply ≡ Committed s token → times_begun before turn ≡ 1
+
 abbrev pub CommitsBegun : Type 0
-CommitsBegun =
-    AtEach (λ before e. (grain : GrainId) (activation turn note : ℕ) (s : SubName) (token : Token)
-    → e.op ≡ Commit grain activation turn note → e.reply ≡ Committed s token → times_begun before turn ≡ 1)
+CommitsBegun = AtEach IsBegunOnce
 
 -- No number of a turn is given twice, and none is committed twice.
 abbrev pub CommittedOnce : Type 0
@@ -264,12 +267,15 @@ FrontsAreLegal =
     → (p : PlainPartition) × Stands blocks limits before p × Leads p later q
 
 -- What a history promises: each subscription handles what it is owed in order and no event twice, and
--- nothing after its unsubscribe; and a start token is refused exactly where it is below the low token.
+-- nothing after its unsubscribe; each commit ends the one turn of its number, and no turn is committed twice; and a
+-- start token is refused exactly where it is below the low token.
 pub record IsOneHistory (history : List Entry) : Type 0 where
   pub in_order : (s : SubName) → IsPrefixOf (handled_events history s) (owed_events history s)
   pub once : (s : SubName) → TokensRiseAlong (owed_events history s)
   pub closed : (before later : List Entry) → history ≡ before ++ later → (s : SubName) → is_closed before s ≡ true
       → handled_events history s ≡ handled_events before s
+  pub begun : (before : List Entry) (e : Entry) (later : List Entry) → history ≡ before ++ e ∷ later → IsBegunOnce before e
+  pub committed : (turn : ℕ) → times_committed history turn ≤ 1
   pub misses : (before : List Entry) (e : Entry) (later : List Entry) → history ≡ before ++ e ∷ later → IsMissBelowLow before e
 
 -- Every legal history does.

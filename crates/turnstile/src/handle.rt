@@ -75,6 +75,7 @@ impl<T: Replays> Handle<T> {
     /// `HistoryFull` where the history has as many entries as it may have, and `Memory` where the call failed
     /// to allocate. No entry is added, the object is as before, and the pass has seen the whole history as it
     /// was found.
+    #[inline(never)]
     pub fn call<R: Wait>(
         &mut self,
         rt: &R,

@@ -116,6 +116,7 @@ impl<T: Replays> Turnstile<T> {
     }
 
     // Does an op on what is held, and adds its entry.
+    #[inline(never)]
     fn apply(
         alloc: Global,
         held: &mut Held<T, T::History>,
@@ -161,6 +162,7 @@ impl<T: Replays> Turnstile<T> {
     /// # Errors
     /// `HistoryFull` where the history has as many entries as it may have, and `Memory` where the call failed
     /// to allocate. Nothing is added, and the object is as before.
+    #[inline(never)]
     pub fn call_in(
         &self,
         alloc: Global,

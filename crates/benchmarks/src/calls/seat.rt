@@ -5,23 +5,23 @@ ghost use Rattle.shared_partition.specs.Partitions.{BeganEmpty};
 
 use crate::calls::asking::{Asking, number};
 use anyhow::{Result, bail};
-use shared_partition::{Counting, SharedPartition};
+use shared_partition::{Counting, QueueHistory, SharedPartition};
 use std::alloc::{AllocError, Global};
 use std::marker::Model;
 use std::sync::{Arc, Wait};
 use step_core::Answer;
 use stream_model::{Limits, Op, PlainPartition};
-use turnstile::{Pass, PassOf, StoredHistory, Turnstile};
+use turnstile::{Pass, PassOf, Turnstile};
 
 type Shared<H> = SharedPartition<Counting, H>;
 
 /// The turnstile of a shared partition, and a pass of it. A contract sees how many entries the pass has seen.
-pub struct Seat<H: StoredHistory<Op, Answer>> {
+pub struct Seat<H: QueueHistory> {
     turnstile: Arc<Turnstile<Shared<H>>, Global>,
     pass: Pass<Shared<H>, H, Op, Answer, PlainPartition>,
 }
 
-impl<H: StoredHistory<Op, Answer> + Drop> Drop for Seat<H> {
+impl<H: QueueHistory + Drop> Drop for Seat<H> {
     fn drop(self) {
         let Self {
             turnstile: _,
@@ -30,7 +30,7 @@ impl<H: StoredHistory<Op, Answer> + Drop> Drop for Seat<H> {
     }
 }
 
-impl<H: StoredHistory<Op, Answer>> Model for Seat<H> {
+impl<H: QueueHistory> Model for Seat<H> {
     ghost use Rattle.std.specs.Arc.{arc_value};
     ghost use Rattle.std.specs.Prelude.{ℕ, length};
     ghost use Rattle.turnstile.specs.Calls.{IsOf};
@@ -44,7 +44,7 @@ impl<H: StoredHistory<Op, Answer>> Model for Seat<H> {
 }
 
 /// A turnstile over an empty partition with four blocks, and its first pass.
-fn opened<H: StoredHistory<Op, Answer>>(
+fn opened<H: QueueHistory>(
     alloc: Global,
 ) -> Result<(Turnstile<Shared<H>>, PassOf<Shared<H>>), AllocError>
     ensures { IfOk result (λ r. IsOf r.0 r.1 × BeganEmpty r.0.start) }
@@ -55,7 +55,7 @@ fn opened<H: StoredHistory<Op, Answer>>(
     Ok((turnstile, pass))
 }
 
-impl<H: StoredHistory<Op, Answer>> Seat<H> {
+impl<H: QueueHistory> Seat<H> {
     /// The first pass at an empty partition.
     pub fn open(alloc: Global) -> Result<Seat<H>, AllocError> {
         let (turnstile, pass) = opened(alloc)?;

@@ -2,14 +2,14 @@
 use crate::calls::asking::{Asking, number};
 use crate::calls::seat::Seat;
 use anyhow::{Result, ensure};
+use shared_partition::QueueHistory;
 use std::alloc::Global;
 use std::rt::Clock;
 use std::sync::Wait;
 use std::thread::{Threads, map_vec};
 use std::time::Instant;
-use step_core::{Answer, Partition};
-use stream_model::{Limits, Op};
-use turnstile::StoredHistory;
+use step_core::Partition;
+use stream_model::Limits;
 
 /// What was told to so many calls, and how long they took.
 #[derive(Clone, Copy)]
@@ -45,7 +45,7 @@ pub fn alone<C: Clock>(clock: &C, alloc: Global, asking: &Asking, calls: usize) 
 
 /// So many threads make the calls at a shared partition, each as many as the others, and then all of them are in its
 /// history.
-pub fn shared<H: StoredHistory<Op, Answer> + Send, R: Clock + Threads + Wait + Sync>(
+pub fn shared<H: QueueHistory + Send, R: Clock + Threads + Wait + Sync>(
     rt: &R,
     alloc: Global,
     threads: usize,
@@ -69,7 +69,7 @@ pub fn shared<H: StoredHistory<Op, Answer> + Send, R: Clock + Threads + Wait + S
 
 /// Each pass makes so many calls, in a thread of its own: the seconds of all, and the sum of the numbers of the
 /// answers.
-fn ask_in_threads<H: StoredHistory<Op, Answer> + Send, R: Clock + Threads + Wait + Sync>(
+fn ask_in_threads<H: QueueHistory + Send, R: Clock + Threads + Wait + Sync>(
     rt: &R,
     alloc: Global,
     seats: Vec<Seat<H>>,

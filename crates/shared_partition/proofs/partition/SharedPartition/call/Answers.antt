@@ -1,11 +1,13 @@
 use Rattle.shared_partition.specs.Partitions.{after, replied}
+use Rattle.stream_laws.proofs.KeptStep.{kept-step}
+use Rattle.stream_laws.proofs.LawsOfHistories.{one_history-from}
 use Rattle.shared_partition.proofs.Legal.{seen-legal}
 use Rattle.shared_partition.proofs.Partitions.{legal-leaves, legal-tells}
 use Rattle.shared_partition.proofs.partition.SharedPartition.call.Goals as goal
 
 pub returns-clause-headline : goal.returns-clause-headline
 returns-clause-headline g c =
-    legal-tells c.args.turnstile.now.start _ c.one_history.ensures c.requires.empty
+    legal-tells c.args.turnstile.now.start _ (one_history-from kept-step) c.requires.empty
     (seen-legal replied after c.args.turnstile.now.start c.args.pass.now c.args.op c.call_into.result c.call_into.new.pass.seen c.call_into.ensures.call)
 
 pub returns-clause-stands : goal.returns-clause-stands
