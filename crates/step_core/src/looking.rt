@@ -86,6 +86,7 @@ fn due_past(parts: &Parts, last: usize) -> Option<usize>
 }
 
 /// The token of the last event that a subscription has handled, where that isn't acknowledged.
+#[inline(never)]
 fn to_acknowledge(state: &SubState, queue: &PartitionQueue) -> Option<Token>
     requires { AllByRecursion (λ position. position < length queue.now.events) state.now.handled }
     ensures { result ≡ (if is_unacknowledged state.now then Some (token_at queue.now (pred (past state.now.handled))) else None) }
@@ -131,6 +132,7 @@ pub(crate) fn pending(parts: &Parts) -> Option<Pending>
 }
 
 /// The least grain that a turn runs for.
+#[inline(never)]
 pub(crate) fn least_running(parts: &Parts) -> Option<GrainId>
     requires { Agrees parts.now }
     ensures { result ≡ least grain_lt (keys_where is_running (plain_of parts.now).grains) }
@@ -139,6 +141,7 @@ pub(crate) fn least_running(parts: &Parts) -> Option<GrainId>
 }
 
 /// The least grain for which deliveries wait.
+#[inline(never)]
 pub(crate) fn least_waiting(parts: &Parts) -> Option<GrainId>
     requires { Agrees parts.now }
     ensures { result ≡ least_waiting (plain_of parts.now) }
@@ -160,6 +163,7 @@ pub(crate) fn all_waiting(parts: &Parts) -> u128
 
 /// The least name of an open subscription that has a next event in the cache. It looks at those that are due, up to the
 /// first that has one: only what is due can have one.
+#[inline(never)]
 fn least_deliverable(parts: &Parts) -> Option<SubName>
     requires { Agrees parts.now }
     ensures { result ≡ least sub_lt (keys_where (is_deliverable (plain_of parts.now)) (plain_of parts.now).subs) }

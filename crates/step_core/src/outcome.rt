@@ -37,6 +37,7 @@ pub(crate) fn reply_of(outcome: &Outcome, queue: &PartitionQueue) -> Reply
 
 /// Puts the events of a turn, which this log has, in the place of those before. It does nothing where there is
 /// no room for sixteen.
+#[inline(never)]
 pub(crate) fn show(outcome: &Outcome, queue: &PartitionQueue, shown: &mut Vec<Event>)
     requires { IsOfLog queue.now.events outcome.now }
     ensures { Shows shown.old shown.new (reply_with queue.now.events outcome.now) }

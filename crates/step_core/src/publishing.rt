@@ -33,16 +33,16 @@ use stream_model::{Reply, Start};
 pub(crate) fn publish(
     parts: &mut Parts,
     alloc: Global,
-    stream: StreamId,
+    stream: &StreamId,
     payloads: &Batch,
 ) -> Result<Outcome, AllocError>
     requires { Agrees parts.old }
     ensures assembled { IsAssembled parts.new }
-    ensures performs { Performs (plain_of parts.old) (plain_of parts.new) (replied result) (publish (plain_of parts.old) stream payloads.now) }
+    ensures performs { Performs (plain_of parts.old) (plain_of parts.new) (replied result) (publish (plain_of parts.old) stream.now payloads.now) }
     ensures told { IfOk result IsNoTurn }
-    ensures memory { OnErr result (takes_memory (publish (plain_of parts.old) stream payloads.now).1 ≡ true) }
+    ensures memory { OnErr result (takes_memory (publish (plain_of parts.old) stream.now payloads.now).1 ≡ true) }
 {
-    let appended = parts.queue.append(alloc, stream, payloads)?;
+    let appended = parts.queue.append(alloc, *stream, payloads)?;
     Ok(told_of_batch(appended))
 }
 
@@ -101,15 +101,15 @@ fn told_of_rule(from: u64, added: RuleAdded) -> Outcome
 pub(crate) fn subscribe(
     parts: &mut Parts,
     alloc: Global,
-    stream: StreamId,
-    grain: GrainId,
+    stream: &StreamId,
+    grain: &GrainId,
     start: Start,
 ) -> Result<Outcome, AllocError>
     requires { Agrees parts.old }
     ensures assembled { IsAssembled parts.new }
-    ensures performs { Performs (plain_of parts.old) (plain_of parts.new) (replied result) (subscribe (plain_of parts.old) stream grain start) }
+    ensures performs { Performs (plain_of parts.old) (plain_of parts.new) (replied result) (subscribe (plain_of parts.old) stream.now grain.now start) }
     ensures told { IfOk result IsNoTurn }
-    ensures memory { OnErr result (takes_memory (subscribe (plain_of parts.old) stream grain start).1 ≡ true) }
+    ensures memory { OnErr result (takes_memory (subscribe (plain_of parts.old) stream.now grain.now start).1 ≡ true) }
 {
     match start {
         Start::Latest => {
@@ -177,19 +177,21 @@ fn forget(grains: &mut GrainTable, grain: &GrainId, number: usize)
 fn subscribe_at(
     parts: &mut Parts,
     alloc: Global,
-    stream: StreamId,
-    grain: GrainId,
+    stream: &StreamId,
+    grain: &GrainId,
     start: Token,
     position: usize,
 ) -> Result<Outcome, AllocError>
     requires agrees { Agrees parts.old }
     requires position { position ≤ high parts.old.agent.cache }
     ensures assembled { IsAssembled parts.new }
-    ensures performs { Performs (plain_of parts.old) (plain_of parts.new) (replied result) (subscribe_at (plain_of parts.old) stream grain start position) }
+    ensures performs { Performs (plain_of parts.old) (plain_of parts.new) (replied result) (subscribe_at (plain_of parts.old) stream.now grain.now start position) }
     ensures told { IfOk result IsNoTurn }
-    ensures memory { OnErr result (takes_memory (subscribe_at (plain_of parts.old) stream grain start position).1 ≡ true) }
+    ensures memory { OnErr result (takes_memory (subscribe_at (plain_of parts.old) stream.now grain.now start position).1 ≡ true) }
 {
-    let added = parts.subs.subscribe(alloc, stream, grain, start, position)?;
+    let added = parts
+        .subs
+        .subscribe(alloc, *stream, *grain, start, position)?;
     Ok(told_of_sub(added))
 }
 

@@ -39,12 +39,12 @@ pub(crate) fn step(
     ensures memory { OnErr result (may_allocate (plain_of parts.old) op.now ≡ true) }
 {
     match op {
-        Op::Publish { stream, payloads } => publish(parts, alloc, *stream, payloads),
+        Op::Publish { stream, payloads } => publish(parts, alloc, stream, payloads),
         Op::Subscribe {
             stream,
             grain,
             start,
-        } => subscribe(parts, alloc, *stream, *grain, *start),
+        } => subscribe(parts, alloc, stream, grain, *start),
         Op::AddRule { kind, namespace } => add_rule(parts, alloc, *kind, *namespace),
         Op::Pull { generation, max } => pull(parts, excerpt, alloc, *generation, *max),
         Op::Deliver { generation, sub } => deliver(parts, alloc, *generation, sub),

@@ -28,6 +28,7 @@ impl SubscriptionTable {
     /// # Errors
     /// The call failed to allocate, and nothing has changed. That can happen only where a subscription would
     /// be added.
+    #[inline(never)]
     pub fn subscribe(
         &mut self,
         alloc: Global,
@@ -69,6 +70,7 @@ impl SubscriptionTable {
     /// # Errors
     /// The call failed to allocate, and nothing has changed. That can happen only where there would be more
     /// subscriptions than before.
+    #[inline(never)]
     pub fn imply(
         &mut self,
         alloc: Global,
@@ -104,6 +106,7 @@ impl SubscriptionTable {
     /// # Errors
     /// The call failed to allocate, and nothing has changed. That can happen only where the rule would be
     /// added.
+    #[inline(never)]
     pub fn add_rule(
         &mut self,
         alloc: Global,

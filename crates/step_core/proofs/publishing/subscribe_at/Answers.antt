@@ -21,17 +21,17 @@ returns-in_err-added-clause-assembled c =
 pub returns-in_err-added-clause-memory : goal.returns-in_err-added-clause-memory
 returns-in_err-added-clause-memory c =
     on-error c.from_residual.result
-    (added-memory c.args.parts.now c.args.stream c.args.grain c.args.start c.args.position c.requires.agrees c.requires.agrees.records c.in_err-added.ensures.memory)
+    (added-memory c.args.parts.now c.args.stream.now c.args.grain.now c.args.start c.args.position c.requires.agrees c.requires.agrees.records c.in_err-added.ensures.memory)
 
 pub returns-clause-assembled : goal.returns-clause-assembled
 returns-clause-assembled c =
     let parts = c.args.parts.now in
     let new : c.subscribe.new.self ≡ _ = ap (λ (stepped : PlainTable × Added). stepped.0) c.in_ok-added.ensures.performs in
     subst (λ (subs : PlainTable). IsAssembled (record parts { subs = subs })) (sym new)
-    (added-assembled parts c.args.stream c.args.grain c.args.start c.args.position c.requires.agrees.records c.requires.agrees.assembled)
+    (added-assembled parts c.args.stream.now c.args.grain.now c.args.start c.args.position c.requires.agrees.records c.requires.agrees.assembled)
 
 pub returns-clause-performs : goal.returns-clause-performs
 returns-clause-performs c =
     let parts = c.args.parts.now in
     ap {B = PlainPartition × Reply} (λ told. (plain_of (record parts { subs = c.subscribe.new.self }), told)) c.told_of_sub.ensures.reply
-    ∙ added-performs parts c.args.stream c.args.grain c.args.start c.args.position c.subscribe.new.self c.in_ok-added.added c.requires.agrees c.requires.agrees.records c.in_ok-added.ensures.performs
+    ∙ added-performs parts c.args.stream.now c.args.grain.now c.args.start c.args.position c.subscribe.new.self c.in_ok-added.added c.requires.agrees c.requires.agrees.records c.in_ok-added.ensures.performs
