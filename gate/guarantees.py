@@ -77,11 +77,12 @@ def clauses_at(lines, at):
         if lines[at].rstrip().endswith(("{", ";", "{}")) or lines[at].strip() == "}":
             return []
         at += 1
-    found, depth = [], 0
-    while depth > 0 or CLAUSE.match(lines[at]):
-        depth += lines[at].count("{") - lines[at].count("}")
-        found.append(lines[at][indent + 4:].rstrip().removesuffix(";"))
+    found = []
+    while lines[at][indent:] not in ("{", "{}"):
+        found.append(lines[at][indent + 4:].rstrip(";"))
         at += 1
+        if lines[at - 1].endswith("};"):
+            break
     return found
 
 
