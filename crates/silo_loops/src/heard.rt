@@ -1,7 +1,7 @@
 //! What a loop takes from an answer at a queue.
 ghost use Rattle.std.specs.Prelude.{◌≡◌};
 ghost use Rattle.step_core.specs.Replied.{Says};
-ghost use Rattle.stream_model.specs.Replies.{Reply};
+ghost use Rattle.stream_model.specs.Replies as replies;
 ghost use Rattle.silo_loops.specs.Answers.{heard_of, end_in};
 
 use crate::advance::{Over, end_by};
@@ -70,7 +70,7 @@ pub(crate) fn heard_of(answer: &Result<Answer, Refusal>) -> Heard
 
 // What an outcome says.
 fn heard_in(outcome: &Outcome) -> Heard
-    ensures { (r : Reply) → Says outcome.now r → result ≡ heard_of (Ok r) }
+    ensures { (r : replies.Reply) → Says outcome.now r → result ≡ heard_of (Ok r) }
 {
     match *outcome {
         Reply::Turn {
