@@ -107,7 +107,7 @@ def calls_of(source):
         for at, line in enumerate(lines):
             if BLOCK.match(line):
                 owner = head_of_block(lines, at)
-            elif line.startswith("}"):
+            if line.startswith("}") or (BLOCK.match(line) and line.endswith("{}")):
                 owner = None
             match = FUNCTION.match(line)
             if not match or (line[0] == " ") != (owner is not None):
