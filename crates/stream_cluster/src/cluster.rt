@@ -216,8 +216,8 @@ impl<
     /// then was moved there.
     ///
     /// # Errors
-    /// The call failed to allocate, or a thread can't be made. What was answered by then stands, no pass is lost,
-    /// and the cluster's silos don't change any more.
+    /// The call failed to allocate, or a thread can't be made. What was answered by then stands, and the
+    /// cluster's silos don't change any more.
     pub fn silo_up<R: Threads + Wait + Copy + Send + 'static>(
         &mut self,
         rt: &R,
@@ -379,8 +379,8 @@ impl<G: Gate, H: QueueHistory, D: DirectoryHistory> Cluster<
     /// Where the cluster's silos don't change any more, or no other silo lives, the loops are handed out again.
     ///
     /// # Errors
-    /// The call failed to allocate. What was answered by then stands, the loops came back, no pass is lost, and the
-    /// cluster's silos don't change any more.
+    /// The call failed to allocate. What was answered by then stands, the loops came back, and the cluster's silos
+    /// don't change any more.
     pub fn retire<R: Wait>(
         &mut self,
         rt: &R,

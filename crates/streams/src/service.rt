@@ -212,7 +212,7 @@ impl<R: Host, G: Gate + 'static> Service<R, G> {
     }
 
     /// A silo goes: its loops are stopped, its grains are deactivated, and the queues are spread over the silos that
-    /// live. What waits or runs there is handled elsewhere.
+    /// live. What waits or runs there may be handled elsewhere from then on.
     ///
     /// # Errors
     /// They are those of [`SiloError`]. After `NoSilo`, `NotLive`, `LastSilo` and `Halted` nothing was done. After

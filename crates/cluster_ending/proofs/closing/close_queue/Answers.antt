@@ -7,5 +7,5 @@ use Rattle.cluster_ending.proofs.closing.close_queue.Goals as goal
 pub returns-in-Traced : goal.returns-in-Traced
 returns-in-Traced g c =
     let parts = c.into_parts-shared in
-    queue-trace (arc_value parts.result.0) c.in-Some.turnstile parts.result.1 c.args.queue c.in_ok-passes.passes.items (g.H.QueueHistory.StoredHistory.entries c.in-Traced.done.history) c.in-Traced.done.object c.into_partition.result
+    queue-trace (arc_value parts.result.0) c.in-Some.turnstile parts.result.1 c.args.queue c.in_ok-passes.passes.items (g.H.StoredHistory.entries c.in-Traced.done.history) c.in-Traced.done.object c.into_partition.result
     (one_history-from kept-step) parts.ensures.pass parts.ensures.of parts.ensures.empty c.in-Some.ensures c.in_ok-passes.ensures c.in-Traced.ensures c.into_partition.ensures

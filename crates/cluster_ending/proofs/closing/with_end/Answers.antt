@@ -5,6 +5,6 @@ use Rattle.cluster_ending.proofs.closing.with_end.Goals.{in-InUse-end, in_defaul
 pub returns-after-end-2 : goal.returns-after-end-2
 returns-after-end-2 g c =
     elim c.match-end-2.branch [
-      | in-InUse-end w ↦ extends-in-use g.H.QueueHistory.StoredHistory.entries c.args.closing c.args.end c.match-end-2.result w.result-is
-      | in_default w ↦ extends-missing g.H.QueueHistory.StoredHistory.entries c.args.closing c.args.end c.match-end-2.result c.in-NotAll.queue c.in-NotAll.missing c.in-NotAll.is w.in_default.not-InUse w.result-is
+      | in-InUse-end w ↦ extends-in-use g.H.StoredHistory.entries c.args.closing c.args.end c.match-end-2.result w.result-is
+      | in_default w ↦ extends-missing g.H.StoredHistory.entries c.args.closing c.args.end c.match-end-2.result c.in-NotAll.queue c.in-NotAll.missing c.in-NotAll.is w.in_default.not-InUse w.result-is
     ]

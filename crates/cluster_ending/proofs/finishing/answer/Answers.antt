@@ -13,6 +13,6 @@ returns-in_ok-text-in-Some-All g c = λ passes last came traces.
       record { limit = c.if-ends.false; rounds = c.if-ends-2.false },
       asked,
       traces,
-      traces-done passes last (map g.H.QueueHistory.StoredHistory.entries c.args.traces.histories.items) c.args.traces.partitions.items c.quiet_is_done.ensures (subst (λ (o : Option Quiet). CameTo o passes last) asked came) traces,
+      traces-done passes last (map g.H.StoredHistory.entries c.args.traces.histories.items) c.args.traces.partitions.items c.quiet_is_done.ensures (subst (λ (o : Option Quiet). CameTo o passes last) asked came) traces,
       c.in_ok-text-in-Some-All.ensures ∙ ap (λ (ps : List PlainPartition). report_of ps) c.deref.ensures.value,
     )

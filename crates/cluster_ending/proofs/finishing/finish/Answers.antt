@@ -17,20 +17,20 @@ came g c =
     ]
 
 -- what came of closing
-are : (g : given.Over) (c : goal.After-answer g) → AreTracesOf g.H.QueueHistory.StoredHistory.entries c.ask_quiet.new.caller c.in-Traced.traces
-are g c = closed-traces g.H.QueueHistory.StoredHistory.entries c.ask_quiet.new.caller c.in_ok-close.field-0 c.in-Traced.traces c.in_ok-close.ensures c.in-Traced.is
+are : (g : given.Over) (c : goal.After-answer g) → AreTracesOf g.H.StoredHistory.entries c.ask_quiet.new.caller c.in-Traced.traces
+are g c = closed-traces g.H.StoredHistory.entries c.ask_quiet.new.caller c.in_ok-close.field-0 c.in-Traced.traces c.in_ok-close.ensures c.in-Traced.is
 
 pub returns-in-Traced-clause-finished : goal.returns-in-Traced-clause-finished
 returns-in-Traced-clause-finished g c =
-    is-finished g.H.QueueHistory.StoredHistory.entries (passes_of c.args.lines.items) c.args.callers.items c.in_ok-caller.caller c.ask_quiet.new.caller c.args.ends c.match-ask_quiet.asked c.in-Traced.traces c.answer.result c.if-ends.false c.in_ok-caller.ensures (came g c) (are g c) c.answer.ensures
+    is-finished g.H.StoredHistory.entries (passes_of c.args.lines.items) c.args.callers.items c.in_ok-caller.caller c.ask_quiet.new.caller c.args.ends c.match-ask_quiet.asked c.in-Traced.traces c.answer.result c.if-ends.false c.in_ok-caller.ensures (came g c) (are g c) c.answer.ensures
 
 pub returns-in-Traced-clause-begun : goal.returns-in-Traced-clause-begun
 returns-in-Traced-clause-begun g c =
-    on-begun g.H.QueueHistory.StoredHistory.entries (passes_of c.args.lines.items) c.args.callers.items c.in_ok-caller.caller c.ask_quiet.new.caller c.args.ends c.match-ask_quiet.asked c.in-Traced.traces c.answer.result c.in_ok-caller.ensures (came g c) (are g c) c.answer.ensures
+    on-begun g.H.StoredHistory.entries (passes_of c.args.lines.items) c.args.callers.items c.in_ok-caller.caller c.ask_quiet.new.caller c.args.ends c.match-ask_quiet.asked c.in-Traced.traces c.answer.result c.in_ok-caller.ensures (came g c) (are g c) c.answer.ensures
 
 pub returns-in-Traced-clause-producers : goal.returns-in-Traced-clause-producers
 returns-in-Traced-clause-producers g c =
-    on-producers g.H.QueueHistory.StoredHistory.entries (passes_of c.args.lines.items) c.args.callers.items c.in_ok-caller.caller c.ask_quiet.new.caller c.args.ends c.match-ask_quiet.asked c.in-Traced.traces c.answer.result c.in_ok-caller.ensures (came g c) (are g c) c.answer.ensures
+    on-producers g.H.StoredHistory.entries (passes_of c.args.lines.items) c.args.callers.items c.in_ok-caller.caller c.ask_quiet.new.caller c.args.ends c.match-ask_quiet.asked c.in-Traced.traces c.answer.result c.in_ok-caller.ensures (came g c) (are g c) c.answer.ensures
 
 pub returns-in-InUse-clause-finished : goal.returns-in-InUse-clause-finished
 returns-in-InUse-clause-finished g c =
@@ -57,5 +57,5 @@ returns-in-NotAll-clause-finished g c =
       asked = c.match-ask_quiet.asked;
       last = c.ask_quiet.new.caller;
       came_to = subst (λ (es : List QueuePass). CameTo c.match-ask_quiet.asked es c.ask_quiet.new.caller) c.in_ok-caller.ensures.whole same;
-      answers = closed-missing g.H.QueueHistory.StoredHistory.entries c.ask_quiet.new.caller c.in_ok-close.field-0 c.in-NotAll.queue c.in-NotAll.missing c.in_ok-close.ensures c.in-NotAll.is;
+      answers = closed-missing g.H.StoredHistory.entries c.ask_quiet.new.caller c.in_ok-close.field-0 c.in-NotAll.queue c.in-NotAll.missing c.in_ok-close.ensures c.in-NotAll.is;
     }

@@ -32,18 +32,18 @@ returns-clause-script g c =
     let now = c.run_script-script.new.caller in
     let w = c.run_script-script.new.cluster in
     let all = c.push_reserved.ensures.items ∙ ap (λ (before : List (List QueuePass)). before ++ now ∷ []) c.in_ok-callers.ensures.items in
-    let fin = subst (λ (callers : List (List QueuePass)). HasFinished g.H.QueueHistory.StoredHistory.entries w callers (recorded c.in_ok-ended.field-0.loops) c.in_ok-ended.field-0.finished) all c.in_ok-ended.ensures in
-    subst (λ ran. RunsScript g.H.QueueHistory.StoredHistory.entries c.args.config.now c.args.lines.items ran) (sym c.conclude.ensures)
-    (run-ends g.H.QueueHistory.StoredHistory.entries (recorded c.in_ok-ended.field-0.loops) c.args.config.now c.args.lines.items c.in_ok-cluster.cluster w c.in_ok-cluster.caller now c.in_ok-script.field-0.printed.items c.in_ok-ended.field-0.finished c.in_ok-script.field-0.end c.requires.config c.in_ok-cluster.ensures c.run_script-script.ensures.turnstiles c.in_ok-script.ensures.script fin)
+    let fin = subst (λ (callers : List (List QueuePass)). HasFinished g.H.StoredHistory.entries w callers (recorded c.in_ok-ended.field-0.loops) c.in_ok-ended.field-0.finished) all c.in_ok-ended.ensures in
+    subst (λ ran. RunsScript g.H.StoredHistory.entries c.args.config.now c.args.lines.items ran) (sym c.conclude.ensures)
+    (run-ends g.H.StoredHistory.entries (recorded c.in_ok-ended.field-0.loops) c.args.config.now c.args.lines.items c.in_ok-cluster.cluster w c.in_ok-cluster.caller now c.in_ok-script.field-0.printed.items c.in_ok-ended.field-0.finished c.in_ok-script.field-0.end c.requires.config c.in_ok-cluster.ensures c.run_script-script.ensures.turnstiles c.in_ok-script.ensures.script fin)
 
 pub returns-clause-legal : goal.returns-clause-legal
 returns-clause-legal g c =
     let now = c.run_script-script.new.caller in
     let w = c.run_script-script.new.cluster in
     let all = c.push_reserved.ensures.items ∙ ap (λ (before : List (List QueuePass)). before ++ now ∷ []) c.in_ok-callers.ensures.items in
-    let fin = subst (λ (callers : List (List QueuePass)). HasFinished g.H.QueueHistory.StoredHistory.entries w callers (recorded c.in_ok-ended.field-0.loops) c.in_ok-ended.field-0.finished) all c.in_ok-ended.ensures in
-    subst (λ ran. LeavesLegalTraces g.H.QueueHistory.StoredHistory.entries c.args.config.now ran.end) (sym c.conclude.ensures)
-    (run-legal g.H.QueueHistory.StoredHistory.entries (recorded c.in_ok-ended.field-0.loops) c.args.config.now c.in_ok-cluster.cluster w c.in_ok-cluster.caller now c.in_ok-ended.field-0.finished c.in_ok-script.field-0.end c.in_ok-cluster.ensures c.run_script-script.ensures.cluster.lines fin)
+    let fin = subst (λ (callers : List (List QueuePass)). HasFinished g.H.StoredHistory.entries w callers (recorded c.in_ok-ended.field-0.loops) c.in_ok-ended.field-0.finished) all c.in_ok-ended.ensures in
+    subst (λ ran. LeavesLegalTraces g.H.StoredHistory.entries c.args.config.now ran.end) (sym c.conclude.ensures)
+    (run-legal g.H.StoredHistory.entries (recorded c.in_ok-ended.field-0.loops) c.args.config.now c.in_ok-cluster.cluster w c.in_ok-cluster.caller now c.in_ok-ended.field-0.finished c.in_ok-script.field-0.end c.in_ok-cluster.ensures c.run_script-script.ensures.cluster.lines fin)
 
 pub returns-clause-ends : goal.returns-clause-ends
 returns-clause-ends g c =
@@ -61,6 +61,6 @@ returns-clause-ends g c =
       does = c.in_ok-script.ensures.script;
       back = recorded c.in_ok-ended.field-0.loops;
       finished = c.in_ok-ended.field-0.finished;
-      ends = subst (λ (callers : List (List QueuePass)). HasFinished g.H.QueueHistory.StoredHistory.entries w callers (recorded c.in_ok-ended.field-0.loops) c.in_ok-ended.field-0.finished) all c.in_ok-ended.ensures;
+      ends = subst (λ (callers : List (List QueuePass)). HasFinished g.H.StoredHistory.entries w callers (recorded c.in_ok-ended.field-0.loops) c.in_ok-ended.field-0.finished) all c.in_ok-ended.ensures;
       tells = c.conclude.ensures;
     }
