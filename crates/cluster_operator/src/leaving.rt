@@ -74,12 +74,7 @@ fn take_grain<D: DirectoryHistory, R: Wait>(
 ///
 /// # Errors
 /// A call was refused. Those before it stand.
-pub(crate) fn evict<
-    G: Gate,
-    H: QueueHistory,
-    D: DirectoryHistory,
-    R: Wait,
->(
+pub(crate) fn evict<G: Gate, H: QueueHistory, D: DirectoryHistory, R: Wait>(
     rt: &R,
     alloc: Global,
     doorbell: &Doorbell,

@@ -17,11 +17,7 @@ use std::marker::Model;
 use std::sync::{Arc, Wait};
 
 /// What changes the silos of a cluster.
-pub struct Operator<
-    G: Gate,
-    H: QueueHistory,
-    D: DirectoryHistory,
-> {
+pub struct Operator<G: Gate, H: QueueHistory, D: DirectoryHistory> {
     gate: Arc<G, Global>,
     doorbell: Arc<Doorbell, Global>,
     // what the agent of each silo is told, whether the silo lives or not
@@ -32,11 +28,8 @@ pub struct Operator<
     assignment: Vec<u8>,
 }
 
-impl<
-    G: Gate + Drop,
-    H: QueueHistory + Drop,
-    D: DirectoryHistory + Drop,
-> Drop for Operator<G, H, D> {
+impl<G: Gate + Drop, H: QueueHistory + Drop, D: DirectoryHistory + Drop> Drop
+    for Operator<G, H, D> {
     fn drop(self) {
         let Self {
             gate: _,
@@ -50,8 +43,7 @@ impl<
     }
 }
 
-impl<G: Gate, H: QueueHistory, D: DirectoryHistory> Model
-    for Operator<G, H, D> {
+impl<G: Gate, H: QueueHistory, D: DirectoryHistory> Model for Operator<G, H, D> {
     ghost use Rattle.cluster_operator.specs.Operators.{IsOperator, OperatorView};
 
     ghost Value = { OperatorView };
@@ -110,11 +102,7 @@ fn spread_queues<G: Gate, H: QueueHistory, R: Wait>(
     Ok(())
 }
 
-impl<G: Gate, H: QueueHistory, D: DirectoryHistory> Operator<
-    G,
-    H,
-    D,
-> {
+impl<G: Gate, H: QueueHistory, D: DirectoryHistory> Operator<G, H, D> {
     /// An operator of a cluster in which no silo lives, and each queue is on silo 0.
     ///
     /// # Errors

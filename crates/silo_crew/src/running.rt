@@ -25,15 +25,12 @@ impl<G: Gate, H: QueueHistory> Promise<AgentLoop<G, H>> for AgentPromise<G, H> {
 
 /// The worker that comes back is the one that was started, after some steps or none.
 #[derive(Drop)]
-pub struct WorkerPromise<
-    G: Gate,
-    H: QueueHistory,
-    D: DirectoryHistory,
->(Snapshot<WorkerLoop<G, H, D>>);
+pub struct WorkerPromise<G: Gate, H: QueueHistory, D: DirectoryHistory>(
+    Snapshot<WorkerLoop<G, H, D>>,
+);
 
-impl<G: Gate, H: QueueHistory, D: DirectoryHistory> Promise<
-    WorkerLoop<G, H, D>,
-> for WorkerPromise<G, H, D> {
+impl<G: Gate, H: QueueHistory, D: DirectoryHistory> Promise<WorkerLoop<G, H, D>>
+    for WorkerPromise<G, H, D> {
     ghost kept_by = { λ p w. WorkerRuns p.0.value w };
 }
 
@@ -102,11 +99,7 @@ fn start_worker<
 ///
 /// A contract sees the loops as they were started.
 #[derive(Drop)]
-pub struct RunningSilo<
-    G: Gate,
-    H: QueueHistory,
-    D: DirectoryHistory,
-> {
+pub struct RunningSilo<G: Gate, H: QueueHistory, D: DirectoryHistory> {
     silo: u8,
     stop: Arc<AtomicBool, Global>,
     agent: AgentThread<G, H>,
@@ -114,8 +107,7 @@ pub struct RunningSilo<
     second: WorkerThread<G, H, D>,
 }
 
-impl<G: Gate, H: QueueHistory, D: DirectoryHistory> Model
-    for RunningSilo<G, H, D> {
+impl<G: Gate, H: QueueHistory, D: DirectoryHistory> Model for RunningSilo<G, H, D> {
     ghost use Rattle.silo_crew.specs.Silos.{SiloView};
 
     ghost Value = { SiloView };
@@ -220,11 +212,7 @@ impl<
     }
 }
 
-impl<
-    G: Gate,
-    H: QueueHistory,
-    D: DirectoryHistory,
-> RunningSilo<G, H, D> {
+impl<G: Gate, H: QueueHistory, D: DirectoryHistory> RunningSilo<G, H, D> {
     /// The silo, a number.
     pub fn silo(&self) -> u8
         ensures { result ≡ self.now.silo }

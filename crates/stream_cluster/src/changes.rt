@@ -75,12 +75,7 @@ pub(crate) fn bring_up<
 
 // What is done once a silo's loops came back: their passes are joined, its grains are deactivated, and the queues are
 // spread over the silos that are left.
-pub(crate) fn leave<
-    G: Gate,
-    H: QueueHistory,
-    D: DirectoryHistory,
-    R: Wait,
->(
+pub(crate) fn leave<G: Gate, H: QueueHistory, D: DirectoryHistory, R: Wait>(
     rt: &R,
     alloc: Global,
     operator: &mut Operator<G, H, D>,
@@ -134,11 +129,10 @@ pub(crate) fn start_all<
 }
 
 // Notes how the loops of a silo have ended.
-pub(crate) fn note_ends<
-    G: Gate,
-    H: QueueHistory,
-    D: DirectoryHistory,
->(ends: LoopEnds, loops: &SiloLoops<G, H, D>) -> LoopEnds
+pub(crate) fn note_ends<G: Gate, H: QueueHistory, D: DirectoryHistory>(
+    ends: LoopEnds,
+    loops: &SiloLoops<G, H, D>,
+) -> LoopEnds
     ensures noted { result ≡ noted ends loops.now }
     ensures causes { HaveCauses loops.now }
 {
@@ -151,12 +145,7 @@ pub(crate) fn note_ends<
 
 // Stops the loops of silos, joins their passes back, and notes how they have ended. For proofs alone it gives the loops
 // as they came back.
-pub(crate) fn stop_all<
-    G: Gate,
-    H: QueueHistory,
-    D: DirectoryHistory,
-    R: Threads + Wait,
->(
+pub(crate) fn stop_all<G: Gate, H: QueueHistory, D: DirectoryHistory, R: Threads + Wait>(
     rt: &R,
     operator: &mut Operator<G, H, D>,
     silos: Vec<RunningSilo<G, H, D>>,
@@ -179,11 +168,7 @@ pub(crate) fn stop_all<
 }
 
 // Makes the loops of the silos that live. Where those of one can't be made, all passes are joined back.
-pub(crate) fn make_all<
-    G: Gate,
-    H: QueueHistory,
-    D: DirectoryHistory,
->(
+pub(crate) fn make_all<G: Gate, H: QueueHistory, D: DirectoryHistory>(
     alloc: Global,
     operator: &mut Operator<G, H, D>,
     silos: u8,
@@ -206,11 +191,11 @@ pub(crate) fn make_all<
 }
 
 // Joins the passes of loops back, and notes how the loops have ended.
-pub(crate) fn take_all_back<
-    G: Gate,
-    H: QueueHistory,
-    D: DirectoryHistory,
->(operator: &mut Operator<G, H, D>, silos: Vec<SiloLoops<G, H, D>>, ends: LoopEnds) -> LoopEnds
+pub(crate) fn take_all_back<G: Gate, H: QueueHistory, D: DirectoryHistory>(
+    operator: &mut Operator<G, H, D>,
+    silos: Vec<SiloLoops<G, H, D>>,
+    ends: LoopEnds,
+) -> LoopEnds
     requires { RunsOn operator.old silos.items }
     ensures only { HasOnlyGoneOn operator.old operator.new }
     ensures ends { result ≡ all_noted ends silos.items }

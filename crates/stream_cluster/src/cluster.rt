@@ -54,11 +54,7 @@ pub enum SiloDown {
 
 /// What became of a silo whose loops were given back to a parked cluster.
 #[derive(Drop)]
-pub enum Retired<
-    G: Gate,
-    H: QueueHistory,
-    D: DirectoryHistory,
-> {
+pub enum Retired<G: Gate, H: QueueHistory, D: DirectoryHistory> {
     /// It lives no more: its grains are deactivated, and the queues are spread over the silos that live.
     Down,
     /// No other silo lives. Nothing was done.
@@ -79,11 +75,7 @@ pub enum Retired<
 /// How a cluster has ended, and the loops of its silos as they came back. These are for proofs alone, which learn by
 /// them what each loop has done and why it has ended; they take one byte.
 #[derive(Drop)]
-pub struct Ended<
-    G: Gate,
-    H: QueueHistory,
-    D: DirectoryHistory,
-> {
+pub struct Ended<G: Gate, H: QueueHistory, D: DirectoryHistory> {
     /// How the cluster has ended.
     pub finished: Finished<H>,
     /// The loops of the silos that lived, in the order of the silos.
@@ -131,11 +123,7 @@ fn retired_by<G: Gate, H: QueueHistory, D: DirectoryHistory>(
 /// A contract sees what its operator holds, the loops of its silos as they were started, how those have ended that
 /// came back, whether the loops were given to whoever made it, whether a change of silos was broken off, how many
 /// rounds each loop may begin, and how often a drain looks at the queues.
-pub struct Cluster<
-    G: Gate,
-    H: QueueHistory,
-    D: DirectoryHistory,
-> {
+pub struct Cluster<G: Gate, H: QueueHistory, D: DirectoryHistory> {
     operator: Operator<G, H, D>,
     silos: Vec<RunningSilo<G, H, D>>,
     // how the loops of silos that went have ended
@@ -150,11 +138,7 @@ pub struct Cluster<
     looks: u32,
 }
 
-impl<
-    G: Gate + Drop,
-    H: QueueHistory + Drop,
-    D: DirectoryHistory + Drop,
-> Drop for Cluster<G, H, D> {
+impl<G: Gate + Drop, H: QueueHistory + Drop, D: DirectoryHistory + Drop> Drop for Cluster<G, H, D> {
     fn drop(self) {
         let Self {
             operator: _,
@@ -168,8 +152,7 @@ impl<
     }
 }
 
-impl<G: Gate, H: QueueHistory, D: DirectoryHistory> Model
-    for Cluster<G, H, D> {
+impl<G: Gate, H: QueueHistory, D: DirectoryHistory> Model for Cluster<G, H, D> {
     ghost use Rattle.stream_cluster.specs.Clusters.{ClusterView, IsCluster};
 
     ghost Value = { ClusterView };
@@ -251,11 +234,7 @@ impl<
     }
 }
 
-impl<G: Gate, H: QueueHistory, D: DirectoryHistory> Cluster<
-    G,
-    H,
-    D,
-> {
+impl<G: Gate, H: QueueHistory, D: DirectoryHistory> Cluster<G, H, D> {
     /// How often a drain looks at the queues before it gives up.
     pub fn looks(&self) -> u32
         ensures { result ≡ self.now.looks }

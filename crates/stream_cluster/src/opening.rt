@@ -130,11 +130,10 @@ fn queue_callers<G: Gate, H: QueueHistory>(
 }
 
 // So many silos live from now on, numbered from 0 on.
-fn enlist_first<
-    G: Gate,
-    H: QueueHistory,
-    D: DirectoryHistory,
->(operator: &mut Operator<G, H, D>, silos: u8) -> Result<(), AllocError>
+fn enlist_first<G: Gate, H: QueueHistory, D: DirectoryHistory>(
+    operator: &mut Operator<G, H, D>,
+    silos: u8,
+) -> Result<(), AllocError>
     requires { operator.old.live ≡ [] }
     ensures { OnOk result (operator.new ≡ record operator.old { live = range_with_len 0 silos }) }
 {
@@ -146,12 +145,7 @@ fn enlist_first<
 
 // The operator and the first caller of a cluster whose loops aren't made yet. The queues are spread over its first
 // silos: these moves are the first calls, so that no limit refuses one.
-pub(crate) fn open<
-    G: Gate,
-    H: QueueHistory,
-    D: DirectoryHistory,
-    R: Wait,
->(
+pub(crate) fn open<G: Gate, H: QueueHistory, D: DirectoryHistory, R: Wait>(
     rt: &R,
     alloc: Global,
     config: &Config,
