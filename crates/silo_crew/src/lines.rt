@@ -37,10 +37,7 @@ pub fn split_lines<G: Gate, H: QueueHistory>(
 }
 
 /// Takes in the passes of other lines, at the same turnstiles in the same order. It takes no memory.
-pub fn join_lines<G: Gate, H: QueueHistory>(
-    lines: &mut Vec<Line<G, H>>,
-    others: Vec<Line<G, H>>,
-)
+pub fn join_lines<G: Gate, H: QueueHistory>(lines: &mut Vec<Line<G, H>>, others: Vec<Line<G, H>>)
     requires { places others.items ≡ places lines.old.items }
     ensures go_on { GoOn lines.old.items lines.new.items }
     ensures joined { lines.new.items ≡ joined_lines lines.old.items others.items }
@@ -50,10 +47,7 @@ pub fn join_lines<G: Gate, H: QueueHistory>(
 }
 
 // Takes in the passes of other lines, which are at the turnstiles of the first of these.
-fn join_front<G: Gate, H: QueueHistory>(
-    lines: &mut Vec<Line<G, H>>,
-    mut others: Vec<Line<G, H>>,
-)
+fn join_front<G: Gate, H: QueueHistory>(lines: &mut Vec<Line<G, H>>, mut others: Vec<Line<G, H>>)
     requires { AllZipFront AreAlike lines.old.items others.items }
     ensures go_on { GoOn lines.old.items lines.new.items }
     ensures joined { lines.new.items ≡ joined_lines lines.old.items others.items }

@@ -45,11 +45,7 @@ impl<G: Drop> SiloTools<G> {
 ///
 /// A contract sees the silo and its loops.
 #[derive(Drop)]
-pub struct SiloLoops<
-    G: Gate,
-    H: QueueHistory,
-    D: DirectoryHistory,
-> {
+pub struct SiloLoops<G: Gate, H: QueueHistory, D: DirectoryHistory> {
     /// The silo, a number.
     pub silo: u8,
     /// The loop of its agent.
@@ -60,8 +56,7 @@ pub struct SiloLoops<
     pub second: WorkerLoop<G, H, D>,
 }
 
-impl<G: Gate, H: QueueHistory, D: DirectoryHistory> Model
-    for SiloLoops<G, H, D> {
+impl<G: Gate, H: QueueHistory, D: DirectoryHistory> Model for SiloLoops<G, H, D> {
     ghost use Rattle.silo_crew.specs.Silos.{SiloView};
 
     ghost Value = { SiloView };
@@ -90,11 +85,7 @@ fn make_agent<G: Gate, H: QueueHistory>(
 }
 
 // A worker with passes that are split off.
-fn make_worker<
-    G: Gate,
-    H: QueueHistory,
-    D: DirectoryHistory,
->(
+fn make_worker<G: Gate, H: QueueHistory, D: DirectoryHistory>(
     alloc: Global,
     silo: u8,
     rounds: u64,
@@ -119,10 +110,7 @@ fn make_worker<
 }
 
 // Takes back the passes of an agent.
-fn join_agent<G: Gate, H: QueueHistory>(
-    lines: &mut Vec<Line<G, H>>,
-    agent: AgentLoop<G, H>,
-)
+fn join_agent<G: Gate, H: QueueHistory>(lines: &mut Vec<Line<G, H>>, agent: AgentLoop<G, H>)
     requires { IsAgentAt lines.old.items agent }
     ensures go_on { GoOn lines.old.items lines.new.items }
     ensures joined { lines.new.items ≡ joined_lines lines.old.items agent.lines }
@@ -132,11 +120,11 @@ fn join_agent<G: Gate, H: QueueHistory>(
 }
 
 // Takes back the passes of a worker.
-fn join_worker<
-    G: Gate,
-    H: QueueHistory,
-    D: DirectoryHistory,
->(lines: &mut Vec<Line<G, H>>, directory: &mut DirectoryLine<D>, worker: WorkerLoop<G, H, D>)
+fn join_worker<G: Gate, H: QueueHistory, D: DirectoryHistory>(
+    lines: &mut Vec<Line<G, H>>,
+    directory: &mut DirectoryLine<D>,
+    worker: WorkerLoop<G, H, D>,
+)
     requires { IsWorkerAt lines.old.items directory.old worker }
     ensures go_on { GoOn lines.old.items lines.new.items }
     ensures directory { IsSilent directory.old directory.new }
@@ -151,11 +139,7 @@ fn join_worker<
 }
 
 // Two workers of a silo.
-fn make_workers<
-    G: Gate,
-    H: QueueHistory,
-    D: DirectoryHistory,
->(
+fn make_workers<G: Gate, H: QueueHistory, D: DirectoryHistory>(
     alloc: Global,
     silo: u8,
     rounds: u64,
@@ -181,11 +165,7 @@ fn make_workers<
     }
 }
 
-impl<
-    G: Gate,
-    H: QueueHistory,
-    D: DirectoryHistory,
-> SiloLoops<G, H, D> {
+impl<G: Gate, H: QueueHistory, D: DirectoryHistory> SiloLoops<G, H, D> {
     /// The loops of a silo, which have done nothing yet, with passes that are split off from these.
     ///
     /// # Errors

@@ -25,16 +25,13 @@ impl<G: Gate, H: QueueHistory> Promise<AgentLoop<G, H>> for AgentPromise<G, H> {
 
 /// The worker that comes back is the one that was started, after some steps or none.
 #[derive(Drop)]
-pub struct WorkerPromise<
-    G: Gate,
-    H: QueueHistory,
-    D: DirectoryHistory,
->(Snapshot<WorkerLoop<G, H, D>>);
+pub struct WorkerPromise<G: Gate, H: QueueHistory, D: DirectoryHistory>(
+    Snapshot<WorkerLoop<G, H, D>>,
+);
 
-impl<G: Gate, H: QueueHistory, D: DirectoryHistory> Promise<
-    WorkerLoop<G, H, D>,
-> for WorkerPromise<G, H, D> {
-    ghost kept_by = { λ p w. WorkerRuns p.0.value w };
+impl<G: Gate, H: QueueHistory, D: DirectoryHistory> Promise<WorkerLoop<G, H, D>>
+    for WorkerPromise<G, H, D> {
+    ghost kept_by = { λ p w. WorkerRuns G.follows p.0.value w };
 }
 
 type AgentThread<G, H> = PromisedHandle<AgentLoop<G, H>, AgentPromise<G, H>>;
@@ -82,7 +79,7 @@ fn start_worker<
     worker: WorkerLoop<G, H, D>,
     stop: &Arc<AtomicBool, Global>,
 ) -> Result<WorkerThread<G, H, D>, WorkerLoop<G, H, D>>
-    ensures { MatchResult result (λ thread. thread.promise.0.value ≡ worker) (λ back. WorkerRuns worker back) }
+    ensures { MatchResult result (λ thread. thread.promise.0.value ≡ worker) (λ back. WorkerRuns G.follows worker back) }
 {
     let Ok(flag) = Arc::try_clone(stop) else {
         return Err(worker);
@@ -102,11 +99,7 @@ fn start_worker<
 ///
 /// A contract sees the loops as they were started.
 #[derive(Drop)]
-pub struct RunningSilo<
-    G: Gate,
-    H: QueueHistory,
-    D: DirectoryHistory,
-> {
+pub struct RunningSilo<G: Gate, H: QueueHistory, D: DirectoryHistory> {
     silo: u8,
     stop: Arc<AtomicBool, Global>,
     agent: AgentThread<G, H>,
@@ -114,8 +107,7 @@ pub struct RunningSilo<
     second: WorkerThread<G, H, D>,
 }
 
-impl<G: Gate, H: QueueHistory, D: DirectoryHistory> Model
-    for RunningSilo<G, H, D> {
+impl<G: Gate, H: QueueHistory, D: DirectoryHistory> Model for RunningSilo<G, H, D> {
     ghost use Rattle.silo_crew.specs.Silos.{SiloView};
 
     ghost Value = { SiloView };
@@ -146,8 +138,8 @@ fn start_workers<
     (WorkerThread<G, H, D>, WorkerThread<G, H, D>),
     (WorkerLoop<G, H, D>, WorkerLoop<G, H, D>),
 >
-    ensures first { MatchResult result (λ threads. threads.0.promise.0.value ≡ first) (λ back. WorkerRuns first back.0) }
-    ensures second { MatchResult result (λ threads. threads.1.promise.0.value ≡ second) (λ back. WorkerRuns second back.1) }
+    ensures first { MatchResult result (λ threads. threads.0.promise.0.value ≡ first) (λ back. WorkerRuns G.follows first back.0) }
+    ensures second { MatchResult result (λ threads. threads.1.promise.0.value ≡ second) (λ back. WorkerRuns G.follows second back.1) }
 {
     let first = match start_worker(rt, alloc, first, stop) {
         Ok(thread) => thread,
@@ -220,11 +212,7 @@ impl<
     }
 }
 
-impl<
-    G: Gate,
-    H: QueueHistory,
-    D: DirectoryHistory,
-> RunningSilo<G, H, D> {
+impl<G: Gate, H: QueueHistory, D: DirectoryHistory> RunningSilo<G, H, D> {
     /// The silo, a number.
     pub fn silo(&self) -> u8
         ensures { result ≡ self.now.silo }
