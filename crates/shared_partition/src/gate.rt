@@ -1,14 +1,23 @@
 //! What a program adds to the calls of a partition.
-ghost use Rattle.std.specs.Prelude.{◌≡◌, ◌+◌, ◌-◌, ◌^◌, min};
+ghost use Rattle.std.specs.Prelude.{◌≡◌, ◌+◌, ◌-◌, ◌^◌, min, true};
 
 use stream_ident::{Event, GrainId, SubName, Token};
 
 /// What a program does beside the operations of its partitions.
 ///
 /// [`SharedPartition::call`](crate::SharedPartition::call) calls `inside` and nothing else; `handle` and `done`
-/// are for whoever runs turns. No contract says when one of them is called, or how often. A gate has to have a handler;
-/// the two others do nothing where it doesn't say what they do.
+/// are for whoever runs turns. No contract here says when one of them is called, or how often. A gate has to have a
+/// handler; the two others do nothing where it doesn't say what they do.
 pub trait Gate: Send + Sync + Drop {
+    ghost use Rattle.std.specs.Prelude.{ℕ, Bool, true};
+    ghost use Rattle.stream_ident.specs.declared.event.Event.{Event};
+    ghost use Rattle.stream_ident.specs.declared.ident.GrainId.{GrainId};
+    ghost use Rattle.stream_ident.specs.declared.ident.SubName.{SubName};
+
+    /// Which note may follow where the handler is given this grain, subscription, event and note. Where a gate doesn't
+    /// say, any may.
+    ghost follows: { GrainId → SubName → Event → ℕ → ℕ → Bool } = { λ _ _ _ _ _. true };
+
     /// Is called for each call of the partition of this queue, while its turnstile is held and before the operation is
     /// applied. All other calls of that partition wait until it returns.
     fn inside(&self, _queue: usize) {}
@@ -21,7 +30,8 @@ pub trait Gate: Send + Sync + Drop {
     /// of a turn what its last commit stored, 0 at first, and for each further one what the handler gave for the event
     /// before. Where a turn is lost before its commit, the handler is called again for its events. It has to return: a
     /// silo that goes, and the end of a cluster, wait for it.
-    fn handle(&self, grain: &GrainId, sub: &SubName, event: &Event, note: u64) -> u64;
+    fn handle(&self, grain: &GrainId, sub: &SubName, event: &Event, note: u64) -> u64
+        ensures { Self.follows grain.now sub.now event.now note result ≡ true };
 
     /// Is to be called once after each commit, with the grain whose turn it was, and the token of the turn's last event.
     fn done(&self, _grain: &GrainId, _sub: &SubName, _token: Token) {}
@@ -32,6 +42,10 @@ pub trait Gate: Send + Sync + Drop {
 pub struct Counting;
 
 impl Gate for Counting {
+    ghost use Rattle.std.specs.Prelude.{◌+◌, ◌-◌, ◌^◌, min, nat_eq};
+
+    ghost follows = { λ grain sub event note next. nat_eq next (min (note + 1) (2 ^ 64 - 1)) };
+
     fn inside(&self, _queue: usize) {}
 
     /// The next number, and at the greatest one the number itself.

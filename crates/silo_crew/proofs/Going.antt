@@ -11,6 +11,7 @@ use Rattle.turnstile.proofs.Histories.{foreign-append}
 use Rattle.stream_model.specs.declared.plain.PlainPartition.{PlainPartition}
 use Rattle.silo_loops.specs.Lines.{DirectoryPass, LineView, places}
 use Rattle.silo_loops.specs.Chains.{Stays}
+use Rattle.silo_loops.specs.Workers.{Follows}
 use Rattle.cluster_callers.specs.Calls.{AllZipFront}
 use Rattle.silo_crew.specs.Silos.{AreAlike, AreTakenIn, GoOn, GoesOn, HasRun, HasTakenIn, IsMarked, IsSilent, IsSplitLine, LineGoesOn, SiloView, joined_line, joined_lines}
 use Rattle.silo_loops.specs.Passes.{IsOtherIn}
@@ -273,5 +274,5 @@ front-whole ls ms same front = front-all HasTakenIn ls ms (as-many ms ls same) f
     as-many : (xs ys : List LineView) → places xs ≡ places ys → length xs ≡ length ys
     as-many xs ys same = sym (length-map xs (λ (l : LineView). l.pass.turnstile)) ∙ ap (λ (ts : List (Option (Origin PlainPartition))). length ts) same ∙ length-map ys (λ (l : LineView). l.pass.turnstile)
 
-pub ran-none : (s : SiloView) → HasRun s s
-ran-none s = record { silo = refl; agent = Stays; first = Stays; second = Stays }
+pub ran-none : (follows : Follows) (s : SiloView) → HasRun s s
+ran-none follows s = record { silo = refl; agent = Stays; follows = follows; first = Stays; second = Stays }

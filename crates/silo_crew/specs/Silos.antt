@@ -9,7 +9,7 @@ use Rattle.silo_loops.specs.Agents.{AgentHasCause, AgentRuns, AgentView}
 use Rattle.silo_loops.specs.Lines.{DirectoryPass, LineView, places}
 use Rattle.silo_loops.specs.Passes.{CallsAlone, IsOtherIn}
 use Rattle.silo_loops.specs.Walks.{Nothing}
-use Rattle.silo_loops.specs.Workers.{WorkerHasCause, WorkerRuns, WorkerView}
+use Rattle.silo_loops.specs.Workers.{Follows, WorkerHasCause, WorkerRuns, WorkerView}
 
 -- The same pass later: it has each of its numbers, and has seen as much and more. No pass that was joined to it by then
 -- has made a call since.
@@ -104,12 +104,13 @@ pub record AreTakenIn (lines : List LineView) (d : DirectoryPass) (s : SiloView)
   pub first_asks : IsOtherIn s.first.directory d
   pub second_asks : IsOtherIn s.second.directory d
 
--- the loops of the silo have made some steps, or none
+-- the loops of the silo have made some steps, or none, the workers at one gate
 pub record HasRun (s t : SiloView) : Type 0 where
   pub silo : t.silo ≡ s.silo
   pub agent : AgentRuns s.agent t.agent
-  pub first : WorkerRuns s.first t.first
-  pub second : WorkerRuns s.second t.second
+  pub follows : Follows
+  pub first : WorkerRuns follows s.first t.first
+  pub second : WorkerRuns follows s.second t.second
 
 -- each loop of the silo that has ended has a cause
 pub record HaveCauses (s : SiloView) : Type 0 where

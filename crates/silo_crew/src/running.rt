@@ -31,7 +31,7 @@ pub struct WorkerPromise<G: Gate, H: QueueHistory, D: DirectoryHistory>(
 
 impl<G: Gate, H: QueueHistory, D: DirectoryHistory> Promise<WorkerLoop<G, H, D>>
     for WorkerPromise<G, H, D> {
-    ghost kept_by = { λ p w. WorkerRuns p.0.value w };
+    ghost kept_by = { λ p w. WorkerRuns G.follows p.0.value w };
 }
 
 type AgentThread<G, H> = PromisedHandle<AgentLoop<G, H>, AgentPromise<G, H>>;
@@ -79,7 +79,7 @@ fn start_worker<
     worker: WorkerLoop<G, H, D>,
     stop: &Arc<AtomicBool, Global>,
 ) -> Result<WorkerThread<G, H, D>, WorkerLoop<G, H, D>>
-    ensures { MatchResult result (λ thread. thread.promise.0.value ≡ worker) (λ back. WorkerRuns worker back) }
+    ensures { MatchResult result (λ thread. thread.promise.0.value ≡ worker) (λ back. WorkerRuns G.follows worker back) }
 {
     let Ok(flag) = Arc::try_clone(stop) else {
         return Err(worker);
@@ -138,8 +138,8 @@ fn start_workers<
     (WorkerThread<G, H, D>, WorkerThread<G, H, D>),
     (WorkerLoop<G, H, D>, WorkerLoop<G, H, D>),
 >
-    ensures first { MatchResult result (λ threads. threads.0.promise.0.value ≡ first) (λ back. WorkerRuns first back.0) }
-    ensures second { MatchResult result (λ threads. threads.1.promise.0.value ≡ second) (λ back. WorkerRuns second back.1) }
+    ensures first { MatchResult result (λ threads. threads.0.promise.0.value ≡ first) (λ back. WorkerRuns G.follows first back.0) }
+    ensures second { MatchResult result (λ threads. threads.1.promise.0.value ≡ second) (λ back. WorkerRuns G.follows second back.1) }
 {
     let first = match start_worker(rt, alloc, first, stop) {
         Ok(thread) => thread,

@@ -18,7 +18,7 @@ use Rattle.silo_loops.specs.Walks.{Fits, IsAt, work_in}
 use Rattle.silo_loops.specs.Agents.{AgentAdvancesFrom, AgentCalls, AgentCounts, AgentView, HasSamePlaces, OnesPulled, agent_at}
 use Rattle.silo_loops.specs.Answers.{advance_of}
 use Rattle.silo_loops.specs.Lines.{CallsAt, DirectoryPass, HasLooked, LineView, QueuePass, places, rested}
-use Rattle.silo_loops.specs.Workers.{IsBeside, worker_at, WorkerAdvancesFrom, WorkerAsks, WorkerCalls, WorkerCounts, WorkerLooks, WorkerRanOut, WorkerSteps, WorkerView, WorkerWorks}
+use Rattle.silo_loops.specs.Workers.{Follows, IsBeside, worker_at, WorkerAdvancesFrom, WorkerAsks, WorkerCalls, WorkerCounts, WorkerLooks, WorkerRanOut, WorkerSteps, WorkerView, WorkerWorks}
 
 -- a call leaves each line at its turnstile
 places-called : (lines : List LineView) (at : ℕ) (op : Op) (result : Result Reply Refusal) (new : List LineView) → CallsAt lines at op result new → places new ≡ places lines
@@ -37,16 +37,16 @@ called-beside v w c = record { lines = places-called v.lines c.at c.op c.result 
 asked-beside : (v w : WorkerView) → WorkerAsks v w → IsBeside v w
 asked-beside v w a = record { lines = ap places a.lines; directory = ap (λ (d : DirectoryPass). d.turnstile) a.calls.call.only }
 
-worked-beside : (v w : WorkerView) → WorkerWorks v w → IsBeside v w
-worked-beside v w a = record { lines = ap places a.lines; directory = ap (λ (d : DirectoryPass). d.turnstile) a.directory }
+worked-beside : (follows : Follows) (v w : WorkerView) → WorkerWorks follows v w → IsBeside v w
+worked-beside follows v w a = record { lines = ap places a.lines; directory = ap (λ (d : DirectoryPass). d.turnstile) a.directory }
 
 -- a step leaves a worker at its turnstiles
-pub worker-beside : (from : Option Over) (did : Advance) (v w : WorkerView) → WorkerAdvancesFrom from did v w → IsBeside v w
-worker-beside None advance.Did v w a =
-    elim (a.0.1) as (λ s. IsBeside v w) [ inl c ↦ called-beside v w c | inr s ↦ elim s as (λ s. IsBeside v w) [ inl q ↦ asked-beside v w q | inr k ↦ worked-beside v w k ] ]
-worker-beside None advance.Idle v w a =
+pub worker-beside : (follows : Follows) (from : Option Over) (did : Advance) (v w : WorkerView) → WorkerAdvancesFrom follows from did v w → IsBeside v w
+worker-beside follows None advance.Did v w a =
+    elim (a.0.1) as (λ s. IsBeside v w) [ inl c ↦ called-beside v w c | inr s ↦ elim s as (λ s. IsBeside v w) [ inl q ↦ asked-beside v w q | inr k ↦ worked-beside follows v w k ] ]
+worker-beside follows None advance.Idle v w a =
     record { lines = ap places a.0.1.lines ∙ places-rested v.lines; directory = ap (λ (d : DirectoryPass). d.turnstile) a.0.1.directory }
-worker-beside None (advance.Over end) v w a =
+worker-beside follows None (advance.Over end) v w a =
     elim (a.0.1) as (λ s. IsBeside v w) [
       | inl c ↦ called-beside v w c
       | inr s ↦
@@ -55,7 +55,7 @@ worker-beside None (advance.Over end) v w a =
             | inr k ↦ record { lines = ap (λ (u : WorkerView). places u.lines) k.0; directory = ap (λ (u : WorkerView). u.directory.turnstile) k.0 }
           ]
     ]
-worker-beside (Some end) did v w a = record { lines = ap (λ (u : WorkerView). places u.lines) a.1; directory = ap (λ (u : WorkerView). u.directory.turnstile) a.1 }
+worker-beside follows (Some end) did v w a = record { lines = ap (λ (u : WorkerView). places u.lines) a.1; directory = ap (λ (u : WorkerView). u.directory.turnstile) a.1 }
 
 -- and an agent
 pub agent-beside : (from : Option Over) (did : Advance) (v w : AgentView) → AgentAdvancesFrom from did v w → HasSamePlaces v w
@@ -66,17 +66,17 @@ agent-beside None (advance.Over end) v w a =
 agent-beside (Some end) did v w a = ap (λ (u : AgentView). places u.lines) a.1
 
 -- what a step is, by the way that it was made
-pub steps-called : (v w : WorkerView) (over : Option Over) → WorkerCalls v w → WorkerSteps v w over
-steps-called v w None c = inl c
-steps-called v w (Some end) c = inl c
+pub steps-called : (follows : Follows) (v w : WorkerView) (over : Option Over) → WorkerCalls v w → WorkerSteps follows v w over
+steps-called follows v w None c = inl c
+steps-called follows v w (Some end) c = inl c
 
-pub steps-asked : (v w : WorkerView) (over : Option Over) → WorkerAsks v w → WorkerSteps v w over
-steps-asked v w None a = inr (inl a)
-steps-asked v w (Some end) a = inr a
+pub steps-asked : (follows : Follows) (v w : WorkerView) (over : Option Over) → WorkerAsks v w → WorkerSteps follows v w over
+steps-asked follows v w None a = inr (inl a)
+steps-asked follows v w (Some end) a = inr a
 
-pub goes-on : (v w : WorkerView) (over : Option Over) → WorkerSteps v w over → w.over ≡ over → WorkerCounts v w → WorkerAdvancesFrom None (advance_of over) v w
-goes-on v w None s is counted = ((is, s), counted)
-goes-on v w (Some end) s is counted =
+pub goes-on : (follows : Follows) (v w : WorkerView) (over : Option Over) → WorkerSteps follows v w over → w.over ≡ over → WorkerCounts v w → WorkerAdvancesFrom follows None (advance_of over) v w
+goes-on follows v w None s is counted = ((is, s), counted)
+goes-on follows v w (Some end) s is counted =
     ((is, elim s as (λ s. WorkerCalls v w ⊎ (WorkerAsks v w ⊎ WorkerRanOut v w)) [ inl c ↦ inl c | inr a ↦ inr (inl a) ]), counted)
 
 pub agent-goes-on : (v w : AgentView) (over : Option Over) → AgentCalls v w → w.over ≡ over → AgentCounts v w → AgentAdvancesFrom None (advance_of over) v w
@@ -95,17 +95,17 @@ module _ (silo : ℕ) (lines mid : List LineView) (d : DirectoryPass) (walk betw
       ap (λ ls. worker_at silo ls d between events rounds None) same ∙ ap (λ (w : Walk). worker_at silo lines d w events rounds None) is
       ∙ ap (λ o. worker_at silo lines d walk events rounds o) (sym none)
 
-  pub round-begun : (u : WorkerView) (over : Option Over) (answer : Advance) → mid ≡ lines → counted + 1 ≡ rounds → between ≡ record walk { changed = between.changed } → was ≡ None
+  pub round-begun : (follows : Follows) (u : WorkerView) (over : Option Over) (answer : Advance) → mid ≡ lines → counted + 1 ≡ rounds → between ≡ record walk { changed = between.changed } → was ≡ None
       → answer ≡ advance_of over → u.over ≡ over → u.rounds ≡ counted → WorkerLooks (worker_at silo mid d between events rounds None) u
-      → WorkerAdvancesFrom None answer (worker_at silo lines d walk events rounds was) u
-  round-begun u over answer same more is none says ended now looks =
+      → WorkerAdvancesFrom follows None answer (worker_at silo lines d walk events rounds was) u
+  round-begun follows u over answer same more is none says ended now looks =
       let v = worker_at silo lines d walk events rounds was in
       let looked : WorkerLooks v u = subst (λ x. WorkerLooks x u) (between-at same is none) looks in
-      subst (λ a. WorkerAdvancesFrom None a v u) (sym says) (goes-on v u over (steps-called v u over looked.0) ended (inr (ap (λ n. n + 1) now ∙ more, looked)))
+      subst (λ a. WorkerAdvancesFrom follows None a v u) (sym says) (goes-on follows v u over (steps-called follows v u over looked.0) ended (inr (ap (λ n. n + 1) now ∙ more, looked)))
 
-  pub round-idle : (fresh : Option Over) → All HasLooked lines → mid ≡ map rested lines → counted ≡ rounds → walk.step ≡ step.Rest → between ≡ record walk { changed = between.changed } → was ≡ None → fresh ≡ was
-      → WorkerAdvancesFrom None advance.Idle (worker_at silo lines d walk events rounds was) (worker_at silo mid d between events counted fresh)
-  round-idle fresh looked same count rest is none kept = (
+  pub round-idle : (follows : Follows) (fresh : Option Over) → All HasLooked lines → mid ≡ map rested lines → counted ≡ rounds → walk.step ≡ step.Rest → between ≡ record walk { changed = between.changed } → was ≡ None → fresh ≡ was
+      → WorkerAdvancesFrom follows None advance.Idle (worker_at silo lines d walk events rounds was) (worker_at silo mid d between events counted fresh)
+  round-idle follows fresh looked same count rest is none kept = (
     (
       kept ∙ none,
       record {
@@ -119,10 +119,10 @@ module _ (silo : ℕ) (lines mid : List LineView) (d : DirectoryPass) (walk betw
     inl count,
   )
 
-  pub round-none : (answer : Advance) → mid ≡ lines → counted ≡ rounds → rounds ≡ 0 → walk.step ≡ step.Rest → between ≡ record walk { changed = between.changed } → was ≡ None → answer ≡ advance_of (Some over.Rounds)
-      → WorkerAdvancesFrom None answer (worker_at silo lines d walk events rounds was) (worker_at silo mid d between events counted (Some over.Rounds))
-  round-none answer same count most rest is none says =
-      subst (λ a. WorkerAdvancesFrom None a (worker_at silo lines d walk events rounds was) (worker_at silo mid d between events counted (Some over.Rounds))) (sym says) (
+  pub round-none : (follows : Follows) (answer : Advance) → mid ≡ lines → counted ≡ rounds → rounds ≡ 0 → walk.step ≡ step.Rest → between ≡ record walk { changed = between.changed } → was ≡ None → answer ≡ advance_of (Some over.Rounds)
+      → WorkerAdvancesFrom follows None answer (worker_at silo lines d walk events rounds was) (worker_at silo mid d between events counted (Some over.Rounds))
+  round-none follows answer same count most rest is none says =
+      subst (λ a. WorkerAdvancesFrom follows None a (worker_at silo lines d walk events rounds was) (worker_at silo mid d between events counted (Some over.Rounds))) (sym says) (
         (
           refl,
           inr
@@ -181,8 +181,8 @@ agent-ran-out lines was held rounds before answer none left says =
 pub none-pulled : (lines : List LineView) (held : List (Option ℕ)) → length held ≡ length lines → ((at : ℕ) → at < length held → slice_get held at ≡ Some None) → OnesPulled lines held
 none-pulled lines held same none at line generation within holds = absurd (none-some generation (ap (λ o. unwrap_or o None) (sym (none at (omega (arith, same))) ∙ holds)))
 
-pub step-taken : (silo : ℕ) (lines : List LineView) (d : DirectoryPass) (walk : Walk) (events : List Event) (rounds : ℕ) (was : Option Over) (u : WorkerView) (over : Option Over) (answer : Advance) → was ≡ None
-    → answer ≡ advance_of over → u.over ≡ over → u.rounds ≡ rounds → WorkerSteps (worker_at silo lines d walk events rounds None) u over → WorkerAdvancesFrom None answer (worker_at silo lines d walk events rounds was) u
-step-taken silo lines d walk events rounds was u over answer none says ended now steps =
-    subst (λ a. WorkerAdvancesFrom None a (worker_at silo lines d walk events rounds was) u) (sym says)
-    (goes-on (worker_at silo lines d walk events rounds was) u over (subst (λ o. WorkerSteps (worker_at silo lines d walk events rounds o) u over) (sym none) steps) ended (inl now))
+pub step-taken : (follows : Follows) (silo : ℕ) (lines : List LineView) (d : DirectoryPass) (walk : Walk) (events : List Event) (rounds : ℕ) (was : Option Over) (u : WorkerView) (over : Option Over) (answer : Advance) → was ≡ None
+    → answer ≡ advance_of over → u.over ≡ over → u.rounds ≡ rounds → WorkerSteps follows (worker_at silo lines d walk events rounds None) u over → WorkerAdvancesFrom follows None answer (worker_at silo lines d walk events rounds was) u
+step-taken follows silo lines d walk events rounds was u over answer none says ended now steps =
+    subst (λ a. WorkerAdvancesFrom follows None a (worker_at silo lines d walk events rounds was) u) (sym says)
+    (goes-on follows (worker_at silo lines d walk events rounds was) u over (subst (λ o. WorkerSteps follows (worker_at silo lines d walk events rounds o) u over) (sym none) steps) ended (inl now))

@@ -19,7 +19,7 @@ use Rattle.silo_loops.specs.declared.advance.Over.TheVariants as over
 use Rattle.silo_loops.specs.Agents.{AgentAdvancesFrom, AgentCalls, AgentEndsBy, AgentHasCause, AgentView}
 use Rattle.silo_loops.specs.Answers.{end_by, end_of, end_of_asking}
 use Rattle.silo_loops.specs.Passes.{CallsBy, IsAtLimit}
-use Rattle.silo_loops.specs.Workers.{WorkerAdvancesFrom, WorkerAsks, WorkerCalls, WorkerEndsBy, WorkerHasCause, WorkerView}
+use Rattle.silo_loops.specs.Workers.{Follows, WorkerAdvancesFrom, WorkerAsks, WorkerCalls, WorkerEndsBy, WorkerHasCause, WorkerView}
 use Rattle.silo_loops.proofs.Owning.{last-answered}
 use Rattle.silo_loops.proofs.Working.{get-set}
 
@@ -84,12 +84,12 @@ worker-asked (Some over.Limit) v w a is = inr (at-limit places.replied places.af
 worker-asked (Some over.Memory) v w a is = tt
 
 -- a step that ends a worker has a cause
-pub worker-cause : (from : Option Over) (did : Advance) (v w : WorkerView) → WorkerHasCause v → WorkerAdvancesFrom from did v w → WorkerHasCause w
-worker-cause None advance.Did v w cause a = subst (λ o. WorkerEndsBy o w) (sym a.0.0) tt
-worker-cause None advance.Idle v w cause a = subst (λ o. WorkerEndsBy o w) (sym a.0.0) tt
-worker-cause None (advance.Over end) v w cause a =
+pub worker-cause : (follows : Follows) (from : Option Over) (did : Advance) (v w : WorkerView) → WorkerHasCause v → WorkerAdvancesFrom follows from did v w → WorkerHasCause w
+worker-cause follows None advance.Did v w cause a = subst (λ o. WorkerEndsBy o w) (sym a.0.0) tt
+worker-cause follows None advance.Idle v w cause a = subst (λ o. WorkerEndsBy o w) (sym a.0.0) tt
+worker-cause follows None (advance.Over end) v w cause a =
     elim (a.0.1) as (λ s. WorkerHasCause w) [
       | inl c ↦ worker-called w.over v w c c.over
       | inr s ↦ elim s as (λ s. WorkerHasCause w) [ inl q ↦ worker-asked w.over v w q q.over | inr k ↦ subst (λ (u : WorkerView). WorkerHasCause u) (sym k.0) k.1 ]
     ]
-worker-cause (Some end) did v w cause a = subst (λ (u : WorkerView). WorkerHasCause u) (sym a.1) cause
+worker-cause follows (Some end) did v w cause a = subst (λ (u : WorkerView). WorkerHasCause u) (sym a.1) cause

@@ -4,7 +4,7 @@ use Rattle.silo_loops.specs.declared.advance.Advance.{Advance}
 use Rattle.silo_loops.specs.declared.advance.Advance.TheVariants.{Did}
 use Rattle.silo_loops.specs.Agents.{AgentRuns, AgentView, HasSamePlaces}
 use Rattle.silo_loops.specs.Chains.{Chain, Stays, Steps}
-use Rattle.silo_loops.specs.Workers.{IsBeside, WorkerRuns, WorkerView}
+use Rattle.silo_loops.specs.Workers.{Follows, IsBeside, WorkerRuns, WorkerView}
 use Rattle.silo_loops.proofs.Advancing.{agent-beside, beside-after, worker-beside}
 
 pub chain-on : {A : Type 0} (Step : A → A → Type 0) (u v w : A) → Chain Step u v → Chain Step v w → Chain Step u w
@@ -21,6 +21,6 @@ pub agent-stays : (v w : AgentView) → AgentRuns v w → HasSamePlaces v w
 agent-stays v w Stays = refl
 agent-stays v w (Steps {u = m} step rest) = agent-stays m w rest ∙ agent-beside v.over step.0 v m step.1
 
-pub worker-stays : (v w : WorkerView) → WorkerRuns v w → IsBeside v w
+pub worker-stays : {follows : Follows} (v w : WorkerView) → WorkerRuns follows v w → IsBeside v w
 worker-stays v w Stays = record { lines = refl; directory = refl }
-worker-stays v w (Steps {u = m} step rest) = beside-after v m w (worker-beside v.over step.0 v m step.1) (worker-stays m w rest)
+worker-stays {follows} v w (Steps {u = m} step rest) = beside-after v m w (worker-beside follows v.over step.0 v m step.1) (worker-stays m w rest)

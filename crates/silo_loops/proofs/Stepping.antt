@@ -1,5 +1,5 @@
 -- What the steps of a worker do.
-use Rattle.std.proofs.Common.{◌≡◌, ℕ, ◌<◌, ◌≤◌, ◌+◌, ◌⊎◌, inl, inr, List, length, drop, Option, Some, None, Result, refl, sym, ap, subst, ◌∙◌, add-one}
+use Rattle.std.proofs.Common.{◌≡◌, ℕ, suc, ◌<◌, ◌≤◌, ◌+◌, ◌⊎◌, inl, inr, true, List, ◌∷◌, length, drop, get_or, Option, Some, None, Result, refl, sym, ap, subst, ◌∙◌, add-one}
 use Rattle.std.specs.List.{slice_get}
 use Rattle.std.specs.Option.{unwrap_or}
 use Rattle.std.proofs.Math.Seq.{drop-cons}
@@ -25,7 +25,7 @@ use Rattle.silo_loops.specs.Agents.{AgentCalls, AgentMay, agent_at}
 use Rattle.silo_loops.specs.Answers.{heard_of, end_in, end_of, end_of_asking}
 use Rattle.silo_loops.specs.Lines.{DirectoryCalls, DirectoryPass, HearsAt, LineView}
 use Rattle.silo_loops.specs.Walks.{Fits, IsAt, IsFree, Nothing, Runs, Turning, step_after_begin, step_after_commit, step_after_enter, work_in}
-use Rattle.silo_loops.specs.Workers.{HasWorked, IsInHand, WorkerAsks, WorkerCalls, WorkerLooks, WorkerWorks, worker_at}
+use Rattle.silo_loops.specs.Workers.{Follows, HasWorked, RunsAt, WorkerAsks, WorkerCalls, WorkerLooks, WorkerWorks, worker_at}
 use Rattle.silo_loops.proofs.Working.{begun-fits, begun-work, committed-fits, committed-work, end-heard, entered-fits, entered-work, free-fits, free-work, get-set}
 
 -- one place has one line
@@ -110,9 +110,11 @@ module _ (lines new : List LineView) (d : DirectoryPass) (walk w : Walk) (room :
         op = op.Commit grain turn.activation turn.number turn.note;
         result = h.result;
         calls = h.calls;
-        may =
-            subst (λ (l : LineView). Runs l.pass grain turn.activation turn.number) (one-line lines walk.at at.line h.calls.was at.had h.calls.had)
-            (fits-at walk lines d (step.Handle grain permit turn) is at).1;
+        may = (
+          turn.sub,
+          subst (λ (l : LineView). Runs l.pass grain turn.sub turn.activation turn.number) (one-line lines walk.at at.line h.calls.was at.had h.calls.had)
+              (fits-at walk lines d (step.Handle grain permit turn) is at).1,
+        );
         free = ap (λ s. work_in walk.at s old) is ∙ ap (λ es. Turning walk.at es turn.note) (drop_all turn.next old handled);
         over = ends over answer h.result ended h.heard;
         work =
@@ -211,21 +213,24 @@ module _ (lines : List LineView) (d : DirectoryPass) (walk w : Walk) (grain : Gr
       subst (λ v. IsAt v lines d) (sym is)
       (moved-at walk lines d d (step.Handle grain permit (record turn { note = note; next = next })) at (fits-at walk lines d (step.Handle grain permit turn) was at))
 
-  one-more : (at k note next : ℕ) (events : List Event) (event : Event) → k < length events → HasWorked (Turning at (drop k events) note) (Turning at (drop (k + 1) events) next)
-  one-more at k note next events event some =
-      subst (λ es. HasWorked (Turning at es note) (Turning at (drop (k + 1) events) next)) (sym (drop-cons events k event some)) (next, ap (λ n. Turning at (drop n events) next) (add-one k))
+  one-more : (follows : Follows) (turn : Turn) (note : ℕ) (events : List Event) (event : Event) → turn.next < length events → event ≡ get_or events turn.next event
+      → follows grain turn.sub event turn.note note ≡ true → RunsAt lines walk.at grain turn.sub
+      → HasWorked follows lines (Turning walk.at (drop turn.next events) turn.note) (Turning walk.at (drop (turn.next + 1) events) note)
+  one-more follows turn note events event some read gives runs =
+      subst (λ es. HasWorked follows lines (Turning walk.at es turn.note) (Turning walk.at (drop (turn.next + 1) events) note))
+      (ap (λ e. e ∷ drop (suc turn.next) events) read ∙ sym (drop-cons events turn.next event some))
+      (note, ap (λ n. Turning walk.at (drop n events) note) (add-one turn.next), (grain, turn.sub, runs, gives))
 
-  pub handled : (turn : Turn) (note : ℕ) (events : List Event) (event : Event) → walk.step ≡ step.Handle grain permit turn → turn.next < length events
+  pub handled : (follows : Follows) (turn : Turn) (note : ℕ) (events : List Event) (event : Event) → walk.step ≡ step.Handle grain permit turn → turn.next < length events
+      → event ≡ get_or events turn.next event → follows grain turn.sub event turn.note note ≡ true
       → w ≡ record walk { step = step.Handle grain permit (record turn { note = note; next = turn.next + 1 }) } → (silo rounds counted : ℕ) → IsAt walk lines d
-      → WorkerWorks (worker_at silo lines d walk events rounds None) (worker_at silo lines d w events counted None)
-  handled turn note events event was some is silo rounds counted at =
+      → WorkerWorks follows (worker_at silo lines d walk events rounds None) (worker_at silo lines d w events counted None)
+  handled follows turn note events event was some read gives is silo rounds counted at =
       record {
-        in_hand =
-            subst (λ s. IsInHand lines (work_in walk.at s events)) (sym was)
-            (at.line, at.had, (grain, turn.activation, turn.number, (fits-at walk lines d (step.Handle grain permit turn) was at).1));
         worked =
-            subst (λ s. HasWorked (work_in walk.at s events) (work_in w.at w.step events)) (sym was)
-            (subst (λ (v : Walk). HasWorked (Turning walk.at (drop turn.next events) turn.note) (work_in v.at v.step events)) (sym is) (one-more walk.at turn.next turn.note note events event some));
+            subst (λ s. HasWorked follows lines (work_in walk.at s events) (work_in w.at w.step events)) (sym was)
+            (subst (λ (v : Walk). HasWorked follows lines (Turning walk.at (drop turn.next events) turn.note) (work_in v.at v.step events)) (sym is)
+            (one-more follows turn note events event some read gives (at.line, at.had, (turn.activation, turn.number, (fits-at walk lines d (step.Handle grain permit turn) was at).1))));
         lines = refl;
         directory = refl;
         silo = refl;
@@ -235,14 +240,13 @@ module _ (lines : List LineView) (d : DirectoryPass) (walk w : Walk) (grain : Gr
   told-at sub token was is at =
       subst (λ v. IsAt v lines d) (sym is) (record { line = at.line; had = at.had; fits = (fits-at walk lines d (step.Tell grain permit sub token) was at).0 })
 
-  pub told : (sub : SubName) (token : Token) (events : List Event) → walk.step ≡ step.Tell grain permit sub token → w ≡ record walk { step = step.Again grain permit } → (silo rounds counted : ℕ) → IsAt walk lines d
-      → WorkerWorks (worker_at silo lines d walk events rounds None) (worker_at silo lines d w events counted None)
-  told sub token events was is silo rounds counted at =
+  pub told : (sub : SubName) (token : Token) (events : List Event) → walk.step ≡ step.Tell grain permit sub token → w ≡ record walk { step = step.Again grain permit } → (follows : Follows) (silo rounds counted : ℕ) → IsAt walk lines d
+      → WorkerWorks follows (worker_at silo lines d walk events rounds None) (worker_at silo lines d w events counted None)
+  told sub token events was is follows silo rounds counted at =
       record {
-        in_hand =
-            subst (λ s. IsInHand lines (work_in walk.at s events)) (sym was) (at.line, at.had, (fits-at walk lines d (step.Tell grain permit sub token) was at).1);
         worked =
-            subst (λ s. HasWorked (work_in walk.at s events) (work_in w.at w.step events)) (sym was) (ap (λ (v : Walk). work_in v.at v.step events) is);
+            subst (λ s. HasWorked follows lines (work_in walk.at s events) (work_in w.at w.step events)) (sym was)
+            (ap (λ (v : Walk). work_in v.at v.step events) is, (at.line, at.had, (fits-at walk lines d (step.Tell grain permit sub token) was at).1));
         lines = refl;
         directory = refl;
         silo = refl;

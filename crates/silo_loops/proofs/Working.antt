@@ -41,7 +41,7 @@ pub begun-fits : (d : DirectoryPass) (p q : QueuePass) (grain : GrainId) (permit
     → CallsBy replied after p (op.Begin grain most) result q → Fits (step_after_begin grain permit (heard_of result)) d q
 begun-fits d p q grain permit most (Err refused) keeps calls = keeps
 begun-fits d p q grain permit most (Ok (reply.Turn sub activation turn events note)) keeps calls =
-    (keeps, (most, sub, events, note, last-answered replied after p (op.Begin grain most) (reply.Turn sub activation turn events note) q calls))
+    (keeps, (most, events, note, last-answered replied after p (op.Begin grain most) (reply.Turn sub activation turn events note) q calls))
 begun-fits d p q grain permit most (Ok _) keeps calls = keeps
 
 pub committed-work : (at : ℕ) (grain : GrainId) (permit : ℕ) (events : List Event) (result : Result Reply Refusal) → work_in at (step_after_commit grain permit (heard_of result)) events ≡ commit_in at result

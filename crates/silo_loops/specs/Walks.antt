@@ -42,10 +42,10 @@ work_in at _ events = Nothing
 abbrev pub Keeps : DirectoryPass → GrainId → ℕ → Type 0
 Keeps d grain permit = (silo : ℕ) × LastOwn d (asked.Enter grain silo) (directory.Entered permit)
 
--- the last call of the pass began this turn
-abbrev pub Runs : QueuePass → GrainId → ℕ → ℕ → Type 0
-Runs p grain activation turn =
-    (most : ℕ) × (sub : SubName) × (events : List Event) × (note : ℕ) × LastOwn p (Begin grain most) (reply.Turn sub activation turn events note)
+-- the last call of the pass began this turn of the grain, for this subscription
+abbrev pub Runs : QueuePass → GrainId → SubName → ℕ → ℕ → Type 0
+Runs p grain sub activation turn =
+    (most : ℕ) × (events : List Event) × (note : ℕ) × LastOwn p (Begin grain most) (reply.Turn sub activation turn events note)
 
 -- the last call of the pass committed a turn
 abbrev pub HasCommitted : QueuePass → SubName → Token → Type 0
@@ -54,7 +54,7 @@ HasCommitted p sub token = (op : Op) × LastOwn p op (reply.Committed sub token)
 -- what a worker knows of its passes by what it does next
 abbrev pub Fits : Step → DirectoryPass → QueuePass → Type 0
 Fits (step.Begin grain permit) d p = Keeps d grain permit
-Fits (step.Handle grain permit turn) d p = Keeps d grain permit × Runs p grain turn.activation turn.number
+Fits (step.Handle grain permit turn) d p = Keeps d grain permit × Runs p grain turn.sub turn.activation turn.number
 Fits (step.Tell grain permit sub token) d p = Keeps d grain permit × HasCommitted p sub token
 Fits (step.Again grain permit) d p = Keeps d grain permit
 Fits (step.Leave grain permit) d p = Keeps d grain permit

@@ -1,6 +1,8 @@
 -- What a worker may do.
-use Rattle.std.specs.Prelude.{◌≡◌, ℕ, ◌+◌, ◌⊎◌, List, [], ◌∷◌, true, Option, Some, None, Result, Ok, slice_get, map, All}
+use Rattle.std.specs.Prelude.{◌≡◌, ℕ, ◌+◌, ◌⊎◌, List, [], ◌∷◌, Bool, true, Option, Some, None, Result, Ok, slice_get, map, All}
 use Rattle.stream_ident.specs.declared.event.Event.{Event}
+use Rattle.stream_ident.specs.declared.ident.GrainId.{GrainId}
+use Rattle.stream_ident.specs.declared.ident.SubName.{SubName}
 use Rattle.stream_model.specs.declared.op.Op.{Op}
 use Rattle.stream_model.specs.declared.op.Op.TheVariants as op
 use Rattle.stream_model.specs.Replies.{Reply}
@@ -37,7 +39,7 @@ pub record WorkerView : Type 0 where
 abbrev pub WorkerMay : DirectoryPass → QueuePass → Op → Type 0
 WorkerMay d p (op.Ready last) = Unit {0}
 WorkerMay d p (op.Begin grain most) = (most ≡ 16) × ((permit : ℕ) × Keeps d grain permit)
-WorkerMay d p (op.Commit grain activation turn note) = Runs p grain activation turn
+WorkerMay d p (op.Commit grain activation turn note) = (sub : SubName) × Runs p grain sub activation turn
 WorkerMay d p _ = ⊥
 
 -- What it may ask of the directory: a permit for its silo, and to give back the one that it keeps.
@@ -94,23 +96,27 @@ pub record WorkerAsks (v w : WorkerView) : Type 0 where
   pub lines : w.lines ≡ v.lines
   pub silo : w.silo ≡ v.silo
 
--- the handler has had one event more, and has given the note for the next one; or the commit was told
-abbrev pub HasWorked : Work → Work → Type 0
-HasWorked (Turning at (event ∷ events) note) work = (next : ℕ) × (work ≡ Turning at events next)
-HasWorked (Telling at sub token) work = work ≡ Nothing
-HasWorked _ work = ⊥
+-- which note may follow where a gate's handler is given this grain, subscription, event and note
+abbrev pub Follows : Type 0
+Follows = GrainId → SubName → Event → ℕ → ℕ → Bool
 
--- the turn in hand runs: its Begin is the last call of the pass there; or its Commit is
-abbrev pub IsInHand : List LineView → Work → Type 0
-IsInHand lines Nothing = Unit {0}
-IsInHand lines (Turning at events note) =
-    (line : LineView) × (slice_get lines at ≡ Some line) × ((grain : _) × (activation : ℕ) × (turn : ℕ) × Runs line.pass grain activation turn)
-IsInHand lines (Telling at sub token) = (line : LineView) × (slice_get lines at ≡ Some line) × HasCommitted line.pass sub token
+-- a turn of this grain, for this subscription, runs at this queue: its Begin is the last call of the pass there
+abbrev pub RunsAt : List LineView → ℕ → GrainId → SubName → Type 0
+RunsAt lines at grain sub =
+    (line : LineView) × (slice_get lines at ≡ Some line) × ((activation : ℕ) × (turn : ℕ) × Runs line.pass grain sub activation turn)
 
--- a piece of work with no call
-pub record WorkerWorks (v w : WorkerView) : Type 0 where
-  pub in_hand : IsInHand v.lines v.work
-  pub worked : HasWorked v.work w.work
+-- The handler was given the next event and the note in hand, with the grain and the subscription whose turn runs there,
+-- and gave the note for the event behind it. Or the commit was told, which is the last call of the pass there.
+abbrev pub HasWorked : Follows → List LineView → Work → Work → Type 0
+HasWorked follows lines (Turning at (event ∷ events) note) work =
+    (next : ℕ) × (work ≡ Turning at events next) × ((grain : GrainId) × (sub : SubName) × RunsAt lines at grain sub × (follows grain sub event note next ≡ true))
+HasWorked follows lines (Telling at sub token) work =
+    (work ≡ Nothing) × ((line : LineView) × (slice_get lines at ≡ Some line) × HasCommitted line.pass sub token)
+HasWorked follows lines _ work = ⊥
+
+-- a piece of work with no call, at a gate whose notes follow so
+pub record WorkerWorks (follows : Follows) (v w : WorkerView) : Type 0 where
+  pub worked : HasWorked follows v.lines v.work w.work
   pub lines : w.lines ≡ v.lines
   pub directory : w.directory ≡ v.directory
   pub silo : w.silo ≡ v.silo
@@ -133,22 +139,22 @@ WorkerCounts v w = (w.rounds ≡ v.rounds) ⊎ ((w.rounds + 1 ≡ v.rounds) × W
 
 -- What a step may do, where the loop hasn't ended. Did: one call, which doesn't end it, or a piece of work in hand.
 -- Idle: each queue was looked at. Over: a call that ends it, or no round is left.
-abbrev pub WorkerGoesOn : Advance → WorkerView → WorkerView → Type 0
-WorkerGoesOn advance.Did v w = (w.over ≡ None) × (WorkerCalls v w ⊎ (WorkerAsks v w ⊎ WorkerWorks v w))
-WorkerGoesOn advance.Idle v w = (w.over ≡ None) × WorkerRests v w
-WorkerGoesOn (advance.Over end) v w = (w.over ≡ Some end) × (WorkerCalls v w ⊎ (WorkerAsks v w ⊎ WorkerRanOut v w))
+abbrev pub WorkerGoesOn : Follows → Advance → WorkerView → WorkerView → Type 0
+WorkerGoesOn follows advance.Did v w = (w.over ≡ None) × (WorkerCalls v w ⊎ (WorkerAsks v w ⊎ WorkerWorks follows v w))
+WorkerGoesOn follows advance.Idle v w = (w.over ≡ None) × WorkerRests v w
+WorkerGoesOn follows (advance.Over end) v w = (w.over ≡ Some end) × (WorkerCalls v w ⊎ (WorkerAsks v w ⊎ WorkerRanOut v w))
 
 -- what a step may do; a loop that has ended stays so
-abbrev pub WorkerAdvancesFrom : Option why.Over → Advance → WorkerView → WorkerView → Type 0
-WorkerAdvancesFrom None did v w = WorkerGoesOn did v w × WorkerCounts v w
-WorkerAdvancesFrom (Some end) did v w = (did ≡ advance.Over end) × (w ≡ v)
+abbrev pub WorkerAdvancesFrom : Follows → Option why.Over → Advance → WorkerView → WorkerView → Type 0
+WorkerAdvancesFrom follows None did v w = WorkerGoesOn follows did v w × WorkerCounts v w
+WorkerAdvancesFrom follows (Some end) did v w = (did ≡ advance.Over end) × (w ≡ v)
 
-abbrev pub WorkerAdvances : Advance → WorkerView → WorkerView → Type 0
-WorkerAdvances did v w = WorkerAdvancesFrom v.over did v w
+abbrev pub WorkerAdvances : Follows → Advance → WorkerView → WorkerView → Type 0
+WorkerAdvances follows did v w = WorkerAdvancesFrom follows v.over did v w
 
 -- some steps, or none
-abbrev pub WorkerRuns : WorkerView → WorkerView → Type 0
-WorkerRuns v w = Chain (λ v w. (did : Advance) × WorkerAdvances did v w) v w
+abbrev pub WorkerRuns : Follows → WorkerView → WorkerView → Type 0
+WorkerRuns follows v w = Chain (λ v w. (did : Advance) × WorkerAdvances follows did v w) v w
 
 -- Why a worker has ended so: it may begin no more rounds; or a limit was met at one of its queues or at the directory. Of
 -- a call that failed to allocate nothing is seen.
@@ -166,9 +172,9 @@ worker_at silo lines directory walk events rounds over =
     record { silo = silo; lines = lines; directory = directory; work = work_in walk.at walk.step events; rounds = rounds; over = over }
 
 -- what a step of a worker that isn't at rest does
-abbrev pub WorkerSteps : WorkerView → WorkerView → Option why.Over → Type 0
-WorkerSteps v w None = WorkerCalls v w ⊎ (WorkerAsks v w ⊎ WorkerWorks v w)
-WorkerSteps v w (Some end) = WorkerCalls v w ⊎ WorkerAsks v w
+abbrev pub WorkerSteps : Follows → WorkerView → WorkerView → Option why.Over → Type 0
+WorkerSteps follows v w None = WorkerCalls v w ⊎ (WorkerAsks v w ⊎ WorkerWorks follows v w)
+WorkerSteps follows v w (Some end) = WorkerCalls v w ⊎ WorkerAsks v w
 
 -- how a round begins, or doesn't
 abbrev pub Starts : Start → List LineView → List LineView → ℕ → ℕ → Type 0

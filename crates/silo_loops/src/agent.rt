@@ -88,10 +88,7 @@ fn next_held(assigned: &Assigned, held: &mut Vec<Option<u64>>, visit: &mut Visit
 }
 
 // Whether each queue that it holds was pulled since its mark.
-fn all_pulled<G: Gate, H: QueueHistory>(
-    lines: &Vec<Line<G, H>>,
-    held: &Vec<Option<u64>>,
-) -> bool
+fn all_pulled<G: Gate, H: QueueHistory>(lines: &Vec<Line<G, H>>, held: &Vec<Option<u64>>) -> bool
     requires { length held.now.items ≡ length lines.now.items }
     ensures { result ≡ true → OnesPulled lines.now.items held.now.items }
 {
@@ -135,10 +132,7 @@ fn ask<G: Gate, H: QueueHistory, R: Wait>(
 }
 
 // Each line begins anew, and the next step begins a round.
-fn rest<G: Gate, H: QueueHistory>(
-    lines: &mut Vec<Line<G, H>>,
-    visit: &mut Visit,
-) -> Advance
+fn rest<G: Gate, H: QueueHistory>(lines: &mut Vec<Line<G, H>>, visit: &mut Visit) -> Advance
     requires { IsVisiting visit.old lines.old.items }
     ensures idle { result ≡ Idle }
     ensures lines { lines.new.items ≡ map rested lines.old.items }

@@ -225,9 +225,7 @@ impl<G: Gate, H: QueueHistory> Line<G, H> {
 }
 
 // A line whose mark is what the pass has seen.
-fn line_of<G: Gate, H: QueueHistory>(
-    handle: Handle<SharedPartition<G, H>>,
-) -> Line<G, H>
+fn line_of<G: Gate, H: QueueHistory>(handle: Handle<SharedPartition<G, H>>) -> Line<G, H>
     requires of { IsOfEmpty handle }
     requires never { NeverProduces handle }
     ensures { result ≡ record { pass = handle; mark = length handle.seen } }

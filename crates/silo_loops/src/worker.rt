@@ -54,11 +54,7 @@ impl TurnRoom {
 ///
 /// A contract sees its silo, its lines, its pass at the directory, what it has in hand, how many more rounds it may
 /// begin, and why it has ended.
-pub struct WorkerLoop<
-    G: Gate,
-    H: QueueHistory,
-    D: DirectoryHistory,
-> {
+pub struct WorkerLoop<G: Gate, H: QueueHistory, D: DirectoryHistory> {
     silo: u8,
     gate: Arc<G, Global>,
     doorbell: Arc<Doorbell, Global>,
@@ -70,11 +66,8 @@ pub struct WorkerLoop<
     over: Option<Over>,
 }
 
-impl<
-    G: Gate + Drop,
-    H: QueueHistory + Drop,
-    D: DirectoryHistory + Drop,
-> Drop for WorkerLoop<G, H, D> {
+impl<G: Gate + Drop, H: QueueHistory + Drop, D: DirectoryHistory + Drop> Drop
+    for WorkerLoop<G, H, D> {
     fn drop(self) {
         let Self {
             silo: _,
@@ -90,8 +83,7 @@ impl<
     }
 }
 
-impl<G: Gate, H: QueueHistory, D: DirectoryHistory> Model
-    for WorkerLoop<G, H, D> {
+impl<G: Gate, H: QueueHistory, D: DirectoryHistory> Model for WorkerLoop<G, H, D> {
     ghost use Rattle.std.specs.Prelude.{◌≤◌, vec_capacity};
     ghost use Rattle.silo_loops.specs.Walks.{IsAt};
     ghost use Rattle.silo_loops.specs.Workers.{WorkerHasCause, WorkerView, worker_at};
@@ -146,12 +138,7 @@ fn all_looked<G: Gate, H: QueueHistory>(lines: &Vec<Line<G, H>>) -> bool
 }
 
 // The next call of the round, or the next piece of work in hand.
-fn step<
-    G: Gate,
-    H: QueueHistory,
-    D: DirectoryHistory,
-    R: Wait,
->(
+fn step<G: Gate, H: QueueHistory, D: DirectoryHistory, R: Wait>(
     rt: &R,
     alloc: Global,
     gate: &G,
@@ -166,7 +153,7 @@ fn step<
     requires room { 16 ≤ vec_capacity events.old }
     ensures at { IsAt walk.new lines.new.items directory.new }
     ensures room { vec_capacity events.new ≡ vec_capacity events.old }
-    ensures steps { (rounds counted : ℕ) → WorkerSteps (worker_at silo lines.old.items directory.old walk.old events.old.items rounds None) (worker_at silo lines.new.items directory.new walk.new events.new.items counted result) result }
+    ensures steps { (rounds counted : ℕ) → WorkerSteps G.follows (worker_at silo lines.old.items directory.old walk.old events.old.items rounds None) (worker_at silo lines.new.items directory.new walk.new events.new.items counted result) result }
 {
     let step = walk.step;
     match &step {
@@ -207,12 +194,7 @@ fn step<
 }
 
 // The next call of the round, or the next piece of work in hand, and what it answers.
-fn take_step<
-    G: Gate,
-    H: QueueHistory,
-    D: DirectoryHistory,
-    R: Wait,
->(
+fn take_step<G: Gate, H: QueueHistory, D: DirectoryHistory, R: Wait>(
     rt: &R,
     alloc: Global,
     gate: &G,
@@ -229,7 +211,7 @@ fn take_step<
     ensures at { IsAt walk.new lines.new.items directory.new }
     ensures room { vec_capacity events.new ≡ vec_capacity events.old }
     ensures answer { result ≡ advance_of over.new }
-    ensures steps { (rounds counted : ℕ) → WorkerSteps (worker_at silo lines.old.items directory.old walk.old events.old.items rounds None) (worker_at silo lines.new.items directory.new walk.new events.new.items counted over.new) over.new }
+    ensures steps { (rounds counted : ℕ) → WorkerSteps G.follows (worker_at silo lines.old.items directory.old walk.old events.old.items rounds None) (worker_at silo lines.new.items directory.new walk.new events.new.items counted over.new) over.new }
 {
     *over = step(
         rt, alloc, gate, doorbell, silo, lines, directory, walk, events,
@@ -239,12 +221,7 @@ fn take_step<
 
 // The first step after a round: it begins another, or answers that the last one found nothing to do, or that
 // no more may be made.
-fn begin_round<
-    G: Gate,
-    H: QueueHistory,
-    D: DirectoryHistory,
-    R: Wait,
->(
+fn begin_round<G: Gate, H: QueueHistory, D: DirectoryHistory, R: Wait>(
     rt: &R,
     alloc: Global,
     doorbell: &Doorbell,
@@ -260,7 +237,7 @@ fn begin_round<
     requires goes_on { over.old ≡ None }
     ensures at { IsAt walk.new lines.new.items directory.now }
     ensures room { vec_capacity events.new ≡ vec_capacity events.old }
-    ensures advances { (silo : ℕ) → WorkerAdvancesFrom None result (worker_at silo lines.old.items directory.now walk.old events.old.items rounds.old over.old) (worker_at silo lines.new.items directory.now walk.new events.new.items rounds.new over.new) }
+    ensures advances { (silo : ℕ) → WorkerAdvancesFrom G.follows None result (worker_at silo lines.old.items directory.now walk.old events.old.items rounds.old over.old) (worker_at silo lines.new.items directory.now walk.new events.new.items rounds.new over.new) }
 {
     match start_round(lines, walk, rounds) {
         Start::Begun => {
@@ -276,12 +253,7 @@ fn begin_round<
 }
 
 // The next step of a worker that hasn't ended.
-fn go_on<
-    G: Gate,
-    H: QueueHistory,
-    D: DirectoryHistory,
-    R: Wait,
->(
+fn go_on<G: Gate, H: QueueHistory, D: DirectoryHistory, R: Wait>(
     rt: &R,
     alloc: Global,
     gate: &G,
@@ -299,7 +271,7 @@ fn go_on<
     requires goes_on { over.old ≡ None }
     ensures at { IsAt walk.new lines.new.items directory.new }
     ensures room { vec_capacity events.new ≡ vec_capacity events.old }
-    ensures advances { WorkerAdvancesFrom None result (worker_at silo lines.old.items directory.old walk.old events.old.items rounds.old over.old) (worker_at silo lines.new.items directory.new walk.new events.new.items rounds.new over.new) }
+    ensures advances { WorkerAdvancesFrom G.follows None result (worker_at silo lines.old.items directory.old walk.old events.old.items rounds.old over.old) (worker_at silo lines.new.items directory.new walk.new events.new.items rounds.new over.new) }
 {
     match walk.step {
         Step::Rest => begin_round(
@@ -312,12 +284,7 @@ fn go_on<
 }
 
 // The next step of a worker.
-fn advance_parts<
-    G: Gate,
-    H: QueueHistory,
-    D: DirectoryHistory,
-    R: Wait,
->(
+fn advance_parts<G: Gate, H: QueueHistory, D: DirectoryHistory, R: Wait>(
     rt: &R,
     alloc: Global,
     gate: &G,
@@ -334,7 +301,7 @@ fn advance_parts<
     requires room { 16 ≤ vec_capacity events.old }
     ensures at { IsAt walk.new lines.new.items directory.new }
     ensures room { vec_capacity events.new ≡ vec_capacity events.old }
-    ensures advances { WorkerAdvances result (worker_at silo lines.old.items directory.old walk.old events.old.items rounds.old over.old) (worker_at silo lines.new.items directory.new walk.new events.new.items rounds.new over.new) }
+    ensures advances { WorkerAdvances G.follows result (worker_at silo lines.old.items directory.old walk.old events.old.items rounds.old over.old) (worker_at silo lines.new.items directory.new walk.new events.new.items rounds.new over.new) }
 {
     match *over {
         Some(end) => Advance::Over(end),
@@ -344,11 +311,7 @@ fn advance_parts<
     }
 }
 
-impl<
-    G: Gate,
-    H: QueueHistory,
-    D: DirectoryHistory,
-> WorkerLoop<G, H, D> {
+impl<G: Gate, H: QueueHistory, D: DirectoryHistory> WorkerLoop<G, H, D> {
     /// A worker of this silo that has done nothing yet, with a line for each queue, in their order, and so many rounds
     /// that it may begin.
     pub fn new(
@@ -380,10 +343,11 @@ impl<
     /// it of the commit in hand; or answers that the round found nothing to do, or why the loop has ended.
     ///
     /// It begins a turn only of a grain whose permit it keeps. It commits only the turn that it began, once each event
-    /// of it was handled, with the note that the handler gave last. It makes no other call while a turn is in hand. It is
-    /// idle only where it has asked each queue for a ready grain since it was made or last idle.
+    /// of it was handled, with the note that the handler gave last. The handler is given the grain and the subscription
+    /// of that turn, its next event, and the note in hand. It makes no other call while a turn is in hand. It is idle
+    /// only where it has asked each queue for a ready grain since it was made or last idle.
     pub fn advance<R: Wait>(&mut self, rt: &R, alloc: Global) -> Advance
-        ensures advances { WorkerAdvances result self.old self.new }
+        ensures advances { WorkerAdvances G.follows result self.old self.new }
         ensures beside { IsBeside self.old self.new }
     {
         let did = self.take_step(rt, alloc);
@@ -396,7 +360,7 @@ impl<
     /// commits a turn and begins the grain's next one in one turn of its own. The gate handles events, and is told of a
     /// commit, while none is kept.
     pub fn visit<R: Wait>(&mut self, rt: &R, alloc: Global) -> Advance
-        ensures steps { Visits WorkerAdvances result self.old self.new }
+        ensures steps { Visits (WorkerAdvances G.follows) result self.old self.new }
         ensures beside { IsBeside self.old self.new }
     {
         let at = self.walk.at;
@@ -434,7 +398,7 @@ impl<
     // The next step. It keeps its turn at the directory from a permit that it gives back to the next one. No queue is
     // called meanwhile, so whoever has the directory's turn waits for no other.
     fn take_held_step<R: Wait>(&mut self, rt: &R, alloc: Global) -> Advance
-        ensures advances { WorkerAdvances result self.old self.new }
+        ensures advances { WorkerAdvances G.follows result self.old self.new }
         ensures beside { IsBeside self.old self.new }
     {
         let hands_on = self.walk.hands_on();
@@ -473,7 +437,7 @@ impl<
 
     // The next step. The gate isn't told of a commit yet.
     fn take_step<R: Wait>(&mut self, rt: &R, alloc: Global) -> Advance
-        ensures advances { WorkerAdvances result self.old self.new }
+        ensures advances { WorkerAdvances G.follows result self.old self.new }
         ensures beside { IsBeside self.old self.new }
     {
         advance_parts(
@@ -508,7 +472,7 @@ impl<
 
     // One visit, unless it is told to stop, and a wait where it is idle. Whether it goes on.
     fn go<R: Wait>(&mut self, rt: &R, alloc: Global, stop: &AtomicBool, seen: &mut u64) -> bool
-        ensures { WorkerRuns self.old self.new }
+        ensures { WorkerRuns G.follows self.old self.new }
     {
         if stop.load(Ordering::SeqCst) {
             return false;
@@ -527,7 +491,7 @@ impl<
     /// Makes visits until `stop` is set or the loop has ended, and waits at the doorbell where a round found nothing
     /// to do. It comes back with its passes.
     pub fn run<R: Wait>(self, rt: &R, alloc: Global, stop: &AtomicBool) -> WorkerLoop<G, H, D>
-        ensures { WorkerRuns self result }
+        ensures { WorkerRuns G.follows self result }
     {
         let mut worker = self;
         let mut seen = worker.doorbell.now(rt);

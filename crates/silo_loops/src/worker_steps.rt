@@ -4,7 +4,7 @@ ghost use Rattle.stream_model.specs.Producers.{is_producer};
 ghost use Rattle.silo_loops.specs.Lines.{DirectoryPass, HearsAt, LineView};
 ghost use Rattle.stream_ident.specs.declared.event.Event.{Event};
 ghost use Rattle.silo_loops.specs.Walks.{IsAt, IsFree};
-ghost use Rattle.silo_loops.specs.Workers.{WorkerLooks, WorkerSteps, WorkerWorks, worker_at};
+ghost use Rattle.silo_loops.specs.Workers.{Follows, WorkerAsks, WorkerLooks, WorkerSteps, WorkerWorks, worker_at};
 ghost use Rattle.silo_loops.specs.declared.worker_walk.Step.TheVariants as step;
 
 use crate::advance::Over;
@@ -43,12 +43,7 @@ pub(crate) fn hear_at<G: Gate, H: QueueHistory, R: Wait>(
 }
 
 // Asks the queue for a ready grain.
-pub(crate) fn look<
-    G: Gate,
-    H: QueueHistory,
-    D: DirectoryHistory,
-    R: Wait,
->(
+pub(crate) fn look<G: Gate, H: QueueHistory, D: DirectoryHistory, R: Wait>(
     rt: &R,
     alloc: Global,
     doorbell: &Doorbell,
@@ -87,7 +82,7 @@ pub(crate) fn enter<D: DirectoryHistory, R: Wait>(
     grain: &GrainId,
 ) -> Option<Over>
     ensures at { (lines : List LineView) → walk.old.step ≡ step.Enter grain.now → IsAt walk.old lines directory.old → IsAt walk.new lines directory.new }
-    ensures steps { (lines : List LineView) (events : List Event) (rounds counted : ℕ) → walk.old.step ≡ step.Enter grain.now → WorkerSteps (worker_at silo lines directory.old walk.old events rounds None) (worker_at silo lines directory.new walk.new events counted result) result }
+    ensures asks { (lines : List LineView) (events : List Event) (rounds counted : ℕ) → walk.old.step ≡ step.Enter grain.now → WorkerAsks (worker_at silo lines directory.old walk.old events rounds None) (worker_at silo lines directory.new walk.new events counted result) }
 {
     let answer = directory.call(
         rt,
@@ -102,12 +97,7 @@ pub(crate) fn enter<D: DirectoryHistory, R: Wait>(
 }
 
 // Begins a turn of the grain whose permit the worker has.
-pub(crate) fn begin<
-    G: Gate,
-    H: QueueHistory,
-    D: DirectoryHistory,
-    R: Wait,
->(
+pub(crate) fn begin<G: Gate, H: QueueHistory, D: DirectoryHistory, R: Wait>(
     rt: &R,
     alloc: Global,
     doorbell: &Doorbell,
@@ -123,7 +113,7 @@ pub(crate) fn begin<
     requires room { 16 ≤ vec_capacity events.old }
     ensures at { IsAt walk.new lines.new.items directory.now }
     ensures room { vec_capacity events.new ≡ vec_capacity events.old }
-    ensures steps { (silo rounds counted : ℕ) → WorkerSteps (worker_at silo lines.old.items directory.now walk.old events.old.items rounds None) (worker_at silo lines.new.items directory.now walk.new events.new.items counted result) result }
+    ensures steps { (silo rounds counted : ℕ) → WorkerSteps G.follows (worker_at silo lines.old.items directory.now walk.old events.old.items rounds None) (worker_at silo lines.new.items directory.now walk.new events.new.items counted result) result }
 {
     let op = Op::Begin {
         grain: *grain,
@@ -134,12 +124,7 @@ pub(crate) fn begin<
 }
 
 // Commits the turn, all of whose events were handled.
-pub(crate) fn commit<
-    G: Gate,
-    H: QueueHistory,
-    D: DirectoryHistory,
-    R: Wait,
->(
+pub(crate) fn commit<G: Gate, H: QueueHistory, D: DirectoryHistory, R: Wait>(
     rt: &R,
     alloc: Global,
     doorbell: &Doorbell,
@@ -156,7 +141,7 @@ pub(crate) fn commit<
     requires handled { length events.old.items ≤ turn.now.next }
     ensures at { IsAt walk.new lines.new.items directory.now }
     ensures room { vec_capacity events.new ≡ vec_capacity events.old }
-    ensures steps { (silo rounds counted : ℕ) → WorkerSteps (worker_at silo lines.old.items directory.now walk.old events.old.items rounds None) (worker_at silo lines.new.items directory.now walk.new events.new.items counted result) result }
+    ensures steps { (silo rounds counted : ℕ) → WorkerSteps G.follows (worker_at silo lines.old.items directory.now walk.old events.old.items rounds None) (worker_at silo lines.new.items directory.now walk.new events.new.items counted result) result }
 {
     let op = Op::Commit {
         grain: *grain,
@@ -179,7 +164,7 @@ pub(crate) fn leave<D: DirectoryHistory, R: Wait>(
     permit: u64,
 ) -> Option<Over>
     ensures at { (lines : List LineView) → walk.old.step ≡ step.Leave grain.now permit → IsAt walk.old lines directory.old → IsAt walk.new lines directory.new }
-    ensures steps { (silo : ℕ) (lines : List LineView) (events : List Event) (rounds counted : ℕ) → walk.old.step ≡ step.Leave grain.now permit → IsAt walk.old lines directory.old → WorkerSteps (worker_at silo lines directory.old walk.old events rounds None) (worker_at silo lines directory.new walk.new events counted result) result }
+    ensures asks { (silo : ℕ) (lines : List LineView) (events : List Event) (rounds counted : ℕ) → walk.old.step ≡ step.Leave grain.now permit → IsAt walk.old lines directory.old → WorkerAsks (worker_at silo lines directory.old walk.old events rounds None) (worker_at silo lines directory.new walk.new events counted result) }
 {
     let answer = directory.call(
         rt,
@@ -206,7 +191,7 @@ pub(crate) fn handle<G: Gate>(
     requires next { turn.now.next < length events.now.items }
     requires step { walk.old.step ≡ step.Handle grain.now permit turn.now }
     ensures at { (lines : List LineView) (d : DirectoryPass) → IsAt walk.old lines d → IsAt walk.new lines d }
-    ensures works { (silo : ℕ) (lines : List LineView) (d : DirectoryPass) (rounds counted : ℕ) → IsAt walk.old lines d → WorkerWorks (worker_at silo lines d walk.old events.now.items rounds None) (worker_at silo lines d walk.new events.now.items counted None) }
+    ensures works { (silo : ℕ) (lines : List LineView) (d : DirectoryPass) (rounds counted : ℕ) → IsAt walk.old lines d → WorkerWorks G.follows (worker_at silo lines d walk.old events.now.items rounds None) (worker_at silo lines d walk.new events.now.items counted None) }
 {
     let note = gate.handle(grain, &turn.sub, &events[turn.next], turn.note);
     let next = turn.next + 1;
@@ -222,12 +207,7 @@ pub(crate) fn handle<G: Gate>(
 }
 
 // Asks which grain is ready next, with the permit of one in hand.
-pub(crate) fn again<
-    G: Gate,
-    H: QueueHistory,
-    D: DirectoryHistory,
-    R: Wait,
->(
+pub(crate) fn again<G: Gate, H: QueueHistory, D: DirectoryHistory, R: Wait>(
     rt: &R,
     alloc: Global,
     doorbell: &Doorbell,
@@ -242,7 +222,7 @@ pub(crate) fn again<
     requires step { walk.old.step ≡ step.Again grain.now permit }
     ensures at { IsAt walk.new lines.new.items directory.now }
     ensures room { vec_capacity events.new ≡ vec_capacity events.old }
-    ensures steps { (silo rounds counted : ℕ) → WorkerSteps (worker_at silo lines.old.items directory.now walk.old events.old.items rounds None) (worker_at silo lines.new.items directory.now walk.new events.new.items counted result) result }
+    ensures steps { (silo rounds counted : ℕ) → WorkerSteps G.follows (worker_at silo lines.old.items directory.now walk.old events.old.items rounds None) (worker_at silo lines.new.items directory.now walk.new events.new.items counted result) result }
 {
     let op = Op::Ready { after: walk.last };
     let answer = hear_at(rt, alloc, doorbell, lines, walk.at, op, events);
@@ -253,7 +233,7 @@ pub(crate) fn again<
 pub(crate) fn tell(walk: &mut Walk, grain: &GrainId, permit: u64, sub: &SubName, token: Token)
     requires step { walk.old.step ≡ step.Tell grain.now permit sub.now token }
     ensures at { (lines : List LineView) (d : DirectoryPass) → IsAt walk.old lines d → IsAt walk.new lines d }
-    ensures works { (silo : ℕ) (lines : List LineView) (d : DirectoryPass) (events : List Event) (rounds counted : ℕ) → IsAt walk.old lines d → WorkerWorks (worker_at silo lines d walk.old events rounds None) (worker_at silo lines d walk.new events counted None) }
+    ensures works { (follows : Follows) (silo : ℕ) (lines : List LineView) (d : DirectoryPass) (events : List Event) (rounds counted : ℕ) → IsAt walk.old lines d → WorkerWorks follows (worker_at silo lines d walk.old events rounds None) (worker_at silo lines d walk.new events counted None) }
 {
     walk.untold = Some(Commit {
         grain: *grain,

@@ -11,7 +11,7 @@ look-requires-clause-at g c =
 pub returns-in-Begun-clause-advances : goal.returns-in-Begun-clause-advances
 returns-in-Begun-clause-advances g c =
     λ silo.
-    round-begun silo c.args.lines.now.items c.start_round.new.lines.items c.args.directory.now c.args.walk.now c.start_round.new.walk c.args.events.now.items c.args.rounds.now c.start_round.new.rounds c.args.over.now _ _ _
+    round-begun silo c.args.lines.now.items c.start_round.new.lines.items c.args.directory.now c.args.walk.now c.start_round.new.walk c.args.events.now.items c.args.rounds.now c.start_round.new.rounds c.args.over.now _ _ _ _
     c.in-Begun.ensures.starts.0 c.in-Begun.ensures.starts.1 c.start_round.ensures.walk c.requires.goes_on c.told.ensures refl refl
     (c.look.ensures.looks silo c.args.rounds.now c.start_round.new.rounds)
 
@@ -22,7 +22,7 @@ returns-in-Idle-clause-at g c =
 pub returns-in-Idle-clause-advances : goal.returns-in-Idle-clause-advances
 returns-in-Idle-clause-advances g c =
     λ silo.
-    round-idle silo c.args.lines.now.items c.start_round.new.lines.items c.args.directory.now c.args.walk.now c.start_round.new.walk c.args.events.now.items c.args.rounds.now c.start_round.new.rounds c.args.over.now _
+    round-idle silo c.args.lines.now.items c.start_round.new.lines.items c.args.directory.now c.args.walk.now c.start_round.new.walk c.args.events.now.items c.args.rounds.now c.start_round.new.rounds c.args.over.now g.G.Gate.follows _
     c.in-Idle.ensures.starts.0 c.in-Idle.ensures.starts.1 c.in-Idle.ensures.starts.2 c.requires.rest c.start_round.ensures.walk c.requires.goes_on refl
 
 pub returns-in-RanOut-clause-at : goal.returns-in-RanOut-clause-at
@@ -32,5 +32,5 @@ returns-in-RanOut-clause-at g c =
 pub returns-in-RanOut-clause-advances : goal.returns-in-RanOut-clause-advances
 returns-in-RanOut-clause-advances g c =
     λ silo.
-    round-none silo c.args.lines.now.items c.start_round.new.lines.items c.args.directory.now c.args.walk.now c.start_round.new.walk c.args.events.now.items c.args.rounds.now c.start_round.new.rounds c.args.over.now _
+    round-none silo c.args.lines.now.items c.start_round.new.lines.items c.args.directory.now c.args.walk.now c.start_round.new.walk c.args.events.now.items c.args.rounds.now c.start_round.new.rounds c.args.over.now _ _
     c.in-RanOut.ensures.starts.0 c.in-RanOut.ensures.starts.1 c.in-RanOut.ensures.starts.2 c.requires.rest c.start_round.ensures.walk c.requires.goes_on c.told-in-RanOut.ensures

@@ -15,5 +15,5 @@ returns-clause-at g c =
 pub returns-clause-steps : goal.returns-clause-steps
 returns-clause-steps g c =
     λ silo rounds counted.
-    steps-called _ _ _ (asked-again c.args.lines.now.items c.hear_at-answer.new.lines.items c.args.directory.now c.args.walk.now c.after_again.new.self _ c.args.events.now.items c.hear_at-answer.new.events.items c.hear_at-answer.result c.after_again.result c.args.grain.now c.args.permit _ c.requires.step
+    steps-called _ _ _ _ (asked-again c.args.lines.now.items c.hear_at-answer.new.lines.items c.args.directory.now c.args.walk.now c.after_again.new.self _ c.args.events.now.items c.hear_at-answer.new.events.items c.hear_at-answer.result c.after_again.result c.args.grain.now c.args.permit _ c.requires.step
     c.hear_at-answer.ensures.heard c.after_again.ensures.over c.after_again.ensures.step silo rounds counted)

@@ -16,5 +16,5 @@ returns-clause-at g c =
 pub returns-clause-steps : goal.returns-clause-steps
 returns-clause-steps g c =
     λ silo rounds counted.
-    steps-called _ _ _ (committed c.args.lines.now.items c.hear_at-answer.new.lines.items c.args.directory.now c.args.walk.now c.after_commit.new.self _ c.args.events.now.items c.hear_at-answer.new.events.items c.hear_at-answer.result c.after_commit.result c.args.grain.now c.args.permit c.args.turn.now c.requires.step c.requires.handled c.requires.at c.hear_at-answer.ensures.heard
+    steps-called _ _ _ _ (committed c.args.lines.now.items c.hear_at-answer.new.lines.items c.args.directory.now c.args.walk.now c.after_commit.new.self _ c.args.events.now.items c.hear_at-answer.new.events.items c.hear_at-answer.result c.after_commit.result c.args.grain.now c.args.permit c.args.turn.now c.requires.step c.requires.handled c.requires.at c.hear_at-answer.ensures.heard
     (ap (λ (w : Walk). w.at) c.after_commit.ensures.walk) (ap (λ (w : Walk). w.step) c.after_commit.ensures.walk) c.after_commit.ensures.over silo rounds counted)

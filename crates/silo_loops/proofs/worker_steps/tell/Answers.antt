@@ -8,5 +8,5 @@ returns-clause-at c = λ lines d at. told-at lines d c.args.walk.now _ c.args.gr
 
 pub returns-clause-works : goal.returns-clause-works
 returns-clause-works c =
-    λ silo lines d events rounds counted at.
-    told lines d c.args.walk.now (record c.args.walk.now { step = step.Again c.args.grain.now c.args.permit }) c.args.grain.now c.args.permit c.args.sub.now c.args.token events c.requires.step refl silo rounds counted at
+    λ follows silo lines d events rounds counted at.
+    told lines d c.args.walk.now (record c.args.walk.now { step = step.Again c.args.grain.now c.args.permit }) c.args.grain.now c.args.permit c.args.sub.now c.args.token events c.requires.step refl follows silo rounds counted at

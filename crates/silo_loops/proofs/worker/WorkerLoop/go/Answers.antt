@@ -7,4 +7,4 @@ pub returns-then-load : goal.returns-then-load
 returns-then-load g c = Stays
 
 pub returns : goal.returns
-returns g c = visited WorkerAdvances _ _ _ _ c.visit.ensures.steps.1 c.visit.ensures.steps.2
+returns g c = visited (WorkerAdvances g.G.Gate.follows) _ _ _ _ c.visit.ensures.steps.1 c.visit.ensures.steps.2

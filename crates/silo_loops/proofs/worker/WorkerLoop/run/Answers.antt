@@ -13,7 +13,7 @@ loop-preserved g c = chain-on _ _ _ _ c.loop.invariant c.go.ensures
 
 pub returns : goal.returns
 returns g c =
-    elim c.match-next.branch as (λ w. WorkerRuns c.args.self c.match-next.worker) [
-      | in-None w ↦ subst (λ (x : WorkerView). WorkerRuns c.args.self x) (sym w.worker-is) c.loop.invariant
-      | in-Some+then-not-go w ↦ subst (λ (x : WorkerView). WorkerRuns c.args.self x) (sym w.worker-is) (chain-on _ _ _ _ c.loop.invariant w.go.ensures)
+    elim c.match-next.branch as (λ w. WorkerRuns g.G.Gate.follows c.args.self c.match-next.worker) [
+      | in-None w ↦ subst (λ (x : WorkerView). WorkerRuns g.G.Gate.follows c.args.self x) (sym w.worker-is) c.loop.invariant
+      | in-Some+then-not-go w ↦ subst (λ (x : WorkerView). WorkerRuns g.G.Gate.follows c.args.self x) (sym w.worker-is) (chain-on _ _ _ _ c.loop.invariant w.go.ensures)
     ]
