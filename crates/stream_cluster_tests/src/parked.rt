@@ -57,8 +57,7 @@ pub struct Parked<H: QueueHistory, D: DirectoryHistory> {
     pub crew: Vec<Loops<H, D>>,
 }
 
-impl<H: QueueHistory + Drop, D: DirectoryHistory + Drop> Drop
-    for Parked<H, D> {
+impl<H: QueueHistory + Drop, D: DirectoryHistory + Drop> Drop for Parked<H, D> {
     fn drop(self) {
         let Self {
             cluster: _,
@@ -68,8 +67,7 @@ impl<H: QueueHistory + Drop, D: DirectoryHistory + Drop> Drop
     }
 }
 
-impl<H: QueueHistory, D: DirectoryHistory> Model
-    for Parked<H, D> {
+impl<H: QueueHistory, D: DirectoryHistory> Model for Parked<H, D> {
     ghost use Rattle.std.specs.Prelude.{ℕ, length};
     ghost use Rattle.stream_cluster_tests.specs.Parked.{IsWhole};
 

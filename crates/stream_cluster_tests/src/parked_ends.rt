@@ -12,11 +12,7 @@ use std::sync::Wait;
 static WENT: [Went; 3] = [Went::Down, Went::Down, Went::LastSilo];
 
 // Silos are retired one after another, up to the last, whose loops are handed out again.
-fn retire_all<
-    H: QueueHistory,
-    D: DirectoryHistory,
-    R: Wait + Abort,
->(rt: &R, alloc: Global) {
+fn retire_all<H: QueueHistory, D: DirectoryHistory, R: Wait + Abort>(rt: &R, alloc: Global) {
     let mut parked = Parked::<H, D>::new(rt, alloc, 3, 1_000_000, 1_000).expect(rt, "memory");
     begin(rt, alloc, &mut parked);
     for wanted in &WENT {
@@ -34,11 +30,7 @@ static ASTRAY: [(usize, Astray, End); 2] = [
     (1, Astray::Dropped, End::Missing(3)),
 ];
 
-fn go_astray<
-    H: QueueHistory,
-    D: DirectoryHistory,
-    R: Wait + Abort,
->(rt: &R, alloc: Global) {
+fn go_astray<H: QueueHistory, D: DirectoryHistory, R: Wait + Abort>(rt: &R, alloc: Global) {
     for (at, astray, end) in &ASTRAY {
         let parked = Parked::<H, D>::new(rt, alloc, 2, 1_000_000, 1_000).expect(rt, "memory");
         let ended = parked.finish_without(rt, alloc, *at, *astray);
@@ -63,11 +55,7 @@ static LIMITED: [(u64, u64, Answered, End); 2] = [
 
 // A queue can't leave its silo, as its history is full or it has moved as often as it may. The silos don't change any
 // more then.
-fn stay<
-    H: QueueHistory,
-    D: DirectoryHistory,
-    R: Wait + Abort,
->(rt: &R, alloc: Global) {
+fn stay<H: QueueHistory, D: DirectoryHistory, R: Wait + Abort>(rt: &R, alloc: Global) {
     for (row, (history, rises, wanted, end)) in LIMITED.iter().enumerate() {
         let mut parked = Parked::<H, D>::new(rt, alloc, 2, *history, *rises).expect(rt, "memory");
         for call in 0..QUEUES * CALLS {

@@ -53,11 +53,14 @@ static ROWS: [Row; 5] = [
 ];
 
 // How a cluster of a row ends in which the silo at a place is stopped after so many steps, where one is.
-fn told<
-    H: QueueHistory,
-    D: DirectoryHistory,
-    R: Wait + Abort,
->(rt: &R, alloc: Global, table: usize, row: &Row, steps: usize, at: usize) -> Ended<H> {
+fn told<H: QueueHistory, D: DirectoryHistory, R: Wait + Abort>(
+    rt: &R,
+    alloc: Global,
+    table: usize,
+    row: &Row,
+    steps: usize,
+    at: usize,
+) -> Ended<H> {
     let made = Parked::<H, D>::new(rt, alloc, row.silos, 1_000_000, 1_000);
     let mut parked = made.expect(rt, "memory");
     begin(rt, alloc, &mut parked);

@@ -63,11 +63,13 @@ pub const REPORT: &[u8] = b"report
 ";
 
 // The answer at a queue. It is asked for once more where memory was refused.
-fn answer<
-    H: QueueHistory,
-    D: DirectoryHistory,
-    R: Wait + Abort,
->(rt: &R, alloc: Global, parked: &mut Parked<H, D>, queue: usize, asked: &Produced) -> Answered {
+fn answer<H: QueueHistory, D: DirectoryHistory, R: Wait + Abort>(
+    rt: &R,
+    alloc: Global,
+    parked: &mut Parked<H, D>,
+    queue: usize,
+    asked: &Produced,
+) -> Answered {
     match parked.ask(rt, alloc, queue, asked) {
         Ok(answer) => answer,
         Err(AllocError) => parked.ask(rt, alloc, queue, asked).expect(rt, "memory"),
@@ -75,22 +77,23 @@ fn answer<
 }
 
 // Asks for each of these.
-fn ask_all<
-    H: QueueHistory,
-    D: DirectoryHistory,
-    R: Wait + Abort,
->(rt: &R, alloc: Global, parked: &mut Parked<H, D>, asks: &[Asked]) {
+fn ask_all<H: QueueHistory, D: DirectoryHistory, R: Wait + Abort>(
+    rt: &R,
+    alloc: Global,
+    parked: &mut Parked<H, D>,
+    asks: &[Asked],
+) {
     for (queue, asked, wanted) in asks {
         assert!(rt; answer(rt, alloc, parked, *queue, asked) == *wanted);
     }
 }
 
 /// Asks for what is asked before the loops have done anything.
-pub fn begin<
-    H: QueueHistory,
-    D: DirectoryHistory,
-    R: Wait + Abort,
->(rt: &R, alloc: Global, parked: &mut Parked<H, D>) {
+pub fn begin<H: QueueHistory, D: DirectoryHistory, R: Wait + Abort>(
+    rt: &R,
+    alloc: Global,
+    parked: &mut Parked<H, D>,
+) {
     ask_all(rt, alloc, parked, &FIRST);
 }
 
@@ -106,11 +109,13 @@ pub enum Order {
 static LOOPS: [Loop; 3] = [Loop::Agent, Loop::First, Loop::Second];
 
 /// Advances the loops by so many steps in all.
-pub fn advance<
-    H: QueueHistory,
-    D: DirectoryHistory,
-    R: Wait + Abort,
->(rt: &R, alloc: Global, parked: &mut Parked<H, D>, order: Order, steps: usize) {
+pub fn advance<H: QueueHistory, D: DirectoryHistory, R: Wait + Abort>(
+    rt: &R,
+    alloc: Global,
+    parked: &mut Parked<H, D>,
+    order: Order,
+    steps: usize,
+) {
     let loops = parked.crew.len().wrapping_mul(3);
     for step in 0..steps {
         let place = match order {
@@ -123,11 +128,13 @@ pub fn advance<
 }
 
 // Steps of a loop, until it is idle or has ended.
-fn rest<
-    H: QueueHistory,
-    D: DirectoryHistory,
-    R: Wait + Abort,
->(rt: &R, alloc: Global, parked: &mut Parked<H, D>, at: usize, which: Loop) {
+fn rest<H: QueueHistory, D: DirectoryHistory, R: Wait + Abort>(
+    rt: &R,
+    alloc: Global,
+    parked: &mut Parked<H, D>,
+    at: usize,
+    which: Loop,
+) {
     for _ in 0..10_000 {
         if parked.advance(rt, alloc, at, which) != Advance::Did {
             return;
@@ -137,11 +144,11 @@ fn rest<
 }
 
 // Steps of each loop, until it is idle or has ended.
-fn rest_all<
-    H: QueueHistory,
-    D: DirectoryHistory,
-    R: Wait + Abort,
->(rt: &R, alloc: Global, parked: &mut Parked<H, D>) {
+fn rest_all<H: QueueHistory, D: DirectoryHistory, R: Wait + Abort>(
+    rt: &R,
+    alloc: Global,
+    parked: &mut Parked<H, D>,
+) {
     for at in 0..parked.crew.len() {
         for which in &LOOPS {
             rest(rt, alloc, parked, at, *which);
@@ -151,11 +158,11 @@ fn rest_all<
 
 // Steps of all loops, until none finds anything to do. Each ends the round in which it is first, since that may have
 // passed a queue at which there is more by now.
-fn settle<
-    H: QueueHistory,
-    D: DirectoryHistory,
-    R: Wait + Abort,
->(rt: &R, alloc: Global, parked: &mut Parked<H, D>) {
+fn settle<H: QueueHistory, D: DirectoryHistory, R: Wait + Abort>(
+    rt: &R,
+    alloc: Global,
+    parked: &mut Parked<H, D>,
+) {
     rest_all(rt, alloc, parked);
     for _ in 0..1_000 {
         let seen = parked.caller.doorbell().now(rt);
@@ -168,11 +175,11 @@ fn settle<
 }
 
 /// Asks for the rest, and ends the cluster once no loop finds anything to do.
-pub fn tell_the_rest<
-    H: QueueHistory,
-    D: DirectoryHistory,
-    R: Wait + Abort,
->(rt: &R, alloc: Global, parked: Parked<H, D>) -> Ended<H> {
+pub fn tell_the_rest<H: QueueHistory, D: DirectoryHistory, R: Wait + Abort>(
+    rt: &R,
+    alloc: Global,
+    parked: Parked<H, D>,
+) -> Ended<H> {
     let mut parked = parked;
     ask_all(rt, alloc, &mut parked, &LATER);
     settle(rt, alloc, &mut parked);
