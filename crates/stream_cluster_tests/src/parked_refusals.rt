@@ -1,7 +1,7 @@
 //! A parked cluster in which memory is refused.
 use crate::parked::{Parked, Went};
 use crate::running::{Calls, Ended, Places, is_reported};
-use crate::story::{Order, REPORT, advance, begin, tell_the_rest};
+use crate::story::{Order, QUEUES, REPORT, advance, begin, tell_the_rest};
 use cluster_ending::Finished;
 use shared_partition::{DirectoryHistory, QueueHistory};
 use std::alloc::{AllocError, Global};
@@ -13,9 +13,9 @@ fn opened<H: QueueHistory, D: DirectoryHistory, R: Wait + Abort>(
     rt: &R,
     alloc: Global,
 ) -> Parked<H, D> {
-    match Parked::new(rt, alloc, 3, 1_000_000, 1_000) {
+    match Parked::new(rt, alloc, QUEUES, 3, 1_000_000, 1_000) {
         Ok(parked) => parked,
-        Err(AllocError) => Parked::new(rt, alloc, 3, 1_000_000, 1_000).expect(rt, "memory"),
+        Err(AllocError) => Parked::new(rt, alloc, QUEUES, 3, 1_000_000, 1_000).expect(rt, "memory"),
     }
 }
 

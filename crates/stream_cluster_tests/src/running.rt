@@ -135,7 +135,11 @@ impl<
         self.cluster.silo_up(rt, alloc, silo)
     }
 
-    fn down<R: Threads + Wait + Abort>(
+    /// A silo is to go.
+    ///
+    /// # Errors
+    /// The call failed to allocate.
+    pub fn down<R: Threads + Wait + Abort>(
         &mut self,
         rt: &R,
         alloc: Global,

@@ -1,6 +1,6 @@
 //! What producers ask of a cluster, and how its loops get on.
 use crate::asking::Produced;
-use crate::parked::{Loop, Parked};
+use crate::parked::{LOOPS, Loop, Parked};
 use crate::running::Ended;
 use script_producer::Answer as Answered;
 use shared_partition::{DirectoryHistory, QueueHistory};
@@ -8,6 +8,9 @@ use silo_loops::Advance;
 use std::alloc::{AllocError, Global};
 use std::process::Abort;
 use std::sync::Wait;
+
+/// How many queues the story has.
+pub const QUEUES: usize = 3;
 
 // What is asked at a queue, and how the producer of a script is answered.
 type Asked = (usize, Produced<'static>, Answered);
@@ -105,8 +108,6 @@ pub enum Order {
     /// Five steps of each loop after another, backwards from the first silo's first.
     Back,
 }
-
-static LOOPS: [Loop; 3] = [Loop::Agent, Loop::First, Loop::Second];
 
 /// Advances the loops by so many steps in all.
 pub fn advance<H: QueueHistory, D: DirectoryHistory, R: Wait + Abort>(
