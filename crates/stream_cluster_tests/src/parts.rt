@@ -121,8 +121,8 @@ fn operate<H: QueueHistory, D: DirectoryHistory, R: Wait + Abort>(
 
 // The queues are quiet, until an event is published to the second one.
 fn ask<H: QueueHistory, R: Wait + Abort>(rt: &R, alloc: Global, caller: &mut Caller<Counting, H>) {
-    assert!(rt; caller.queues() == QUEUES);
     assert!(rt; ask_quiet(rt, alloc, caller) == Ok(Quiet::All));
+    assert!(rt; caller.queues() == QUEUES);
     let publish = production(rt, alloc, &Produced::Publish(b"x", &[b"a"])).expect(rt, "memory");
     assert!(rt;
         matches!(

@@ -136,7 +136,7 @@ fn rest<H: QueueHistory, D: DirectoryHistory, R: Wait + Abort>(
     at: usize,
     which: Loop,
 ) {
-    for _ in 0..10_000 {
+    for _ in 0..1_000 {
         if parked.advance(rt, alloc, at, which) != Advance::Did {
             return;
         }
@@ -165,7 +165,7 @@ fn settle<H: QueueHistory, D: DirectoryHistory, R: Wait + Abort>(
     parked: &mut Parked<H, D>,
 ) {
     rest_all(rt, alloc, parked);
-    for _ in 0..1_000 {
+    for _ in 0..100 {
         let seen = parked.caller.doorbell().now(rt);
         rest_all(rt, alloc, parked);
         if parked.caller.doorbell().now(rt) == seen {
