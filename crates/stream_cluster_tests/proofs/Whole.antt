@@ -1,5 +1,6 @@
 -- A parked cluster and all that was handed out with it stay whole.
 use Rattle.std.proofs.Common.{◌≡◌, ◌≢◌, ℕ, ◌<◌, true, false, List, length, get_or, set, remove, Contains, Some, Result, Ok, Err, sym, ap, subst, ◌∙◌}
+use Rattle.std.specs.Prelude.{◌||◌}
 use Rattle.std.proofs.lemmas.List.{length-map}
 use Rattle.std.proofs.lemmas.List.Quantifiers.{all_pairs_remove}
 use Rattle.std.specs.List.{insert, slice_get}
@@ -10,10 +11,12 @@ use Rattle.silo_loops.specs.Lines.{QueuePass}
 use Rattle.silo_crew.specs.Silos.{HasRun, IsSiloAt, SiloView}
 use Rattle.silo_crew.proofs.Going.{goes-places}
 use Rattle.cluster_operator.specs.Operators.{OperatorGoesOn}
-use Rattle.stream_cluster.specs.Clusters.{AnswersRetire, ClusterView, HasHalted, IsDown, IsNewParked, RunsOn}
+use Rattle.stream_cluster.specs.Clusters.{AnswersRetire, AnswersUp, ClusterView, HasHalted, IsDown, IsNewParked, RunsOn, is_fixed}
 use Rattle.stream_cluster.specs.declared.config.Config.{Config}
 use Rattle.stream_cluster.specs.declared.cluster.Retired.{Retired}
 use Rattle.stream_cluster.specs.declared.cluster.Retired.TheVariants as retired
+use Rattle.stream_cluster.specs.declared.cluster.SiloUp.{SiloUp}
+use Rattle.stream_cluster.specs.declared.cluster.SiloUp.TheVariants as up
 use Rattle.stream_cluster.proofs.Standing.{all-remove, lives-at, map-remove, same-at, silo-place, sits-on}
 use Rattle.stream_cluster_tests.specs.Parked.{IsLeft, IsWhole, silos_of}
 use Rattle.stream_cluster_tests.proofs.Standing.{all-set, insert-remove, one-place, range-once, silos-set}
@@ -94,3 +97,17 @@ whole-after v w caller crew left later at s (Ok retired.Limit) within is out ans
 whole-after v w caller crew left later at s (Ok (retired.LastSilo back)) within is out answers kept whole = whole-back v w caller crew left later at s back within is out answers.2 kept answers.3 whole
 whole-after v w caller crew left later at s (Ok (retired.Halted back)) within is out answers kept whole = whole-back v w caller crew left later at s back within is out answers.1 kept answers.2 whole
 whole-after v w caller crew left later at s (Err e) within is out answers kept whole = whole-halted v w caller crew later at within (kept ∙ out) answers.2 whole
+
+-- no silo comes to a parked cluster
+is-fixed : (v : ClusterView) → v.is_parked ≡ true → is_fixed v ≡ false → {A : Type 0} → A
+is-fixed v parked moves = let differ : true ≡ false = sym (ap (λ p. p || v.is_halted) parked) ∙ moves in absurd (cc (differ))
+
+up-fixed : (v w : ClusterView) (silo : ℕ) (result : Result SiloUp AllocError) → v.is_parked ≡ true → AnswersUp v silo result w → w ≡ v
+up-fixed v w silo (Ok up.Halted) parked answers = answers.1
+up-fixed v w silo (Ok up.Already) parked answers = answers.2
+up-fixed v w silo (Ok up.Up) parked answers = is-fixed v parked answers.0
+up-fixed v w silo (Ok up.Limit) parked answers = is-fixed v parked answers.0
+up-fixed v w silo (Err e) parked answers = is-fixed v parked answers.0
+
+pub whole-fixed : (v w : ClusterView) (caller : List QueuePass) (crew : List SiloView) (silo : ℕ) (result : Result SiloUp AllocError) → AnswersUp v silo result w → IsWhole v caller crew → IsWhole w caller crew
+whole-fixed v w caller crew silo result answers whole = subst (λ (c : ClusterView). IsWhole c caller crew) (sym (up-fixed v w silo result whole.parked answers)) whole

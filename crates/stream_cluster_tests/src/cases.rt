@@ -127,9 +127,7 @@ pub fn ends<
 }
 
 // The passes of a producer, but that of its first queue, which is lost.
-fn but_first<G: Gate, H: QueueHistory>(
-    producer: Producer<G, H>,
-) -> Vec<QueueCaller<G, H>> {
+fn but_first<G: Gate, H: QueueHistory>(producer: Producer<G, H>) -> Vec<QueueCaller<G, H>> {
     let (caller, _told) = producer.into_parts();
     let mut queues = caller.into_queues();
     queues.reverse();

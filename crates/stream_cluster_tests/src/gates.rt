@@ -5,7 +5,7 @@ use std::sync::atomic::{AtomicBool, Ordering};
 use stream_ident::{Event, GrainId, SubName, Token};
 
 // Looks so often at most.
-const LOOKS: u32 = 10_000_000;
+const LOOKS: u32 = 1_000_000;
 
 /// Waits until the flag is set, and tells whether it was.
 pub fn wait_for(flag: &AtomicBool) -> bool {
@@ -29,8 +29,10 @@ pub struct Meeting {
     pub call_waits: AtomicBool,
     /// Whether somebody waits.
     pub came: AtomicBool,
-    /// Whether something else was done.
+    /// Whether the gate was told of a commit.
     pub done: AtomicBool,
+    /// Whether a call of another queue was answered.
+    pub answered: AtomicBool,
     /// Whether the one that waited has seen that.
     pub saw: AtomicBool,
 }
@@ -43,13 +45,14 @@ impl Meeting {
             call_waits: AtomicBool::new(false),
             came: AtomicBool::new(false),
             done: AtomicBool::new(false),
+            answered: AtomicBool::new(false),
             saw: AtomicBool::new(false),
         }
     }
 
-    fn meet(&self) {
+    fn meet(&self, other: &AtomicBool) {
         self.came.store(true, Ordering::SeqCst);
-        if wait_for(&self.done) {
+        if wait_for(other) {
             self.saw.store(true, Ordering::SeqCst);
         }
     }
@@ -58,13 +61,13 @@ impl Meeting {
 impl Gate for Meeting {
     fn inside(&self, queue: usize) {
         if queue == 0 && self.call_waits.swap(false, Ordering::SeqCst) {
-            self.meet();
+            self.meet(&self.answered);
         }
     }
 
     fn handle(&self, _grain: &GrainId, _sub: &SubName, _event: &Event, note: u64) -> u64 {
         if self.event_waits.swap(false, Ordering::SeqCst) {
-            self.meet();
+            self.meet(&self.done);
         }
         note.saturating_add(1)
     }

@@ -64,7 +64,9 @@ fn publish<H: QueueHistory, R: Wait + Abort>(
     producer
         .publish(rt, alloc, queue, payload)
         .expect(rt, "room");
-    gate.done.store(true, Ordering::SeqCst);
+    if queue != 0 {
+        gate.answered.store(true, Ordering::SeqCst);
+    }
     producer
 }
 

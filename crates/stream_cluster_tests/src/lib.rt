@@ -12,6 +12,8 @@ mod gates;
 #[cfg(test)]
 mod in_parallel;
 #[cfg(test)]
+mod leaving;
+#[cfg(test)]
 mod load;
 #[cfg(test)]
 mod parked;
@@ -19,6 +21,8 @@ mod parked;
 mod parked_ends;
 #[cfg(test)]
 mod parked_refusals;
+#[cfg(test)]
+mod parts;
 #[cfg(test)]
 mod producer;
 #[cfg(test)]
@@ -31,6 +35,8 @@ mod running;
 mod scarce;
 #[cfg(test)]
 mod spread;
+#[cfg(test)]
+mod stopped;
 #[cfg(test)]
 mod stops;
 #[cfg(test)]

@@ -96,10 +96,7 @@ impl<H: QueueHistory> Promise<Publisher<H>> for Beside<H> {
 type Publishing<H> = PromisedHandle<Publisher<H>, Beside<H>>;
 
 // A producer beside another one publishes in a thread.
-fn spawn<
-    H: QueueHistory + Send + 'static,
-    R: Threads + Wait + Abort + Copy + Send + 'static,
->(
+fn spawn<H: QueueHistory + Send + 'static, R: Threads + Wait + Abort + Copy + Send + 'static>(
     rt: &R,
     alloc: Global,
     rounds: &Arc<Barrier, Global>,

@@ -6,22 +6,22 @@ ghost use Rattle.stream_cluster_tests.specs.Parked.{IsLeft};
 use crate::asking::{Produced, production};
 use crate::running::Ended;
 use cluster_callers::Caller;
+use cluster_ending::{Quiet, ask_quiet};
 use script_producer::Answer as Answered;
 use shared_partition::{Counting, DirectoryHistory, QueueHistory};
 use silo_crew::SiloLoops;
-use silo_loops::Advance;
+use silo_loops::{Advance, DirectoryLine};
 use std::alloc::{AllocError, Global};
 use std::marker::Model;
 use std::process::Abort;
 use std::sync::{Arc, Wait};
-use step_core::Limits;
-use stream_cluster::{Cluster, Config, Retired};
+use std::thread::Threads;
+use step_core::{Answer, Limits, Op};
+use stream_cluster::{Cluster, Config, Retired, SiloUp};
+use turnstile::Refusal;
 
 /// The loops of a silo.
 pub type Loops<H, D> = SiloLoops<Counting, H, D>;
-
-/// How many queues a cluster has.
-pub const QUEUES: usize = 3;
 
 /// A loop of a silo.
 #[derive(Clone, Copy)]
@@ -30,6 +30,9 @@ pub enum Loop {
     First,
     Second,
 }
+
+/// The loops of a silo, in the order in which they take turns.
+pub static LOOPS: [Loop; 3] = [Loop::Agent, Loop::First, Loop::Second];
 
 /// What became of a silo that was to be retired.
 #[derive(Clone, Copy, PartialEq, Eq)]
@@ -57,8 +60,7 @@ pub struct Parked<H: QueueHistory, D: DirectoryHistory> {
     pub crew: Vec<Loops<H, D>>,
 }
 
-impl<H: QueueHistory + Drop, D: DirectoryHistory + Drop> Drop
-    for Parked<H, D> {
+impl<H: QueueHistory + Drop, D: DirectoryHistory + Drop> Drop for Parked<H, D> {
     fn drop(self) {
         let Self {
             cluster: _,
@@ -68,8 +70,7 @@ impl<H: QueueHistory + Drop, D: DirectoryHistory + Drop> Drop
     }
 }
 
-impl<H: QueueHistory, D: DirectoryHistory> Model
-    for Parked<H, D> {
+impl<H: QueueHistory, D: DirectoryHistory> Model for Parked<H, D> {
     ghost use Rattle.std.specs.Prelude.{ℕ, length};
     ghost use Rattle.stream_cluster_tests.specs.Parked.{IsWhole};
 
@@ -133,20 +134,22 @@ fn sort_out<H: QueueHistory, D: DirectoryHistory, R: Abort>(
 }
 
 impl<H: QueueHistory, D: DirectoryHistory> Parked<H, D> {
-    /// A parked cluster of so many silos, whose histories have at most so many calls each, and at whose queues there are
-    /// at most so many moves and turns.
+    /// A parked cluster of so many queues and silos, whose histories have at most so many calls each, and at whose queues
+    /// there are at most so many moves and turns.
     pub fn new<R: Wait + Abort>(
         rt: &R,
         alloc: Global,
+        queues: usize,
         silos: u8,
         history: u64,
         rises: u64,
     ) -> Result<Parked<H, D>, AllocError> {
+        assert!(rt; 1 <= queues && queues <= 64);
         assert!(rt; 1 <= silos && silos <= 16);
         assert!(rt; 1 <= history);
         assert!(rt; 1 <= rises && rises <= 1_000);
         let config = Config {
-            queues: QUEUES,
+            queues,
             blocks: 1,
             silos,
             limits: Limits {
@@ -180,6 +183,26 @@ impl<H: QueueHistory, D: DirectoryHistory> Parked<H, D> {
         assert!(rt; queue < self.caller.queues());
         let op = production(rt, alloc, asked)?;
         script_producer::ask(rt, alloc, &mut self.caller, queue, op)
+    }
+
+    /// One call at a queue, by the caller of the cluster.
+    ///
+    /// # Errors
+    /// The queue refused it.
+    pub fn call<R: Wait + Abort>(
+        &mut self,
+        rt: &R,
+        alloc: Global,
+        queue: usize,
+        op: Op,
+    ) -> Result<Answer, Refusal> {
+        assert!(rt; queue < self.caller.queues());
+        self.caller.ask(rt, alloc, queue, op, &mut Vec::new(alloc))
+    }
+
+    /// Whether each queue answers that it is quiet.
+    pub fn is_quiet<R: Wait + Abort>(&mut self, rt: &R, alloc: Global) -> bool {
+        ask_quiet(rt, alloc, &mut self.caller).expect(rt, "an answer") == Quiet::All
     }
 
     /// One step of a loop of the silo at this place.
@@ -237,5 +260,35 @@ impl<H: QueueHistory, D: DirectoryHistory> Parked<H, D> {
         let mut callers = Vec::with_capacity(alloc, 1)?;
         callers.push_reserved(caller);
         cluster.finish_parked(rt, alloc, callers, crew)
+    }
+
+    /// The directory, by the pass of a worker of the silo at the first place. Nothing else is kept.
+    pub fn into_directory<R: Abort>(self, rt: &R) -> DirectoryLine<D> {
+        let Parked {
+            cluster: _,
+            caller: _,
+            mut crew,
+        } = self;
+        assert!(rt; !crew.is_empty());
+        let SiloLoops {
+            silo: _,
+            agent: _,
+            first,
+            second: _,
+        } = crew.remove(0);
+        first.into_parts().1
+    }
+}
+
+impl<H: QueueHistory + Send + 'static, D: DirectoryHistory + Send + 'static> Parked<H, D> {
+    /// A silo is to come.
+    pub fn up<R: Threads + Wait + Abort + Copy + Send + 'static>(
+        &mut self,
+        rt: &R,
+        alloc: Global,
+        silo: u8,
+    ) -> Result<SiloUp, AllocError> {
+        assert!(rt; silo < 16);
+        self.cluster.silo_up(rt, alloc, silo)
     }
 }

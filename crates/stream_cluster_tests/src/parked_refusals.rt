@@ -1,7 +1,7 @@
 //! A parked cluster in which memory is refused.
 use crate::parked::{Parked, Went};
 use crate::running::{Calls, Ended, Places, is_reported};
-use crate::story::{Order, REPORT, advance, begin, tell_the_rest};
+use crate::story::{Order, QUEUES, REPORT, advance, begin, tell_the_rest};
 use cluster_ending::Finished;
 use shared_partition::{DirectoryHistory, QueueHistory};
 use std::alloc::{AllocError, Global};
@@ -9,14 +9,13 @@ use std::process::Abort;
 use std::sync::Wait;
 
 // A parked cluster of three silos, asked for once more where memory was refused.
-fn opened<
-    H: QueueHistory,
-    D: DirectoryHistory,
-    R: Wait + Abort,
->(rt: &R, alloc: Global) -> Parked<H, D> {
-    match Parked::new(rt, alloc, 3, 1_000_000, 1_000) {
+fn opened<H: QueueHistory, D: DirectoryHistory, R: Wait + Abort>(
+    rt: &R,
+    alloc: Global,
+) -> Parked<H, D> {
+    match Parked::new(rt, alloc, QUEUES, 3, 1_000_000, 1_000) {
         Ok(parked) => parked,
-        Err(AllocError) => Parked::new(rt, alloc, 3, 1_000_000, 1_000).expect(rt, "memory"),
+        Err(AllocError) => Parked::new(rt, alloc, QUEUES, 3, 1_000_000, 1_000).expect(rt, "memory"),
     }
 }
 
@@ -31,11 +30,11 @@ fn is_otherwise<H>(ended: &Ended<H>, went: Went) -> bool {
 
 // A silo is retired after so many steps. Where that was refused, the silos don't change any more; no pass is lost, and
 // what isn't done is told.
-fn retire_after<
-    H: QueueHistory,
-    D: DirectoryHistory,
-    R: Wait + Abort,
->(rt: &R, alloc: Global, steps: usize) {
+fn retire_after<H: QueueHistory, D: DirectoryHistory, R: Wait + Abort>(
+    rt: &R,
+    alloc: Global,
+    steps: usize,
+) {
     let mut parked = opened::<H, D, R>(rt, alloc);
     begin(rt, alloc, &mut parked);
     advance(rt, alloc, &mut parked, Order::Around, steps);
@@ -50,11 +49,7 @@ fn retire_after<
 
 static STEPS: [usize; 2] = [0, 60];
 
-fn retire_each<
-    H: QueueHistory,
-    D: DirectoryHistory,
-    R: Wait + Abort,
->(rt: &R, alloc: Global) {
+fn retire_each<H: QueueHistory, D: DirectoryHistory, R: Wait + Abort>(rt: &R, alloc: Global) {
     for steps in &STEPS {
         retire_after::<H, D, R>(rt, alloc, *steps);
     }

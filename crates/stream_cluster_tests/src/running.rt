@@ -26,26 +26,17 @@ pub type Places = PlainHistory<DirectoryOp, DirectoryReply>;
 pub type Ended<H> = Result<Finished<H>, AllocError>;
 
 /// A cluster whose queues and directory have these histories. A contract sees the turnstiles of its queues.
-pub struct Running<
-    G: Gate,
-    H: QueueHistory,
-    D: DirectoryHistory,
-> {
+pub struct Running<G: Gate, H: QueueHistory, D: DirectoryHistory> {
     cluster: Cluster<G, H, D>,
 }
 
-impl<
-    G: Gate + Drop,
-    H: QueueHistory + Drop,
-    D: DirectoryHistory + Drop,
-> Drop for Running<G, H, D> {
+impl<G: Gate + Drop, H: QueueHistory + Drop, D: DirectoryHistory + Drop> Drop for Running<G, H, D> {
     fn drop(self) {
         let Self { cluster: _ } = self;
     }
 }
 
-impl<G: Gate, H: QueueHistory, D: DirectoryHistory> Model
-    for Running<G, H, D> {
+impl<G: Gate, H: QueueHistory, D: DirectoryHistory> Model for Running<G, H, D> {
     ghost use Rattle.std.specs.Prelude.{List, Option};
     ghost use Rattle.silo_loops.specs.Lines.{places};
     ghost use Rattle.stream_model.specs.declared.plain.PlainPartition.{PlainPartition};
@@ -144,7 +135,11 @@ impl<
         self.cluster.silo_up(rt, alloc, silo)
     }
 
-    fn down<R: Threads + Wait + Abort>(
+    /// A silo is to go.
+    ///
+    /// # Errors
+    /// The call failed to allocate.
+    pub fn down<R: Threads + Wait + Abort>(
         &mut self,
         rt: &R,
         alloc: Global,
@@ -177,11 +172,7 @@ impl<
     }
 }
 
-impl<G: Gate, H: QueueHistory, D: DirectoryHistory> Running<
-    G,
-    H,
-    D,
-> {
+impl<G: Gate, H: QueueHistory, D: DirectoryHistory> Running<G, H, D> {
     /// Ends with this producer, and gives what it was told.
     pub fn finish<R: Threads + Wait + Abort>(
         self,
@@ -221,19 +212,14 @@ impl<G: Gate, H: QueueHistory, D: DirectoryHistory> Running<
 }
 
 // How a cluster has ended, without the loops that came back.
-fn without_loops<
-    G: Gate,
-    H: QueueHistory,
-    D: DirectoryHistory,
->(ended: Result<stream_cluster::Ended<G, H, D>, AllocError>) -> Ended<H> {
+fn without_loops<G: Gate, H: QueueHistory, D: DirectoryHistory>(
+    ended: Result<stream_cluster::Ended<G, H, D>, AllocError>,
+) -> Ended<H> {
     Ok(ended?.finished)
 }
 
 // Room for two callers. A want of memory is answered by asking again.
-fn room_for_two<G: Gate, H: QueueHistory, R: Abort>(
-    rt: &R,
-    alloc: Global,
-) -> Vec<Caller<G, H>>
+fn room_for_two<G: Gate, H: QueueHistory, R: Abort>(rt: &R, alloc: Global) -> Vec<Caller<G, H>>
     ensures empty { result.items ≡ [] }
     ensures room { 2 ≤ vec_capacity result }
 {

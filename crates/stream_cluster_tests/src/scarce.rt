@@ -3,9 +3,8 @@ ghost use Rattle.std.specs.Prelude.{◌≡◌, ◌++◌, ◌∷◌, [], ◌-◌,
 ghost use Rattle.turnstile.specs.Recorded.{recorded};
 
 use activation_directory::{DirectoryOp, DirectoryReply};
-use shared_partition::DirectoryHistory;
 use std::alloc::{AllocError, Global};
-use turnstile::{Entry, Recorded};
+use turnstile::{Entry, Recorded, StoredHistory};
 
 /// A history of a directory that refuses room once: for the entry that is to follow after so many grains were
 /// released.
@@ -19,7 +18,7 @@ pub struct Scarce<const RELEASED: usize> {
     ghost counted: { len ≡ length (recorded calls) },
 }
 
-impl<const RELEASED: usize> DirectoryHistory for Scarce<RELEASED> {
+impl<const RELEASED: usize> StoredHistory<DirectoryOp, DirectoryReply> for Scarce<RELEASED> {
     ghost entries = { λ h. recorded h.calls };
 
     ghost has_room = { λ h. nat_lt h.len (2 ^ 64 - 1) };

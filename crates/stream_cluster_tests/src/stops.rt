@@ -3,7 +3,7 @@ use crate::asking::holds;
 use crate::parked::{Parked, Went};
 use crate::replayed::astray_in;
 use crate::running::{Calls, Ended, Places};
-use crate::story::{Order, REPORT, advance, begin, tell_the_rest};
+use crate::story::{Order, QUEUES, REPORT, advance, begin, tell_the_rest};
 use cluster_ending::Finished;
 use shared_partition::{DirectoryHistory, QueueHistory};
 use std::alloc::Global;
@@ -53,12 +53,15 @@ static ROWS: [Row; 5] = [
 ];
 
 // How a cluster of a row ends in which the silo at a place is stopped after so many steps, where one is.
-fn told<
-    H: QueueHistory,
-    D: DirectoryHistory,
-    R: Wait + Abort,
->(rt: &R, alloc: Global, table: usize, row: &Row, steps: usize, at: usize) -> Ended<H> {
-    let made = Parked::<H, D>::new(rt, alloc, row.silos, 1_000_000, 1_000);
+fn told<H: QueueHistory, D: DirectoryHistory, R: Wait + Abort>(
+    rt: &R,
+    alloc: Global,
+    table: usize,
+    row: &Row,
+    steps: usize,
+    at: usize,
+) -> Ended<H> {
+    let made = Parked::<H, D>::new(rt, alloc, QUEUES, row.silos, 1_000_000, 1_000);
     let mut parked = made.expect(rt, "memory");
     begin(rt, alloc, &mut parked);
     advance(rt, alloc, &mut parked, row.order, steps);

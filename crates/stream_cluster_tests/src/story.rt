@@ -1,6 +1,6 @@
 //! What producers ask of a cluster, and how its loops get on.
 use crate::asking::Produced;
-use crate::parked::{Loop, Parked};
+use crate::parked::{LOOPS, Loop, Parked};
 use crate::running::Ended;
 use script_producer::Answer as Answered;
 use shared_partition::{DirectoryHistory, QueueHistory};
@@ -8,6 +8,9 @@ use silo_loops::Advance;
 use std::alloc::{AllocError, Global};
 use std::process::Abort;
 use std::sync::Wait;
+
+/// How many queues the story has.
+pub const QUEUES: usize = 3;
 
 // What is asked at a queue, and how the producer of a script is answered.
 type Asked = (usize, Produced<'static>, Answered);
@@ -63,11 +66,13 @@ pub const REPORT: &[u8] = b"report
 ";
 
 // The answer at a queue. It is asked for once more where memory was refused.
-fn answer<
-    H: QueueHistory,
-    D: DirectoryHistory,
-    R: Wait + Abort,
->(rt: &R, alloc: Global, parked: &mut Parked<H, D>, queue: usize, asked: &Produced) -> Answered {
+fn answer<H: QueueHistory, D: DirectoryHistory, R: Wait + Abort>(
+    rt: &R,
+    alloc: Global,
+    parked: &mut Parked<H, D>,
+    queue: usize,
+    asked: &Produced,
+) -> Answered {
     match parked.ask(rt, alloc, queue, asked) {
         Ok(answer) => answer,
         Err(AllocError) => parked.ask(rt, alloc, queue, asked).expect(rt, "memory"),
@@ -75,22 +80,23 @@ fn answer<
 }
 
 // Asks for each of these.
-fn ask_all<
-    H: QueueHistory,
-    D: DirectoryHistory,
-    R: Wait + Abort,
->(rt: &R, alloc: Global, parked: &mut Parked<H, D>, asks: &[Asked]) {
+fn ask_all<H: QueueHistory, D: DirectoryHistory, R: Wait + Abort>(
+    rt: &R,
+    alloc: Global,
+    parked: &mut Parked<H, D>,
+    asks: &[Asked],
+) {
     for (queue, asked, wanted) in asks {
         assert!(rt; answer(rt, alloc, parked, *queue, asked) == *wanted);
     }
 }
 
 /// Asks for what is asked before the loops have done anything.
-pub fn begin<
-    H: QueueHistory,
-    D: DirectoryHistory,
-    R: Wait + Abort,
->(rt: &R, alloc: Global, parked: &mut Parked<H, D>) {
+pub fn begin<H: QueueHistory, D: DirectoryHistory, R: Wait + Abort>(
+    rt: &R,
+    alloc: Global,
+    parked: &mut Parked<H, D>,
+) {
     ask_all(rt, alloc, parked, &FIRST);
 }
 
@@ -103,14 +109,14 @@ pub enum Order {
     Back,
 }
 
-static LOOPS: [Loop; 3] = [Loop::Agent, Loop::First, Loop::Second];
-
 /// Advances the loops by so many steps in all.
-pub fn advance<
-    H: QueueHistory,
-    D: DirectoryHistory,
-    R: Wait + Abort,
->(rt: &R, alloc: Global, parked: &mut Parked<H, D>, order: Order, steps: usize) {
+pub fn advance<H: QueueHistory, D: DirectoryHistory, R: Wait + Abort>(
+    rt: &R,
+    alloc: Global,
+    parked: &mut Parked<H, D>,
+    order: Order,
+    steps: usize,
+) {
     let loops = parked.crew.len().wrapping_mul(3);
     for step in 0..steps {
         let place = match order {
@@ -123,12 +129,14 @@ pub fn advance<
 }
 
 // Steps of a loop, until it is idle or has ended.
-fn rest<
-    H: QueueHistory,
-    D: DirectoryHistory,
-    R: Wait + Abort,
->(rt: &R, alloc: Global, parked: &mut Parked<H, D>, at: usize, which: Loop) {
-    for _ in 0..10_000 {
+fn rest<H: QueueHistory, D: DirectoryHistory, R: Wait + Abort>(
+    rt: &R,
+    alloc: Global,
+    parked: &mut Parked<H, D>,
+    at: usize,
+    which: Loop,
+) {
+    for _ in 0..1_000 {
         if parked.advance(rt, alloc, at, which) != Advance::Did {
             return;
         }
@@ -137,11 +145,11 @@ fn rest<
 }
 
 // Steps of each loop, until it is idle or has ended.
-fn rest_all<
-    H: QueueHistory,
-    D: DirectoryHistory,
-    R: Wait + Abort,
->(rt: &R, alloc: Global, parked: &mut Parked<H, D>) {
+fn rest_all<H: QueueHistory, D: DirectoryHistory, R: Wait + Abort>(
+    rt: &R,
+    alloc: Global,
+    parked: &mut Parked<H, D>,
+) {
     for at in 0..parked.crew.len() {
         for which in &LOOPS {
             rest(rt, alloc, parked, at, *which);
@@ -151,13 +159,13 @@ fn rest_all<
 
 // Steps of all loops, until none finds anything to do. Each ends the round in which it is first, since that may have
 // passed a queue at which there is more by now.
-fn settle<
-    H: QueueHistory,
-    D: DirectoryHistory,
-    R: Wait + Abort,
->(rt: &R, alloc: Global, parked: &mut Parked<H, D>) {
+fn settle<H: QueueHistory, D: DirectoryHistory, R: Wait + Abort>(
+    rt: &R,
+    alloc: Global,
+    parked: &mut Parked<H, D>,
+) {
     rest_all(rt, alloc, parked);
-    for _ in 0..1_000 {
+    for _ in 0..100 {
         let seen = parked.caller.doorbell().now(rt);
         rest_all(rt, alloc, parked);
         if parked.caller.doorbell().now(rt) == seen {
@@ -168,11 +176,11 @@ fn settle<
 }
 
 /// Asks for the rest, and ends the cluster once no loop finds anything to do.
-pub fn tell_the_rest<
-    H: QueueHistory,
-    D: DirectoryHistory,
-    R: Wait + Abort,
->(rt: &R, alloc: Global, parked: Parked<H, D>) -> Ended<H> {
+pub fn tell_the_rest<H: QueueHistory, D: DirectoryHistory, R: Wait + Abort>(
+    rt: &R,
+    alloc: Global,
+    parked: Parked<H, D>,
+) -> Ended<H> {
     let mut parked = parked;
     ask_all(rt, alloc, &mut parked, &LATER);
     settle(rt, alloc, &mut parked);
