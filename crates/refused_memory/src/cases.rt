@@ -1,6 +1,7 @@
 //! The cases: the calls that are tried.
 use crate::calls::{Placing, try_balance, try_line, try_placing};
 use crate::partitions::{BLOCKS, STORY, try_drain, try_run, try_step};
+use crate::simulation::try_sim;
 use crate::trying::{Came, Stop};
 use crate::turnstiles::{try_close, try_enter, try_new, try_split};
 use std::sync::Wait;
@@ -32,10 +33,11 @@ enum Call {
     /// A call, which is made again where it is refused, or not.
     Enter(bool),
     Close,
+    Sim,
 }
 
 /// All cases.
-pub(crate) static CASES: [Case; 29] = [
+pub(crate) static CASES: [Case; 30] = [
     Case {
         name: "publish",
         takes_memory: true,
@@ -212,6 +214,11 @@ pub(crate) static CASES: [Case; 29] = [
         takes_memory: false,
         call: Call::Close,
     },
+    Case {
+        name: "sim",
+        takes_memory: true,
+        call: Call::Sim,
+    },
 ];
 
 /// Tries a call.
@@ -232,5 +239,6 @@ pub(crate) fn try_case<R: AllocGlobal + Wait>(rt: &R, case: &Case) -> Result<Cam
         Call::Split => try_split(rt, alloc),
         Call::Enter(again) => try_enter(rt, alloc, again),
         Call::Close => try_close(rt, alloc),
+        Call::Sim => try_sim(alloc),
     }
 }

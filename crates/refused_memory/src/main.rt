@@ -9,6 +9,7 @@
 mod calls;
 mod cases;
 mod partitions;
+mod simulation;
 mod trying;
 mod turnstiles;
 

@@ -32,9 +32,16 @@ impl<H: DirectoryHistory> Desk<H> {
     fn used<R: Wait>(rt: &R, alloc: Global) -> Result<Desk<H>, Stop> {
         let mut desk = Desk::new(alloc)?;
         for key in b"abcd" {
-            let _reply = desk.enter(rt, alloc, grain(*key)?)?;
+            desk.enter_key(rt, alloc, *key)?;
         }
         Ok(desk)
+    }
+
+    /// The grain with a key enters.
+    fn enter_key<R: Wait>(&mut self, rt: &R, alloc: Global, key: u8) -> Result<(), Stop> {
+        let grain = grain(key)?;
+        let _reply = self.enter(rt, alloc, grain)?;
+        Ok(())
     }
 
     /// A grain enters by the first pass.
@@ -45,6 +52,17 @@ impl<H: DirectoryHistory> Desk<H> {
         grain: GrainId,
     ) -> Result<DirectoryReply, Refusal> {
         enter(rt, alloc, &self.turnstile, &mut self.pass, grain)
+    }
+
+    /// A grain enters here and at another one. Whether the answers are equal.
+    fn enter_both<R: Wait>(
+        &mut self,
+        rt: &R,
+        alloc: Global,
+        twin: &mut Desk<H>,
+        grain: GrainId,
+    ) -> Result<bool, Refusal> {
+        Ok(self.enter(rt, alloc, grain)? == twin.enter(rt, alloc, grain)?)
     }
 
     /// A grain enters by a pass that is split off, and both are given back.
@@ -143,12 +161,23 @@ fn new_again<R: Wait>(rt: &R, alloc: Global) -> Result<(), Stop> {
 /// A new turnstile answers as another one.
 fn follow_new<R: Wait>(rt: &R, alloc: Global, mut one: Desk<Calls>) -> Result<(), Stop> {
     let mut twin = Desk::new(alloc)?;
-    let a = grain(b'a')?;
+    let first = grain(b'a')?;
     check(
-        one.enter(rt, alloc, a)? == twin.enter(rt, alloc, a)?,
+        one.enter_both(rt, alloc, &mut twin, first)?,
         "a new turnstile answers otherwise",
     )?;
-    compare(alloc, one.close(alloc)?, twin.close(alloc)?, 1)
+    close_alike(alloc, one, twin, 1)
+}
+
+/// Closes two turnstiles, which have the same history of so many entries.
+fn close_alike(
+    alloc: Global,
+    one: Desk<Calls>,
+    twin: Desk<Calls>,
+    entries: usize,
+) -> Result<(), Stop> {
+    let one = one.close(alloc)?;
+    compare(alloc, one, twin.close(alloc)?, entries)
 }
 
 /// Tries to split a pass off.
@@ -165,48 +194,44 @@ pub(crate) fn try_split<R: Wait>(rt: &R, alloc: Global) -> Result<Came, Stop> {
 pub(crate) fn try_enter<R: Wait>(rt: &R, alloc: Global, again: bool) -> Result<Came, Stop> {
     let mut one = Desk::used(rt, alloc)?;
     let mut twin = Desk::used(rt, alloc)?;
-    let fifth = grain(b'e')?;
-    match one.enter(rt, alloc, fifth) {
-        Ok(reply) => {
-            check(
-                reply == DirectoryReply::Entered { permit: 5 },
-                "the grain doesn't enter",
-            )?;
-            let _reply = twin.enter(rt, alloc, fifth)?;
-            compare(alloc, one.close(alloc)?, twin.close(alloc)?, 5)?;
+    match one.enter_key(rt, alloc, b'e') {
+        Ok(()) => {
+            twin.enter_key(rt, alloc, b'e')?;
+            close_alike(alloc, one, twin, 5)?;
             Ok(Came::Done)
         }
-        Err(Refusal::Memory) if again => with_memory(enter_again(rt, alloc, one, twin, fifth)),
-        Err(Refusal::Memory) => with_memory(close_alike(alloc, one, twin)),
-        Err(full) => Err(Stop::from(full)),
+        Err(Stop::Memory) => with_memory(follow_refusal(rt, alloc, one, twin, again)),
+        Err(stop) => Err(stop),
     }
 }
 
-/// The call that was refused is made again.
-fn enter_again<R: Wait>(
+/// A call that was refused has no entry. It is made again, or the turnstile is closed.
+fn follow_refusal<R: Wait>(
     rt: &R,
     alloc: Global,
     mut one: Desk<Calls>,
     mut twin: Desk<Calls>,
-    fifth: GrainId,
+    again: bool,
 ) -> Result<(), Stop> {
-    check(one.pass.len() == 4, "a call that was refused has an entry")?;
     check(
-        one.enter(rt, alloc, fifth)? == twin.enter(rt, alloc, fifth)?,
+        one.pass.len() == 4,
+        "a call that was refused has seen an entry",
+    )?;
+    if !again {
+        return close_alike(alloc, one, twin, 4);
+    }
+    let fifth = grain(b'e')?;
+    check(
+        one.enter_both(rt, alloc, &mut twin, fifth)?,
         "the call is answered otherwise",
     )?;
-    compare(alloc, one.close(alloc)?, twin.close(alloc)?, 5)
-}
-
-/// Two turnstiles at which four grains have entered are closed.
-fn close_alike(alloc: Global, one: Desk<Calls>, twin: Desk<Calls>) -> Result<(), Stop> {
-    compare(alloc, one.close(alloc)?, twin.close(alloc)?, 4)
+    close_alike(alloc, one, twin, 5)
 }
 
 /// Tries to close a turnstile.
 pub(crate) fn try_close<R: Wait>(rt: &R, alloc: Global) -> Result<Came, Stop> {
     let one = Desk::used(rt, alloc)?;
     let twin = Desk::used(rt, alloc)?;
-    close_alike(alloc, one, twin)?;
+    close_alike(alloc, one, twin, 4)?;
     Ok(Came::Done)
 }

@@ -3,10 +3,9 @@
 use crate::trying::{Came, Stop, check, with_memory};
 use std::alloc::{AllocError, Global};
 use std::sync::Arc;
-use stream_ident::{GrainId, Payload, StreamId};
 use streams::{
-    CloseError, Config, Counting, Host, PublishError, Service, SettleError, SiloError, Start,
-    SubscribeError,
+    CloseError, Config, Counting, GrainId, Host, Payload, Service, SettleError, SiloError, Start,
+    StreamId,
 };
 
 /// The call that is tried.
@@ -135,27 +134,9 @@ fn live<R: Host>(rt: R, gate: &Shared, change: Change) -> Result<Came, Stop> {
 }
 
 /// Tries a call of a service.
-pub(crate) fn try_service<R: Host>(rt: R, change: Change) -> Result<Came, Stop> {
+pub(crate) fn try_change<R: Host>(rt: R, change: Change) -> Result<Came, Stop> {
     let gate = Arc::new(rt.alloc(), Counting)?;
     let came = live(rt, &gate, change)?;
     check(Arc::strong_count(&gate) == 1, "a loop is left")?;
     Ok(came)
-}
-
-impl From<PublishError> for Stop {
-    fn from(error: PublishError) -> Stop {
-        match error {
-            PublishError::Memory => Stop::Memory,
-            _ => Stop::Wrong("an event isn't published"),
-        }
-    }
-}
-
-impl From<SubscribeError> for Stop {
-    fn from(error: SubscribeError) -> Stop {
-        match error {
-            SubscribeError::Memory => Stop::Memory,
-            _ => Stop::Wrong("a grain doesn't subscribe"),
-        }
-    }
 }
