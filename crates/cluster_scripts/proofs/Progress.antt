@@ -41,8 +41,9 @@ use Rattle.script_producer.proofs.Seen.{alone-as, alone-front, asks-foreign, gon
 use Rattle.script_reader.specs.Scripts.{IsRunCommand, IsScript, RisesFrom}
 use Rattle.cluster_scripts.specs.declared.line.Stop.{Stop}
 use Rattle.cluster_scripts.specs.declared.line.Stop.TheVariants as stop
-use Rattle.cluster_scripts.specs.Lines.{DoesLine, FindsUnquiet, MeetsLimit, ProducerMeetsLimit, StaysOpen, StopsBy}
+use Rattle.cluster_scripts.specs.Lines.{DoesLine, FindsUnquiet, HasToldFront, MeetsLimit, ProducerMeetsLimit, StaysOpen, StopsBy, TellsInPart}
 use Rattle.cluster_scripts.specs.Runs.{DoesAll, DoesFront, IsPrinted, IsUntouched, missed_in, with_printed}
+use Rattle.cluster_scripts.proofs.Fronts.{all-part, drain-part}
 
 -- ---- passes that have seen more
 
@@ -260,15 +261,40 @@ done-all lines v old done found w now new far all on tells quiet =
       live = λ silos untouched. (far.live silos untouched).0 ∙ ap (λ (ls : List Line). live_silos silos ls) all;
     }
 
+-- what a line had told that was stopped, where the lines before it were done
+pub line-front : (lines : List Line) (v : ClusterView) (old : List QueuePass) (done : List Line) (found : List ScriptLine) (w : ClusterView) (now : List QueuePass) (line : Line) (new : List QueuePass)
+    → (far : Progress lines v old done found w now) → length done < length lines → line ≡ get_or lines (length done) line → TellsInPart now line.command new → AllZip HasGoneOn now new
+    → (silos : ℕ) → IsUntouched silos v old → AloneProduces new → HasToldFront (missed_in found) done far.left new
+line-front lines v old done found w now line new far within is part on silos untouched alone =
+    let next = get-next done far.left line (subst (λ (ls : List Line). length done < length ls) far.whole within) (subst (λ (ls : List Line). line ≡ get_or ls (length done) line) far.whole is) in
+    let rises = rises-of far.last line far.left next.0 next.1 far.rises in
+    let missed = missed_in found in
+    let fresh = fresh-number line.number far.last missed done rises.0 far.below far.missed in
+    subst (λ (left : List Line). HasToldFront missed done left new) (sym next.1)
+    (part (begins-on old now far.on untouched.empty) alone missed done line.number fresh (far.told silos untouched (alone-back now new on alone)))
+
+-- what the wait had told that was stopped, where all lines were done
+pub wait-front : (lines : List Line) (v : ClusterView) (old : List QueuePass) (done : List Line) (found : List ScriptLine) (w : ClusterView) (now new : List QueuePass)
+    → (far : Progress lines v old done found w now) → done ≡ lines → Tells now command.Drain answer.Taken new → AllZip HasGoneOn now new
+    → (silos : ℕ) → IsUntouched silos v old → AloneProduces new → HasToldFront (missed_in found) done far.left new
+wait-front lines v old done found w now new far all tells on silos untouched alone =
+    let missed = missed_in found in
+    let number = suc far.last in
+    let fresh = fresh-number number far.last missed done (omega arith) far.below far.missed in
+    all-part missed number lines done far.left new all far.whole
+    (drain-part now new tells (begins-on old now far.on untouched.empty) alone missed done number fresh (far.told silos untouched (alone-back now new on alone)))
+
 -- a line was stopped, or the wait past the last one
 pub stopped : (lines : List Line) (v : ClusterView) (old : List QueuePass) (done : List Line) (found more : List ScriptLine) (w : ClusterView) (now new : List QueuePass)
-    → Progress lines v old done found w now → more ≡ found → AllZip HasGoneOn now new → DoesFront lines v old more new
-stopped lines v old done found more w now new far same on =
+    → (far : Progress lines v old done found w now) → more ≡ found → AllZip HasGoneOn now new
+    → ((silos : ℕ) → IsUntouched silos v old → AloneProduces new → HasToldFront (missed_in found) done far.left new) → DoesFront lines v old more new
+stopped lines v old done found more w now new far same on front =
     record {
       done = done;
       left = far.left;
       whole = far.whole;
       printed = λ silos untouched alone. subst (λ (ls : List ScriptLine). IsPrinted silos done ls) (sym same) (far.printed silos untouched (alone-back now new on alone));
+      told = λ silos untouched alone. subst (λ (ls : List ScriptLine). HasToldFront (missed_in ls) done far.left new) (sym same) (front silos untouched alone);
     }
 
 -- ---- by what came of a call

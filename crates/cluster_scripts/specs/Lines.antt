@@ -1,20 +1,24 @@
 -- What a line of a script does on a cluster.
-use Rattle.std.specs.Prelude.{◌≡◌, ◌⊎◌, ℕ, false, List, [], ◌∷◌, ◌++◌, Ok, Err}
+use Rattle.std.specs.Prelude.{◌≡◌, ◌⊎◌, ℕ, false, List, [], ◌∷◌, ◌++◌, Option, Some, None, Ok, Err, slice_get}
 use Rattle.std.specs.List.{AllByRecursion}
 use Rattle.queue_balancer.specs.Balance.{HasNoDoubles}
 use Rattle.stream_model.specs.declared.op.Op.{Op}
 use Rattle.stream_model.specs.declared.reply.Pending.{Pending}
+use Rattle.stream_model.specs.Replies.{Reply}
+use Rattle.stream_model.specs.History as told
 use Rattle.turnstile.specs.declared.turnstile.Refusal.TheVariants.{HistoryFull}
 use Rattle.silo_loops.specs.Lines.{QueuePass}
 use Rattle.cluster_ending.specs.declared.asking.Quiet.TheVariants.{NotQuiet}
 use Rattle.cluster_operator.specs.Operators.{OperatorGoesOn}
 use Rattle.stream_cluster.specs.Clusters.{ClusterView, HasMetLimit, is_fixed}
 use Rattle.script_parser.specs.declared.command.Command.{Command}
+use Rattle.script_parser.specs.declared.command.Command.TheVariants as command
 use Rattle.script_reader.specs.declared.line.Line.{Line}
 use Rattle.script_reader.specs.ScriptReport.{command_printed, live_after, live_silos}
+use Rattle.script_reader.specs.Told as script
 use Rattle.script_producer.specs.declared.answer.Answer.{Answer}
 use Rattle.script_producer.specs.declared.answer.Answer.TheVariants as answer
-use Rattle.script_producer.specs.Telling.{AloneProduces, AsksLast, BeginsEmpty, HasTold, IsNewNumber, Looks, LooksInVain, printed_lines, with_missed}
+use Rattle.script_producer.specs.Telling.{AloneProduces, AsksLast, BeginsEmpty, HasTold, IsNewNumber, Looks, LooksInVain, printed_lines, told_at, with_missed}
 use Rattle.cluster_scripts.specs.declared.line.Stop.{Stop}
 use Rattle.cluster_scripts.specs.declared.line.Stop.TheVariants as stop
 
@@ -53,6 +57,36 @@ pub record DoesLine (v : ClusterView) (old : List QueuePass) (command : Command)
       → HasTold missed lines old → (silos : ℕ) → v.operator.live ≡ live_silos silos lines
       → command_printed (with_missed a number missed) silos lines number command ≡ printed_lines a number
   pub stays : StaysOpen v w
+
+-- what producers may have been told at a queue where this was asked at most once, or nothing was
+abbrev pub IsToldOnce : Option Op → List told.Entry → Type 0
+IsToldOnce None rest = rest ≡ []
+IsToldOnce (Some op) rest = (rest ≡ []) ⊎ ((r : Reply) × (rest ≡ record { op = op; reply = r } ∷ []))
+
+-- What a line may have told at a queue until it was stopped: what it asks for there, at most once. Of a line that asks at
+-- each queue nothing is said.
+abbrev pub IsToldInPart : Command → ℕ → List told.Entry → Type 0
+IsToldInPart (command.Each each) queue rest = Unit {0}
+IsToldInPart asked queue rest = IsToldOnce (script.op_at queue asked) rest
+
+-- so it is of the first of the lines that are left
+abbrev pub IsToldAhead : List Line → ℕ → List told.Entry → Type 0
+IsToldAhead [] queue rest = rest ≡ []
+IsToldAhead (line ∷ later) queue rest = IsToldInPart line.command queue rest
+
+-- At each queue producers asked and were told what the script tells of the lines that are done, and past that no more than
+-- the first of those that are left may have told until it was stopped.
+abbrev pub HasToldFront : List ℕ → List Line → List Line → List QueuePass → Type 0
+HasToldFront missed done left caller =
+    (queue : ℕ) (p : QueuePass) → slice_get caller queue ≡ Some p
+    → (rest : List told.Entry) × (told_at p ≡ script.told missed queue done ++ rest) × IsToldAhead left queue rest
+
+-- A line was stopped. Where the caller had told the lines of a script before it, and nobody else has produced, it has told
+-- them and no more than a part of this line.
+abbrev pub TellsInPart : List QueuePass → Command → List QueuePass → Type 0
+TellsInPart old command new =
+    AllByRecursion BeginsEmpty old → AloneProduces new → (missed : List ℕ) (lines : List Line) (number : ℕ) → IsNewNumber number missed lines
+    → HasTold missed lines old → HasToldFront missed lines (record { number = number; command = command } ∷ []) new
 
 -- the last call of a producer met a limit: of a partition, or of a history in a look for quiet
 abbrev pub ProducerMeetsLimit : List QueuePass → List QueuePass → Type 0

@@ -8,8 +8,9 @@ use Rattle.cluster_operator.proofs.Making.{passed-on}
 use Rattle.cluster_scripts.specs.declared.line.Stop.{Stop}
 use Rattle.cluster_scripts.specs.Lines.{IsUnquiet, StopsBy}
 use Rattle.script_reader.specs.declared.script_line.ScriptLine.{ScriptLine}
-use Rattle.cluster_scripts.proofs.Progress.{Progress, begins, does, done-all, map-same, on-all, on-err, on-ok, stopped, stops-later}
+use Rattle.cluster_scripts.proofs.Progress.{Progress, begins, does, done-all, line-front, map-same, on-all, on-err, on-ok, stopped, stops-later, wait-front}
 use Rattle.cluster_scripts.proofs.Doing.{unquiet-stops}
+use Rattle.cluster_scripts.proofs.Fronts.{done-part}
 use Rattle.cluster_scripts.proofs.running.do_lines.Goals as goal
 
 pub loop-line-init : goal.loop-line-init
@@ -21,7 +22,12 @@ loop-line-init g c =
 
 pub returns-in_err-answer-clause-front : goal.returns-in_err-answer-clause-front
 returns-in_err-answer-clause-front g c =
-    on-err c.from_residual.result (stopped _ _ _ c.loop-line.yielded c.loop-line.printed.items c.loop-line.printed.items c.loop-line.cluster c.loop-line.caller c.do_line.new.caller c.loop-line.invariant.progress refl c.do_line.ensures.on)
+    let gives = c.into_iter-line-iterator.ensures.into_iter_gives in
+    let turn = YieldsList-turn (YieldsList-from_vec {s = c.into_iter-line-iterator.result} c.args.lines.items gives.0 (first_of (search rules, grind (arith, common_steps)))) c.loop-line.yielded c.loop-line.line-iterator c.loop-line.yielded_by c.next.result c.next.new.self c.in-Some.line c.in-Some.is c.next.ensures.steps in
+    let far = c.loop-line.invariant.progress in
+    on-err c.from_residual.result
+    (stopped _ _ _ c.loop-line.yielded c.loop-line.printed.items c.loop-line.printed.items c.loop-line.cluster c.loop-line.caller c.do_line.new.caller far refl c.do_line.ensures.on
+    (line-front c.args.lines.items c.args.cluster.now c.args.caller.now c.loop-line.yielded c.loop-line.printed.items c.loop-line.cluster c.loop-line.caller c.in-Some.line c.do_line.new.caller far turn.0 turn.1 c.in_err-answer.ensures.part c.do_line.ensures.on))
 
 pub returns-in_err-answer-clause-on : goal.returns-in_err-answer-clause-on
 returns-in_err-answer-clause-on g c = on-all _ _ _ c.loop-line.invariant.progress.on c.do_line.ensures.on
@@ -41,7 +47,13 @@ loop-line-preserved g c =
 
 pub returns-in_err-note-clause-front : goal.returns-in_err-note-clause-front
 returns-in_err-note-clause-front g c =
-    on-err c.from_residual-in_err-note.result (stopped _ _ _ c.loop-line.yielded c.loop-line.printed.items c.note.new.printed.items c.loop-line.cluster c.loop-line.caller c.do_line.new.caller c.loop-line.invariant.progress c.in_err-note.ensures.same c.do_line.ensures.on)
+    let gives = c.into_iter-line-iterator.ensures.into_iter_gives in
+    let turn = YieldsList-turn (YieldsList-from_vec {s = c.into_iter-line-iterator.result} c.args.lines.items gives.0 (first_of (search rules, grind (arith, common_steps)))) c.loop-line.yielded c.loop-line.line-iterator c.loop-line.yielded_by c.next.result c.next.new.self c.in-Some.line c.in-Some.is c.next.ensures.steps in
+    let far = c.loop-line.invariant.progress in
+    on-err c.from_residual-in_err-note.result
+    (stopped _ _ _ c.loop-line.yielded c.loop-line.printed.items c.note.new.printed.items c.loop-line.cluster c.loop-line.caller c.do_line.new.caller far c.in_err-note.ensures.same c.do_line.ensures.on
+    (line-front c.args.lines.items c.args.cluster.now c.args.caller.now c.loop-line.yielded c.loop-line.printed.items c.loop-line.cluster c.loop-line.caller c.in-Some.line c.do_line.new.caller far turn.0 turn.1
+    (done-part c.loop-line.cluster c.do_line.new.cluster c.loop-line.caller c.do_line.new.caller c.in-Some.line.command c.in_ok-answer.answer c.in_ok-answer.ensures.line) c.do_line.ensures.on))
 
 pub returns-in_err-note-clause-on : goal.returns-in_err-note-clause-on
 returns-in_err-note-clause-on g c = on-all _ _ _ c.loop-line.invariant.progress.on c.do_line.ensures.on
@@ -58,7 +70,10 @@ returns g c =
     let whole = sym (map-same c.loop-line.yielded) ∙ ending.0 in
     record {
       all = on-ok c.wait_until_quiet.result (λ quiet. done-all _ _ _ c.loop-line.yielded c.loop-line.printed.items c.loop-line.cluster c.loop-line.caller c.wait_until_quiet.new.caller far whole waits.on waits.told quiet) waits.quiet;
-      front = on-err c.wait_until_quiet.result (stopped _ _ _ c.loop-line.yielded c.loop-line.printed.items c.loop-line.printed.items c.loop-line.cluster c.loop-line.caller c.wait_until_quiet.new.caller far refl waits.on);
+      front =
+          on-err c.wait_until_quiet.result
+          (stopped _ _ _ c.loop-line.yielded c.loop-line.printed.items c.loop-line.printed.items c.loop-line.cluster c.loop-line.caller c.wait_until_quiet.new.caller far refl waits.on
+          (wait-front c.args.lines.items c.args.cluster.now c.args.caller.now c.loop-line.yielded c.loop-line.printed.items c.loop-line.cluster c.loop-line.caller c.wait_until_quiet.new.caller far whole waits.told waits.on));
       stops =
           IfErr-weaker c.wait_until_quiet.result (λ (h : Stop). IsUnquiet h c.looks.result c.loop-line.caller c.wait_until_quiet.new.caller) (λ (h : Stop). StopsBy h c.args.cluster.now c.args.caller.now c.loop-line.cluster c.wait_until_quiet.new.caller)
           (λ h unquiet.
