@@ -137,11 +137,6 @@ done-part v w old new asked a does begins alone missed lines number fresh has qu
 
 -- ---- the lines that are left
 
-none-left : (done left : List Line) → done ≡ done ++ left → left ≡ []
+pub none-left : (done left : List Line) → done ≡ done ++ left → left ≡ []
 none-left [] left same = sym same
 none-left (line ∷ done) left same = let rest : done ≡ done ++ left = cc in none-left done left rest
-
-pub all-part : (missed : List ℕ) (number : ℕ) (lines done left : List Line) (new : List QueuePass) → done ≡ lines → lines ≡ done ++ left → HasToldFront missed done (record { number = number; command = command.Drain } ∷ []) new
-    → HasToldFront missed done left new
-all-part missed number lines done left new all whole front =
-    subst (λ (ls : List Line). HasToldFront missed done ls new) (sym (none-left done left (all ∙ whole))) front

@@ -179,8 +179,8 @@ module _ {H : Type 0} (entries : H → List (Entry Op Reply)) where
         ends.1.printed config.silos fresh others,
         front-tells now histories missed lines [] begun made (λ queue p at. ([], ends.1.told config.silos fresh others queue p at ∙ sym (append-nil (script.told missed queue lines)), refl)),
       )
-  front-done config lines c w caller now found end.Limit histories is new ends begun made = front-known config lines c caller now found histories is new ends.1 begun made
-  front-done config lines c w caller now found end.NotQuiet histories is new ends begun made = front-known config lines c caller now found histories is new ends.1 begun made
+  front-done config lines c w caller now found end.Limit histories is new ends begun made = front-known config lines c caller now found histories is new ends.1.0 begun made
+  front-done config lines c w caller now found end.NotQuiet histories is new ends begun made = front-known config lines c caller now found histories is new ends.1.0 begun made
   front-done config lines c w caller now found end.Halted histories is new ends begun made = absurd (true≢false (sym ends.0 ∙ new.goes_on))
 
   pub run-ends : (back : List SiloView) (config : Config) (lines : List Line) (c w : ClusterView) (caller now : List QueuePass) (found : List ScriptLine) (answer : Finished H) (how : ScriptEnd) → IsConfig config → IsNew config c caller → turnstiles now ≡ turnstiles caller

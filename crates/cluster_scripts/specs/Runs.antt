@@ -23,7 +23,9 @@ use Rattle.script_reader.specs.declared.script_line.ScriptLine.TheVariants as pr
 use Rattle.script_reader.specs.ScriptReport.{line_text, live_silos, script_lines, script_report}
 use Rattle.script_reader.specs.Told as script
 use Rattle.script_producer.specs.Telling.{AloneProduces, BeginsEmpty, HasGoneOn, HasTold, LooksQuiet}
-use Rattle.cluster_scripts.specs.Lines.{FindsUnquiet, HasToldFront, IsToldAhead, MeetsLimit}
+use Rattle.cluster_scripts.specs.Lines.{HasToldFront, IsToldInPart, StopsBy, next_command}
+use Rattle.cluster_scripts.specs.declared.line.Stop.{Stop}
+use Rattle.cluster_scripts.specs.declared.line.Stop.TheVariants as stop
 use Rattle.cluster_scripts.specs.declared.outcome.Ran.{Ran}
 use Rattle.cluster_scripts.specs.declared.outcome.RunEnd.{RunEnd}
 use Rattle.cluster_scripts.specs.declared.outcome.RunEnd.TheVariants as ends
@@ -62,6 +64,10 @@ pub record DoesFront (lines : List Line) (v : ClusterView) (old : List QueuePass
   pub printed : (silos : ℕ) → IsUntouched silos v old → AloneProduces new → IsPrinted silos done found
   pub told : (silos : ℕ) → IsUntouched silos v old → AloneProduces new → HasToldFront (missed_in found) done left new
 
+-- A front of the lines was done, and the next line, or the wait past the last one, was stopped for this reason.
+abbrev pub StopsFront : Stop → List Line → ClusterView → List QueuePass → List ScriptLine → ClusterView → List QueuePass → Type 0
+StopsFront why lines v old found w new = (front : DoesFront lines v old found new) × StopsBy why (next_command front.left) v old w new
+
 -- All lines of a script were done, and in one look after them each queue was quiet. Where nobody else has produced, they
 -- printed what the script says, its producer was told what it says, and the silos live that it says.
 pub record DoesAll (lines : List Line) (v : ClusterView) (old : List QueuePass) (found : List ScriptLine) (w : ClusterView) (new : List QueuePass) : Type 0 where
@@ -79,8 +85,8 @@ pub record DoesNothing (v : ClusterView) (old : List QueuePass) (found : List Sc
 -- What `run_script` does, by how the script has ended.
 abbrev pub EndsScript : ScriptEnd → List Line → ClusterView → List QueuePass → List ScriptLine → ClusterView → List QueuePass → Type 0
 EndsScript end.Done lines v old found w new = (is_fixed v ≡ false) × DoesAll lines v old found w new
-EndsScript end.Limit lines v old found w new = (is_fixed v ≡ false) × DoesFront lines v old found new × MeetsLimit v old w new
-EndsScript end.NotQuiet lines v old found w new = (is_fixed v ≡ false) × DoesFront lines v old found new × FindsUnquiet v old new
+EndsScript end.Limit lines v old found w new = (is_fixed v ≡ false) × StopsFront stop.Limit lines v old found w new
+EndsScript end.NotQuiet lines v old found w new = (is_fixed v ≡ false) × StopsFront stop.NotQuiet lines v old found w new
 EndsScript end.Halted lines v old found w new = (is_fixed v ≡ true) × DoesNothing v old found w new
 
 -- what `run_script` answers
@@ -100,11 +106,11 @@ TellScript missed lines histories =
     (queue : ℕ) (history : List (Entry Op Reply)) → slice_get histories queue ≡ Some history → script.producers_entries (told_of history) ≡ script.told missed queue lines
 
 -- In the history of each queue they asked and were told what the script tells of the lines that are done, and past that no
--- more than the first of those that are left may have told until it was stopped.
+-- more than the next one may have told until it was stopped.
 abbrev pub TellFront : List ℕ → List Line → List Line → List (List (Entry Op Reply)) → Type 0
 TellFront missed done left histories =
     (queue : ℕ) (history : List (Entry Op Reply)) → slice_get histories queue ≡ Some history
-    → (rest : List told.Entry) × (script.producers_entries (told_of history) ≡ script.told missed queue done ++ rest) × IsToldAhead left queue rest
+    → (rest : List told.Entry) × (script.producers_entries (told_of history) ≡ script.told missed queue done ++ rest) × IsToldInPart (next_command left) queue rest
 
 module _ {H : Type 0} (entries : H → List (Entry Op Reply)) where
   -- there is a history for each queue, and it is legal

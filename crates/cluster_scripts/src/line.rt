@@ -90,7 +90,7 @@ pub(crate) fn do_line<
     requires command { IsRunCommand (length caller.old) command }
     ensures line { IfOk result (λ told. DoesLine cluster.old caller.old command told cluster.new caller.new) }
     ensures part { OnErr result (TellsInPart caller.old command caller.new) }
-    ensures stops { is_fixed cluster.old ≡ false → IfErr result (λ why. StopsBy why cluster.old caller.old cluster.new caller.new) }
+    ensures stops { is_fixed cluster.old ≡ false → IfErr result (λ why. StopsBy why command cluster.old caller.old cluster.new caller.new) }
     ensures on { AllZip HasGoneOn caller.old caller.new }
     ensures turnstiles { turnstiles caller.new ≡ turnstiles caller.old }
     ensures cluster { OperatorGoesOn cluster.old.operator cluster.new.operator }

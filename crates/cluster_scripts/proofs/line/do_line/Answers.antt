@@ -1,4 +1,4 @@
-use Rattle.std.proofs.Common.{IfOk, length, refl, subst, sym}
+use Rattle.std.proofs.Common.{IfErr, IfOk, length, refl, subst, sym}
 use Rattle.cluster_ending.proofs.Rows.{zip-refl}
 use Rattle.stream_cluster.proofs.Standing.{op-refl}
 use Rattle.script_parser.specs.declared.command.Command.{Command}
@@ -56,25 +56,46 @@ returns-in-Down-clause-on g c = zip-refl HasGoneOn gone-refl _
 pub returns-in_err-wait_until_quiet-in-Drain-clause-stops : goal.returns-in_err-wait_until_quiet-in-Drain-clause-stops
 returns-in_err-wait_until_quiet-in-Drain-clause-stops g c = λ free.
     let v = c.args.cluster.now in
+    let old = c.args.caller.now in
+    let new = c.wait_until_quiet.new.caller in
     let why = c.in_err-wait_until_quiet-in-Drain.field-0.0 in
-    passed-on (λ (h : Stop). StopsBy h v c.args.caller.now v c.wait_until_quiet.new.caller) c.from_residual.result why c.from_residual.ensures.1
-    (unquiet-stops why v v c.looks.result c.args.caller.now c.wait_until_quiet.new.caller c.looks.ensures c.in_err-wait_until_quiet-in-Drain.ensures.unquiet)
+    passed-on (λ (h : Stop). StopsBy h c.args.command v old v new) c.from_residual.result why c.from_residual.ensures.1
+    (subst (λ (said : Command). StopsBy why said v old v new) (sym c.in-Drain.is)
+    (unquiet-stops why v v c.looks.result old new c.looks.ensures c.in_err-wait_until_quiet-in-Drain.ensures.unquiet))
 
 pub returns-in-Step-clause-stops : goal.returns-in-Step-clause-stops
 returns-in-Step-clause-stops g c = λ free.
-    asked-stops c.args.cluster.now c.args.caller.now c.ask.new.caller c.in-Step.op c.ask.result c.unless_limit.result
-    (once-last c.args.caller.now c.in-Step.queue c.in-Step.op c.ask.result c.ask.new.caller c.ask.ensures.asks) c.unless_limit.ensures.stops
+    let v = c.args.cluster.now in
+    let old = c.args.caller.now in
+    let new = c.ask.new.caller in
+    subst (λ (said : Command). IfErr c.unless_limit.result (λ why. StopsBy why said v old v new)) (sym c.in-Step.is)
+    (asked-stops (command.Step c.in-Step.queue c.in-Step.op) v old new c.ask.result c.unless_limit.result
+    (once-last old c.in-Step.queue c.in-Step.op c.ask.result new c.ask.ensures.asks) c.unless_limit.ensures.stops)
 
 pub returns-in-Each-clause-stops : goal.returns-in-Each-clause-stops
 returns-in-Each-clause-stops g c = λ free.
-    asked-stops c.args.cluster.now c.args.caller.now c.ask_each.new.caller (op_of c.in-Each.each) c.ask_each.result c.unless_limit-in-Each.result
-    (each-last c.args.caller.now (op_of c.in-Each.each) c.ask_each.result c.ask_each.new.caller c.ask_each.ensures.ends) c.unless_limit-in-Each.ensures.stops
+    let v = c.args.cluster.now in
+    let old = c.args.caller.now in
+    let new = c.ask_each.new.caller in
+    subst (λ (said : Command). IfErr c.unless_limit-in-Each.result (λ why. StopsBy why said v old v new)) (sym c.in-Each.is)
+    (asked-stops (command.Each c.in-Each.each) v old new c.ask_each.result c.unless_limit-in-Each.result
+    (each-last old (op_of c.in-Each.each) c.ask_each.result new c.ask_each.ensures.ends) c.unless_limit-in-Each.ensures.stops)
 
 pub returns-in-Up-clause-stops : goal.returns-in-Up-clause-stops
-returns-in-Up-clause-stops g c = λ free. changed-stops c.args.cluster.now c.up.new.cluster c.args.caller.now c.up.result (c.up.ensures.stops free)
+returns-in-Up-clause-stops g c = λ free.
+    let v = c.args.cluster.now in
+    let w = c.up.new.cluster in
+    let old = c.args.caller.now in
+    subst (λ (said : Command). IfErr c.up.result (λ why. StopsBy why said v old w old)) (sym c.in-Up.is)
+    (changed-stops (command.Up c.in-Up.silo) v w old c.up.result (λ met. met) (c.up.ensures.stops free))
 
 pub returns-in-Down-clause-stops : goal.returns-in-Down-clause-stops
-returns-in-Down-clause-stops g c = λ free. changed-stops c.args.cluster.now c.down.new.cluster c.args.caller.now c.down.result (c.down.ensures.stops free)
+returns-in-Down-clause-stops g c = λ free.
+    let v = c.args.cluster.now in
+    let w = c.down.new.cluster in
+    let old = c.args.caller.now in
+    subst (λ (said : Command). IfErr c.down.result (λ why. StopsBy why said v old w old)) (sym c.in-Down.is)
+    (changed-stops (command.Down c.in-Down.silo) v w old c.down.result (λ met. met) (c.down.ensures.stops free))
 
 pub returns-in_err-wait_until_quiet-in-Drain-clause-part : goal.returns-in_err-wait_until_quiet-in-Drain-clause-part
 returns-in_err-wait_until_quiet-in-Drain-clause-part g c =
