@@ -6,6 +6,7 @@ use Rattle.silo_loops.specs.Lines.{QueuePass}
 use Rattle.cluster_ending.proofs.Rows.{zip-refl}
 use Rattle.stream_cluster.specs.Clusters.{ClusterView, HasMetLimit}
 use Rattle.script_parser.specs.declared.command.Command.{Command}
+use Rattle.script_parser.specs.declared.command.Command.TheVariants as command
 use Rattle.script_reader.specs.ScriptReport.{live_after}
 use Rattle.script_reader.specs.Told as script
 use Rattle.script_reader.proofs.Growing.{scripts-grow}
@@ -15,7 +16,7 @@ use Rattle.script_producer.specs.Telling.{AsksLast, AsksOnce, EndsAsking, HasGon
 use Rattle.script_producer.proofs.Seen.{gone-refl}
 use Rattle.cluster_scripts.specs.declared.line.Stop.{Stop}
 use Rattle.cluster_scripts.specs.declared.line.Stop.TheVariants as stop
-use Rattle.cluster_scripts.specs.Lines.{ChangesBy, DoesLine, FindsUnquiet, IsUnquiet, StopsBy}
+use Rattle.cluster_scripts.specs.Lines.{ChangesBy, DoesLine, FindsUnquiet, IsUnquiet, MeetsLimit, StopsBy}
 
 -- a line that asks for something at the queues
 pub tells-line : (v : ClusterView) (old new : List QueuePass) (command : Command) (a : Answer) → ((live : List ℕ) → live_after live command ≡ live) → Tells old command a new → DoesLine v old command a v new
@@ -56,12 +57,12 @@ changed-line v w passes command (Err e) none changes = tt
 
 -- ---- why a line was stopped
 
-pub asked-stops : (v : ClusterView) (old new : List QueuePass) (op : Op) (asked : Result Answer AllocError) (result : Result Answer Stop) → (asked ≡ Ok answer.Limit → AsksLast old op (Ok answer.Limit) new)
-    → IfErr result (λ why. (why ≢ stop.NotQuiet) × (why ≡ stop.Limit → asked ≡ Ok answer.Limit)) → IfErr result (λ why. StopsBy why v old v new)
-asked-stops v old new op asked (Ok a) last stops = tt
-asked-stops v old new op asked (Err stop.Limit) last stops = inl (inl (op, last (stops.1 refl)))
-asked-stops v old new op asked (Err stop.NotQuiet) last stops = absurd (stops.0 refl)
-asked-stops v old new op asked (Err stop.Memory) last stops = tt
+pub asked-stops : (command : Command) (v : ClusterView) (old new : List QueuePass) (asked : Result Answer AllocError) (result : Result Answer Stop) → (asked ≡ Ok answer.Limit → MeetsLimit command v old v new)
+    → IfErr result (λ why. (why ≢ stop.NotQuiet) × (why ≡ stop.Limit → asked ≡ Ok answer.Limit)) → IfErr result (λ why. StopsBy why command v old v new)
+asked-stops command v old new asked (Ok a) last stops = tt
+asked-stops command v old new asked (Err stop.Limit) last stops = last (stops.1 refl)
+asked-stops command v old new asked (Err stop.NotQuiet) last stops = absurd (stops.0 refl)
+asked-stops command v old new asked (Err stop.Memory) last stops = tt
 
 pub once-last : (old : List QueuePass) (queue : ℕ) (op : Op) (asked : Result Answer AllocError) (new : List QueuePass) → AsksOnce old queue op asked new → asked ≡ Ok answer.Limit → AsksLast old op (Ok answer.Limit) new
 once-last old queue op asked new once is =
@@ -70,18 +71,20 @@ once-last old queue op asked new once is =
 pub each-last : (old : List QueuePass) (op : Op) (asked : Result Answer AllocError) (new : List QueuePass) → EndsAsking old op asked new → asked ≡ Ok answer.Limit → AsksLast old op (Ok answer.Limit) new
 each-last old op asked new ends is = subst (λ (r : Result Answer AllocError). EndsAsking old op r new) is ends
 
-pub changed-stops : (v w : ClusterView) (passes : List QueuePass) (result : Result Answer Stop)
-    → IfErr result (λ why. (why ≢ stop.NotQuiet) × (why ≡ stop.Limit → HasMetLimit v.operator w.operator)) → IfErr result (λ why. StopsBy why v passes w passes)
-changed-stops v w passes (Ok a) stops = tt
-changed-stops v w passes (Err stop.Limit) stops = inr (stops.1 refl)
-changed-stops v w passes (Err stop.NotQuiet) stops = absurd (stops.0 refl)
-changed-stops v w passes (Err stop.Memory) stops = tt
+pub changed-stops : (command : Command) (v w : ClusterView) (passes : List QueuePass) (result : Result Answer Stop) → (HasMetLimit v.operator w.operator → MeetsLimit command v passes w passes)
+    → IfErr result (λ why. (why ≢ stop.NotQuiet) × (why ≡ stop.Limit → HasMetLimit v.operator w.operator)) → IfErr result (λ why. StopsBy why command v passes w passes)
+changed-stops command v w passes (Ok a) meets stops = tt
+changed-stops command v w passes (Err stop.Limit) meets stops = meets (stops.1 refl)
+changed-stops command v w passes (Err stop.NotQuiet) meets stops = absurd (stops.0 refl)
+changed-stops command v w passes (Err stop.Memory) meets stops = tt
 
-pub unquiet-stops : (why : Stop) (v w : ClusterView) (looks : ℕ) (old new : List QueuePass) → looks ≡ v.looks → IsUnquiet why looks old new → StopsBy why v old w new
-unquiet-stops stop.Limit v w looks old new same unquiet = inl (inr unquiet)
-unquiet-stops stop.NotQuiet v w looks old new same unquiet =
-    elim unquiet as (λ s. FindsUnquiet v old new) [
-      | inl none ↦ inl (sym same ∙ none.0)
-      | inr found ↦ inr found
-    ]
+pub unquiet-stops : (why : Stop) (v w : ClusterView) (looks : ℕ) (old new : List QueuePass) → looks ≡ v.looks → IsUnquiet why looks old new → StopsBy why command.Drain v old w new
+unquiet-stops stop.Limit v w looks old new same unquiet = unquiet
+unquiet-stops stop.NotQuiet v w looks old new same unquiet = (
+  refl,
+  elim unquiet as (λ s. FindsUnquiet v old new) [
+    | inl none ↦ inl (sym same ∙ none.0)
+    | inr found ↦ inr found
+  ],
+)
 unquiet-stops stop.Memory v w looks old new same unquiet = tt

@@ -25,7 +25,9 @@ use Rattle.stream_cluster.specs.Clusters.{ClusterView, is_fixed}
 use Rattle.cluster_operator.proofs.Changing.{op-trans}
 use Rattle.stream_cluster.proofs.Standing.{met-earlier, op-refl}
 use Rattle.stream_ident.proofs.WordLemmas.{All-at}
+use Rattle.script_parser.specs.declared.command.Command.{Command}
 use Rattle.script_parser.specs.declared.command.Command.TheVariants as command
+use Rattle.script_parser.specs.Forms.{op_of}
 use Rattle.script_reader.specs.declared.line.Line.{Line}
 use Rattle.script_reader.specs.declared.script_line.ScriptLine.{ScriptLine}
 use Rattle.script_reader.specs.declared.script_line.ScriptLine.TheVariants as printed
@@ -41,8 +43,9 @@ use Rattle.script_producer.proofs.Seen.{alone-as, alone-front, asks-foreign, gon
 use Rattle.script_reader.specs.Scripts.{IsRunCommand, IsScript, RisesFrom}
 use Rattle.cluster_scripts.specs.declared.line.Stop.{Stop}
 use Rattle.cluster_scripts.specs.declared.line.Stop.TheVariants as stop
-use Rattle.cluster_scripts.specs.Lines.{DoesLine, FindsUnquiet, MeetsLimit, ProducerMeetsLimit, StaysOpen, StopsBy}
-use Rattle.cluster_scripts.specs.Runs.{DoesAll, DoesFront, IsPrinted, IsUntouched, missed_in, with_printed}
+use Rattle.cluster_scripts.specs.Lines.{DoesLine, FindsUnquiet, HasToldFront, MeetsLimit, StaysOpen, StopsBy, TellsInPart, next_command}
+use Rattle.cluster_scripts.specs.Runs.{DoesAll, IsPrinted, IsUntouched, StopsFront, missed_in, with_printed}
+use Rattle.cluster_scripts.proofs.Fronts.{drain-part, none-left}
 
 -- ---- passes that have seen more
 
@@ -220,27 +223,26 @@ looks-earlier result old now new on look = record { before = look.before; on = o
 last-earlier : (op : Op) (result : Result Answer AllocError) (old now new : List QueuePass) → AllZip HasGoneOn old now → AsksLast now op result new → AsksLast old op result new
 last-earlier op result old now new on last = record { before = last.before; on = on-all old now last.before on last.on; queue = last.queue; asks = last.asks }
 
-limit-earlier : (old now new : List QueuePass) → AllZip HasGoneOn old now → ProducerMeetsLimit now new → ProducerMeetsLimit old new
-limit-earlier old now new on meets =
-    elim meets as (λ s. ProducerMeetsLimit old new) [
-      | inl asked ↦ inl (asked.0, last-earlier asked.0 (Ok answer.Limit) old now new on asked.1)
-      | inr look ↦ inr (looks-earlier (Err HistoryFull) old now new on look)
-    ]
+limit-earlier : (asked : Command) (v w u : ClusterView) (old now new : List QueuePass) → OperatorGoesOn v.operator w.operator → AllZip HasGoneOn old now → MeetsLimit asked w now u new → MeetsLimit asked v old u new
+limit-earlier (command.Step queue op) v w u old now new goes on meets = last-earlier op (Ok answer.Limit) old now new on meets
+limit-earlier (command.Each each) v w u old now new goes on meets = last-earlier (op_of each) (Ok answer.Limit) old now new on meets
+limit-earlier command.Drain v w u old now new goes on meets = looks-earlier (Err HistoryFull) old now new on meets
+limit-earlier (command.Up silo) v w u old now new goes on meets = met-earlier v.operator w.operator u.operator goes meets
+limit-earlier (command.Down silo) v w u old now new goes on meets = met-earlier v.operator w.operator u.operator goes meets
+limit-earlier command.Report v w u old now new goes on meets = absurd meets
 
 -- why a line was stopped is why the script is
-pub stops-later : (why : Stop) (lines : List Line) (v : ClusterView) (old : List QueuePass) (done : List Line) (found : List ScriptLine) (w : ClusterView) (now : List QueuePass) (u : ClusterView) (new : List QueuePass)
-    → is_fixed v ≡ false → Progress lines v old done found w now → StopsBy why w now u new → StopsBy why v old u new
-stops-later stop.Limit lines v old done found w now u new free far stops =
-    elim stops as (λ s. MeetsLimit v old u new) [
-      | inl producer ↦ inl (limit-earlier old now new far.on producer)
-      | inr cluster ↦ inr (met-earlier v.operator w.operator u.operator far.cluster cluster)
-    ]
-stops-later stop.NotQuiet lines v old done found w now u new free far stops =
-    elim stops as (λ s. FindsUnquiet v old new) [
-      | inl none ↦ inl (sym (far.stays free).1 ∙ none)
-      | inr look ↦ inr (look.0, look.1, looks-earlier (Ok (NotQuiet look.0 look.1)) old now new far.on look.2)
-    ]
-stops-later stop.Memory lines v old done found w now u new free far stops = tt
+pub stops-later : (why : Stop) (asked : Command) (lines : List Line) (v : ClusterView) (old : List QueuePass) (done : List Line) (found : List ScriptLine) (w : ClusterView) (now : List QueuePass) (u : ClusterView) (new : List QueuePass)
+    → is_fixed v ≡ false → Progress lines v old done found w now → StopsBy why asked w now u new → StopsBy why asked v old u new
+stops-later stop.Limit asked lines v old done found w now u new free far stops = limit-earlier asked v w u old now new far.cluster far.on stops
+stops-later stop.NotQuiet asked lines v old done found w now u new free far stops = (
+  stops.0,
+  elim stops.1 as (λ s. FindsUnquiet v old new) [
+    | inl none ↦ inl (sym (far.stays free).1 ∙ none)
+    | inr look ↦ inr (look.0, look.1, looks-earlier (Ok (NotQuiet look.0 look.1)) old now new far.on look.2)
+  ],
+)
+stops-later stop.Memory asked lines v old done found w now u new free far stops = tt
 
 -- all lines were done, and then all queues were quiet
 pub done-all : (lines : List Line) (v : ClusterView) (old : List QueuePass) (done : List Line) (found : List ScriptLine) (w : ClusterView) (now new : List QueuePass)
@@ -261,15 +263,49 @@ done-all lines v old done found w now new far all on tells quiet =
     }
 
 -- a line was stopped, or the wait past the last one
-pub stopped : (lines : List Line) (v : ClusterView) (old : List QueuePass) (done : List Line) (found more : List ScriptLine) (w : ClusterView) (now new : List QueuePass)
-    → Progress lines v old done found w now → more ≡ found → AllZip HasGoneOn now new → DoesFront lines v old more new
-stopped lines v old done found more w now new far same on =
-    record {
-      done = done;
-      left = far.left;
-      whole = far.whole;
-      printed = λ silos untouched alone. subst (λ (ls : List ScriptLine). IsPrinted silos done ls) (sym same) (far.printed silos untouched (alone-back now new on alone));
-    }
+stopped : (why : Stop) (lines : List Line) (v : ClusterView) (old : List QueuePass) (done : List Line) (found more : List ScriptLine) (w : ClusterView) (now : List QueuePass) (u : ClusterView) (new : List QueuePass)
+    → (far : Progress lines v old done found w now) → more ≡ found → AllZip HasGoneOn now new
+    → ((silos : ℕ) → IsUntouched silos v old → AloneProduces new → HasToldFront (missed_in found) done far.left new)
+    → StopsBy why (next_command far.left) v old u new → StopsFront why lines v old more u new
+stopped why lines v old done found more w now u new far same on told stops = (
+  record {
+    done = done;
+    left = far.left;
+    whole = far.whole;
+    printed = λ silos untouched alone. subst (λ (ls : List ScriptLine). IsPrinted silos done ls) (sym same) (far.printed silos untouched (alone-back now new on alone));
+    told = λ silos untouched alone. subst (λ (ls : List ScriptLine). HasToldFront (missed_in ls) done far.left new) (sym same) (told silos untouched alone);
+  },
+  stops,
+)
+
+-- the next line was
+pub line-stopped : (why : Stop) (lines : List Line) (v : ClusterView) (old : List QueuePass) (done : List Line) (found more : List ScriptLine) (w : ClusterView) (now : List QueuePass) (line : Line) (u : ClusterView) (new : List QueuePass)
+    → Progress lines v old done found w now → more ≡ found → length done < length lines → line ≡ get_or lines (length done) line → AllZip HasGoneOn now new → TellsInPart now line.command new
+    → StopsBy why line.command v old u new → StopsFront why lines v old more u new
+line-stopped why lines v old done found more w now line u new far same within is on part stops =
+    let next = get-next done far.left line (subst (λ (ls : List Line). length done < length ls) far.whole within) (subst (λ (ls : List Line). line ≡ get_or ls (length done) line) far.whole is) in
+    let rises = rises-of far.last line far.left next.0 next.1 far.rises in
+    let missed = missed_in found in
+    let fresh = fresh-number line.number far.last missed done rises.0 far.below far.missed in
+    stopped why lines v old done found more w now u new far same on
+    (λ silos untouched alone.
+    subst (λ (left : List Line). HasToldFront missed done left new) (sym next.1)
+    (part (begins-on old now far.on untouched.empty) alone missed done line.number fresh (far.told silos untouched (alone-back now new on alone))))
+    (subst (λ (left : List Line). StopsBy why (next_command left) v old u new) (sym next.1) stops)
+
+-- all lines were done, and the wait was stopped
+pub wait-stopped : (why : Stop) (lines : List Line) (v : ClusterView) (old : List QueuePass) (done : List Line) (found : List ScriptLine) (w : ClusterView) (now : List QueuePass) (u : ClusterView) (new : List QueuePass)
+    → Progress lines v old done found w now → done ≡ lines → AllZip HasGoneOn now new → Tells now command.Drain answer.Taken new → StopsBy why command.Drain v old u new → StopsFront why lines v old found u new
+wait-stopped why lines v old done found w now u new far all on tells stops =
+    let none = none-left done far.left (all ∙ far.whole) in
+    let missed = missed_in found in
+    let number = suc far.last in
+    let fresh = fresh-number number far.last missed done (omega arith) far.below far.missed in
+    stopped why lines v old done found found w now u new far refl on
+    (λ silos untouched alone.
+    subst (λ (left : List Line). HasToldFront missed done left new) (sym none)
+    (drain-part now new tells (begins-on old now far.on untouched.empty) alone missed done number fresh (far.told silos untouched (alone-back now new on alone))))
+    (subst (λ (left : List Line). StopsBy why (next_command left) v old u new) (sym none) stops)
 
 -- ---- by what came of a call
 

@@ -7,6 +7,7 @@ use Rattle.std.specs.Prelude.{slice_get}
 use Rattle.stream_model.specs.declared.op.Op.{Op}
 use Rattle.stream_model.specs.declared.plain.PlainPartition.{PlainPartition}
 use Rattle.stream_model.specs.Replies.{Reply}
+use Rattle.stream_model.specs.History as told
 use Rattle.stream_model.specs.Looks.{quiet}
 use Rattle.stream_model.specs.Producers.{is_producer}
 use Rattle.turnstile.specs.declared.history.Entry.{Entry}
@@ -35,7 +36,8 @@ use Rattle.script_producer.specs.Telling.{AloneProduces, BeginsEmpty, HasGoneOn,
 use Rattle.script_producer.proofs.Seen.{asks-foreign, none-told}
 use Rattle.cluster_scripts.specs.declared.running.ScriptEnd.{ScriptEnd}
 use Rattle.cluster_scripts.specs.declared.running.ScriptEnd.TheVariants as end
-use Rattle.cluster_scripts.specs.Runs.{EndsRun, EndsScript, IsPrinted, IsUntouched, missed_in, run_end}
+use Rattle.cluster_scripts.specs.Lines.{HasToldFront}
+use Rattle.cluster_scripts.specs.Runs.{DoesFront, EndsRun, EndsScript, IsPrinted, IsUntouched, TellFront, missed_in, run_end}
 use Rattle.cluster_scripts.proofs.Progress.{alone-back}
 
 -- ---- a new cluster
@@ -103,6 +105,16 @@ histories-tell caller histories missed lines begun made told queue history at =
     none-told p (at_end p history) (record { on = ends-on p history is; none = owns-foreign is_producer (numbers_of p) is.rest is.foreign }) (made-alone caller histories queue p history made beside.1 at)
     ∙ told queue p beside.1
 
+-- so is what it tells of a front of a script
+front-tells : (caller : List QueuePass) (histories : List (List (Entry Op Reply))) (missed : List ℕ) (done left : List Line) → AllZip HasBegun caller histories → CallersAloneProduce (caller ∷ []) histories → HasToldFront missed done left caller
+    → TellFront missed done left histories
+front-tells caller histories missed done left begun made front queue history at =
+    let beside = zip-at HasBegun caller histories queue history begun at in
+    let p = beside.0 in
+    let is = beside.2 in
+    let has = front queue p beside.1 in
+    (has.0, none-told p (at_end p history) (record { on = ends-on p history is; none = owns-foreign is_producer (numbers_of p) is.rest is.foreign }) (made-alone caller histories queue p history made beside.1 at) ∙ has.1, has.2)
+
 -- ---- the report
 
 -- the report of quiet partitions, from a queue on, where each history tells the script
@@ -145,13 +157,31 @@ count-queues config c caller now histories new same begun =
     length-zip HasBegun now histories begun ∙ turnstiles-length caller now same ∙ new-queues config c caller new
 
 module _ {H : Type 0} (entries : H → List (Entry Op Reply)) where
-  -- what a script has printed that was done in part or as a whole, where nobody else has produced
-  front-printed : (config : Config) (lines : List Line) (c w : ClusterView) (caller now : List QueuePass) (found : List ScriptLine) (how : ScriptEnd) → IsConfig config → IsNew config c caller → EndsScript how lines c caller found w now → AloneProduces now
-      → (done left : List Line) × (lines ≡ done ++ left) × IsPrinted config.silos done found
-  front-printed config lines c w caller now found end.Done is new ends others = (lines, [], sym (append-nil lines), ends.1.printed config.silos (untouched config c caller is new) others)
-  front-printed config lines c w caller now found end.Limit is new ends others = let front = ends.1 in (front.done, front.left, front.whole, front.printed config.silos (untouched config c caller is new) others)
-  front-printed config lines c w caller now found end.NotQuiet is new ends others = let front = ends.1 in (front.done, front.left, front.whole, front.printed config.silos (untouched config c caller is new) others)
-  front-printed config lines c w caller now found end.Halted is new ends others = absurd (true≢false (sym ends.0 ∙ new.goes_on))
+  -- what a script has printed and told that was done in part or as a whole, where nobody else has produced
+  front-known : (config : Config) (lines : List Line) (c : ClusterView) (caller now : List QueuePass) (found : List ScriptLine) (histories : List (List (Entry Op Reply))) → IsConfig config → IsNew config c caller → DoesFront lines c caller found now
+      → AllZip HasBegun now histories → CallersAloneProduce (now ∷ []) histories
+      → (done left : List Line) × (lines ≡ done ++ left) × IsPrinted config.silos done found × TellFront (missed_in found) done left histories
+  front-known config lines c caller now found histories is new front begun made =
+      let fresh = untouched config c caller is new in
+      let others = alone now histories begun made in
+      (front.done, front.left, front.whole, front.printed config.silos fresh others, front-tells now histories (missed_in found) front.done front.left begun made (front.told config.silos fresh others))
+
+  front-done : (config : Config) (lines : List Line) (c w : ClusterView) (caller now : List QueuePass) (found : List ScriptLine) (how : ScriptEnd) (histories : List (List (Entry Op Reply))) → IsConfig config → IsNew config c caller → EndsScript how lines c caller found w now
+      → AllZip HasBegun now histories → CallersAloneProduce (now ∷ []) histories
+      → (done left : List Line) × (lines ≡ done ++ left) × IsPrinted config.silos done found × TellFront (missed_in found) done left histories
+  front-done config lines c w caller now found end.Done histories is new ends begun made =
+      let fresh = untouched config c caller is new in
+      let others = alone now histories begun made in
+      let missed = missed_in found in (
+        lines,
+        [],
+        sym (append-nil lines),
+        ends.1.printed config.silos fresh others,
+        front-tells now histories missed lines [] begun made (λ queue p at. ([], ends.1.told config.silos fresh others queue p at ∙ sym (append-nil (script.told missed queue lines)), refl)),
+      )
+  front-done config lines c w caller now found end.Limit histories is new ends begun made = front-known config lines c caller now found histories is new ends.1.0 begun made
+  front-done config lines c w caller now found end.NotQuiet histories is new ends begun made = front-known config lines c caller now found histories is new ends.1.0 begun made
+  front-done config lines c w caller now found end.Halted histories is new ends begun made = absurd (true≢false (sym ends.0 ∙ new.goes_on))
 
   pub run-ends : (back : List SiloView) (config : Config) (lines : List Line) (c w : ClusterView) (caller now : List QueuePass) (found : List ScriptLine) (answer : Finished H) (how : ScriptEnd) → IsConfig config → IsNew config c caller → turnstiles now ≡ turnstiles caller
       → EndsScript how lines c caller found w now → HasFinished entries w (now ∷ []) back answer → EndsRun entries config lines found (run_end answer how)
@@ -171,16 +201,16 @@ module _ {H : Type 0} (entries : H → List (Entry Op Reply)) where
         tell,
       )
   run-ends back config lines c w caller now found (finished.Report text traces) end.Limit is new same ends fin =
-      front-printed config lines c w caller now found end.Limit is new ends (alone now (map entries traces.histories.items) fin.begun.of_callers.0 fin.producers)
+      front-done config lines c w caller now found end.Limit (map entries traces.histories.items) is new ends fin.begun.of_callers.0 fin.producers
   run-ends back config lines c w caller now found (finished.Report text traces) end.NotQuiet is new same ends fin =
-      front-printed config lines c w caller now found end.NotQuiet is new ends (alone now (map entries traces.histories.items) fin.begun.of_callers.0 fin.producers)
+      front-done config lines c w caller now found end.NotQuiet (map entries traces.histories.items) is new ends fin.begun.of_callers.0 fin.producers
   run-ends back config lines c w caller now found (finished.Report text traces) end.Halted is new same ends fin =
-      front-printed config lines c w caller now found end.Halted is new ends (alone now (map entries traces.histories.items) fin.begun.of_callers.0 fin.producers)
+      front-done config lines c w caller now found end.Halted (map entries traces.histories.items) is new ends fin.begun.of_callers.0 fin.producers
   run-ends back config lines c w caller now found (finished.NotQuiet queue why traces) how is new same ends fin =
-      front-printed config lines c w caller now found how is new ends (alone now (map entries traces.histories.items) fin.begun.of_callers.0 fin.producers)
+      front-done config lines c w caller now found how (map entries traces.histories.items) is new ends fin.begun.of_callers.0 fin.producers
   run-ends back config lines c w caller now found (finished.RoundLimit traces) how is new same ends fin =
-      front-printed config lines c w caller now found how is new ends (alone now (map entries traces.histories.items) fin.begun.of_callers.0 fin.producers)
+      front-done config lines c w caller now found how (map entries traces.histories.items) is new ends fin.begun.of_callers.0 fin.producers
   run-ends back config lines c w caller now found (finished.Limit traces) how is new same ends fin =
-      front-printed config lines c w caller now found how is new ends (alone now (map entries traces.histories.items) fin.begun.of_callers.0 fin.producers)
-  run-ends back config lines c w caller now found (finished.NotAll queue missing) how is new same ends fin = tt
-  run-ends back config lines c w caller now found finished.InUse how is new same ends fin = tt
+      front-done config lines c w caller now found how (map entries traces.histories.items) is new ends fin.begun.of_callers.0 fin.producers
+  run-ends back config lines c w caller now found (finished.NotAll queue missing) how is new same ends fin = refl
+  run-ends back config lines c w caller now found finished.InUse how is new same ends fin = refl

@@ -1,20 +1,25 @@
 -- What a line of a script does on a cluster.
-use Rattle.std.specs.Prelude.{◌≡◌, ◌⊎◌, ℕ, false, List, [], ◌∷◌, ◌++◌, Ok, Err}
+use Rattle.std.specs.Prelude.{◌≡◌, ◌⊎◌, ℕ, false, List, [], ◌∷◌, ◌++◌, Option, Some, None, Ok, Err, slice_get}
 use Rattle.std.specs.List.{AllByRecursion}
 use Rattle.queue_balancer.specs.Balance.{HasNoDoubles}
 use Rattle.stream_model.specs.declared.op.Op.{Op}
 use Rattle.stream_model.specs.declared.reply.Pending.{Pending}
+use Rattle.stream_model.specs.Replies.{Reply}
+use Rattle.stream_model.specs.History as told
 use Rattle.turnstile.specs.declared.turnstile.Refusal.TheVariants.{HistoryFull}
 use Rattle.silo_loops.specs.Lines.{QueuePass}
 use Rattle.cluster_ending.specs.declared.asking.Quiet.TheVariants.{NotQuiet}
 use Rattle.cluster_operator.specs.Operators.{OperatorGoesOn}
 use Rattle.stream_cluster.specs.Clusters.{ClusterView, HasMetLimit, is_fixed}
 use Rattle.script_parser.specs.declared.command.Command.{Command}
+use Rattle.script_parser.specs.declared.command.Command.TheVariants as command
+use Rattle.script_parser.specs.Forms.{op_of}
 use Rattle.script_reader.specs.declared.line.Line.{Line}
 use Rattle.script_reader.specs.ScriptReport.{command_printed, live_after, live_silos}
+use Rattle.script_reader.specs.Told as script
 use Rattle.script_producer.specs.declared.answer.Answer.{Answer}
 use Rattle.script_producer.specs.declared.answer.Answer.TheVariants as answer
-use Rattle.script_producer.specs.Telling.{AloneProduces, AsksLast, BeginsEmpty, HasTold, IsNewNumber, Looks, LooksInVain, printed_lines, with_missed}
+use Rattle.script_producer.specs.Telling.{AloneProduces, AsksLast, BeginsEmpty, HasTold, IsNewNumber, Looks, LooksInVain, printed_lines, told_at, with_missed}
 use Rattle.cluster_scripts.specs.declared.line.Stop.{Stop}
 use Rattle.cluster_scripts.specs.declared.line.Stop.TheVariants as stop
 
@@ -54,13 +59,44 @@ pub record DoesLine (v : ClusterView) (old : List QueuePass) (command : Command)
       → command_printed (with_missed a number missed) silos lines number command ≡ printed_lines a number
   pub stays : StaysOpen v w
 
--- the last call of a producer met a limit: of a partition, or of a history in a look for quiet
-abbrev pub ProducerMeetsLimit : List QueuePass → List QueuePass → Type 0
-ProducerMeetsLimit old new = ((o : Op) × AsksLast old o (Ok answer.Limit) new) ⊎ Looks (Err HistoryFull) old new
+-- what producers may have been told at a queue where this was asked at most once, or nothing was
+abbrev pub IsToldOnce : Option Op → List told.Entry → Type 0
+IsToldOnce None rest = rest ≡ []
+IsToldOnce (Some op) rest = (rest ≡ []) ⊎ ((r : Reply) × (rest ≡ record { op = op; reply = r } ∷ []))
 
--- a limit was met by a producer or by a change of silos
-abbrev pub MeetsLimit : ClusterView → List QueuePass → ClusterView → List QueuePass → Type 0
-MeetsLimit v old w new = ProducerMeetsLimit old new ⊎ HasMetLimit v.operator w.operator
+-- What a line may have told at a queue until it was stopped: what it asks for there, at most once. Of a line that asks at
+-- each queue nothing is said.
+abbrev pub IsToldInPart : Command → ℕ → List told.Entry → Type 0
+IsToldInPart (command.Each each) queue rest = Unit {0}
+IsToldInPart asked queue rest = IsToldOnce (script.op_at queue asked) rest
+
+-- what is done next of the lines that are left: past the last one it is waited as a drain does
+abbrev pub next_command : List Line → Command
+next_command [] = command.Drain
+next_command (line ∷ later) = line.command
+
+-- At each queue producers asked and were told what the script tells of the lines that are done, and past that no more than
+-- the next one may have told until it was stopped.
+abbrev pub HasToldFront : List ℕ → List Line → List Line → List QueuePass → Type 0
+HasToldFront missed done left caller =
+    (queue : ℕ) (p : QueuePass) → slice_get caller queue ≡ Some p
+    → (rest : List told.Entry) × (told_at p ≡ script.told missed queue done ++ rest) × IsToldInPart (next_command left) queue rest
+
+-- A line was stopped. Where the caller had told the lines of a script before it, and nobody else has produced, it has told
+-- them and no more than a part of this line.
+abbrev pub TellsInPart : List QueuePass → Command → List QueuePass → Type 0
+TellsInPart old command new =
+    AllByRecursion BeginsEmpty old → AloneProduces new → (missed : List ℕ) (lines : List Line) (number : ℕ) → IsNewNumber number missed lines
+    → HasTold missed lines old → HasToldFront missed lines (record { number = number; command = command } ∷ []) new
+
+-- A line met a limit: its last call did, of a partition or of a history, or a silo couldn't come or go for one.
+abbrev pub MeetsLimit : Command → ClusterView → List QueuePass → ClusterView → List QueuePass → Type 0
+MeetsLimit (command.Step queue op) v old w new = AsksLast old op (Ok answer.Limit) new
+MeetsLimit (command.Each each) v old w new = AsksLast old (op_of each) (Ok answer.Limit) new
+MeetsLimit command.Drain v old w new = Looks (Err HistoryFull) old new
+MeetsLimit (command.Up silo) v old w new = HasMetLimit v.operator w.operator
+MeetsLimit (command.Down silo) v old w new = HasMetLimit v.operator w.operator
+MeetsLimit command.Report v old w new = ⊥
 
 -- a queue wasn't quiet in the last look, or no look may be had
 abbrev pub FindsUnquiet : ClusterView → List QueuePass → List QueuePass → Type 0
@@ -72,8 +108,8 @@ IsUnquiet stop.Limit looks old new = Looks (Err HistoryFull) old new
 IsUnquiet stop.NotQuiet looks old new = LooksInVain looks old new
 IsUnquiet stop.Memory looks old new = Unit {0}
 
--- why a script isn't done to its end
-abbrev pub StopsBy : Stop → ClusterView → List QueuePass → ClusterView → List QueuePass → Type 0
-StopsBy stop.Limit v old w new = MeetsLimit v old w new
-StopsBy stop.NotQuiet v old w new = FindsUnquiet v old new
-StopsBy stop.Memory v old w new = Unit {0}
+-- why a line was stopped
+abbrev pub StopsBy : Stop → Command → ClusterView → List QueuePass → ClusterView → List QueuePass → Type 0
+StopsBy stop.Limit asked v old w new = MeetsLimit asked v old w new
+StopsBy stop.NotQuiet asked v old w new = (asked ≡ command.Drain) × FindsUnquiet v old new
+StopsBy stop.Memory asked v old w new = Unit {0}

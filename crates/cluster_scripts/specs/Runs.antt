@@ -4,6 +4,7 @@ use Rattle.std.specs.List.{AllByRecursion, AllZip, flat_map, range_with_len}
 use Rattle.stream_model.specs.declared.op.Op.{Op}
 use Rattle.stream_model.specs.declared.plain.PlainPartition.{PlainPartition}
 use Rattle.stream_model.specs.Replies.{Reply}
+use Rattle.stream_model.specs.History as told
 use Rattle.stream_model.specs.Positions.{empty}
 use Rattle.turnstile.specs.declared.history.Entry.{Entry}
 use Rattle.turnstile.specs.History.{IsLegal, replay}
@@ -22,7 +23,9 @@ use Rattle.script_reader.specs.declared.script_line.ScriptLine.TheVariants as pr
 use Rattle.script_reader.specs.ScriptReport.{line_text, live_silos, script_lines, script_report}
 use Rattle.script_reader.specs.Told as script
 use Rattle.script_producer.specs.Telling.{AloneProduces, BeginsEmpty, HasGoneOn, HasTold, LooksQuiet}
-use Rattle.cluster_scripts.specs.Lines.{FindsUnquiet, MeetsLimit}
+use Rattle.cluster_scripts.specs.Lines.{HasToldFront, IsToldInPart, StopsBy, next_command}
+use Rattle.cluster_scripts.specs.declared.line.Stop.{Stop}
+use Rattle.cluster_scripts.specs.declared.line.Stop.TheVariants as stop
 use Rattle.cluster_scripts.specs.declared.outcome.Ran.{Ran}
 use Rattle.cluster_scripts.specs.declared.outcome.RunEnd.{RunEnd}
 use Rattle.cluster_scripts.specs.declared.outcome.RunEnd.TheVariants as ends
@@ -51,12 +54,19 @@ pub record IsUntouched (silos : ℕ) (v : ClusterView) (caller : List QueuePass)
   pub empty : AllByRecursion BeginsEmpty caller
   pub unused : AllByRecursion IsUnused caller
 
--- A front of the lines of a script was done. Where nobody else has produced, they printed what the script says.
+-- A front of the lines of a script was done, and at most a part of the line behind it. Where nobody else has produced, they
+-- printed what the script says, and its producer was told what it says, so that no line is left out but the one that was
+-- stopped.
 pub record DoesFront (lines : List Line) (v : ClusterView) (old : List QueuePass) (found : List ScriptLine) (new : List QueuePass) : Type 0 where
   pub done : List Line
   pub left : List Line
   pub whole : lines ≡ done ++ left
   pub printed : (silos : ℕ) → IsUntouched silos v old → AloneProduces new → IsPrinted silos done found
+  pub told : (silos : ℕ) → IsUntouched silos v old → AloneProduces new → HasToldFront (missed_in found) done left new
+
+-- A front of the lines was done, and the next line, or the wait past the last one, was stopped for this reason.
+abbrev pub StopsFront : Stop → List Line → ClusterView → List QueuePass → List ScriptLine → ClusterView → List QueuePass → Type 0
+StopsFront why lines v old found w new = (front : DoesFront lines v old found new) × StopsBy why (next_command front.left) v old w new
 
 -- All lines of a script were done, and in one look after them each queue was quiet. Where nobody else has produced, they
 -- printed what the script says, its producer was told what it says, and the silos live that it says.
@@ -75,8 +85,8 @@ pub record DoesNothing (v : ClusterView) (old : List QueuePass) (found : List Sc
 -- What `run_script` does, by how the script has ended.
 abbrev pub EndsScript : ScriptEnd → List Line → ClusterView → List QueuePass → List ScriptLine → ClusterView → List QueuePass → Type 0
 EndsScript end.Done lines v old found w new = (is_fixed v ≡ false) × DoesAll lines v old found w new
-EndsScript end.Limit lines v old found w new = (is_fixed v ≡ false) × DoesFront lines v old found new × MeetsLimit v old w new
-EndsScript end.NotQuiet lines v old found w new = (is_fixed v ≡ false) × DoesFront lines v old found new × FindsUnquiet v old new
+EndsScript end.Limit lines v old found w new = (is_fixed v ≡ false) × StopsFront stop.Limit lines v old found w new
+EndsScript end.NotQuiet lines v old found w new = (is_fixed v ≡ false) × StopsFront stop.NotQuiet lines v old found w new
 EndsScript end.Halted lines v old found w new = (is_fixed v ≡ true) × DoesNothing v old found w new
 
 -- what `run_script` answers
@@ -95,6 +105,13 @@ abbrev pub TellScript : List ℕ → List Line → List (List (Entry Op Reply)) 
 TellScript missed lines histories =
     (queue : ℕ) (history : List (Entry Op Reply)) → slice_get histories queue ≡ Some history → script.producers_entries (told_of history) ≡ script.told missed queue lines
 
+-- In the history of each queue they asked and were told what the script tells of the lines that are done, and past that no
+-- more than the next one may have told until it was stopped.
+abbrev pub TellFront : List ℕ → List Line → List Line → List (List (Entry Op Reply)) → Type 0
+TellFront missed done left histories =
+    (queue : ℕ) (history : List (Entry Op Reply)) → slice_get histories queue ≡ Some history
+    → (rest : List told.Entry) × (script.producers_entries (told_of history) ≡ script.told missed queue done ++ rest) × IsToldInPart (next_command left) queue rest
+
 module _ {H : Type 0} (entries : H → List (Entry Op Reply)) where
   -- there is a history for each queue, and it is legal
   pub record AreLegal (config : Config) (traces : Traces H) : Type 0 where
@@ -110,15 +127,17 @@ module _ {H : Type 0} (entries : H → List (Entry Op Reply)) where
   abbrev pub TraceScript : List ℕ → List Line → Traces H → Type 0
   TraceScript missed lines traces = TellScript missed lines (map entries traces.histories.items)
 
-  -- What a run has printed that ended so, and its report. A run without a report did a front of the lines; where passes
-  -- are missing nothing is said.
+  -- What a run has printed that ended so, and its report. A run without a report did a front of the lines, and no line that
+  -- was told is left out but the one that was stopped. Where passes are missing, which is called a limit, nothing is said of
+  -- the lines.
   abbrev pub EndsRun : Config → List Line → List ScriptLine → RunEnd H → Type 0
   EndsRun config lines found (ends.Report text traces) =
       IsPrinted config.silos lines found × (text.items ≡ script_report config.queues (missed_in found) lines)
       × TraceScript (missed_in found) lines traces
   EndsRun config lines found (ends.Unfinished why (Some traces)) =
       (done left : List Line) × (lines ≡ done ++ left) × IsPrinted config.silos done found
-  EndsRun config lines found (ends.Unfinished why None) = Unit {0}
+      × TellFront (missed_in found) done left (map entries traces.histories.items)
+  EndsRun config lines found (ends.Unfinished why None) = why ≡ unfinished.Limit
 
   -- A run of a script prints what the script says of the lines that were done. Where it ends with a report these are all
   -- lines, the report is the script's, and so is what producers asked and were told at each queue.

@@ -1,5 +1,5 @@
 //! One line of a script.
-ghost use Rattle.std.specs.Prelude.{◌≡◌, ◌≢◌, ◌<◌, ◌≤◌, false, length, Ok, IfErr, IfOk, OnOk};
+ghost use Rattle.std.specs.Prelude.{◌≡◌, ◌≢◌, ◌<◌, ◌≤◌, false, length, Ok, IfErr, IfOk, OnErr, OnOk};
 ghost use Rattle.std.specs.List.{AllZip};
 ghost use Rattle.cluster_callers.specs.Calls.{turnstiles};
 ghost use Rattle.script_parser.specs.declared.command.Command.TheVariants as command;
@@ -8,7 +8,7 @@ ghost use Rattle.script_producer.specs.Telling.{HasGoneOn, LooksQuiet, Tells};
 ghost use Rattle.script_reader.specs.Scripts.{IsRunCommand};
 ghost use Rattle.cluster_operator.specs.Operators.{OperatorGoesOn};
 ghost use Rattle.stream_cluster.specs.Clusters.{HasMetLimit, is_fixed};
-ghost use Rattle.cluster_scripts.specs.Lines.{ChangesBy, DoesLine, IsUnquiet, StopsBy};
+ghost use Rattle.cluster_scripts.specs.Lines.{ChangesBy, DoesLine, IsUnquiet, StopsBy, TellsInPart};
 
 use cluster_callers::Caller;
 use script_parser::Command;
@@ -52,12 +52,12 @@ fn up<
 }
 
 // A silo goes by a line.
-fn down<
-    G: Gate,
-    H: QueueHistory,
-    D: DirectoryHistory,
-    R: Threads + Wait,
->(rt: &R, alloc: Global, cluster: &mut Cluster<G, H, D>, silo: u8) -> Result<Answer, Stop>
+fn down<G: Gate, H: QueueHistory, D: DirectoryHistory, R: Threads + Wait>(
+    rt: &R,
+    alloc: Global,
+    cluster: &mut Cluster<G, H, D>,
+    silo: u8,
+) -> Result<Answer, Stop>
     requires { silo < 16 }
     ensures changes { IfOk result (λ told. ChangesBy cluster.old (command.Down silo) told cluster.new) }
     ensures stops { is_fixed cluster.old ≡ false → IfErr result (λ why. why ≢ Stop.NotQuiet × (why ≡ Stop.Limit → HasMetLimit cluster.old.operator cluster.new.operator)) }
@@ -89,7 +89,8 @@ pub(crate) fn do_line<
     requires some { 1 ≤ length caller.old }
     requires command { IsRunCommand (length caller.old) command }
     ensures line { IfOk result (λ told. DoesLine cluster.old caller.old command told cluster.new caller.new) }
-    ensures stops { is_fixed cluster.old ≡ false → IfErr result (λ why. StopsBy why cluster.old caller.old cluster.new caller.new) }
+    ensures part { OnErr result (TellsInPart caller.old command caller.new) }
+    ensures stops { is_fixed cluster.old ≡ false → IfErr result (λ why. StopsBy why command cluster.old caller.old cluster.new caller.new) }
     ensures on { AllZip HasGoneOn caller.old caller.new }
     ensures turnstiles { turnstiles caller.new ≡ turnstiles caller.old }
     ensures cluster { OperatorGoesOn cluster.old.operator cluster.new.operator }

@@ -6,8 +6,7 @@ ghost use Rattle.cluster_operator.specs.Operators.{OperatorGoesOn};
 ghost use Rattle.script_producer.specs.Telling.{HasGoneOn, printed_lines};
 ghost use Rattle.script_reader.specs.Scripts.{IsScript};
 ghost use Rattle.stream_cluster.specs.Clusters.{is_fixed};
-ghost use Rattle.cluster_scripts.specs.Lines.{StopsBy};
-ghost use Rattle.cluster_scripts.specs.Runs.{AnswersScript, DoesAll, DoesFront};
+ghost use Rattle.cluster_scripts.specs.Runs.{AnswersScript, DoesAll, StopsFront};
 
 use crate::line::{Stop, do_line, wait_until_quiet};
 use cluster_callers::Caller;
@@ -100,8 +99,7 @@ fn do_lines<
     requires free { is_fixed cluster.old ≡ false }
     requires none { printed.old.items ≡ [] }
     ensures all { OnOk result (DoesAll lines.items cluster.old caller.old printed.new.items cluster.new caller.new) }
-    ensures front { OnErr result (DoesFront lines.items cluster.old caller.old printed.new.items caller.new) }
-    ensures stops { IfErr result (λ why. StopsBy why cluster.old caller.old cluster.new caller.new) }
+    ensures front { IfErr result (λ why. StopsFront why lines.items cluster.old caller.old printed.new.items cluster.new caller.new) }
     ensures on { AllZip HasGoneOn caller.old caller.new }
     ensures turnstiles { turnstiles caller.new ≡ turnstiles caller.old }
     ensures cluster { OperatorGoesOn cluster.old.operator cluster.new.operator }

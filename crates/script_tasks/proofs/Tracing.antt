@@ -24,7 +24,7 @@ use Rattle.cluster_scripts.specs.declared.outcome.Ran.{Ran}
 use Rattle.cluster_scripts.specs.declared.outcome.RunEnd.{RunEnd}
 use Rattle.cluster_scripts.specs.declared.outcome.RunEnd.TheVariants as ends
 use Rattle.cluster_scripts.specs.declared.outcome.Unfinished.{Unfinished}
-use Rattle.cluster_scripts.specs.Runs.{AreLegal, EndsRun, IsLegalHistory, LeavesLegalTraces, missed_in}
+use Rattle.cluster_scripts.specs.Runs.{AreLegal, EndsRun, IsLegalHistory, LeavesLegalTraces, TellFront, missed_in}
 use Rattle.script_tasks.specs.declared.fault.ProgramFault.{ProgramFault}
 use Rattle.script_tasks.specs.declared.fault.ProgramFault.TheVariants as fault
 use Rattle.script_tasks.specs.Printing.{AreLegalAt, PrintsTrace, RunsSource, WritesEnd, WritesText, WritesTraces, commands_of, text_left}
@@ -88,13 +88,14 @@ pub left-legal : (config : Config) (end : RunEnd (AskedHistory Op Reply)) (why :
 left-legal config end why None is legal = tt
 left-legal config end why (Some traces) is legal = subst (LeavesLegalTraces asked_entries config) is legal
 
--- so the histories that it left are legal, whose text is known
-legal-left : (config : Config) (old new : Option (List ℕ)) (why : Unfinished) (left : Option (Traces (AskedHistory Op Reply))) → LeavesLegalTraces asked_entries config (ends.Unfinished why left) → Appends old new (text_left left)
-    → (histories : List (List (Entry Op Reply))) × AreLegalAt config histories × Appends old new (traces_from 0 histories)
-legal-left config old new why (Some traces) legal written =
+-- so the histories that it left are legal and tell a front of the script, and their text is known
+left-tells : (config : Config) (old new : Option (List ℕ)) (lines : List Line) (found : List ScriptLine) (why : Unfinished) (left : Option (Traces (AskedHistory Op Reply))) → EndsRun asked_entries config lines found (ends.Unfinished why left)
+    → LeavesLegalTraces asked_entries config (ends.Unfinished why left) → Appends old new (text_left left)
+    → (done ahead : List Line) × (missed : List ℕ) × (histories : List (List (Entry Op Reply))) × (lines ≡ done ++ ahead) × AreLegalAt config histories × TellFront missed done ahead histories × Appends old new (traces_from 0 histories)
+left-tells config old new lines found why (Some traces) runs legal written =
     let histories = map asked_entries traces.histories.items in
-    (histories, each-legal config histories traces.partitions.items legal.each, written)
-legal-left config old new why None legal written = ([], tt, written)
+    (runs.0, runs.1, missed_in found, histories, runs.2, each-legal config histories traces.partitions.items legal.each, runs.4, written)
+left-tells config old new lines found why None runs legal written = ([], lines, [], [], refl, tt, (λ queue history at. absurd (cc)), written)
 
 -- what was written of a run that read the script so
 pub trace-printed : (config : Config) (script : List ℕ) (old new : Option (List ℕ)) (lines : List Line) (found : List ScriptLine) (end : RunEnd (AskedHistory Op Reply)) (result : Result Unit ProgramFault) → commands_of config.queues script ≡ Ok lines
@@ -103,8 +104,8 @@ trace-printed config script old new lines found (ends.Report text traces) (Ok do
     let histories = map asked_entries traces.histories.items in
     (lines, missed_in found, histories, read, length-map traces.histories.items asked_entries ∙ legal.count, each-legal config histories traces.partitions.items legal.each, runs.2, writes)
 trace-printed config script old new lines found (ends.Unfinished why left) (Err (fault.Unfinished told)) read runs legal writes =
-    let known = legal-left config old new why left legal writes.1 in
-    (lines, known.0, read, known.1, known.2)
+    let known = left-tells config old new lines found why left runs legal writes.1 in
+    (lines, known.0, known.1, known.2, known.3, read, known.4, known.5, known.6, known.7)
 trace-printed config script old new lines found (ends.Report text traces) (Err (fault.Script error.WriteFault)) read runs legal writes = tt
 trace-printed config script old new lines found (ends.Report text traces) (Err (fault.Script error.Memory)) read runs legal writes = tt
 trace-printed config script old new lines found (ends.Report text traces) (Err (fault.Script error.ReadFault)) read runs legal writes = absurd writes

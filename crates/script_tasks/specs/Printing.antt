@@ -1,7 +1,7 @@
 -- What a run of a script on silos writes, from the bytes of the script alone.
-use Rattle.std.specs.Prelude.{◌≡◌, ℕ, List, [], map, Option, Some, None, Result, Ok, Err, length, nat_lt, ⊤, if◌then◌else◌}
+use Rattle.std.specs.Prelude.{◌≡◌, ◌⊎◌, ℕ, List, [], ◌++◌, map, Option, Some, None, Result, Ok, Err, length, nat_lt, ⊤, if◌then◌else◌}
 use Rattle.std.specs.Io.KnownBytes.{Appends, Keeps}
-use Rattle.std.specs.List.{AllByRecursion}
+use Rattle.std.specs.List.{AllByRecursion, flat_map}
 use Rattle.stream_model.specs.declared.op.Op.{Op}
 use Rattle.stream_model.specs.Replies.{Reply}
 use Rattle.stream_model.specs.Positions.{empty}
@@ -11,7 +11,8 @@ use Rattle.turnstile.specs.Asked.{asked_entries}
 use Rattle.turnstile.specs.History.{IsLegal}
 use Rattle.shared_partition.specs.Partitions.{after, replied}
 use Rattle.script_reader.specs.declared.line.Line.{Line}
-use Rattle.script_reader.specs.ScriptReport.{script_text}
+use Rattle.script_reader.specs.declared.script_line.ScriptLine.{ScriptLine}
+use Rattle.script_reader.specs.ScriptReport.{line_text, script_lines, script_text}
 use Rattle.script_parser.specs.declared.command.Fault.{Fault}
 use Rattle.script_parser.specs.Lines.{lines_of}
 use Rattle.script_reader.specs.Scripts.{lines_after}
@@ -21,7 +22,9 @@ use Rattle.stream_cluster.specs.declared.config.Config.{Config}
 use Rattle.cluster_scripts.specs.declared.outcome.Ran.{Ran}
 use Rattle.cluster_scripts.specs.declared.outcome.RunEnd.{RunEnd}
 use Rattle.cluster_scripts.specs.declared.outcome.RunEnd.TheVariants as ends
-use Rattle.cluster_scripts.specs.Runs.{RunsScript, TellScript}
+use Rattle.cluster_scripts.specs.declared.outcome.Unfinished.{Unfinished}
+use Rattle.cluster_scripts.specs.declared.outcome.Unfinished.TheVariants as unfinished
+use Rattle.cluster_scripts.specs.Runs.{RunsScript, TellFront, TellScript}
 use Rattle.script_tasks.specs.declared.fault.ProgramFault.{ProgramFault}
 use Rattle.script_tasks.specs.declared.fault.ProgramFault.TheVariants as fault
 use Rattle.stream_script.specs.declared.simulate.SimError.{SimError}
@@ -33,21 +36,6 @@ abbrev pub commands_of : ℕ → List ℕ → Result (List Line) Fault
 commands_of queues script =
     if nat_lt 4194304 (length script) then Err too_long else lines_after queues 0 (lines_of script)
 
--- What was written, by how the run ended. Where it ended well, it is the text of the script, whatever the silos did: that
--- leaves open only which lines were refused because their start token was gone. Where the script can't be read or is
--- faulty, or memory ran out, nothing was written.
-abbrev pub PrintsRun : Config → List ℕ → Option (List ℕ) → Option (List ℕ) → Result Unit ProgramFault → Type 0
-PrintsRun config script old new (Ok done) =
-    (lines : List Line) × (missed : List ℕ) × (commands_of config.queues script ≡ Ok lines)
-    × Appends old new (script_text config.queues missed config.silos lines)
-PrintsRun config script old new (Err (fault.Script (error.ScriptFault found))) =
-    (commands_of config.queues script ≡ Err found) × Keeps old new
-PrintsRun config script old new (Err (fault.Script error.ReadFault)) = Keeps old new
-PrintsRun config script old new (Err (fault.Script error.Memory)) = Keeps old new
-PrintsRun config script old new (Err (fault.Script error.WriteFault)) = ⊤
-PrintsRun config script old new (Err (fault.Unfinished why)) = (lines : List Line) × (commands_of config.queues script ≡ Ok lines)
-PrintsRun config script old new (Err (fault.CommandLine error)) = ⊥
-
 -- the history is legal from the empty partition of the configuration, and so is each of these
 abbrev pub IsLegalAt : Config → List (Entry Op Reply) → Type 0
 IsLegalAt config history = IsLegal replied after (empty config.blocks config.limits) history
@@ -55,8 +43,40 @@ IsLegalAt config history = IsLegal replied after (empty config.blocks config.lim
 abbrev pub AreLegalAt : Config → List (List (Entry Op Reply)) → Type 0
 AreLegalAt config histories = AllByRecursion (IsLegalAt config) histories
 
+-- What was written of a run without a report: what the lines print that are done. There are legal histories of all queues
+-- in which producers asked and were told what the script tells of these lines, and past that no more than the line behind
+-- them may have told until it was stopped.
+abbrev pub PrintsFront : Config → List Line → Option (List ℕ) → Option (List ℕ) → Type 0
+PrintsFront config lines old new =
+    (done left : List Line) × (missed : List ℕ) × (histories : List (List (Entry Op Reply))) × (lines ≡ done ++ left)
+    × (length histories ≡ config.queues) × AreLegalAt config histories × TellFront missed done left histories
+    × Appends old new (flat_map line_text (script_lines missed config.silos done))
+
+-- Where passes are missing in the end, which is called a limit, lines were written of which nothing is said.
+abbrev pub PrintsSome : Unfinished → Option (List ℕ) → Option (List ℕ) → Type 0
+PrintsSome why old new = (why ≡ unfinished.Limit) × (found : List ScriptLine) × Appends old new (flat_map line_text found)
+
+-- What was written, by how the run ended. Where it ended well, it is the text of the script, whatever the silos did: that
+-- leaves open only which lines were refused because their start token was gone, and these are so in legal histories of all
+-- queues, in which producers asked and were told what the script tells. Where the script can't be read or is faulty, or
+-- memory ran out, nothing was written.
+abbrev pub PrintsRun : Config → List ℕ → Option (List ℕ) → Option (List ℕ) → Result Unit ProgramFault → Type 0
+PrintsRun config script old new (Ok done) =
+    (lines : List Line) × (missed : List ℕ) × (histories : List (List (Entry Op Reply))) × (commands_of config.queues script ≡ Ok lines)
+    × (length histories ≡ config.queues) × AreLegalAt config histories × TellScript missed lines histories
+    × Appends old new (script_text config.queues missed config.silos lines)
+PrintsRun config script old new (Err (fault.Script (error.ScriptFault found))) =
+    (commands_of config.queues script ≡ Err found) × Keeps old new
+PrintsRun config script old new (Err (fault.Script error.ReadFault)) = Keeps old new
+PrintsRun config script old new (Err (fault.Script error.Memory)) = Keeps old new
+PrintsRun config script old new (Err (fault.Script error.WriteFault)) = ⊤
+PrintsRun config script old new (Err (fault.Unfinished why)) =
+    (lines : List Line) × (commands_of config.queues script ≡ Ok lines) × (PrintsFront config lines old new ⊎ PrintsSome why old new)
+PrintsRun config script old new (Err (fault.CommandLine error)) = ⊥
+
 -- What a trace has written, by how the run ended: the histories of all queues, in which producers asked and were told
--- what the script tells. Where the run has no report, it wrote the histories as far as they went, or nothing.
+-- what the script tells. Where the run has no report, it wrote the histories as far as they went, which tell a front of the
+-- script and at most a part of the line behind it, or nothing.
 abbrev pub PrintsTrace : Config → List ℕ → Option (List ℕ) → Option (List ℕ) → Result Unit ProgramFault → Type 0
 PrintsTrace config script old new (Ok done) =
     (lines : List Line) × (missed : List ℕ) × (histories : List (List (Entry Op Reply))) × (commands_of config.queues script ≡ Ok lines)
@@ -68,8 +88,8 @@ PrintsTrace config script old new (Err (fault.Script error.ReadFault)) = Keeps o
 PrintsTrace config script old new (Err (fault.Script error.Memory)) = ⊤
 PrintsTrace config script old new (Err (fault.Script error.WriteFault)) = ⊤
 PrintsTrace config script old new (Err (fault.Unfinished why)) =
-    (lines : List Line) × (histories : List (List (Entry Op Reply))) × (commands_of config.queues script ≡ Ok lines)
-    × AreLegalAt config histories × Appends old new (traces_from 0 histories)
+    (lines done left : List Line) × (missed : List ℕ) × (histories : List (List (Entry Op Reply))) × (commands_of config.queues script ≡ Ok lines)
+    × (lines ≡ done ++ left) × AreLegalAt config histories × TellFront missed done left histories × Appends old new (traces_from 0 histories)
 PrintsTrace config script old new (Err (fault.CommandLine error)) = ⊥
 
 module _ {H : Type 0} (entries : H → List (Entry Op Reply)) where
@@ -94,6 +114,14 @@ WritesTraces old new text (Ok done) = Appends old new text
 WritesTraces old new text (Err error.WriteFault) = ⊤
 WritesTraces old new text (Err error.Memory) = ⊤
 WritesTraces old new text (Err _) = ⊥
+
+-- The text of a run was written, or nothing where memory ran out. It ended as the run did.
+abbrev pub WritesRun : {H : Type 0} → Option (List ℕ) → Option (List ℕ) → List ℕ → Result Unit ProgramFault → RunEnd H → Type 0
+WritesRun old new text (Ok done) (ends.Report report traces) = Appends old new text
+WritesRun old new text (Err (fault.Unfinished told)) (ends.Unfinished why left) = (told ≡ why) × Appends old new text
+WritesRun old new text (Err (fault.Script error.WriteFault)) end = ⊤
+WritesRun old new text (Err (fault.Script error.Memory)) end = Keeps old new
+WritesRun old new text _ end = ⊥
 
 -- the histories of all queues as they are written
 abbrev pub traces_text : Traces (AskedHistory Op Reply) → List ℕ

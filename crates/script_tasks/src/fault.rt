@@ -125,7 +125,7 @@ impl<T: Drop> From<AllocFailed<T>> for ProgramFault {
 }
 
 impl From<io::Error> for ProgramFault {
-    // Only making a buffer and asking for the words end here: they fail where they cannot allocate.
+    // Only making a buffer ends here: it fails where it cannot allocate.
     fn from(_: io::Error) -> ProgramFault {
         ProgramFault::Script(SimError::Memory)
     }

@@ -10,6 +10,7 @@ mod silos;
 pub use fault::ProgramFault;
 pub use options::{
     RUN_EXAMPLE, Request, SIM_EXAMPLE, Task, parse_options, run_config, sim_config, trace_config,
+    unread_words,
 };
 pub use performing::{end, perform, perform_task, perform_words};
 pub use silos::{run_on_silos, trace_on_silos};

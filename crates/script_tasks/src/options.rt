@@ -1,12 +1,17 @@
 //! The command line.
-ghost use Rattle.std.specs.Prelude.{◌≡◌, ◌≤◌, ◌-◌, ◌^◌, length, IfOk, None, Ok};
+ghost use Rattle.std.specs.Prelude.{◌≡◌, ◌≢◌, ◌⊎◌, ◌≤◌, ◌-◌, ◌^◌, length, IfOk, None, Ok};
+ghost use Rattle.std.specs.IoError.{error_kind};
+ghost use Rattle.std.specs.declared.io.ErrorKind.TheVariants.{InvalidData};
+ghost use Rattle.clap.specs.Values.{kind_of};
 ghost use Rattle.stream_cluster.specs.Clusters.{IsConfig};
 ghost use Rattle.script_tasks.specs.Tasks.{IsTask, cluster_with, simulation_with};
 ghost use Rattle.script_tasks.specs.declared.options.Task.TheVariants.{Simulate};
 ghost use Rattle.stream_script.specs.Simulation.{IsSimConfig};
 
+use clap::error::ErrorKind;
 use clap::{Arg, ArgMatches, Command, value_parser};
 use std::alloc::{AllocError, Global};
+use std::io;
 use stream_cluster::Config;
 use stream_model::Limits;
 use stream_script::SimConfig;
@@ -150,6 +155,31 @@ pub fn parse_options<'a>(alloc: Global, words: &'a [String]) -> Result<Request<'
         file: given.get_str("file"),
         task: task_of(name, given),
     })
+}
+
+/// Why the program can't have its words: one of them isn't UTF-8, which is a mistake in the command line, or memory ran
+/// out.
+pub fn unread_words(alloc: Global, error: &io::Error) -> clap::Error
+    ensures text { error_kind error.now ≡ InvalidData → (kind_of result ≡ ErrorKind.InvalidValue) ⊎ (kind_of result ≡ ErrorKind.OutOfMemory) }
+    ensures memory { error_kind error.now ≢ InvalidData → kind_of result ≡ ErrorKind.OutOfMemory }
+{
+    if error.kind() != io::ErrorKind::InvalidData {
+        return clap::Error::from(AllocError);
+    }
+    match not_utf8(alloc) {
+        Ok(mistake) => mistake,
+        Err(refused) => clap::Error::from(refused),
+    }
+}
+
+/// The mistake of a word that isn't UTF-8.
+fn not_utf8(alloc: Global) -> Result<clap::Error, AllocError>
+    ensures { IfOk result (λ mistake. kind_of mistake ≡ ErrorKind.InvalidValue) }
+{
+    command(alloc)?.error(
+        ErrorKind::InvalidValue,
+        "invalid UTF-8 was detected in one or more arguments",
+    )
 }
 
 /// What is done where nothing is asked for.

@@ -5,7 +5,7 @@ ghost use Rattle.script_tasks.specs.Statuses.{Exits};
 ghost use Rattle.script_tasks.specs.Tasks.{IsTask, PrintsSimulation, PrintsTask};
 
 use crate::fault::ProgramFault;
-use crate::options::{Request, Task, parse_options};
+use crate::options::{Request, Task, parse_options, unread_words};
 use crate::silos::{run_on_silos, trace_on_silos};
 use std::alloc::Global;
 use std::fs::{self, Files};
@@ -41,7 +41,10 @@ pub fn end<R: Print + Eprint>(rt: &R, ended: &Result<(), ProgramFault>) -> ExitC
 fn perform_command_line<R: Runtime + AllocGlobal + Threads + Wait + Copy + Send + 'static>(
     rt: &R,
 ) -> Result<(), ProgramFault> {
-    let words = std::env::args(rt)?.collect::<Vec<String>>(rt.alloc())?;
+    let alloc = rt.alloc();
+    let words = std::env::args(rt)
+        .map_err(|error| unread_words(alloc, &error))?
+        .collect::<Vec<String>>(alloc)?;
     perform_words(rt, words.as_slice(), io::writer(rt))
 }
 

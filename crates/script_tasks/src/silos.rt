@@ -3,8 +3,8 @@ ghost use Rattle.std.specs.Prelude.{◌-◌, ◌^◌, ◌<◌, IfOk, IfSome};
 ghost use Rattle.turnstile.specs.Asked.{asked_entries};
 ghost use Rattle.trace_printer.specs.Traces.{trace_text};
 ghost use Rattle.stream_cluster.specs.Clusters.{IsConfig};
-ghost use Rattle.cluster_scripts.specs.Runs.{AreLegal, LeavesLegalTraces};
-ghost use Rattle.script_tasks.specs.Printing.{IsLegalAt, PrintsRun, PrintsTrace, RunsSource, WritesEnd, WritesText, WritesTraces, text_left, traces_text};
+ghost use Rattle.cluster_scripts.specs.Runs.{AreLegal, LeavesLegalTraces, text_of};
+ghost use Rattle.script_tasks.specs.Printing.{IsLegalAt, PrintsRun, PrintsTrace, RunsSource, WritesEnd, WritesRun, WritesText, WritesTraces, text_left, traces_text};
 
 use crate::fault::ProgramFault;
 use activation_directory::{DirectoryOp, DirectoryReply};
@@ -43,11 +43,7 @@ pub fn run_on_silos<T: Threads + Wait + Copy + Send + 'static, R: Source, W: Wri
         PrintsRun config.now input (W.contents sink.old) (W.contents sink.new) result) }
 {
     let ran = run_source::<ProofHistory<Op, Answer>, T, R>(rt, alloc, config, source)?;
-    write_text(&run_text(alloc, &ran)?, sink)?;
-    match ran.end {
-        RunEnd::Report { .. } => Ok(()),
-        RunEnd::Unfinished { why, .. } => Err(ProgramFault::Unfinished(why)),
-    }
+    write_run(alloc, &ran, sink)
 }
 
 /// Runs a script on silos, and writes what was done at each queue as a script that can be simulated, queue by queue.
@@ -92,6 +88,17 @@ fn run_source<
     Ok(run::<Counting, H, ProofHistory<DirectoryOp, DirectoryReply>, T>(
         rt, alloc, config, gate, lines,
     )?)
+}
+
+/// Writes what a run prints.
+fn write_run<H, W: Write>(alloc: Global, ran: &Ran<H>, sink: &mut W) -> Result<(), ProgramFault>
+    ensures { WritesRun (W.contents sink.old) (W.contents sink.new) (text_of ran.now) result ran.now.end }
+{
+    write_text(&run_text(alloc, ran)?, sink)?;
+    match ran.end {
+        RunEnd::Report { .. } => Ok(()),
+        RunEnd::Unfinished { why, .. } => Err(ProgramFault::Unfinished(why)),
+    }
 }
 
 /// Writes what a run has left, as far as all passes came back.

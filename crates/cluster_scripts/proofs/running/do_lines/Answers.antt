@@ -6,10 +6,14 @@ use Rattle.std.proofs.lemmas.Iterator.Consumers.{YieldsList-end, YieldsList-turn
 use Rattle.cluster_operator.proofs.Changing.{op-trans}
 use Rattle.cluster_operator.proofs.Making.{passed-on}
 use Rattle.cluster_scripts.specs.declared.line.Stop.{Stop}
-use Rattle.cluster_scripts.specs.Lines.{IsUnquiet, StopsBy}
+use Rattle.cluster_scripts.specs.declared.line.Stop.TheVariants as stop
+use Rattle.cluster_scripts.specs.Lines.{IsUnquiet}
+use Rattle.cluster_scripts.specs.Runs.{StopsFront}
+use Rattle.script_parser.specs.declared.command.Command.TheVariants as command
 use Rattle.script_reader.specs.declared.script_line.ScriptLine.{ScriptLine}
-use Rattle.cluster_scripts.proofs.Progress.{Progress, begins, does, done-all, map-same, on-all, on-err, on-ok, stopped, stops-later}
+use Rattle.cluster_scripts.proofs.Progress.{Progress, begins, does, done-all, line-stopped, map-same, on-all, on-ok, stops-later, wait-stopped}
 use Rattle.cluster_scripts.proofs.Doing.{unquiet-stops}
+use Rattle.cluster_scripts.proofs.Fronts.{done-part}
 use Rattle.cluster_scripts.proofs.running.do_lines.Goals as goal
 
 pub loop-line-init : goal.loop-line-init
@@ -21,7 +25,22 @@ loop-line-init g c =
 
 pub returns-in_err-answer-clause-front : goal.returns-in_err-answer-clause-front
 returns-in_err-answer-clause-front g c =
-    on-err c.from_residual.result (stopped _ _ _ c.loop-line.yielded c.loop-line.printed.items c.loop-line.printed.items c.loop-line.cluster c.loop-line.caller c.do_line.new.caller c.loop-line.invariant.progress refl c.do_line.ensures.on)
+    let gives = c.into_iter-line-iterator.ensures.into_iter_gives in
+    let turn = YieldsList-turn (YieldsList-from_vec {s = c.into_iter-line-iterator.result} c.args.lines.items gives.0 (first_of (search rules, grind (arith, common_steps)))) c.loop-line.yielded c.loop-line.line-iterator c.loop-line.yielded_by c.next.result c.next.new.self c.in-Some.line c.in-Some.is c.next.ensures.steps in
+    let far = c.loop-line.invariant.progress in
+    let lines = c.args.lines.items in
+    let v = c.args.cluster.now in
+    let old = c.args.caller.now in
+    let found = c.loop-line.printed.items in
+    let w = c.loop-line.cluster in
+    let now = c.loop-line.caller in
+    let u = c.do_line.new.cluster in
+    let new = c.do_line.new.caller in
+    let line = c.in-Some.line in
+    let why = c.in_err-answer.field-0.0 in
+    passed-on (λ (h : Stop). StopsFront h lines v old found u new) c.from_residual.result why c.from_residual.ensures.1
+    (line-stopped why lines v old c.loop-line.yielded found found w now line u new far refl turn.0 turn.1 c.do_line.ensures.on c.in_err-answer.ensures.part
+    (stops-later why line.command lines v old c.loop-line.yielded found w now u new c.requires.free far (c.in_err-answer.ensures.stops (far.stays c.requires.free).0)))
 
 pub returns-in_err-answer-clause-on : goal.returns-in_err-answer-clause-on
 returns-in_err-answer-clause-on g c = on-all _ _ _ c.loop-line.invariant.progress.on c.do_line.ensures.on
@@ -41,7 +60,23 @@ loop-line-preserved g c =
 
 pub returns-in_err-note-clause-front : goal.returns-in_err-note-clause-front
 returns-in_err-note-clause-front g c =
-    on-err c.from_residual-in_err-note.result (stopped _ _ _ c.loop-line.yielded c.loop-line.printed.items c.note.new.printed.items c.loop-line.cluster c.loop-line.caller c.do_line.new.caller c.loop-line.invariant.progress c.in_err-note.ensures.same c.do_line.ensures.on)
+    let gives = c.into_iter-line-iterator.ensures.into_iter_gives in
+    let turn = YieldsList-turn (YieldsList-from_vec {s = c.into_iter-line-iterator.result} c.args.lines.items gives.0 (first_of (search rules, grind (arith, common_steps)))) c.loop-line.yielded c.loop-line.line-iterator c.loop-line.yielded_by c.next.result c.next.new.self c.in-Some.line c.in-Some.is c.next.ensures.steps in
+    let far = c.loop-line.invariant.progress in
+    let lines = c.args.lines.items in
+    let v = c.args.cluster.now in
+    let old = c.args.caller.now in
+    let found = c.note.new.printed.items in
+    let w = c.loop-line.cluster in
+    let now = c.loop-line.caller in
+    let u = c.do_line.new.cluster in
+    let new = c.do_line.new.caller in
+    let line = c.in-Some.line in
+    let front =
+    line-stopped stop.Memory lines v old c.loop-line.yielded c.loop-line.printed.items found w now line u new far c.in_err-note.ensures.same turn.0 turn.1 c.do_line.ensures.on
+    (done-part w u now new line.command c.in_ok-answer.answer c.in_ok-answer.ensures.line) tt in
+    passed-on (λ (h : Stop). StopsFront h lines v old found u new) c.from_residual-in_err-note.result c.in_err-note.field-0.0 c.from_residual-in_err-note.ensures.1
+    (subst (λ (h : Stop). StopsFront h lines v old found u new) (sym c.in_err-note.ensures.memory) front)
 
 pub returns-in_err-note-clause-on : goal.returns-in_err-note-clause-on
 returns-in_err-note-clause-on g c = on-all _ _ _ c.loop-line.invariant.progress.on c.do_line.ensures.on
@@ -58,29 +93,15 @@ returns g c =
     let whole = sym (map-same c.loop-line.yielded) ∙ ending.0 in
     record {
       all = on-ok c.wait_until_quiet.result (λ quiet. done-all _ _ _ c.loop-line.yielded c.loop-line.printed.items c.loop-line.cluster c.loop-line.caller c.wait_until_quiet.new.caller far whole waits.on waits.told quiet) waits.quiet;
-      front = on-err c.wait_until_quiet.result (stopped _ _ _ c.loop-line.yielded c.loop-line.printed.items c.loop-line.printed.items c.loop-line.cluster c.loop-line.caller c.wait_until_quiet.new.caller far refl waits.on);
-      stops =
-          IfErr-weaker c.wait_until_quiet.result (λ (h : Stop). IsUnquiet h c.looks.result c.loop-line.caller c.wait_until_quiet.new.caller) (λ (h : Stop). StopsBy h c.args.cluster.now c.args.caller.now c.loop-line.cluster c.wait_until_quiet.new.caller)
+      front =
+          IfErr-weaker c.wait_until_quiet.result (λ (h : Stop). IsUnquiet h c.looks.result c.loop-line.caller c.wait_until_quiet.new.caller)
+          (λ (h : Stop). StopsFront h c.args.lines.items c.args.cluster.now c.args.caller.now c.loop-line.printed.items c.loop-line.cluster c.wait_until_quiet.new.caller)
           (λ h unquiet.
-          stops-later h c.args.lines.items c.args.cluster.now c.args.caller.now c.loop-line.yielded c.loop-line.printed.items c.loop-line.cluster c.loop-line.caller c.loop-line.cluster c.wait_until_quiet.new.caller c.requires.free far
-          (unquiet-stops h c.loop-line.cluster c.loop-line.cluster c.looks.result c.loop-line.caller c.wait_until_quiet.new.caller c.looks.ensures unquiet))
+          wait-stopped h c.args.lines.items c.args.cluster.now c.args.caller.now c.loop-line.yielded c.loop-line.printed.items c.loop-line.cluster c.loop-line.caller c.loop-line.cluster c.wait_until_quiet.new.caller far whole waits.on waits.told
+          (stops-later h command.Drain c.args.lines.items c.args.cluster.now c.args.caller.now c.loop-line.yielded c.loop-line.printed.items c.loop-line.cluster c.loop-line.caller c.loop-line.cluster c.wait_until_quiet.new.caller c.requires.free far
+          (unquiet-stops h c.loop-line.cluster c.loop-line.cluster c.looks.result c.loop-line.caller c.wait_until_quiet.new.caller c.looks.ensures unquiet)))
           waits.unquiet;
       on = on-all _ _ _ far.on waits.on;
       turnstiles = waits.turnstiles ∙ far.at;
       cluster = far.cluster;
     }
-
-pub returns-in_err-answer-clause-stops : goal.returns-in_err-answer-clause-stops
-returns-in_err-answer-clause-stops g c =
-    let far = c.loop-line.invariant.progress in
-    let v = c.args.cluster.now in
-    let w = c.loop-line.cluster in
-    let why = c.in_err-answer.field-0.0 in
-    passed-on (λ (h : Stop). StopsBy h v c.args.caller.now c.do_line.new.cluster c.do_line.new.caller) c.from_residual.result why c.from_residual.ensures.1
-    (stops-later why c.args.lines.items v c.args.caller.now c.loop-line.yielded c.loop-line.printed.items w c.loop-line.caller c.do_line.new.cluster c.do_line.new.caller c.requires.free far (c.in_err-answer.ensures.stops (far.stays c.requires.free).0))
-
-pub returns-in_err-note-clause-stops : goal.returns-in_err-note-clause-stops
-returns-in_err-note-clause-stops g c =
-    let v = c.args.cluster.now in
-    passed-on (λ (h : Stop). StopsBy h v c.args.caller.now c.do_line.new.cluster c.do_line.new.caller) c.from_residual-in_err-note.result c.in_err-note.field-0.0 c.from_residual-in_err-note.ensures.1
-    (subst (λ (h : Stop). StopsBy h v c.args.caller.now c.do_line.new.cluster c.do_line.new.caller) (sym c.in_err-note.ensures.memory) tt)

@@ -6,8 +6,7 @@ use Rattle.script_producer.proofs.Seen.{gone-refl}
 use Rattle.stream_cluster.specs.Clusters.{is_fixed}
 use Rattle.cluster_scripts.specs.declared.line.Stop.{Stop}
 use Rattle.cluster_scripts.specs.declared.running.ScriptEnd.{ScriptEnd}
-use Rattle.cluster_scripts.specs.Lines.{StopsBy}
-use Rattle.cluster_scripts.specs.Runs.{EndsScript}
+use Rattle.cluster_scripts.specs.Runs.{EndsScript, StopsFront}
 use Rattle.cluster_scripts.proofs.running.run_script.Goals as goal
 use Rattle.cluster_scripts.proofs.running.run_script.Goals.{in-Err-Limit, in-Err-NotQuiet, in-Ok}
 
@@ -28,6 +27,6 @@ returns-clause-script g c =
     let free : is_fixed v ≡ false = sym c.is_fixed.ensures ∙ c.if-is_fixed.false in
     elim c.match-do_lines.branch as (λ s. EndsScript c.match-do_lines.end c.args.lines.items v old found w new) [
       | in-Ok b ↦ subst ends (sym b.end-is) (free, b.in-Ok.ensures.all)
-      | in-Err-Limit b ↦ subst ends (sym b.end-is) (free, b.in-Err-Limit.ensures.front, subst (λ (why : Stop). StopsBy why v old w new) b.in-Err-Limit.field-0-is b.in-Err-Limit.ensures.stops)
-      | in-Err-NotQuiet b ↦ subst ends (sym b.end-is) (free, b.in-Err-NotQuiet.ensures.front, subst (λ (why : Stop). StopsBy why v old w new) b.in-Err-NotQuiet.field-0-is b.in-Err-NotQuiet.ensures.stops)
+      | in-Err-Limit b ↦ subst ends (sym b.end-is) (free, subst (λ (why : Stop). StopsFront why c.args.lines.items v old found w new) b.in-Err-Limit.field-0-is b.in-Err-Limit.ensures.front)
+      | in-Err-NotQuiet b ↦ subst ends (sym b.end-is) (free, subst (λ (why : Stop). StopsFront why c.args.lines.items v old found w new) b.in-Err-NotQuiet.field-0-is b.in-Err-NotQuiet.ensures.front)
     ]
