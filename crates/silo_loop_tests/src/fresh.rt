@@ -80,10 +80,7 @@ fn directory<D: DirectoryHistory>(
 }
 
 /// The first line of an empty directory.
-pub fn directory_line<D: DirectoryHistory, R: Abort>(
-    rt: &R,
-    alloc: Global,
-) -> DirectoryLine<D> {
+pub fn directory_line<D: DirectoryHistory, R: Abort>(rt: &R, alloc: Global) -> DirectoryLine<D> {
     let (turnstile, pass) = directory(alloc, 4_000_000, 1_000_000).expect(rt, "memory");
     DirectoryLine::new(Arc::new(alloc, turnstile).expect(rt, "memory"), pass)
 }

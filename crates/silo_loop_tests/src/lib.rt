@@ -15,6 +15,8 @@ mod gate;
 #[cfg(test)]
 mod in_threads;
 #[cfg(test)]
+mod meetings;
+#[cfg(test)]
 mod operations;
 #[cfg(test)]
 mod passes;
@@ -30,6 +32,8 @@ mod seven;
 mod shared;
 #[cfg(test)]
 mod silo;
+#[cfg(test)]
+mod taken;
 #[cfg(test)]
 mod tally;
 #[cfg(test)]

@@ -44,9 +44,7 @@ static CALLS: [Call; 20] = [
 ];
 
 // A caller of an empty queue.
-fn opened<H: QueueHistory>(
-    alloc: Global,
-) -> Result<QueueCaller<Counting, H>, AllocError> {
+fn opened<H: QueueHistory>(alloc: Global) -> Result<QueueCaller<Counting, H>, AllocError> {
     let gate = Arc::new(alloc, Counting)?;
     Ok(caller_of(line(alloc, gate, 0, 100)?))
 }
