@@ -68,7 +68,7 @@ fn is_met<H: QueueHistory, D: DirectoryHistory, R: Wait + Abort>(
     match step {
         Step::Ask(call, told) => {
             let replied = ask(rt, alloc, &mut silo.producer, 0, *call);
-            return replied == reply(*told);
+            return replied == reply(rt, *told);
         }
         Step::Publish(events) => publish(rt, alloc, &mut silo.producer, 0, KEY, *events),
         Step::Assign(generation) => silo.assign(*generation),

@@ -23,9 +23,9 @@ pub type Asked = PlainHistory<DirectoryOp, DirectoryReply>;
 // How many blocks of 64 events the cache of a queue has.
 const BLOCKS: usize = 4;
 
-// A turnstile over an empty partition whose cache has so many blocks, and its first pass. The history has at most so
-// many calls.
-fn partition<G: Gate, H: QueueHistory>(
+/// A turnstile over an empty partition whose cache has so many blocks, and its first pass. The history has at most so
+/// many calls.
+pub fn partition<G: Gate, H: QueueHistory>(
     alloc: Global,
     gate: Arc<G, Global>,
     queue: usize,
