@@ -1,10 +1,12 @@
 //! A queue that is taken from its agent in the middle of a visit.
 use crate::fresh::{Asked, History};
 use crate::meetings::Meetings;
-use crate::silo::Silo;
+use crate::operations::Call;
+use crate::silo::{Silo, ask};
 use crate::visits::{Asks, Visits};
+use cluster_callers::Caller;
 use shared_partition::{DirectoryHistory, Gate, QueueHistory};
-use silo_loops::Assigned;
+use silo_loops::{Advance, AgentLoop, Assigned};
 use std::alloc::Global;
 use std::process::Abort;
 use std::sync::Wait;
@@ -44,6 +46,18 @@ impl Gate for Pausing {
 
     fn handle(&self, _grain: &GrainId, _sub: &SubName, _event: &Event, note: u64) -> u64 {
         note
+    }
+}
+
+impl<H: QueueHistory + Send> Visits for AgentLoop<Pausing, H> {
+    fn does<R: Wait>(&mut self, rt: &R, alloc: Global) -> bool {
+        self.visit(rt, alloc) == Advance::Did
+    }
+}
+
+impl<H: QueueHistory + Send> Asks for Caller<Pausing, H> {
+    fn ask_at<R: Wait + Abort>(&mut self, rt: &R, alloc: Global, queue: usize) {
+        let _reply = ask(rt, alloc, self, queue, Call::Quiet);
     }
 }
 

@@ -7,7 +7,7 @@ use crate::silo::{Loop, Silo, ask};
 use crate::tally::Tally;
 use cluster_callers::Caller;
 use crossbeam_utils::Backoff;
-use shared_partition::{DirectoryHistory, Gate, QueueHistory};
+use shared_partition::{DirectoryHistory, QueueHistory};
 use silo_loops::{Advance, AgentLoop, WorkerLoop};
 use std::alloc::Global;
 use std::process::Abort;
@@ -65,13 +65,7 @@ pub trait Visits: Send + Drop {
     fn does<R: Wait>(&mut self, rt: &R, alloc: Global) -> bool;
 }
 
-impl<G: Gate, H: QueueHistory + Send> Visits for AgentLoop<G, H> {
-    fn does<R: Wait>(&mut self, rt: &R, alloc: Global) -> bool {
-        self.visit(rt, alloc) == Advance::Did
-    }
-}
-
-impl<G: Gate, H: QueueHistory + Send, D: DirectoryHistory + Send> Visits for WorkerLoop<G, H, D> {
+impl<H: QueueHistory + Send, D: DirectoryHistory + Send> Visits for WorkerLoop<Tally, H, D> {
     fn does<R: Wait>(&mut self, rt: &R, alloc: Global) -> bool {
         self.visit(rt, alloc) == Advance::Did
     }
@@ -83,7 +77,7 @@ pub trait Asks: Send + Drop {
     fn ask_at<R: Wait + Abort>(&mut self, rt: &R, alloc: Global, queue: usize);
 }
 
-impl<G: Gate, H: QueueHistory + Send> Asks for Caller<G, H> {
+impl<H: QueueHistory + Send> Asks for Caller<Tally, H> {
     fn ask_at<R: Wait + Abort>(&mut self, rt: &R, alloc: Global, queue: usize) {
         let _reply = ask(rt, alloc, self, queue, Call::Quiet);
     }
