@@ -41,11 +41,13 @@ enum Step {
 }
 
 // Whether a loop ends so.
-fn ends<
-    H: QueueHistory,
-    D: DirectoryHistory,
-    R: Wait + Abort,
->(rt: &R, alloc: Global, silo: &mut Silo<Recorder, H, D>, which: Loop, over: Over) -> bool {
+fn ends<H: QueueHistory, D: DirectoryHistory, R: Wait + Abort>(
+    rt: &R,
+    alloc: Global,
+    silo: &mut Silo<Recorder, H, D>,
+    which: Loop,
+    over: Over,
+) -> bool {
     for _ in 0..100 {
         let rung = silo.rung(rt);
         if let Advance::Over(end) = silo.advance(rt, alloc, which) {
@@ -56,15 +58,17 @@ fn ends<
 }
 
 // Takes a step, and tells whether what is seen then is as it should be. The calls are counted from a number on.
-fn is_met<
-    H: QueueHistory,
-    D: DirectoryHistory,
-    R: Wait + Abort,
->(rt: &R, alloc: Global, silo: &mut Silo<Recorder, H, D>, since: &mut u64, step: &Step) -> bool {
+fn is_met<H: QueueHistory, D: DirectoryHistory, R: Wait + Abort>(
+    rt: &R,
+    alloc: Global,
+    silo: &mut Silo<Recorder, H, D>,
+    since: &mut u64,
+    step: &Step,
+) -> bool {
     match step {
         Step::Ask(call, told) => {
             let replied = ask(rt, alloc, &mut silo.producer, 0, *call);
-            return replied == reply(*told);
+            return replied == reply(rt, *told);
         }
         Step::Publish(events) => publish(rt, alloc, &mut silo.producer, 0, KEY, *events),
         Step::Assign(generation) => silo.assign(*generation),
@@ -88,11 +92,14 @@ fn is_met<
 }
 
 // Plays a case.
-fn play<
-    H: QueueHistory,
-    D: DirectoryHistory,
-    R: Wait + Abort,
->(rt: &R, alloc: Global, case: usize, calls: u64, rounds: u64, steps: &[Step]) {
+fn play<H: QueueHistory, D: DirectoryHistory, R: Wait + Abort>(
+    rt: &R,
+    alloc: Global,
+    case: usize,
+    calls: u64,
+    rounds: u64,
+    steps: &[Step],
+) {
     let mut silo = Silo::<Recorder, H, D>::new(rt, alloc, Recorder::new(), 1, calls, rounds);
     let mut since = 0;
     for (row, step) in steps.iter().enumerate() {

@@ -23,9 +23,9 @@ pub type Asked = PlainHistory<DirectoryOp, DirectoryReply>;
 // How many blocks of 64 events the cache of a queue has.
 const BLOCKS: usize = 4;
 
-// A turnstile over an empty partition whose cache has so many blocks, and its first pass. The history has at most so
-// many calls.
-fn partition<G: Gate, H: QueueHistory>(
+/// A turnstile over an empty partition whose cache has so many blocks, and its first pass. The history has at most so
+/// many calls.
+pub fn partition<G: Gate, H: QueueHistory>(
     alloc: Global,
     gate: Arc<G, Global>,
     queue: usize,
@@ -80,10 +80,7 @@ fn directory<D: DirectoryHistory>(
 }
 
 /// The first line of an empty directory.
-pub fn directory_line<D: DirectoryHistory, R: Abort>(
-    rt: &R,
-    alloc: Global,
-) -> DirectoryLine<D> {
+pub fn directory_line<D: DirectoryHistory, R: Abort>(rt: &R, alloc: Global) -> DirectoryLine<D> {
     let (turnstile, pass) = directory(alloc, 4_000_000, 1_000_000).expect(rt, "memory");
     DirectoryLine::new(Arc::new(alloc, turnstile).expect(rt, "memory"), pass)
 }

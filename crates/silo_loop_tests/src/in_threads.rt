@@ -1,7 +1,9 @@
 //! The loops of a silo in threads, with nothing to do.
 use crate::fresh::{Asked, History};
+use crate::meetings::LOOKS;
 use crate::silo::Silo;
 use crate::tally::Tally;
+use crossbeam_utils::Backoff;
 use shared_partition::{DirectoryHistory, QueueHistory};
 use silo_loops::{AgentLoop, Doorbell, WorkerLoop};
 use std::alloc::Global;
@@ -33,8 +35,7 @@ impl<H: QueueHistory + Send> Runs for AgentLoop<Tally, H> {
     }
 }
 
-impl<H: QueueHistory + Send, D: DirectoryHistory + Send> Runs
-    for WorkerLoop<Tally, H, D> {
+impl<H: QueueHistory + Send, D: DirectoryHistory + Send> Runs for WorkerLoop<Tally, H, D> {
     fn go<R: Wait>(self, rt: &R, alloc: Global, stop: &AtomicBool) -> WorkerLoop<Tally, H, D> {
         self.run(rt, alloc, stop)
     }
@@ -45,12 +46,13 @@ impl<H: QueueHistory + Send, D: DirectoryHistory + Send> Runs
 }
 
 // Waits until there were so many calls, or the loop has ended, and looks away for a while. No further call was made.
-fn watch<R: Wait + Abort>(rt: &R, gate: &Tally, doorbell: &Doorbell, calls: u64) {
-    for _ in rt.forever() {
+fn watch<R: Abort>(rt: &R, gate: &Tally, doorbell: &Doorbell, calls: u64) {
+    let backoff = Backoff::new();
+    for _ in 0..LOOKS {
         if gate.calls().0 >= calls || doorbell.has_ended() {
             break;
         }
-        thread::yield_now();
+        backoff.snooze();
     }
     for _ in 0..100_000 {
         thread::yield_now();
@@ -96,11 +98,10 @@ fn waits<L: Runs, R: Threads + Wait + Abort + Sync>(
 }
 
 // The agent pulls and asks for a due subscription, and the worker asks for a ready grain.
-fn both_wait<
-    H: QueueHistory + Send,
-    D: DirectoryHistory + Send,
-    R: Threads + Wait + Abort + Sync,
->(rt: &R, alloc: Global) {
+fn both_wait<H: QueueHistory + Send, D: DirectoryHistory + Send, R: Threads + Wait + Abort + Sync>(
+    rt: &R,
+    alloc: Global,
+) {
     let Silo {
         gate,
         doorbell,

@@ -15,11 +15,15 @@ mod gate;
 #[cfg(test)]
 mod in_threads;
 #[cfg(test)]
+mod meetings;
+#[cfg(test)]
 mod operations;
 #[cfg(test)]
 mod passes;
 #[cfg(test)]
 mod refusals;
+#[cfg(test)]
+mod replies;
 #[cfg(test)]
 mod rows;
 #[cfg(test)]
@@ -30,6 +34,8 @@ mod seven;
 mod shared;
 #[cfg(test)]
 mod silo;
+#[cfg(test)]
+mod taken;
 #[cfg(test)]
 mod tally;
 #[cfg(test)]

@@ -2,7 +2,10 @@
 use std::alloc::{AllocError, Global};
 use std::process::Abort;
 use step_core::{Op, Reply, Start};
-use stream_ident::{Batch, GrainId, Payload, StreamId, SubName, Token};
+use stream_ident::{Batch, Event, GrainId, Payload, Row, StreamId, SubName, Token};
+
+/// The first token.
+pub const FIRST: Token = Token { seq: 0, idx: 0 };
 
 // The first subscription.
 const SUB: SubName = SubName::Explicit(1);
@@ -14,6 +17,8 @@ pub enum Call {
     Rule,
     /// A grain subscribes to a stream, from the next event on: the stream and the grain.
     Subscribe(u8, u8),
+    /// It does so from the first event on.
+    SubscribeFromFirst(u8, u8),
     /// An explicit subscription ends.
     Unsubscribe(u32),
     /// A batch of one event goes to the stream.
@@ -43,20 +48,24 @@ fn grain(rt: &impl Abort, key: u8) -> GrainId {
     GrainId::new(b"g", &[key]).expect(rt, "a grain")
 }
 
+fn payload(rt: &impl Abort) -> Payload {
+    Payload::new(b"a").expect(rt, "a payload")
+}
+
 fn publish(rt: &impl Abort, alloc: Global, key: u8) -> Result<Op, AllocError> {
     let mut payloads = Vec::with_capacity(alloc, 1)?;
-    payloads.push_reserved(Payload::new(b"a").expect(rt, "a payload"));
+    payloads.push_reserved(payload(rt));
     Ok(Op::Publish {
         stream: stream(rt, key),
         payloads: Batch::of(payloads),
     })
 }
 
-fn subscribe(rt: &impl Abort, from: u8, to: u8) -> Op {
+fn subscribe(rt: &impl Abort, from: u8, to: u8, start: Start) -> Op {
     Op::Subscribe {
         stream: stream(rt, from),
         grain: grain(rt, to),
-        start: Start::Latest,
+        start,
     }
 }
 
@@ -72,7 +81,8 @@ pub fn operation(rt: &impl Abort, alloc: Global, call: Call) -> Result<Op, Alloc
     let generation = 0;
     Ok(match call {
         Call::Rule => add_rule(rt),
-        Call::Subscribe(from, to) => subscribe(rt, from, to),
+        Call::Subscribe(from, to) => subscribe(rt, from, to, Start::Latest),
+        Call::SubscribeFromFirst(from, to) => subscribe(rt, from, to, Start::At(FIRST)),
         Call::Unsubscribe(number) => Op::Unsubscribe {
             sub: SubName::Explicit(number),
         },
@@ -108,10 +118,20 @@ pub fn operation(rt: &impl Abort, alloc: Global, call: Call) -> Result<Op, Alloc
     })
 }
 
-/// What a producer is told, or who moves a queue.
+/// What is told.
 #[derive(Clone, Copy)]
 pub enum Told {
     Subscribed(u32),
+    /// The number of the batch.
+    Published(u64),
+    /// The first event was pulled.
+    PulledFirst,
+    /// The first event was delivered.
+    DeliveredFirst,
+    /// The first turn of the first activation has the first event, of the stream with this key.
+    TurnOfFirst(u8),
+    /// The first event was handled.
+    CommittedFirst,
     /// How many events were handled.
     Unsubscribed(usize),
     Closed,
@@ -123,17 +143,45 @@ pub enum Told {
     IsQuiet,
 }
 
+// The first turn, which has the first event.
+fn first_turn(rt: &impl Abort, key: u8) -> Reply {
+    let event = Event {
+        stream: stream(rt, key),
+        token: FIRST,
+        payload: payload(rt),
+    };
+    Reply::Turn {
+        sub: SUB,
+        activation: 1,
+        turn: 1,
+        events: Row::of(event),
+        note: 0,
+    }
+}
+
 /// The reply that tells it.
-pub fn reply(told: Told) -> Reply {
+pub fn reply(rt: &impl Abort, told: Told) -> Reply {
     match told {
         Told::Subscribed(number) => Reply::Subscribed { number },
+        Told::Published(seq) => Reply::Published { seq },
+        Told::PulledFirst => Reply::Pulled {
+            count: 1,
+            low: FIRST,
+            high: Token { seq: 1, idx: 0 },
+        },
+        Told::DeliveredFirst => Reply::Delivered { token: FIRST },
+        Told::TurnOfFirst(key) => first_turn(rt, key),
+        Told::CommittedFirst => Reply::Committed {
+            sub: SUB,
+            token: FIRST,
+        },
         Told::Unsubscribed(handled) => Reply::Unsubscribed { handled },
         Told::Closed => Reply::Closed,
         Told::RuleAdded(from) => Reply::RuleAdded { from },
         Told::Deactivated(lost) => Reply::Deactivated { lost },
         Told::Moved(generation) => Reply::Moved {
             generation,
-            low: Token { seq: 0, idx: 0 },
+            low: FIRST,
         },
         Told::IsQuiet => Reply::IsQuiet,
     }

@@ -1,21 +1,17 @@
 //! Calls of a shared partition of which one allocation is refused, at a history that takes memory.
 use crate::fresh::{History, caller_of, line};
-use crate::operations::{Call, operation};
+use crate::operations::{Call, FIRST, operation};
 use cluster_callers::QueueCaller;
 use shared_partition::{Counting, QueueHistory};
 use silo_loops::Doorbell;
 use std::alloc::{AllocError, Global};
 use std::process::Abort;
 use std::sync::{Arc, Wait};
-use stream_ident::Token;
 use turnstile::Refusal;
 
 const STREAM: u8 = b'k';
 
 const GRAIN: u8 = b'x';
-
-// The first token.
-const FIRST: Token = Token { seq: 0, idx: 0 };
 
 // Four events, of which the subscription handles three before it ends. So little is asked that each table has its first
 // growth in these calls: that of the history, of the log, of the rows of subscriptions, of what is handled, of mailboxes
@@ -44,9 +40,7 @@ static CALLS: [Call; 20] = [
 ];
 
 // A caller of an empty queue.
-fn opened<H: QueueHistory>(
-    alloc: Global,
-) -> Result<QueueCaller<Counting, H>, AllocError> {
+fn opened<H: QueueHistory>(alloc: Global) -> Result<QueueCaller<Counting, H>, AllocError> {
     let gate = Arc::new(alloc, Counting)?;
     Ok(caller_of(line(alloc, gate, 0, 100)?))
 }

@@ -1,17 +1,18 @@
 //! The loops of a silo in threads, with events to handle.
 use crate::fresh::{Asked, History};
 use crate::in_threads::Runs;
+use crate::meetings::LOOKS;
 use crate::seven::{are_quiet, begun, publish_each};
 use crate::silo::{Silo, two_workers};
 use crate::tally::Tally;
 use cluster_callers::Caller;
+use crossbeam_utils::Backoff;
 use shared_partition::{DirectoryHistory, QueueHistory};
 use silo_loops::Doorbell;
 use std::alloc::Global;
 use std::process::Abort;
 use std::sync::Wait;
 use std::sync::atomic::{AtomicBool, Ordering};
-use std::thread;
 use std::thread::{Threads, join};
 
 // How many events of each stream are there before the loops run, and how many come beside them.
@@ -21,9 +22,6 @@ const BESIDE: u64 = 300;
 
 // How many there are in all.
 const EVENTS: u64 = 7 * (BEFORE + BESIDE);
-
-// Looks so often at most whether all is handled.
-const LOOKS: u32 = 10_000_000;
 
 // A producer beside the loops.
 trait Produces: Send + Drop {
@@ -52,12 +50,13 @@ fn wait<P: Produces, R: Wait + Abort>(
     doorbell: &Doorbell,
     producer: &mut P,
 ) {
+    let backoff = Backoff::new();
     for _ in 0..LOOKS {
         let (handled, _, _) = gate.work();
         if doorbell.has_ended() || (handled >= EVENTS && producer.is_quiet(rt, alloc)) {
             return;
         }
-        thread::yield_now();
+        backoff.snooze();
     }
 }
 
@@ -116,11 +115,10 @@ fn go_all<A: Runs, B: Runs, P: Produces, R: Threads + Wait + Abort + Sync>(
 
 // Each event is handled once and in order. The agent has delivered several events to each grain of a queue before its
 // turn there ended, so there are turns of several events.
-fn all_run<
-    H: QueueHistory + Send,
-    D: DirectoryHistory + Send,
-    R: Threads + Wait + Abort + Sync,
->(rt: &R, alloc: Global) {
+fn all_run<H: QueueHistory + Send, D: DirectoryHistory + Send, R: Threads + Wait + Abort + Sync>(
+    rt: &R,
+    alloc: Global,
+) {
     let Silo {
         gate,
         doorbell,

@@ -52,11 +52,12 @@ pub fn are_quiet<H: QueueHistory, R: Wait + Abort>(
 }
 
 /// A silo over the queues, before its loops have done anything. So many events were published to each stream.
-pub fn begun<
-    H: QueueHistory,
-    D: DirectoryHistory,
-    R: Wait + Abort,
->(rt: &R, alloc: Global, gate: Tally, count: u64) -> Silo<Tally, H, D> {
+pub fn begun<H: QueueHistory, D: DirectoryHistory, R: Wait + Abort>(
+    rt: &R,
+    alloc: Global,
+    gate: Tally,
+    count: u64,
+) -> Silo<Tally, H, D> {
     let mut silo = Silo::<Tally, H, D>::new(rt, alloc, gate, QUEUES, 1_000_000, 1_000_000);
     for queue in 0..QUEUES {
         let reply = ask(rt, alloc, &mut silo.producer, queue, Call::Rule);

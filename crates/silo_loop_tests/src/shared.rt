@@ -90,10 +90,7 @@ fn in_two_threads<C: Asks, R: Threads + Wait + Abort + Sync>(
 }
 
 // Two threads call a queue at once. Each call has entered the gate once, and no two were inside at once.
-fn check<H: QueueHistory + Send, R: Threads + Wait + Abort + Sync>(
-    rt: &R,
-    alloc: Global,
-) {
+fn check<H: QueueHistory + Send, R: Threads + Wait + Abort + Sync>(rt: &R, alloc: Global) {
     let calls = AtomicU64::new(0);
     let gate = Arc::new(alloc, Entered { calls }).expect(rt, "memory");
     let shared = Arc::try_clone(&gate).expect(rt, "memory");

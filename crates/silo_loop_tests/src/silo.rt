@@ -24,11 +24,7 @@ pub enum Loop {
 
 /// Queues with a producer, and the loops of a silo over them: an agent and a worker.
 #[derive(Drop)]
-pub struct Silo<
-    G: Gate,
-    H: QueueHistory,
-    D: DirectoryHistory,
-> {
+pub struct Silo<G: Gate, H: QueueHistory, D: DirectoryHistory> {
     pub gate: Arc<G, Global>,
     pub doorbell: Arc<Doorbell, Global>,
     pub assigned: Arc<Assigned, Global>,
@@ -117,12 +113,7 @@ fn new_agent<G: Gate, H: QueueHistory, R: Abort>(
     }
 }
 
-fn new_worker<
-    G: Gate,
-    H: QueueHistory,
-    D: DirectoryHistory,
-    R: Abort,
->(
+fn new_worker<G: Gate, H: QueueHistory, D: DirectoryHistory, R: Abort>(
     rt: &R,
     alloc: Global,
     gate: &Arc<G, Global>,
@@ -139,12 +130,7 @@ fn new_worker<
 }
 
 /// A worker, and another one beside it, with passes of its own.
-pub fn two_workers<
-    G: Gate,
-    H: QueueHistory,
-    D: DirectoryHistory,
-    R: Abort,
->(
+pub fn two_workers<G: Gate, H: QueueHistory, D: DirectoryHistory, R: Abort>(
     rt: &R,
     alloc: Global,
     gate: &Arc<G, Global>,
@@ -189,11 +175,7 @@ pub fn publish<G: Gate, H: QueueHistory, R: Wait + Abort>(
     }
 }
 
-impl<G: Gate, H: QueueHistory, D: DirectoryHistory> Silo<
-    G,
-    H,
-    D,
-> {
+impl<G: Gate, H: QueueHistory, D: DirectoryHistory> Silo<G, H, D> {
     /// So many empty queues, each of which the agent has, whose histories may have so many calls each and whose loops
     /// may begin so many rounds each. The doorbell's count is about to wrap.
     pub fn new<R: Abort>(
@@ -255,12 +237,19 @@ impl<G: Gate, H: QueueHistory, D: DirectoryHistory> Silo<
         panic!(rt; "a loop is idle at some time");
     }
 
-    /// Steps of both loops, until neither finds anything to do.
+    // Steps of each loop, until it is idle.
+    fn rest_both<R: Wait + Abort>(&mut self, rt: &R, alloc: Global) {
+        self.rest(rt, alloc, Loop::Agent);
+        self.rest(rt, alloc, Loop::Worker);
+    }
+
+    /// Steps of both loops, until neither finds anything to do. Each ends the round in which it is first, since that may
+    /// have passed a queue at which there is more by now.
     pub fn settle<R: Wait + Abort>(&mut self, rt: &R, alloc: Global) {
+        self.rest_both(rt, alloc);
         for _ in 0..10_000 {
             let seen = self.rung(rt);
-            self.rest(rt, alloc, Loop::Agent);
-            self.rest(rt, alloc, Loop::Worker);
+            self.rest_both(rt, alloc);
             if self.rung(rt) == seen {
                 return;
             }

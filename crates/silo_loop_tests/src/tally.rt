@@ -1,11 +1,8 @@
 //! A gate over two queues that counts.
+use crate::meetings::Meetings;
 use shared_partition::Gate;
 use std::sync::atomic::{AtomicU64, Ordering};
-use std::thread;
 use stream_ident::{Event, GrainId, SubName, Token};
-
-// Looks so often at most whether a call was made beside it.
-const LOOKS: u32 = 10_000_000;
 
 /// Counts the calls of two queues, the events that were handled, the commits that it was told of, and the events that came
 /// out of order or for another grain. Where it is made so, its handler and `done` each wait until another thread has
@@ -21,9 +18,7 @@ pub struct Tally {
     done: AtomicU64,
     astray: AtomicU64,
     waits: bool,
-    asked: AtomicU64,
-    answered: AtomicU64,
-    missed: AtomicU64,
+    pub meetings: Meetings,
 }
 
 impl Tally {
@@ -36,9 +31,7 @@ impl Tally {
             done: AtomicU64::new(0),
             astray: AtomicU64::new(0),
             waits,
-            asked: AtomicU64::new(0),
-            answered: AtomicU64::new(0),
-            missed: AtomicU64::new(0),
+            meetings: Meetings::new(),
         }
     }
 
@@ -59,34 +52,11 @@ impl Tally {
         )
     }
 
-    /// Whether it waits for calls beside it.
-    pub fn is_asking(&self) -> bool {
-        self.asked.load(Ordering::SeqCst) > self.answered.load(Ordering::SeqCst)
-    }
-
-    /// Those calls were made.
-    pub fn answer(&self) {
-        self.answered.fetch_add(1, Ordering::SeqCst);
-    }
-
-    /// Whether it has waited in vain.
-    pub fn has_missed(&self) -> bool {
-        self.missed.load(Ordering::SeqCst) > 0
-    }
-
-    // Waits until another thread has called both queues. Once it has waited in vain it doesn't any more.
+    // Waits until another thread has called both queues.
     fn wait_for_calls(&self) {
-        if !self.waits || self.has_missed() {
-            return;
+        if self.waits {
+            self.meetings.ask();
         }
-        self.asked.fetch_add(1, Ordering::SeqCst);
-        for _ in 0..LOOKS {
-            if !self.is_asking() {
-                return;
-            }
-            thread::yield_now();
-        }
-        self.missed.fetch_add(1, Ordering::SeqCst);
     }
 }
 

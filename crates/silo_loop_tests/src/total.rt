@@ -69,9 +69,9 @@ pub enum By {
     Second,
 }
 
-/// A call: whose it is, how much is added, for how many more there has to be room, and the answer, which is the sum or
-/// why the call was refused.
-pub type Row = (By, u64, usize, Result<u64, Refusal>);
+/// A call: how much is added, for how many more there has to be room, and the answer, which is the sum or why the call
+/// was refused.
+pub type Call = (u64, usize, Result<u64, Refusal>);
 
 /// More room than there ever is.
 pub const EVERYTHING: usize = usize::MAX;
@@ -96,20 +96,59 @@ fn is_told<R: Wait, H: StoredHistory<Addition, u64>>(
     alloc: Global,
     turnstile: &Turnstile<Total<H>>,
     pass: &mut PassOf<Total<H>>,
-    row: &Row,
+    call: &Call,
 ) -> bool
     requires { IsOf turnstile.now pass.old }
     ensures { IsOf turnstile.now pass.new }
 {
     let op = Addition {
-        amount: row.1,
-        room: row.2,
+        amount: call.0,
+        room: call.1,
     };
     let answer = turnstile.call(rt, alloc, pass, op);
-    if answer == row.3 || answer != Err(Refusal::Memory) {
-        return answer == row.3;
+    if answer == call.2 || answer != Err(Refusal::Memory) {
+        return answer == call.2;
     }
-    turnstile.call(rt, alloc, pass, op) == row.3
+    turnstile.call(rt, alloc, pass, op) == call.2
+}
+
+// Makes the calls of one pass. Each of them has to be answered as it says.
+fn call_alone<R: Wait + Abort, H: StoredHistory<Addition, u64>>(
+    rt: &R,
+    alloc: Global,
+    turnstile: &Turnstile<Total<H>>,
+    pass: &mut PassOf<Total<H>>,
+    calls: &[Call],
+)
+    requires { IsOf turnstile.now pass.old }
+    ensures { IsOf turnstile.now pass.new }
+{
+    for (at, call) in calls.iter().enumerate() {
+        assert_at(rt, at, is_told(rt, alloc, turnstile, pass, call));
+    }
+}
+
+// Makes the calls of two passes. Each of them has to be answered as it says.
+fn call_both<R: Wait + Abort, H: StoredHistory<Addition, u64>>(
+    rt: &R,
+    alloc: Global,
+    turnstile: &Turnstile<Total<H>>,
+    first: &mut PassOf<Total<H>>,
+    second: &mut PassOf<Total<H>>,
+    calls: &[(By, Call)],
+)
+    requires first { IsOf turnstile.now first.old }
+    requires second { IsOf turnstile.now second.old }
+    ensures first { IsOf turnstile.now first.new }
+    ensures second { IsOf turnstile.now second.new }
+{
+    for (at, (by, call)) in calls.iter().enumerate() {
+        let is_so = match by {
+            By::First => is_told(rt, alloc, turnstile, first, call),
+            By::Second => is_told(rt, alloc, turnstile, second, call),
+        };
+        assert_at(rt, at, is_so);
+    }
 }
 
 // The trace of a turnstile with two passes, of which the first isn't enough to close it.
@@ -133,24 +172,34 @@ fn ended<R: Abort, H: StoredHistory<Addition, u64>>(
     finished(rt, back.turnstile, passes)
 }
 
-/// The trace of a turnstile whose history has so many entries at most, after these calls of two passes. Each of them
-/// has to be answered as its row says.
+/// What is asked of a turnstile, and what it comes to.
+pub struct Case {
+    /// How many entries the history may have.
+    pub entries: u64,
+    /// The calls of the first pass, before another one is split off it.
+    pub before: &'static [Call],
+    /// The calls of both. Where there are none, there is one pass alone.
+    pub calls: &'static [(By, Call)],
+    /// The number of the pass, the amount and the reply of each entry.
+    pub history: &'static [(u64, u64, u64)],
+    /// The total at the end.
+    pub sum: u64,
+}
+
+/// The trace of a turnstile after the calls of a case.
 pub fn played<R: Wait + Abort, H: StoredHistory<Addition, u64>>(
     rt: &R,
     alloc: Global,
-    entries: u64,
-    rows: &[Row],
+    case: &Case,
 ) -> Traced<Total<H>>
     ensures { IsLegal (λ s op. (s + op.amount) % 2 ^ 64) (λ s op. (s + op.amount) % 2 ^ 64) 0 (H.entries result.history) }
 {
-    let (turnstile, mut first) = opened::<R, H>(rt, alloc, entries);
-    let mut second = turnstile.split(&mut first).expect(rt, "a pass");
-    for (at, row) in rows.iter().enumerate() {
-        let is_so = match row.0 {
-            By::First => is_told(rt, alloc, &turnstile, &mut first, row),
-            By::Second => is_told(rt, alloc, &turnstile, &mut second, row),
-        };
-        assert_at(rt, at, is_so);
+    let (turnstile, mut first) = opened::<R, H>(rt, alloc, case.entries);
+    call_alone(rt, alloc, &turnstile, &mut first, case.before);
+    if case.calls.is_empty() {
+        return finished(rt, turnstile, alone(rt, alloc, first));
     }
+    let mut second = turnstile.split(&mut first).expect(rt, "a pass");
+    call_both(rt, alloc, &turnstile, &mut first, &mut second, case.calls);
     ended(rt, alloc, turnstile, first, second)
 }

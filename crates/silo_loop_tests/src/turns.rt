@@ -4,7 +4,7 @@ ghost use Rattle.turnstile.specs.Calls.{IsOf};
 
 use crate::passes::{finished, push};
 use crate::rows::assert_at;
-use crate::total::{Addition, By, EVERYTHING, Row, Total, opened, played};
+use crate::total::{Addition, By, Call, Case, EVERYTHING, Total, opened, played};
 use std::alloc::Global;
 use std::process::Abort;
 use std::sync::Wait;
@@ -17,42 +17,91 @@ type Unanswered = AskedHistory<Addition, u64>;
 
 // The calls of two passes at a history of five entries: two that want more memory than there is, and two at a full
 // history.
-static CALLS: [Row; 9] = [
-    (By::First, 1, EVERYTHING, Err(Refusal::Memory)),
-    (By::First, 5, 1, Ok(5)),
-    (By::Second, 2, 1, Ok(7)),
-    (By::Second, 1, EVERYTHING, Err(Refusal::Memory)),
-    (By::First, 1, 0, Ok(8)),
-    (By::First, 4, 1, Ok(12)),
-    (By::Second, 3, 1, Ok(15)),
-    (By::Second, 1, EVERYTHING, Err(Refusal::HistoryFull)),
-    (By::First, 1, 0, Err(Refusal::HistoryFull)),
+const CALLS: [(By, Call); 9] = [
+    (By::First, (1, EVERYTHING, Err(Refusal::Memory))),
+    (By::First, (5, 1, Ok(5))),
+    (By::Second, (2, 1, Ok(7))),
+    (By::Second, (1, EVERYTHING, Err(Refusal::Memory))),
+    (By::First, (1, 0, Ok(8))),
+    (By::First, (4, 1, Ok(12))),
+    (By::Second, (3, 1, Ok(15))),
+    (By::Second, (1, EVERYTHING, Err(Refusal::HistoryFull))),
+    (By::First, (1, 0, Err(Refusal::HistoryFull))),
 ];
 
-// The number, the amount and the reply of each entry.
-static ENTRIES: [(u64, u64, u64); 5] = [(0, 5, 5), (1, 2, 7), (0, 1, 8), (0, 4, 12), (1, 3, 15)];
+// What both passes ask where the history may have two entries and the first one was made before the second pass was.
+const LAST_OF_TWO: [(By, Call); 3] = [
+    (By::Second, (2, 0, Ok(7))),
+    (By::First, (1, 0, Err(Refusal::HistoryFull))),
+    (By::Second, (1, 0, Err(Refusal::HistoryFull))),
+];
+
+static CASES: [Case; 3] = [
+    Case {
+        entries: 5,
+        before: &[],
+        calls: &CALLS,
+        history: &[(0, 5, 5), (1, 2, 7), (0, 1, 8), (0, 4, 12), (1, 3, 15)],
+        sum: 15,
+    },
+    Case {
+        entries: 2,
+        before: &[(5, 0, Ok(5))],
+        calls: &LAST_OF_TWO,
+        history: &[(0, 5, 5), (1, 2, 7)],
+        sum: 7,
+    },
+    Case {
+        entries: 1,
+        before: &[(5, 0, Ok(5)), (1, 0, Err(Refusal::HistoryFull))],
+        calls: &[],
+        history: &[(0, 5, 5)],
+        sum: 5,
+    },
+];
+
+// Whether a history has these entries.
+fn has_entries(history: &[Entry<Addition, u64>], wanted: &[(u64, u64, u64)]) -> bool {
+    for (entry, wanted) in history.iter().zip(wanted) {
+        if (entry.number, entry.op.amount, entry.reply) != *wanted {
+            return false;
+        }
+    }
+    history.len() == wanted.len()
+}
 
 // Run it with each allocation failing in turn.
 #[test]
 fn calls_in_their_order(rt: HostRuntime) {
-    let done = played::<HostRuntime, Stored>(&rt, rt.alloc(), 5, &CALLS);
-    assert!(rt; done.object.sum == 15 && done.history.len() == ENTRIES.len());
-    for (at, (entry, wanted)) in done.history.as_slice().iter().zip(&ENTRIES).enumerate() {
-        let is_so = entry.number == wanted.0 && entry.op.amount == wanted.1;
-        assert_at(&rt, at, is_so && entry.reply == wanted.2);
+    for (at, case) in CASES.iter().enumerate() {
+        let done = played::<HostRuntime, Stored>(&rt, rt.alloc(), case);
+        let is_so = has_entries(done.history.as_slice(), case.history);
+        assert_at(&rt, at, is_so && done.object.sum == case.sum);
     }
+}
+
+// Whether these are the replies of a history.
+fn are_replies(replies: &[u64], history: &[(u64, u64, u64)]) -> bool {
+    for (reply, entry) in replies.iter().zip(history) {
+        if *reply != entry.2 {
+            return false;
+        }
+    }
+    replies.len() == history.len()
 }
 
 // A history stores what was asked, and a fresh object gives again what the passes were told.
 #[test]
 fn a_fresh_object_gives_the_replies_again(rt: HostRuntime) {
-    let done = played::<HostRuntime, Unanswered>(&rt, rt.alloc(), 5, &CALLS);
-    let mut fresh = Total::<Unanswered>::new();
-    let replies = done
-        .history
-        .replay(rt.alloc(), &mut fresh, &mut ())
-        .expect(&rt, "memory");
-    assert!(rt; replies.as_slice() == [5, 7, 8, 12, 15].as_slice());
+    for (at, case) in CASES.iter().enumerate() {
+        let done = played::<HostRuntime, Unanswered>(&rt, rt.alloc(), case);
+        let mut fresh = Total::<Unanswered>::new();
+        let replies = done
+            .history
+            .replay(rt.alloc(), &mut fresh, &mut ())
+            .expect(&rt, "memory");
+        assert_at(&rt, at, are_replies(replies.as_slice(), case.history));
+    }
 }
 
 // How many passes add, each in a thread of its own.

@@ -1,16 +1,18 @@
 //! Visits of loops, by hand.
 use crate::fresh::{Asked, History};
-use crate::seven::{are_quiet, begun};
-use crate::silo::{Loop, Silo};
+use crate::meetings::LOOKS;
+use crate::operations::Call;
+use crate::seven::{QUEUES, begun};
+use crate::silo::{Loop, Silo, ask};
 use crate::tally::Tally;
 use cluster_callers::Caller;
+use crossbeam_utils::Backoff;
 use shared_partition::{DirectoryHistory, QueueHistory};
 use silo_loops::{Advance, AgentLoop, WorkerLoop};
 use std::alloc::Global;
 use std::process::Abort;
 use std::sync::Wait;
 use std::sync::atomic::{AtomicBool, Ordering};
-use std::thread;
 use std::thread::{Threads, join};
 
 // More visits than a loop makes until it is idle.
@@ -52,39 +54,32 @@ fn most_calls<H: QueueHistory, R: Wait + Abort>(
 }
 
 // The four streams of the first queue have more events than the agent delivers in one visit.
-fn visit_as_agent<
-    H: QueueHistory,
-    D: DirectoryHistory,
-    R: Wait + Abort,
->(rt: &R, alloc: Global) {
+fn visit_as_agent<H: QueueHistory, D: DirectoryHistory, R: Wait + Abort>(rt: &R, alloc: Global) {
     let mut silo = begun::<H, D, R>(rt, alloc, Tally::new(false), 10);
     assert!(rt; most_calls(rt, alloc, &silo.gate, &mut silo.agent) == 64);
 }
 
-// A worker.
-trait Visits: Send + Drop {
-    // Whether a visit does something.
+/// A loop of a silo.
+pub trait Visits: Send + Drop {
+    /// Whether a visit does something.
     fn does<R: Wait>(&mut self, rt: &R, alloc: Global) -> bool;
 }
 
-impl<
-    H: QueueHistory + Send,
-    D: DirectoryHistory + Send,
-> Visits for WorkerLoop<Tally, H, D> {
+impl<H: QueueHistory + Send, D: DirectoryHistory + Send> Visits for WorkerLoop<Tally, H, D> {
     fn does<R: Wait>(&mut self, rt: &R, alloc: Global) -> bool {
         self.visit(rt, alloc) == Advance::Did
     }
 }
 
-// A caller of both queues.
-trait Asks: Send + Drop {
-    // Makes a call at each of them.
-    fn ask_each<R: Wait + Abort>(&mut self, rt: &R, alloc: Global);
+/// A caller of queues.
+pub trait Asks: Send + Drop {
+    /// Makes a call at a queue.
+    fn ask_at<R: Wait + Abort>(&mut self, rt: &R, alloc: Global, queue: usize);
 }
 
 impl<H: QueueHistory + Send> Asks for Caller<Tally, H> {
-    fn ask_each<R: Wait + Abort>(&mut self, rt: &R, alloc: Global) {
-        let _are_quiet = are_quiet(rt, alloc, self);
+    fn ask_at<R: Wait + Abort>(&mut self, rt: &R, alloc: Global, queue: usize) {
+        let _reply = ask(rt, alloc, self, queue, Call::Quiet);
     }
 }
 
@@ -106,14 +101,17 @@ fn call_beside<A: Asks, R: Wait + Abort>(
     mut asks: A,
     over: &AtomicBool,
 ) {
-    for _ in rt.forever() {
-        if gate.is_asking() {
-            asks.ask_each(rt, alloc);
-            gate.answer();
+    let backoff = Backoff::new();
+    for _ in 0..LOOKS {
+        if gate.meetings.is_asking() {
+            for queue in 0..QUEUES {
+                asks.ask_at(rt, alloc, queue);
+            }
+            gate.meetings.answer();
         } else if over.load(Ordering::SeqCst) {
             break;
         }
-        thread::yield_now();
+        backoff.snooze();
     }
 }
 
@@ -150,7 +148,7 @@ fn visit_as_worker<
         worker,
     } = silo;
     visit_beside(rt, alloc, &gate, worker, producer);
-    assert!(rt; !gate.has_missed());
+    assert!(rt; !gate.meetings.has_missed());
     assert!(rt; gate.work() == (21, 7, 0));
 }
 
