@@ -34,8 +34,9 @@ abbrev pub told_of : List (Entry Op Reply) → List told.Entry
 told_of entries = map (λ e. record { op = e.op; reply = e.reply }) entries
 
 -- The headline. In these calls each subscription has handled a prefix of what it is owed: in the order of the
--- queue, without a gap, nothing twice and nothing after its unsubscribe. A start token is refused exactly where
--- it is below the low token that was told last.
+-- queue, without a gap, nothing twice and nothing after its unsubscribe. A commit has the number of exactly one
+-- turn before it, and no number is committed twice. A start token is refused exactly where it is below the low token
+-- that was told last.
 abbrev pub TellsOneHistory : List (Entry Op Reply) → Type 0
 TellsOneHistory entries = IsOneHistory (told_of entries)
 

@@ -267,8 +267,8 @@ FrontsAreLegal =
     → (p : PlainPartition) × Stands blocks limits before p × Leads p later q
 
 -- What a history promises: each subscription handles what it is owed in order and no event twice, and
--- nothing after its unsubscribe; each commit ends the one turn of its number, and no turn is committed twice; and a
--- start token is refused exactly where it is below the low token.
+-- nothing after its unsubscribe; each commit has the number of exactly one turn before it, and no number is committed
+-- twice; and a start token is refused exactly where it is below the low token.
 pub record IsOneHistory (history : List Entry) : Type 0 where
   pub in_order : (s : SubName) → IsPrefixOf (handled_events history s) (owed_events history s)
   pub once : (s : SubName) → TokensRiseAlong (owed_events history s)

@@ -9,8 +9,8 @@ ghost use Rattle.stream_laws.specs.DrainLaws.{DrainEnds, DrainStands, DrainedIsQ
 ghost use Rattle.stream_laws.specs.Laws.{CacheInBounds, CommitsBegun, CommittedOnce, DropsAreLeast, FrontsAreLegal, HandledInOrder, HistoriesGrow, LatestIsNeverMissed, LimitsAreKept, LogIsPublished, MissesBelowLow, NamesDiffer, NoneAfterClose, NoneTwice, NumbersAreNew, OneHistory, OneTurnAtATime, OwedIsKept, PurgesAreLeast, QuietIsDone, QuietOwesNoOther, RecordsAgree, RecordsAreOpen, TokensRise, TurnsAreLongest, TurnsInOrder, UnknownHasNoRecord};
 
 /// What every legal history promises, in one: each subscription handles what it is owed in order, no event
-/// twice and none after its unsubscribe, each commit ends the one turn of its number, no turn is committed twice, and a
-/// start token is refused exactly where it is below the low token.
+/// twice and none after its unsubscribe, each commit has the number of exactly one turn before it, no number is committed
+/// twice, and a start token is refused exactly where it is below the low token.
 pub fn one_history()
     ensures { OneHistory }
 {}

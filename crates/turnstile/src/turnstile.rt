@@ -116,7 +116,6 @@ impl<T: Replays> Turnstile<T> {
     }
 
     // Does an op on what is held, and adds its entry.
-    #[inline(never)]
     fn apply(
         alloc: Global,
         held: &mut Held<T, T::History>,
@@ -135,17 +134,20 @@ impl<T: Replays> Turnstile<T> {
         if held.history.reserve().is_err() {
             return Err(Refusal::Memory);
         }
-        match held.object.apply(alloc, &op, room) {
+        let answer = held.object.apply(alloc, &op, room);
+        match &answer {
+            Ok(reply) => held.history.push(number, op, reply),
+            Err(_) => drop(op),
+        }
+        match answer {
+            Ok(reply) => Ok(reply),
             Err(_) => Err(Refusal::Memory),
-            Ok(reply) => {
-                held.history.push(number, op, &reply);
-                Ok(reply)
-            }
         }
     }
 
     /// Waits for its turn, and keeps it until [`leave`](Turnstile::leave). The pass has then seen the whole
     /// history: others may have made calls before the turn came, and make none while it lasts.
+    #[inline(never)]
     pub fn enter<R: Wait>(&self, rt: &R, pass: &mut PassOf<T>) -> Turn<T>
         requires { IsOf self.now pass.old }
         ensures pass { HasEntered self.now pass.old pass.new }
@@ -190,6 +192,7 @@ impl<T: Replays> Turnstile<T> {
     }
 
     /// Gives the turn up.
+    #[inline(never)]
     pub fn leave(&self, pass: &mut PassOf<T>, turn: Turn<T>)
         requires { IsTurn T.replied T.after self.now pass.old turn }
         ensures { pass.new ≡ outside self.now pass.old }
@@ -205,6 +208,7 @@ impl<T: Replays> Turnstile<T> {
     /// `HistoryFull` where the history has as many entries as it may have, and `Memory` where the call failed
     /// to allocate. No entry is added, the object is as before, and the pass has seen the whole history as it
     /// was found.
+    #[inline(never)]
     pub fn call_into<R: Wait>(
         &self,
         rt: &R,
