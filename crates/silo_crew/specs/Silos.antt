@@ -104,7 +104,7 @@ pub record AreTakenIn (lines : List LineView) (d : DirectoryPass) (s : SiloView)
   pub first_asks : IsOtherIn s.first.directory d
   pub second_asks : IsOtherIn s.second.directory d
 
--- the loops of the silo have made some steps, or none, the workers at one gate
+-- the loops of the silo have made some steps, or none, both workers at a gate that isn't named
 pub record HasRun (s t : SiloView) : Type 0 where
   pub silo : t.silo ≡ s.silo
   pub agent : AgentRuns s.agent t.agent
