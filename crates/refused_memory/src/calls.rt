@@ -7,10 +7,10 @@ use std::alloc::{AllocError, Global};
 use std::fmt::Debug;
 use stream_ident::{BadName, GrainId};
 
-/// An operation on a directory in which four grains are placed on silo 0, `g/a` without its permit.
+/// An operation on a directory in which three grains are placed on silo 0, the first without its permit.
 #[derive(Clone, Copy)]
 pub(crate) enum Placing {
-    /// A fifth grain comes.
+    /// A fourth grain comes, for which there is no room yet.
     Enter,
     /// The permit of the second one is given back.
     Leave,
@@ -75,7 +75,7 @@ pub(crate) fn grain(key: u8) -> Result<GrainId, BadName> {
 fn operation(what: Placing) -> Result<DirectoryOp, BadName> {
     Ok(match what {
         Placing::Enter => DirectoryOp::Enter {
-            grain: grain(b'e')?,
+            grain: grain(b'd')?,
             silo: 0,
         },
         Placing::Leave => DirectoryOp::Leave {
@@ -92,7 +92,7 @@ fn operation(what: Placing) -> Result<DirectoryOp, BadName> {
 /// A directory before an operation.
 fn place_before(alloc: Global, what: Placing, reply: &'static str) -> Result<Place, Stop> {
     let mut directory = Directory::new(alloc, 1000);
-    for key in b"abcd" {
+    for key in b"abc" {
         let grain = grain(*key)?;
         let _reply = directory.step(alloc, DirectoryOp::Enter { grain, silo: 0 })?;
     }

@@ -30,14 +30,15 @@ enum Call {
     Line,
     New,
     Split,
-    /// A call, which is made again where it is refused, or not.
-    Enter(bool),
+    /// A call behind so many others, of which the directory has room for two, and then six, and the history for four.
+    /// Where it is refused it is made again, or the turnstile is closed.
+    Enter(usize, bool),
     Close,
     Sim,
 }
 
 /// All cases.
-pub(crate) static CASES: [Case; 30] = [
+pub(crate) static CASES: [Case; 32] = [
     Case {
         name: "publish",
         takes_memory: true,
@@ -159,7 +160,7 @@ pub(crate) static CASES: [Case; 30] = [
     Case {
         name: "enter",
         takes_memory: true,
-        call: Call::Placing(Placing::Enter, "Entered { permit: 5 }"),
+        call: Call::Placing(Placing::Enter, "Entered { permit: 4 }"),
     },
     Case {
         name: "leave",
@@ -176,7 +177,7 @@ pub(crate) static CASES: [Case; 30] = [
         takes_memory: false,
         call: Call::Placing(
             Placing::Down,
-            "Released { grain: GrainId { kind: g, key: a }, left: 3 }",
+            "Released { grain: GrainId { kind: g, key: a }, left: 2 }",
         ),
     },
     Case {
@@ -200,14 +201,24 @@ pub(crate) static CASES: [Case; 30] = [
         call: Call::Split,
     },
     Case {
-        name: "call",
+        name: "call_by_object",
         takes_memory: true,
-        call: Call::Enter(true),
+        call: Call::Enter(3, true),
     },
     Case {
-        name: "call_and_close",
+        name: "call_by_object_and_close",
         takes_memory: true,
-        call: Call::Enter(false),
+        call: Call::Enter(3, false),
+    },
+    Case {
+        name: "call_by_history",
+        takes_memory: true,
+        call: Call::Enter(4, true),
+    },
+    Case {
+        name: "call_by_history_and_close",
+        takes_memory: true,
+        call: Call::Enter(4, false),
     },
     Case {
         name: "close",
@@ -237,7 +248,7 @@ pub(crate) fn try_case<R: AllocGlobal + Wait>(rt: &R, case: &Case) -> Result<Cam
         Call::Line => try_line(alloc),
         Call::New => try_new(rt, alloc),
         Call::Split => try_split(rt, alloc),
-        Call::Enter(again) => try_enter(rt, alloc, again),
+        Call::Enter(calls, again) => try_enter(rt, alloc, calls, again),
         Call::Close => try_close(rt, alloc),
         Call::Sim => try_sim(alloc),
     }

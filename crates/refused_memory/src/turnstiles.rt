@@ -13,6 +13,9 @@ use turnstile::{Closed, Entry, PassOf, PlainHistory, Refusal, Replays, Traced, T
 /// How the calls are stored.
 type Calls = PlainHistory<DirectoryOp, DirectoryReply>;
 
+/// The keys of grains, in the order in which they enter.
+const KEYS: &[u8; 4] = b"abcd";
+
 /// A turnstile over a directory, and its first pass.
 #[derive(Drop)]
 struct Desk<H: DirectoryHistory> {
@@ -28,10 +31,10 @@ impl<H: DirectoryHistory> Desk<H> {
         Ok(Desk { turnstile, pass })
     }
 
-    /// One at which four grains have entered.
-    fn used<R: Wait>(rt: &R, alloc: Global) -> Result<Desk<H>, Stop> {
+    /// One at which so many grains have entered.
+    fn used<R: Wait>(rt: &R, alloc: Global, calls: usize) -> Result<Desk<H>, Stop> {
         let mut desk = Desk::new(alloc)?;
-        for key in b"abcd" {
+        for key in KEYS.iter().take(calls) {
             desk.enter_key(rt, alloc, *key)?;
         }
         Ok(desk)
@@ -110,16 +113,14 @@ fn enter<H: DirectoryHistory, R: Wait>(
     turnstile.call(rt, alloc, pass, DirectoryOp::Enter { grain, silo: 0 })
 }
 
-/// Stops unless two histories have the same entries, so many, and their directories go on alike.
+/// Stops unless two histories have the same entries, and their directories go on alike.
 fn compare(
     alloc: Global,
     mut one: Traced<SharedDirectory<Calls>>,
     mut twin: Traced<SharedDirectory<Calls>>,
-    entries: usize,
 ) -> Result<(), Stop> {
     check(
-        are_equal(one.history.as_slice(), twin.history.as_slice())
-            && one.history.as_slice().len() == entries,
+        are_equal(one.history.as_slice(), twin.history.as_slice()),
         "the history is another one",
     )?;
     let op = DirectoryOp::Enter {
@@ -166,38 +167,38 @@ fn follow_new<R: Wait>(rt: &R, alloc: Global, mut one: Desk<Calls>) -> Result<()
         one.enter_both(rt, alloc, &mut twin, first)?,
         "a new turnstile answers otherwise",
     )?;
-    close_alike(alloc, one, twin, 1)
+    close_alike(alloc, one, twin)
 }
 
-/// Closes two turnstiles, which have the same history of so many entries.
-fn close_alike(
-    alloc: Global,
-    one: Desk<Calls>,
-    twin: Desk<Calls>,
-    entries: usize,
-) -> Result<(), Stop> {
+/// Closes two turnstiles, which have the same history.
+fn close_alike(alloc: Global, one: Desk<Calls>, twin: Desk<Calls>) -> Result<(), Stop> {
     let one = one.close(alloc)?;
-    compare(alloc, one, twin.close(alloc)?, entries)
+    compare(alloc, one, twin.close(alloc)?)
 }
 
 /// Tries to split a pass off.
 pub(crate) fn try_split<R: Wait>(rt: &R, alloc: Global) -> Result<Came, Stop> {
-    let one = Desk::used(rt, alloc)?;
-    let twin = Desk::used(rt, alloc)?;
-    let fifth = grain(b'e')?;
-    let one = one.close_both(rt, alloc, fifth)?;
-    compare(alloc, one, twin.close_both(rt, alloc, fifth)?, 5)?;
+    let one = Desk::used(rt, alloc, 4)?;
+    let twin = Desk::used(rt, alloc, 4)?;
+    let next = grain(b'e')?;
+    let one = one.close_both(rt, alloc, next)?;
+    compare(alloc, one, twin.close_both(rt, alloc, next)?)?;
     Ok(Came::Done)
 }
 
 /// Tries a call. Where memory is refused, it is made again, or the turnstile is closed.
-pub(crate) fn try_enter<R: Wait>(rt: &R, alloc: Global, again: bool) -> Result<Came, Stop> {
-    let mut one = Desk::used(rt, alloc)?;
-    let mut twin = Desk::used(rt, alloc)?;
+pub(crate) fn try_enter<R: Wait>(
+    rt: &R,
+    alloc: Global,
+    calls: usize,
+    again: bool,
+) -> Result<Came, Stop> {
+    let mut one = Desk::used(rt, alloc, calls)?;
+    let mut twin = Desk::used(rt, alloc, calls)?;
     match one.enter_key(rt, alloc, b'e') {
         Ok(()) => {
             twin.enter_key(rt, alloc, b'e')?;
-            close_alike(alloc, one, twin, 5)?;
+            close_alike(alloc, one, twin)?;
             Ok(Came::Done)
         }
         Err(Stop::Memory) => with_memory(follow_refusal(rt, alloc, one, twin, again)),
@@ -214,24 +215,24 @@ fn follow_refusal<R: Wait>(
     again: bool,
 ) -> Result<(), Stop> {
     check(
-        one.pass.len() == 4,
+        one.pass.len() == twin.pass.len(),
         "a call that was refused has seen an entry",
     )?;
     if !again {
-        return close_alike(alloc, one, twin, 4);
+        return close_alike(alloc, one, twin);
     }
-    let fifth = grain(b'e')?;
+    let next = grain(b'e')?;
     check(
-        one.enter_both(rt, alloc, &mut twin, fifth)?,
+        one.enter_both(rt, alloc, &mut twin, next)?,
         "the call is answered otherwise",
     )?;
-    close_alike(alloc, one, twin, 5)
+    close_alike(alloc, one, twin)
 }
 
 /// Tries to close a turnstile.
 pub(crate) fn try_close<R: Wait>(rt: &R, alloc: Global) -> Result<Came, Stop> {
-    let one = Desk::used(rt, alloc)?;
-    let twin = Desk::used(rt, alloc)?;
-    close_alike(alloc, one, twin, 4)?;
+    let one = Desk::used(rt, alloc, 4)?;
+    let twin = Desk::used(rt, alloc, 4)?;
+    close_alike(alloc, one, twin)?;
     Ok(Came::Done)
 }
