@@ -11,7 +11,7 @@ use Rattle.stream_model.specs.Replies.{Reply}
 use Rattle.script_parser.specs.Lines.{lines_of}
 use Rattle.script_reader.specs.declared.line.Line.{Line}
 use Rattle.script_reader.specs.declared.script_line.ScriptLine.{ScriptLine}
-use Rattle.script_reader.specs.ScriptReport.{line_text}
+use Rattle.script_reader.specs.ScriptReport.{line_text, script_text}
 use Rattle.script_reader.specs.Scripts.{lines_after}
 use Rattle.stream_cluster.specs.declared.config.Config.{Config}
 use Rattle.stream_script.specs.Simulation.{too_long}
@@ -45,7 +45,8 @@ module _ {H : Type 0} (entries : H → List (Entry Op Reply)) where
   run-printed : (config : Config) (script : List ℕ) (old new : Option (List ℕ)) (lines : List Line) (found : List ScriptLine) (end : RunEnd H) (result : Result Unit ProgramFault) → commands_of config.queues script ≡ Ok lines
       → EndsRun entries config lines found end → LeavesLegalTraces entries config end → WritesRun old new (flat_map line_text found ++ report_in end) result end → PrintsRun config script old new result
   run-printed config script old new lines found (ends.Report text traces) (Ok done) read runs legal writes =
-      let histories = map entries traces.histories.items in (
+      let histories = map entries traces.histories.items in
+      let whole : flat_map line_text found ++ text.items ≡ script_text config.queues (missed_in found) config.silos lines = λ i. flat_map line_text (runs.0 i) ++ runs.1 i in (
         lines,
         missed_in found,
         histories,
@@ -53,7 +54,7 @@ module _ {H : Type 0} (entries : H → List (Entry Op Reply)) where
         length-map traces.histories.items entries ∙ legal.count,
         each-legal config histories traces.partitions.items legal.each,
         runs.2,
-        subst (Appends old new) (λ i. flat_map line_text (runs.0 i) ++ runs.1 i) writes,
+        subst (Appends old new) whole writes,
       )
   run-printed config script old new lines found (ends.Unfinished why (Some traces)) (Err (fault.Unfinished told)) read runs legal writes =
       let histories = map entries traces.histories.items in (
