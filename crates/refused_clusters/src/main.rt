@@ -7,32 +7,20 @@
 //! are tried, and each has a line with its name and what came of it.
 #![tactic(auto)]
 
-mod parked;
 mod services;
 mod trying;
 
-use crate::parked::try_retire;
 use crate::services::{Change, try_change};
 use crate::trying::{Came, Stop};
 use std::process::ExitCode;
 use streams::Host;
 
-/// A call that is tried.
-#[derive(Clone, Copy)]
-enum Call {
-    /// A call of a service.
-    Service(Change),
-    /// The loops of a silo of a parked cluster are given back.
-    Retire,
-}
-
 /// The calls, by their names.
-static CALLS: [(&str, Call); 5] = [
-    ("open", Call::Service(Change::Open)),
-    ("silo_up", Call::Service(Change::Up)),
-    ("silo_down", Call::Service(Change::Down)),
-    ("close", Call::Service(Change::Close)),
-    ("retire", Call::Retire),
+static CALLS: [(&str, Change); 4] = [
+    ("open", Change::Open),
+    ("silo_up", Change::Up),
+    ("silo_down", Change::Down),
+    ("close", Change::Close),
 ];
 
 /// Status 0 where nothing is wrong.
@@ -59,9 +47,9 @@ fn try_words<R: Host>(rt: R) -> Result<(), Stop> {
 
 /// Tries the call with this name, and prints what came of it.
 fn try_named<R: Host>(rt: R, name: &str) -> Result<(), Stop> {
-    for (other, call) in &CALLS {
-        if *other == name {
-            let word = word_of(try_call(rt, *call)?);
+    for (call, change) in &CALLS {
+        if *call == name {
+            let word = word_of(try_change(rt, *change)?);
             println!(rt; "{word}")?;
             return Ok(());
         }
@@ -71,20 +59,12 @@ fn try_named<R: Host>(rt: R, name: &str) -> Result<(), Stop> {
 
 /// Tries each call, and prints its name and what came of it.
 fn try_all<R: Host>(rt: R) -> Result<(), Stop> {
-    for (name, call) in &CALLS {
-        print!(rt; "{name} ")?;
-        let word = word_of(try_call(rt, *call)?);
+    for (call, change) in &CALLS {
+        print!(rt; "{call} ")?;
+        let word = word_of(try_change(rt, *change)?);
         println!(rt; "{word}")?;
     }
     Ok(())
-}
-
-/// Tries a call.
-fn try_call<R: Host>(rt: R, call: Call) -> Result<Came, Stop> {
-    match call {
-        Call::Service(change) => try_change(rt, change),
-        Call::Retire => try_retire(&rt, rt.alloc()),
-    }
 }
 
 /// The word for what came of a call.
