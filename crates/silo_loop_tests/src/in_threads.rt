@@ -54,7 +54,7 @@ fn watch<R: Abort>(rt: &R, gate: &Tally, doorbell: &Doorbell, calls: u64) {
         }
         backoff.snooze();
     }
-    for _ in 0..100_000 {
+    for _ in 0..10_000 {
         thread::yield_now();
     }
     assert!(rt; gate.calls().0 == calls);
