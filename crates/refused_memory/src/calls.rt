@@ -7,10 +7,11 @@ use std::alloc::{AllocError, Global};
 use std::fmt::Debug;
 use stream_ident::{BadName, GrainId};
 
-/// An operation on a directory in which three grains are placed on silo 0, the first without its permit.
+/// An operation on a directory: on an empty one, or on one in which three grains are placed on silo 0, the first without
+/// its permit.
 #[derive(Clone, Copy)]
 pub(crate) enum Placing {
-    /// A fourth grain comes, for which there is no room yet.
+    /// The first grain comes, for which there is no room yet.
     Enter,
     /// The permit of the second one is given back.
     Leave,
@@ -91,8 +92,12 @@ fn operation(what: Placing) -> Result<DirectoryOp, BadName> {
 
 /// A directory before an operation.
 fn place_before(alloc: Global, what: Placing, reply: &'static str) -> Result<Place, Stop> {
+    let placed = match what {
+        Placing::Enter => 0,
+        Placing::Leave | Placing::Unplace | Placing::Down => 3,
+    };
     let mut directory = Directory::new(alloc, 1000);
-    for key in b"abc" {
+    for key in b"abc".iter().take(placed) {
         let grain = grain(*key)?;
         let _reply = directory.step(alloc, DirectoryOp::Enter { grain, silo: 0 })?;
     }

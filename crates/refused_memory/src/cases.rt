@@ -30,8 +30,8 @@ enum Call {
     Line,
     New,
     Split,
-    /// A call behind so many others, of which the directory has room for two, and then six, and the history for four.
-    /// Where it is refused it is made again, or the turnstile is closed.
+    /// A call behind so many others. The first one takes memory for the history and for the directory, and the fifth for the
+    /// history. Where it is refused it is made again, or the turnstile is closed.
     Enter(usize, bool),
     Close,
     Sim,
@@ -160,7 +160,7 @@ pub(crate) static CASES: [Case; 32] = [
     Case {
         name: "enter",
         takes_memory: true,
-        call: Call::Placing(Placing::Enter, "Entered { permit: 4 }"),
+        call: Call::Placing(Placing::Enter, "Entered { permit: 1 }"),
     },
     Case {
         name: "leave",
@@ -201,22 +201,22 @@ pub(crate) static CASES: [Case; 32] = [
         call: Call::Split,
     },
     Case {
-        name: "call_by_object",
+        name: "first_call",
         takes_memory: true,
-        call: Call::Enter(3, true),
+        call: Call::Enter(0, true),
     },
     Case {
-        name: "call_by_object_and_close",
+        name: "first_call_and_close",
         takes_memory: true,
-        call: Call::Enter(3, false),
+        call: Call::Enter(0, false),
     },
     Case {
-        name: "call_by_history",
+        name: "fifth_call",
         takes_memory: true,
         call: Call::Enter(4, true),
     },
     Case {
-        name: "call_by_history_and_close",
+        name: "fifth_call_and_close",
         takes_memory: true,
         call: Call::Enter(4, false),
     },
