@@ -1,5 +1,6 @@
 //! The directory.
 ghost use Rattle.std.specs.Prelude.{◌≡◌, ◌≤◌, true, OnErr};
+ghost use Rattle.stream_ident.specs.declared.limits.TheConstants.{MOST_PERMITS};
 ghost use Rattle.activation_directory.specs.Plain.{empty};
 ghost use Rattle.activation_directory.specs.Placed.{least_on, place_in};
 ghost use Rattle.activation_directory.specs.Step.{down, enter, leave, step, takes_memory, unplace};
@@ -48,7 +49,7 @@ impl Directory {
     /// A directory in which no grain is placed, and which gives this many permits in all, at most
     /// 4,000,000. It takes no memory.
     pub fn new(alloc: Global, permits: u64) -> Directory
-        requires { permits ≤ 4000000 }
+        requires { permits ≤ MOST_PERMITS }
         ensures { result ≡ empty permits }
     {
         Directory {

@@ -34,6 +34,7 @@ impl<G: Gate + Drop, H: QueueHistory + Drop> Drop for Caller<G, H> {
 }
 
 impl<G: Gate, H: QueueHistory> Model for Caller<G, H> {
+    ghost use Rattle.stream_ident.specs.declared.limits.TheConstants.{TURN_EVENTS};
     ghost use Rattle.std.specs.Prelude.{◌≤◌, List, vec_capacity};
     ghost use Rattle.silo_loops.specs.Lines.{QueuePass};
 
@@ -41,7 +42,7 @@ impl<G: Gate, H: QueueHistory> Model for Caller<G, H> {
 
     ghost view = { λ c. c.queues.items };
 
-    ghost invariant = { λ c. 16 ≤ vec_capacity c.events };
+    ghost invariant = { λ c. TURN_EVENTS ≤ vec_capacity c.events };
 }
 
 impl<G: Gate, H: QueueHistory> Caller<G, H> {

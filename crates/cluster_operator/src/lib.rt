@@ -11,4 +11,4 @@ mod moving;
 mod operator;
 
 pub use halt::Halt;
-pub use operator::{MOST_SILOS, Operator};
+pub use operator::Operator;

@@ -15,6 +15,7 @@ use silo_loops::{Assigned, DirectoryLine, Doorbell, Line};
 use std::alloc::{AllocError, Global};
 use std::marker::Model;
 use std::sync::{Arc, Wait};
+use stream_ident::MOST_SILOS;
 
 /// What changes the silos of a cluster.
 pub struct Operator<G: Gate, H: QueueHistory, D: DirectoryHistory> {
@@ -52,9 +53,6 @@ impl<G: Gate, H: QueueHistory, D: DirectoryHistory> Model for Operator<G, H, D> 
 
     ghost invariant = { λ o. IsOperator (record { lines = o.lines.items; directory = o.directory; live = o.live.items; assignment = o.assignment.items }) };
 }
-
-/// The most silos that a cluster has.
-pub const MOST_SILOS: u8 = 16;
 
 // What the agent of each silo is told: it has no queue.
 fn no_queues(alloc: Global, queues: usize) -> Result<Vec<Arc<Assigned, Global>>, AllocError> {

@@ -1,5 +1,6 @@
 //! One line of a script.
 ghost use Rattle.std.specs.Prelude.{◌≡◌, ◌≢◌, ◌<◌, ◌≤◌, false, length, Ok, IfErr, IfOk, OnErr, OnOk};
+ghost use Rattle.stream_ident.specs.declared.limits.TheConstants.{MOST_SILOS};
 ghost use Rattle.std.specs.List.{AllZip};
 ghost use Rattle.cluster_callers.specs.Calls.{turnstiles};
 ghost use Rattle.script_parser.specs.declared.command.Command.TheVariants as command;
@@ -37,7 +38,7 @@ fn up<
     D: DirectoryHistory + Send + 'static,
     R: Threads + Wait + Copy + Send + 'static,
 >(rt: &R, alloc: Global, cluster: &mut Cluster<G, H, D>, silo: u8) -> Result<Answer, Stop>
-    requires { silo < 16 }
+    requires { silo < MOST_SILOS }
     ensures changes { IfOk result (λ told. ChangesBy cluster.old (command.Up silo) told cluster.new) }
     ensures stops { is_fixed cluster.old ≡ false → IfErr result (λ why. why ≢ Stop.NotQuiet × (why ≡ Stop.Limit → HasMetLimit cluster.old.operator cluster.new.operator)) }
     ensures cluster { OperatorGoesOn cluster.old.operator cluster.new.operator }
@@ -58,7 +59,7 @@ fn down<G: Gate, H: QueueHistory, D: DirectoryHistory, R: Threads + Wait>(
     cluster: &mut Cluster<G, H, D>,
     silo: u8,
 ) -> Result<Answer, Stop>
-    requires { silo < 16 }
+    requires { silo < MOST_SILOS }
     ensures changes { IfOk result (λ told. ChangesBy cluster.old (command.Down silo) told cluster.new) }
     ensures stops { is_fixed cluster.old ≡ false → IfErr result (λ why. why ≢ Stop.NotQuiet × (why ≡ Stop.Limit → HasMetLimit cluster.old.operator cluster.new.operator)) }
     ensures cluster { OperatorGoesOn cluster.old.operator cluster.new.operator }

@@ -8,8 +8,11 @@ use Rattle.consumer_grain.specs.declared.told.Offered.{Offered}
 use Rattle.consumer_grain.specs.declared.told.Offered.TheVariants as offer
 use Rattle.consumer_grain.specs.declared.told.Begun.{Begun}
 use Rattle.consumer_grain.specs.declared.told.Begun.TheVariants as begun
+use Rattle.consumer_grain.specs.declared.told.Ended.{Ended}
+use Rattle.consumer_grain.specs.declared.told.Ended.TheVariants as ended
 use Rattle.stream_ident.specs.Blocks.{turn_size}
 use Rattle.stream_ident.specs.Words.{rising_front}
+use Rattle.stream_ident.specs.declared.limits.TheConstants.{MAILBOX_PLACES}
 
 -- how often it was activated, whether it is active, what waits for it, the oldest first, the turn that
 -- runs, and the subscriptions that something was offered for, from the least number to the greatest
@@ -43,16 +46,16 @@ woken a delivery =
       subs = with_number delivery.sub a.subs;
     }
 
--- sixteen deliveries wait at most
+-- a mailbox has so many places and no more
 abbrev pub offered : PlainActivation → Delivery → PlainActivation × Offered
-offered a delivery = if nat_le 16 (length a.mailbox) then (a, offer.MailboxFull) else (woken a delivery, offer.Delivered)
+offered a delivery = if nat_le MAILBOX_PLACES (length a.mailbox) then (a, offer.MailboxFull) else (woken a delivery, offer.Delivered)
 
 abbrev pub is_in : List ℕ → ℕ → Bool
 is_in numbers number = list_any (λ n. n == number) numbers
 
 -- Only a delivery that is taken may take memory, and only the first one of its subscription.
 abbrev pub offer_takes_memory : PlainActivation → Delivery → Bool
-offer_takes_memory a delivery = not (nat_le 16 (length a.mailbox)) && not (is_in a.subs delivery.sub)
+offer_takes_memory a delivery = not (nat_le MAILBOX_PLACES (length a.mailbox)) && not (is_in a.subs delivery.sub)
 
 -- the positions of the longest front of the deliveries, at most n, that are all of one subscription and
 -- rise from this position on
@@ -66,24 +69,30 @@ started a sub turn positions =
       running = Some (record { sub = sub; turn = turn; positions = positions });
     }
 
--- with this number for the turn, or none where no turn may be handed out
-abbrev pub begin_turn : PlainActivation → ℕ → List ℕ → Option ℕ → PlainActivation × Begun
-begin_turn a sub positions None = (a, begun.Spent)
-begin_turn a sub positions (Some turn) = (started a sub turn positions, begun.Turn sub positions)
+abbrev pub begin_turn : PlainActivation → ℕ → List ℕ → ℕ → PlainActivation × Begun
+begin_turn a sub positions turn = (started a sub turn positions, begun.Turn sub positions)
 
 -- a repeat, which isn't past what its subscription has handled, leaves the mailbox alone
-abbrev pub begin_front : PlainActivation → ℕ → Option ℕ → ℕ → List Delivery → PlainActivation × Begun
+abbrev pub begin_front : PlainActivation → ℕ → ℕ → ℕ → List Delivery → PlainActivation × Begun
 begin_front a past turn size [] = (a, begun.Empty)
 begin_front a past turn size (d ∷ deliveries) =
     if nat_lt d.position past then (record a { mailbox = deliveries }, begun.Dropped d)
     else begin_turn a d.sub (front_of size d.sub d.position a.mailbox) turn
 
 -- past is one past the last position that the subscription of the front delivery has handled
-abbrev pub begin : PlainActivation → ℕ → Option ℕ → ℕ → PlainActivation × Begun
+abbrev pub begin : PlainActivation → ℕ → ℕ → ℕ → PlainActivation × Begun
 begin a past turn max_events =
     if is_some a.running then (a, begun.Busy)
     else if not a.active then (a, begun.Empty)
     else begin_front a past turn (turn_size max_events) a.mailbox
+
+abbrev pub is_front_new : ℕ → List Delivery → Bool
+is_front_new past [] = false
+is_front_new past (d ∷ deliveries) = not (nat_lt d.position past)
+
+-- where it would begin a turn
+abbrev pub can_begin : PlainActivation → ℕ → Bool
+can_begin a past = not (is_some a.running) && (a.active && is_front_new past a.mailbox)
 
 abbrev pub is_turn : ℕ → ℕ → ℕ → Option RunningTurn → Bool
 is_turn own activation turn None = false
@@ -96,6 +105,14 @@ current_turn a activation turn = if is_turn a.number activation turn a.running t
 -- no turn runs any more
 abbrev pub without_turn : PlainActivation → PlainActivation
 without_turn a = record a { running = None }
+
+abbrev pub commit_turn : PlainActivation → Option RunningTurn → PlainActivation × Ended
+commit_turn a None = (a, ended.Stale)
+commit_turn a (Some run) = (without_turn a, ended.Turn run)
+
+-- the turn that runs ends, if it is this turn of this activation
+abbrev pub commit : PlainActivation → ℕ → ℕ → PlainActivation × Ended
+commit a activation turn = commit_turn a (current_turn a activation turn)
 
 -- the deliveries of a subscription leave the mailbox; a running turn stays
 abbrev pub forgotten : ℕ → PlainActivation → PlainActivation

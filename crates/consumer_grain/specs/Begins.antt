@@ -2,12 +2,11 @@
 use Rattle.std.specs.Prelude.{◌≡◌, ℕ, true}
 use Rattle.consumer_grain.specs.Subscriptions.{rises_from}
 use Rattle.consumer_grain.specs.declared.told.Begun.{Begun}
-use Rattle.consumer_grain.specs.declared.told.Begun.TheVariants.{Busy, Empty, Dropped, Spent, Turn}
+use Rattle.consumer_grain.specs.declared.told.Begun.TheVariants.{Busy, Empty, Dropped, Turn}
 
 -- its positions rise, from this one on
 abbrev pub RisesFrom : ℕ → Begun → Type 0
 RisesFrom past Busy = Unit {0}
 RisesFrom past Empty = Unit {0}
 RisesFrom past (Dropped delivery) = Unit {0}
-RisesFrom past Spent = Unit {0}
 RisesFrom past (Turn sub positions) = rises_from past positions ≡ true

@@ -1,14 +1,17 @@
 //! A grain's mailbox and its turn.
 ghost use Rattle.std.specs.Prelude.{◌≡◌, ◌+◌, ◌^◌, ◌<◌, ◌≤◌, ◌∷◌, ◌==◌, true, false, length, drop, Some, None, is_some, OnErr, IfOk, IfSome, not, filter, is_ok, if◌then◌else◌};
+ghost use Rattle.stream_ident.specs.declared.limits.TheConstants.{MAILBOX_PLACES, TURN_EVENTS};
+ghost use Rattle.stream_ident.specs.declared.limits.TheConstants.{TURN_EVENTS};
 ghost use Rattle.std.specs.List.{slice_get};
 ghost use Rattle.std.specs.Option.{option_copied};
 ghost use Rattle.stream_ident.specs.Words.{past, Performs};
-ghost use Rattle.consumer_grain.specs.Activations.{begin, begin_front, current_turn, deactivated, forgotten, holds, is_in, lost, new_activation, offered, offer_takes_memory, running_count, runs, with_number, without_number, without_turn};
+ghost use Rattle.consumer_grain.specs.Activations.{begin, begin_front, can_begin, commit, current_turn, deactivated, forgotten, holds, is_front_new, is_in, lost, new_activation, offered, offer_takes_memory, running_count, runs, with_number, without_number};
 ghost use Rattle.consumer_grain.specs.Begins.{RisesFrom};
 ghost use Rattle.consumer_grain.specs.Subscriptions.{rises_from};
 
 use crate::mailbox::{Delivery, Mailbox, has_sub, turn_positions, turn_size};
-use crate::told::{Begun, Offered};
+use crate::sub_state::SubState;
+use crate::told::{Begun, Ended, Offered};
 use std::alloc::{AllocError, Global};
 use std::marker::Model;
 use stream_ident::Row;
@@ -95,7 +98,7 @@ impl Activation {
     /// How many deliveries wait, at most 16.
     pub fn waiting(&self) -> usize
         ensures count { result ≡ length self.now.mailbox }
-        ensures bound { result ≤ 16 }
+        ensures bound { result ≤ MAILBOX_PLACES }
     {
         self.mailbox.as_slice().len()
     }
@@ -170,15 +173,25 @@ impl Activation {
         Ok(Offered::Delivered)
     }
 
+    /// Whether `begin` would begin a turn: none runs, the grain is active, and its front delivery is past what
+    /// its subscription, which `state` is of, has handled.
+    pub fn can_begin(&self, state: &SubState) -> bool
+        ensures { result ≡ can_begin self.now (past state.now.handled) }
+    {
+        self.running.is_none()
+            && self.is_active
+            && is_front_new(self.mailbox.as_slice(), state.past())
+    }
+
     /// Begins a turn with the front of the mailbox: the longest front, at most `max_events` and at most 16,
     /// at least 1, that is all of one subscription and whose positions rise. A front delivery that isn't
     /// past what its subscription has handled is dropped, and begins none.
     ///
-    /// `past` is one past the last position that the subscription of the front delivery has handled, and
-    /// `turn` the number of the turn, where one is left. It takes no memory.
-    pub fn begin(&mut self, past: usize, turn: Option<u64>, max_events: usize) -> Begun
-        ensures begun { (self.new, result) ≡ begin self.old past turn max_events }
-        ensures rising { RisesFrom past result }
+    /// `state` says how far the subscription of the front delivery is, and `turn` is the number that the turn
+    /// gets. It takes no memory.
+    pub fn begin(&mut self, state: &SubState, turn: u64, max_events: usize) -> Begun
+        ensures begun { (self.new, result) ≡ begin self.old (past state.now.handled) turn max_events }
+        ensures rising { RisesFrom (past state.now.handled) result }
     {
         if self.running.is_some() {
             return Begun::Busy;
@@ -186,13 +199,13 @@ impl Activation {
         if !self.is_active {
             return Begun::Empty;
         }
-        self.begin_front(past, turn, turn_size(max_events))
+        self.begin_front(state.past(), turn, turn_size(max_events))
     }
 
     /// Begins with the front delivery, where there is one.
-    fn begin_front(&mut self, past: usize, turn: Option<u64>, most: usize) -> Begun
+    fn begin_front(&mut self, past: usize, turn: u64, most: usize) -> Begun
         requires some { 1 ≤ most }
-        requires bound { most ≤ 16 }
+        requires bound { most ≤ TURN_EVENTS }
         ensures begun { (self.new, result) ≡ begin_front self.old past turn most self.old.mailbox }
         ensures rising { RisesFrom past result }
     {
@@ -204,9 +217,6 @@ impl Activation {
             self.mailbox.drop_front(1);
             return Begun::Dropped(front);
         }
-        let Some(turn) = turn else {
-            return Begun::Spent;
-        };
         let positions = turn_positions(self.mailbox.as_slice(), front, most);
         self.mailbox.drop_front(positions.len());
         self.running = Some(RunningTurn {
@@ -220,12 +230,17 @@ impl Activation {
         }
     }
 
-    /// Ends the turn that runs, if one does. Whether it is the one that is meant, `current_turn` says. It
-    /// takes no memory.
-    pub fn end_turn(&mut self)
-        ensures { self.new ≡ without_turn self.old }
+    /// Ends the turn that runs, and gives it, if it is this turn of this activation. It takes no memory.
+    pub fn commit(&mut self, activation: u64, turn: u64) -> Ended
+        ensures { (self.new, result) ≡ commit self.old activation turn }
     {
-        self.running = None;
+        if self.current_turn(activation, turn).is_none() {
+            return Ended::Stale;
+        }
+        match self.running.take() {
+            Some(run) => Ended::Turn(run),
+            None => Ended::Stale,
+        }
     }
 
     /// The deliveries of a subscription leave the mailbox, and its number leaves the numbers. A turn that
@@ -251,6 +266,16 @@ impl Activation {
     }
 }
 
+/// Whether the first of these deliveries is at or past a position.
+fn is_front_new(deliveries: &[Delivery], past: usize) -> bool
+    ensures { result ≡ is_front_new past deliveries.now }
+{
+    match deliveries.first() {
+        Some(front) => front.position >= past,
+        None => false,
+    }
+}
+
 /// Whether the turn that runs is one of this subscription.
 fn runs(running: &Option<RunningTurn>, sub: usize) -> bool
     ensures { result ≡ runs sub running.now }
@@ -264,7 +289,7 @@ fn runs(running: &Option<RunningTurn>, sub: usize) -> bool
 /// How many events run.
 fn running_count(running: &Option<RunningTurn>) -> usize
     ensures count { result ≡ running_count running.now }
-    ensures bound { result ≤ 16 }
+    ensures bound { result ≤ TURN_EVENTS }
 {
     match running {
         Some(run) => run.positions.len(),

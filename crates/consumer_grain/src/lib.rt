@@ -13,4 +13,4 @@ mod told;
 pub use activation::{Activation, RunningTurn};
 pub use mailbox::Delivery;
 pub use sub_state::SubState;
-pub use told::{Begun, Offered};
+pub use told::{Begun, Ended, Offered};

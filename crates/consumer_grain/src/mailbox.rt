@@ -7,10 +7,7 @@ ghost use Rattle.consumer_grain.specs.Activations.{front_of};
 
 use std::alloc::{AllocError, Global};
 use std::marker::Model;
-use stream_ident::Row;
-
-/// How many deliveries wait at most.
-const PLACES: usize = 16;
+use stream_ident::{MAILBOX_PLACES, Row, TURN_EVENTS};
 
 /// An event on its way to a grain.
 #[derive(Clone, Copy, Debug, PartialEq, Eq)]
@@ -31,6 +28,7 @@ pub struct Mailbox {
 }
 
 impl Model for Mailbox {
+    ghost use Rattle.stream_ident.specs.declared.limits.TheConstants.{MAILBOX_PLACES};
     ghost use Rattle.std.specs.Prelude.{List, ◌+◌, ◌^◌, ◌<◌, ◌≤◌, length, vec_capacity, All};
     ghost use Rattle.consumer_grain.specs.declared.mailbox.Delivery.{Delivery};
     ghost use Rattle.consumer_grain.specs.Mailboxes.{IsMailbox};
@@ -39,7 +37,7 @@ impl Model for Mailbox {
 
     ghost view = { λ m. m.deliveries.items };
 
-    ghost invariant = { λ m. (16 ≤ vec_capacity m.deliveries) × IsMailbox m.deliveries.items };
+    ghost invariant = { λ m. (MAILBOX_PLACES ≤ vec_capacity m.deliveries) × IsMailbox m.deliveries.items };
 }
 
 impl Mailbox {
@@ -51,21 +49,21 @@ impl Mailbox {
         ensures { IfOk result (λ mailbox. mailbox ≡ []) }
     {
         Ok(Mailbox {
-            deliveries: Vec::with_capacity(alloc, PLACES)?,
+            deliveries: Vec::with_capacity(alloc, MAILBOX_PLACES)?,
         })
     }
 
     /// Whether no place is left.
     pub fn is_full(&self) -> bool
-        ensures { result ≡ nat_le 16 (length self.now) }
+        ensures { result ≡ nat_le MAILBOX_PLACES (length self.now) }
     {
-        self.deliveries.len() >= PLACES
+        self.deliveries.len() >= MAILBOX_PLACES
     }
 
     /// The deliveries, the oldest first.
     pub fn as_slice(&self) -> &[Delivery]
         ensures deliveries { result.now ≡ self.now }
-        ensures few { length self.now ≤ 16 }
+        ensures few { length self.now ≤ MAILBOX_PLACES }
         ensures room { All (λ d. d.position + 1 < 2 ^ 64) self.now }
     {
         self.deliveries.as_slice()
@@ -73,7 +71,7 @@ impl Mailbox {
 
     /// Adds a delivery behind the others.
     pub fn push(&mut self, delivery: Delivery)
-        requires place { length self.old < 16 }
+        requires place { length self.old < MAILBOX_PLACES }
         requires room { delivery.position + 1 < 2 ^ 64 }
         ensures { self.new ≡ self.old ++ delivery ∷ [] }
     {
@@ -130,9 +128,9 @@ pub fn has_sub(deliveries: &[Delivery], sub: usize) -> bool
 pub fn turn_size(max_events: usize) -> usize
     ensures size { result ≡ turn_size max_events }
     ensures some { 1 ≤ result }
-    ensures bound { result ≤ 16 }
+    ensures bound { result ≤ TURN_EVENTS }
 {
-    max_events.clamp(1, 16)
+    max_events.clamp(1, TURN_EVENTS)
 }
 
 /// Whether a delivery goes on with a turn of this subscription after this position.
@@ -146,7 +144,7 @@ fn goes_on(sub: usize, last: usize, delivery: Delivery) -> bool
 /// the subscription of the first one and rise.
 pub fn turn_positions(deliveries: &[Delivery], front: Delivery, most: usize) -> Row<usize>
     requires some { 1 ≤ most }
-    requires bound { most ≤ 16 }
+    requires bound { most ≤ TURN_EVENTS }
     requires first { deliveries.now ≡ front ∷ drop 1 deliveries.now }
     ensures { result ≡ front_of most front.sub front.position deliveries.now }
 {

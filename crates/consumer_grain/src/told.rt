@@ -1,5 +1,6 @@
 //! What an activation answers.
 
+use crate::activation::RunningTurn;
 use crate::mailbox::Delivery;
 use stream_ident::Row;
 
@@ -21,8 +22,6 @@ pub enum Begun {
     Empty,
     /// The front delivery was handled before: it has left the mailbox, alone, and no turn has begun.
     Dropped(Delivery),
-    /// No turn begins, since no number is left for it. Nothing has changed.
-    Spent,
     /// A turn runs, and its deliveries have left the mailbox.
     Turn {
         /// The number of the record of the subscription whose events it has.
@@ -30,4 +29,13 @@ pub enum Begun {
         /// The positions of its events, 1 to 16 that rise.
         positions: Row<usize>,
     },
+}
+
+/// What ends at a commit.
+#[derive(Debug, Drop)]
+pub enum Ended {
+    /// The turn that was named: it runs no more.
+    Turn(RunningTurn),
+    /// No turn, since the one that was named doesn't run. Nothing has changed.
+    Stale,
 }

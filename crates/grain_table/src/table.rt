@@ -1,9 +1,10 @@
 //! The table, and the list of its ready grains.
 ghost use Rattle.std.specs.Prelude.{◌≡◌, ◌+◌, ◌-◌, ◌^◌, ◌<◌, ◌≤◌, ◌↔◌, [], None, Some, true, length, is_ok, slice_index, vec_capacity, IfOk, IfSome, IsTrue, OnErr, not, OnOk, if◌then◌else◌};
+ghost use Rattle.stream_ident.specs.declared.limits.TheConstants.{MAILBOX_PLACES};
 ghost use Rattle.std.specs.Option.{option_copied};
 ghost use Rattle.stream_ident.specs.Words.{change_at, lesser, past};
 ghost use Rattle.stream_ident.specs.Name.{grain_lt};
-ghost use Rattle.consumer_grain.specs.Activations.{begin, deactivated, forgotten, lost, new_activation, offer_takes_memory, without_turn, woken};
+ghost use Rattle.consumer_grain.specs.Activations.{begin, commit, deactivated, forgotten, lost, new_activation, offer_takes_memory, woken};
 ghost use Rattle.consumer_grain.specs.Begins.{RisesFrom};
 ghost use Rattle.consumer_grain.specs.Subscriptions.{rises_from};
 ghost use Rattle.ranked_index.specs.Ranked.{is_up_to, IsFirstPast};
@@ -11,7 +12,7 @@ ghost use Rattle.grain_table.specs.Changes.{activation_at, grain_at, OffersAt};
 ghost use Rattle.grain_table.specs.Grains.{is_ready, least_running, least_waiting, number_of, ready_after, with_grain, AreDistinct, AreIdle, PlainGrains};
 ghost use Rattle.grain_table.specs.Table.{name_of, AreReady, AreReadyBut, HaveRisingNames};
 
-use consumer_grain::{Activation, Begun, Delivery, Offered};
+use consumer_grain::{Activation, Begun, Delivery, Ended, Offered, SubState};
 use indexmap::IndexMap;
 use std::alloc::{AllocError, Global};
 use std::marker::Model;
@@ -128,7 +129,7 @@ impl GrainTable {
     pub fn at(&self, number: usize) -> &Activation
         requires { number < length self.now }
         ensures activation { result.now ≡ activation_at self.now number }
-        ensures few { length (activation_at self.now number).mailbox ≤ 16 }
+        ensures few { length (activation_at self.now number).mailbox ≤ MAILBOX_PLACES }
         ensures rising { rises_from 0 (activation_at self.now number).subs ≡ true }
         ensures room { IfSome (activation_at self.now number).running (λ run. past run.positions < 2 ^ 64) }
     {
@@ -197,39 +198,35 @@ impl GrainTable {
 
     /// Begins a turn of the grain with a number, as `Activation::begin` says. It takes no memory, and costs
     /// the ready grains whose names are greater.
-    pub fn begin(
-        &mut self,
-        number: usize,
-        past: usize,
-        turn: Option<u64>,
-        max_events: usize,
-    ) -> Begun
+    pub fn begin(&mut self, number: usize, state: &SubState, turn: u64, max_events: usize) -> Begun
         requires { number < length self.old }
-        ensures grains { self.new ≡ change_at (λ a. (begin a past turn max_events).0) number self.old }
-        ensures begun { result ≡ (begin (activation_at self.old number) past turn max_events).1 }
-        ensures rising { RisesFrom past result }
+        ensures grains { self.new ≡ change_at (λ a. (begin a (past state.now.handled) turn max_events).0) number self.old }
+        ensures begun { result ≡ (begin (activation_at self.old number) (past state.now.handled) turn max_events).1 }
+        ensures rising { RisesFrom (past state.now.handled) result }
     {
         let activation = self.entries.get_index_mut(number).unwrap();
         let did_run = activation.running().is_some();
-        let begun = activation.begin(past, turn, max_events);
+        let begun = activation.begin(state, turn, max_events);
         let runs = activation.running().is_some();
         self.running = recount(self.running, did_run, runs);
         mark(&self.entries, &mut self.ready, number);
         begun
     }
 
-    /// Ends the turn of the grain with a number, as `Activation::end_turn` says. It takes no memory, and
-    /// costs the ready grains whose names are greater.
-    pub fn end_turn(&mut self, number: usize)
+    /// Ends a turn of the grain with a number, as `Activation::commit` says. It takes no memory, and costs the
+    /// ready grains whose names are greater.
+    pub fn commit(&mut self, number: usize, activation: u64, turn: u64) -> Ended
         requires { number < length self.old }
-        ensures { self.new ≡ change_at without_turn number self.old }
+        ensures grains { self.new ≡ change_at (λ a. (commit a activation turn).0) number self.old }
+        ensures ended { result ≡ (commit (activation_at self.old number) activation turn).1 }
     {
-        let activation = self.entries.get_index_mut(number).unwrap();
-        let did_run = activation.running().is_some();
-        activation.end_turn();
-        let runs = activation.running().is_some();
+        let entry = self.entries.get_index_mut(number).unwrap();
+        let did_run = entry.running().is_some();
+        let ended = entry.commit(activation, turn);
+        let runs = entry.running().is_some();
         self.running = recount(self.running, did_run, runs);
         mark(&self.entries, &mut self.ready, number);
+        ended
     }
 
     /// The deliveries of a subscription leave the mailbox of the grain with a number, as

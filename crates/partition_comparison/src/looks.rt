@@ -1,6 +1,6 @@
 //! What can be looked at of a partition.
 use std::alloc::{AllocError, Global};
-use step_core::{Partition, Pending, SubSummary};
+use step_core::{Partition, Quiet, SubSummary};
 use stream_ident::{Event, SubName, Token};
 use stream_model::{PlainPartition, Subscription};
 
@@ -13,8 +13,8 @@ pub struct Looks {
     pub low: Token,
     /// The token after the last event that the cache has.
     pub high: Token,
-    /// Why it isn't quiet.
-    pub pending: Option<Pending>,
+    /// Whether it is quiet, and why not.
+    pub quiet: Quiet,
     /// The subscriptions, in the order of names.
     pub subs: Vec<SubSummary>,
     /// What each of them has handled.
@@ -27,7 +27,7 @@ impl Drop for Looks {
             agent: _,
             low: _,
             high: _,
-            pending: _,
+            quiet: _,
             subs: _,
             handled: _,
         } = self;
@@ -46,7 +46,7 @@ impl Looks {
             agent: partition.agent(),
             low: partition.low_token(),
             high: partition.high_token(),
-            pending: partition.quiet(),
+            quiet: partition.quiet(),
             subs,
             handled,
         })
@@ -67,7 +67,10 @@ impl Looks {
             agent: (plain.generation, plain.silo),
             low: plain_token(plain, plain.low),
             high: plain_token(plain, plain.high),
-            pending: reference.quiet(),
+            quiet: match reference.quiet() {
+                None => Quiet::Yes,
+                Some(why) => Quiet::No(why),
+            },
             subs,
             handled,
         })

@@ -6,7 +6,7 @@ use crate::fault::Fault;
 use crate::looks::{Looks, plain_handled};
 use crate::place::Place;
 use std::alloc::{AllocError, Global};
-use step_core::{DrainEnd, Limits, Op, Partition, Reply};
+use step_core::{DrainEnd, Limits, Op, Partition, Quiet, Reply};
 
 /// A partition, its twin and the plain program, to which the same operations are done.
 ///
@@ -151,7 +151,7 @@ impl SideBySide {
     fn compare_owed(&self, looks: &Looks) -> Result<(), Fault> {
         let plain = self.reference.plain();
         let owed = plain_handled(self.place.alloc, plain, looks.subs.as_slice(), true)?;
-        self.place.compare(&looks.pending, &None)?;
+        self.place.compare(&looks.quiet, &Quiet::Yes)?;
         self.place.compare(&looks.handled, &owed)
     }
 }

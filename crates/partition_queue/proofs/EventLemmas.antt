@@ -8,6 +8,7 @@ use Rattle.stream_ident.specs.declared.ident.StreamId.{StreamId}
 use Rattle.stream_ident.specs.declared.token.Token.{Token}
 use Rattle.stream_ident.specs.Event.{events_of, no_event}
 use Rattle.stream_ident.specs.Token.{token_lt}
+use Rattle.stream_ident.specs.declared.limits.TheConstants.{BATCH_EVENTS}
 use Rattle.stream_ident.proofs.EventLemmas.{length-events_of, events_of-token}
 use Rattle.partition_queue.specs.declared.appended.Appended.{Appended}
 use Rattle.partition_queue.specs.declared.appended.Appended.TheVariants.{Accepted}
@@ -68,11 +69,11 @@ log_with q stream payloads events is log some fits =
     )
 
 -- a batch that fits is accepted
-pub accepts : (q : PlainQueue) (stream : StreamId) (payloads : List (List ℕ)) → 0 < length payloads → length payloads ≤ 64 → length q.events + length payloads ≤ q.limit
+pub accepts : (q : PlainQueue) (stream : StreamId) (payloads : List (List ℕ)) → 0 < length payloads → length payloads ≤ BATCH_EVENTS → length q.events + length payloads ≤ q.limit
     → ◌≡◌ {A = PlainQueue × Appended} (record { events = q.events ++ events_of stream q.batches 0 payloads; batches = q.batches + 1; limit = q.limit }, Accepted q.batches) (append q stream payloads)
 accepts q stream payloads some few fits =
     let next : q.batches + 1 ≡ suc q.batches = omega arith in
-    rw (ne_eqb (length payloads) 0 (λ e. omega arith), le-ltb 64 (length payloads) few, le-ltb q.limit (length q.events + length payloads) fits, next) refl
+    rw (ne_eqb (length payloads) 0 (λ e. omega arith), le-ltb BATCH_EVENTS (length payloads) few, le-ltb q.limit (length q.events + length payloads) fits, next) refl
 
 -- one more event is read
 pub read_more : (q : PlainQueue) (from position : ℕ) (read now : List Event) (event : Event) → from ≤ position → position < length q.events → read ≡ between q from position → event ≡ event_at q position → now ≡ read ++ event ∷ [] → now ≡ between q from (position + 1)

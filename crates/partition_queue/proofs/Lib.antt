@@ -1,2 +1,3 @@
+pub mod AppendLemmas
 pub mod EventLemmas
 pub mod LogLemmas

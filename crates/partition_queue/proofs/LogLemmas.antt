@@ -7,13 +7,14 @@ use Rattle.stream_ident.specs.declared.ident.StreamId.{StreamId}
 use Rattle.stream_ident.specs.declared.token.Token.{Token}
 use Rattle.stream_ident.specs.Alphabet.{IsPayload}
 use Rattle.stream_ident.specs.Event.{events_of}
+use Rattle.stream_ident.specs.declared.limits.TheConstants.{PAYLOAD_BYTES}
 use Rattle.stream_ident.proofs.EachOf.{All-append}
 use Rattle.partition_queue.specs.declared.queue.Entry.{Entry}
 use Rattle.partition_queue.specs.Log.{entries_of, event_of, events_in, no_stream, payload_in, token_of, Grows, IsEntry, IsKept}
 
 -- ---- payloads
 
-pub length-payloads : (payloads : List (List ℕ)) → AllByRecursion IsPayload payloads → length (concat payloads) ≤ 256 * length payloads
+pub length-payloads : (payloads : List (List ℕ)) → AllByRecursion IsPayload payloads → length (concat payloads) ≤ PAYLOAD_BYTES * length payloads
 length-payloads [] all = omega arith
 length-payloads (payload ∷ payloads) all =
     let here = all.0.short in

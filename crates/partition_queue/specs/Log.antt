@@ -5,6 +5,7 @@ use Rattle.stream_ident.specs.declared.event.Event.{Event}
 use Rattle.stream_ident.specs.declared.ident.StreamId.{StreamId}
 use Rattle.stream_ident.specs.declared.token.Token.{Token}
 use Rattle.stream_ident.specs.Alphabet.{IsPayload}
+use Rattle.stream_ident.specs.declared.limits.TheConstants.{PAYLOAD_BYTES, PULL_EVENTS}
 use Rattle.queue_mapper.specs.Place.{tags_of}
 use Rattle.partition_queue.specs.declared.queue.Entry.{Entry}
 
@@ -34,15 +35,18 @@ pub record IsEntry (streams : List StreamId) (bytes : List ℕ) (e : Entry) : Ty
 -- what is so of the rows of every log
 pub record IsKept (streams : List StreamId) (bytes : List ℕ) (entries : List Entry) : Type 0 where
   pub each : AllByRecursion (IsEntry streams bytes) entries
-  pub short : length bytes ≤ 256 * length entries
+  pub short : length bytes ≤ PAYLOAD_BYTES * length entries
   pub few : length streams ≤ length entries
+
+-- the entry of a payload at this place of a batch, which begins at this byte
+abbrev pub entry_of : ℕ → ℕ → ℕ → ℕ → List ℕ → Entry
+entry_of stream seq idx start payload = record { stream = stream; seq = seq; start = start; len = length payload; idx = idx }
 
 -- the entries of a batch from this place in it on, whose payloads begin at this byte
 abbrev pub entries_of : ℕ → ℕ → ℕ → ℕ → List (List ℕ) → List Entry
 entries_of stream seq idx start [] = []
 entries_of stream seq idx start (payload ∷ payloads) =
-    record { stream = stream; seq = seq; start = start; len = length payload; idx = idx }
-    ∷ entries_of stream seq (suc idx) (start + length payload) payloads
+    entry_of stream seq idx start payload ∷ entries_of stream seq (suc idx) (start + length payload) payloads
 
 -- one stream more at the end, or none
 abbrev pub Grows : List StreamId → List StreamId → Type 0
@@ -50,6 +54,6 @@ Grows old new = (more : List StreamId) × (new ≡ old ++ more) × (length more 
 
 -- what is so of the rows of every excerpt, and of how much they have room for
 pub record IsExcerpt (events : List Event) (room : ℕ) (tags : List ℕ) (tags_room : ℕ) : Type 0 where
-  pub roomy : 256 ≤ room
-  pub tags_roomy : 256 ≤ tags_room
+  pub roomy : PULL_EVENTS ≤ room
+  pub tags_roomy : PULL_EVENTS ≤ tags_room
   pub tagged : tags ≡ tags_of events

@@ -5,6 +5,7 @@ use Rattle.stream_ident.specs.declared.ident.StreamId.{StreamId}
 use Rattle.stream_ident.specs.declared.token.Token.{Token}
 use Rattle.stream_ident.specs.Event.{batch_token, events_of, no_event}
 use Rattle.stream_ident.specs.Token.{token_lt}
+use Rattle.stream_ident.specs.declared.limits.TheConstants.{BATCH_EVENTS, MOST_EVENTS}
 use Rattle.partition_queue.specs.declared.appended.Appended.{Appended}
 use Rattle.partition_queue.specs.declared.appended.Appended.TheVariants.{Accepted, BadBatch, QueueFull}
 
@@ -30,12 +31,18 @@ token_at q position = get_or (map (λ event. event.token) q.events) position (ba
 abbrev pub between : PlainQueue → ℕ → ℕ → List Event
 between q from to = take (to - from) (drop from q.events)
 
--- A batch has 1 to 64 payloads.
+-- A batch has some payloads, and not too many.
 abbrev pub append : PlainQueue → StreamId → List (List ℕ) → PlainQueue × Appended
 append q stream payloads =
-    if (length payloads == 0) || nat_lt 64 (length payloads) then (q, BadBatch)
+    if (length payloads == 0) || nat_lt BATCH_EVENTS (length payloads) then (q, BadBatch)
     else if nat_lt q.limit (length q.events + length payloads) then (q, QueueFull)
     else (record { events = q.events ++ events_of stream q.batches 0 payloads; batches = suc q.batches; limit = q.limit }, Accepted q.batches)
+
+-- a batch of this many payloads is accepted
+pub record Fits (q : PlainQueue) (count : ℕ) : Type 0 where
+  pub some : 0 < count
+  pub few : count ≤ BATCH_EVENTS
+  pub room : length q.events + count ≤ q.limit
 
 -- Only a batch that is accepted may want memory.
 abbrev pub takes_memory : Appended → Bool
@@ -50,6 +57,6 @@ pub record TokensRise (q : PlainQueue) : Type 0 where
 -- what is so of every queue
 pub record IsLog (q : PlainQueue) : Type 0 where
   pub within : length q.events ≤ q.limit
-  pub limit : q.limit ≤ 1000000
+  pub limit : q.limit ≤ MOST_EVENTS
   pub batches : q.batches ≤ length q.events
   pub tokens : TokensRise q

@@ -4,10 +4,7 @@ ghost use Rattle.queue_mapper.specs.Place.{tag_of, tags_of};
 
 use std::alloc::{AllocError, Global};
 use std::marker::Model;
-use stream_ident::Event;
-
-/// The most events of an excerpt.
-const MAX_EVENTS: usize = 256;
+use stream_ident::{Event, PULL_EVENTS};
 
 /// Up to 256 events that were read from a log, and the tags of their streams, in room that is there from the
 /// start. A log keeps no whole event that it could lend.
@@ -46,8 +43,8 @@ impl Excerpt {
         ensures { IfOk result (λ excerpt. excerpt ≡ []) }
     {
         Ok(Excerpt {
-            events: Vec::with_capacity(alloc, MAX_EVENTS)?,
-            tags: Vec::with_capacity(alloc, MAX_EVENTS)?,
+            events: Vec::with_capacity(alloc, PULL_EVENTS)?,
+            tags: Vec::with_capacity(alloc, PULL_EVENTS)?,
         })
     }
 
@@ -75,7 +72,7 @@ impl Excerpt {
 
     /// Adds an event with its stream's tag at the end. It takes no memory.
     pub(crate) fn push(&mut self, event: Event, tag: u8)
-        requires room { length self.old < 256 }
+        requires room { length self.old < PULL_EVENTS }
         requires tag { tag ≡ tag_of event.stream }
         ensures { self.new ≡ self.old ++ event ∷ [] }
     {

@@ -1,9 +1,11 @@
 //! The queue of a partition.
-ghost use Rattle.std.specs.Prelude.{◌≡◌, ◌+◌, ◌-◌, ◌*◌, ◌<◌, ◌≤◌, ◌↔◌, ◌++◌, [], true, length, IsTrue, OnErr, vec_len, vec_capacity};
+ghost use Rattle.std.specs.Prelude.{◌≡◌, ℕ, ◌+◌, ◌-◌, ◌*◌, ◌^◌, ◌<◌, ◌≤◌, ◌↔◌, ◌++◌, List, [], ◌∷◌, true, length, get_or, map, IfOk, IsTrue, MatchOption, OnErr, OnOk, vec_len, vec_capacity};
+ghost use Rattle.stream_ident.specs.declared.limits.TheConstants.{MOST_EVENTS, PULL_EVENTS};
 ghost use Rattle.std.specs.List.{AllByRecursion, concat};
+ghost use Rattle.stream_ident.specs.declared.ident.StreamId.{StreamId};
 ghost use Rattle.stream_ident.specs.Alphabet.{IsPayload};
-ghost use Rattle.partition_queue.specs.Log.{entries_of, event_of, IsEntry};
-ghost use Rattle.partition_queue.specs.Queue.{append, between, empty, event_at, takes_memory, token_at, TokensRise};
+ghost use Rattle.partition_queue.specs.Log.{entries_of, entry_of, event_of, no_stream, Grows, IsEntry};
+ghost use Rattle.partition_queue.specs.Queue.{append, between, empty, event_at, takes_memory, token_at, Fits, TokensRise};
 ghost use Rattle.queue_mapper.specs.Place.{tag_of};
 ghost use Rattle.stream_ident.specs.Words.{Performs};
 
@@ -12,13 +14,7 @@ use crate::excerpt::Excerpt;
 use crate::streams::Streams;
 use std::alloc::{AllocError, Global};
 use std::marker::Model;
-use stream_ident::{Batch, Event, Payload, StreamId, Token};
-
-/// The most payloads of a batch.
-const MAX_BATCH: usize = 64;
-
-/// The most bytes of a payload.
-const MAX_PAYLOAD: usize = 256;
+use stream_ident::{BATCH_EVENTS, Batch, Event, PAYLOAD_BYTES, Payload, StreamId, Token};
 
 /// What the log keeps of an event: the number of its stream, its token, and where its payload lies. It
 /// takes 16 bytes.
@@ -94,7 +90,7 @@ impl Model for PartitionQueue {
 impl PartitionQueue {
     /// A queue with no events, which takes at most `limit` events, at most 1,000,000. It takes no memory.
     pub fn new(alloc: Global, limit: usize) -> PartitionQueue
-        requires { limit ≤ 1000000 }
+        requires { limit ≤ MOST_EVENTS }
         ensures { result ≡ empty limit }
     {
         PartitionQueue {
@@ -125,16 +121,16 @@ impl PartitionQueue {
         ensures memory { OnErr result (takes_memory (append self.old stream payloads.now).1 ≡ true) }
     {
         let payloads = payloads.as_slice();
-        if payloads.is_empty() || payloads.len() > MAX_BATCH {
-            return Ok(Appended::BadBatch);
+        if let Some(refusal) = self.refusal(payloads.len()) {
+            return Ok(refusal);
         }
-        if payloads.len() > self.limit - self.len() {
-            return Ok(Appended::QueueFull);
-        }
-        self.entries.reserve(payloads.len())?;
-        self.bytes.reserve(MAX_PAYLOAD * payloads.len())?;
-        // The stream comes last: what is reserved before it is no change.
-        let stream = self.streams.number_of(stream)?;
+        let stream = make_room(
+            &mut self.streams,
+            &mut self.entries,
+            &mut self.bytes,
+            stream,
+            payloads.len(),
+        )?;
         let seq = self.batches;
         push_events(
             &mut self.entries,
@@ -145,6 +141,55 @@ impl PartitionQueue {
         );
         self.batches = seq + 1;
         Ok(Appended::Accepted { seq })
+    }
+
+    /// Puts the events of a batch at the end, as `append` does it, where each payload is lent as its bytes.
+    ///
+    /// # Errors
+    /// They are those of `append`.
+    pub fn append_slices(
+        &mut self,
+        _alloc: Global,
+        stream: &StreamId,
+        payloads: &[&[u8]],
+    ) -> Result<Appended, AllocError>
+        requires { AllByRecursion IsPayload (map (λ payload. payload.now) payloads.now) }
+        ensures performs { Performs self.old self.new result (append self.old stream.now (map (λ payload. payload.now) payloads.now)) }
+        ensures memory { OnErr result (takes_memory (append self.old stream.now (map (λ payload. payload.now) payloads.now)).1 ≡ true) }
+    {
+        if let Some(refusal) = self.refusal(payloads.len()) {
+            return Ok(refusal);
+        }
+        let stream = make_room(
+            &mut self.streams,
+            &mut self.entries,
+            &mut self.bytes,
+            *stream,
+            payloads.len(),
+        )?;
+        let seq = self.batches;
+        push_slices(
+            &mut self.entries,
+            &mut self.bytes,
+            stream,
+            seq as u32,
+            payloads,
+        );
+        self.batches = seq + 1;
+        Ok(Appended::Accepted { seq })
+    }
+
+    /// Why a batch of this many payloads is refused, or none where it is accepted.
+    fn refusal(&self, count: usize) -> Option<Appended>
+        ensures { MatchOption result (Fits self.now count) (λ refusal. (stream : StreamId) (payloads : List (List ℕ)) → length payloads ≡ count → append self.now stream payloads ≡ (self.now, refusal)) }
+    {
+        if count == 0 || count > BATCH_EVENTS {
+            return Some(Appended::BadBatch);
+        }
+        if count > self.limit - self.len() {
+            return Some(Appended::QueueFull);
+        }
+        None
     }
 
     /// How many events there are.
@@ -198,7 +243,7 @@ impl PartitionQueue {
     pub fn read(&self, from: usize, to: usize, excerpt: &mut Excerpt)
         requires order { from ≤ to }
         requires end { to ≤ length self.now.events }
-        requires few { to - from ≤ 256 }
+        requires few { to - from ≤ PULL_EVENTS }
         ensures events { excerpt.new ≡ between self.now from to }
         ensures count { length excerpt.new ≡ to - from }
     {
@@ -217,6 +262,34 @@ impl PartitionQueue {
     }
 }
 
+/// Makes room for the events of a batch, and gives the number of its stream.
+///
+/// # Errors
+/// The call failed to allocate, and at most the room has changed.
+fn make_room(
+    streams: &mut Streams,
+    entries: &mut Vec<Entry>,
+    bytes: &mut Vec<u8>,
+    stream: StreamId,
+    count: usize,
+) -> Result<u32, AllocError>
+    requires few { length streams.old < MOST_EVENTS }
+    requires count { count ≤ BATCH_EVENTS }
+    ensures entries { entries.new.items ≡ entries.old.items }
+    ensures bytes { bytes.new.items ≡ bytes.old.items }
+    ensures entries_room { OnOk result (vec_len entries.new + count ≤ vec_capacity entries.new) }
+    ensures bytes_room { OnOk result (vec_len bytes.new + PAYLOAD_BYTES * count ≤ vec_capacity bytes.new) }
+    ensures within { IfOk result (λ number. number < length streams.new) }
+    ensures stored { IfOk result (λ number. get_or streams.new number no_stream ≡ stream) }
+    ensures grows { OnOk result (Grows streams.old streams.new) }
+    ensures err { OnErr result (streams.new ≡ streams.old) }
+{
+    entries.reserve(count)?;
+    bytes.reserve(PAYLOAD_BYTES * count)?;
+    // The stream comes last: what is reserved before it is no change.
+    streams.number_of(stream)
+}
+
 /// Writes the events of a batch into room that is there.
 fn push_events(
     entries: &mut Vec<Entry>,
@@ -225,25 +298,67 @@ fn push_events(
     seq: u32,
     payloads: &[Payload],
 )
-    requires few { length payloads.now ≤ 64 }
-    requires starts { length bytes.old.items ≤ 256000000 }
+    requires few { length payloads.now ≤ BATCH_EVENTS }
+    requires starts { length bytes.old.items ≤ PAYLOAD_BYTES * MOST_EVENTS }
     requires room { vec_len entries.old + length payloads.now ≤ vec_capacity entries.old }
-    requires bytes { vec_len bytes.old + 256 * length payloads.now ≤ vec_capacity bytes.old }
+    requires bytes { vec_len bytes.old + PAYLOAD_BYTES * length payloads.now ≤ vec_capacity bytes.old }
     ensures entries { entries.new.items ≡ entries.old.items ++ entries_of stream seq 0 (length bytes.old.items) payloads.now }
     ensures bytes { bytes.new.items ≡ bytes.old.items ++ concat payloads.now }
     ensures payloads { AllByRecursion IsPayload payloads.now }
 {
     for (idx, payload) in payloads.iter().enumerate() {
-        let text = payload.as_bytes();
-        entries.push_reserved(Entry {
-            stream,
-            seq,
-            start: bytes.len() as u32,
-            len: text.len() as u16,
-            idx: idx as u16,
-        });
-        bytes.extend_from_slice(text).unwrap();
+        push_event(entries, bytes, stream, seq, idx, payload.as_bytes());
     }
+}
+
+/// Writes the events of a batch whose payloads are lent into room that is there.
+fn push_slices(
+    entries: &mut Vec<Entry>,
+    bytes: &mut Vec<u8>,
+    stream: u32,
+    seq: u32,
+    payloads: &[&[u8]],
+)
+    requires payloads { AllByRecursion IsPayload (map (λ payload. payload.now) payloads.now) }
+    requires few { length payloads.now ≤ BATCH_EVENTS }
+    requires starts { length bytes.old.items ≤ PAYLOAD_BYTES * MOST_EVENTS }
+    requires room { vec_len entries.old + length payloads.now ≤ vec_capacity entries.old }
+    requires bytes { vec_len bytes.old + PAYLOAD_BYTES * length payloads.now ≤ vec_capacity bytes.old }
+    ensures entries { entries.new.items ≡ entries.old.items ++ entries_of stream seq 0 (length bytes.old.items) (map (λ payload. payload.now) payloads.now) }
+    ensures bytes { bytes.new.items ≡ bytes.old.items ++ concat (map (λ payload. payload.now) payloads.now) }
+{
+    for (idx, payload) in payloads.iter().enumerate() {
+        push_event(entries, bytes, stream, seq, idx, *payload);
+    }
+}
+
+/// Writes one event of a batch into room that is there.
+fn push_event(
+    entries: &mut Vec<Entry>,
+    bytes: &mut Vec<u8>,
+    stream: u32,
+    seq: u32,
+    idx: usize,
+    payload: &[u8],
+)
+    requires few { idx < BATCH_EVENTS }
+    requires short { length payload.now ≤ PAYLOAD_BYTES }
+    requires starts { length bytes.old.items < 2 ^ 32 }
+    requires room { vec_len entries.old < vec_capacity entries.old }
+    requires bytes { vec_len bytes.old + length payload.now ≤ vec_capacity bytes.old }
+    ensures entries { entries.new.items ≡ entries.old.items ++ entry_of stream seq idx (length bytes.old.items) payload.now ∷ [] }
+    ensures bytes { bytes.new.items ≡ bytes.old.items ++ payload.now }
+    ensures room { vec_capacity entries.new ≡ vec_capacity entries.old }
+    ensures bytes_room { vec_capacity bytes.old ≤ vec_capacity bytes.new }
+{
+    entries.push_reserved(Entry {
+        stream,
+        seq,
+        start: bytes.len() as u32,
+        len: payload.len() as u16,
+        idx: idx as u16,
+    });
+    bytes.extend_from_slice(payload).unwrap();
 }
 
 /// The event of an entry, of these streams and bytes.

@@ -1,5 +1,6 @@
 //! The streams of a log, each once, and beside each its tag.
 ghost use Rattle.std.specs.Prelude.{◌≡◌, ◌<◌, ◌≤◌, [], length, get_or, map, IfOk, OnOk, OnErr};
+ghost use Rattle.stream_ident.specs.declared.limits.TheConstants.{MOST_EVENTS};
 ghost use Rattle.queue_mapper.specs.Place.{tag_of};
 ghost use Rattle.partition_queue.specs.Log.{no_stream, Grows};
 
@@ -53,7 +54,7 @@ impl Streams {
     /// # Errors
     /// The call failed to allocate, and the streams are as they were.
     pub(crate) fn number_of(&mut self, stream: StreamId) -> Result<u32, AllocError>
-        requires { length self.old < 1000000 }
+        requires { length self.old < MOST_EVENTS }
         ensures within { IfOk result (λ number. number < length self.new) }
         ensures stored { IfOk result (λ number. get_or self.new number no_stream ≡ stream) }
         ensures grows { OnOk result (Grows self.old self.new) }

@@ -23,6 +23,7 @@ use Rattle.stream_model.specs.Positions.{between, grain_at, is_outstanding, is_s
 use Rattle.stream_model.specs.Pulling.{caught_up, deliver, deliver_to, deliver_position, delivered, woken}
 use Rattle.stream_model.specs.Step.{takes_memory}
 use Rattle.stream_ident.specs.Words.{first_at, with_value}
+use Rattle.stream_ident.specs.declared.limits.TheConstants.{MAILBOX_PLACES}
 use Rattle.stream_model.proofs.Beginning.{grain_at-new}
 use Rattle.stream_ident.proofs.EachOf.{All-weaken}
 
@@ -76,27 +77,27 @@ deliver-nothing p generation s r after current is_r is_open none caught =
 pub deliver-found : (p : PlainPartition) (generation : ℕ) (s : SubName) (r : Subscription) (position : ℕ) → generation ≡ p.generation → sub_at p s ≡ Some r → r.is_open ≡ true → next_position p r ≡ Some position → deliver_position p s r (grain_at p r.grain) (Some position) ≡ deliver p generation s
 deliver-found p generation s r position = deliver-open p generation s r (Some position)
 
-pub deliver_position-full : (p : PlainPartition) (s : SubName) (r : Subscription) (st : Grain) (position : ℕ) → 16 ≤ length st.mailbox → (p, reply.MailboxFull) ≡ deliver_position p s r st (Some position)
+pub deliver_position-full : (p : PlainPartition) (s : SubName) (r : Subscription) (st : Grain) (position : ℕ) → MAILBOX_PLACES ≤ length st.mailbox → (p, reply.MailboxFull) ≡ deliver_position p s r st (Some position)
 unfolding deliver_position
 deliver_position-full p s r st position full =
     sym (ap {B = PlainPartition × Reply} (λ b. if b then (p, reply.MailboxFull) else if not st.active && is_spent p then (p, reply.Spent) else (delivered p s r st position, reply.Delivered (token_at p position))) (le-leb 16 (length st.mailbox) full))
 
-deliver_position-room : (p : PlainPartition) (s : SubName) (r : Subscription) (st : Grain) (position : ℕ) → length st.mailbox < 16 → deliver_position p s r st (Some position) ≡ (if not st.active && is_spent p then (p, reply.Spent) else (delivered p s r st position, reply.Delivered (token_at p position)))
+deliver_position-room : (p : PlainPartition) (s : SubName) (r : Subscription) (st : Grain) (position : ℕ) → length st.mailbox < MAILBOX_PLACES → deliver_position p s r st (Some position) ≡ (if not st.active && is_spent p then (p, reply.Spent) else (delivered p s r st position, reply.Delivered (token_at p position)))
 unfolding deliver_position
 deliver_position-room p s r st position room =
     ap {B = PlainPartition × Reply} (λ b. if b then (p, reply.MailboxFull) else if not st.active && is_spent p then (p, reply.Spent) else (delivered p s r st position, reply.Delivered (token_at p position))) (lt-leb 16 (length st.mailbox) room)
 
-pub deliver_position-spent : (p : PlainPartition) (s : SubName) (r : Subscription) (st : Grain) (position : ℕ) → length st.mailbox < 16 → (not st.active && is_spent p) ≡ true → (p, reply.Spent) ≡ deliver_position p s r st (Some position)
+pub deliver_position-spent : (p : PlainPartition) (s : SubName) (r : Subscription) (st : Grain) (position : ℕ) → length st.mailbox < MAILBOX_PLACES → (not st.active && is_spent p) ≡ true → (p, reply.Spent) ≡ deliver_position p s r st (Some position)
 deliver_position-spent p s r st position room spent =
     sym (deliver_position-room p s r st position room
     ∙ ap {B = PlainPartition × Reply} (λ b. if b then (p, reply.Spent) else (delivered p s r st position, reply.Delivered (token_at p position))) spent)
 
-deliver_position-fits : (p : PlainPartition) (s : SubName) (r : Subscription) (st : Grain) (position : ℕ) → length st.mailbox < 16 → (not st.active && is_spent p) ≡ false → deliver_position p s r st (Some position) ≡ (delivered p s r st position, reply.Delivered (token_at p position))
+deliver_position-fits : (p : PlainPartition) (s : SubName) (r : Subscription) (st : Grain) (position : ℕ) → length st.mailbox < MAILBOX_PLACES → (not st.active && is_spent p) ≡ false → deliver_position p s r st (Some position) ≡ (delivered p s r st position, reply.Delivered (token_at p position))
 deliver_position-fits p s r st position room left =
     deliver_position-room p s r st position room
     ∙ ap {B = PlainPartition × Reply} (λ b. if b then (p, reply.Spent) else (delivered p s r st position, reply.Delivered (token_at p position))) left
 
-pub deliver_position-done : (p : PlainPartition) (s : SubName) (r : Subscription) (st : Grain) (position : ℕ) (subs : List (SubName × Subscription)) (grains : List (GrainId × Grain)) (rises : ℕ) (token : Token) → length st.mailbox < 16 → (not st.active && is_spent p) ≡ false → subs ≡ with_value same_sub s (record r { cursor = suc position }) p.subs → grains ≡ with_value same_grain r.grain (woken st s position) p.grains → rises ≡ (if st.active then p.rises else suc p.rises) → token ≡ token_at p position → (record p { subs = subs; grains = grains; rises = rises }, reply.Delivered token) ≡ deliver_position p s r st (Some position)
+pub deliver_position-done : (p : PlainPartition) (s : SubName) (r : Subscription) (st : Grain) (position : ℕ) (subs : List (SubName × Subscription)) (grains : List (GrainId × Grain)) (rises : ℕ) (token : Token) → length st.mailbox < MAILBOX_PLACES → (not st.active && is_spent p) ≡ false → subs ≡ with_value same_sub s (record r { cursor = suc position }) p.subs → grains ≡ with_value same_grain r.grain (woken st s position) p.grains → rises ≡ (if st.active then p.rises else suc p.rises) → token ≡ token_at p position → (record p { subs = subs; grains = grains; rises = rises }, reply.Delivered token) ≡ deliver_position p s r st (Some position)
 deliver_position-done p s r st position subs grains rises token room left is_subs is_grains is_rises is_token =
     ap {B = PlainPartition × Reply} (λ (subs : List (SubName × Subscription)). (record p { subs = subs; grains = grains; rises = rises }, reply.Delivered token)) is_subs
     ∙ (ap {B = PlainPartition × Reply} (λ (grains : List (GrainId × Grain)). (record p { subs = with_value same_sub s (record r { cursor = suc position }) p.subs; grains = grains; rises = rises }, reply.Delivered token)) is_grains
@@ -104,7 +105,7 @@ deliver_position-done p s r st position subs grains rises token room left is_sub
     ∙ (ap {B = PlainPartition × Reply} (λ token. (delivered p s r st position, reply.Delivered token)) is_token
     ∙ sym (deliver_position-fits p s r st position room left))))
 
-pub deliver_position-takes : (p : PlainPartition) (s : SubName) (r : Subscription) (st : Grain) (position : ℕ) → length st.mailbox < 16 → (not st.active && is_spent p) ≡ false → takes_memory (deliver_position p s r st (Some position)).1 ≡ true
+pub deliver_position-takes : (p : PlainPartition) (s : SubName) (r : Subscription) (st : Grain) (position : ℕ) → length st.mailbox < MAILBOX_PLACES → (not st.active && is_spent p) ≡ false → takes_memory (deliver_position p s r st (Some position)).1 ≡ true
 deliver_position-takes p s r st position room left =
     ap (λ (stepped : PlainPartition × Reply). takes_memory stepped.1) (deliver_position-fits p s r st position room left)
 

@@ -1,5 +1,7 @@
 //! A grain leaves memory.
 ghost use Rattle.std.specs.Prelude.{◌≡◌, ◌<◌, ◌≤◌, ◌^◌, ◌&&◌, [], None, false, length};
+ghost use Rattle.stream_ident.specs.declared.limits.TheConstants.{TURN_EVENTS};
+ghost use Rattle.stream_ident.specs.declared.limits.TheConstants.{TURN_EVENTS};
 ghost use Rattle.stream_ident.specs.Name.{same_grain};
 ghost use Rattle.stream_model.specs.declared.plain.Grain.{Grain};
 ghost use Rattle.stream_model.specs.Places.{change_at};
@@ -40,7 +42,7 @@ fn waiting_count(mailbox: &Sequence<Delivery>) -> usize
 /// How many events run.
 fn running_count(running: &Option<RunningTurn>) -> usize
     ensures count { result ≡ running_count running.now }
-    ensures bound { result ≤ 16 }
+    ensures bound { result ≤ TURN_EVENTS }
 {
     match running {
         Some(run) => run.positions.len(),

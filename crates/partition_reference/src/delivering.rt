@@ -18,7 +18,7 @@ use crate::records::{
     wake,
 };
 use std::alloc::{AllocError, Global};
-use stream_ident::{Event, GrainId, SubName, Token};
+use stream_ident::{Event, GrainId, MAILBOX_PLACES, SubName, Token};
 use stream_model::{Delivery, Grain, PlainPartition, Reply, RunningTurn, Sequence, Subscription};
 
 /// The agent hands the next event of a subscription to its grain's mailbox. Where it fails to allocate,
@@ -104,7 +104,7 @@ fn deliver_position(
         return deliver_first(p, alloc, sub, place, id, position);
     };
     let grain = grain_in(&p.grains, &id, at);
-    if grain.mailbox.as_slice().len() >= 16 {
+    if grain.mailbox.as_slice().len() >= MAILBOX_PLACES {
         return Ok(Reply::MailboxFull);
     }
     if lacks_rise(p, grain) {

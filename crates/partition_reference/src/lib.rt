@@ -4,6 +4,7 @@
 #![tactic(auto)]
 
 ghost use Rattle.std.specs.Prelude.{◌≡◌, ◌≤◌, true, OnErr};
+ghost use Rattle.stream_ident.specs.declared.limits.TheConstants.{MOST_BLOCKS};
 ghost use Rattle.stream_model.specs.Bounds.{AreLimits, IsWithinLimits};
 ghost use Rattle.stream_model.specs.Looks.{pending_in};
 ghost use Rattle.stream_model.specs.Positions.{empty};
@@ -69,7 +70,7 @@ impl Partition {
     /// The partition before the first operation. It takes no memory.
     pub fn new(alloc: Global, blocks: usize, limits: Limits) -> Partition
         requires some_blocks { 1 ≤ blocks }
-        requires blocks { blocks ≤ 64 }
+        requires blocks { blocks ≤ MOST_BLOCKS }
         requires limits { AreLimits limits }
         ensures { result ≡ empty blocks limits }
     {

@@ -1,5 +1,6 @@
 //! What producers and subscribers ask.
 ghost use Rattle.std.specs.Prelude.{◌≡◌, ◌≤◌, ◌==◌, nat_lt, ◌||◌, ◌++◌, true, length, take, is_ok, OnErr, OnOk, if◌then◌else◌};
+ghost use Rattle.stream_ident.specs.declared.limits.TheConstants.{BATCH_EVENTS};
 ghost use Rattle.stream_model.specs.Bounds.{IsWithinLimits};
 ghost use Rattle.stream_ident.specs.Event.{events_of};
 ghost use Rattle.stream_model.specs.Positions.{new_subscription};
@@ -9,11 +10,8 @@ ghost use Rattle.stream_ident.specs.Words.{Performs};
 
 use crate::positions::{first_token, high_token, is_token_before, low_token, lower_bound};
 use std::alloc::{AllocError, Global};
-use stream_ident::{Batch, Event, GrainId, Payload, StreamId, SubName, Token};
+use stream_ident::{BATCH_EVENTS, Batch, Event, GrainId, Payload, StreamId, SubName, Token};
 use stream_model::{PlainPartition, Reply, Sequence, Start, Subscription};
-
-/// The most payloads of a batch.
-const BATCH_MAX: usize = 64;
 
 /// A batch is published: its events go to the end of the log.
 pub fn publish(
@@ -119,9 +117,9 @@ pub fn new_subscription(
 
 /// Whether a batch has no payload, or too many.
 fn is_bad_batch(payloads: &[Payload]) -> bool
-    ensures { result ≡ ((length payloads.now == 0) || nat_lt 64 (length payloads.now)) }
+    ensures { result ≡ ((length payloads.now == 0) || nat_lt BATCH_EVENTS (length payloads.now)) }
 {
-    payloads.is_empty() || payloads.len() > BATCH_MAX
+    payloads.is_empty() || payloads.len() > BATCH_EVENTS
 }
 
 /// Adds the events of a batch at the end. Where it fails to allocate, the log stays as it was.
@@ -131,7 +129,7 @@ fn append_events(
     seq: u64,
     payloads: &[Payload],
 ) -> Result<(), AllocError>
-    requires { length payloads.now ≤ 64 }
+    requires { length payloads.now ≤ BATCH_EVENTS }
     ensures { log.new ≡ (if is_ok result then log.old ++ events_of stream.now seq 0 payloads.now else log.old) }
 {
     let len = log.items.len();
@@ -149,7 +147,7 @@ fn push_events(
     seq: u64,
     payloads: &[Payload],
 ) -> Result<(), AllocError>
-    requires { length payloads.now ≤ 64 }
+    requires { length payloads.now ≤ BATCH_EVENTS }
     ensures all { OnOk result (log.new.items ≡ log.old.items ++ events_of stream.now seq 0 payloads.now) }
     ensures front { take (length log.old.items) log.new.items ≡ log.old.items }
 {

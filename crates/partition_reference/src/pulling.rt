@@ -1,5 +1,7 @@
 //! What a pulling agent asks.
 ghost use Rattle.std.specs.Prelude.{◌≡◌, ◌==◌, ◌≤◌, ◌+◌, ◌-◌, ◌*◌, ◌&&◌, ℕ, true, not, length, take, fold, is_ok, is_some, min, max, OnErr, OnOk, if◌then◌else◌};
+ghost use Rattle.stream_ident.specs.declared.limits.TheConstants.{MOST_BLOCKS, MOST_RULES};
+ghost use Rattle.stream_ident.specs.declared.limits.TheConstants.{BLOCK_EVENTS, MOST_BLOCKS, MOST_RULES, PULL_EVENTS};
 ghost use Rattle.std.specs.List.{flat_map};
 ghost use Rattle.stream_ident.specs.Name.{same_name};
 ghost use Rattle.stream_ident.specs.SubName.{same_sub};
@@ -19,14 +21,8 @@ use crate::positions::{
 };
 use crate::publishing::new_subscription;
 use std::alloc::{AllocError, Global};
-use stream_ident::{Event, GrainId, Rule, SubName};
+use stream_ident::{BLOCK_EVENTS, Event, GrainId, PULL_EVENTS, Rule, SubName};
 use stream_model::{PlainPartition, Reply, Sequence, Subscription};
-
-/// The events of a block of the cache.
-pub const BLOCK: usize = 64;
-
-/// The most events of a pull.
-const PULL_MAX: u32 = 256;
 
 /// The agent takes events from the queue into the cache, and the rules make subscriptions of them.
 pub fn pull(
@@ -60,26 +56,26 @@ pub fn is_stale(p: &PlainPartition, generation: u64) -> bool
 /// How many events a pull may take.
 fn pull_size(max: u32) -> usize
     ensures size { result ≡ pull_size max }
-    ensures bound { result ≤ 256 }
+    ensures bound { result ≤ PULL_EVENTS }
 {
-    max.max(1).min(PULL_MAX) as usize
+    max.max(1).min(PULL_EVENTS as u32) as usize
 }
 
 /// Takes as many of these events as there is room for, blocks of the cache being dropped for them.
 fn pull_want(p: &mut PlainPartition, alloc: Global, want: usize) -> Result<Reply, AllocError>
     requires within { IsWithinLimits p.old }
-    requires size { want ≤ 256 }
+    requires size { want ≤ PULL_EVENTS }
     requires queued { want ≤ length p.old.log - p.old.high }
     ensures performs { Performs p.old p.new result (pull_want p.old want) }
     ensures memory { OnErr result (takes_memory (pull_want p.old want).1 ≡ true) }
 {
     let blocks = drops(p, want);
-    let count = want.min(room(p) + BLOCK * blocks);
+    let count = want.min(room(p) + BLOCK_EVENTS * blocks);
     if count == 0 {
         let by = slowest_name(p).unwrap_or(SubName::Explicit(0));
         return Ok(Reply::Pressed { by });
     }
-    let low = p.low + BLOCK * blocks;
+    let low = p.low + BLOCK_EVENTS * blocks;
     let high = p.high + count;
     pull_events(p, alloc, low, high)
 }
@@ -93,7 +89,7 @@ fn pull_events(
 ) -> Result<Reply, AllocError>
     requires within { IsWithinLimits p.old }
     requires order { p.old.high ≤ high }
-    requires size { high ≤ p.old.high + 256 }
+    requires size { high ≤ p.old.high + PULL_EVENTS }
     ensures performs { Performs p.old p.new result (pull_events p.old low high (subs_with p.old.rules p.old.high p.old.subs (between p.old.log p.old.high high))) }
     ensures memory { OnErr result (takes_memory (pull_events p.old low high (subs_with p.old.rules p.old.high p.old.subs (between p.old.log p.old.high high))).1 ≡ true) }
 {
@@ -120,36 +116,36 @@ fn pull_events(
 pub fn free_blocks(p: &PlainPartition) -> usize
     ensures { result ≡ free_blocks p.now }
 {
-    p.high.min(slowest(p)).saturating_sub(p.low) / BLOCK
+    p.high.min(slowest(p)).saturating_sub(p.low) / BLOCK_EVENTS
 }
 
 /// How many more events the cache takes.
 fn room(p: &PlainPartition) -> usize
-    requires { p.now.blocks ≤ 64 }
+    requires { p.now.blocks ≤ MOST_BLOCKS }
     ensures room { result ≡ room p.now }
     ensures bound { result ≤ 4096 }
 {
-    (BLOCK * p.blocks).saturating_sub(p.high.saturating_sub(p.low))
+    (BLOCK_EVENTS * p.blocks).saturating_sub(p.high.saturating_sub(p.low))
 }
 
 /// The fewest blocks that make room for so many events, or all that are free.
 fn drops(p: &PlainPartition, want: usize) -> usize
-    requires blocks { p.now.blocks ≤ 64 }
-    requires size { want ≤ 256 }
+    requires blocks { p.now.blocks ≤ MOST_BLOCKS }
+    requires size { want ≤ PULL_EVENTS }
     ensures drops { result ≡ drops p.now want }
     ensures few { result ≤ 4 }
-    ensures fits { p.now.low + 64 * result ≤ max p.now.low p.now.high }
+    ensures fits { p.now.low + BLOCK_EVENTS * result ≤ max p.now.low p.now.high }
 {
     let missing = want.saturating_sub(room(p));
-    missing.div_ceil(BLOCK).min(free_blocks(p))
+    missing.div_ceil(BLOCK_EVENTS).min(free_blocks(p))
 }
 
 /// How many new names the rules make of these events.
 fn count_new(subs: &[(SubName, Subscription)], rules: &[Rule], events: &[Event]) -> usize
-    requires rules { length rules.now ≤ 64 }
-    requires events { length events.now ≤ 256 }
+    requires rules { length rules.now ≤ MOST_RULES }
+    requires events { length events.now ≤ PULL_EVENTS }
     ensures count { (position : ℕ) → length (subs_with rules.now position subs.now events.now) ≡ length subs.now + result }
-    ensures bound { result ≤ 64 * length events.now }
+    ensures bound { result ≤ MOST_RULES * length events.now }
 {
     let mut count = 0;
     for (index, event) in events.iter().enumerate() {
@@ -165,7 +161,7 @@ fn count_for_event(
     earlier: &[Event],
     event: &Event,
 ) -> usize
-    requires { length rules.now ≤ 64 }
+    requires { length rules.now ≤ MOST_RULES }
     ensures count { (position : ℕ) →
         length (fold added (subs_with rules.now position subs.now earlier.now) (flat_map (implied position event.now) rules.now))
         ≡ length (subs_with rules.now position subs.now earlier.now) + result }

@@ -1,5 +1,6 @@
 //! What a worker asks: the turns of a grain.
 ghost use Rattle.std.specs.Prelude.{◌≡◌, ◌<◌, ◌≤◌, ◌∷◌, ◌&&◌, ◌==◌, OnErr, Some, drop, false, length, nat_le, nat_lt, pred, suc, true};
+ghost use Rattle.stream_ident.specs.declared.limits.TheConstants.{TURN_EVENTS};
 ghost use Rattle.std.specs.List.{AllByRecursion};
 ghost use Rattle.stream_ident.specs.Name.{same_grain};
 ghost use Rattle.stream_ident.specs.SubName.{same_sub};
@@ -17,7 +18,7 @@ use crate::records::{
     start_turn, sub_in,
 };
 use std::alloc::AllocError;
-use stream_ident::{Event, GrainId, Row, SubName};
+use stream_ident::{Event, GrainId, Row, SubName, TURN_EVENTS};
 use stream_model::{Delivery, Events, Grain, PlainPartition, Reply, RunningTurn, Sequence};
 
 /// A worker begins a turn of a grain. It takes no memory.
@@ -36,7 +37,7 @@ fn begin_in(p: &mut PlainPartition, id: &GrainId, at: usize, most: usize) -> Rep
     requires within { IsWithinLimits p.old }
     requires place { place_of same_grain id.now p.old.grains ≡ Some at }
     requires some { 1 ≤ most }
-    requires bound { most ≤ 16 }
+    requires bound { most ≤ TURN_EVENTS }
     ensures { (p.new, result) ≡ begin_in p.old id.now most (grain_at p.old id.now) }
 {
     let grain = grain_in(&p.grains, id, at);
@@ -64,7 +65,7 @@ fn begin_front(
     requires within { IsWithinLimits p.old }
     requires place { place_of same_grain id.now p.old.grains ≡ Some at }
     requires some { 1 ≤ most }
-    requires bound { most ≤ 16 }
+    requires bound { most ≤ TURN_EVENTS }
     requires first { let st = grain_at p.old id.now in st.mailbox ≡ front ∷ drop 1 st.mailbox }
     ensures { let st = grain_at p.old id.now in (p.new, result) ≡ begin_front p.old id.now most st st.mailbox }
 {
@@ -99,7 +100,7 @@ fn begin_turn(
     requires within { IsWithinLimits p.old }
     requires place { place_of same_grain id.now p.old.grains ≡ Some at }
     requires some { 1 ≤ most }
-    requires bound { most ≤ 16 }
+    requires bound { most ≤ TURN_EVENTS }
     requires first { let st = grain_at p.old id.now in st.mailbox ≡ front ∷ drop 1 st.mailbox }
     requires left { is_spent p.old ≡ false }
     ensures { let st = grain_at p.old id.now in
@@ -213,7 +214,7 @@ fn last_position(positions: &Row<usize>) -> usize
 fn turn_size(max: u32) -> usize
     ensures { result ≡ turn_size max }
 {
-    max.clamp(1, 16) as usize
+    (max as usize).clamp(1, TURN_EVENTS)
 }
 
 /// Whether a delivery goes on with a turn of this subscription after this position.
@@ -227,7 +228,7 @@ fn goes_on(sub: &SubName, last: usize, delivery: &Delivery) -> bool
 /// one subscription and rise.
 fn turn_positions(deliveries: &[Delivery], front: &Delivery, most: usize) -> Row<usize>
     requires some { 1 ≤ most }
-    requires bound { most ≤ 16 }
+    requires bound { most ≤ TURN_EVENTS }
     requires first { deliveries.now ≡ front.now ∷ drop 1 deliveries.now }
     ensures { result ≡ front_of most front.now.sub front.now.position deliveries.now }
 {

@@ -33,7 +33,7 @@ pub(crate) enum Call {
     Move(u8),
     /// All that is left is done.
     Drain,
-    /// Why it isn't quiet.
+    /// Whether it is quiet.
     Quiet,
     /// How many events the subscription with a number has handled.
     Handled(u32),
@@ -195,11 +195,11 @@ const DRAINED: [(Call, &str); 12] = [
     (Call::Publish(b'k', 1), "Published { seq: 0 }"),
     (Call::Publish(b'k', 1), "Published { seq: 1 }"),
     (Call::Drain, "Drained { turns: 4 }"),
-    (Call::Quiet, "None"),
+    (Call::Quiet, "Yes"),
     (Call::Handled(1), "2"),
     (Call::Handled(2), "2"),
     (Call::Drain, "Drained { turns: 0 }"),
-    (Call::Quiet, "None"),
+    (Call::Quiet, "Yes"),
     (Call::Handled(1), "2"),
     (Call::Handled(2), "2"),
 ];
@@ -265,7 +265,7 @@ const SHOWN: [(Call, &str); 4] = [
         Call::Subs,
         "[SubSummary { name: Explicit(1), stream: StreamId { namespace: o, key: k }, grain: GrainId { kind: g, key: x }, start: Token { seq: 0, idx: 0 }, is_open: true }]",
     ),
-    (Call::Quiet, "None"),
+    (Call::Quiet, "Yes"),
 ];
 
 /// The rule's subscription has its record first, and its name comes last.
@@ -376,7 +376,7 @@ const RISES: [(Call, &str); 8] = [
     (Call::Begin(b'x', 16), "Spent"),
     (Call::Move(1), "Spent"),
     (Call::Drain, "Spent"),
-    (Call::Quiet, "Some(Waiting(GrainId { kind: g, key: x }))"),
+    (Call::Quiet, "No(Waiting(GrainId { kind: g, key: x }))"),
 ];
 
 /// A pull that makes too many changes nothing.
@@ -389,7 +389,7 @@ const MADE: [(Call, &str); 6] = [
     (Call::Publish(b'a', 1), "Published { seq: 0 }"),
     (Call::Pull(32), "TooMany"),
     (Call::Drain, "TooMany"),
-    (Call::Quiet, "Some(Behind)"),
+    (Call::Quiet, "No(Behind)"),
 ];
 
 /// The limits of a partition, and what is asked of it.

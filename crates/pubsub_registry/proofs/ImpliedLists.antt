@@ -11,6 +11,7 @@ use Rattle.stream_ident.specs.Event.{batch_token}
 use Rattle.stream_ident.specs.Name.{same_name}
 use Rattle.stream_ident.specs.Token.{token_lt}
 use Rattle.stream_ident.specs.Implying.{added}
+use Rattle.stream_ident.specs.declared.limits.TheConstants.{MOST_RULES}
 use Rattle.stream_ident.proofs.NewNames.{added-more, fold-front, has, length-fold}
 use Rattle.pubsub_registry.specs.Implying.{all_implied, implied, made, names_with, rule_count}
 use Rattle.pubsub_registry.specs.declared.registration.Registration.{Registration}
@@ -98,7 +99,7 @@ pub length-on : (namespace : List ℕ) (rules : List Rule) → length (on namesp
 length-on namespace rules =
     omega (arith, length-filter_both (λ (rule : Rule). same_name namespace rule.namespace) (λ (rule : Rule). not (same_name namespace rule.namespace)) (λ _. refl) rules)
 
-few-on : (rules : List Rule) (events : List Event) → length rules ≤ 64 → length (flat_map (λ (event : Event). on event.stream.namespace rules) events) ≤ 64 * length events
+few-on : (rules : List Rule) (events : List Event) → length rules ≤ MOST_RULES → length (flat_map (λ (event : Event). on event.stream.namespace rules) events) ≤ MOST_RULES * length events
 few-on rules [] few = omega arith
 few-on rules (event ∷ events) few =
     omega (
@@ -108,6 +109,6 @@ few-on rules (event ∷ events) few =
       length-append (on event.stream.namespace rules) (flat_map (λ (event : Event). on event.stream.namespace rules) events),
     )
 
-pub few-rule_count : (rules : List Rule) (events : List Event) → length rules ≤ 64 → rule_count rules events ≤ 64 * length events
+pub few-rule_count : (rules : List Rule) (events : List Event) → length rules ≤ MOST_RULES → rule_count rules events ≤ MOST_RULES * length events
 few-rule_count rules events few =
     omega (arith, few-on rules events few, length-flat_map (λ (event : Event). on event.stream.namespace rules) events)

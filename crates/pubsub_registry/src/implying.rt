@@ -1,5 +1,6 @@
 //! The subscriptions that the rules make of events.
 ghost use Rattle.std.specs.Prelude.{◌≡◌, ◌<◌, ◌≤◌, ◌+◌, ◌^◌, ◌↔◌, ◌&&◌, ◌||◌, [], ◌∷◌, ◌++◌, not, length, take, fold, is_some, IsTrue, OnOk, OnErr};
+ghost use Rattle.stream_ident.specs.declared.limits.TheConstants.{MOST_RULES, PULL_EVENTS};
 ghost use Rattle.std.specs.List.{flat_map, list_any};
 ghost use Rattle.stream_ident.specs.Event.{batch_token};
 ghost use Rattle.stream_ident.specs.Name.{same_stream};
@@ -32,7 +33,7 @@ impl Registry {
     /// The call failed to allocate, and nothing has changed. That can happen only where there would be more
     /// subscriptions than before.
     pub fn imply(&mut self, alloc: Global, events: &[Event]) -> Result<Implied, AllocError>
-        requires few { length events.now ≤ 256 }
+        requires few { length events.now ≤ PULL_EVENTS }
         ensures performs { Performs self.old self.new result (imply self.old events.now) }
         ensures memory { OnErr result (length self.old.names < length (imply self.old events.now).0.names) }
     {
@@ -49,8 +50,8 @@ impl Registry {
 /// Mostly there is room for one by each rule on the namespaces of the events, and none is looked up.
 fn has_room(subscriptions: &Subscriptions, rules: &Rules, most: usize, events: &[Event]) -> bool
     requires fits { length subscriptions.now ≤ most }
-    requires rules { length rules.now ≤ 64 }
-    requires events { length events.now ≤ 256 }
+    requires rules { length rules.now ≤ MOST_RULES }
+    requires events { length events.now ≤ PULL_EVENTS }
     ensures { IsTrue result ↔ (length (names_with rules.now subscriptions.now events.now) ≤ most) }
 {
     let room = most - subscriptions.len();
@@ -70,8 +71,8 @@ fn rule_count(rules: &Rules, events: &[Event]) -> usize
 
 /// How many new subscriptions the rules make of these events. It takes no memory.
 fn count_new(subscriptions: &Subscriptions, rules: &Rules, events: &[Event]) -> usize
-    requires rules { length rules.now ≤ 64 }
-    requires events { length events.now ≤ 256 }
+    requires rules { length rules.now ≤ MOST_RULES }
+    requires events { length events.now ≤ PULL_EVENTS }
     ensures { length (names_with rules.now subscriptions.now events.now) ≡ length subscriptions.now + result }
 {
     let mut count = 0;
@@ -88,9 +89,9 @@ fn count_for_event(
     earlier: &[Event],
     event: &Event,
 ) -> usize
-    requires { length rules.now ≤ 64 }
+    requires { length rules.now ≤ MOST_RULES }
     ensures count { length (names_with rules.now subscriptions.now (earlier.now ++ event.now ∷ [])) ≡ length (names_with rules.now subscriptions.now earlier.now) + result }
-    ensures bound { result ≤ 64 }
+    ensures bound { result ≤ MOST_RULES }
 {
     let rules = rules.on_namespace(&event.stream.namespace);
     let mut count = 0;

@@ -1,5 +1,6 @@
 //! The registry.
 ghost use Rattle.std.specs.Prelude.{◌≡◌, ℕ, ◌+◌, ◌^◌, ◌<◌, ◌≤◌, ◌↔◌, false, None, Some, IsTrue, IfSome, OnErr, is_some, length, slice_get};
+ghost use Rattle.stream_ident.specs.declared.limits.TheConstants.{MOST_RULES, MOST_SUBS};
 ghost use Rattle.stream_ident.specs.SubName.{same_sub};
 ghost use Rattle.stream_ident.specs.Words.{first_at, Performs};
 ghost use Rattle.stream_ident.specs.declared.ident.SubName.TheVariants.{Explicit, Implicit};
@@ -54,8 +55,8 @@ impl Model for Registry {
 impl Registry {
     /// A registry without subscriptions and rules, for at most this many of them. It takes no memory.
     pub fn new(alloc: Global, most_names: usize, most_rules: usize) -> Registry
-        requires names { most_names ≤ 10000 }
-        requires rules { most_rules ≤ 64 }
+        requires names { most_names ≤ MOST_SUBS }
+        requires rules { most_rules ≤ MOST_RULES }
         ensures { result ≡ empty most_names most_rules }
     {
         Registry {
@@ -186,7 +187,7 @@ impl Registry {
     pub fn len(&self) -> usize
         ensures len { result ≡ length self.now.names }
         ensures fits { length self.now.names ≤ self.now.most_names }
-        ensures few { self.now.most_names ≤ 10000 }
+        ensures few { self.now.most_names ≤ MOST_SUBS }
         ensures unique { AreUnique self.now.names }
     {
         self.subscriptions.len()
@@ -250,7 +251,7 @@ impl Registry {
     pub fn rules(&self) -> &[Rule]
         ensures rules { result.now ≡ self.now.rules }
         ensures fits { length self.now.rules ≤ self.now.most_rules }
-        ensures few { self.now.most_rules ≤ 64 }
+        ensures few { self.now.most_rules ≤ MOST_RULES }
     {
         self.rules.as_slice()
     }

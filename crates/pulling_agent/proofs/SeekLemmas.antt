@@ -9,6 +9,7 @@ use Rattle.stream_ident.specs.declared.ident.StreamId.{StreamId}
 use Rattle.stream_ident.specs.declared.token.Token.{Token}
 use Rattle.stream_ident.specs.Event.{is_owed, no_event}
 use Rattle.stream_ident.specs.Words.{first_at}
+use Rattle.stream_ident.specs.declared.limits.TheConstants.{BLOCK_EVENTS}
 use Rattle.queue_mapper.specs.Place.{tag_of, tags_of}
 use Rattle.tag_scan.specs.Tags.{IsAbsentBetween}
 use Rattle.stream_ident.specs.Name.{same_stream}
@@ -42,41 +43,41 @@ module _ (passes : Event → Bool) (events : List Event) where
       none_then from place (place + 1) front (λ other reached before within. let same : other ≡ place = omega arith in ap (λ k. passes (get_or events k no_event)) same ∙ here)
 
   -- an event in a block
-  in_block : (index inside : ℕ) → inside < 64 → get_or (take 64 (drop (64 * index) events)) inside no_event ≡ get_or events (64 * index + inside) no_event
+  in_block : (index inside : ℕ) → inside < BLOCK_EVENTS → get_or (take BLOCK_EVENTS (drop (BLOCK_EVENTS * index) events)) inside no_event ≡ get_or events (BLOCK_EVENTS * index + inside) no_event
   in_block index inside within =
-      get_or-take 64 (drop (64 * index) events) inside no_event within ∙ get_or-drop (64 * index) events inside no_event
+      get_or-take BLOCK_EVENTS (drop (BLOCK_EVENTS * index) events) inside no_event within ∙ get_or-drop (BLOCK_EVENTS * index) events inside no_event
 
-  length-block : (index inside : ℕ) → inside < length (take 64 (drop (64 * index) events)) → (inside < 64) × (64 * index + inside < length events)
+  length-block : (index inside : ℕ) → inside < length (take BLOCK_EVENTS (drop (BLOCK_EVENTS * index) events)) → (inside < BLOCK_EVENTS) × (BLOCK_EVENTS * index + inside < length events)
   length-block index inside within =
-      let taken = length-take 64 (drop (64 * index) events) in
-      let dropped = length-drop (64 * index) events in
-      let low : inside < 64 = omega (arith, within, taken, dropped) in
-      let high : 64 * index + inside < length events = omega (arith, within, taken, dropped) in (low, high)
+      let taken = length-take BLOCK_EVENTS (drop (BLOCK_EVENTS * index) events) in
+      let dropped = length-drop (BLOCK_EVENTS * index) events in
+      let low : inside < BLOCK_EVENTS = omega (arith, within, taken, dropped) in
+      let high : BLOCK_EVENTS * index + inside < length events = omega (arith, within, taken, dropped) in (low, high)
 
-  pub none_in_block : (index inside : ℕ) → NoneBetween passes (take 64 (drop (64 * index) events)) inside (length (take 64 (drop (64 * index) events)))
-      → NoneBetween passes events (64 * index + inside) (64 * (index + 1))
+  pub none_in_block : (index inside : ℕ) → NoneBetween passes (take BLOCK_EVENTS (drop (BLOCK_EVENTS * index) events)) inside (length (take BLOCK_EVENTS (drop (BLOCK_EVENTS * index) events)))
+      → NoneBetween passes events (BLOCK_EVENTS * index + inside) (BLOCK_EVENTS * (index + 1))
   none_in_block index inside none place reached before within =
-      let at : place ≡ 64 * index + (place - 64 * index) = omega arith in
-      let there : place - 64 * index < length (take 64 (drop (64 * index) events)) =
-      omega (arith, length-take 64 (drop (64 * index) events), length-drop (64 * index) events) in
+      let at : place ≡ BLOCK_EVENTS * index + (place - BLOCK_EVENTS * index) = omega arith in
+      let there : place - BLOCK_EVENTS * index < length (take BLOCK_EVENTS (drop (BLOCK_EVENTS * index) events)) =
+      omega (arith, length-take BLOCK_EVENTS (drop (BLOCK_EVENTS * index) events), length-drop (BLOCK_EVENTS * index) events) in
       ap (λ k. passes (get_or events k no_event)) at
-      ∙ ap passes (sym (in_block index (place - 64 * index) (omega arith)))
-      ∙ none (place - 64 * index) (omega arith) there there
+      ∙ ap passes (sym (in_block index (place - BLOCK_EVENTS * index) (omega arith)))
+      ∙ none (place - BLOCK_EVENTS * index) (omega arith) there there
 
-  pub first_in_block : (from index inside place : ℕ) → from ≤ 64 * index + inside → NoneBetween passes events from (64 * index + inside)
-      → IsFirst passes (take 64 (drop (64 * index) events)) inside place → IsFirst passes events from (64 * index + place)
+  pub first_in_block : (from index inside place : ℕ) → from ≤ BLOCK_EVENTS * index + inside → NoneBetween passes events from (BLOCK_EVENTS * index + inside)
+      → IsFirst passes (take BLOCK_EVENTS (drop (BLOCK_EVENTS * index) events)) inside place → IsFirst passes events from (BLOCK_EVENTS * index + place)
   first_in_block from index inside place reached before first =
-      let there : (place < 64) × (64 * index + place < length events) = length-block index place first.within in
+      let there : (place < BLOCK_EVENTS) × (BLOCK_EVENTS * index + place < length events) = length-block index place first.within in
       record {
         reached = omega (arith, first.reached);
         within = there.1;
         found = ap passes (sym (in_block index place there.0)) ∙ first.found;
-        before = none_then from (64 * index + inside) (64 * index + place) before
+        before = none_then from (BLOCK_EVENTS * index + inside) (BLOCK_EVENTS * index + place) before
             (λ other low high within.
-            let at : other ≡ 64 * index + (other - 64 * index) = omega arith in
+            let at : other ≡ BLOCK_EVENTS * index + (other - BLOCK_EVENTS * index) = omega arith in
             ap (λ k. passes (get_or events k no_event)) at
-            ∙ ap passes (sym (in_block index (other - 64 * index) (omega (arith, there.0))))
-            ∙ first.before (other - 64 * index) (omega arith) (omega arith) (omega (arith, first.within)));
+            ∙ ap passes (sym (in_block index (other - BLOCK_EVENTS * index) (omega (arith, there.0))))
+            ∙ first.before (other - BLOCK_EVENTS * index) (omega arith) (omega arith) (omega (arith, first.within)));
       }
 
 -- the tags of a stretch of events lack this one
@@ -138,18 +139,18 @@ first_at-drop_none passes n events from none =
     ap passes (get_or-drop from events other no_event) ∙ none (from + other) (omega arith) within within)
 
 -- behind blocks without it, a block has the first place
-pub first_there : (passes : Event → Bool) (events block : List Event) (from index place : ℕ) → from ≤ 64 * index → block ≡ take 64 (drop (64 * index) events)
-    → NoneBetween passes events from (64 * index) → IsFirst passes block 0 place → IsFirst passes events from (64 * index + place)
+pub first_there : (passes : Event → Bool) (events block : List Event) (from index place : ℕ) → from ≤ BLOCK_EVENTS * index → block ≡ take BLOCK_EVENTS (drop (BLOCK_EVENTS * index) events)
+    → NoneBetween passes events from (BLOCK_EVENTS * index) → IsFirst passes block 0 place → IsFirst passes events from (BLOCK_EVENTS * index + place)
 first_there passes events block from index place behind same before first =
     first_in_block passes events from index 0 place (omega arith)
     (λ other reached below within. before other reached (omega arith) within)
     (subst (λ xs. IsFirst passes xs 0 place) same first)
 
 -- behind blocks without it, a block lacks it too
-pub none_there : (passes : Event → Bool) (events block : List Event) (from index : ℕ) → block ≡ take 64 (drop (64 * index) events)
-    → NoneBetween passes events from (64 * index) → NoneBetween passes block 0 (length block) → NoneBetween passes events from (64 * (index + 1))
+pub none_there : (passes : Event → Bool) (events block : List Event) (from index : ℕ) → block ≡ take BLOCK_EVENTS (drop (BLOCK_EVENTS * index) events)
+    → NoneBetween passes events from (BLOCK_EVENTS * index) → NoneBetween passes block 0 (length block) → NoneBetween passes events from (BLOCK_EVENTS * (index + 1))
 none_there passes events block from index same before none =
-    none_then passes events from (64 * index) (64 * (index + 1)) before
+    none_then passes events from (BLOCK_EVENTS * index) (BLOCK_EVENTS * (index + 1)) before
     (λ place reached below within.
     none_in_block passes events index 0 (subst (λ xs. NoneBetween passes xs 0 (length xs)) same none) place (omega arith) below within)
 

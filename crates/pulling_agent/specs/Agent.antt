@@ -4,6 +4,7 @@ use Rattle.std.specs.Prelude.{ℕ, suc, ◌+◌, ◌-◌, ◌*◌, ◌/◌, ◌<
 use Rattle.stream_ident.specs.declared.event.Event.{Event}
 use Rattle.stream_ident.specs.Blocks as blocks
 use Rattle.stream_ident.specs.Blocks.{pull_size}
+use Rattle.stream_ident.specs.declared.limits.TheConstants.{BLOCK_EVENTS, PULL_EVENTS}
 use Rattle.pulling_agent.specs.Cache as cache
 use Rattle.pulling_agent.specs.declared.agent.Plan.{Plan}
 use Rattle.pulling_agent.specs.declared.agent.Plan.TheVariants as plan
@@ -25,7 +26,7 @@ check a generation = if generation == a.generation then Ok tt else Err (record {
 
 -- the cache without its first blocks
 abbrev pub without_blocks : ℕ → cache.PlainCache → cache.PlainCache
-without_blocks blocks c = record { events = drop (64 * blocks) c.events; low = c.low + 64 * blocks; blocks = c.blocks }
+without_blocks blocks c = record { events = drop (BLOCK_EVENTS * blocks) c.events; low = c.low + BLOCK_EVENTS * blocks; blocks = c.blocks }
 
 -- whole blocks that end at or below both the end of the cache and the least resume
 abbrev pub free_blocks : PlainAgent → ℕ → ℕ
@@ -39,7 +40,7 @@ abbrev pub plan_count : ℕ → ℕ → Plan
 plan_count drops count = if count == 0 then plan.Pressed else plan.Take drops count
 
 abbrev pub plan_want : PlainAgent → ℕ → ℕ → Plan
-plan_want a least want = plan_count (drops a least want) (min want (cache.room a.cache + 64 * drops a least want))
+plan_want a least want = plan_count (drops a least want) (min want (cache.room a.cache + BLOCK_EVENTS * drops a least want))
 
 -- what a pull would do to a cache that is behind a log of this length
 abbrev pub plan_pull : PlainAgent → ℕ → ℕ → ℕ → Plan
@@ -50,11 +51,11 @@ plan_pull a max_events len least =
 -- What a plan to take promises: the blocks are there, and none holds an event at or past the least resume;
 -- the events are in the log, and the cache has room for them.
 pub record IsTakeable (a : PlainAgent) (len least drops count : ℕ) : Type 0 where
-  pub blocks : 64 * drops ≤ length a.cache.events
-  pub spent : 64 * drops ≤ least - a.cache.low
+  pub blocks : BLOCK_EVENTS * drops ≤ length a.cache.events
+  pub spent : BLOCK_EVENTS * drops ≤ least - a.cache.low
   pub some : 0 < count
-  pub few : count ≤ 256
-  pub fits : count ≤ cache.room a.cache + 64 * drops
+  pub few : count ≤ PULL_EVENTS
+  pub fits : count ≤ cache.room a.cache + BLOCK_EVENTS * drops
   pub there : cache.high a.cache + count ≤ len
 
 abbrev pub MayTake : PlainAgent → ℕ → ℕ → Plan → Type 0
@@ -71,7 +72,7 @@ purges a keep least = blocks.blocks_to_purge (cache.block_count a.cache) (free_b
 
 -- the cache without its first blocks, and the position that it then begins at
 abbrev pub purge_blocks : PlainAgent → ℕ → PlainAgent × ℕ
-purge_blocks a blocks = (record a { cache = without_blocks blocks a.cache }, a.cache.low + 64 * blocks)
+purge_blocks a blocks = (record a { cache = without_blocks blocks a.cache }, a.cache.low + BLOCK_EVENTS * blocks)
 
 abbrev pub purge : PlainAgent → ℕ → ℕ → PlainAgent × ℕ
 purge a keep least = purge_blocks a (purges a keep least)

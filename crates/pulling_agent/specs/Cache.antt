@@ -2,6 +2,7 @@
 use Rattle.std.specs.Prelude.{ℕ, ◌+◌, ◌-◌, ◌*◌, ◌/◌, List, [], ◌++◌, length, get_or, take, drop}
 use Rattle.stream_ident.specs.declared.event.Event.{Event}
 use Rattle.stream_ident.specs.Event.{no_event}
+use Rattle.stream_ident.specs.declared.limits.TheConstants.{BLOCK_EVENTS}
 
 -- the events that it keeps, the position of the first of them, and how many blocks of 64 it has room for
 pub record PlainCache : Type 0 where
@@ -19,7 +20,7 @@ high c = c.low + length c.events
 
 -- how many more events it takes
 abbrev pub room : PlainCache → ℕ
-room c = 64 * c.blocks - length c.events
+room c = BLOCK_EVENTS * c.blocks - length c.events
 
 abbrev pub event_at : PlainCache → ℕ → Event
 event_at c position = get_or c.events (position - c.low) no_event
@@ -30,12 +31,12 @@ with_events c events = record c { events = c.events ++ events }
 
 -- without the first block
 abbrev pub without_front : PlainCache → PlainCache
-without_front c = record c { events = drop 64 c.events; low = c.low + 64 }
+without_front c = record c { events = drop BLOCK_EVENTS c.events; low = c.low + BLOCK_EVENTS }
 
 -- how many blocks hold events; a part of a block counts as one
 abbrev pub block_count : PlainCache → ℕ
-block_count c = (length c.events + 63) / 64
+block_count c = (length c.events + (BLOCK_EVENTS - 1)) / BLOCK_EVENTS
 
 -- the events of a block
 abbrev pub block_events : PlainCache → ℕ → List Event
-block_events c index = take 64 (drop (64 * index) c.events)
+block_events c index = take BLOCK_EVENTS (drop (BLOCK_EVENTS * index) c.events)

@@ -2,6 +2,7 @@
 use Rattle.std.specs.Prelude.{◌≡◌, ℕ, zero, suc, ◌+◌, ◌*◌, ◌^◌, ◌<◌, ◌≤◌, List, [], ◌∷◌, length, take, drop}
 use Rattle.std.specs.List.{flat_map}
 use Rattle.stream_ident.specs.declared.event.Event.{Event}
+use Rattle.stream_ident.specs.declared.limits.TheConstants.{BLOCK_EVENTS, MOST_BLOCKS}
 use Rattle.pulling_agent.specs.Cache.{PlainCache}
 
 -- the events of the blocks, one block after another
@@ -11,7 +12,7 @@ joined blocks = flat_map (λ block. block) blocks
 -- events in this many blocks: each but the last with events is full, and those behind it are empty
 abbrev pub pieces : ℕ → List Event → List (List Event)
 pieces zero events = []
-pieces (suc n) events = take 64 events ∷ pieces n (drop 64 events)
+pieces (suc n) events = take BLOCK_EVENTS events ∷ pieces n (drop BLOCK_EVENTS events)
 
 -- the cache of a ring of blocks
 abbrev pub plain_of : List (List Event) → ℕ → PlainCache
@@ -21,8 +22,8 @@ plain_of blocks low = record { events = joined blocks; low = low; blocks = lengt
 pub record IsRing (blocks : List (List Event)) (capacity low len : ℕ) : Type 0 where
   pub full : capacity ≡ length blocks
   pub some : 1 ≤ length blocks
-  pub few : length blocks ≤ 64
+  pub few : length blocks ≤ MOST_BLOCKS
   pub counted : len ≡ length (joined blocks)
-  pub fits : len ≤ 64 * length blocks
+  pub fits : len ≤ BLOCK_EVENTS * length blocks
   pub positions : low + len < 2 ^ 64
   pub packed : blocks ≡ pieces (length blocks) (joined blocks)

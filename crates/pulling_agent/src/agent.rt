@@ -1,18 +1,16 @@
 //! The agent.
 ghost use Rattle.std.specs.Prelude.{◌≡◌, ◌+◌, ◌-◌, ◌*◌, ◌^◌, ◌<◌, ◌≤◌, length, max, IfOk};
+ghost use Rattle.stream_ident.specs.declared.limits.TheConstants.{MOST_BLOCKS};
 ghost use Rattle.pulling_agent.specs.Cache.{high, room};
 ghost use Rattle.queue_mapper.specs.Place.{tags_of};
 ghost use Rattle.pulling_agent.specs.Agent.{check, drops, empty, free_blocks, plan_pull, pulled, purge, take_over, without_blocks, MayTake};
 ghost use Rattle.stream_ident.specs.Blocks.{pull_size};
 
-use crate::cache::{BLOCK_SIZE, QueueCache};
+use crate::cache::QueueCache;
 use std::alloc::{AllocError, Global};
 use std::marker::Model;
-use stream_ident::Event;
+use stream_ident::{BLOCK_EVENTS, Event, PULL_EVENTS};
 use thiserror::Error;
-
-/// The most events of one pull.
-const MAX_PULL: usize = 256;
 
 /// The caller speaks for an agent that was replaced.
 #[derive(Clone, Copy, Debug, PartialEq, Eq, Error)]
@@ -62,6 +60,7 @@ impl Drop for Agent {
 }
 
 impl Model for Agent {
+    ghost use Rattle.stream_ident.specs.declared.limits.TheConstants.{BLOCK_EVENTS};
     ghost use Rattle.std.specs.Prelude.{◌*◌, ◌≤◌, length};
     ghost use Rattle.pulling_agent.specs.Agent.{PlainAgent};
 
@@ -69,7 +68,7 @@ impl Model for Agent {
 
     ghost view = { λ a. record { generation = a.generation; silo = a.silo; cache = a.cache } };
 
-    ghost invariant = { λ a. length a.cache.events ≤ 64 * a.cache.blocks };
+    ghost invariant = { λ a. length a.cache.events ≤ BLOCK_EVENTS * a.cache.blocks };
 }
 
 impl Agent {
@@ -80,7 +79,7 @@ impl Agent {
     /// The call failed to allocate the cache.
     pub fn new(alloc: Global, blocks: usize) -> Result<Agent, AllocError>
         requires some { 1 ≤ blocks }
-        requires few { blocks ≤ 64 }
+        requires few { blocks ≤ MOST_BLOCKS }
         ensures { IfOk result (λ agent. agent ≡ empty blocks) }
     {
         Ok(Agent {
@@ -142,7 +141,7 @@ impl Agent {
         }
         let want = pull_size(max_events).min(len - high);
         let drops = self.drops(least, want);
-        let room = self.cache.room().saturating_add(BLOCK_SIZE * drops);
+        let room = self.cache.room().saturating_add(BLOCK_EVENTS * drops);
         match want.min(room) {
             0 => Plan::Pressed,
             count => Plan::Take { drops, count },
@@ -153,8 +152,8 @@ impl Agent {
     /// said. It takes no memory.
     pub fn pull(&mut self, drops: usize, events: &[Event], tags: &[u8])
         requires tags { tags.now ≡ tags_of events.now }
-        requires blocks { 64 * drops ≤ length self.old.cache.events }
-        requires room { length events.now ≤ room self.old.cache + 64 * drops }
+        requires blocks { BLOCK_EVENTS * drops ≤ length self.old.cache.events }
+        requires room { length events.now ≤ room self.old.cache + BLOCK_EVENTS * drops }
         requires positions { high self.old.cache + length events.now < 2 ^ 64 }
         ensures { self.new ≡ pulled self.old drops events.now }
     {
@@ -189,23 +188,23 @@ impl Agent {
     /// How many blocks lie before both the end of the cache and the least resume.
     fn free_blocks(&self, least: usize) -> usize
         ensures free { result ≡ free_blocks self.now least }
-        ensures there { 64 * result ≤ length self.now.cache.events }
-        ensures spent { 64 * result ≤ least - self.now.cache.low }
+        ensures there { BLOCK_EVENTS * result ≤ length self.now.cache.events }
+        ensures spent { BLOCK_EVENTS * result ≤ least - self.now.cache.low }
     {
         let end = self.cache.high().min(least);
-        end.saturating_sub(self.cache.low()) / BLOCK_SIZE
+        end.saturating_sub(self.cache.low()) / BLOCK_EVENTS
     }
 
     /// The fewest blocks that make room for so many events, or all that are free.
     fn drops(&self, least: usize, want: usize) -> usize
-        requires { want ≤ 256 }
+        requires { want ≤ PULL_EVENTS }
         ensures drops { result ≡ drops self.now least want }
         ensures few { result ≤ 4 }
-        ensures there { 64 * result ≤ length self.now.cache.events }
-        ensures spent { 64 * result ≤ least - self.now.cache.low }
+        ensures there { BLOCK_EVENTS * result ≤ length self.now.cache.events }
+        ensures spent { BLOCK_EVENTS * result ≤ least - self.now.cache.low }
     {
         let missing = want.saturating_sub(self.cache.room());
-        ((missing + BLOCK_SIZE - 1) / BLOCK_SIZE).min(self.free_blocks(least))
+        ((missing + BLOCK_EVENTS - 1) / BLOCK_EVENTS).min(self.free_blocks(least))
     }
 }
 
@@ -213,14 +212,14 @@ impl Agent {
 fn pull_size(max_events: usize) -> usize
     ensures size { result ≡ pull_size max_events }
     ensures some { 0 < result }
-    ensures few { result ≤ 256 }
+    ensures few { result ≤ PULL_EVENTS }
 {
-    max_events.clamp(1, MAX_PULL)
+    max_events.clamp(1, PULL_EVENTS)
 }
 
 /// Drops the first blocks of a cache.
 fn drop_blocks(cache: &mut QueueCache, blocks: usize)
-    requires { 64 * blocks ≤ length cache.old.events }
+    requires { BLOCK_EVENTS * blocks ≤ length cache.old.events }
     ensures { cache.new ≡ without_blocks blocks cache.old }
 {
     for _ in 0..blocks {

@@ -1,5 +1,6 @@
 //! Caches: rings of blocks, each with some events and beside them their tags.
 ghost use Rattle.std.specs.Prelude.{◌≡◌, ◌+◌, ◌-◌, ◌*◌, ◌%◌, ◌^◌, ◌<◌, ◌≤◌, [], ◌∷◌, ◌++◌, length, IfOk, drop, replicate, slice_set, slice_index_or, take};
+ghost use Rattle.stream_ident.specs.declared.limits.TheConstants.{MOST_BLOCKS};
 ghost use Rattle.circular_buffer.specs.Buffer.{buffer};
 ghost use Rattle.queue_mapper.specs.Place.{tags_of};
 ghost use Rattle.pulling_agent.specs.Cache.{empty, high, room, event_at, with_events, without_front, block_count, block_events};
@@ -7,10 +8,7 @@ ghost use Rattle.pulling_agent.specs.Cache.{empty, high, room, event_at, with_ev
 use circular_buffer::HeapCircularBuffer;
 use std::alloc::{AllocError, Global};
 use std::marker::Model;
-use stream_ident::Event;
-
-/// How many events a block holds.
-pub const BLOCK_SIZE: usize = 64;
+use stream_ident::{BLOCK_EVENTS, Event};
 
 /// At most 64 events, and the tags of their streams in a row of bytes that can be searched fast.
 ///
@@ -18,7 +16,7 @@ pub const BLOCK_SIZE: usize = 64;
 #[derive(Drop)]
 pub struct Block {
     events: Vec<Event>,
-    tags: [u8; BLOCK_SIZE],
+    tags: [u8; BLOCK_EVENTS],
 }
 
 impl Model for Block {
@@ -38,15 +36,15 @@ impl Block {
     /// The events, in order.
     pub fn events(&self) -> &[Event]
         ensures events { result.now ≡ self.now }
-        ensures bound { length self.now ≤ 64 }
+        ensures bound { length self.now ≤ BLOCK_EVENTS }
     {
         self.events.as_slice()
     }
 
     /// The tag of each event's stream, at the event's place. What stands past the last event means nothing.
-    pub fn tags(&self) -> &[u8; BLOCK_SIZE]
+    pub fn tags(&self) -> &[u8; BLOCK_EVENTS]
         ensures tags { take (length self.now) result.now ≡ tags_of self.now }
-        ensures places { length result.now ≡ 64 }
+        ensures places { length result.now ≡ BLOCK_EVENTS }
     {
         &self.tags
     }
@@ -56,14 +54,14 @@ impl Block {
         ensures { IfOk result (λ block. block ≡ []) }
     {
         Ok(Block {
-            events: Vec::with_capacity(alloc, BLOCK_SIZE)?,
-            tags: [0; BLOCK_SIZE],
+            events: Vec::with_capacity(alloc, BLOCK_EVENTS)?,
+            tags: [0; BLOCK_EVENTS],
         })
     }
 
     /// Takes events in at the end, with the tags of their streams. It takes no memory.
     fn extend(&mut self, events: &[Event], tags: &[u8])
-        requires room { length self.old + length events.now ≤ 64 }
+        requires room { length self.old + length events.now ≤ BLOCK_EVENTS }
         requires tags { tags.now ≡ tags_of events.now }
         ensures { self.new ≡ self.old ++ events.now }
     {
@@ -119,7 +117,7 @@ impl QueueCache {
     /// The call failed to allocate the blocks, which take some 26 KB each.
     pub fn new(alloc: Global, blocks: usize, at: usize) -> Result<QueueCache, AllocError>
         requires some { 1 ≤ blocks }
-        requires few { blocks ≤ 64 }
+        requires few { blocks ≤ MOST_BLOCKS }
         ensures { IfOk result (λ cache. cache ≡ empty blocks at) }
     {
         Ok(QueueCache {
@@ -133,7 +131,7 @@ impl QueueCache {
     pub fn room(&self) -> usize
         ensures { result ≡ room self.now }
     {
-        BLOCK_SIZE * self.ring.len() - self.len
+        BLOCK_EVENTS * self.ring.len() - self.len
     }
 
     /// The position of the first event, or of the next where there is none.
@@ -161,7 +159,7 @@ impl QueueCache {
     pub fn block_count(&self) -> usize
         ensures { result ≡ block_count self.now }
     {
-        self.len.div_ceil(BLOCK_SIZE)
+        self.len.div_ceil(BLOCK_EVENTS)
     }
 
     /// Takes events in at the end, with the tags of their streams. It takes no memory: each event is copied
@@ -183,12 +181,12 @@ impl QueueCache {
 
     /// Drops the 64 events of the first block. It takes no memory: the emptied block goes behind the others.
     pub fn drop_front(&mut self)
-        requires { 64 ≤ length self.old.events }
+        requires { BLOCK_EVENTS ≤ length self.old.events }
         ensures { self.new ≡ without_front self.old }
     {
         rotate(&mut self.ring);
-        self.low += BLOCK_SIZE;
-        self.len -= BLOCK_SIZE;
+        self.low += BLOCK_EVENTS;
+        self.len -= BLOCK_EVENTS;
     }
 
     /// The event at a position. It costs the same wherever that is.
@@ -198,8 +196,8 @@ impl QueueCache {
         ensures { result.now ≡ event_at self.now position }
     {
         let place = position - self.low;
-        let events = self.block(place / BLOCK_SIZE).events();
-        &events[place % BLOCK_SIZE]
+        let events = self.block(place / BLOCK_EVENTS).events();
+        &events[place % BLOCK_EVENTS]
     }
 
     /// Drops all events, and goes on at another position. It takes no memory.
@@ -221,21 +219,21 @@ impl QueueCache {
 
     /// How many events fit into the block that the next one goes to.
     fn room_in_block(&self) -> usize
-        ensures { result ≡ 64 - length self.now.events % 64 }
+        ensures { result ≡ BLOCK_EVENTS - length self.now.events % BLOCK_EVENTS }
     {
-        BLOCK_SIZE - self.len % BLOCK_SIZE
+        BLOCK_EVENTS - self.len % BLOCK_EVENTS
     }
 
     /// Takes events in that fit into the block that the next one goes to.
     fn fill(&mut self, events: &[Event], tags: &[u8])
         requires tags { tags.now ≡ tags_of events.now }
-        requires block { length events.now ≤ 64 - length self.old.events % 64 }
+        requires block { length events.now ≤ BLOCK_EVENTS - length self.old.events % BLOCK_EVENTS }
         requires some { 0 < length events.now }
         requires room { length events.now ≤ room self.old }
         requires positions { self.old.low + (length self.old.events + length events.now) < 2 ^ 64 }
         ensures { self.new ≡ with_events self.old events.now }
     {
-        extend_block(&mut self.ring, self.len / BLOCK_SIZE, events, tags);
+        extend_block(&mut self.ring, self.len / BLOCK_EVENTS, events, tags);
         self.len += events.len();
     }
 }
@@ -255,7 +253,7 @@ fn empty_ring(alloc: Global, blocks: usize) -> Result<HeapCircularBuffer<Block>,
 fn extend_block(ring: &mut HeapCircularBuffer<Block>, index: usize, events: &[Event], tags: &[u8])
     requires index { index < length ring.old.items }
     requires tags { tags.now ≡ tags_of events.now }
-    requires room { length (slice_index_or ring.old.items index []) + length events.now ≤ 64 }
+    requires room { length (slice_index_or ring.old.items index []) + length events.now ≤ BLOCK_EVENTS }
     ensures { ring.new ≡ buffer (slice_set ring.old.items index (slice_index_or ring.old.items index [] ++ events.now)) ring.old.capacity }
 {
     let block = ring.get_mut(index).unwrap();

@@ -11,8 +11,8 @@ ghost use Rattle.pulling_agent.specs.Cache.{high};
 ghost use Rattle.pulling_agent.specs.Cursor.{next_in, lower_in};
 ghost use Rattle.pulling_agent.specs.Seek.{NoneBetween, IsFirst, NoneMarked, IsNextMark};
 
-use crate::cache::{BLOCK_SIZE, Block, QueueCache};
-use stream_ident::{Event, StreamId, Token};
+use crate::cache::{Block, QueueCache};
+use stream_ident::{BLOCK_EVENTS, Event, StreamId, Token};
 use tag_scan::{find_tag, mask};
 
 /// The least position at or past `from` whose event is of the stream, which has this tag, and not before
@@ -49,13 +49,13 @@ fn seek(cache: &QueueCache, from: usize, stream: &StreamId, tag: u8, start: &Tok
     ensures found { IfSome result (IsFirst (λ event. is_owed stream.now start.now event) cache.now.events from) }
     ensures none { IfNone result (NoneBetween (λ event. is_owed stream.now start.now event) cache.now.events from (length cache.now.events)) }
 {
-    let first = from / BLOCK_SIZE;
-    if let Some(place) = next_from(cache.block(first), from % BLOCK_SIZE, stream, tag, start) {
-        return Some(BLOCK_SIZE * first + place);
+    let first = from / BLOCK_EVENTS;
+    if let Some(place) = next_from(cache.block(first), from % BLOCK_EVENTS, stream, tag, start) {
+        return Some(BLOCK_EVENTS * first + place);
     }
     for index in first + 1..cache.block_count() {
         if let Some(place) = next_in_block(cache.block(index), stream, tag, start) {
-            return Some(BLOCK_SIZE * index + place);
+            return Some(BLOCK_EVENTS * index + place);
         }
     }
     None
@@ -72,7 +72,7 @@ pub fn lower(cache: &QueueCache, token: &Token) -> usize
     let high = cache.high();
     for index in 0..cache.block_count() {
         if let Some(place) = first_from_token(cache.block(index).events(), token) {
-            return cache.low() + (BLOCK_SIZE * index + place);
+            return cache.low() + (BLOCK_EVENTS * index + place);
         }
     }
     high
@@ -84,7 +84,7 @@ fn next_in_block(block: &Block, stream: &StreamId, tag: u8, start: &Token) -> Op
     ensures found { IfSome result (IsFirst (λ event. is_owed stream.now start.now event) block.now 0) }
     ensures none { IfNone result (NoneBetween (λ event. is_owed stream.now start.now event) block.now 0 (length block.now)) }
 {
-    if block.events().len() == BLOCK_SIZE {
+    if block.events().len() == BLOCK_EVENTS {
         next_in_full(block, stream, tag, start)
     } else {
         next_from(block, 0, stream, tag, start)
@@ -112,7 +112,7 @@ fn next_from(block: &Block, from: usize, stream: &StreamId, tag: u8, start: &Tok
 
 /// The least place of a full block whose event is owed.
 fn next_in_full(block: &Block, stream: &StreamId, tag: u8, start: &Token) -> Option<usize>
-    requires full { length block.now ≡ 64 }
+    requires full { length block.now ≡ BLOCK_EVENTS }
     requires tag { tag ≡ tag_of stream.now }
     ensures found { IfSome result (IsFirst (λ event. is_owed stream.now start.now event) block.now 0) }
     ensures none { IfNone result (NoneBetween (λ event. is_owed stream.now start.now event) block.now 0 (length block.now)) }
@@ -134,7 +134,7 @@ fn next_mark(marks: u64, from: usize) -> Option<usize>
     ensures found { IfSome result (IsNextMark marks from) }
     ensures none { IfNone result (NoneMarked marks from 64) }
 {
-    if from >= BLOCK_SIZE {
+    if from >= BLOCK_EVENTS {
         return None;
     }
     let rest = marks >> from;

@@ -12,5 +12,5 @@ mod cache;
 mod cursor;
 
 pub use agent::{Agent, Plan, StaleAgent};
-pub use cache::{BLOCK_SIZE, Block, QueueCache};
+pub use cache::{Block, QueueCache};
 pub use cursor::{lower, next};

@@ -2,7 +2,7 @@
 use crate::trying::{Came, Stop, Tried, check, try_call, with_memory};
 use script_parser::{Command, Mode, Parsed, parse_line};
 use std::alloc::{AllocError, Global};
-use step_core::{DrainEnd, Limits, Op, Partition, Reply};
+use step_core::{DrainEnd, Limits, Op, Partition, Quiet, Reply};
 
 /// The way of an event, up to its commit.
 pub(crate) const STORY: [&str; 7] = [
@@ -239,7 +239,7 @@ pub(crate) fn try_drain(alloc: Global) -> Result<Came, Stop> {
     match one.drain(alloc) {
         Ok(end) => {
             check(
-                end == DrainEnd::Drained { turns: 2 } && one.quiet().is_none(),
+                end == DrainEnd::Drained { turns: 2 } && one.quiet() == Quiet::Yes,
                 "a drain has left something to do",
             )?;
             follow_drain(alloc, &mut one, &mut twin)?;

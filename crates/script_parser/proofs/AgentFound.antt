@@ -4,6 +4,7 @@ use Rattle.std.specs.Fmt.{decimal}
 use Rattle.std.proofs.Common.{subst}
 use Rattle.stream_ident.specs.Name.{◌>>=◌}
 use Rattle.stream_ident.specs.Token.{token_text}
+use Rattle.stream_ident.specs.declared.limits.TheConstants.{MOST_SILOS}
 use Rattle.stream_model.specs.declared.op.Op.TheVariants as op
 use Rattle.script_parser.specs.declared.command.Command.{Command}
 use Rattle.script_parser.specs.declared.command.Command.TheVariants.{Step}
@@ -114,10 +115,10 @@ purge_words-found queues (a ∷ b ∷ c ∷ d ∷ words) command e = absurd cc
 move_fields-found : (queues : ℕ) (queue silo : List ℕ) (command : Command) → move_fields queues queue silo ≡ Ok command → Stands queues Move (Word queue ∷ Word silo ∷ []) command
 unfolding move_fields
 move_fields-found queues queue silo command e =
-    let a = bind_ok (queue_field queues queue) (λ q. number_field 16 silo >>= λ s. Ok (Step q (op.Move s))) command e in
-    let b = bind_ok (number_field 16 silo) (λ s. Ok (Step a.0 (op.Move s))) command a.2 in
+    let a = bind_ok (queue_field queues queue) (λ q. number_field MOST_SILOS silo >>= λ s. Ok (Step q (op.Move s))) command e in
+    let b = bind_ok (number_field MOST_SILOS silo) (λ s. Ok (Step a.0 (op.Move s))) command a.2 in
     let q = queue_found queues queue a.0 a.1 in
-    let s = number_found 16 silo b.0 b.1 in
+    let s = number_found MOST_SILOS silo b.0 b.1 in
     let are : ◌≡◌ {A = List Piece} (Word (verb_word Move) ∷ Word queue ∷ Word silo ∷ []) (Word (verb_word Move) ∷ Word (decimal a.0) ∷ Word (decimal b.0) ∷ []) = same_words refl (same_words q.0 (same_words s.0 refl)) in
     let made : Command = Step a.0 (op.Move b.0) in
     subst (Stands queues Move (Word queue ∷ Word silo ∷ [])) (ok_is made command b.2) (not_run Move made refl tt, (q.1, s.1, are))

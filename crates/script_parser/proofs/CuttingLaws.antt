@@ -1,12 +1,10 @@
 -- The cutting gives just the pieces of which a line is made, and a line without any is a bad text.
-use Rattle.std.specs.Prelude.{◌≡◌, ℕ, true, false, List, Option, Some, None, refl}
-use Rattle.std.specs.List.{list_all}
+use Rattle.std.specs.Prelude.{◌≡◌, ℕ, List, Option, Some, None, refl}
 use Rattle.std.proofs.Common.{sym, ◌∙◌}
-use Rattle.stream_ident.specs.Alphabet.{is_printable}
 use Rattle.script_parser.specs.Cutting.{FindsPieces, FindsNone, HasNoPieces, NoPiecesIsBadText}
 use Rattle.script_parser.specs.Lexer.{pieces_of}
-use Rattle.script_parser.specs.Pieces.{Piece, IsLineOf}
-use Rattle.script_parser.specs.Reading.{is_skipped, reading}
+use Rattle.script_parser.specs.Pieces.{Piece}
+use Rattle.script_parser.specs.Reading.{reading}
 use Rattle.script_parser.proofs.LineLemmas.{pieces_of-line, line-pieces_of}
 
 pub finds_pieces : FindsPieces

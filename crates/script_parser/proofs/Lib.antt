@@ -13,6 +13,7 @@ pub mod PieceLemmas
 pub mod PrintableLemmas
 pub mod ProducerAgain
 pub mod ProducerFound
+pub mod PublishingLemmas
 pub mod ReadLemmas
 pub mod SiloFound
 pub mod StandLemmas

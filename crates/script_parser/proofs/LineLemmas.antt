@@ -8,7 +8,7 @@ use Rattle.std.proofs.lemmas.Iterator.Adapters.{option_map_id}
 use Rattle.std.proofs.lemmas.List.{append_assoc, append-nil}
 use Rattle.script_parser.specs.Pieces.{Piece, Word, Text, is_space, is_quote, is_backslash, ends_word, is_special, escaped, spelling, IsPiece, AreSpaces, ends_piece, IsLineOf}
 use Rattle.script_parser.specs.Lexer.{Place, Between, InWord, InText, InEscape, Closed, cut, pieces_of, begins_with}
-use Rattle.script_parser.proofs.PieceLemmas.{ahead, stops_at, cut-space, cut-in_word, cut-word_ended, cut-in_text, cut-escaped, cut-closed}
+use Rattle.script_parser.proofs.PieceLemmas.{ahead, stops_at, cut-space, cut-in_word, cut-word_ended, cut-in_text, cut-escaped, cut-closed, ended_stops}
 
 -- ---- what a line is made of is what the cutting gives
 
@@ -33,15 +33,11 @@ cut-text_whole text (byte ∷ tail) rest =
       | inr h ↦ rw h (cut-in_text text byte (escaped tail ++ rest) h ∙ later)
     ]
 
-ended_stops : (rest : List ℕ) → ends_piece rest ≡ true → stops_at is_space rest ≡ true
-ended_stops [] h = refl
-ended_stops (byte ∷ rest) h = h
-
 ended_word : (rest : List ℕ) → ends_piece rest ≡ true → (stops_at ends_word rest ≡ true) × (begins_with 34 rest ≡ false)
 ended_word [] h = (refl, refl)
 ended_word (byte ∷ rest) h = (or_left (is_space byte) (is_quote byte) h, rw (eqb-true byte 32 h) refl)
 
-cut-piece : (piece : Piece) (rest : List ℕ) → IsPiece piece → ends_piece rest ≡ true → cut Between (spelling piece ++ rest) ≡ ahead piece (cut Between rest)
+pub cut-piece : (piece : Piece) (rest : List ℕ) → IsPiece piece → ends_piece rest ≡ true → cut Between (spelling piece ++ rest) ≡ ahead piece (cut Between rest)
 cut-piece (Word []) rest is ends = absurd (omega (arith, is.0))
 cut-piece (Word (byte ∷ word)) rest is ends =
     let parts = and_parts (not (ends_word byte)) (list_all (λ byte. not (ends_word byte)) word) is.1 in

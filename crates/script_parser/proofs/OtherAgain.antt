@@ -6,6 +6,7 @@ use Rattle.stream_ident.specs.declared.ident.GrainId.{GrainId}
 use Rattle.stream_ident.specs.declared.ident.SubName.{SubName}
 use Rattle.stream_ident.specs.declared.token.Token.{Token}
 use Rattle.stream_ident.specs.Token.{token_text, IsToken}
+use Rattle.stream_ident.specs.declared.limits.TheConstants.{MOST_SILOS}
 use Rattle.stream_model.specs.declared.op.Op.TheVariants as op
 use Rattle.script_parser.specs.declared.command.Command.TheVariants.{Step, Up, Down}
 use Rattle.script_parser.specs.Pieces.{Word}
@@ -42,10 +43,10 @@ unfolding purge_fields
 purge_again queues queue generation keep is_queue small short =
     rw (queue_again queues queue is_queue, number_again (2 ^ 64) generation small small, number_again (2 ^ 32) keep short (omega arith)) refl
 
-pub move_again : (queues queue silo : ℕ) → IsQueue queues queue → silo < 16 → verb_command Move queues (Word (decimal queue) ∷ Word (decimal silo) ∷ []) ≡ Ok (Step queue (op.Move silo))
+pub move_again : (queues queue silo : ℕ) → IsQueue queues queue → silo < MOST_SILOS → verb_command Move queues (Word (decimal queue) ∷ Word (decimal silo) ∷ []) ≡ Ok (Step queue (op.Move silo))
 unfolding move_fields
 move_again queues queue silo is_queue short =
-    rw (queue_again queues queue is_queue, number_again 16 silo short (omega arith)) refl
+    rw (queue_again queues queue is_queue, number_again MOST_SILOS silo short (omega arith)) refl
 
 pub begin_one_again : (queues queue : ℕ) (grain : GrainId) → IsQueue queues queue → IsGrain grain → verb_command Begin queues (Word (decimal queue) ∷ Word (grain_text grain) ∷ []) ≡ Ok (Step queue (op.Begin grain 1))
 unfolding begin_one
@@ -86,10 +87,10 @@ unfolding due_after
 due_after_again queues queue sub is_queue is_sub =
     rw (queue_again queues queue is_queue, own_sub_again queues queue sub is_queue is_sub) refl
 
-pub up_again : (queues silo : ℕ) → silo < 16 → verb_command verb.Up queues (Word (decimal silo) ∷ []) ≡ Ok (Up silo)
+pub up_again : (queues silo : ℕ) → silo < MOST_SILOS → verb_command verb.Up queues (Word (decimal silo) ∷ []) ≡ Ok (Up silo)
 unfolding up_fields
-up_again queues silo short = rw (number_again 16 silo short (omega arith)) refl
+up_again queues silo short = rw (number_again MOST_SILOS silo short (omega arith)) refl
 
-pub down_again : (queues silo : ℕ) → silo < 16 → verb_command verb.Down queues (Word (decimal silo) ∷ []) ≡ Ok (Down silo)
+pub down_again : (queues silo : ℕ) → silo < MOST_SILOS → verb_command verb.Down queues (Word (decimal silo) ∷ []) ≡ Ok (Down silo)
 unfolding down_fields
-down_again queues silo short = rw (number_again 16 silo short (omega arith)) refl
+down_again queues silo short = rw (number_again MOST_SILOS silo short (omega arith)) refl

@@ -8,7 +8,7 @@ use Rattle.std.proofs.lemmas.Bool.{cases_Bool, or_parts, or_cases, eqb-true, ltb
 use Rattle.std.proofs.lemmas.Iterator.Adapters.{option_map_id}
 use Rattle.std.proofs.lemmas.List.{append_assoc, append-nil}
 use Rattle.stream_ident.proofs.WordLemmas.{one-add}
-use Rattle.script_parser.specs.Pieces.{Piece, Word, Text, is_space, is_quote, is_backslash, ends_word, is_special}
+use Rattle.script_parser.specs.Pieces.{Piece, Word, Text, is_space, is_quote, is_backslash, ends_piece, ends_word, is_special}
 use Rattle.script_parser.specs.Lexer.{Place, Between, InWord, InText, Closed, cut, pieces_of, begins_word, begins_with, escape_at, CutsOne}
 
 -- nothing is left, or a byte that passes stands in front
@@ -151,6 +151,10 @@ pub cut-closed : (text rest : List ℕ) → stops_at is_space rest ≡ true → 
 cut-closed text [] stops = refl
 cut-closed text (byte ∷ rest) stops = rw (eqb-true byte 32 stops) (ahead_again (Text text) (cut Between rest))
 
+pub ended_stops : (rest : List ℕ) → ends_piece rest ≡ true → stops_at is_space rest ≡ true
+ended_stops [] h = refl
+ended_stops (byte ∷ rest) h = h
+
 -- a text that something else follows
 pub cut-unclosed : (text rest : List ℕ) → stops_at is_space rest ≡ false → cut (Closed text) rest ≡ None
 cut-unclosed text [] stops = cc
@@ -162,6 +166,13 @@ text_begun text bytes plain special n at_end front behind =
     let split : special ≡ drop (position_or_len is_special bytes) bytes = behind ∙ ap (λ (k : ℕ). drop k bytes) at_end in
     let begun : plain ≡ take (position_or_len is_special bytes) bytes = front ∙ ap (λ (k : ℕ). take k bytes) at_end in
     (rw (split, begun) (cut-text text bytes), rw split (stops_at-drop is_special bytes))
+
+-- a text without an escape
+pub plain_text_found : (bytes text special rest : List ℕ) (n : ℕ) → n ≡ position_or_len is_special bytes → text ≡ take n bytes → special ≡ drop n bytes → begins_with 34 special ≡ true → rest ≡ drop 1 special → ends_piece rest ≡ true → cut (InText []) bytes ≡ ahead (Text text) (cut Between rest)
+plain_text_found bytes text special rest n at_end front behind quoted after ends =
+    let begun = text_begun [] bytes text special n at_end front behind in
+    let closed = cut-closed text rest (ended_stops rest ends) in
+    begun.0 ∙ (cut-quote text special quoted ∙ (ap (cut (Closed text)) (sym after) ∙ closed))
 
 pub CutsOne-along : (place next : Place) (bytes rest : List ℕ) (found : Option (Piece × List ℕ)) → cut place bytes ≡ cut next rest → CutsOne next rest found → CutsOne place bytes found
 CutsOne-along place next bytes rest None along cuts = along ∙ cuts

@@ -2,6 +2,7 @@
 use Rattle.std.specs.Prelude.{◌≡◌, ℕ, List, [], ◌∷◌, map, Ok, refl}
 use Rattle.std.specs.Fmt.{decimal}
 use Rattle.std.proofs.Common.{subst}
+use Rattle.stream_ident.specs.declared.limits.TheConstants.{MOST_SILOS}
 use Rattle.script_parser.specs.declared.command.Command.{Command}
 use Rattle.script_parser.specs.declared.command.Command.TheVariants as made
 use Rattle.script_parser.specs.declared.command.Verb.TheVariants.{Up, Down}
@@ -15,8 +16,8 @@ use Rattle.script_parser.proofs.VerbLemmas.{verb_word}
 up_fields-found : (queues : ℕ) (silo : List ℕ) (command : Command) → up_fields silo ≡ Ok command → Stands queues Up (Word silo ∷ []) command
 unfolding up_fields
 up_fields-found queues silo command e =
-    let a = bind_ok (number_field 16 silo) (λ n. Ok (made.Up n)) command e in
-    let s = number_found 16 silo a.0 a.1 in
+    let a = bind_ok (number_field MOST_SILOS silo) (λ n. Ok (made.Up n)) command e in
+    let s = number_found MOST_SILOS silo a.0 a.1 in
     let are : ◌≡◌ {A = List Piece} (Word (verb_word Up) ∷ Word silo ∷ []) (Word (verb_word Up) ∷ Word (decimal a.0) ∷ []) = same_words refl (same_words s.0 refl) in
     let read : Command = made.Up a.0 in
     subst (Stands queues Up (Word silo ∷ [])) (ok_is read command a.2) (not_sim Up read refl tt, (s.1, are))
@@ -29,8 +30,8 @@ up_words-found queues (a ∷ b ∷ words) command e = absurd cc
 down_fields-found : (queues : ℕ) (silo : List ℕ) (command : Command) → down_fields silo ≡ Ok command → Stands queues Down (Word silo ∷ []) command
 unfolding down_fields
 down_fields-found queues silo command e =
-    let a = bind_ok (number_field 16 silo) (λ n. Ok (made.Down n)) command e in
-    let s = number_found 16 silo a.0 a.1 in
+    let a = bind_ok (number_field MOST_SILOS silo) (λ n. Ok (made.Down n)) command e in
+    let s = number_found MOST_SILOS silo a.0 a.1 in
     let are : ◌≡◌ {A = List Piece} (Word (verb_word Down) ∷ Word silo ∷ []) (Word (verb_word Down) ∷ Word (decimal a.0) ∷ []) = same_words refl (same_words s.0 refl) in
     let read : Command = made.Down a.0 in
     subst (Stands queues Down (Word silo ∷ [])) (ok_is read command a.2) (not_sim Down read refl tt, (s.1, are))

@@ -6,6 +6,7 @@ use Rattle.stream_model.specs.declared.op.Op.TheVariants as op
 use Rattle.stream_model.specs.declared.op.Start.TheVariants as start
 use Rattle.queue_mapper.specs.Place.{place_of}
 use Rattle.stream_ident.specs.Name.{◌>>=◌, same_name}
+use Rattle.stream_ident.specs.declared.limits.TheConstants.{MOST_SILOS}
 use Rattle.script_parser.specs.declared.command.Command.{Command}
 use Rattle.script_parser.specs.declared.command.Command.TheVariants as command
 use Rattle.script_parser.specs.declared.command.EachOp.{EachOp}
@@ -141,7 +142,7 @@ purge_fields queues queue generation keep = do
 unfoldable pub move_fields : ℕ → List ℕ → List ℕ → Result Command FaultKind
 move_fields queues queue silo = do
   queue ← queue_field queues queue
-  silo ← number_field 16 silo
+  silo ← number_field MOST_SILOS silo
   Ok (command.Step queue (op.Move silo))
 
 -- begin Q GRAIN
@@ -205,13 +206,13 @@ due_after queues queue sub = do
 -- up SILO
 unfoldable pub up_fields : List ℕ → Result Command FaultKind
 up_fields silo = do
-  silo ← number_field 16 silo
+  silo ← number_field MOST_SILOS silo
   Ok (command.Up silo)
 
 -- down SILO
 unfoldable pub down_fields : List ℕ → Result Command FaultKind
 down_fields silo = do
-  silo ← number_field 16 silo
+  silo ← number_field MOST_SILOS silo
   Ok (command.Down silo)
 
 -- what stands behind each verb

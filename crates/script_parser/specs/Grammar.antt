@@ -9,6 +9,7 @@ use Rattle.stream_ident.specs.declared.ident.StreamId.{StreamId}
 use Rattle.stream_ident.specs.declared.ident.SubName.{SubName}
 use Rattle.stream_ident.specs.declared.ident.SubName.TheVariants as name
 use Rattle.stream_ident.specs.Token.{IsToken, token_text}
+use Rattle.stream_ident.specs.declared.limits.TheConstants.{MOST_SILOS}
 use Rattle.stream_model.specs.declared.op.Op.{Op}
 use Rattle.stream_model.specs.declared.op.Op.TheVariants as op
 use Rattle.stream_model.specs.declared.op.Start.{Start}
@@ -74,7 +75,7 @@ IsWritten queues pieces queue (op.Purge generation keep) =
     IsQueue queues queue × (generation < 2 ^ 64) × (keep < 2 ^ 32)
     × (pieces ≡ Word (codes "purge") ∷ Word (decimal queue) ∷ Word (decimal generation) ∷ Word (decimal keep) ∷ [])
 IsWritten queues pieces queue (op.Move silo) =
-    IsQueue queues queue × (silo < 16)
+    IsQueue queues queue × (silo < MOST_SILOS)
     × (pieces ≡ Word (codes "move") ∷ Word (decimal queue) ∷ Word (decimal silo) ∷ [])
 IsWritten queues pieces queue (op.Deactivate grain) =
     IsQueue queues queue × IsGrain grain
@@ -101,8 +102,8 @@ IsSpelled queues pieces (Each (each.Rule own_kind namespace)) =
 IsSpelled queues pieces (Each each.Quiet) = pieces ≡ Word (codes "quiet") ∷ []
 IsSpelled queues pieces Drain = pieces ≡ Word (codes "drain") ∷ []
 IsSpelled queues pieces Report = pieces ≡ Word (codes "report") ∷ []
-IsSpelled queues pieces (Up silo) = (silo < 16) × (pieces ≡ Word (codes "up") ∷ Word (decimal silo) ∷ [])
-IsSpelled queues pieces (Down silo) = (silo < 16) × (pieces ≡ Word (codes "down") ∷ Word (decimal silo) ∷ [])
+IsSpelled queues pieces (Up silo) = (silo < MOST_SILOS) × (pieces ≡ Word (codes "up") ∷ Word (decimal silo) ∷ [])
+IsSpelled queues pieces (Down silo) = (silo < MOST_SILOS) × (pieces ≡ Word (codes "down") ∷ Word (decimal silo) ∷ [])
 
 -- what may stand in a script of this kind
 abbrev pub MayStand : Mode → Command → Type 0

@@ -6,6 +6,7 @@ pub mod Grammar
 pub mod Lexer
 pub mod Lines
 pub mod Pieces
+pub mod Publishing
 pub mod Reading
 pub mod Spelling
 pub mod Verbs

@@ -8,7 +8,9 @@ ghost use Rattle.script_parser.specs.Reading.{Gives};
 use crate::command::{FaultKind, LineError};
 use crate::lines::Piece;
 use std::alloc::Global;
-use stream_ident::{GrainId, Name, Payload, StreamId, SubName, Token, parse_number, split_once};
+use stream_ident::{
+    GrainId, MOST_SILOS, Name, Payload, StreamId, SubName, Token, parse_number, split_once,
+};
 
 /// The word that a piece is.
 pub(crate) fn word<'a>(piece: &Piece<'a>) -> Result<&'a [u8], FaultKind>
@@ -86,10 +88,10 @@ pub(crate) fn short_number(bytes: &[u8]) -> Result<u32, FaultKind>
 /// The number of a silo, 0 to 15.
 #[tactic(auto, unfolding(crate::specs::Fields::number_field))]
 pub(crate) fn silo(bytes: &[u8]) -> Result<u8, FaultKind>
-    ensures { result ≡ number_field 16 bytes.now }
+    ensures { result ≡ number_field MOST_SILOS bytes.now }
 {
     let number = parse_number(bytes).ok_or(FaultKind::BadNumber)?;
-    if number >= 16 {
+    if number >= MOST_SILOS as u64 {
         return Err(FaultKind::BadNumber);
     }
     Ok(number as u8)

@@ -7,7 +7,9 @@ mod fields;
 pub mod laws;
 mod lines;
 mod parse;
+mod publish;
 
 pub use command::{Command, EachOp, Fault, FaultKind, Mode, Parsed};
 pub use lines::Lines;
 pub use parse::parse_line;
+pub use publish::{Publish, read_publish};

@@ -4,7 +4,7 @@ ghost use Rattle.std.specs.List.{position_or_len};
 ghost use Rattle.std.specs.Option.{option_map};
 ghost use Rattle.script_parser.specs.Lexer.{pieces_of, pieces_in, piece_of, starts_piece, begins_word, begins_with, escape_at, CutsOne, Between, InWord, InText, Closed};
 ghost use Rattle.script_parser.specs.Lines.{cut_at_feeds, without_return, lines_of};
-ghost use Rattle.script_parser.specs.Pieces.{Word, Text, is_space, is_quote, ends_word, is_special};
+ghost use Rattle.script_parser.specs.Pieces.{Word, Text, is_space, is_quote, ends_piece, ends_word, is_special};
 
 use std::alloc::{AllocError, Global};
 use std::marker::Model;
@@ -127,7 +127,7 @@ fn begins_with(bytes: &[u8], byte: u8) -> bool
 }
 
 /// The word in front, and what follows it, or `None` where a quote ends it.
-fn word_at(bytes: &[u8]) -> Option<(&[u8], &[u8])>
+pub(crate) fn word_at(bytes: &[u8]) -> Option<(&[u8], &[u8])>
     requires { begins_word bytes.now ≡ true }
     ensures exact { CutsOne (InWord []) bytes.now (option_map (λ found. (Word found.0.now, found.1.now)) result) }
     ensures shorter { IfSome result (λ found. length found.1.now < length bytes.now) }
@@ -176,6 +176,22 @@ fn text_at<'a>(alloc: Global, bytes: &'a [u8]) -> Result<Option<(Vec<u8>, &'a [u
     }
 }
 
+/// The text in front that has no escape, its opening quote taken off, and what follows it.
+pub(crate) fn plain_text_at(bytes: &[u8]) -> Option<(&[u8], &[u8])>
+    ensures exact { IfSome result (λ found. CutsOne (InText []) bytes.now (Some (Text found.0.now, found.1.now))) }
+    ensures shorter { IfSome result (λ found. length found.1.now ≤ length bytes.now) }
+{
+    let (text, special) = bytes.split_at(plain_len(bytes));
+    if !begins_with(special, b'"') {
+        return None;
+    }
+    let rest = &special[1..];
+    if !ends_piece(rest) {
+        return None;
+    }
+    Some((text, rest))
+}
+
 /// The byte that an escape in front stands for, and what follows it.
 fn escape_at(bytes: &[u8]) -> Option<(u8, &[u8])>
     ensures { option_map (λ found. (found.0, found.1.now)) result ≡ escape_at bytes.now }
@@ -214,8 +230,15 @@ fn closed(text: Vec<u8>, rest: &[u8]) -> Option<(Vec<u8>, &[u8])>
     ensures exact { CutsOne (Closed text.items) rest.entry.now (option_map (λ found. (Text found.0.items, found.1.now)) result) }
     ensures same { IfSome result (λ found. found.1.now ≡ rest.entry.now) }
 {
-    if !rest.is_empty() && !begins_with(rest, b' ') {
+    if !ends_piece(rest) {
         return None;
     }
     Some((text, rest))
+}
+
+/// Whether a piece may end here.
+fn ends_piece(rest: &[u8]) -> bool
+    ensures { result ≡ ends_piece rest.now }
+{
+    rest.is_empty() || begins_with(rest, b' ')
 }

@@ -89,7 +89,7 @@ fn is_comment(bytes: &[u8]) -> bool
 }
 
 /// Whether each byte is printable.
-fn are_printable(bytes: &[u8]) -> bool
+pub(crate) fn are_printable(bytes: &[u8]) -> bool
     ensures { result ≡ list_all is_printable bytes.now }
 {
     bytes.iter().all(|byte| matches!(*byte, b' '..=b'~'))

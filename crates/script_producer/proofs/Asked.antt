@@ -1,5 +1,5 @@
 -- A line that asks at one queue or at each.
-use Rattle.std.proofs.Common.{◌≡◌, ◌≢◌, ℕ, ◌+◌, ◌≤◌, inl, inr, true, if◌then◌else◌, List, [], ◌∷◌, ◌++◌, length, Some, None, Result, Ok, Err, IfOk, refl, sym, ap, subst, ◌∙◌, arith}
+use Rattle.std.proofs.Common.{◌≡◌, ◌≢◌, ◌⊎◌, ℕ, zero, suc, ◌+◌, ◌<◌, ◌≤◌, inl, inr, true, if◌then◌else◌, List, [], ◌∷◌, ◌++◌, length, Some, None, Result, Ok, Err, IfOk, refl, sym, ap, subst, ◌∙◌, arith}
 use Rattle.std.proofs.lemmas.Bool.{eq-eqb}
 use Rattle.std.proofs.lemmas.Bool.Decides.{eqb_tells}
 use Rattle.std.specs.List.{AllByRecursion, AllZip}
@@ -13,7 +13,7 @@ use Rattle.turnstile.specs.declared.turnstile.Refusal.{Refusal}
 use Rattle.turnstile.specs.declared.turnstile.Refusal.TheVariants.{HistoryFull, Memory}
 use Rattle.silo_loops.specs.Lines.{QueuePass}
 use Rattle.cluster_callers.specs.Calls.{CallerCalls, QueueCalls}
-use Rattle.cluster_ending.proofs.Rows.{all-at}
+use Rattle.cluster_ending.proofs.Rows.{all-at, zip-refl}
 use Rattle.script_parser.specs.declared.command.Command.TheVariants as command
 use Rattle.script_parser.specs.declared.command.EachOp.{EachOp}
 use Rattle.script_parser.specs.declared.command.EachOp.TheVariants as each
@@ -23,7 +23,7 @@ use Rattle.script_reader.specs.ScriptReport.{op_printed}
 use Rattle.script_reader.specs.Told as script
 use Rattle.script_producer.specs.declared.answer.Answer.{Answer}
 use Rattle.script_producer.specs.declared.answer.Answer.TheVariants as answer
-use Rattle.script_producer.specs.Telling.{AloneProduces, AsksLast, AsksOnce, BeginsEmpty, EndsAsking, HasGoneOn, HasTold, IsAnswered, IsNewNumber, ProducesAlone, Tells, TellsUnlessLimit, answer_of, printed_lines, told_at, with_missed}
+use Rattle.script_producer.specs.Telling.{AloneProduces, AreAskedBefore, AsksEachOnce, AsksLast, AsksOnce, AsksUpTo, BeginsEmpty, EndsAsking, HasGoneOn, HasTold, IsAnswered, IsAsked, IsNewNumber, ProducesAlone, Tells, TellsUnlessLimit, answer_of, printed_lines, told_at, with_missed}
 use Rattle.script_producer.proofs.Placing.{UpTo, set-at, set-here, upto-at, upto-first, upto-next, zip-set}
 use Rattle.script_producer.proofs.Replying.{IsToldAlike, line-none, line-printed, line-told}
 use Rattle.script_producer.proofs.Seen.{called-on, gone-refl}
@@ -99,23 +99,61 @@ once-tells old queue op (Ok a) new produces once = λ free.
 
 -- ---- a line at each queue
 
--- the queue was asked, and answered; the first one so
-pub record IsAsked (first : Answer) (op : Op) (queue : ℕ) (p q : QueuePass) : Type 0 where
-  pub reply : Reply
-  pub calls : QueueCalls p op (Ok reply) q
-  pub free : answer_of reply ≢ answer.Limit
-  pub first_is : queue ≡ 0 → first ≡ answer_of reply
+-- one call was made at the queue, and answered; at the first one so
+pub record IsAskedAs (first : Answer) (op : Op) (queue : ℕ) (p q : QueuePass) : Type 0 where
+  pub asked : IsAsked op p q
+  pub first_is : queue ≡ 0 → first ≡ answer_of asked.reply
 
--- each queue below this one was asked
+-- one call was made at each queue below this one
 abbrev pub AskedUpTo : Answer → Op → ℕ → List QueuePass → List QueuePass → Type 0
-AskedUpTo first op queue old now = UpTo (IsAsked first op) queue old now
+AskedUpTo first op queue old now = UpTo (IsAskedAs first op) queue old now
+
+module _ (op : Op) where
+  asked-before : (R : ℕ → QueuePass → QueuePass → Type 0) → ((k : ℕ) (p q : QueuePass) → R k p q → IsAsked op p q) → (n : ℕ) (old now : List QueuePass) → UpTo R n old now → AreAskedBefore n op old now
+  asked-before R is zero old now front = front
+  asked-before R is (suc n) [] now front = absurd front
+  asked-before R is (suc n) (p ∷ old) [] front = absurd front
+  asked-before R is (suc n) (p ∷ old) (q ∷ now) front = (is 0 p q front.0, asked-before (λ k. R (suc k)) (λ k. is (suc k)) n old now front.1)
+
+  pub front-before : (first : Answer) (queue : ℕ) (old now : List QueuePass) → AskedUpTo first op queue old now → AreAskedBefore queue op old now
+  front-before first queue old now front = asked-before (IsAskedAs first op) (λ k p q is. is.asked) queue old now front
+
+  asked-all : (n : ℕ) (old now : List QueuePass) → length old ≤ n → AreAskedBefore n op old now → AllZip (IsAsked op) old now
+  asked-all zero [] now long same = subst (λ (es : List QueuePass). AllZip (IsAsked op) [] es) (sym same) tt
+  asked-all zero (p ∷ old) now long same = absurd (omega arith)
+  asked-all (suc n) [] now long front = absurd front
+  asked-all (suc n) (p ∷ old) [] long front = absurd front
+  asked-all (suc n) (p ∷ old) (q ∷ now) long front = (front.0, asked-all n old now (omega arith) front.1)
+
+  -- what was asked at a queue, by where the calls have come to
+  pub before-at : (n : ℕ) (old now : List QueuePass) (k : ℕ) (q : QueuePass) → AreAskedBefore n op old now → slice_get now k ≡ Some q
+      → ((k < n) × (p : QueuePass) × (slice_get old k ≡ Some p) × IsAsked op p q) ⊎ ((n ≤ k) × (slice_get old k ≡ Some q))
+  before-at zero old now k q same at = inr (omega arith, ap (λ (es : List QueuePass). slice_get es k) (sym same) ∙ at)
+  before-at (suc n) [] now k q front at = absurd front
+  before-at (suc n) (p ∷ old) [] k q front at = absurd front
+  before-at (suc n) (p ∷ old) (r ∷ now) zero q front at = let same : r ≡ q = cc in inl (omega arith, p, refl, subst (λ (e : QueuePass). IsAsked op p e) same front.0)
+  before-at (suc n) (p ∷ old) (r ∷ now) (suc k) q front at =
+      elim (before-at n old now k q front.1 at) as (λ s. ((suc k < suc n) × (w : QueuePass) × (slice_get old k ≡ Some w) × IsAsked op w q) ⊎ ((suc n ≤ suc k) × (slice_get old k ≡ Some q))) [
+        | inl below ↦ inl (omega (arith, below.0), below.1, below.2, below.3)
+        | inr past ↦ inr (omega (arith, past.0), past.1)
+      ]
+
+  before-on : is_producer op ≡ true → (n : ℕ) (old now : List QueuePass) → AreAskedBefore n op old now → AllZip HasGoneOn old now
+  before-on produces zero old now same = subst (λ (es : List QueuePass). AllZip HasGoneOn old es) (sym same) (zip-refl HasGoneOn gone-refl old)
+  before-on produces (suc n) [] now front = absurd front
+  before-on produces (suc n) (p ∷ old) [] front = absurd front
+  before-on produces (suc n) (p ∷ old) (q ∷ now) front = (called-on p q op (Ok front.0.reply) (inl produces) front.0.calls, before-on produces n old now front.1)
+
+  -- the last of the calls is the last since the first of them
+  upto-last : (result : Result Answer AllocError) (old new : List QueuePass) → is_producer op ≡ true → AsksUpTo old op result new → AsksLast old op result new
+  upto-last result old new produces asks = record { before = asks.before; on = before-on produces asks.queue old asks.before asks.front; queue = asks.queue; asks = asks.last }
 
 one-more : (first a : Answer) (op : Op) (queue : ℕ) (old now new : List QueuePass) → AskedUpTo first op queue old now → AsksOnce now queue op (Ok a) new → a ≢ answer.Limit → (queue ≡ 0 → first ≡ a) → AskedUpTo first op (queue + 1) old new
 one-more first a op queue old now new front once free same =
     let replies = once-replied now queue op a new once free in
     let calls = replies.1 in
-    upto-next (IsAsked first op) queue old now new calls.was calls.is front calls.had calls.whole
-    (record { reply = replies.0; calls = calls.calls; free = λ limit. free (replies.2 ∙ limit); first_is = λ zeroth. same zeroth ∙ replies.2 })
+    upto-next (IsAskedAs first op) queue old now new calls.was calls.is front calls.had calls.whole
+    (record { asked = record { reply = replies.0; calls = calls.calls; free = λ limit. free (replies.2 ∙ limit) }; first_is = λ zeroth. same zeroth ∙ replies.2 })
 
 pub each-first : (first : Answer) (asked op : Op) (old new : List QueuePass) → op ≡ asked → AsksOnce old 0 op (Ok first) new → first ≢ answer.Limit → AskedUpTo first asked 1 old new
 each-first first asked op old new is once free =
@@ -136,41 +174,52 @@ each-alike (each.Rule kind namespace) a b number missed produces = λ before. re
 each-alike each.Quiet a b number missed produces = absurd (cc)
 
 -- the last of these calls was answered so
-pub last-asked : (asked op : Op) (result : Result Answer AllocError) (queue : ℕ) (old now new : List QueuePass) → op ≡ asked → AllZip HasGoneOn old now → AsksOnce now queue op result new → AsksLast old asked result new
-last-asked asked op result queue old now new is on once =
-    record { before = now; on = on; queue = queue; asks = subst (λ (o : Op). AsksOnce now queue o result new) is once }
+pub last-asked : (asked op : Op) (result : Result Answer AllocError) (queue : ℕ) (old now new : List QueuePass) → op ≡ asked → AreAskedBefore queue asked old now → AsksOnce now queue op result new → AsksUpTo old asked result new
+last-asked asked op result queue old now new is front once =
+    record { queue = queue; before = now; front = front; last = subst (λ (o : Op). AsksOnce now queue o result new) is once }
 
 -- a call that `?` passes on
-pub ends-refused : (asked op : Op) (result : Result Answer AllocError) (e : AllocError) (queue : ℕ) (old now new : List QueuePass) → op ≡ asked → AllZip HasGoneOn old now → IsErrAnd result (λ y. y ≡ e) → AsksOnce now queue op (Err e) new
-    → EndsAsking old asked result new
-ends-refused asked op (Ok a) e queue old now new is on err once = absurd err
-ends-refused asked op (Err y) e queue old now new is on err once =
-    subst (λ (z : AllocError). AsksLast old asked (Err z) new) (sym err) (last-asked asked op (Err e) queue old now new is on once)
+pub once-refused : (asked op : Op) (result : Result Answer AllocError) (e : AllocError) (queue : ℕ) (old now new : List QueuePass) → op ≡ asked → AreAskedBefore queue asked old now → IsErrAnd result (λ y. y ≡ e)
+    → AsksOnce now queue op (Err e) new → AsksEachOnce old asked result new
+once-refused asked op (Ok a) e queue old now new is front err once = absurd err
+once-refused asked op (Err y) e queue old now new is front err once =
+    subst (λ (z : AllocError). AsksUpTo old asked (Err z) new) (sym err) (last-asked asked op (Err e) queue old now new is front once)
 
 -- calls that have met no limit
-pub ends-free : (op : Op) (a : Answer) (old new : List QueuePass) → a ≢ answer.Limit → EndsAsking old op (Ok a) new
-ends-free op answer.Limit old new free = absurd (free refl)
-ends-free op answer.Taken old new free = tt
-ends-free op answer.Refused old new free = tt
-ends-free op answer.Missed old new free = tt
+each-free : (op : Op) (a : Answer) (old new : List QueuePass) → a ≢ answer.Limit → AllZip (IsAsked op) old new → AsksEachOnce old op (Ok a) new
+each-free op answer.Limit old new free all = absurd (free refl)
+each-free op answer.Taken old new free all = all
+each-free op answer.Refused old new free all = all
+each-free op answer.Missed old new free all = all
+
+-- so the calls end at once where one meets a limit or fails to allocate
+pub once-ends : (op : Op) (result : Result Answer AllocError) (old new : List QueuePass) → is_producer op ≡ true → AsksEachOnce old op result new → EndsAsking old op result new
+once-ends op (Ok answer.Limit) old new produces once = upto-last op (Ok answer.Limit) old new produces once
+once-ends op (Ok answer.Taken) old new produces once = tt
+once-ends op (Ok answer.Refused) old new produces once = tt
+once-ends op (Ok answer.Missed) old new produces once = tt
+once-ends op (Err e) old new produces once = upto-last op (Err e) old new produces once
+
+pub once-free : (first : Answer) (op : Op) (queue : ℕ) (old new : List QueuePass) → length old ≤ queue → first ≢ answer.Limit → AskedUpTo first op queue old new → AsksEachOnce old op (Ok first) new
+once-free first op queue old new long free front = each-free op first old new free (asked-all op queue old new long (front-before op first queue old new front))
 
 pub each-tells : (first : Answer) (asked : EachOp) (queue : ℕ) (old new : List QueuePass) → 1 ≤ length old → length old ≤ queue → is_producer (op_of asked) ≡ true → AskedUpTo first (op_of asked) queue old new
     → Tells old (command.Each asked) first new
 each-tells first asked queues old new some long produces front =
     let op = op_of asked in
-    let R = IsAsked first op in
+    let R = IsAskedAs first op in
     record {
       told = λ begins alone missed lines number fresh has queue q at.
           let beside = upto-at R queues old new queue q long front at in
           let p = beside.0 in
-          let one = beside.2 in
+          let one = beside.2.asked in
           line-told p q op one.reply first number missed queue lines (command.Each asked) (all-at BeginsEmpty old queue p begins beside.1) (all-at ProducesAlone new queue q alone at) produces one.free fresh
           (ap (λ b. if b then Some op else None) produces) (each-alike asked (answer_of one.reply) first number missed produces) one.calls (has queue p beside.1);
       printed = λ begins alone missed lines number fresh has silos.
           let zeroth = upto-first R queues old new some long front in
           let p = zeroth.0 in
           let q = zeroth.1 in
-          let one = zeroth.4 in
-          subst (λ (a : Answer). op_printed (with_missed a number missed) lines number 0 op ≡ printed_lines a number) (sym (one.first_is refl))
+          let one = zeroth.4.asked in
+          subst (λ (a : Answer). op_printed (with_missed a number missed) lines number 0 op ≡ printed_lines a number) (sym (zeroth.4.first_is refl))
           (line-printed p q op one.reply number missed 0 lines (all-at BeginsEmpty old 0 p begins zeroth.2) (all-at ProducesAlone new 0 q alone zeroth.3) produces one.free fresh one.calls (has 0 p zeroth.2));
     }

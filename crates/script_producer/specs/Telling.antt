@@ -1,5 +1,5 @@
 -- What the one producer of a script asks, line by line, and what it is told.
-use Rattle.std.specs.Prelude.{◌≡◌, ◌≢◌, ◌⊎◌, ℕ, true, false, List, [], ◌∷◌, ◌++◌, Contains, Some, Result, Ok, Err, slice_get, if◌then◌else◌}
+use Rattle.std.specs.Prelude.{◌≡◌, ◌≢◌, ◌⊎◌, ℕ, zero, suc, true, false, List, [], ◌∷◌, ◌++◌, Contains, Some, Result, Ok, Err, slice_get, if◌then◌else◌}
 use Rattle.std.specs.List.{AllByRecursion, AllZip}
 use Rattle.std.specs.declared.alloc.AllocError.{AllocError}
 use Rattle.stream_model.specs.declared.op.Op.{Op}
@@ -17,7 +17,7 @@ use Rattle.turnstile.specs.Calls.{HasOnlySeen, numbers_of}
 use Rattle.turnstile.specs.Passes.{Origin}
 use Rattle.shared_partition.specs.Partitions.{BeganEmpty, told_of}
 use Rattle.silo_loops.specs.Lines.{QueuePass}
-use Rattle.cluster_callers.specs.Calls.{CallerCalls}
+use Rattle.cluster_callers.specs.Calls.{CallerCalls, QueueCalls}
 use Rattle.cluster_ending.specs.declared.asking.Quiet.{Quiet}
 use Rattle.cluster_ending.specs.declared.asking.Quiet.TheVariants.{All, NotQuiet}
 use Rattle.cluster_ending.specs.Asking.{AsksQuiet}
@@ -131,6 +131,32 @@ abbrev pub EndsAsking : List QueuePass → Op → Result Answer AllocError → L
 EndsAsking old op (Ok answer.Limit) new = AsksLast old op (Ok answer.Limit) new
 EndsAsking old op (Ok _) new = Unit {0}
 EndsAsking old op (Err e) new = AsksLast old op (Err e) new
+
+-- one call at the queue of a pass, whose reply is no limit
+pub record IsAsked (op : Op) (p q : QueuePass) : Type 0 where
+  pub reply : Reply
+  pub calls : QueueCalls p op (Ok reply) q
+  pub free : answer_of reply ≢ answer.Limit
+
+-- there was one such call at each queue before this one, and none at those from it on
+abbrev pub AreAskedBefore : ℕ → Op → List QueuePass → List QueuePass → Type 0
+AreAskedBefore zero op old new = new ≡ old
+AreAskedBefore (suc queue) op [] new = ⊥
+AreAskedBefore (suc queue) op (p ∷ ps) [] = ⊥
+AreAskedBefore (suc queue) op (p ∷ ps) (q ∷ qs) = IsAsked op p q × AreAskedBefore queue op ps qs
+
+-- there was one such call at each queue before some one, then one at that, of which this came, and none at those behind it
+pub record AsksUpTo (old : List QueuePass) (op : Op) (result : Result Answer AllocError) (new : List QueuePass) : Type 0 where
+  pub queue : ℕ
+  pub before : List QueuePass
+  pub front : AreAskedBefore queue op old before
+  pub last : AsksOnce before queue op result new
+
+-- each queue is asked once, in order, up to the first call that meets a limit or fails to allocate
+abbrev pub AsksEachOnce : List QueuePass → Op → Result Answer AllocError → List QueuePass → Type 0
+AsksEachOnce old op (Ok answer.Limit) new = AsksUpTo old op (Ok answer.Limit) new
+AsksEachOnce old op (Ok _) new = AllZip (IsAsked op) old new
+AsksEachOnce old op (Err e) new = AsksUpTo old op (Err e) new
 
 -- this came of the last look at all queues
 pub record Looks (result : Result Quiet Refusal) (old new : List QueuePass) : Type 0 where

@@ -5,7 +5,7 @@ ghost use Rattle.stream_model.specs.Producers.{is_producer};
 ghost use Rattle.cluster_callers.specs.Calls.{turnstiles};
 ghost use Rattle.script_parser.specs.declared.command.Command.TheVariants as command;
 ghost use Rattle.script_parser.specs.Forms.{op_of};
-ghost use Rattle.script_producer.specs.Telling.{AsksOnce, EndsAsking, HasGoneOn, TellsUnlessLimit};
+ghost use Rattle.script_producer.specs.Telling.{AsksEachOnce, AsksOnce, EndsAsking, HasGoneOn, TellsUnlessLimit};
 
 use crate::answer::{Answer, answer_of};
 use cluster_callers::Caller;
@@ -37,7 +37,7 @@ pub fn ask<G: Gate, H: QueueHistory, R: Wait>(
     ask_once(rt, alloc, caller, queue, op)
 }
 
-/// Asks for an operation of a producer at each queue, in order. The answer is that of the first queue: a rule is there
+/// Asks for an operation of a producer at each queue, once and in order. The answer is that of the first queue: a rule is there
 /// in each queue or in none. Where a queue answers that a limit is reached, so is the answer, and the queues behind it
 /// aren't asked.
 ///
@@ -52,6 +52,7 @@ pub fn ask_each<G: Gate, H: QueueHistory, R: Wait>(
     requires some { 1 ≤ length caller.old }
     requires producer { is_producer (op_of each.now) ≡ true }
     ensures told { IfOk result (λ answer. TellsUnlessLimit caller.old (command.Each each.now) answer caller.new) }
+    ensures once { AsksEachOnce caller.old (op_of each.now) result caller.new }
     ensures ends { EndsAsking caller.old (op_of each.now) result caller.new }
     ensures on { AllZip HasGoneOn caller.old caller.new }
     ensures turnstiles { turnstiles caller.new ≡ turnstiles caller.old }

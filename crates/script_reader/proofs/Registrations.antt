@@ -10,6 +10,7 @@ use Rattle.stream_ident.specs.Blocks.{turn_size}
 use Rattle.stream_ident.specs.Name.{same_grain}
 use Rattle.stream_ident.specs.SubName.{same_sub}
 use Rattle.stream_ident.specs.Words.{each_value, past, value_at, with_value}
+use Rattle.stream_ident.specs.declared.limits.TheConstants.{BATCH_EVENTS, MAILBOX_PLACES}
 use Rattle.stream_model.specs.declared.plain.Delivery.{Delivery}
 use Rattle.stream_model.specs.declared.plain.Grain.{Grain}
 use Rattle.stream_model.specs.declared.plain.PlainPartition.{PlainPartition}
@@ -58,7 +59,7 @@ Keeps p out = (registrations out.0.subs ≡ registrations p.subs) × (out.0.rule
 pub keeps-publish : (p : PlainPartition) (stream : StreamId) (payloads : List (List ℕ)) → Keeps p (publish p stream payloads)
 unfolding publish
 keeps-publish p stream payloads =
-    cond_both ((length payloads == 0) || nat_lt 64 (length payloads)) _ _ (Keeps p) (λ _. (refl, refl, refl))
+    cond_both ((length payloads == 0) || nat_lt BATCH_EVENTS (length payloads)) _ _ (Keeps p) (λ _. (refl, refl, refl))
     (λ _. cond_both (nat_lt p.limits.events (length p.log + length payloads)) _ _ (Keeps p) (λ _. (refl, refl, refl)) (λ _. (refl, refl, refl)))
 
 keeps-unsubscribe_from : (p : PlainPartition) (s : SubName) (found : Option Subscription) → sub_at p s ≡ found → Keeps p (unsubscribe_from p s found)
@@ -78,7 +79,7 @@ keeps-deliver_position : (p : PlainPartition) (s : SubName) (r : Subscription) (
 unfolding deliver_position
 keeps-deliver_position p s r st None is = (registrations-with_value s r (caught_up p s r) p.subs is (λ k. refl), refl, refl)
 keeps-deliver_position p s r st (Some position) is =
-    cond_both (nat_le 16 (length st.mailbox)) _ _ (Keeps p) (λ _. (refl, refl, refl))
+    cond_both (nat_le MAILBOX_PLACES (length st.mailbox)) _ _ (Keeps p) (λ _. (refl, refl, refl))
     (λ _. cond_both (not st.active && is_spent p) _ _ (Keeps p) (λ _. (refl, refl, refl))
     (λ _. (registrations-with_value s r (record r { cursor = suc position }) p.subs is (λ k. refl), refl, refl)))
 

@@ -11,6 +11,7 @@ use Rattle.stream_ident.specs.declared.token.Token.{Token}
 use Rattle.stream_ident.specs.Event.{batch_token}
 use Rattle.stream_ident.specs.Name.{same_name}
 use Rattle.stream_ident.specs.Token.{token_lt}
+use Rattle.stream_ident.specs.declared.limits.TheConstants.{BATCH_EVENTS}
 use Rattle.stream_model.specs.declared.limits.Limits.{Limits}
 use Rattle.stream_model.specs.declared.op.Op.{Op}
 use Rattle.stream_model.specs.declared.op.Op.TheVariants as op
@@ -61,17 +62,17 @@ Answers before op out =
     is_limit out.1 ≡ false → (missed : List ℕ) (line : ℕ) → is_among line missed ≡ is_miss out.1
     → told_of out.1 ≡ told_reply missed (producers_entries before) line op
 
-no-batch : (n : ℕ) → ((n == 0) || nat_lt 64 n) ≡ true → (nat_le 1 n && nat_le n 64) ≡ false
+no-batch : (n : ℕ) → ((n == 0) || nat_lt BATCH_EVENTS n) ≡ true → (nat_le 1 n && nat_le n BATCH_EVENTS) ≡ false
 no-batch zero bad = refl
 no-batch (suc n) bad =
-    let many : nat_lt 64 (suc n) ≡ true = ap (λ b. b || nat_lt 64 (suc n)) (sym (ne_eqb (suc n) 0 (λ same. omega arith))) ∙ bad in
-    and_right (nat_le 1 (suc n)) (nat_le (suc n) 64) (lt-leb (suc n) 64 (ltb-true 64 (suc n) many))
+    let many : nat_lt BATCH_EVENTS (suc n) ≡ true = ap (λ b. b || nat_lt BATCH_EVENTS (suc n)) (sym (ne_eqb (suc n) 0 (λ same. omega arith))) ∙ bad in
+    and_right (nat_le 1 (suc n)) (nat_le (suc n) BATCH_EVENTS) (lt-leb (suc n) BATCH_EVENTS (ltb-true BATCH_EVENTS (suc n) many))
 
-batch-size : (n : ℕ) → ((n == 0) || nat_lt 64 n) ≡ false → (nat_le 1 n && nat_le n 64) ≡ true
+batch-size : (n : ℕ) → ((n == 0) || nat_lt BATCH_EVENTS n) ≡ false → (nat_le 1 n && nat_le n BATCH_EVENTS) ≡ true
 batch-size zero good = absurd (cc)
 batch-size (suc n) good =
-    let few = (or_parts (suc n == 0) (nat_lt 64 (suc n)) good).1 in
-    and_from (nat_le 1 (suc n)) (nat_le (suc n) 64) (le-leb 1 (suc n) (omega arith)) (le-leb (suc n) 64 (ltb-false 64 (suc n) few))
+    let few = (or_parts (suc n == 0) (nat_lt BATCH_EVENTS (suc n)) good).1 in
+    and_from (nat_le 1 (suc n)) (nat_le (suc n) BATCH_EVENTS) (le-leb 1 (suc n) (omega arith)) (le-leb (suc n) BATCH_EVENTS (ltb-false BATCH_EVENTS (suc n) few))
 
 module _ (before : List Entry) (p : PlainPartition) (knows : Knows before p) where
   abbrev past : List Entry
@@ -80,7 +81,7 @@ module _ (before : List Entry) (p : PlainPartition) (knows : Knows before p) whe
   answers-publish : (stream : StreamId) (payloads : List (List ℕ)) → Answers before (op.Publish stream payloads) (publish p stream payloads)
   unfolding publish
   answers-publish stream payloads =
-      cond_both ((length payloads == 0) || nat_lt 64 (length payloads)) _ _ (Answers before (op.Publish stream payloads))
+      cond_both ((length payloads == 0) || nat_lt BATCH_EVENTS (length payloads)) _ _ (Answers before (op.Publish stream payloads))
       (λ bad limit missed line same. sym (ap (λ b. if b then reply.Published (batch_count past) else reply.BadBatch) (no-batch (length payloads) bad)))
       (λ good. cond_both (nat_lt p.limits.events (length p.log + length payloads)) _ _ (Answers before (op.Publish stream payloads))
       (λ full limit missed line same. absurd (cc))

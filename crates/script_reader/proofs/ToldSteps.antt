@@ -19,6 +19,7 @@ use Rattle.stream_ident.specs.Name.{same_name}
 use Rattle.stream_ident.specs.SubName.{same_sub}
 use Rattle.stream_ident.specs.Token.{token_lt}
 use Rattle.stream_ident.specs.Words.{value_at, with_value}
+use Rattle.stream_ident.specs.declared.limits.TheConstants.{BLOCK_EVENTS}
 use Rattle.stream_model.specs.declared.limits.Limits.{Limits}
 use Rattle.stream_model.specs.declared.op.Op.{Op}
 use Rattle.stream_model.specs.declared.op.Op.TheVariants as op
@@ -327,9 +328,9 @@ told-pull_want : (history : List Entry) (p : PlainPartition) (generation max_eve
     → ToldAfter history (op.Pull generation max_events) (pull_want p want)
 unfolding pull_want pull_count
 told-pull_want history p generation max_events want fits told =
-    cond_both (min want (room p + 64 * drops p want) == 0) _ _ (ToldAfter history (op.Pull generation max_events))
+    cond_both (min want (room p + BLOCK_EVENTS * drops p want) == 0) _ _ (ToldAfter history (op.Pull generation max_events))
     (λ _. told-kept history p (op.Pull generation max_events) (p, _) told (refl, refl, refl) (record { rule = refl; given = refl; number = refl; closed = λ kind stream. refl }))
-    (λ _. told-pulled history p generation max_events (p.low + 64 * drops p want) (p.high + min want (room p + 64 * drops p want)) fits told)
+    (λ _. told-pulled history p generation max_events (p.low + BLOCK_EVENTS * drops p want) (p.high + min want (room p + BLOCK_EVENTS * drops p want)) fits told)
 
 told-pull : (history : List Entry) (p : PlainPartition) (generation max_events : ℕ) → Fits (summary (reverse history)) p → IsTold history p
     → ToldAfter history (op.Pull generation max_events) (pull p generation max_events)

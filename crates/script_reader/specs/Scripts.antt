@@ -1,6 +1,7 @@
 -- A whole script that is to be run on silos.
 use Rattle.std.specs.Prelude.{◌≡◌, ℕ, ◌<◌, ◌+◌, true, List, [], ◌∷◌, Result, Ok, Err, ⊤}
 use Rattle.std.specs.List.{AllByRecursion}
+use Rattle.stream_ident.specs.declared.limits.TheConstants.{MOST_SILOS}
 use Rattle.stream_model.specs.Producers.{is_producer}
 use Rattle.script_parser.specs.declared.command.Command.{Command}
 use Rattle.script_parser.specs.declared.command.Command.TheVariants as command
@@ -20,8 +21,8 @@ IsRunCommand queues (command.Step queue op) = (queue < queues) × (is_producer o
 IsRunCommand queues (command.Each each) = is_producer (op_of each) ≡ true
 IsRunCommand queues command.Drain = ⊤
 IsRunCommand queues command.Report = ⊥
-IsRunCommand queues (command.Up silo) = silo < 16
-IsRunCommand queues (command.Down silo) = silo < 16
+IsRunCommand queues (command.Up silo) = silo < MOST_SILOS
+IsRunCommand queues (command.Down silo) = silo < MOST_SILOS
 
 -- the numbers of the lines rise, from above this one on
 abbrev pub RisesFrom : ℕ → List Line → Type 0

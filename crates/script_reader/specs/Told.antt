@@ -7,6 +7,7 @@ use Rattle.stream_ident.specs.declared.ident.SubName.TheVariants as name
 use Rattle.stream_ident.specs.declared.rule.Rule.{Rule}
 use Rattle.stream_ident.specs.Event.{batch_token}
 use Rattle.stream_ident.specs.Name.{same_name}
+use Rattle.stream_ident.specs.declared.limits.TheConstants.{BATCH_EVENTS}
 use Rattle.stream_model.specs.declared.op.Op.{Op}
 use Rattle.stream_model.specs.declared.op.Op.TheVariants.{Publish, Subscribe, Unsubscribe, AddRule}
 use Rattle.stream_model.specs.declared.op.Start.TheVariants.{Latest, At}
@@ -46,9 +47,9 @@ rules_of history = filter_map (λ (e : Entry). rule_of e.op e.reply) history
 abbrev pub has_rule : List Entry → List ℕ → List ℕ → Bool
 has_rule history kind namespace = list_any (λ (rule : Rule). same_name kind rule.kind && same_name namespace rule.namespace) (rules_of history)
 
--- A batch has 1 to 64 payloads.
+-- A batch has some payloads, and not too many.
 abbrev pub is_batch : List (List ℕ) → Bool
-is_batch payloads = nat_le 1 (length payloads) && nat_le (length payloads) 64
+is_batch payloads = nat_le 1 (length payloads) && nat_le (length payloads) BATCH_EVENTS
 
 -- the reply that a start token is refused, with the tokens that a script doesn't say set aside
 abbrev pub a_miss : Reply

@@ -1,5 +1,6 @@
 -- What a command line may ask for, and what is written where that is done.
 use Rattle.std.specs.Prelude.{ℕ, min, max, List, Option, Result, Ok, Err}
+use Rattle.stream_ident.specs.declared.limits.TheConstants.{MOST_BLOCKS, MOST_QUEUES, MOST_SILOS}
 use Rattle.stream_cluster.specs.declared.config.Config.{Config}
 use Rattle.stream_cluster.specs.Clusters.{IsConfig, greatest_limits}
 use Rattle.script_tasks.specs.declared.options.Task.{Task}
@@ -16,15 +17,15 @@ within most number = max 1 (min number most)
 
 -- a simulation with so many queues and blocks
 abbrev pub simulation_with : ℕ → ℕ → SimConfig
-simulation_with queues blocks = record { queues = within 64 queues; blocks = within 64 blocks; limits = greatest_limits }
+simulation_with queues blocks = record { queues = within MOST_QUEUES queues; blocks = within MOST_BLOCKS blocks; limits = greatest_limits }
 
 -- a cluster with so many queues, blocks and silos, whose histories have room for so many calls
 abbrev pub cluster_with : ℕ → ℕ → ℕ → ℕ → Config
 cluster_with queues blocks silos history =
     record {
-      queues = within 64 queues;
-      blocks = within 64 blocks;
-      silos = within 16 silos;
+      queues = within MOST_QUEUES queues;
+      blocks = within MOST_BLOCKS blocks;
+      silos = within MOST_SILOS silos;
       limits = greatest_limits;
       history = history;
       rounds = 1000000;

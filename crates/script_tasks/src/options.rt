@@ -13,6 +13,7 @@ use clap::{Arg, ArgMatches, Command, value_parser};
 use std::alloc::{AllocError, Global};
 use std::io;
 use stream_cluster::Config;
+use stream_ident::{MOST_BLOCKS, MOST_ENTRIES, MOST_QUEUES, MOST_SILOS};
 use stream_model::Limits;
 use stream_script::SimConfig;
 
@@ -106,9 +107,6 @@ gives these replies at its queue.
 
 Exit status: as for `streams run`. A run that met a limit, or of which not all was handled, is printed too.
 A trace stores what was asked, at most 4,000,000 calls a queue."#;
-
-/// How many calls the history of a queue has room for in a trace.
-const TRACE_HISTORY: u64 = 4_000_000;
 
 /// How many rounds a loop of a silo may begin in a run.
 const MOST_ROUNDS: u64 = 1_000_000;
@@ -254,7 +252,7 @@ fn silos<'a>(alloc: Global) -> Arg<'a> {
         .long("silos")
         .value_name("N")
         .help("How many silos there are at the start, 1 to 16")
-        .value_parser(value_parser!(u32).range(1..=16))
+        .value_parser(value_parser!(u32).range(1..=MOST_SILOS as i64))
         .default_value("1")
 }
 
@@ -264,7 +262,7 @@ fn queues<'a>(alloc: Global) -> Arg<'a> {
         .long("queues")
         .value_name("N")
         .help("How many queues the streams share, 1 to 64")
-        .value_parser(value_parser!(u32).range(1..=64))
+        .value_parser(value_parser!(u32).range(1..=MOST_QUEUES as i64))
         .default_value("1")
 }
 
@@ -274,7 +272,7 @@ fn blocks<'a>(alloc: Global) -> Arg<'a> {
         .long("blocks")
         .value_name("N")
         .help("How many blocks of 64 events each queue's cache has, 1 to 64")
-        .value_parser(value_parser!(u32).range(1..=64))
+        .value_parser(value_parser!(u32).range(1..=MOST_BLOCKS as i64))
         .default_value("4")
 }
 
@@ -289,8 +287,8 @@ pub fn sim_config(queues: u32, blocks: u32) -> SimConfig
     ensures exact { result ≡ simulation_with queues blocks }
 {
     SimConfig {
-        queues: queues.clamp(1, 64) as usize,
-        blocks: blocks.clamp(1, 64) as usize,
+        queues: (queues as usize).clamp(1, MOST_QUEUES),
+        blocks: (blocks as usize).clamp(1, MOST_BLOCKS),
         limits: Limits::GREATEST,
     }
 }
@@ -302,9 +300,9 @@ pub fn run_config(queues: u32, blocks: u32, silos: u32) -> Config
     ensures exact { result ≡ cluster_with queues blocks silos (2 ^ 64 - 1) }
 {
     Config {
-        queues: queues.clamp(1, 64) as usize,
-        blocks: blocks.clamp(1, 64) as usize,
-        silos: silos.clamp(1, 16) as u8,
+        queues: (queues as usize).clamp(1, MOST_QUEUES),
+        blocks: (blocks as usize).clamp(1, MOST_BLOCKS),
+        silos: silos.clamp(1, MOST_SILOS as u32) as u8,
         limits: Limits::GREATEST,
         history: u64::MAX,
         rounds: MOST_ROUNDS,
@@ -315,10 +313,10 @@ pub fn run_config(queues: u32, blocks: u32, silos: u32) -> Config
 /// The cluster of a run whose calls are stored.
 pub fn trace_config(queues: u32, blocks: u32, silos: u32) -> Config
     ensures config { IsConfig result }
-    ensures exact { result ≡ cluster_with queues blocks silos 4000000 }
+    ensures exact { result ≡ cluster_with queues blocks silos MOST_ENTRIES }
 {
     Config {
-        history: TRACE_HISTORY,
+        history: MOST_ENTRIES,
         ..run_config(queues, blocks, silos)
     }
 }

@@ -1,5 +1,6 @@
 //! The directory that a turnstile holds.
 ghost use Rattle.std.specs.Prelude.{◌≡◌, ◌≤◌, MatchResult};
+ghost use Rattle.stream_ident.specs.declared.limits.TheConstants.{MOST_PERMITS};
 ghost use Rattle.activation_directory.specs.Plain.{PlainDirectory, empty};
 ghost use Rattle.turnstile.specs.Calls.{Called, CallsBy, Found, HasOnlySeen, IsOf};
 ghost use Rattle.turnstile.specs.Passes.{Origin};
@@ -62,7 +63,7 @@ impl<H: DirectoryHistory> SharedDirectory<H> {
     /// A directory in which no grain is placed, and which gives this many permits in all, at most
     /// 4,000,000. It takes no memory.
     pub fn new(alloc: Global, permits: u64) -> SharedDirectory<H>
-        requires { permits ≤ 4000000 }
+        requires { permits ≤ MOST_PERMITS }
         ensures { result ≡ empty permits }
     {
         SharedDirectory {

@@ -1,5 +1,6 @@
 //! The partition that a turnstile holds.
 ghost use Rattle.std.specs.Prelude.{◌≡◌, ◌≤◌, IfOk, MatchResult};
+ghost use Rattle.stream_ident.specs.declared.limits.TheConstants.{MOST_BLOCKS};
 ghost use Rattle.stream_model.specs.Bounds.{AreLimits};
 ghost use Rattle.step_core.specs.Replied.{Shows};
 ghost use Rattle.stream_model.specs.Positions.{empty};
@@ -29,6 +30,7 @@ pub struct SharedPartition<G, H> {
 }
 
 impl<G: Drop, H: Drop> Drop for SharedPartition<G, H> {
+    #[inline(never)]
     fn drop(self) {
         let Self {
             partition: _,
@@ -90,7 +92,7 @@ impl<G: Gate, H: QueueHistory> SharedPartition<G, H> {
         limits: Limits,
     ) -> Result<SharedPartition<G, H>, AllocError>
         requires some_blocks { 1 ≤ blocks }
-        requires blocks { blocks ≤ 64 }
+        requires blocks { blocks ≤ MOST_BLOCKS }
         requires limits { AreLimits limits }
         ensures { IfOk result (λ shared. shared ≡ empty blocks limits) }
     {

@@ -9,6 +9,7 @@ use Rattle.stream_ident.specs.declared.event.Event.{Event}
 use Rattle.stream_ident.specs.declared.ident.GrainId.{GrainId}
 use Rattle.stream_ident.specs.declared.ident.SubName.{SubName}
 use Rattle.stream_ident.specs.declared.token.Token.{Token}
+use Rattle.stream_ident.specs.declared.limits.TheConstants.{TURN_EVENTS}
 use Rattle.stream_model.specs.declared.op.Op.{Op}
 use Rattle.stream_model.specs.declared.op.Op.TheVariants as op
 use Rattle.stream_model.specs.Replies.{Reply}
@@ -75,13 +76,13 @@ module _ (lines new : List LineView) (d : DirectoryPass) (walk w : Walk) (room :
     refl,
   )
 
-  pub begun : (grain : GrainId) (permit : ℕ) → walk.step ≡ step.Begin grain permit → IsAt walk lines d → 16 ≤ room → HearsAt lines walk.at (op.Begin grain 16) new room old fresh answer → w.at ≡ walk.at
+  pub begun : (grain : GrainId) (permit : ℕ) → walk.step ≡ step.Begin grain permit → IsAt walk lines d → TURN_EVENTS ≤ room → HearsAt lines walk.at (op.Begin grain TURN_EVENTS) new room old fresh answer → w.at ≡ walk.at
       → w.step ≡ step_after_begin grain permit answer → over ≡ end_in answer
       → (silo rounds counted : ℕ) → WorkerCalls (worker_at silo lines d walk old rounds None) (worker_at silo new d w fresh counted over)
   begun grain permit is at some h place next ended silo rounds counted =
       record {
         at = walk.at;
-        op = op.Begin grain 16;
+        op = op.Begin grain TURN_EVENTS;
         result = h.result;
         calls = h.calls;
         may = (refl, (permit, fits-at walk lines d (step.Begin grain permit) is at));
@@ -94,11 +95,11 @@ module _ (lines new : List LineView) (d : DirectoryPass) (walk w : Walk) (room :
         silo = refl;
       }
 
-  pub begun-at : (grain : GrainId) (permit : ℕ) → walk.step ≡ step.Begin grain permit → IsAt walk lines d → HearsAt lines walk.at (op.Begin grain 16) new room old fresh answer → w.at ≡ walk.at
+  pub begun-at : (grain : GrainId) (permit : ℕ) → walk.step ≡ step.Begin grain permit → IsAt walk lines d → HearsAt lines walk.at (op.Begin grain TURN_EVENTS) new room old fresh answer → w.at ≡ walk.at
       → w.step ≡ step_after_begin grain permit answer → IsAt w new d
   begun-at grain permit is at h place next =
-      at-call walk w lines new d d (op.Begin grain 16) room old fresh answer (step_after_begin grain permit (heard_of h.result)) h place (next ∙ ap (λ a. step_after_begin grain permit a) h.heard)
-      (begun-fits d h.calls.was.pass h.calls.is.pass grain permit 16 h.result (fits-at walk lines d (step.Begin grain permit) is at) h.calls.calls.call)
+      at-call walk w lines new d d (op.Begin grain TURN_EVENTS) room old fresh answer (step_after_begin grain permit (heard_of h.result)) h place (next ∙ ap (λ a. step_after_begin grain permit a) h.heard)
+      (begun-fits d h.calls.was.pass h.calls.is.pass grain permit TURN_EVENTS h.result (fits-at walk lines d (step.Begin grain permit) is at) h.calls.calls.call)
 
   pub committed : (grain : GrainId) (permit : ℕ) (turn : Turn) → walk.step ≡ step.Handle grain permit turn → length old ≤ turn.next → IsAt walk lines d
       → HearsAt lines walk.at (op.Commit grain turn.activation turn.number turn.note) new room old fresh answer → w.at ≡ walk.at

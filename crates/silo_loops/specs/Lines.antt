@@ -14,6 +14,7 @@ use Rattle.turnstile.specs.declared.turnstile.Refusal.{Refusal}
 use Rattle.turnstile.specs.Calls.{numbers_of}
 use Rattle.turnstile.specs.Passes.{Origin, PassView}
 use Rattle.stream_ident.specs.declared.event.Event.{Event}
+use Rattle.stream_ident.specs.declared.limits.TheConstants.{TURN_EVENTS}
 use Rattle.silo_loops.specs.declared.heard.Heard.{Heard}
 use Rattle.silo_loops.specs.Answers.{heard_of, end_of, events_after}
 use Rattle.silo_loops.specs.Passes.{CallsBy, HasOwnPast, IsAtLimit, OwnsNone}
@@ -84,7 +85,7 @@ pub record Hears (l : LineView) (op : Op) (m : LineView) (room : ℕ) (old new :
   pub result : Result Reply Refusal
   pub calls : CallsOn l op result m
   pub heard : answer ≡ heard_of result
-  pub kept : 16 ≤ room → new ≡ events_after result old
+  pub kept : TURN_EVENTS ≤ room → new ≡ events_after result old
 
 -- one call by the pass at one queue; the other lines are as they were
 pub record CallsAt (lines : List LineView) (at : ℕ) (op : Op) (result : Result Reply Refusal) (new : List LineView) : Type 0 where
@@ -99,7 +100,7 @@ pub record HearsAt (lines : List LineView) (at : ℕ) (op : Op) (new : List Line
   pub result : Result Reply Refusal
   pub calls : CallsAt lines at op result new
   pub heard : answer ≡ heard_of result
-  pub kept : 16 ≤ room → fresh ≡ events_after result old
+  pub kept : TURN_EVENTS ≤ room → fresh ≡ events_after result old
 
 -- the turnstiles of these lines, in their order
 abbrev pub places : List LineView → List (Option (Origin PlainPartition))

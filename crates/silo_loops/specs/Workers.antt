@@ -3,6 +3,7 @@ use Rattle.std.specs.Prelude.{◌≡◌, ℕ, ◌+◌, ◌⊎◌, List, [], ◌�
 use Rattle.stream_ident.specs.declared.event.Event.{Event}
 use Rattle.stream_ident.specs.declared.ident.GrainId.{GrainId}
 use Rattle.stream_ident.specs.declared.ident.SubName.{SubName}
+use Rattle.stream_ident.specs.declared.limits.TheConstants.{TURN_EVENTS}
 use Rattle.stream_model.specs.declared.op.Op.{Op}
 use Rattle.stream_model.specs.declared.op.Op.TheVariants as op
 use Rattle.stream_model.specs.Replies.{Reply}
@@ -38,7 +39,7 @@ pub record WorkerView : Type 0 where
 -- turn that it began.
 abbrev pub WorkerMay : DirectoryPass → QueuePass → Op → Type 0
 WorkerMay d p (op.Ready last) = Unit {0}
-WorkerMay d p (op.Begin grain most) = (most ≡ 16) × ((permit : ℕ) × Keeps d grain permit)
+WorkerMay d p (op.Begin grain most) = (most ≡ TURN_EVENTS) × ((permit : ℕ) × Keeps d grain permit)
 WorkerMay d p (op.Commit grain activation turn note) = (sub : SubName) × Runs p grain sub activation turn
 WorkerMay d p _ = ⊥
 

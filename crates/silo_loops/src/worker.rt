@@ -1,5 +1,6 @@
 //! The loop of a turn worker.
 ghost use Rattle.std.specs.Prelude.{◌≡◌, ℕ, ◌<◌, ◌≤◌, length, true, None, All, vec_capacity};
+ghost use Rattle.stream_ident.specs.declared.limits.TheConstants.{TURN_EVENTS};
 ghost use Rattle.silo_loops.specs.declared.worker_walk.Step.TheVariants as step;
 ghost use Rattle.silo_loops.specs.Answers.{advance_of};
 ghost use Rattle.silo_loops.specs.Lines.{HasLooked};
@@ -18,7 +19,7 @@ use std::alloc::{AllocError, Global};
 use std::marker::Model;
 use std::sync::atomic::{AtomicBool, Ordering};
 use std::sync::{Arc, Wait};
-use stream_ident::Event;
+use stream_ident::{Event, TURN_EVENTS};
 
 // The most steps of a visit.
 const MOST_STEPS: u32 = 64;
@@ -27,7 +28,7 @@ const MOST_STEPS: u32 = 64;
 #[derive(Drop)]
 pub struct TurnRoom {
     events: Vec<Event>,
-    ghost room: { 16 ≤ vec_capacity events },
+    ghost room: { TURN_EVENTS ≤ vec_capacity events },
 }
 
 impl TurnRoom {
@@ -36,13 +37,13 @@ impl TurnRoom {
     /// # Errors
     /// The call failed to allocate.
     pub fn new(alloc: Global) -> Result<TurnRoom, AllocError> {
-        let events = Vec::with_capacity(alloc, 16)?;
+        let events = Vec::with_capacity(alloc, TURN_EVENTS)?;
         Ok(TurnRoom { events })
     }
 
     /// The room, without events.
     pub fn into_events(self) -> Vec<Event>
-        ensures { 16 ≤ vec_capacity result }
+        ensures { TURN_EVENTS ≤ vec_capacity result }
     {
         self.events
     }
@@ -84,6 +85,7 @@ impl<G: Gate + Drop, H: QueueHistory + Drop, D: DirectoryHistory + Drop> Drop
 }
 
 impl<G: Gate, H: QueueHistory, D: DirectoryHistory> Model for WorkerLoop<G, H, D> {
+    ghost use Rattle.stream_ident.specs.declared.limits.TheConstants.{TURN_EVENTS};
     ghost use Rattle.std.specs.Prelude.{◌≤◌, vec_capacity};
     ghost use Rattle.silo_loops.specs.Walks.{IsAt};
     ghost use Rattle.silo_loops.specs.Workers.{WorkerHasCause, WorkerView, worker_at};
@@ -92,7 +94,7 @@ impl<G: Gate, H: QueueHistory, D: DirectoryHistory> Model for WorkerLoop<G, H, D
 
     ghost view = { λ w. worker_at w.silo w.lines.items w.directory w.walk w.events.items w.rounds w.over };
 
-    ghost invariant = { λ w. IsAt w.walk w.lines.items w.directory × (16 ≤ vec_capacity w.events) × WorkerHasCause (worker_at w.silo w.lines.items w.directory w.walk w.events.items w.rounds w.over) };
+    ghost invariant = { λ w. IsAt w.walk w.lines.items w.directory × (TURN_EVENTS ≤ vec_capacity w.events) × WorkerHasCause (worker_at w.silo w.lines.items w.directory w.walk w.events.items w.rounds w.over) };
 }
 
 // How a round begins, or doesn't.
@@ -150,7 +152,7 @@ fn step<G: Gate, H: QueueHistory, D: DirectoryHistory, R: Wait>(
     events: &mut Vec<Event>,
 ) -> Option<Over>
     requires at { IsAt walk.old lines.old.items directory.old }
-    requires room { 16 ≤ vec_capacity events.old }
+    requires room { TURN_EVENTS ≤ vec_capacity events.old }
     ensures at { IsAt walk.new lines.new.items directory.new }
     ensures room { vec_capacity events.new ≡ vec_capacity events.old }
     ensures steps { (rounds counted : ℕ) → WorkerSteps G.follows (worker_at silo lines.old.items directory.old walk.old events.old.items rounds None) (worker_at silo lines.new.items directory.new walk.new events.new.items counted result) result }
@@ -207,7 +209,7 @@ fn take_step<G: Gate, H: QueueHistory, D: DirectoryHistory, R: Wait>(
     over: &mut Option<Over>,
 ) -> Advance
     requires at { IsAt walk.old lines.old.items directory.old }
-    requires room { 16 ≤ vec_capacity events.old }
+    requires room { TURN_EVENTS ≤ vec_capacity events.old }
     ensures at { IsAt walk.new lines.new.items directory.new }
     ensures room { vec_capacity events.new ≡ vec_capacity events.old }
     ensures answer { result ≡ advance_of over.new }
@@ -267,7 +269,7 @@ fn go_on<G: Gate, H: QueueHistory, D: DirectoryHistory, R: Wait>(
     over: &mut Option<Over>,
 ) -> Advance
     requires at { IsAt walk.old lines.old.items directory.old }
-    requires room { 16 ≤ vec_capacity events.old }
+    requires room { TURN_EVENTS ≤ vec_capacity events.old }
     requires goes_on { over.old ≡ None }
     ensures at { IsAt walk.new lines.new.items directory.new }
     ensures room { vec_capacity events.new ≡ vec_capacity events.old }
@@ -298,7 +300,7 @@ fn advance_parts<G: Gate, H: QueueHistory, D: DirectoryHistory, R: Wait>(
     over: &mut Option<Over>,
 ) -> Advance
     requires at { IsAt walk.old lines.old.items directory.old }
-    requires room { 16 ≤ vec_capacity events.old }
+    requires room { TURN_EVENTS ≤ vec_capacity events.old }
     ensures at { IsAt walk.new lines.new.items directory.new }
     ensures room { vec_capacity events.new ≡ vec_capacity events.old }
     ensures advances { WorkerAdvances G.follows result (worker_at silo lines.old.items directory.old walk.old events.old.items rounds.old over.old) (worker_at silo lines.new.items directory.new walk.new events.new.items rounds.new over.new) }

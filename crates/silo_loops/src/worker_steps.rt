@@ -17,11 +17,8 @@ use activation_directory::DirectoryOp;
 use shared_partition::{DirectoryHistory, Gate, QueueHistory};
 use std::alloc::Global;
 use std::sync::Wait;
-use stream_ident::{Event, GrainId, SubName, Token};
+use stream_ident::{Event, GrainId, SubName, TURN_EVENTS, Token};
 use stream_model::Op;
-
-// The most events of a turn.
-const MOST_EVENTS: u32 = 16;
 
 // One call at one queue.
 pub(crate) fn hear_at<G: Gate, H: QueueHistory, R: Wait>(
@@ -110,14 +107,14 @@ pub(crate) fn begin<G: Gate, H: QueueHistory, D: DirectoryHistory, R: Wait>(
 ) -> Option<Over>
     requires at { IsAt walk.old lines.old.items directory.now }
     requires step { walk.old.step ≡ step.Begin grain.now permit }
-    requires room { 16 ≤ vec_capacity events.old }
+    requires room { TURN_EVENTS ≤ vec_capacity events.old }
     ensures at { IsAt walk.new lines.new.items directory.now }
     ensures room { vec_capacity events.new ≡ vec_capacity events.old }
     ensures steps { (silo rounds counted : ℕ) → WorkerSteps G.follows (worker_at silo lines.old.items directory.now walk.old events.old.items rounds None) (worker_at silo lines.new.items directory.now walk.new events.new.items counted result) result }
 {
     let op = Op::Begin {
         grain: *grain,
-        max: MOST_EVENTS,
+        max: TURN_EVENTS as u32,
     };
     let answer = hear_at(rt, alloc, doorbell, lines, walk.at, op, events);
     walk.after_begin(grain, permit, &answer)

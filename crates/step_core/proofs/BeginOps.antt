@@ -1,6 +1,6 @@
 -- A worker begins a turn, done by the parts: what becomes of them, and the reply.
-use Rattle.std.proofs.Common.{◌≡◌, ◌∙◌, ap, sym, subst, refl, ℕ, zero, suc, ◌<◌, ◌&&◌, not, List, [], ◌∷◌, length, Option, Some, None, ◌==◌, nat_le, nat_lt}
-use Rattle.std.specs.Prelude.{is_some}
+use Rattle.std.proofs.Common.{◌≡◌, ◌∙◌, ap, sym, subst, refl, ℕ, zero, suc, ◌<◌, Bool, true, false, ◌&&◌, not, List, [], ◌∷◌, length, Option, Some, ◌==◌, nat_le, nat_lt}
+use Rattle.std.specs.Prelude.{is_some, if◌then◌else◌}
 use Rattle.std.specs.List.{AllByRecursion}
 use Rattle.std.proofs.lemmas.Bool.{cond_both}
 use Rattle.stream_ident.specs.declared.ident.GrainId.{GrainId}
@@ -16,7 +16,7 @@ use Rattle.stream_model.proofs.RecordBounds.{grain-fits}
 use Rattle.consumer_grain.specs.declared.mailbox.Delivery.{Delivery}
 use Rattle.consumer_grain.specs.declared.told.Begun.{Begun}
 use Rattle.consumer_grain.specs.declared.told.Begun.TheVariants as begun
-use Rattle.consumer_grain.specs.Activations.{PlainActivation, begin, begin_front, begin_turn, front_of}
+use Rattle.consumer_grain.specs.Activations.{PlainActivation, begin, begin_front, can_begin, front_of}
 use Rattle.stream_ident.specs.Blocks.{turn_size}
 use Rattle.grain_table.specs.Changes.{activation_at, no_grain}
 use Rattle.grain_table.specs.Grains.{PlainGrains, number_of}
@@ -33,25 +33,20 @@ use Rattle.step_core.proofs.KnownOps.{known-grain}
 use Rattle.step_core.proofs.KnownTurns.{begin-holds, begin-subs}
 use Rattle.step_core.proofs.NumberedOps.{All-change_at, All-unmap, change_at-by, change_at-kept, grains-known, turns-known}
 use Rattle.step_core.proofs.Shared.{name-same}
-use Rattle.step_core.proofs.TurnOps.{begin-parts, begun_by, turn_number}
+use Rattle.step_core.proofs.TurnOps.{begin-parts, begun_by}
 
 -- where no turn has begun and nothing is dropped, the activation stays
 abbrev Keeps : PlainActivation → PlainActivation × Begun → Type 0
 Keeps a (now, begun.Busy) = now ≡ a
 Keeps a (now, begun.Empty) = now ≡ a
-Keeps a (now, begun.Spent) = now ≡ a
 Keeps a (now, begun.Dropped d) = Unit {0}
 Keeps a (now, begun.Turn sub positions) = Unit {0}
 
-front-keeps : (a : PlainActivation) (past : ℕ) (turn : Option ℕ) (size : ℕ) (deliveries : List Delivery) → Keeps a (begin_front a past turn size deliveries)
+front-keeps : (a : PlainActivation) (past : ℕ) (turn : ℕ) (size : ℕ) (deliveries : List Delivery) → Keeps a (begin_front a past turn size deliveries)
 front-keeps a past turn size [] = refl
-front-keeps a past turn size (d ∷ deliveries) = cond_both (nat_lt d.position past) _ _ (Keeps a) (λ _. tt) (λ _. by turn)
-  where
-    by : (turn : Option ℕ) → Keeps a (begin_turn a d.sub (front_of size d.sub d.position a.mailbox) turn)
-    by None = refl
-    by (Some turn) = tt
+front-keeps a past turn size (d ∷ deliveries) = cond_both (nat_lt d.position past) _ _ (Keeps a) (λ _. tt) (λ _. tt)
 
-begin-keeps : (a : PlainActivation) (past : ℕ) (turn : Option ℕ) (max_events : ℕ) → Keeps a (begin a past turn max_events)
+begin-keeps : (a : PlainActivation) (past : ℕ) (turn : ℕ) (max_events : ℕ) → Keeps a (begin a past turn max_events)
 begin-keeps a past turn max_events =
     cond_both (is_some a.running) _ _ (Keeps a) (λ _. refl)
     (λ _. cond_both (not a.active) _ _ (Keeps a) (λ _. refl) (λ _. front-keeps a past turn (turn_size max_events) a.mailbox))
@@ -73,7 +68,6 @@ begun-told parts i (now, told) kept = by told kept
         ≡ (plain_of (after_begun (with_grains parts (change_at (λ _. now) i parts.grains)) told), of_begun parts (activation_at parts.grains i).number told)
     by begun.Busy kept = ap (λ grains. (plain_of (with_grains parts grains), reply.Busy)) (stays kept)
     by begun.Empty kept = ap (λ grains. (plain_of (with_grains parts grains), reply.Empty)) (stays kept)
-    by begun.Spent kept = ap (λ grains. (plain_of (with_grains parts grains), reply.Spent)) (stays kept)
     by (begun.Dropped d) kept = ap (λ s. (plain_of (with_grains parts (change_at (λ _. now) i parts.grains)), reply.Dropped s (token_at (plain_of parts) d.position))) (name-same parts.subs d.sub)
     by (begun.Turn sub positions) kept =
         ap (λ s. (plain_of (after_begun (with_grains parts (change_at (λ _. now) i parts.grains)) (begun.Turn sub positions)), reply.Turn s (activation_at parts.grains i).number (suc parts.turns) (events_at parts.queue.events positions) (state_at parts.subs sub).note))
@@ -86,28 +80,40 @@ out_of parts replying activation told = (plain_of (after_begun parts told), of_b
 reply-alone : (parts : Parts) (grains : PlainGrains) (activation : ℕ) (told : Begun) → out_of (with_grains parts grains) parts activation told ≡ out_of (with_grains parts grains) (with_grains parts grains) activation told
 reply-alone parts grains activation begun.Busy = refl
 reply-alone parts grains activation begun.Empty = refl
-reply-alone parts grains activation begun.Spent = refl
 reply-alone parts grains activation (begun.Dropped d) = refl
 reply-alone parts grains activation (begun.Turn sub positions) = refl
 
 -- what the table of the grains does and tells, and the reply to it, is what the plain partition does
-pub begin-told : (parts : Parts) (g : GrainId) (i max_events past_front : ℕ) (turn : Option ℕ) (grains : PlainGrains) (told : Begun)
+pub begin-told : (parts : Parts) (g : GrainId) (i max_events past_front turn : ℕ) (grains : PlainGrains) (told : Begun)
     → AreDistinct parts.subs.registry.names → length parts.subs.registry.names ≡ length parts.subs.states → number_of parts.grains g ≡ Some i
     → IsBelow (length parts.subs.registry.names) (activation_at parts.grains i)
     → ((f : Delivery) (fs : List Delivery) → (activation_at parts.grains i).mailbox ≡ f ∷ fs → past_front ≡ past (state_at parts.subs f.sub).handled)
-    → turn ≡ turn_number parts
+    → turn ≡ suc parts.turns
+    → (can_begin (activation_at parts.grains i) past_front && nat_le parts.limits.rises parts.rises) ≡ false
     → grains ≡ change_at (λ a. (begin a past_front turn max_events).0) i parts.grains
     → told ≡ (begin (activation_at parts.grains i) past_front turn max_events).1
     → plain.begin (plain_of parts) g max_events ≡ out_of (with_grains parts grains) (with_grains parts grains) (activation_at parts.grains i).number told
-begin-told parts g i max_events past_front turn grains told distinct lengths found below is_past is_turn is_grains is_told =
+begin-told parts g i max_events past_front turn grains told distinct lengths found below is_past is_turn rests is_grains is_told =
     let a = activation_at parts.grains i in
     begin-parts parts g i max_events past_front no_entry no_grain no_state distinct lengths found below is_past
+    ∙ ap (λ (spent : Bool). if spent then (plain_of parts, reply.Spent) else begun_by parts i no_grain no_state (begin a past_front (suc parts.turns) max_events)) rests
     ∙ ap (λ turn. begun_by parts i no_grain no_state (begin a past_front turn max_events)) (sym is_turn)
     ∙ begun-told parts i (begin a past_front turn max_events) (begin-keeps a past_front turn max_events)
     ∙ ap (λ grains. out_of (with_grains parts grains) parts a.number (begin a past_front turn max_events).1)
     (sym (is_grains ∙ change_at-by (λ a. (begin a past_front turn max_events).0) i parts.grains no_grain))
     ∙ ap (out_of (with_grains parts grains) parts a.number) (sym is_told)
     ∙ reply-alone parts grains a.number told
+
+-- it would begin a turn, and no rise is left
+pub begin-spent : (parts : Parts) (g : GrainId) (i max_events past_front : ℕ)
+    → AreDistinct parts.subs.registry.names → length parts.subs.registry.names ≡ length parts.subs.states → number_of parts.grains g ≡ Some i
+    → IsBelow (length parts.subs.registry.names) (activation_at parts.grains i)
+    → ((f : Delivery) (fs : List Delivery) → (activation_at parts.grains i).mailbox ≡ f ∷ fs → past_front ≡ past (state_at parts.subs f.sub).handled)
+    → (can_begin (activation_at parts.grains i) past_front && nat_le parts.limits.rises parts.rises) ≡ true
+    → plain.begin (plain_of parts) g max_events ≡ (plain_of parts, reply.Spent)
+begin-spent parts g i max_events past_front distinct lengths found below is_past wants =
+    begin-parts parts g i max_events past_front no_entry no_grain no_state distinct lengths found below is_past
+    ∙ ap (λ (spent : Bool). if spent then (plain_of parts, reply.Spent) else begun_by parts i no_grain no_state (begin (activation_at parts.grains i) past_front (suc parts.turns) max_events)) wants
 
 -- ---- numbers and positions
 
@@ -121,18 +127,14 @@ front-within m (suc n) sub from [] all = tt
 front-within m (suc n) sub from (d ∷ deliveries) all =
     cond_both ((sub == d.sub) && nat_le from d.position) _ _ (AllByRecursion (λ position. position < m)) (λ _. (all.0, front-within m n sub (suc d.position) deliveries all.1)) (λ _. tt)
 
-told-front : (parts : Parts) (past : ℕ) (turn : Option ℕ) (size : ℕ) (a : PlainActivation) (deliveries : List Delivery)
+told-front : (parts : Parts) (past : ℕ) (turn : ℕ) (size : ℕ) (a : PlainActivation) (deliveries : List Delivery)
     → AllByRecursion (λ (d : Delivery). d.sub < length parts.subs.registry.names) deliveries → AllByRecursion (λ (d : Delivery). d.position < length parts.queue.events) deliveries
     → AllByRecursion (λ (d : Delivery). d.position < length parts.queue.events) a.mailbox → Tells (IsOfParts parts) (begin_front a past turn size deliveries)
 told-front parts past turn size a [] subs positions mailbox = tt
 told-front parts past turn size a (d ∷ deliveries) subs positions mailbox =
-    cond_both (nat_lt d.position past) _ _ (Tells (IsOfParts parts)) (λ _. (subs.0, positions.0)) (λ _. by turn)
-  where
-    by : (turn : Option ℕ) → Tells (IsOfParts parts) (begin_turn a d.sub (front_of size d.sub d.position a.mailbox) turn)
-    by None = tt
-    by (Some turn) = (subs.0, front-within (length parts.queue.events) size d.sub d.position a.mailbox mailbox)
+    cond_both (nat_lt d.position past) _ _ (Tells (IsOfParts parts)) (λ _. (subs.0, positions.0)) (λ _. (subs.0, front-within (length parts.queue.events) size d.sub d.position a.mailbox mailbox))
 
-told-begin : (parts : Parts) (past : ℕ) (turn : Option ℕ) (max_events : ℕ) (a : PlainActivation) → IsBelow (length parts.subs.registry.names) a → AllByRecursion (λ (d : Delivery). d.position < length parts.queue.events) a.mailbox → Tells (IsOfParts parts) (begin a past turn max_events)
+told-begin : (parts : Parts) (past : ℕ) (turn : ℕ) (max_events : ℕ) (a : PlainActivation) → IsBelow (length parts.subs.registry.names) a → AllByRecursion (λ (d : Delivery). d.position < length parts.queue.events) a.mailbox → Tells (IsOfParts parts) (begin a past turn max_events)
 told-begin parts past turn max_events a below positions =
     cond_both (is_some a.running) _ _ (Tells (IsOfParts parts)) (λ _. tt)
     (λ _. cond_both (not a.active) _ _ (Tells (IsOfParts parts)) (λ _. tt) (λ _. told-front parts past turn (turn_size max_events) a a.mailbox below.waiting positions positions))
@@ -144,7 +146,7 @@ waiting-within parts g i within found =
     All-unmap (λ d. d.position < length parts.queue.events) (delivery_of parts.subs.registry.names) (activation_at parts.grains i).mailbox
     (subst (λ st. AllByRecursion (λ d. d.position < length parts.queue.events) st.mailbox) (grain-found parts g i no_grain found) fits.1)
 
-pub begin-within : (parts : Parts) (g : GrainId) (i past max_events : ℕ) (turn : Option ℕ) (grains : PlainGrains) (told : Begun) → IsWithinLimits (plain_of parts) → number_of parts.grains g ≡ Some i
+pub begin-within : (parts : Parts) (g : GrainId) (i past max_events : ℕ) (turn : ℕ) (grains : PlainGrains) (told : Begun) → IsWithinLimits (plain_of parts) → number_of parts.grains g ≡ Some i
     → IsBelow (length parts.subs.registry.names) (activation_at parts.grains i) → told ≡ (begin (activation_at parts.grains i) past turn max_events).1 → IsOfParts (with_grains parts grains) told
 begin-within parts g i past max_events turn grains told within found below is_told =
     subst (IsOfParts (with_grains parts grains)) (sym is_told)
@@ -154,26 +156,22 @@ begin-within parts g i past max_events turn grains told within found below is_to
 abbrev Leaves : ℕ → PlainActivation × Begun → Type 0
 Leaves n (now, told) = IsBelow n now
 
-front-below : (n past : ℕ) (turn : Option ℕ) (size : ℕ) (a : PlainActivation) (deliveries : List Delivery) → IsBelow n a → AllByRecursion (λ (d : Delivery). d.sub < n) deliveries → Leaves n (begin_front a past turn size deliveries)
+front-below : (n past : ℕ) (turn : ℕ) (size : ℕ) (a : PlainActivation) (deliveries : List Delivery) → IsBelow n a → AllByRecursion (λ (d : Delivery). d.sub < n) deliveries → Leaves n (begin_front a past turn size deliveries)
 front-below n past turn size a [] below subs = below
 front-below n past turn size a (d ∷ deliveries) below subs =
-    cond_both (nat_lt d.position past) _ _ (Leaves n) (λ _. record { waiting = subs.1; running = below.running; subs = below.subs }) (λ _. by turn)
-  where
-    by : (turn : Option ℕ) → Leaves n (begin_turn a d.sub (front_of size d.sub d.position a.mailbox) turn)
-    by None = below
-    by (Some turn) = record {
+    cond_both (nat_lt d.position past) _ _ (Leaves n) (λ _. record { waiting = subs.1; running = below.running; subs = below.subs }) (λ _. record {
       waiting = All-drop (λ (d : Delivery). d.sub < n) (length (front_of size d.sub d.position a.mailbox)) a.mailbox below.waiting;
       running = subs.0;
       subs = below.subs;
-    }
+    })
 
-begin-below : (n past : ℕ) (turn : Option ℕ) (max_events : ℕ) (a : PlainActivation) → IsBelow n a → IsBelow n (begin a past turn max_events).0
+begin-below : (n past : ℕ) (turn : ℕ) (max_events : ℕ) (a : PlainActivation) → IsBelow n a → IsBelow n (begin a past turn max_events).0
 begin-below n past turn max_events a below =
     cond_both (is_some a.running) _ _ (Leaves n) (λ _. below)
     (λ _. cond_both (not a.active) _ _ (Leaves n) (λ _. below) (λ _. front-below n past turn (turn_size max_events) a a.mailbox below below.waiting))
 
 -- the parts stay assembled
-pub begin-assembled : (parts : Parts) (i past max_events : ℕ) (turn : Option ℕ) (grains : PlainGrains) (told : Begun) → IsAssembled parts → i < length parts.grains → grains ≡ change_at (λ a. (begin a past turn max_events).0) i parts.grains → IsAssembled (after_begun (with_grains parts grains) told)
+pub begin-assembled : (parts : Parts) (i past max_events : ℕ) (turn : ℕ) (grains : PlainGrains) (told : Begun) → IsAssembled parts → i < length parts.grains → grains ≡ change_at (λ a. (begin a past turn max_events).0) i parts.grains → IsAssembled (after_begun (with_grains parts grains) told)
 begin-assembled parts i past max_events turn grains told assembled within is_grains = by told
   where
     below : AllByRecursion (λ (entry : GrainId × PlainActivation). IsBelow (length parts.subs.registry.names) entry.1) grains
@@ -188,6 +186,5 @@ begin-assembled parts i past max_events turn grains told assembled within is_gra
     by : (told : Begun) → IsAssembled (after_begun (with_grains parts grains) told)
     by begun.Busy = grains-known parts grains assembled below known
     by begun.Empty = grains-known parts grains assembled below known
-    by begun.Spent = grains-known parts grains assembled below known
     by (begun.Dropped d) = grains-known parts grains assembled below known
     by (begun.Turn sub positions) = turns-known (with_grains parts grains) (suc parts.rises) (suc parts.turns) (grains-known parts grains assembled below known)

@@ -27,7 +27,7 @@ use Rattle.stream_model.proofs.RecordBounds.{grain-fits}
 use Rattle.stream_ident.proofs.SameValues.{same_sub-refl}
 use Rattle.consumer_grain.specs.declared.mailbox.Delivery.{Delivery}
 use Rattle.consumer_grain.specs.declared.activation.RunningTurn.{RunningTurn}
-use Rattle.consumer_grain.specs.Activations.{PlainActivation, current_turn, holds, is_turn, runs, without_turn}
+use Rattle.consumer_grain.specs.Activations.{PlainActivation, commit, commit_turn, current_turn, holds, is_turn, runs, without_turn}
 use Rattle.consumer_grain.specs.Subscriptions.{committed, rises_from}
 use Rattle.grain_table.specs.Changes.{activation_at, no_grain}
 use Rattle.grain_table.specs.Changes as grains
@@ -143,6 +143,14 @@ committed-running parts i activation turn note run is =
     by : (is_open : Bool) → done is_open ≡ out_of parts grains (told is_open)
     by false = refl
     by true = ap {B = PlainPartition × Reply} (λ s. (plain_of (with_both parts after grains), reply.Committed s (token_at (plain_of parts) (pred (past run.positions))))) (name-same parts.subs run.sub)
+
+-- where this turn runs, a commit leaves none
+pub ends-running : (grains now : PlainGrains) (i activation turn : ℕ) (run : RunningTurn) → current_turn (activation_at grains i) activation turn ≡ Some run
+    → now ≡ change_at (λ a. (commit a activation turn).0) i grains → now ≡ change_at without_turn i grains
+ends-running grains now i activation turn run is_current is_now =
+    is_now ∙ change_at-by (λ a. (commit a activation turn).0) i grains no_grain
+    ∙ ap (λ (running : Option RunningTurn). change_at (λ _. (commit_turn (activation_at grains i) running).0) i grains) is_current
+    ∙ sym (change_at-by without_turn i grains no_grain)
 
 -- exactly this turn runs: it is handled, or its subscription is closed
 pub commit-told : (parts : Parts) (g : GrainId) (i activation turn note : ℕ) (run : RunningTurn) (subs : PlainTable) (grains : PlainGrains) (told : Reply)

@@ -13,6 +13,7 @@ use Rattle.stream_ident.specs.SubName.{same_sub}
 use Rattle.stream_ident.specs.Token.{token_lt}
 use Rattle.stream_ident.specs.Name.{same_grain}
 use Rattle.stream_ident.specs.Words.{change_at, first_at, place_of}
+use Rattle.stream_ident.specs.declared.limits.TheConstants.{MAILBOX_PLACES}
 use Rattle.stream_model.specs.declared.plain.Grain.{Grain}
 use Rattle.stream_model.specs.declared.plain.PlainPartition.{PlainPartition}
 use Rattle.stream_model.specs.declared.plain.Subscription.{Subscription}
@@ -105,7 +106,7 @@ handed parts i j position d e =
 pub deliver-next : (parts : Parts) (generation : ℕ) (s : SubName) (i j position : ℕ) (c : SubName × Registration) (d : GrainId × PlainActivation) (e : PlainState) → Seeks parts generation s i c e
     → next_position (plain_of parts) (record_at parts i c e) ≡ Some position → s ≡ name_at parts.subs.registry.names i → place_of same_grain (record_at parts i c e).grain parts.grains ≡ Some j
     → plain.deliver (plain_of parts) generation s
-    ≡ (if nat_le 16 (length (activation_at parts j d).mailbox) then (plain_of parts, reply.MailboxFull)
+    ≡ (if nat_le MAILBOX_PLACES (length (activation_at parts j d).mailbox) then (plain_of parts, reply.MailboxFull)
     else if not (activation_at parts j d).active && nat_le parts.limits.rises parts.rises then (plain_of parts, reply.Spent)
     else (plain_of (handed parts i j position d e), reply.Delivered (token_at (plain_of parts) position)))
 unfolding plain.deliver_position
@@ -113,7 +114,7 @@ deliver-next parts generation s i j position c d e seeks some is_name found =
     deliver-open parts generation s i c e seeks
     ∙ ap (λ o. plain.deliver_position (plain_of parts) s r (grain_at (plain_of parts) r.grain) o) some
     ∙ ap (λ st. plain.deliver_position (plain_of parts) s r st (Some position)) (grain-found parts r.grain j d found)
-    ∙ by (nat_le 16 (length (map (delivery_of parts.subs.registry.names) a.mailbox))) (nat_le 16 (length a.mailbox)) (ap (λ n. nat_le 16 n) (length-map a.mailbox (delivery_of parts.subs.registry.names))) (not a.active && nat_le parts.limits.rises parts.rises)
+    ∙ by (nat_le MAILBOX_PLACES (length (map (delivery_of parts.subs.registry.names) a.mailbox))) (nat_le MAILBOX_PLACES (length a.mailbox)) (ap (λ n. nat_le MAILBOX_PLACES n) (length-map a.mailbox (delivery_of parts.subs.registry.names))) (not a.active && nat_le parts.limits.rises parts.rises)
   where
     r : Subscription
     r = record_at parts i c e

@@ -12,6 +12,7 @@ use Rattle.stream_ident.specs.declared.ident.SubName.{SubName}
 use Rattle.stream_ident.specs.Name.{same_grain}
 use Rattle.stream_ident.specs.SubName.{same_sub}
 use Rattle.stream_ident.specs.Words.{change_at, past, place_of, Performs}
+use Rattle.stream_ident.specs.declared.limits.TheConstants.{MAILBOX_PLACES}
 use Rattle.stream_model.specs.declared.plain.Grain.{Grain}
 use Rattle.stream_model.specs.declared.plain.PlainPartition.{PlainPartition}
 use Rattle.stream_model.specs.declared.plain.Subscription.{Subscription}
@@ -220,11 +221,11 @@ change-none zero (x ∷ xs) = refl
 change-none (suc n) (x ∷ xs) = ap (λ rest. x ∷ rest) (change-none n xs)
 
 abbrev pub OfferIs : ℕ → PlainGrains → PlainGrains → Delivery → Offered → Type 0
-OfferIs j old new d offer.MailboxFull = (new ≡ old) × (nat_le 16 (length (activation j old).mailbox) ≡ true)
-OfferIs j old new d offer.Delivered = (new ≡ change_at (λ a. woken a d) j old) × (nat_le 16 (length (activation j old).mailbox) ≡ false)
+OfferIs j old new d offer.MailboxFull = (new ≡ old) × (nat_le MAILBOX_PLACES (length (activation j old).mailbox) ≡ true)
+OfferIs j old new d offer.Delivered = (new ≡ change_at (λ a. woken a d) j old) × (nat_le MAILBOX_PLACES (length (activation j old).mailbox) ≡ false)
 
 pub offer-is : (j : ℕ) (old new : PlainGrains) (d : Delivery) (told : Offered) → OffersAt j old new (Ok told) d → OfferIs j old new d told
-offer-is j old new d told offers = by (nat_le 16 (length a.mailbox)) refl told offers.0 offers.1
+offer-is j old new d told offers = by (nat_le MAILBOX_PLACES (length a.mailbox)) refl told offers.0 offers.1
   where
     a : PlainActivation
     a = activation j old
@@ -232,7 +233,7 @@ offer-is j old new d told offers = by (nat_le 16 (length a.mailbox)) refl told o
     chosen : Bool → PlainActivation × Offered
     chosen full = if full then (a, offer.MailboxFull) else (woken a d, offer.Delivered)
 
-    by : (full : Bool) → nat_le 16 (length a.mailbox) ≡ full → (told : Offered) → new ≡ change_at (λ a. (offered a d).0) j old → told ≡ (chosen (nat_le 16 (length a.mailbox))).1 → OfferIs j old new d told
+    by : (full : Bool) → nat_le MAILBOX_PLACES (length a.mailbox) ≡ full → (told : Offered) → new ≡ change_at (λ a. (offered a d).0) j old → told ≡ (chosen (nat_le MAILBOX_PLACES (length a.mailbox))).1 → OfferIs j old new d told
     by true full told is told_is =
         subst (OfferIs j old new d) (sym (told_is ∙ ap (λ b. (chosen b).1) full))
         (is ∙ change-same (λ a. (offered a d).0) (λ a. a) j old no_grain (ap (λ b. (chosen b).0) full) ∙ change-none j old, full)
@@ -241,9 +242,9 @@ offer-is j old new d told offers = by (nat_le 16 (length a.mailbox)) refl told o
         (is ∙ change-same (λ a. (offered a d).0) (λ a. woken a d) j old no_grain (ap (λ b. (chosen b).0) room), room)
 
 -- an offer takes memory only at a delivery that is taken, the first of its subscription
-pub offer-first : (j : ℕ) (old : PlainGrains) (d : Delivery) → offer_takes_memory (activation j old) d ≡ true → (nat_le 16 (length (activation j old).mailbox) ≡ false) × (is_in (activation j old).subs d.sub ≡ false)
+pub offer-first : (j : ℕ) (old : PlainGrains) (d : Delivery) → offer_takes_memory (activation j old) d ≡ true → (nat_le MAILBOX_PLACES (length (activation j old).mailbox) ≡ false) × (is_in (activation j old).subs d.sub ≡ false)
 offer-first j old d takes =
-    let parts = and_parts (not (nat_le 16 (length (activation j old).mailbox))) (not (is_in (activation j old).subs d.sub)) takes in
+    let parts = and_parts (not (nat_le MAILBOX_PLACES (length (activation j old).mailbox))) (not (is_in (activation j old).subs d.sub)) takes in
     (not-true _ parts.0, not-true _ parts.1)
 
 -- ---- the event is handed over
@@ -268,7 +269,7 @@ known parts d j full lacks =
     else (plain_of (handed parts d.sub j d.position no_grain no_state), reply.Delivered (token_at (plain_of parts) d.position))
 
 to-known : (parts : Parts) (d : Delivery) (j : ℕ) → Stands parts d.sub → IsNext parts d → place_of same_grain (record_of parts d.sub).grain parts.grains ≡ Some j
-    → ToDo parts d ≡ known parts d j (nat_le 16 (length (activation j parts.grains).mailbox)) (not (activation j parts.grains).active && is_spent (plain_of parts))
+    → ToDo parts d ≡ known parts d j (nat_le MAILBOX_PLACES (length (activation j parts.grains).mailbox)) (not (activation j parts.grains).active && is_spent (plain_of parts))
 unfolding known
 to-known parts d j stands next found =
     deliver-next parts parts.agent.generation (table.name_at parts.subs d.sub) d.sub j d.position no_entry no_grain no_state (seeks parts d stands next) next.next (sym (name-same parts.subs d.sub)) found
@@ -292,18 +293,18 @@ known-done parts d j false true room is = absurd (cc)
 known-done parts d j false false room is = refl
 
 pub handed-full : (parts : Parts) (d : Delivery) (j : ℕ) → Stands parts d.sub → IsNext parts d → place_of same_grain (record_of parts d.sub).grain parts.grains ≡ Some j
-    → nat_le 16 (length (activation j parts.grains).mailbox) ≡ true → ToDo parts d ≡ (plain_of parts, reply.MailboxFull)
+    → nat_le MAILBOX_PLACES (length (activation j parts.grains).mailbox) ≡ true → ToDo parts d ≡ (plain_of parts, reply.MailboxFull)
 handed-full parts d j stands next found full =
     to-known parts d j stands next found
-    ∙ known-full parts d j (nat_le 16 (length (activation j parts.grains).mailbox)) (not (activation j parts.grains).active && is_spent (plain_of parts)) full
+    ∙ known-full parts d j (nat_le MAILBOX_PLACES (length (activation j parts.grains).mailbox)) (not (activation j parts.grains).active && is_spent (plain_of parts)) full
 
 -- its mailbox is empty, where it isn't active
 pub handed-spent : (parts : Parts) (d : Delivery) (j : ℕ) → Stands parts d.sub → IsNext parts d → place_of same_grain (record_of parts d.sub).grain parts.grains ≡ Some j
     → (activation j parts.grains).active ≡ false → is_spent (plain_of parts) ≡ true → ToDo parts d ≡ (plain_of parts, reply.Spent)
 handed-spent parts d j stands next found idle spent =
     to-known parts d j stands next found
-    ∙ known-spent parts d j (nat_le 16 (length (activation j parts.grains).mailbox)) (not (activation j parts.grains).active && is_spent (plain_of parts))
-    (ap (λ n. nat_le 16 n) (idle-empty parts (record_of parts d.sub).grain j stands.agrees found idle))
+    ∙ known-spent parts d j (nat_le MAILBOX_PLACES (length (activation j parts.grains).mailbox)) (not (activation j parts.grains).active && is_spent (plain_of parts))
+    (ap (λ n. nat_le MAILBOX_PLACES n) (idle-empty parts (record_of parts d.sub).grain j stands.agrees found idle))
     (ap (λ active. not active && is_spent (plain_of parts)) idle ∙ spent)
 
 -- where this is known of an idle grain, a rise is left if it is one
@@ -316,11 +317,11 @@ has-rise parts false rise = rise refl
 
 -- and memory is wanted only there
 pub handed-done : (parts : Parts) (d : Delivery) (j : ℕ) → Stands parts d.sub → IsNext parts d → place_of same_grain (record_of parts d.sub).grain parts.grains ≡ Some j
-    → nat_le 16 (length (activation j parts.grains).mailbox) ≡ false → HasRise parts (activation j parts.grains).active
+    → nat_le MAILBOX_PLACES (length (activation j parts.grains).mailbox) ≡ false → HasRise parts (activation j parts.grains).active
     → ToDo parts d ≡ (plain_of (handed parts d.sub j d.position no_grain no_state), reply.Delivered (token_at (plain_of parts) d.position))
 handed-done parts d j stands next found room rise =
     to-known parts d j stands next found
-    ∙ known-done parts d j (nat_le 16 (length (activation j parts.grains).mailbox)) (not (activation j parts.grains).active && is_spent (plain_of parts)) room (has-rise parts (activation j parts.grains).active rise)
+    ∙ known-done parts d j (nat_le MAILBOX_PLACES (length (activation j parts.grains).mailbox)) (not (activation j parts.grains).active && is_spent (plain_of parts)) room (has-rise parts (activation j parts.grains).active rise)
 
 -- what the calls left is what is to be done
 handed-sent : (parts : Parts) (d : Delivery) (j : ℕ) (active wakes : Bool) → (activation j parts.grains).active ≡ active → wakes ≡ not active
@@ -451,7 +452,7 @@ activation-few parts j agrees within =
 -- ---- a failure to allocate
 
 pub handed-memory : {T E : Type 0} (parts : Parts) (d : Delivery) (j : ℕ) (r : Result T E) → Stands parts d.sub → IsNext parts d → place_of same_grain (record_of parts d.sub).grain parts.grains ≡ Some j
-    → nat_le 16 (length (activation j parts.grains).mailbox) ≡ false → HasRise parts (activation j parts.grains).active → OnErr r (takes_memory (ToDo parts d).1 ≡ true)
+    → nat_le MAILBOX_PLACES (length (activation j parts.grains).mailbox) ≡ false → HasRise parts (activation j parts.grains).active → OnErr r (takes_memory (ToDo parts d).1 ≡ true)
 handed-memory parts d j r stands next found room rise = on-error r (ap (λ (told : Answer). takes_memory told.1) (handed-done parts d j stands next found room rise))
 
 pub first-memory : {T E : Type 0} (parts : Parts) (d : Delivery) (r : Result T E) → Stands parts d.sub → IsNext parts d → place_of same_grain (record_of parts d.sub).grain parts.grains ≡ None → is_spent (plain_of parts) ≡ false

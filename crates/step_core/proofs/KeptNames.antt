@@ -7,6 +7,7 @@ use Rattle.stream_ident.specs.declared.ident.SubName.{SubName}
 use Rattle.stream_ident.specs.declared.token.Token.{Token}
 use Rattle.stream_ident.specs.SubName.{same_sub, sub_lt}
 use Rattle.stream_ident.specs.Words.{keys_where, past, value_at, with_value}
+use Rattle.stream_ident.specs.declared.limits.TheConstants.{MAILBOX_PLACES}
 use Rattle.stream_model.specs.declared.op.Op.{Op}
 use Rattle.stream_model.specs.declared.op.Op.TheVariants.{Ack, Begin, Commit, Deliver}
 use Rattle.stream_model.specs.declared.plain.Delivery.{Delivery}
@@ -78,7 +79,7 @@ stay-deliver_position : (p : PlainPartition) (s : SubName) (r : Subscription) (s
 unfolding deliver_position
 stay-deliver_position p s r st None found = stay-with_sub p s r (caught_up p s r) found refl
 stay-deliver_position p s r st (Some position) found =
-    cond_both (nat_le 16 (length st.mailbox)) _ _ (StayIn p) (λ _. refl)
+    cond_both (nat_le MAILBOX_PLACES (length st.mailbox)) _ _ (StayIn p) (λ _. refl)
     (λ _. cond_both (not st.active && is_spent p) _ _ (StayIn p) (λ _. refl)
     (λ _. stay-with_sub p s r (record r { cursor = suc position }) found refl))
 

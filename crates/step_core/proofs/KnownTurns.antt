@@ -110,14 +110,13 @@ any-dropped p zero ds none = none
 any-dropped p (suc k) [] none = refl
 any-dropped p (suc k) (d ∷ ds) none = any-dropped p k ds (or-none (p d) (list_any p ds) none).1
 
-begin-turn-holds : (n : ℕ) (a : PlainActivation) (d : Delivery) (ds : List Delivery) (positions : List ℕ) (turn : Option ℕ) → a.mailbox ≡ d ∷ ds → holds n a ≡ false → holds n (begin_turn a d.sub positions turn).0 ≡ false
-begin-turn-holds n a d ds positions None front none = none
-begin-turn-holds n a d ds positions (Some turn) front none =
+begin-turn-holds : (n : ℕ) (a : PlainActivation) (d : Delivery) (ds : List Delivery) (positions : List ℕ) (turn : ℕ) → a.mailbox ≡ d ∷ ds → holds n a ≡ false → holds n (begin_turn a d.sub positions turn).0 ≡ false
+begin-turn-holds n a d ds positions turn front none =
     let parts = or-none (list_any (λ (e : Delivery). n == e.sub) a.mailbox) (runs n a.running) none in
     let first = or-none (n == d.sub) (list_any (λ (e : Delivery). n == e.sub) ds) (sym (ap (list_any (λ (e : Delivery). n == e.sub)) front) ∙ parts.0) in
     none-or (list_any (λ (e : Delivery). n == e.sub) (drop (length positions) a.mailbox)) (n == d.sub) (any-dropped (λ e. n == e.sub) (length positions) a.mailbox parts.0) first.0
 
-begin-front-holds : (n : ℕ) (a : PlainActivation) (past : ℕ) (turn : Option ℕ) (size : ℕ) (ds : List Delivery) → a.mailbox ≡ ds → holds n a ≡ false → holds n (begin_front a past turn size ds).0 ≡ false
+begin-front-holds : (n : ℕ) (a : PlainActivation) (past : ℕ) (turn : ℕ) (size : ℕ) (ds : List Delivery) → a.mailbox ≡ ds → holds n a ≡ false → holds n (begin_front a past turn size ds).0 ≡ false
 begin-front-holds n a past turn size [] mail none = none
 begin-front-holds n a past turn size (d ∷ ds) mail none = by (nat_lt d.position past)
   where
@@ -132,7 +131,7 @@ begin-front-holds n a past turn size (d ∷ ds) mail none = by (nat_lt d.positio
     by false = begin-turn-holds n a d ds (front_of size d.sub d.position a.mailbox) turn mail none
 
 -- a grain that begins a turn holds no more, and knows the same
-pub begin-holds : (n : ℕ) (a : PlainActivation) (past : ℕ) (turn : Option ℕ) (max_events : ℕ) → holds n a ≡ false → holds n (begin a past turn max_events).0 ≡ false
+pub begin-holds : (n : ℕ) (a : PlainActivation) (past : ℕ) (turn : ℕ) (max_events : ℕ) → holds n a ≡ false → holds n (begin a past turn max_events).0 ≡ false
 begin-holds n a past turn max_events none = by (is_some a.running) a.active
   where
     by : (busy active : Bool) → holds n (if busy then (a, Rattle.consumer_grain.specs.declared.told.Begun.TheVariants.Busy) else if not active then (a, Rattle.consumer_grain.specs.declared.told.Begun.TheVariants.Empty) else begin_front a past turn (turn_size max_events) a.mailbox).0 ≡ false
@@ -140,11 +139,10 @@ begin-holds n a past turn max_events none = by (is_some a.running) a.active
     by false false = none
     by false true = begin-front-holds n a past turn (turn_size max_events) a.mailbox refl none
 
-begin-turn-subs : (a : PlainActivation) (sub : ℕ) (positions : List ℕ) (turn : Option ℕ) → (begin_turn a sub positions turn).0.subs ≡ a.subs
-begin-turn-subs a sub positions None = refl
-begin-turn-subs a sub positions (Some turn) = refl
+begin-turn-subs : (a : PlainActivation) (sub : ℕ) (positions : List ℕ) (turn : ℕ) → (begin_turn a sub positions turn).0.subs ≡ a.subs
+begin-turn-subs a sub positions turn = refl
 
-begin-front-subs : (a : PlainActivation) (past : ℕ) (turn : Option ℕ) (size : ℕ) (ds : List Delivery) → (begin_front a past turn size ds).0.subs ≡ a.subs
+begin-front-subs : (a : PlainActivation) (past : ℕ) (turn : ℕ) (size : ℕ) (ds : List Delivery) → (begin_front a past turn size ds).0.subs ≡ a.subs
 begin-front-subs a past turn size [] = refl
 begin-front-subs a past turn size (d ∷ ds) = by (nat_lt d.position past)
   where
@@ -152,7 +150,7 @@ begin-front-subs a past turn size (d ∷ ds) = by (nat_lt d.position past)
     by true = refl
     by false = begin-turn-subs a d.sub (front_of size d.sub d.position a.mailbox) turn
 
-pub begin-subs : (a : PlainActivation) (past : ℕ) (turn : Option ℕ) (max_events : ℕ) → (begin a past turn max_events).0.subs ≡ a.subs
+pub begin-subs : (a : PlainActivation) (past : ℕ) (turn : ℕ) (max_events : ℕ) → (begin a past turn max_events).0.subs ≡ a.subs
 begin-subs a past turn max_events = by (is_some a.running) a.active
   where
     by : (busy active : Bool) → (if busy then (a, Rattle.consumer_grain.specs.declared.told.Begun.TheVariants.Busy) else if not active then (a, Rattle.consumer_grain.specs.declared.told.Begun.TheVariants.Empty) else begin_front a past turn (turn_size max_events) a.mailbox).0.subs ≡ a.subs

@@ -4,6 +4,7 @@ use Rattle.std.specs.Prelude.{if◌then◌else◌, ◌-◌, ◌/◌}
 use Rattle.std.proofs.lemmas.List.{length-drop}
 use Rattle.stream_ident.specs.declared.ident.SubName.{SubName}
 use Rattle.stream_ident.specs.Words.{least_with}
+use Rattle.stream_ident.specs.declared.limits.TheConstants.{BLOCK_EVENTS}
 use Rattle.stream_model.specs.declared.plain.PlainPartition.{PlainPartition}
 use Rattle.stream_model.specs.Replies.{Reply}
 use Rattle.stream_model.specs.declared.reply.Reply.TheVariants as reply
@@ -20,10 +21,10 @@ use Rattle.step_core.proofs.RecordOps.{record_at}
 use Rattle.step_core.proofs.ViewLemmas.{records-changed}
 
 -- without blocks of events that it has, the cache ends where it ended
-pub high-without : (blocks : ℕ) (c : PlainCache) → 64 * blocks ≤ length c.events → high (agent.without_blocks blocks c) ≡ high c
-high-without blocks c le = omega (arith, le, length-drop (64 * blocks) c.events)
+pub high-without : (blocks : ℕ) (c : PlainCache) → BLOCK_EVENTS * blocks ≤ length c.events → high (agent.without_blocks blocks c) ≡ high c
+high-without blocks c le = omega (arith, le, length-drop (BLOCK_EVENTS * blocks) c.events)
 
-pub free-le : (a : agent.PlainAgent) (least : ℕ) → 64 * agent.free_blocks a least ≤ length a.cache.events
+pub free-le : (a : agent.PlainAgent) (least : ℕ) → BLOCK_EVENTS * agent.free_blocks a least ≤ length a.cache.events
 free-le a least = omega arith
 
 abbrev pub purged_by : Parts → agent.PlainAgent × ℕ → PlainPartition × Reply
@@ -43,21 +44,21 @@ purge-parts parts generation keep current = rw current drops
     blocks = agent.purges parts.agent keep least
 
     same : plain.purges (plain_of parts) keep ≡ blocks
-    same = ap (λ n. min ((n + 63) / 64 - keep) (agent.free_blocks parts.agent least)) {x = high c - c.low} {y = length c.events} (omega arith)
+    same = ap (λ n. min ((n + (BLOCK_EVENTS - 1)) / BLOCK_EVENTS - keep) (agent.free_blocks parts.agent least)) {x = high c - c.low} {y = length c.events} (omega arith)
 
-    within : 64 * blocks ≤ length c.events
+    within : BLOCK_EVENTS * blocks ≤ length c.events
     within = let free = free-le parts.agent least in omega (arith, free)
 
     left : PlainPartition × Reply
-    left = (record (plain_of parts) { low = c.low + 64 * plain.purges (plain_of parts) keep }, reply.Purged (token_at (plain_of parts) (c.low + 64 * plain.purges (plain_of parts) keep)))
+    left = (record (plain_of parts) { low = c.low + BLOCK_EVENTS * plain.purges (plain_of parts) keep }, reply.Purged (token_at (plain_of parts) (c.low + BLOCK_EVENTS * plain.purges (plain_of parts) keep)))
 
     right : PlainPartition × Reply
-    right = (plain_of (record parts { agent = record parts.agent { cache = agent.without_blocks blocks c } }), reply.Purged (token_at (plain_of parts) (c.low + 64 * blocks)))
+    right = (plain_of (record parts { agent = record parts.agent { cache = agent.without_blocks blocks c } }), reply.Purged (token_at (plain_of parts) (c.low + BLOCK_EVENTS * blocks)))
 
     drops : left ≡ right
     drops =
-        ap {B = PlainPartition × Reply} (λ n. (record (plain_of parts) { low = c.low + 64 * n }, reply.Purged (token_at (plain_of parts) (c.low + 64 * n)))) same
-        ∙ ap {B = PlainPartition × Reply} (λ n. (record (plain_of parts) { low = c.low + 64 * blocks; high = n }, reply.Purged (token_at (plain_of parts) (c.low + 64 * blocks)))) (sym (high-without blocks c within))
+        ap {B = PlainPartition × Reply} (λ n. (record (plain_of parts) { low = c.low + BLOCK_EVENTS * n }, reply.Purged (token_at (plain_of parts) (c.low + BLOCK_EVENTS * n)))) same
+        ∙ ap {B = PlainPartition × Reply} (λ n. (record (plain_of parts) { low = c.low + BLOCK_EVENTS * blocks; high = n }, reply.Purged (token_at (plain_of parts) (c.low + BLOCK_EVENTS * blocks)))) (sym (high-without blocks c within))
 
 -- these states are the old ones, with the cursors of the open records back at their resumes
 abbrev pub AreAllRewound : Parts → List PlainState → Type 0

@@ -4,6 +4,7 @@ use Rattle.std.proofs.lemmas.List.{length-map}
 use Rattle.std.specs.Prelude.{if◌then◌else◌, Ok, Err}
 use Rattle.stream_ident.specs.declared.token.Token.{Token}
 use Rattle.stream_ident.specs.Words.{least_with}
+use Rattle.stream_ident.specs.declared.limits.TheConstants.{BLOCK_EVENTS}
 use Rattle.stream_model.specs.declared.plain.PlainPartition.{PlainPartition}
 use Rattle.stream_model.specs.Replies.{Reply}
 use Rattle.stream_model.specs.declared.reply.Reply.TheVariants as reply
@@ -28,15 +29,15 @@ use Rattle.step_core.proofs.MoveOps.{AreAllRewound, free-le, high-without, move-
 
 -- ---- blocks leave the cache
 
-pub purges-le : (a : agent.PlainAgent) (keep least : ℕ) → 64 * agent.purges a keep least ≤ length a.cache.events
+pub purges-le : (a : agent.PlainAgent) (keep least : ℕ) → BLOCK_EVENTS * agent.purges a keep least ≤ length a.cache.events
 purges-le a keep least = let free = free-le a least in omega (arith, free)
 
 -- the cache keeps the events of the other blocks
-pub has-without : (parts : Parts) (blocks : ℕ) → 64 * blocks ≤ length parts.agent.cache.events → HasEvents parts → HasEvents (record parts { agent = record parts.agent { cache = agent.without_blocks blocks parts.agent.cache } })
+pub has-without : (parts : Parts) (blocks : ℕ) → BLOCK_EVENTS * blocks ≤ length parts.agent.cache.events → HasEvents parts → HasEvents (record parts { agent = record parts.agent { cache = agent.without_blocks blocks parts.agent.cache } })
 has-without parts blocks within has =
-    ap (drop (64 * blocks)) has
-    ∙ between-drop parts.queue.events c.low (high c) (64 * blocks) (omega (arith, within))
-    ∙ ap (between parts.queue.events (c.low + 64 * blocks)) (sym (high-without blocks c within))
+    ap (drop (BLOCK_EVENTS * blocks)) has
+    ∙ between-drop parts.queue.events c.low (high c) (BLOCK_EVENTS * blocks) (omega (arith, within))
+    ∙ ap (between parts.queue.events (c.low + BLOCK_EVENTS * blocks)) (sym (high-without blocks c within))
   where
     c : PlainCache
     c = parts.agent.cache
@@ -71,7 +72,7 @@ module _ (parts : Parts) (generation keep : ℕ) where
   -- the cache then begins at a position that it had
   pub purged-low : (least : ℕ) (new : agent.PlainAgent) (low : ℕ) → (new, low) ≡ agent.purge parts.agent keep least → low ≤ high parts.agent.cache
   purged-low least new low done =
-      let is : low ≡ parts.agent.cache.low + 64 * agent.purges parts.agent keep least = ap (λ (left : agent.PlainAgent × ℕ). left.1) done in
+      let is : low ≡ parts.agent.cache.low + BLOCK_EVENTS * agent.purges parts.agent keep least = ap (λ (left : agent.PlainAgent × ℕ). left.1) done in
       omega (arith, is, purges-le parts.agent keep least)
 
 -- ---- another agent

@@ -1,6 +1,7 @@
 -- The parts before the first operation.
 use Rattle.std.proofs.Common.{◌≡◌, sym, subst, refl, ℕ, ◌≤◌, List, [], arith}
 use Rattle.stream_ident.specs.declared.ident.GrainId.{GrainId}
+use Rattle.stream_ident.specs.declared.limits.TheConstants.{MOST_BLOCKS}
 use Rattle.stream_model.specs.declared.limits.Limits.{Limits}
 use Rattle.stream_model.specs.Bounds.{AreLimits}
 use Rattle.stream_model.proofs.Reaching.{new-partition}
@@ -44,7 +45,7 @@ knows-nothing = record {
   untouched = λ n within is_open unknown. absurd (omega (arith, within));
 }
 
-agrees-empty : (blocks : ℕ) (limits : Limits) → 1 ≤ blocks → blocks ≤ 64 → AreLimits limits → Agrees (new_parts blocks limits)
+agrees-empty : (blocks : ℕ) (limits : Limits) → 1 ≤ blocks → blocks ≤ MOST_BLOCKS → AreLimits limits → Agrees (new_parts blocks limits)
 unfolding new_parts
 agrees-empty blocks limits some few are =
     let kept = new-partition blocks limits [] [] [] [] refl refl refl refl some few are (plain_of (new_parts blocks limits)) refl in
@@ -58,7 +59,7 @@ agrees-empty blocks limits some few are =
     }
 
 pub agrees-new : (blocks : ℕ) (limits : Limits) (q : queue.PlainQueue) (a : agent.PlainAgent) (t : table.PlainTable) (grains : List (GrainId × PlainActivation))
-    → q ≡ queue.empty limits.events → a ≡ agent.empty blocks → t ≡ table.empty limits.subs limits.rules → grains ≡ [] → 1 ≤ blocks → blocks ≤ 64 → AreLimits limits
+    → q ≡ queue.empty limits.events → a ≡ agent.empty blocks → t ≡ table.empty limits.subs limits.rules → grains ≡ [] → 1 ≤ blocks → blocks ≤ MOST_BLOCKS → AreLimits limits
     → Agrees (record { queue = q; agent = a; subs = t; grains = grains; rises = 0; turns = 0; limits = limits })
 unfolding new_parts
 agrees-new blocks limits q a t grains is_queue is_agent is_table no_grains some few are =

@@ -30,6 +30,7 @@ use Rattle.step_core.specs.View.{sub_of, subs_of}
 use Rattle.step_core.proofs.CheckOps.{check-current, check-stale}
 use Rattle.step_core.proofs.LeafOps.{slowest-is}
 use Rattle.stream_ident.specs.Blocks.{pull_size}
+use Rattle.stream_ident.specs.declared.limits.TheConstants.{BLOCK_EVENTS}
 
 -- ---- the slowest subscription
 
@@ -90,10 +91,10 @@ planned p plan.Pressed = (p, reply.Pressed (unwrap_or (slowest_name p) (name.Exp
 planned p (plan.Take drops count) = taken p drops count
 
 room-is : (parts : Parts) → plain.room (plain_of parts) ≡ cache.room parts.agent.cache
-room-is parts = ap (λ n. 64 * parts.agent.cache.blocks - n) (omega arith)
+room-is parts = ap (λ n. BLOCK_EVENTS * parts.agent.cache.blocks - n) (omega arith)
 
 drops-are : (parts : Parts) (want : ℕ) → plain.drops (plain_of parts) want ≡ agent.drops parts.agent (slowest (plain_of parts)) want
-drops-are parts want = ap (λ room. min ((want - room + 63) / 64) (plain.free_blocks (plain_of parts))) (room-is parts)
+drops-are parts want = ap (λ room. min ((want - room + (BLOCK_EVENTS - 1)) / BLOCK_EVENTS) (plain.free_blocks (plain_of parts))) (room-is parts)
 
 count-planned : (parts : Parts) (drops count : ℕ) → plain.pull_count (plain_of parts) drops count ≡ planned (plain_of parts) (agent.plan_count drops count)
 unfolding plain.pull_count
@@ -108,9 +109,9 @@ count-planned parts drops count = by (count == 0)
 want-planned : (parts : Parts) (want : ℕ) → plain.pull_want (plain_of parts) want ≡ planned (plain_of parts) (agent.plan_want parts.agent (slowest (plain_of parts)) want)
 unfolding plain.pull_want
 want-planned parts want =
-    ap {B = PlainPartition × Reply} (λ drops. plain.pull_count (plain_of parts) drops (min want (plain.room (plain_of parts) + 64 * drops))) (drops-are parts want)
-    ∙ ap {B = PlainPartition × Reply} (λ room. plain.pull_count (plain_of parts) drops (min want (room + 64 * drops))) (room-is parts)
-    ∙ count-planned parts drops (min want (cache.room parts.agent.cache + 64 * drops))
+    ap {B = PlainPartition × Reply} (λ drops. plain.pull_count (plain_of parts) drops (min want (plain.room (plain_of parts) + BLOCK_EVENTS * drops))) (drops-are parts want)
+    ∙ ap {B = PlainPartition × Reply} (λ room. plain.pull_count (plain_of parts) drops (min want (room + BLOCK_EVENTS * drops))) (room-is parts)
+    ∙ count-planned parts drops (min want (cache.room parts.agent.cache + BLOCK_EVENTS * drops))
   where
     drops : ℕ
     drops = agent.drops parts.agent (slowest (plain_of parts)) want

@@ -9,6 +9,7 @@ use Rattle.stream_model.specs.declared.reply.Reply.TheVariants as reply
 use Rattle.stream_model.specs.declared.plain.PlainPartition.{PlainPartition}
 use Rattle.stream_model.specs.Replies.{Reply}
 use Rattle.stream_ident.specs.Event.{events_of}
+use Rattle.stream_ident.specs.declared.limits.TheConstants.{BATCH_EVENTS}
 use Rattle.stream_model.specs.Publishing.{publish, add_rule}
 use Rattle.partition_queue.specs.declared.appended.Appended.{Appended}
 use Rattle.partition_queue.specs.declared.appended.Appended.TheVariants as appended
@@ -26,7 +27,7 @@ with_queue parts stepped = (plain_of (record parts { queue = stepped.0 }), of_ap
 pub publish-parts : (parts : Parts) (stream : StreamId) (payloads : List (List ℕ)) → parts.queue.limit ≡ parts.limits.events → publish (plain_of parts) stream payloads ≡ with_queue parts (append parts.queue stream payloads)
 unfolding publish
 publish-parts parts stream payloads limit =
-    by ((length payloads == 0) || nat_lt 64 (length payloads))
+    by ((length payloads == 0) || nat_lt BATCH_EVENTS (length payloads))
     (nat_lt parts.limits.events (length parts.queue.events + length payloads))
     (nat_lt parts.queue.limit (length parts.queue.events + length payloads))
     (ap (λ most. nat_lt most (length parts.queue.events + length payloads)) limit)

@@ -5,6 +5,7 @@ use Rattle.std.proofs.lemmas.List.{append-nil}
 use Rattle.stream_ident.specs.declared.event.Event.{Event}
 use Rattle.stream_ident.specs.declared.ident.StreamId.{StreamId}
 use Rattle.stream_ident.specs.Event.{events_of}
+use Rattle.stream_ident.specs.declared.limits.TheConstants.{BATCH_EVENTS}
 use Rattle.stream_model.specs.declared.plain.PlainPartition.{PlainPartition}
 use Rattle.stream_model.specs.Replies.{Reply}
 use Rattle.stream_model.specs.Positions.{between}
@@ -29,7 +30,7 @@ pub record IsLonger (old new : PlainQueue) : Type 0 where
 
 append-longer : (q : PlainQueue) (stream : StreamId) (payloads : List (List ℕ)) → IsLonger q (append q stream payloads).0
 append-longer q stream payloads =
-    by ((length payloads == 0) || nat_lt 64 (length payloads)) (nat_lt q.limit (length q.events + length payloads))
+    by ((length payloads == 0) || nat_lt BATCH_EVENTS (length payloads)) (nat_lt q.limit (length q.events + length payloads))
   where
     added : PlainQueue
     added = record { events = q.events ++ events_of stream q.batches 0 payloads; batches = suc q.batches; limit = q.limit }

@@ -5,6 +5,7 @@ use Rattle.std.proofs.lemmas.List.{drop-drop, drop-take, length-append, length-d
 use Rattle.std.proofs.Math.Seq.{take-nil}
 use Rattle.stream_ident.specs.declared.event.Event.{Event}
 use Rattle.stream_ident.specs.declared.ident.SubName.{SubName}
+use Rattle.stream_ident.specs.declared.limits.TheConstants.{BLOCK_EVENTS}
 use Rattle.stream_model.specs.declared.plain.PlainPartition.{PlainPartition}
 use Rattle.stream_model.specs.declared.plain.Subscription.{Subscription}
 use Rattle.stream_model.specs.Replies.{Reply}
@@ -91,7 +92,7 @@ splice k n c xs le =
 
 -- what a plan to take promises of the parts
 abbrev pub CanTake : Parts → ℕ → ℕ → Type 0
-CanTake parts drops count = (64 * drops ≤ length parts.agent.cache.events) × (high parts.agent.cache + count ≤ length parts.queue.events)
+CanTake parts drops count = (BLOCK_EVENTS * drops ≤ length parts.agent.cache.events) × (high parts.agent.cache + count ≤ length parts.queue.events)
 
 ahead-length : (parts : Parts) (drops count : ℕ) → CanTake parts drops count → length (ahead parts count) ≡ count
 ahead-length parts drops count can =
@@ -101,9 +102,9 @@ ahead-length parts drops count can =
 
 pub filled-high : (parts : Parts) (drops count : ℕ) → CanTake parts drops count → high (filled parts drops count).agent.cache ≡ high parts.agent.cache + count
 filled-high parts drops count can =
-    ap (λ n. parts.agent.cache.low + 64 * drops + n) (length-append (drop (64 * drops) parts.agent.cache.events) (ahead parts count))
-    ∙ ap (λ n. parts.agent.cache.low + 64 * drops + (n + length (ahead parts count))) (length-drop (64 * drops) parts.agent.cache.events)
-    ∙ ap (λ n. parts.agent.cache.low + 64 * drops + (length parts.agent.cache.events - 64 * drops + n)) (ahead-length parts drops count can)
+    ap (λ n. parts.agent.cache.low + BLOCK_EVENTS * drops + n) (length-append (drop (BLOCK_EVENTS * drops) parts.agent.cache.events) (ahead parts count))
+    ∙ ap (λ n. parts.agent.cache.low + BLOCK_EVENTS * drops + (n + length (ahead parts count))) (length-drop (BLOCK_EVENTS * drops) parts.agent.cache.events)
+    ∙ ap (λ n. parts.agent.cache.low + BLOCK_EVENTS * drops + (length parts.agent.cache.events - BLOCK_EVENTS * drops + n)) (ahead-length parts drops count can)
     ∙ omega (arith, can.0)
 
 filled-cached : (parts : Parts) (drops count : ℕ) → HasEvents parts → CanTake parts drops count → HasEvents (filled parts drops count)
@@ -116,7 +117,7 @@ filled-cached parts drops count has can =
     ∙ ap (λ m. take m (drop (low + k) log)) (omega (arith, can.0, filled-high parts drops count can))
   where
     k : ℕ
-    k = 64 * drops
+    k = BLOCK_EVENTS * drops
 
     n : ℕ
     n = length parts.agent.cache.events
@@ -146,7 +147,7 @@ made-assembled parts events position lengths assembled =
 
 -- the plain partition and its reply, where there are too many subscriptions and where there aren't
 abbrev low_after : PlainPartition → ℕ → ℕ
-low_after p drops = p.low + 64 * drops
+low_after p drops = p.low + BLOCK_EVENTS * drops
 
 subs_after : Parts → ℕ → List (SubName × Subscription)
 subs_after parts count = plain.subs_with parts.subs.registry.rules (high parts.agent.cache) (plain_of parts).subs (ahead parts count)

@@ -1,7 +1,8 @@
 -- What workers ask, done by the parts.
 use Rattle.std.proofs.Common.{◌≡◌, ◌∙◌, ap, sym, subst, refl, ℕ, zero, suc, ◌<◌, Bool, true, false, ◌&&◌, not, List, [], ◌∷◌, ◌++◌, length, drop, map, get_or, set, Option, Some, None, ◌==◌, nat_lt, nat_le, pred}
 use Rattle.std.specs.Prelude.{if◌then◌else◌, is_some}
-use Rattle.std.specs.List.{AllByRecursion}
+use Rattle.std.specs.List.{AllByRecursion, slice_get}
+use Rattle.std.proofs.lemmas.Option.{same_Some}
 use Rattle.std.specs.Option.{option_map}
 use Rattle.stream_ident.specs.declared.ident.GrainId.{GrainId}
 use Rattle.stream_ident.specs.declared.ident.SubName.{SubName}
@@ -18,7 +19,7 @@ use Rattle.stream_model.specs.Turns as plain
 use Rattle.consumer_grain.specs.declared.mailbox.Delivery.{Delivery}
 use Rattle.consumer_grain.specs.declared.told.Begun.{Begun}
 use Rattle.consumer_grain.specs.declared.told.Begun.TheVariants as begun
-use Rattle.consumer_grain.specs.Activations.{PlainActivation, begin, begin_front, begin_turn, front_of, started}
+use Rattle.consumer_grain.specs.Activations.{PlainActivation, begin, begin_front, begin_turn, can_begin, front_of, is_front_new, started}
 use Rattle.stream_ident.specs.Blocks.{turn_size}
 use Rattle.consumer_grain.specs.declared.activation.RunningTurn.{RunningTurn}
 use Rattle.consumer_grain.specs.Subscriptions.{PlainState, committed}
@@ -40,7 +41,6 @@ with_activation parts i a = record parts { grains = change_at (λ _. a) i parts.
 abbrev pub begun_by : Parts → ℕ → GrainId × PlainActivation → PlainState → PlainActivation × Begun → PlainPartition × Reply
 begun_by parts i d e (a, begun.Busy) = (plain_of parts, reply.Busy)
 begun_by parts i d e (a, begun.Empty) = (plain_of parts, reply.Empty)
-begun_by parts i d e (a, begun.Spent) = (plain_of parts, reply.Spent)
 begun_by parts i d e (a, begun.Dropped delivery) =
     (plain_of (with_activation parts i a), reply.Dropped (name_at parts.subs.registry.names delivery.sub) (token_at (plain_of parts) delivery.position))
 begun_by parts i d e (a, begun.Turn sub positions) = (
@@ -48,9 +48,9 @@ begun_by parts i d e (a, begun.Turn sub positions) = (
   reply.Turn (name_at parts.subs.registry.names sub) (activation_at parts i d).number (suc parts.turns) (events_at parts.queue.events positions) (get_or parts.subs.states sub e).note,
 )
 
--- the number of a turn, where a rise is left
-abbrev pub turn_number : Parts → Option ℕ
-turn_number parts = if nat_le parts.limits.rises parts.rises then None else Some (suc parts.turns)
+-- no turn is begun where it would need a rise and none is left
+abbrev pub if_rise : Parts → Bool → PlainPartition × Reply → PlainPartition × Reply
+if_rise parts begins told = if begins && nat_le parts.limits.rises parts.rises then (plain_of parts, reply.Spent) else told
 
 drop-map : {A B : Type 0} (f : A → B) (n : ℕ) (xs : List A) → drop n (map f xs) ≡ map f (drop n xs)
 drop-map f zero xs = refl
@@ -62,7 +62,7 @@ begin-front-parts : (parts : Parts) (g : GrainId) (i size : ℕ) (c : SubName ×
     → AllByRecursion (λ (d : Delivery). d.sub < length parts.subs.registry.names) deliveries → (activation_at parts i d).mailbox ≡ deliveries
     → (past_front : ℕ) → ((f : Delivery) (fs : List Delivery) → deliveries ≡ f ∷ fs → past_front ≡ past (get_or parts.subs.states f.sub e).handled)
     → plain.begin_front (plain_of parts) g size (grain_of parts.subs.registry.names (activation_at parts i d)) (map (delivery_of parts.subs.registry.names) deliveries)
-    ≡ begun_by parts i d e (begin_front (activation_at parts i d) past_front (turn_number parts) size deliveries)
+    ≡ if_rise parts (is_front_new past_front deliveries) (begun_by parts i d e (begin_front (activation_at parts i d) past_front (suc parts.turns) size deliveries))
 unfolding plain.begin_front plain.begin_for plain.begin_turn
 begin-front-parts parts g i size c d e [] distinct lengths found below mailbox past_front is_past = refl
 begin-front-parts parts g i size c d e (f ∷ fs) distinct lengths found below mailbox past_front is_past =
@@ -91,7 +91,7 @@ begin-front-parts parts g i size c d e (f ∷ fs) distinct lengths found below m
         → (if handled then (plain.dropped (plain_of parts) g st (map (delivery_of parts.subs.registry.names) fs), reply.Dropped (name_at parts.subs.registry.names f.sub) (token_at (plain_of parts) f.position))
         else if spent then (plain_of parts, reply.Spent)
         else plain.begin_turn (plain_of parts) g st (name_at parts.subs.registry.names f.sub) (get_or parts.subs.states f.sub e).note (plain.front_of size (name_at parts.subs.registry.names f.sub) f.position st.mailbox))
-        ≡ begun_by parts i d e (if handled then (dropped, begun.Dropped f) else begin_turn a f.sub positions (if spent then None else Some (suc parts.turns)))
+        ≡ (if not handled && spent then (plain_of parts, reply.Spent) else begun_by parts i d e (if handled then (dropped, begun.Dropped f) else begin_turn a f.sub positions (suc parts.turns)))
     by true spent = ap (λ p. (p, reply.Dropped (name_at parts.subs.registry.names f.sub) (token_at (plain_of parts) f.position)))
         (grain-set parts g i d (λ _. dropped) (λ st. record st { mailbox = map (delivery_of parts.subs.registry.names) fs }) found refl)
     by false true = refl
@@ -105,7 +105,7 @@ pub begin-parts : (parts : Parts) (g : GrainId) (i max_events past_front : ℕ) 
     → AreDistinct parts.subs.registry.names → length parts.subs.registry.names ≡ length parts.subs.states → place_of same_grain g parts.grains ≡ Some i
     → IsBelow (length parts.subs.registry.names) (activation_at parts i d)
     → ((f : Delivery) (fs : List Delivery) → (activation_at parts i d).mailbox ≡ f ∷ fs → past_front ≡ past (get_or parts.subs.states f.sub e).handled)
-    → plain.begin (plain_of parts) g max_events ≡ begun_by parts i d e (begin (activation_at parts i d) past_front (turn_number parts) max_events)
+    → plain.begin (plain_of parts) g max_events ≡ if_rise parts (can_begin (activation_at parts i d) past_front) (begun_by parts i d e (begin (activation_at parts i d) past_front (suc parts.turns) max_events))
 unfolding plain.begin plain.begin_in
 begin-parts parts g i max_events past_front c d e distinct lengths found below is_past =
     rw (grain-found parts g i d found, is_some-map (turn_of parts.subs.registry.names) (activation_at parts i d).running)
@@ -116,10 +116,40 @@ begin-parts parts g i max_events past_front c d e distinct lengths found below i
 
     by : (busy active : Bool)
         → (if busy then (plain_of parts, reply.Busy) else if not active then (plain_of parts, reply.Empty) else plain.begin_front (plain_of parts) g (turn_size max_events) (grain_of parts.subs.registry.names a) (grain_of parts.subs.registry.names a).mailbox)
-        ≡ begun_by parts i d e (if busy then (a, begun.Busy) else if not active then (a, begun.Empty) else begin_front a past_front (turn_number parts) (turn_size max_events) a.mailbox)
+        ≡ if_rise parts (not busy && (active && is_front_new past_front a.mailbox)) (begun_by parts i d e (if busy then (a, begun.Busy) else if not active then (a, begun.Empty) else begin_front a past_front (suc parts.turns) (turn_size max_events) a.mailbox))
     by true active = refl
     by false false = refl
     by false true = begin-front-parts parts g i (turn_size max_events) c d e a.mailbox distinct lengths found below.waiting refl past_front is_past
+
+-- nothing waits for the grain
+pub begin-idle : (parts : Parts) (g : GrainId) (i max_events : ℕ) (d : GrainId × PlainActivation) (busy : Bool) → place_of same_grain g parts.grains ≡ Some i → slice_get (activation_at parts i d).mailbox 0 ≡ None
+    → is_some (activation_at parts i d).running ≡ busy
+    → plain.begin (plain_of parts) g max_events ≡ (plain_of parts, if busy then reply.Busy else reply.Empty)
+unfolding plain.begin plain.begin_in plain.begin_front
+begin-idle parts g i max_events d busy found none is_busy =
+    rw (grain-found parts g i d found, is_some-map (turn_of parts.subs.registry.names) (activation_at parts i d).running, empty (activation_at parts i d).mailbox none, is_busy)
+    (by busy (activation_at parts i d).active)
+  where
+    empty : (ds : List Delivery) → slice_get ds 0 ≡ None → ds ≡ []
+    empty [] none = refl
+    empty (d ∷ ds) none = absurd (cc)
+
+    idle : Bool → PlainPartition × Reply
+    idle busy = (plain_of parts, if busy then reply.Busy else reply.Empty)
+
+    by : (busy active : Bool) → (if busy then (plain_of parts, reply.Busy) else if not active then (plain_of parts, reply.Empty) else (plain_of parts, reply.Empty)) ≡ idle busy
+    by true active = refl
+    by false true = refl
+    by false false = refl
+
+-- the front delivery is of a number that is given
+pub front-numbered : (n : ℕ) (mailbox : List Delivery) (front : Delivery) → slice_get mailbox 0 ≡ Some front → AllByRecursion (λ (d : Delivery). d.sub < n) mailbox → front.sub < n
+front-numbered n [] front is all = absurd (cc)
+front-numbered n (d ∷ ds) front is all = subst (λ (d : Delivery). d.sub < n) (same_Some d front is) all.0
+
+-- and there is no other front
+pub front-same : (mailbox : List Delivery) (front : Delivery) → slice_get mailbox 0 ≡ Some front → (f : Delivery) (fs : List Delivery) → mailbox ≡ f ∷ fs → front ≡ f
+front-same mailbox front is f fs are = same_Some front f (sym is ∙ ap (λ (ds : List Delivery). slice_get ds 0) are)
 
 -- a grain that was never active
 pub begin-none : (parts : Parts) (g : GrainId) (max_events : ℕ) → place_of same_grain g parts.grains ≡ None → plain.begin (plain_of parts) g max_events ≡ (plain_of parts, reply.Empty)

@@ -7,6 +7,7 @@ pub mod Kinds
 pub mod Known
 pub mod Numbers
 pub mod PlainOf
+pub mod Quiets
 pub mod Reads
 pub mod Records
 pub mod Replied

@@ -5,6 +5,7 @@ use Rattle.std.specs.List.{AllByRecursion}
 use Rattle.std.specs.declared.alloc.AllocError.{AllocError}
 use Rattle.stream_ident.specs.declared.event.Event.{Event}
 use Rattle.stream_ident.specs.Event.{events_at}
+use Rattle.stream_ident.specs.declared.limits.TheConstants.{TURN_EVENTS}
 use Rattle.stream_model.specs.declared.reply.Reply as declared
 use Rattle.stream_model.specs.declared.reply.Reply.TheVariants as reply
 use Rattle.stream_model.specs.Replies.{with_events, Reply}
@@ -51,4 +52,4 @@ events_after _ old = old
 
 -- what a reply puts into the room that was lent, where that has room for the sixteen events of a turn
 abbrev pub Shows : Vec Event → Vec Event → Reply → Type 0
-Shows old new r = (16 ≤ vec_capacity old → new.items ≡ events_after r old.items) × (vec_capacity new ≡ vec_capacity old)
+Shows old new r = (TURN_EVENTS ≤ vec_capacity old → new.items ≡ events_after r old.items) × (vec_capacity new ≡ vec_capacity old)

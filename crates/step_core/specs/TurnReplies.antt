@@ -22,7 +22,6 @@ after_begun parts _ = parts
 abbrev pub of_begun : Parts → ℕ → Begun → Reply
 of_begun parts activation begun.Busy = reply.Busy
 of_begun parts activation begun.Empty = reply.Empty
-of_begun parts activation begun.Spent = reply.Spent
 of_begun parts activation (begun.Dropped d) = reply.Dropped (name_at parts.subs d.sub) (token_at parts.queue d.position)
 of_begun parts activation (begun.Turn sub positions) =
     reply.Turn (name_at parts.subs sub) activation (suc parts.turns) (events_at parts.queue.events positions) (state_at parts.subs sub).note

@@ -1,5 +1,6 @@
 //! An answer that stands for a reply.
 ghost use Rattle.std.specs.Prelude.{◌≡◌, ◌<◌, ◌≤◌, length};
+ghost use Rattle.stream_ident.specs.declared.limits.TheConstants.{TURN_EVENTS};
 ghost use Rattle.step_core.specs.Replied.{reply_with, HasEvents, Says};
 
 use crate::outcome::Outcome;
@@ -73,7 +74,7 @@ impl Answer {
 fn row_of(events: &[Event], count: usize) -> Events
     requires count { count ≡ length events.now }
     requires some { 0 < count }
-    requires most { count ≤ 16 }
+    requires most { count ≤ TURN_EVENTS }
     ensures { result ≡ events.now }
 {
     let mut row = Row::of(events[0]);

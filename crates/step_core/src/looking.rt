@@ -112,6 +112,7 @@ pub(crate) fn quiet(parts: &Parts) -> Outcome
 }
 
 /// Why a partition isn't quiet, the first that holds, or none where it is quiet.
+#[inline(never)]
 pub(crate) fn pending(parts: &Parts) -> Option<Pending>
     requires { Agrees parts.now }
     ensures { result ≡ pending_in (plain_of parts.now) }
@@ -125,10 +126,8 @@ pub(crate) fn pending(parts: &Parts) -> Option<Pending>
     if let Some(grain) = least_waiting(parts) {
         return Some(Pending::Waiting(grain));
     }
-    match least_running(parts) {
-        Some(grain) => Some(Pending::Running(grain)),
-        None => None,
-    }
+    let grain = least_running(parts)?;
+    Some(Pending::Running(grain))
 }
 
 /// The least grain that a turn runs for.

@@ -5,7 +5,7 @@ ghost use Rattle.stream_ident.specs.Event.{events_at};
 ghost use Rattle.step_core.specs.Replied.{reply_with, IsOfLog, Shows};
 
 use partition_queue::PartitionQueue;
-use stream_ident::{Event, Row};
+use stream_ident::{Event, Row, TURN_EVENTS};
 use stream_model::{Events, Reply};
 
 /// What an operation comes to: a reply whose turn has the positions of its events in the log, 1 to 16. With the
@@ -43,7 +43,7 @@ pub(crate) fn show(outcome: &Outcome, queue: &PartitionQueue, shown: &mut Vec<Ev
     ensures { Shows shown.old shown.new (reply_with queue.now.events outcome.now) }
 {
     if let Reply::Turn { events, .. } = outcome
-        && shown.capacity() >= 16
+        && shown.capacity() >= TURN_EVENTS
     {
         put_events(queue, events, shown);
     }
@@ -65,7 +65,7 @@ fn events_of(queue: &PartitionQueue, positions: &Row<usize>) -> Events
 /// Puts the events at the positions of a turn in the place of those before.
 fn put_events(queue: &PartitionQueue, positions: &Row<usize>, into: &mut Vec<Event>)
     requires of_log { AllByRecursion (λ position. position < length queue.now.events) positions.now }
-    requires room { 16 ≤ vec_capacity into.old }
+    requires room { TURN_EVENTS ≤ vec_capacity into.old }
     ensures events { into.new.items ≡ events_at queue.now.events positions.now }
     ensures room { vec_capacity into.new ≡ vec_capacity into.old }
 {

@@ -1,7 +1,9 @@
 //! The partition.
-ghost use Rattle.std.specs.Prelude.{◌≡◌, ◌<◌, ◌≤◌, true, length, None, slice_index_or, IfOk, IfSome, MatchResult, OnErr, OnOk};
+ghost use Rattle.std.specs.Prelude.{◌≡◌, ◌<◌, ◌≤◌, true, length, map, slice_index_or, IfOk, IfSome, MatchResult, OnErr, OnOk};
+ghost use Rattle.stream_ident.specs.declared.limits.TheConstants.{MOST_BLOCKS};
 ghost use Rattle.std.specs.List.{AllByRecursion};
 ghost use Rattle.std.specs.Option.{option_map};
+ghost use Rattle.stream_ident.specs.Alphabet.{IsPayload};
 ghost use Rattle.stream_ident.specs.Event.{no_event};
 ghost use Rattle.stream_ident.specs.Name.{grain_lt};
 ghost use Rattle.stream_ident.specs.Words.{keys_where, least, Performs};
@@ -12,6 +14,8 @@ ghost use Rattle.stream_model.specs.Positions.{empty, high_token, low_token, sub
 ghost use Rattle.stream_model.specs.Memory.{may_allocate};
 ghost use Rattle.stream_model.specs.Step.{step, IsReached};
 ghost use Rattle.step_core.specs.Finishing.{OwesNothing};
+ghost use Rattle.step_core.specs.Quiets.{quiet_by};
+ghost use Rattle.step_core.specs.declared.quiet.Quiet.TheVariants.{Yes};
 ghost use Rattle.step_core.specs.Reads.{handled_of, handled_positions, summaries_in_order};
 ghost use Rattle.step_core.specs.Replied.{answered, IsOfLog, Shows};
 ghost use Rattle.step_core.specs.Run.{Does, StopsBefore};
@@ -24,6 +28,8 @@ use crate::draining::Served;
 use crate::looking::{all_waiting, least_running, least_waiting, next_due, pending};
 use crate::outcome::{Outcome, reply_of, show};
 use crate::parts::Parts;
+use crate::publishing::publish_slices;
+use crate::quiet::Quiet;
 use crate::reading::{
     SubSummary, handled, handled_positions, high_token, is_settled, last_handled, low_token,
     served, summaries,
@@ -35,8 +41,8 @@ use pulling_agent::Agent;
 use std::alloc::{AllocError, Global};
 use std::fmt;
 use std::marker::Model;
-use stream_ident::{Event, GrainId, SubName, Token};
-use stream_model::{Limits, Op, Pending, Reply};
+use stream_ident::{Event, GrainId, StreamId, SubName, Token};
+use stream_model::{Limits, Op, Reply};
 use subscription_table::SubscriptionTable;
 
 /// A partition.
@@ -76,7 +82,7 @@ impl Partition {
     /// The call failed to allocate.
     pub fn new(alloc: Global, blocks: usize, limits: Limits) -> Result<Partition, AllocError>
         requires some_blocks { 1 ≤ blocks }
-        requires blocks { blocks ≤ 64 }
+        requires blocks { blocks ≤ MOST_BLOCKS }
         requires limits { AreLimits limits }
         ensures { IfOk result (λ p. p ≡ empty blocks limits) }
     {
@@ -189,6 +195,29 @@ impl Partition {
         outcome
     }
 
+    /// Publishes a batch, as `advance` does it at a Publish, where each payload is lent as its bytes. They are copied
+    /// once, into the log.
+    ///
+    /// # Errors
+    /// They are those of `step`.
+    #[inline(never)]
+    pub fn publish(
+        &mut self,
+        alloc: Global,
+        stream: &StreamId,
+        payloads: &[&[u8]],
+    ) -> Result<Outcome, AllocError>
+        requires { AllByRecursion IsPayload (map (λ payload. payload.now) payloads.now) }
+        ensures performs { Performs self.old self.new (answered self.new.log result) (step self.old (Op.Publish stream.now (map (λ payload. payload.now) payloads.now))) }
+        ensures of_log { IfOk result (IsOfLog self.new.log) }
+        ensures memory { OnErr result (may_allocate self.old (Op.Publish stream.now (map (λ payload. payload.now) payloads.now)) ≡ true) }
+    {
+        let outcome = publish_slices(&mut self.parts, alloc, stream, payloads);
+        // As in `advance`: the next operation starts from parts that `Agrees` speaks of.
+        let _lengths = (self.parts.subs.len(), self.parts.grains.len());
+        outcome
+    }
+
     /// The limits that the partition was made with. Its events, subscriptions, rules and rises are never
     /// more, and a legal history leads to it, so that each law of [`laws`](crate::laws) holds of it.
     pub fn limits(&self) -> Limits
@@ -291,13 +320,16 @@ impl Partition {
         last_handled(&self.parts, sub)
     }
 
-    /// Why the partition isn't quiet, the first reason that holds, or none where everything is pulled,
-    /// delivered and handled. It takes no memory.
-    pub fn quiet(&self) -> Option<Pending>
-        ensures pending { result ≡ pending_in self.now }
-        ensures owes { result ≡ None → OwesNothing self.now }
+    /// Whether everything is pulled, delivered and handled, and else the first reason why it isn't. It takes no
+    /// memory.
+    pub fn quiet(&self) -> Quiet
+        ensures quiet { result ≡ quiet_by (pending_in self.now) }
+        ensures owes { result ≡ Yes → OwesNothing self.now }
     {
-        pending(&self.parts)
+        match pending(&self.parts) {
+            None => Quiet::Yes,
+            Some(why) => Quiet::No(why),
+        }
     }
 
     /// The token of the first event that the cache keeps, or would keep next.

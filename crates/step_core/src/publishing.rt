@@ -1,5 +1,7 @@
 //! What producers and subscribers ask.
-ghost use Rattle.std.specs.Prelude.{◌≡◌, ◌≤◌, true, OnErr, IfOk};
+ghost use Rattle.std.specs.Prelude.{◌≡◌, ◌≤◌, true, map, OnErr, IfOk};
+ghost use Rattle.std.specs.List.{AllByRecursion};
+ghost use Rattle.stream_ident.specs.Alphabet.{IsPayload};
 ghost use Rattle.stream_ident.specs.Words.{Performs, changed_value};
 ghost use Rattle.stream_ident.specs.Name.{same_grain};
 ghost use Rattle.stream_model.specs.Publishing.{add_rule, publish, subscribe, subscribe_at, unsubscribe};
@@ -43,6 +45,28 @@ pub(crate) fn publish(
     ensures memory { OnErr result (takes_memory (publish (plain_of parts.old) stream.now payloads.now).1 ≡ true) }
 {
     let appended = parts.queue.append(alloc, *stream, payloads)?;
+    Ok(told_of_batch(appended))
+}
+
+/// A producer publishes a batch, as `publish` does it, where each payload is lent as its bytes.
+///
+/// # Errors
+/// They are those of `publish`.
+#[inline(never)]
+pub(crate) fn publish_slices(
+    parts: &mut Parts,
+    alloc: Global,
+    stream: &StreamId,
+    payloads: &[&[u8]],
+) -> Result<Outcome, AllocError>
+    requires agrees { Agrees parts.old }
+    requires payloads { AllByRecursion IsPayload (map (λ payload. payload.now) payloads.now) }
+    ensures assembled { IsAssembled parts.new }
+    ensures performs { Performs (plain_of parts.old) (plain_of parts.new) (replied result) (publish (plain_of parts.old) stream.now (map (λ payload. payload.now) payloads.now)) }
+    ensures told { IfOk result IsNoTurn }
+    ensures memory { OnErr result (takes_memory (publish (plain_of parts.old) stream.now (map (λ payload. payload.now) payloads.now)).1 ≡ true) }
+{
+    let appended = parts.queue.append_slices(alloc, stream, payloads)?;
     Ok(told_of_batch(appended))
 }
 

@@ -1,5 +1,6 @@
 //! What the agent takes from the queue.
 ghost use Rattle.std.specs.Prelude.{◌≡◌, ◌+◌, ◌*◌, ◌<◌, ◌≤◌, OnErr, length, true, unwrap_or, IfOk};
+ghost use Rattle.stream_ident.specs.declared.limits.TheConstants.{BLOCK_EVENTS, MOST_EVENTS};
 ghost use Rattle.stream_model.specs.Positions.{slowest, slowest_name, token_at};
 ghost use Rattle.stream_model.specs.Pulling.{pull};
 ghost use Rattle.stream_model.specs.Step.{takes_memory};
@@ -98,10 +99,10 @@ fn take(
 /// Drops blocks of the cache, and takes so many events into it, which are the next of the queue, with the
 /// tags of their streams.
 fn fill(parts: &mut Parts, drops: usize, count: usize, events: &[Event], tags: &[u8]) -> Outcome
-    requires blocks { 64 * drops ≤ length parts.old.agent.cache.events }
-    requires room { count ≤ room parts.old.agent.cache + 64 * drops }
+    requires blocks { BLOCK_EVENTS * drops ≤ length parts.old.agent.cache.events }
+    requires room { count ≤ room parts.old.agent.cache + BLOCK_EVENTS * drops }
     requires there { high parts.old.agent.cache + count ≤ length parts.old.queue.events }
-    requires few { length parts.old.queue.events ≤ 1000000 }
+    requires few { length parts.old.queue.events ≤ MOST_EVENTS }
     requires events { events.now ≡ ahead parts.old count }
     requires counted { length events.now ≡ count }
     requires tags { tags.now ≡ tags_of events.now }

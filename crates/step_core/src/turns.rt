@@ -1,13 +1,11 @@
 //! The turns of a grain, which workers ask for, and its end.
-ghost use Rattle.std.specs.Prelude.{◌≡◌, ◌+◌, ◌^◌, ◌<◌, ◌∷◌, List, None, OnErr, Some, length, pred, suc, true, if◌then◌else◌, IfOk};
+ghost use Rattle.std.specs.Prelude.{◌≡◌, ◌+◌, ◌^◌, ◌<◌, ◌&&◌, OnErr, length, pred, true, IfOk};
 ghost use Rattle.std.specs.List.{AllByRecursion};
 ghost use Rattle.stream_ident.specs.Words.{past, Performs};
-ghost use Rattle.stream_model.specs.Positions.{is_spent};
 ghost use Rattle.stream_model.specs.Step.{takes_memory};
 ghost use Rattle.stream_model.specs.Turns.{begin, commit, deactivate};
-ghost use Rattle.consumer_grain.specs.declared.mailbox.Delivery.{Delivery};
+ghost use Rattle.consumer_grain.specs.Activations.{can_begin};
 ghost use Rattle.consumer_grain.specs.Subscriptions.{rises_from};
-ghost use Rattle.grain_table.specs.Changes.{activation_at};
 ghost use Rattle.subscription_table.specs.Table.{state_at};
 ghost use Rattle.stream_model.specs.Replies.{IsNoTurn};
 ghost use Rattle.step_core.specs.Assembly.{Agrees, IsAssembled};
@@ -18,7 +16,7 @@ ghost use Rattle.step_core.specs.Replied.{replied, reply_of, reply_with, IsOfLog
 use crate::outcome::Outcome;
 use crate::parts::Parts;
 use crate::reading::is_spent;
-use consumer_grain::{Begun, RunningTurn};
+use consumer_grain::{Activation, Begun, RunningTurn, SubState};
 use partition_queue::PartitionQueue;
 use std::alloc::{AllocError, Global};
 use stream_ident::{GrainId, Row};
@@ -36,11 +34,23 @@ pub(crate) fn begin(parts: &mut Parts, grain: &GrainId, max: u32) -> Outcome
     let Some(number) = parts.grains.find(grain) else {
         return Reply::Empty;
     };
-    let activation = parts.grains.at(number).number();
-    let past = past_of_front(parts, number);
-    let turn = next_turn(parts);
-    let begun = parts.grains.begin(number, past, turn, max as usize);
-    outcome_of_begun(parts, activation, begun)
+    let is_spent = is_spent(parts);
+    let activation = parts.grains.at(number);
+    let own = activation.number();
+    let Some(front) = activation.front() else {
+        if activation.running().is_some() {
+            return Reply::Busy;
+        }
+        return Reply::Empty;
+    };
+    let state = parts.subs.state(front.sub);
+    if wants_rise(activation, state, is_spent) {
+        return Reply::Spent;
+    }
+    let begun = parts
+        .grains
+        .begin(number, state, parts.turns + 1, max as usize);
+    outcome_of_begun(parts, own, begun)
 }
 
 /// The outcome where a grain has begun, whose activation has this number: a turn gets the next number.
@@ -55,7 +65,6 @@ fn outcome_of_begun(parts: &mut Parts, activation: u64, begun: Begun) -> Outcome
     match begun {
         Begun::Busy => Reply::Busy,
         Begun::Empty => Reply::Empty,
-        Begun::Spent => Reply::Spent,
         Begun::Dropped(delivery) => Reply::Dropped {
             sub: *parts.subs.name(delivery.sub),
             token: parts.queue.token_at(delivery.position),
@@ -74,29 +83,11 @@ fn outcome_of_begun(parts: &mut Parts, activation: u64, begun: Begun) -> Outcome
     }
 }
 
-/// One past the last position that the subscription of a grain's front delivery has handled, 0 where
-/// nothing waits for the grain.
-fn past_of_front(parts: &Parts, number: usize) -> usize
-    requires assembled { IsAssembled parts.now }
-    requires within { number < length parts.now.grains }
-    ensures { (front : Delivery) (rest : List Delivery) → (activation_at parts.now.grains number).mailbox ≡ front ∷ rest → result ≡ past (state_at parts.now.subs front.sub).handled }
+/// Whether a grain would begin a turn, by the state of its front delivery's subscription, where no rise is left for it.
+fn wants_rise(activation: &Activation, state: &SubState, is_spent: bool) -> bool
+    ensures { result ≡ (can_begin activation.now (past state.now.handled) && is_spent) }
 {
-    match parts.grains.at(number).front() {
-        Some(front) => parts.subs.state(front.sub).past(),
-        None => 0,
-    }
-}
-
-/// The number of the next turn, where a rise is left.
-fn next_turn(parts: &Parts) -> Option<u64>
-    requires { Agrees parts.now }
-    ensures { result ≡ (if is_spent (plain_of parts.now) then None else Some (suc parts.now.turns)) }
-{
-    if is_spent(parts) {
-        None
-    } else {
-        Some(parts.turns + 1)
-    }
+    activation.can_begin(state) && is_spent
 }
 
 /// A worker ends the turn that runs for a grain: its events are handled, unless its subscription is closed.
@@ -125,8 +116,9 @@ pub(crate) fn commit(
     let Some(run) = parts.grains.at(number).current_turn(activation, turn) else {
         return Ok(Reply::Stale);
     };
+    // What may fail comes before the turn ends.
     let told = handle(&mut parts.subs, alloc, &parts.queue, run, note)?;
-    parts.grains.end_turn(number);
+    let _ended = parts.grains.commit(number, activation, turn);
     Ok(told)
 }
 

@@ -2,6 +2,7 @@
 use Rattle.std.specs.Prelude.{◌≡◌, ◌≢◌, ◌⊎◌, ℕ, ◌-◌, ◌^◌, ◌≤◌, ◌<◌, Bool, true, false, ◌||◌, List, [], ◌∷◌, ◌++◌, length, map, remove, replicate, slice_get, slice_index, Contains, Some, Result, Ok, Err, IsErr}
 use Rattle.std.specs.List.{AllByRecursion, AllZip, range_with_len}
 use Rattle.std.specs.declared.alloc.AllocError.{AllocError}
+use Rattle.stream_ident.specs.declared.limits.TheConstants.{MOST_BLOCKS, MOST_EVENTS, MOST_PERMITS, MOST_QUEUES, MOST_RISES, MOST_RULES, MOST_SILOS, MOST_SUBS}
 use Rattle.stream_model.specs.Bounds.{AreLimits}
 use Rattle.stream_model.specs.declared.limits.Limits.{Limits}
 use Rattle.stream_model.specs.declared.op.Op.{Op}
@@ -36,16 +37,16 @@ use Rattle.stream_cluster.specs.declared.cluster.SiloUp.TheVariants as up
 
 -- a configuration that a cluster may have
 pub record IsConfig (config : Config) : Type 0 where
-  pub queues : (1 ≤ config.queues) × (config.queues ≤ 64)
-  pub blocks : (1 ≤ config.blocks) × (config.blocks ≤ 64)
-  pub silos : (1 ≤ config.silos) × (config.silos ≤ 16)
+  pub queues : (1 ≤ config.queues) × (config.queues ≤ MOST_QUEUES)
+  pub blocks : (1 ≤ config.blocks) × (config.blocks ≤ MOST_BLOCKS)
+  pub silos : (1 ≤ config.silos) × (config.silos ≤ MOST_SILOS)
   pub limits : AreLimits config.limits
   pub rises : 1 ≤ config.limits.rises
   pub history : 1 ≤ config.history
 
 -- the greatest limits that a partition may have
 abbrev pub greatest_limits : Limits
-greatest_limits = record { events = 1000000; subs = 10000; rules = 64; rises = 4000000 }
+greatest_limits = record { events = MOST_EVENTS; subs = MOST_SUBS; rules = MOST_RULES; rises = MOST_RISES }
 
 -- the configuration of a service that stays up
 abbrev pub standing_config : ℕ → ℕ → Config
@@ -70,7 +71,7 @@ IsAtQueue config p = (t : Origin PlainPartition) × (p.turnstile ≡ Some t) × 
 
 -- how the turnstile of the directory begins: without grains, and with as many permits as a directory may give
 abbrev pub opening_directory : Config → Start PlainDirectory
-opening_directory config = record { state = directory.empty 4000000; limit = config.history }
+opening_directory config = record { state = directory.empty MOST_PERMITS; limit = config.history }
 
 -- a pass of a turnstile that began so
 abbrev pub IsAtDirectory : Config → DirectoryPass → Type 0

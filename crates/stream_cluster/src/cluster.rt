@@ -1,5 +1,6 @@
 //! A cluster whose silos are threads, or parked.
 ghost use Rattle.std.specs.Prelude.{◌≡◌, ◌<◌, true, false, Contains, IfOk};
+ghost use Rattle.stream_ident.specs.declared.limits.TheConstants.{MOST_SILOS};
 ghost use Rattle.std.specs.List.{AllByRecursion};
 ghost use Rattle.turnstile.specs.Recorded.{recorded};
 ghost use Rattle.silo_crew.specs.Silos.{IsSiloAt};
@@ -207,7 +208,7 @@ impl<
         alloc: Global,
         silo: u8,
     ) -> Result<SiloUp, AllocError>
-        requires { silo < 16 }
+        requires { silo < MOST_SILOS }
         ensures { AnswersUp self.old silo result self.new }
     {
         if self.parked || self.halted {
@@ -264,7 +265,7 @@ impl<G: Gate, H: QueueHistory, D: DirectoryHistory> Cluster<G, H, D> {
         alloc: Global,
         silo: u8,
     ) -> Result<SiloDown, AllocError>
-        requires { silo < 16 }
+        requires { silo < MOST_SILOS }
         ensures { AnswersDown self.old silo result self.new }
     {
         if self.parked || self.halted {

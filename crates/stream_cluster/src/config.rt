@@ -1,5 +1,6 @@
 //! What a cluster is made of.
 ghost use Rattle.std.specs.Prelude.{◌≡◌, ◌≤◌};
+ghost use Rattle.stream_ident.specs.declared.limits.TheConstants.{MOST_QUEUES, MOST_SILOS};
 ghost use Rattle.stream_cluster.specs.Clusters.{IsConfig, standing_config};
 
 use stream_model::Limits;
@@ -33,8 +34,8 @@ impl Config {
     /// that ask for one end: what is published is then no more handled, a drain answers `NotQuiet`, and the cluster ends
     /// with `Limit`.
     pub fn new(queues: usize, silos: u8) -> Config
-        requires queues { (1 ≤ queues) × (queues ≤ 64) }
-        requires silos { (1 ≤ silos) × (silos ≤ 16) }
+        requires queues { (1 ≤ queues) × (queues ≤ MOST_QUEUES) }
+        requires silos { (1 ≤ silos) × (silos ≤ MOST_SILOS) }
         ensures config { IsConfig result }
         ensures whole { result ≡ standing_config queues silos }
     {

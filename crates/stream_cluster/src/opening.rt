@@ -14,10 +14,8 @@ use silo_crew::split_lines;
 use silo_loops::{DirectoryLine, Doorbell, Line, TurnRoom};
 use std::alloc::{AllocError, Global};
 use std::sync::{Arc, Wait};
+use stream_ident::MOST_PERMITS;
 use turnstile::{PassOf, Turnstile};
-
-// The most permits that a directory gives.
-const MOST_PERMITS: u64 = 4_000_000;
 
 // A turnstile over an empty partition, and the first pass of it.
 fn open_turnstile<G: Gate, H: QueueHistory>(

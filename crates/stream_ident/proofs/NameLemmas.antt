@@ -8,6 +8,7 @@ use Rattle.std.proofs.lemmas.List.{take_all, take_at, length-append, length-repl
 use Rattle.std.proofs.lemmas.List.Sums.{list_all-from_AllPass, fails_before_first}
 use Rattle.stream_ident.specs.Text.{wrong_place, IsPadded}
 use Rattle.stream_ident.specs.Alphabet.{is_name_byte, IsName, wrong_in_name, IsPayload, wrong_in_payload, is_printable}
+use Rattle.stream_ident.specs.declared.limits.TheConstants.{NAME_BYTES, PAYLOAD_BYTES}
 use Rattle.stream_ident.proofs.WordLemmas.{one-add, or_else-none, or_else-parts}
 
 cond_none : {A : Type 0} (b : Bool) (x : A) (other : Option A) → cond b (Some x) other ≡ None → (b ≡ false) × (other ≡ None)
@@ -25,9 +26,9 @@ pub wrong_place-short : (good : ℕ → Bool) (most : ℕ) (bytes : List ℕ) �
 wrong_place-short good most bytes short =
     rw (take_all most bytes short, le-ltb most (length bytes) short, or_else-none) refl
 
-pub wrong_in_name-short : (bytes : List ℕ) → 0 < length bytes → length bytes ≤ 64 → wrong_in_name bytes ≡ position (λ byte. not (is_name_byte byte)) bytes
+pub wrong_in_name-short : (bytes : List ℕ) → 0 < length bytes → length bytes ≤ NAME_BYTES → wrong_in_name bytes ≡ position (λ byte. not (is_name_byte byte)) bytes
 wrong_in_name-short bytes some short =
-    rw (ne_eqb (length bytes) 0 (λ e. omega arith)) (wrong_place-short is_name_byte 64 bytes short)
+    rw (ne_eqb (length bytes) 0 (λ e. omega arith)) (wrong_place-short is_name_byte NAME_BYTES bytes short)
 
 -- a text with no wrong place is short enough, and each of its bytes is good
 pub right_everywhere : (good : ℕ → Bool) (most : ℕ) (bytes : List ℕ) → wrong_place good most bytes ≡ None → (length bytes ≤ most) × (list_all good bytes ≡ true)
@@ -41,12 +42,12 @@ pub IsName-from_right : (bytes : List ℕ) → wrong_in_name bytes ≡ None → 
 IsName-from_right bytes none =
     let tests = cond_none _ _ _ none in
     let some : length bytes ≢ 0 = eqb-false _ _ tests.0 in
-    let parts = right_everywhere is_name_byte 64 bytes tests.1 in
+    let parts = right_everywhere is_name_byte NAME_BYTES bytes tests.1 in
     record { some = omega arith; short = parts.0; good = parts.1 }
 
 pub IsPayload-from_right : (bytes : List ℕ) → wrong_in_payload bytes ≡ None → IsPayload bytes
 IsPayload-from_right bytes none =
-    let parts = right_everywhere is_printable 256 bytes none in
+    let parts = right_everywhere is_printable PAYLOAD_BYTES bytes none in
     record { short = parts.0; good = parts.1 }
 
 -- where each byte is good no place is wrong
@@ -63,7 +64,7 @@ pub wrong_in_name-none : (bytes : List ℕ) → IsName bytes → wrong_in_name b
 wrong_in_name-none bytes is = wrong_in_name-short bytes is.some is.short ∙ position-good is_name_byte bytes is.good
 
 pub wrong_in_payload-none : (bytes : List ℕ) → IsPayload bytes → wrong_in_payload bytes ≡ None
-wrong_in_payload-none bytes is = wrong_place-short is_printable 256 bytes is.short ∙ position-good is_printable bytes is.good
+wrong_in_payload-none bytes is = wrong_place-short is_printable PAYLOAD_BYTES bytes is.short ∙ position-good is_printable bytes is.good
 
 -- a row that is a text with zeros behind it holds the text
 pub IsPadded-from_row : (room : ℕ) (text row : List ℕ) → length text ≤ room → row ≡ text ++ replicate (room - length text) 0 → IsPadded room (length text) row × (take (length text) row ≡ text)

@@ -9,6 +9,7 @@ ghost use Rattle.std.proofs.Common.{rules};
 ghost use Rattle.stream_ident.specs.Name.{field_of, stream_text, grain_text};
 ghost use Rattle.stream_ident.specs.Alphabet.{is_name_byte, IsName, wrong_in_name};
 
+use crate::limits::NAME_BYTES;
 use crate::text::{ascii_text, padded};
 use std::cmp::Ordering;
 use std::fmt;
@@ -16,16 +17,13 @@ use std::hash::{Hash, Hasher};
 use std::marker::Model;
 use thiserror::Error;
 
-/// The most bytes of a name.
-const MAX_LEN: usize = 64;
-
 /// A namespace, a kind or a key: 1 to 64 bytes of `A-Z a-z 0-9 _ . -`.
 ///
 /// A contract sees it as the list of its bytes. Names are equal, ordered and hashed by their bytes.
 #[derive(Clone, Copy)]
 pub struct Name {
     len: u8,
-    bytes: [u8; MAX_LEN],
+    bytes: [u8; NAME_BYTES],
 }
 
 impl Model for Name {
@@ -35,14 +33,15 @@ impl Model for Name {
 
     ghost use Rattle.stream_ident.specs.Alphabet.{IsName};
     ghost use Rattle.stream_ident.specs.Text.{IsPadded, length-padded, refilled};
+    ghost use Rattle.stream_ident.specs.declared.limits.TheConstants.{NAME_BYTES};
 
     ghost view = { λ n. take n.len n.bytes };
 
-    ghost invariant = { λ n. IsPadded 64 n.len n.bytes × IsName (take n.len n.bytes) };
+    ghost invariant = { λ n. IsPadded NAME_BYTES n.len n.bytes × IsName (take n.len n.bytes) };
 
-    ghost inverse = { λ bytes. record { len = length bytes; bytes = bytes ++ replicate (64 - length bytes) 0 } };
+    ghost inverse = { λ bytes. record { len = length bytes; bytes = bytes ++ replicate (NAME_BYTES - length bytes) 0 } };
 
-    ghost inverse_ok = { λ a h i. record { len = length-padded 64 a.len a.bytes h.0 i; bytes = refilled 64 a.len a.bytes h.0 i } };
+    ghost inverse_ok = { λ a h i. record { len = length-padded NAME_BYTES a.len a.bytes h.0 i; bytes = refilled NAME_BYTES a.len a.bytes h.0 i } };
 }
 
 /// Bytes that are no name, and the least place at which they are wrong: that of the first byte outside
@@ -118,10 +117,10 @@ fn wrong_in_name(bytes: &[u8]) -> Option<usize>
     if bytes.is_empty() {
         return Some(0);
     }
-    if bytes.len() <= MAX_LEN {
+    if bytes.len() <= NAME_BYTES {
         return outside_alphabet(bytes);
     }
-    outside_alphabet(&bytes[..MAX_LEN]).or(Some(MAX_LEN))
+    outside_alphabet(&bytes[..NAME_BYTES]).or(Some(NAME_BYTES))
 }
 
 impl PartialEq for Name {

@@ -7,6 +7,7 @@
 
 mod event;
 mod ident;
+mod limits;
 mod payload;
 mod row;
 mod rule;
@@ -15,6 +16,11 @@ mod token;
 
 pub use event::Event;
 pub use ident::{BadName, GrainId, Name, StreamId, SubName, WrongByte};
+pub use limits::{
+    BATCH_EVENTS, BLOCK_EVENTS, MAILBOX_PLACES, MOST_BLOCKS, MOST_ENTRIES, MOST_EVENTS,
+    MOST_PERMITS, MOST_QUEUES, MOST_RISES, MOST_RULES, MOST_SILOS, MOST_SUBS, NAME_BYTES,
+    PAYLOAD_BYTES, PULL_EVENTS, TURN_EVENTS,
+};
 pub use payload::{BadPayload, Batch, Payload};
 pub use row::Row;
 pub use rule::Rule;

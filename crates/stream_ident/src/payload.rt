@@ -8,6 +8,7 @@ ghost use Rattle.std.specs.Cmp.Rules.{hashing};
 ghost use Rattle.std.proofs.Common.{rules};
 ghost use Rattle.stream_ident.specs.Alphabet.{IsPayload, wrong_in_payload, is_printable};
 
+use crate::limits::PAYLOAD_BYTES;
 use crate::text::{ascii_text, padded};
 use std::alloc::{AllocError, Global};
 use std::cmp::Ordering;
@@ -16,16 +17,13 @@ use std::hash::{Hash, Hasher};
 use std::marker::Model;
 use thiserror::Error;
 
-/// The most bytes of a payload.
-const MAX_LEN: usize = 256;
-
 /// The content of an event: 0 to 256 bytes, each 0x20 to 0x7E.
 ///
 /// A contract sees it as the list of its bytes. Payloads are equal, ordered and hashed by their bytes.
 #[derive(Clone, Copy)]
 pub struct Payload {
     len: u16,
-    bytes: [u8; MAX_LEN],
+    bytes: [u8; PAYLOAD_BYTES],
 }
 
 impl Model for Payload {
@@ -35,14 +33,15 @@ impl Model for Payload {
 
     ghost use Rattle.stream_ident.specs.Alphabet.{IsPayload};
     ghost use Rattle.stream_ident.specs.Text.{IsPadded, length-padded, refilled};
+    ghost use Rattle.stream_ident.specs.declared.limits.TheConstants.{PAYLOAD_BYTES};
 
     ghost view = { λ p. take p.len p.bytes };
 
-    ghost invariant = { λ p. IsPadded 256 p.len p.bytes × IsPayload (take p.len p.bytes) };
+    ghost invariant = { λ p. IsPadded PAYLOAD_BYTES p.len p.bytes × IsPayload (take p.len p.bytes) };
 
-    ghost inverse = { λ bytes. record { len = length bytes; bytes = bytes ++ replicate (256 - length bytes) 0 } };
+    ghost inverse = { λ bytes. record { len = length bytes; bytes = bytes ++ replicate (PAYLOAD_BYTES - length bytes) 0 } };
 
-    ghost inverse_ok = { λ a h i. record { len = length-padded 256 a.len a.bytes h.0 i; bytes = refilled 256 a.len a.bytes h.0 i } };
+    ghost inverse_ok = { λ a h i. record { len = length-padded PAYLOAD_BYTES a.len a.bytes h.0 i; bytes = refilled PAYLOAD_BYTES a.len a.bytes h.0 i } };
 }
 
 /// Bytes that are no payload, and the least place at which they are wrong: that of the first byte that
@@ -108,10 +107,10 @@ fn unprintable(bytes: &[u8]) -> Option<usize>
 fn wrong_in_payload(bytes: &[u8]) -> Option<usize>
     ensures { result ≡ wrong_in_payload bytes.now }
 {
-    if bytes.len() <= MAX_LEN {
+    if bytes.len() <= PAYLOAD_BYTES {
         return unprintable(bytes);
     }
-    unprintable(&bytes[..MAX_LEN]).or(Some(MAX_LEN))
+    unprintable(&bytes[..PAYLOAD_BYTES]).or(Some(PAYLOAD_BYTES))
 }
 
 impl PartialEq for Payload {

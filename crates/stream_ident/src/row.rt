@@ -2,10 +2,8 @@
 ghost use Rattle.std.specs.Prelude.{◌≡◌, ◌<◌, ◌≤◌, [], ◌∷◌, ◌++◌, length};
 ghost use Rattle.std.specs.Cmp.Lexicographic.{pointwise, lists_per, lists_equiv};
 
+use crate::limits::TURN_EVENTS;
 use std::marker::Model;
-
-/// The places of a row.
-const PLACES: usize = 16;
 
 /// 1 to 16 values, in order, in a fixed row of sixteen places, so that a turn takes no memory.
 ///
@@ -13,17 +11,18 @@ const PLACES: usize = 16;
 #[derive(Debug, Drop)]
 pub struct Row<T: Copy> {
     len: usize,
-    places: [T; PLACES],
+    places: [T; TURN_EVENTS],
 }
 
 impl<T: Copy> Model for Row<T> {
     ghost use Rattle.std.specs.Prelude.{◌≡◌, ◌≤◌, ◌<◌, List, length, take};
+    ghost use Rattle.stream_ident.specs.declared.limits.TheConstants.{TURN_EVENTS};
 
     ghost Value = { List T };
 
     ghost view = { λ r. take r.len r.places };
 
-    ghost invariant = { λ r. (0 < r.len) × (r.len ≤ 16) × (length r.places ≡ 16) };
+    ghost invariant = { λ r. (0 < r.len) × (r.len ≤ TURN_EVENTS) × (length r.places ≡ TURN_EVENTS) };
 }
 
 impl<T: Copy> Row<T> {
@@ -33,7 +32,7 @@ impl<T: Copy> Row<T> {
     {
         Row {
             len: 1,
-            places: [value; PLACES],
+            places: [value; TURN_EVENTS],
         }
     }
 
@@ -41,14 +40,14 @@ impl<T: Copy> Row<T> {
     pub fn len(&self) -> usize
         ensures count { result ≡ length self.now }
         ensures some { 0 < result }
-        ensures bound { result ≤ 16 }
+        ensures bound { result ≤ TURN_EVENTS }
     {
         self.len
     }
 
     /// Adds a value at the end.
     pub fn push(&mut self, value: T)
-        requires { length self.old < 16 }
+        requires { length self.old < TURN_EVENTS }
         ensures { self.new ≡ self.old ++ value ∷ [] }
     {
         self.places[self.len] = value;
@@ -59,7 +58,7 @@ impl<T: Copy> Row<T> {
     pub fn as_slice(&self) -> &[T]
         ensures values { result.now ≡ self.now }
         ensures some { 0 < length self.now }
-        ensures bound { length self.now ≤ 16 }
+        ensures bound { length self.now ≤ TURN_EVENTS }
     {
         &self.places[..self.len]
     }

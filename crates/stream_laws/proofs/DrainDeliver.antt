@@ -16,6 +16,7 @@ use Rattle.stream_model.specs.Positions.{between, grain_at, is_spent, next_posit
 use Rattle.stream_model.specs.Pulling.{caught_up, deliver, deliver_position, deliver_to, delivered, woken}
 use Rattle.stream_model.specs.Step.{step}
 use Rattle.stream_ident.specs.Words.{first_at, value_at}
+use Rattle.stream_ident.specs.declared.limits.TheConstants.{MAILBOX_PLACES}
 use Rattle.stream_laws.proofs.DrainBase.{IsSound, handled_since, told-step}
 use Rattle.stream_laws.proofs.DrainBegin.{ready_grain}
 use Rattle.stream_laws.proofs.DrainRule.{Tally, tally_after}
@@ -63,7 +64,7 @@ deliver-nothing p s r found is_open none = deliver-current p s r None found is_o
 
 abbrev where_room : PlainPartition → SubName → Subscription → Grain → ℕ → List Delivery → Bool → PlainPartition × Reply
 where_room p s r st position mailbox wanting =
-    if nat_le 16 (length mailbox) then (p, reply.MailboxFull)
+    if nat_le MAILBOX_PLACES (length mailbox) then (p, reply.MailboxFull)
     else if wanting then (p, reply.Spent)
     else (delivered p s r st position, reply.Delivered (token_at p position))
 

@@ -16,6 +16,7 @@ use Rattle.stream_model.specs.Positions.{between, least_or, open_resumes, slowes
 use Rattle.stream_model.specs.Pulling.{all_implied, drops, pull, pull_count, pull_events, pull_want, room, subs_with}
 use Rattle.stream_model.specs.Step.{step}
 use Rattle.stream_ident.specs.Words.{least_with, value_at}
+use Rattle.stream_ident.specs.declared.limits.TheConstants.{BLOCK_EVENTS}
 use Rattle.stream_laws.proofs.DrainBase.{IsSound, handled_since, told-step}
 use Rattle.stream_laws.proofs.IdleGrains.{IsEmptied}
 use Rattle.stream_laws.proofs.KeyLists.{each-entry}
@@ -55,7 +56,7 @@ settled-slowest cache t0 t p sound settled =
 
 -- there is room for an event, or a block can be dropped
 room-made : (blocks low high slow want : ℕ) → 1 ≤ blocks → high ≤ slow → 1 ≤ want
-    → 1 ≤ min want ((64 * blocks - (high - low)) + 64 * min ((want - (64 * blocks - (high - low)) + 63) / 64) ((min high slow - low) / 64))
+    → 1 ≤ min want ((BLOCK_EVENTS * blocks - (high - low)) + BLOCK_EVENTS * min ((want - (BLOCK_EVENTS * blocks - (high - low)) + (BLOCK_EVENTS - 1)) / BLOCK_EVENTS) ((min high slow - low) / BLOCK_EVENTS))
 room-made blocks low high slow want some seen wanted = omega arith
 
 -- ---- the step
@@ -64,17 +65,17 @@ abbrev wanted : PlainPartition → ℕ
 wanted p = min 32 (length p.log - p.high)
 
 abbrev taken : PlainPartition → ℕ
-taken p = min (wanted p) (room p + 64 * drops p (wanted p))
+taken p = min (wanted p) (room p + BLOCK_EVENTS * drops p (wanted p))
 
 -- what is pulled
 abbrev pulled_subs : PlainPartition → List (SubName × Subscription)
 pulled_subs p = subs_with p.rules p.high p.subs (between p.log p.high (p.high + taken p))
 
 abbrev pulled : PlainPartition → PlainPartition
-pulled p = record p { low = p.low + 64 * drops p (wanted p); high = p.high + taken p; subs = pulled_subs p }
+pulled p = record p { low = p.low + BLOCK_EVENTS * drops p (wanted p); high = p.high + taken p; subs = pulled_subs p }
 
 abbrev told_pulled : PlainPartition → Reply
-told_pulled p = reply.Pulled (p.high + taken p - p.high) (token_at p (p.low + 64 * drops p (wanted p))) (token_at p (p.high + taken p))
+told_pulled p = reply.Pulled (p.high + taken p - p.high) (token_at p (p.low + BLOCK_EVENTS * drops p (wanted p))) (token_at p (p.high + taken p))
 
 pull-current : (p : PlainPartition) (dry : Bool) → (p.high == length p.log) ≡ dry → step p (Pull p.generation 32) ≡ (if dry then (p, reply.Dry) else pull_want p (wanted p))
 unfolding step pull
@@ -88,7 +89,7 @@ unfolding pull_want pull_count pull_events
 pull-some p full wet some is_full =
     let counts : (taken p == 0) ≡ false = ne_eqb (taken p) 0 (λ none. omega (arith, some, none)) in
     pull-current p false wet
-    ∙ ap {B = PlainPartition × Reply} (λ b. if b then (p, reply.Pressed (unwrap_or (slowest_name p) (name.Explicit 0))) else pull_events p (p.low + 64 * drops p (wanted p)) (p.high + taken p) (pulled_subs p)) counts
+    ∙ ap {B = PlainPartition × Reply} (λ b. if b then (p, reply.Pressed (unwrap_or (slowest_name p) (name.Explicit 0))) else pull_events p (p.low + BLOCK_EVENTS * drops p (wanted p)) (p.high + taken p) (pulled_subs p)) counts
     ∙ ap {B = PlainPartition × Reply} (λ b. if b then (p, reply.TooMany) else (pulled p, told_pulled p)) is_full
 
 pulled-sound : (cache : ℕ) (t0 : Summary) (t : Tally) (p : PlainPartition) → IsSound cache t0 t p → step p (Pull p.generation 32) ≡ (pulled p, told_pulled p)

@@ -20,6 +20,7 @@ use Rattle.stream_ident.specs.Event.{batch_token, is_owed}
 use Rattle.stream_model.specs.NewestFirst.{Binding, bound_by_rule}
 use Rattle.stream_model.specs.Positions.{events_at, grain_at, low_token, no_event, running_in, sub_at, waiting_in}
 use Rattle.stream_ident.specs.Words.{or_else}
+use Rattle.stream_ident.specs.declared.limits.TheConstants.{TURN_EVENTS}
 use Rattle.stream_laws.proofs.Marks.{IsClear, IsInTurn, IsServed}
 use Rattle.stream_laws.proofs.Summary.{Promise, Summary, after}
 
@@ -105,7 +106,7 @@ pub record IsRunning (t : Summary) (p : PlainPartition) (g : GrainId) (run : Run
   pub committed : t.committed run.turn ≡ 0
   pub number : run.turn ≤ p.turns
   pub some : 1 ≤ length run.positions
-  pub bound : length run.positions ≤ 16
+  pub bound : length run.positions ≤ TURN_EVENTS
 
 pub record GrainFits (t : Summary) (p : PlainPartition) (g : GrainId) : Type 0 where
   pub boxed : AllByRecursion (IsBoxed p g) (grain_at p g).mailbox

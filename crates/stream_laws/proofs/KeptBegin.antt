@@ -18,6 +18,7 @@ use Rattle.stream_model.specs.Positions.{events_at, grain_at, is_spent, running_
 use Rattle.stream_model.specs.Turns.{begin, begin_for, begin_front, begin_in, begin_turn, begun, front_of}
 use Rattle.stream_ident.specs.Blocks.{turn_size}
 use Rattle.stream_ident.specs.Words.{past}
+use Rattle.stream_ident.specs.declared.limits.TheConstants.{TURN_EVENTS}
 use Rattle.stream_ident.proofs.WordLemmas.{none_from_is_some}
 use Rattle.stream_laws.proofs.BeginFront.{Fits-dropped, IsFront, is_front}
 use Rattle.stream_ident.proofs.EachOf.{All-drop}
@@ -35,7 +36,7 @@ abbrev with_turn : Summary → GrainId → ℕ → SubName → ℕ → ℕ → L
 with_turn t g max_events s activation turn events note = after t (op.Begin g max_events) (reply.Turn s activation turn events note)
 
 module _ (t : Summary) (p : PlainPartition) (g : GrainId) (max_events n : ℕ) (d : Delivery) (deliveries : List Delivery) (r : Subscription)
-    (front : IsFront t p g d deliveries r) (some : 1 ≤ n) (bound : n ≤ 16) (next : past r.handled ≤ d.position) (fits : Fits t p) where
+    (front : IsFront t p g d deliveries r) (some : 1 ≤ n) (bound : n ≤ TURN_EVENTS) (next : past r.handled ≤ d.position) (fits : Fits t p) where
   abbrev st : Grain
   st = grain_at p g
 
@@ -60,7 +61,7 @@ module _ (t : Summary) (p : PlainPartition) (g : GrainId) (max_events n : ℕ) (
   some_positions : 1 ≤ length positions
   some_positions = subst (λ ds. 1 ≤ length (front_of n d.sub d.position ds)) (sym front.mailbox) (front-some n d deliveries some)
 
-  few_positions : length positions ≤ 16
+  few_positions : length positions ≤ TURN_EVENTS
   few_positions = omega (arith, front-length n d.sub d.position (grain_at p g).mailbox, bound)
 
   own_positions : running_in d.sub (Some run) ≡ positions
@@ -162,7 +163,7 @@ module _ (t : Summary) (p : PlainPartition) (g : GrainId) (max_events n : ℕ) (
   )
 
 kept-begin_for : (t : Summary) (p : PlainPartition) (g : GrainId) (max_events n : ℕ) (d : Delivery) (deliveries : List Delivery) (found : Option Subscription)
-    → 1 ≤ n → n ≤ 16 → (grain_at p g).active ≡ true → (grain_at p g).running ≡ None → (grain_at p g).mailbox ≡ d ∷ deliveries → sub_at p d.sub ≡ found
+    → 1 ≤ n → n ≤ TURN_EVENTS → (grain_at p g).active ≡ true → (grain_at p g).running ≡ None → (grain_at p g).mailbox ≡ d ∷ deliveries → sub_at p d.sub ≡ found
     → Fits t p → Kept t (op.Begin g max_events) (begin_for p g n (grain_at p g) d deliveries found)
 unfolding begin_for
 kept-begin_for t p g max_events n d deliveries None some bound active idle mailbox is_found fits = (fits, tt)
@@ -174,7 +175,7 @@ kept-begin_for t p g max_events n d deliveries (Some r) some bound active idle m
     (λ _. kept-turn t p g max_events n d deliveries r front some bound (ltb-false d.position (past r.handled) next) fits))
 
 kept-begin_front : (t : Summary) (p : PlainPartition) (g : GrainId) (max_events n : ℕ) (mailbox : List Delivery)
-    → 1 ≤ n → n ≤ 16 → (grain_at p g).active ≡ true → (grain_at p g).running ≡ None → (grain_at p g).mailbox ≡ mailbox
+    → 1 ≤ n → n ≤ TURN_EVENTS → (grain_at p g).active ≡ true → (grain_at p g).running ≡ None → (grain_at p g).mailbox ≡ mailbox
     → Fits t p → Kept t (op.Begin g max_events) (begin_front p g n (grain_at p g) mailbox)
 unfolding begin_front
 kept-begin_front t p g max_events n [] some bound active idle is_mailbox fits = (fits, tt)
@@ -184,7 +185,7 @@ kept-begin_front t p g max_events n (d ∷ deliveries) some bound active idle is
 pub kept-begin : (t : Summary) (p : PlainPartition) (g : GrainId) (max_events : ℕ) → Fits t p → Kept t (op.Begin g max_events) (begin p g max_events)
 unfolding begin begin_in
 kept-begin t p g max_events fits =
-    let size : (1 ≤ turn_size max_events) × (turn_size max_events ≤ 16) = (omega arith, omega arith) in
+    let size : (1 ≤ turn_size max_events) × (turn_size max_events ≤ TURN_EVENTS) = (omega arith, omega arith) in
     cond_both (is_some (grain_at p g).running) _ _ (Kept t (op.Begin g max_events)) (λ _. (fits, tt))
     (λ idle. cond_both (not (grain_at p g).active) _ _ (Kept t (op.Begin g max_events)) (λ _. (fits, tt))
     (λ active. kept-begin_front t p g max_events (turn_size max_events) (grain_at p g).mailbox size.0 size.1

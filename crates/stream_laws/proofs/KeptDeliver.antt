@@ -2,6 +2,7 @@
 use Rattle.std.proofs.Common.{◌≡◌, ◌∙◌, ap, sym, subst, refl, ℕ, suc, ◌≤◌, max, nat_lt, nat_le, true, false, ◌&&◌, ◌||◌, not, [], ◌∷◌, ◌++◌, length, get_or, Option, Some, None, if◌then◌else◌, append_assoc, arith}
 use Rattle.std.proofs.lemmas.Bool.{cond_both, not-false, or_parts, true≢false}
 use Rattle.stream_ident.specs.declared.ident.SubName.{SubName}
+use Rattle.stream_ident.specs.declared.limits.TheConstants.{MAILBOX_PLACES}
 use Rattle.stream_model.specs.declared.op.Op.TheVariants as op
 use Rattle.stream_model.specs.declared.plain.PlainPartition.{PlainPartition}
 use Rattle.stream_model.specs.declared.plain.Subscription.{Subscription}
@@ -103,7 +104,7 @@ kept-deliver_position t p generation s r (Some position) found is_open is_next f
     let next = next_found r.stream r.start p.log r.cursor p.high position fits.log.high_end is_next in
     let rises = if st.active then p.rises else suc p.rises in
     let r' : Subscription = record r { cursor = suc position } in
-    cond_both (nat_le 16 (length st.mailbox)) _ _ (Kept t (op.Deliver generation s)) (λ _. (fits, tt))
+    cond_both (nat_le MAILBOX_PLACES (length st.mailbox)) _ _ (Kept t (op.Deliver generation s)) (λ _. (fits, tt))
     (λ _. cond_both (not st.active && is_spent p) _ _ (Kept t (op.Deliver generation s)) (λ _. (fits, tt))
     (λ _. (
       Fits-both t t p s r r' r.grain (woken st s position) rises p.turns found refl refl refl (omega arith) (IsToldOf-refl t s)

@@ -11,6 +11,7 @@ use Rattle.stream_model.specs.declared.plain.PlainPartition.{PlainPartition}
 use Rattle.stream_model.specs.declared.plain.RunningTurn.{RunningTurn}
 use Rattle.stream_model.specs.declared.reply.Reply.TheVariants as reply
 use Rattle.stream_ident.specs.Event.{events_of}
+use Rattle.stream_ident.specs.declared.limits.TheConstants.{BATCH_EVENTS}
 use Rattle.stream_model.specs.Positions.{grain_at}
 use Rattle.stream_model.specs.Publishing.{publish}
 use Rattle.stream_laws.proofs.BatchTokens.{IsRising-grown, token_at-grown}
@@ -126,6 +127,6 @@ module _ (t : Summary) (p : PlainPartition) (stream : StreamId) (payloads : List
 pub kept-publish : (t : Summary) (p : PlainPartition) (stream : StreamId) (payloads : List (List ℕ)) → Fits t p → Kept t (op.Publish stream payloads) (publish p stream payloads)
 unfolding publish
 kept-publish t p stream payloads fits =
-    cond_both ((length payloads == 0) || nat_lt 64 (length payloads)) _ _ (Kept t (op.Publish stream payloads)) (λ _. (fits, tt))
+    cond_both ((length payloads == 0) || nat_lt BATCH_EVENTS (length payloads)) _ _ (Kept t (op.Publish stream payloads)) (λ _. (fits, tt))
     (λ good. cond_both (nat_lt p.limits.events (length p.log + length payloads)) _ _ (Kept t (op.Publish stream payloads)) (λ _. (fits, tt))
     (λ _. (fits-published t p stream payloads (let some = eqb-false (length payloads) 0 (or_parts _ _ good).0 in omega (arith, some)) fits, tt)))

@@ -16,6 +16,7 @@ use Rattle.stream_model.specs.Positions.{between, new_subscription, no_event, su
 use Rattle.stream_model.specs.Pulling.{all_implied, drops, implied, is_stale, pull, pull_count, pull_events, pull_want, room, subs_with}
 use Rattle.stream_ident.specs.Blocks.{pull_size}
 use Rattle.stream_ident.specs.Words.{or_else, value_at}
+use Rattle.stream_ident.specs.declared.limits.TheConstants.{BLOCK_EVENTS}
 use Rattle.stream_laws.proofs.EachChanged.{served-low}
 use Rattle.stream_laws.proofs.EventLemmas.{mark-at}
 use Rattle.stream_laws.proofs.ImpliedRecords.{All-made, IsMade, fold-added-at, found-of-all, none-made-at}
@@ -172,7 +173,7 @@ kept-pull_events t p generation max_events low high ends fits =
     (λ _. (fits-pulled t p generation max_events (high - p.high) low high ends fits, tt))
 
 -- the blocks that go are free, and the events are in the queue
-ends-of : (t : Summary) (p : PlainPartition) (want : ℕ) → want ≤ length p.log - p.high → Fits t p → AreEnds p (p.low + 64 * drops p want) (p.high + min want (room p + 64 * drops p want))
+ends-of : (t : Summary) (p : PlainPartition) (want : ℕ) → want ≤ length p.log - p.high → Fits t p → AreEnds p (p.low + BLOCK_EVENTS * drops p want) (p.high + min want (room p + BLOCK_EVENTS * drops p want))
 ends-of t p want queued fits =
     let end = fits.log.high_end in
     record {
@@ -184,8 +185,8 @@ ends-of t p want queued fits =
 kept-pull_want : (t : Summary) (p : PlainPartition) (generation max_events want : ℕ) → want ≤ length p.log - p.high → Fits t p → Kept t (op.Pull generation max_events) (pull_want p want)
 unfolding pull_want pull_count
 kept-pull_want t p generation max_events want queued fits =
-    cond_both (min want (room p + 64 * drops p want) == 0) _ _ (Kept t (op.Pull generation max_events)) (λ _. (fits, tt))
-    (λ _. kept-pull_events t p generation max_events (p.low + 64 * drops p want) (p.high + min want (room p + 64 * drops p want)) (ends-of t p want queued fits) fits)
+    cond_both (min want (room p + BLOCK_EVENTS * drops p want) == 0) _ _ (Kept t (op.Pull generation max_events)) (λ _. (fits, tt))
+    (λ _. kept-pull_events t p generation max_events (p.low + BLOCK_EVENTS * drops p want) (p.high + min want (room p + BLOCK_EVENTS * drops p want)) (ends-of t p want queued fits) fits)
 
 pub kept-pull : (t : Summary) (p : PlainPartition) (generation max_events : ℕ) → Fits t p → Kept t (op.Pull generation max_events) (pull p generation max_events)
 unfolding pull

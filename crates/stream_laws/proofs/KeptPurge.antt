@@ -1,6 +1,7 @@
 -- A purge keeps what holds: low moves up to at most high and each open resume.
 use Rattle.std.proofs.Common.{ℕ, ◌+◌, ◌*◌, refl, arith}
 use Rattle.std.proofs.lemmas.Bool.{cond_both}
+use Rattle.stream_ident.specs.declared.limits.TheConstants.{BLOCK_EVENTS}
 use Rattle.stream_model.specs.declared.op.Op.TheVariants.{Purge}
 use Rattle.stream_model.specs.declared.plain.PlainPartition.{PlainPartition}
 use Rattle.stream_model.specs.Positions.{token_at}
@@ -60,4 +61,4 @@ pub kept-purge : (t : Summary) (p : PlainPartition) (generation keep : ℕ) → 
 unfolding purge
 kept-purge t p generation keep fits =
     cond_both (is_stale p generation) _ _ (Kept t (Purge generation keep)) (λ stale. (fits, tt))
-    (λ current. kept-purge_to t p generation keep (p.low + 64 * purges p keep) fits (passed-free t p (purges p keep) fits (omega arith)))
+    (λ current. kept-purge_to t p generation keep (p.low + BLOCK_EVENTS * purges p keep) fits (passed-free t p (purges p keep) fits (omega arith)))

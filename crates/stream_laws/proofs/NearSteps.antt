@@ -17,6 +17,7 @@ use Rattle.stream_ident.specs.SubName.{same_sub}
 use Rattle.stream_ident.specs.Token.{token_lt}
 use Rattle.stream_ident.specs.Blocks.{turn_size}
 use Rattle.stream_ident.specs.Words.{each_value, value_at, with_value}
+use Rattle.stream_ident.specs.declared.limits.TheConstants.{BATCH_EVENTS, BLOCK_EVENTS, MAILBOX_PLACES}
 use Rattle.stream_model.specs.declared.limits.Limits.{Limits}
 use Rattle.stream_model.specs.declared.op.Op.{Op}
 use Rattle.stream_model.specs.declared.op.Op.TheVariants as op
@@ -101,7 +102,7 @@ near-fold high subs (entry ∷ entries) near more = near-fold high (added subs e
 near-publish : (p : PlainPartition) (stream : StreamId) (payloads : List (List ℕ)) → AllNear p → Stays (publish p stream payloads)
 unfolding publish
 near-publish p stream payloads near =
-    cond_both ((length payloads == 0) || nat_lt 64 (length payloads)) _ _ Stays (λ _. near)
+    cond_both ((length payloads == 0) || nat_lt BATCH_EVENTS (length payloads)) _ _ Stays (λ _. near)
     (λ _. cond_both (nat_lt p.limits.events (length p.log + length payloads)) _ _ Stays (λ _. near) (λ _. near))
 
 near-subscribe_at : (p : PlainPartition) (stream : StreamId) (grain : GrainId) (start : Token) (position : ℕ) → AllNear p → Stays (subscribe_at p stream grain start position)
@@ -148,7 +149,7 @@ unfolding pull_count
 near-pull_count p blocks count near =
     let events = between p.log p.high (p.high + count) in
     cond_both (count == 0) _ _ Stays (λ _. near)
-    (λ _. near-pull_events p (p.low + 64 * blocks) (p.high + count) (subs_with p.rules p.high p.subs events) near
+    (λ _. near-pull_events p (p.low + BLOCK_EVENTS * blocks) (p.high + count) (subs_with p.rules p.high p.subs events) near
     (near-fold (p.high + count) p.subs (all_implied p.rules p.high events) (near-higher p.high (p.high + count) p.subs (omega arith) near) (near-all_implied (p.high + count) p.high p.rules events)))
 
 near-pull_want : (p : PlainPartition) (want : ℕ) → AllNear p → Stays (pull_want p want)
@@ -172,7 +173,7 @@ unfolding deliver_position
 near-deliver_position p s r st None found is_next near = near-with_sub p s (caught_up p s r) (near-caught_up p s r (near-found p.high s r p.subs near found)) near
 near-deliver_position p s r st (Some position) found is_next near =
     let bounds = next-bounds p r position is_next in
-    cond_both (nat_le 16 (length st.mailbox)) _ _ Stays (λ _. near)
+    cond_both (nat_le MAILBOX_PLACES (length st.mailbox)) _ _ Stays (λ _. near)
     (λ _. cond_both (not st.active && is_spent p) _ _ Stays (λ _. near)
     (λ _. near-with_value p.high s (record r { cursor = suc position }) p.subs (λ is_open. omega (arith, bounds.1)) near))
 

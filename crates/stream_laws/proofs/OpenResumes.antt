@@ -8,6 +8,7 @@ use Rattle.stream_model.specs.declared.plain.Subscription.{Subscription}
 use Rattle.stream_model.specs.Positions.{least_or, open_resumes, slowest, sub_at, resumes_of}
 use Rattle.stream_model.specs.Pulling.{free_blocks}
 use Rattle.stream_ident.specs.Words.{least_with, value_at}
+use Rattle.stream_ident.specs.declared.limits.TheConstants.{BLOCK_EVENTS}
 
 -- the least isn't more than the number that it is compared with
 pub least_with-first : (n : ℕ) (xs : List ℕ) → least_with n xs ≤ n
@@ -62,8 +63,8 @@ pub least-resume-le : (p : PlainPartition) (s : SubName) (r : Subscription) → 
 least-resume-le p s r found is_open = resume-among s r p.subs found is_open p.high
 
 -- without free blocks low stays, and else it moves up to at most the end and the slowest resume
-pub low-moved-le : (p : PlainPartition) (blocks bound : ℕ) → blocks ≤ free_blocks p → p.low ≤ bound → min p.high (slowest p) ≤ bound → p.low + 64 * blocks ≤ bound
+pub low-moved-le : (p : PlainPartition) (blocks bound : ℕ) → blocks ≤ free_blocks p → p.low ≤ bound → min p.high (slowest p) ≤ bound → p.low + BLOCK_EVENTS * blocks ≤ bound
 low-moved-le p blocks bound free low least = below p.low (min p.high (slowest p)) free low least
   where
-    below : (from to : ℕ) → blocks ≤ (to - from) / 64 → from ≤ bound → to ≤ bound → from + 64 * blocks ≤ bound
+    below : (from to : ℕ) → blocks ≤ (to - from) / BLOCK_EVENTS → from ≤ bound → to ≤ bound → from + BLOCK_EVENTS * blocks ≤ bound
     below from to few at_least at_most = omega arith

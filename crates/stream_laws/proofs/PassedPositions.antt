@@ -6,6 +6,7 @@ use Rattle.stream_model.specs.declared.plain.Subscription.{Subscription}
 use Rattle.stream_model.specs.Positions.{open_resumes, sub_at}
 use Rattle.stream_model.specs.Pulling.{free_blocks}
 use Rattle.stream_ident.specs.Words.{least_with}
+use Rattle.stream_ident.specs.declared.limits.TheConstants.{BLOCK_EVENTS}
 use Rattle.stream_laws.proofs.Invariant.{Fits}
 use Rattle.stream_laws.proofs.OpenResumes.{least-resume-le, least_with-first, low-moved-le, slowest-le}
 use Rattle.stream_laws.proofs.Summary.{Summary}
@@ -16,7 +17,7 @@ pub record IsPassed (p : PlainPartition) (low : ℕ) : Type 0 where
   pub resumes : (s : SubName) (r : Subscription) → sub_at p s ≡ Some r → r.is_open ≡ true → low ≤ r.resume
 
 -- the position after blocks that are free
-pub passed-free : (t : Summary) (p : PlainPartition) (blocks : ℕ) → Fits t p → blocks ≤ free_blocks p → IsPassed p (p.low + 64 * blocks)
+pub passed-free : (t : Summary) (p : PlainPartition) (blocks : ℕ) → Fits t p → blocks ≤ free_blocks p → IsPassed p (p.low + BLOCK_EVENTS * blocks)
 passed-free t p blocks fits free =
     record {
       high = low-moved-le p blocks p.high free fits.log.low_high (omega arith);

@@ -13,6 +13,7 @@ use Rattle.stream_ident.specs.Event.{batch_token}
 use Rattle.stream_ident.specs.Name.{same_grain, same_name}
 use Rattle.stream_ident.specs.Token.{token_lt}
 use Rattle.stream_ident.specs.Words.{changed_value, past, value_at, with_value}
+use Rattle.stream_ident.specs.declared.limits.TheConstants.{BATCH_EVENTS, MAILBOX_PLACES}
 use Rattle.stream_ident.proofs.SameValues.{grain_equality, same_grain-equal}
 use Rattle.stream_model.specs.declared.op.Op.{Op}
 use Rattle.stream_model.specs.declared.op.Op.TheVariants as op
@@ -70,7 +71,7 @@ module _ (g : GrainId) (turn : ℕ) where
   stays-publish : (p : PlainPartition) (stream : StreamId) (payloads : List (List ℕ)) → Runs p → Stays (publish p stream payloads)
   unfolding publish
   stays-publish p stream payloads runs =
-      cond_both ((length payloads == 0) || nat_lt 64 (length payloads)) _ _ Stays (λ _. runs)
+      cond_both ((length payloads == 0) || nat_lt BATCH_EVENTS (length payloads)) _ _ Stays (λ _. runs)
       (λ _. cond_both (nat_lt p.limits.events (length p.log + length payloads)) _ _ Stays (λ _. runs) (λ _. runs))
 
   stays-subscribe_at : (p : PlainPartition) (stream : StreamId) (grain : GrainId) (start : Token) (position : ℕ) → Runs p → Stays (subscribe_at p stream grain start position)
@@ -138,7 +139,7 @@ module _ (g : GrainId) (turn : ℕ) where
   stays-deliver_position p s r None runs = runs
   stays-deliver_position p s r (Some position) runs =
       let st = grain_at p r.grain in
-      cond_both (nat_le 16 (length st.mailbox)) _ _ Stays (λ _. runs)
+      cond_both (nat_le MAILBOX_PLACES (length st.mailbox)) _ _ Stays (λ _. runs)
       (λ _. cond_both (not st.active && is_spent p) _ _ Stays (λ _. runs)
       (λ _. runs-set p.grains r.grain (woken st s position) (runs-same p r.grain runs) runs))
 

@@ -3,6 +3,7 @@ use Rattle.std.proofs.Common.{◌≡◌, ℕ, Bool, false, List, ◌∷◌, leng
 use Rattle.stream_ident.specs.declared.event.Event.{Event}
 use Rattle.stream_ident.specs.declared.ident.SubName.{SubName}
 use Rattle.stream_ident.specs.declared.token.Token.{Token}
+use Rattle.stream_ident.specs.declared.limits.TheConstants.{TURN_EVENTS}
 use Rattle.stream_model.specs.declared.op.Op.{Op}
 use Rattle.stream_model.specs.declared.op.Op.TheVariants.{Commit}
 use Rattle.stream_model.specs.Replies.{Reply}
@@ -64,7 +65,7 @@ owed t s = owed_of t.events (t.binding s)
 -- committed was begun once and is open
 abbrev pub Promise : Summary → Op → Reply → Type 0
 Promise t op (Turn s activation turn events note) =
-    (1 ≤ length events) × (length events ≤ 16)
+    (1 ≤ length events) × (length events ≤ TURN_EVENTS)
     × (events ≡ take (length events) (drop (length (t.handled s)) (owed t s)))
     × (note ≡ t.note s) × (t.begun turn ≡ 0)
 Promise t (Commit grain activation turn note) (Committed s token) = (t.begun turn ≡ 1) × (t.committed turn ≡ 0) × (t.closed s ≡ false)

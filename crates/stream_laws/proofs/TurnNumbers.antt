@@ -16,6 +16,7 @@ use Rattle.stream_model.specs.Pulling.{ack, ack_of, ack_position, deliver, deliv
 use Rattle.stream_ident.specs.Blocks.{pull_size, turn_size}
 use Rattle.stream_model.specs.Turns.{begin, begin_for, begin_front, begin_in, begin_turn, commit, commit_for, commit_running}
 use Rattle.stream_ident.specs.Words.{past}
+use Rattle.stream_ident.specs.declared.limits.TheConstants.{BLOCK_EVENTS, MAILBOX_PLACES}
 
 -- how many turns a reply hands out
 abbrev pub handed_out : Reply → ℕ
@@ -69,7 +70,7 @@ stays-deliver_position : (p : PlainPartition) (s : SubName) (r : Subscription) (
 unfolding deliver_position
 stays-deliver_position p s r st None = refl
 stays-deliver_position p s r st (Some position) =
-    cond_both (nat_le 16 (length st.mailbox)) _ _ (Stays p) (λ _. refl)
+    cond_both (nat_le MAILBOX_PLACES (length st.mailbox)) _ _ (Stays p) (λ _. refl)
     (λ _. cond_both (not st.active && is_spent p) _ _ (Stays p) (λ _. refl) (λ _. refl))
 
 stays-deliver_to : (p : PlainPartition) (s : SubName) (found : Option Subscription) → Stays p (deliver_to p s found)
@@ -89,9 +90,9 @@ stays-pull_events p low high subs = cond_both (nat_lt p.limits.subs (length subs
 stays-pull_want : (p : PlainPartition) (want : ℕ) → Stays p (pull_want p want)
 unfolding pull_want pull_count
 stays-pull_want p want =
-    let count = min want (room p + 64 * drops p want) in
+    let count = min want (room p + BLOCK_EVENTS * drops p want) in
     cond_both (count == 0) _ _ (Stays p) (λ _. refl)
-    (λ _. stays-pull_events p (p.low + 64 * drops p want) (p.high + count) (subs_with p.rules p.high p.subs (between p.log p.high (p.high + count))))
+    (λ _. stays-pull_events p (p.low + BLOCK_EVENTS * drops p want) (p.high + count) (subs_with p.rules p.high p.subs (between p.log p.high (p.high + count))))
 
 pub stays-pull : (p : PlainPartition) (generation max_events : ℕ) → Stays p (pull p generation max_events)
 unfolding pull

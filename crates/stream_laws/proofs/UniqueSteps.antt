@@ -32,6 +32,7 @@ use Rattle.stream_model.specs.Turns.{begin, begin_for, begin_front, begin_in, be
 use Rattle.stream_ident.specs.Blocks.{turn_size}
 use Rattle.stream_ident.specs.Words.{past, value_at, with_value}
 use Rattle.stream_ident.specs.Implying.{added}
+use Rattle.stream_ident.specs.declared.limits.TheConstants.{BATCH_EVENTS, BLOCK_EVENTS, MAILBOX_PLACES}
 use Rattle.stream_model.specs.Pulling.{ack, ack_of, ack_position, acknowledged, all_implied, drops, purges, room, caught_up, deliver, deliver_position, deliver_to, handled_at, is_stale, move, move_to, pull, pull_count, pull_events, pull_want, purge, purge_to, retry, retry_of, rewound, rewound_where, subs_with, woken}
 use Rattle.stream_laws.proofs.Unique.{AreUnique, unique-changed_value, unique-each_value, unique-push, unique-with_value}
 use Rattle.stream_ident.proofs.SameValues.{grain_equality, sub_equality}
@@ -41,7 +42,7 @@ pub record IsSteady (n : ℕ × Limits) (p : PlainPartition) : Type 0 where
   pub grains : AreUnique same_grain p.grains
   pub blocks : p.blocks ≡ n.0
   pub limits : p.limits ≡ n.1
-  pub size : p.high ≤ p.low + 64 * p.blocks
+  pub size : p.high ≤ p.low + BLOCK_EVENTS * p.blocks
 
 abbrev Stays : ℕ × Limits → PlainPartition × Reply → Type 0
 Stays n out = IsSteady n out.0
@@ -49,7 +50,7 @@ Stays n out = IsSteady n out.0
 steady-publish : (n : ℕ × Limits) (p : PlainPartition) (stream : StreamId) (payloads : List (List ℕ)) → IsSteady n p → IsSteady n (publish p stream payloads).0
 unfolding publish
 steady-publish n p stream payloads steady =
-    cond_both ((length payloads == 0) || nat_lt 64 (length payloads)) _ _ (Stays n) (λ _. steady)
+    cond_both ((length payloads == 0) || nat_lt BATCH_EVENTS (length payloads)) _ _ (Stays n) (λ _. steady)
     (λ _. cond_both (nat_lt p.limits.events (length p.log + length payloads)) _ _ (Stays n) (λ _. steady)
     (λ _. record { subs = steady.subs; grains = steady.grains; blocks = steady.blocks; limits = steady.limits; size = steady.size }))
 
@@ -107,29 +108,29 @@ unique-fold subs [] unique = unique
 unique-fold subs (entry ∷ entries) unique = unique-fold (added subs entry) entries (unique-added subs entry unique)
 
 -- what a pull adds fits in what it drops and the room that there was
-pulled-size : (low high most blocks count : ℕ) → high ≤ low + 64 * most → count ≤ 64 * most - (high - low) + 64 * blocks → high + count ≤ low + 64 * blocks + 64 * most
+pulled-size : (low high most blocks count : ℕ) → high ≤ low + BLOCK_EVENTS * most → count ≤ BLOCK_EVENTS * most - (high - low) + BLOCK_EVENTS * blocks → high + count ≤ low + BLOCK_EVENTS * blocks + BLOCK_EVENTS * most
 pulled-size low high most blocks count within room = omega arith
 
 min-most : (a b : ℕ) → min a b ≤ b
 min-most a b = omega arith
 
-steady-pull_events : (n : ℕ × Limits) (p : PlainPartition) (low high : ℕ) (subs : List (SubName × Subscription)) → IsSteady n p → AreUnique same_sub subs → high ≤ low + 64 * p.blocks → IsSteady n (pull_events p low high subs).0
+steady-pull_events : (n : ℕ × Limits) (p : PlainPartition) (low high : ℕ) (subs : List (SubName × Subscription)) → IsSteady n p → AreUnique same_sub subs → high ≤ low + BLOCK_EVENTS * p.blocks → IsSteady n (pull_events p low high subs).0
 unfolding pull_events
 steady-pull_events n p low high subs steady unique size =
     cond_both (nat_lt p.limits.subs (length subs)) _ _ (Stays n) (λ _. steady)
     (λ _. record { subs = unique; grains = steady.grains; blocks = steady.blocks; limits = steady.limits; size = size })
 
-steady-pull_count : (n : ℕ × Limits) (p : PlainPartition) (blocks count : ℕ) → IsSteady n p → count ≤ room p + 64 * blocks → IsSteady n (pull_count p blocks count).0
+steady-pull_count : (n : ℕ × Limits) (p : PlainPartition) (blocks count : ℕ) → IsSteady n p → count ≤ room p + BLOCK_EVENTS * blocks → IsSteady n (pull_count p blocks count).0
 unfolding pull_count
 steady-pull_count n p blocks count steady within =
     cond_both (count == 0) _ _ (Stays n) (λ _. steady)
-    (λ _. steady-pull_events n p (p.low + 64 * blocks) (p.high + count) (subs_with p.rules p.high p.subs (between p.log p.high (p.high + count))) steady
+    (λ _. steady-pull_events n p (p.low + BLOCK_EVENTS * blocks) (p.high + count) (subs_with p.rules p.high p.subs (between p.log p.high (p.high + count))) steady
     (unique-fold p.subs (all_implied p.rules p.high (between p.log p.high (p.high + count))) steady.subs)
     (pulled-size p.low p.high p.blocks blocks count steady.size within))
 
 steady-pull_want : (n : ℕ × Limits) (p : PlainPartition) (want : ℕ) → IsSteady n p → IsSteady n (pull_want p want).0
 unfolding pull_want
-steady-pull_want n p want steady = steady-pull_count n p _ _ steady (min-most want (room p + 64 * drops p want))
+steady-pull_want n p want steady = steady-pull_count n p _ _ steady (min-most want (room p + BLOCK_EVENTS * drops p want))
 
 steady-pull : (n : ℕ × Limits) (p : PlainPartition) (generation max_events : ℕ) → IsSteady n p → IsSteady n (pull p generation max_events).0
 unfolding pull
@@ -141,7 +142,7 @@ steady-deliver_position : (n : ℕ × Limits) (p : PlainPartition) (s : SubName)
 unfolding deliver_position
 steady-deliver_position n p s r st None steady = steady-with_sub n p s (caught_up p s r) steady
 steady-deliver_position n p s r st (Some position) steady =
-    cond_both (nat_le 16 (length st.mailbox)) _ _ (Stays n) (λ _. steady)
+    cond_both (nat_le MAILBOX_PLACES (length st.mailbox)) _ _ (Stays n) (λ _. steady)
     (λ _. cond_both (not st.active && is_spent p) _ _ (Stays n) (λ _. steady)
     (λ _. record {
       subs = unique-with_value same_sub sub_equality s (record r { cursor = suc position }) p.subs steady.subs;
@@ -192,7 +193,7 @@ purged-size low high most dropped within = omega arith
 steady-purge : (n : ℕ × Limits) (p : PlainPartition) (generation keep : ℕ) → IsSteady n p → IsSteady n (purge p generation keep).0
 unfolding purge purge_to
 steady-purge n p generation keep steady =
-    cond_both (is_stale p generation) _ _ (Stays n) (λ _. steady) (λ _. record { subs = steady.subs; grains = steady.grains; blocks = steady.blocks; limits = steady.limits; size = purged-size p.low p.high (64 * p.blocks) (64 * purges p keep) steady.size })
+    cond_both (is_stale p generation) _ _ (Stays n) (λ _. steady) (λ _. record { subs = steady.subs; grains = steady.grains; blocks = steady.blocks; limits = steady.limits; size = purged-size p.low p.high (BLOCK_EVENTS * p.blocks) (BLOCK_EVENTS * purges p keep) steady.size })
 
 steady-move : (n : ℕ × Limits) (p : PlainPartition) (silo : ℕ) → IsSteady n p → IsSteady n (move p silo).0
 unfolding move move_to

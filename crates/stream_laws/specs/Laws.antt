@@ -27,6 +27,7 @@ use Rattle.stream_model.specs.Positions.{events_at, grain_at, slowest, sub_at}
 use Rattle.stream_model.specs.Pulling.{drops, purges, room}
 use Rattle.stream_model.specs.Step.{Leads, Stands, after_steps, replies_of, step}
 use Rattle.stream_ident.specs.Words.{IsPrefixOf}
+use Rattle.stream_ident.specs.declared.limits.TheConstants.{BLOCK_EVENTS, MOST_BLOCKS, TURN_EVENTS}
 
 -- P holds of each legal history and of the partition that it leaves
 abbrev pub Always : (List Entry → PlainPartition → Type 0) → Type 0
@@ -78,7 +79,7 @@ CommittedOnce = Always (λ history p. (turn : ℕ) → (times_begun history turn
 -- 1 to 16 events, which are those that the subscription is owed next, with the note of its last commit
 abbrev pub IsNextTurn : List Entry → SubName → List Event → ℕ → Type 0
 IsNextTurn before s events note =
-    (1 ≤ length events) × (length events ≤ 16)
+    (1 ≤ length events) × (length events ≤ TURN_EVENTS)
     × (events ≡ take (length events) (drop (length (handled_events before s)) (owed_events before s)))
     × (note ≡ last_note before s)
 
@@ -126,7 +127,7 @@ TurnsAreLongest =
     (p : PlainPartition) (grain : GrainId) (max_events : ℕ) (s : SubName) (activation turn note : ℕ) (events : List Event)
     → (step p (Begin grain max_events)).1 ≡ Turn s activation turn events note
     → (events ≡ events_at p.log (map (λ d. d.position) (take (length events) (grain_at p grain).mailbox)))
-    × IsGreatest (IsTurnFront (grain_at p grain).mailbox (min 16 (max 1 max_events)) s) (length events)
+    × IsGreatest (IsTurnFront (grain_at p grain).mailbox (min TURN_EVENTS (max 1 max_events)) s) (length events)
 
 -- The log is what was published.
 abbrev pub LogIsPublished : Type 0
@@ -198,12 +199,12 @@ LatestIsNeverMissed =
 abbrev pub CacheInBounds : Type 0
 CacheInBounds =
     (blocks : ℕ) (limits : Limits) (history : List Entry) (p : PlainPartition) → Stands blocks limits history p
-    → (p.low ≤ p.high) × (p.high ≤ length (published_events history)) × (p.high - p.low ≤ 64 * blocks)
+    → (p.low ≤ p.high) × (p.high ≤ length (published_events history)) × (p.high - p.low ≤ BLOCK_EVENTS * blocks)
 
 -- A partition keeps the limits that it began with, and its lists and numbers never pass them.
 abbrev pub LimitsAreKept : Type 0
 LimitsAreKept =
-    (blocks : ℕ) (limits : Limits) (history : List Entry) (p : PlainPartition) → blocks ≤ 64 → AreLimits limits
+    (blocks : ℕ) (limits : Limits) (history : List Entry) (p : PlainPartition) → blocks ≤ MOST_BLOCKS → AreLimits limits
     → Stands blocks limits history p → (p.limits ≡ limits) × IsWithinLimits p
 
 -- What an open subscription is owed and hasn't handled isn't below the low token.
@@ -231,16 +232,16 @@ IsLeast P n = P n × ((m : ℕ) → P m → n ≤ m)
 
 -- the block that begins after so many ends past high or past the slowest resume
 abbrev pub IsKept : PlainPartition → ℕ → Type 0
-IsKept p blocks = min p.high (slowest p) < p.low + 64 * blocks + 64
+IsKept p blocks = min p.high (slowest p) < p.low + BLOCK_EVENTS * blocks + BLOCK_EVENTS
 
 -- A pull drops the least number of blocks such that there is room, or the next one has to be kept.
 abbrev pub DropsAreLeast : Type 0
 DropsAreLeast =
-    (p : PlainPartition) (want : ℕ) → IsLeast (λ blocks. (want ≤ room p + 64 * blocks) ⊎ IsKept p blocks) (drops p want)
+    (p : PlainPartition) (want : ℕ) → IsLeast (λ blocks. (want ≤ room p + BLOCK_EVENTS * blocks) ⊎ IsKept p blocks) (drops p want)
 
 -- so many blocks and parts of a block are in the cache after so many were dropped
 abbrev pub blocks_after : PlainPartition → ℕ → ℕ
-blocks_after p blocks = (p.high - (p.low + 64 * blocks) + 63) / 64
+blocks_after p blocks = (p.high - (p.low + BLOCK_EVENTS * blocks) + (BLOCK_EVENTS - 1)) / BLOCK_EVENTS
 
 -- A purge drops the least number of blocks such that no more than those to keep are left, or the next
 -- one has to be kept.

@@ -8,6 +8,7 @@ use Rattle.stream_model.specs.declared.plain.PlainPartition.{PlainPartition}
 use Rattle.stream_model.specs.declared.plain.Subscription.{Subscription}
 use Rattle.stream_model.specs.Bounds.{IsWithinLimits}
 use Rattle.stream_ident.specs.Event.{is_owed}
+use Rattle.stream_ident.specs.declared.limits.TheConstants.{MAILBOX_PLACES}
 use Rattle.stream_model.specs.Positions.{grain_at, is_spent, next_position, sub_at, with_grain, with_sub}
 use Rattle.stream_model.specs.Pulling.{caught_up, deliver, deliver_position, deliver_to, delivered, is_stale}
 use Rattle.stream_ident.proofs.EachOf.{All-append}
@@ -47,7 +48,7 @@ bounds-deliver_position : (p : PlainPartition) (s : SubName) (r : Subscription) 
 unfolding deliver_position
 bounds-deliver_position p s r st None within there fits is_next = sub-set p s r (caught_up p s r) within there (handled-in p s r within there)
 bounds-deliver_position p s r st (Some position) within there fits is_next =
-    cond_both (nat_le 16 (length st.mailbox)) _ _ KeepsLimits (λ _. within)
+    cond_both (nat_le MAILBOX_PLACES (length st.mailbox)) _ _ KeepsLimits (λ _. within)
     (λ _. cond_both (not st.active && is_spent p) _ _ KeepsLimits (λ _. within)
     (λ left. bounds-delivered p s r st position within there fits (found-in-log (λ event. is_owed r.stream r.start event) p.log r.cursor p.high position is_next) left))
 

@@ -19,6 +19,7 @@ use Rattle.stream_ident.specs.Event.{batch_token, events_of}
 use Rattle.stream_model.specs.Positions.{low_token, lower_bound, new_subscription, with_sub}
 use Rattle.stream_model.specs.Publishing.{publish, subscribe, subscribe_at}
 use Rattle.stream_ident.specs.Words.{with_value}
+use Rattle.stream_ident.specs.declared.limits.TheConstants.{BATCH_EVENTS}
 use Rattle.stream_model.specs.declared.plain.Delivery.{Delivery}
 use Rattle.stream_model.specs.declared.plain.Grain.{Grain}
 use Rattle.stream_ident.proofs.EachOf.{All-append, All-weaken}
@@ -28,7 +29,7 @@ use Rattle.stream_model.proofs.SubNames.{AreGiven, AreGiven-more, AreGiven-push,
 use Rattle.stream_model.proofs.RecordBounds.{KeepsLimits}
 
 -- a batch of one payload at least
-some-payload : (n : ℕ) → ((n == 0) || nat_lt 64 n) ≡ false → 0 < n
+some-payload : (n : ℕ) → ((n == 0) || nat_lt BATCH_EVENTS n) ≡ false → 0 < n
 some-payload n good = let some = eqb-false n 0 (or_parts _ _ good).0 in omega (arith, some)
 
 bounds-published : (p : PlainPartition) (stream : StreamId) (payloads : List (List ℕ)) → IsWithinLimits p → is_bad payloads ≡ false → nat_lt p.limits.events (length p.log + length payloads) ≡ false → IsWithinLimits (record p { log = p.log ++ events_of stream p.batches 0 payloads; batches = suc p.batches })

@@ -16,6 +16,7 @@ use Rattle.stream_model.specs.Bounds.{IsGiven}
 use Rattle.stream_model.specs.declared.plain.PlainPartition.{PlainPartition}
 use Rattle.stream_model.specs.declared.reply.Reply.TheVariants as reply
 use Rattle.stream_ident.specs.Event.{batch_token, events_of}
+use Rattle.stream_ident.specs.declared.limits.TheConstants.{BATCH_EVENTS}
 use Rattle.stream_model.specs.Positions.{high_token, low_token, lower_bound, new_subscription}
 use Rattle.stream_model.specs.Publishing.{publish, subscribe, subscribe_at}
 use Rattle.stream_model.proofs.SubNames.{with_value-new}
@@ -23,7 +24,7 @@ use Rattle.stream_model.specs.Step.{takes_memory}
 
 -- no payload, or more than 64
 abbrev pub is_bad : List (List ℕ) → Bool
-is_bad payloads = (length payloads == 0) || nat_lt 64 (length payloads)
+is_bad payloads = (length payloads == 0) || nat_lt BATCH_EVENTS (length payloads)
 
 pub publish-bad : (p : PlainPartition) (stream : StreamId) (payloads : List (List ℕ)) → is_bad payloads ≡ true → publish p stream payloads ≡ (p, reply.BadBatch)
 unfolding publish

@@ -22,6 +22,7 @@ use Rattle.stream_model.specs.Positions.{between, new_subscription}
 use Rattle.stream_model.specs.Pulling.{all_implied, drops, implied, is_stale, pull, pull_count, pull_events, pull_want, room}
 use Rattle.stream_ident.specs.Blocks.{pull_size}
 use Rattle.stream_ident.specs.Words.{value_at}
+use Rattle.stream_ident.specs.declared.limits.TheConstants.{BLOCK_EVENTS}
 use Rattle.stream_model.proofs.PullingSteps.{subs_up_to}
 use Rattle.stream_model.proofs.SubNames.{AreGiven}
 use Rattle.stream_ident.proofs.EachOf.{All-append, All-flat_map}
@@ -84,7 +85,7 @@ bounds-pull_count p blocks count within =
     let Given : SubName × Subscription → Type 0 = λ entry. IsGiven p.explicit entry.0 in
     let Handled : SubName × Subscription → Type 0 = λ entry. AreIn p.log entry.1.handled in
     let events = between p.log p.high (p.high + count) in
-    cond_both (count == 0) _ _ KeepsLimits (λ _. within) (λ _. bounds-pull_events p (p.low + 64 * blocks) (p.high + count) (subs_up_to p (p.high + count)) within (length-fold p.subs entries)
+    cond_both (count == 0) _ _ KeepsLimits (λ _. within) (λ _. bounds-pull_events p (p.low + BLOCK_EVENTS * blocks) (p.high + count) (subs_up_to p (p.high + count)) within (length-fold p.subs entries)
     (All-fold Given p.subs entries within.names (All-all_implied Given (λ kind stream grain start position. tt) p.rules p.high events))
     (All-fold Handled p.subs entries within.handled (All-all_implied Handled (λ kind stream grain start position. tt) p.rules p.high events)))
 
@@ -93,4 +94,4 @@ unfolding pull pull_want
 bounds-pull p generation max_events within =
     cond_both (is_stale p generation) _ _ KeepsLimits (λ _. within)
     (λ _. cond_both (p.high == length p.log) _ _ KeepsLimits (λ _. within)
-    (λ _. bounds-pull_count p (drops p (min (pull_size max_events) (length p.log - p.high))) (min (min (pull_size max_events) (length p.log - p.high)) (room p + 64 * drops p (min (pull_size max_events) (length p.log - p.high)))) within))
+    (λ _. bounds-pull_count p (drops p (min (pull_size max_events) (length p.log - p.high))) (min (min (pull_size max_events) (length p.log - p.high)) (room p + BLOCK_EVENTS * drops p (min (pull_size max_events) (length p.log - p.high)))) within))

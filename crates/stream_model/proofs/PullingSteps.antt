@@ -12,6 +12,7 @@ use Rattle.stream_model.specs.declared.reply.Reply.TheVariants as reply
 use Rattle.stream_model.specs.Positions.{between, slowest_name, token_at}
 use Rattle.stream_model.specs.Pulling.{drops, is_stale, pull, pull_count, pull_events, pull_want, room, subs_with}
 use Rattle.stream_ident.specs.Blocks.{pull_size}
+use Rattle.stream_ident.specs.declared.limits.TheConstants.{BLOCK_EVENTS}
 use Rattle.stream_model.specs.Step.{takes_memory}
 
 -- the subscriptions after the events up to a position
@@ -38,17 +39,17 @@ pub events-take_memory : (p : PlainPartition) (low high : ℕ) (subs : List (Sub
 unfolding pull_events
 events-take_memory p low high subs fits = let test = le-ltb p.limits.subs (length subs) fits in rw test refl
 
-pub want-pressed : (p : PlainPartition) (want count : ℕ) (by : SubName) → count ≡ min want (room p + 64 * drops p want) → count ≡ 0 → by ≡ unwrap_or (slowest_name p) (name.Explicit 0) → (p, reply.Pressed by) ≡ pull_want p want
+pub want-pressed : (p : PlainPartition) (want count : ℕ) (by : SubName) → count ≡ min want (room p + BLOCK_EVENTS * drops p want) → count ≡ 0 → by ≡ unwrap_or (slowest_name p) (name.Explicit 0) → (p, reply.Pressed by) ≡ pull_want p want
 unfolding pull_want pull_count
 want-pressed p want count by is_count none is_by =
-    let test : (min want (room p + 64 * drops p want) == 0) ≡ true = eq-eqb _ 0 (sym is_count ∙ none) in
+    let test : (min want (room p + BLOCK_EVENTS * drops p want) == 0) ≡ true = eq-eqb _ 0 (sym is_count ∙ none) in
     rw test (ap (λ by. (p, reply.Pressed by)) is_by)
 
-pub want-events : (p : PlainPartition) (want count blocks : ℕ) → blocks ≡ drops p want → count ≡ min want (room p + 64 * drops p want) → (count ≡ 0 → ⊥) → pull_events p (p.low + 64 * blocks) (p.high + count) (subs_up_to p (p.high + count)) ≡ pull_want p want
+pub want-events : (p : PlainPartition) (want count blocks : ℕ) → blocks ≡ drops p want → count ≡ min want (room p + BLOCK_EVENTS * drops p want) → (count ≡ 0 → ⊥) → pull_events p (p.low + BLOCK_EVENTS * blocks) (p.high + count) (subs_up_to p (p.high + count)) ≡ pull_want p want
 unfolding pull_want pull_count
 want-events p want count blocks is_blocks is_count some =
-    let test : (min want (room p + 64 * drops p want) == 0) ≡ false = ne_eqb _ 0 (λ none. some (is_count ∙ none)) in
-    rw test (λ i. pull_events p (p.low + 64 * is_blocks i) (p.high + is_count i) (subs_up_to p (p.high + is_count i)))
+    let test : (min want (room p + BLOCK_EVENTS * drops p want) == 0) ≡ false = ne_eqb _ 0 (λ none. some (is_count ∙ none)) in
+    rw test (λ i. pull_events p (p.low + BLOCK_EVENTS * is_blocks i) (p.high + is_count i) (subs_up_to p (p.high + is_count i)))
 
 pub pull-dry : (p : PlainPartition) (generation max_events : ℕ) → is_stale p generation ≡ false → p.high ≡ length p.log → pull p generation max_events ≡ (p, reply.Dry)
 unfolding pull

@@ -1,6 +1,7 @@
 -- Purge keeps the limits.
 use Rattle.std.proofs.Common.{ℕ, ◌+◌, ◌*◌}
 use Rattle.std.proofs.lemmas.Bool.{cond_both}
+use Rattle.stream_ident.specs.declared.limits.TheConstants.{BLOCK_EVENTS}
 use Rattle.stream_model.specs.declared.plain.PlainPartition.{PlainPartition}
 use Rattle.stream_model.specs.Bounds.{IsWithinLimits}
 use Rattle.stream_model.specs.Pulling.{is_stale, purge, purge_to, purges}
@@ -29,4 +30,4 @@ bounds-purge_to p low within = record {
 pub bounds-purge : (p : PlainPartition) (generation keep : ℕ) → IsWithinLimits p → IsWithinLimits (purge p generation keep).0
 unfolding purge
 bounds-purge p generation keep within =
-    cond_both (is_stale p generation) _ _ KeepsLimits (λ _. within) (λ _. bounds-purge_to p (p.low + 64 * purges p keep) within)
+    cond_both (is_stale p generation) _ _ KeepsLimits (λ _. within) (λ _. bounds-purge_to p (p.low + BLOCK_EVENTS * purges p keep) within)

@@ -16,6 +16,7 @@ use Rattle.stream_model.specs.History.{Entry}
 use Rattle.stream_model.specs.Positions.{empty}
 use Rattle.stream_model.specs.Step.{step, Leads, IsReached}
 use Rattle.stream_ident.specs.Words.{Performs}
+use Rattle.stream_ident.specs.declared.limits.TheConstants.{MOST_BLOCKS}
 
 -- one run after another
 pub leads-append : (p q r : PlainPartition) (first second : List Entry) → Leads p first q → Leads q second r → Leads p (first ++ second) r
@@ -25,7 +26,7 @@ leads-append p q r (e ∷ first) second here rest = (here.0, leads-append (step 
 reached-empty : (blocks : ℕ) (limits : Limits) → 1 ≤ blocks → IsReached (empty blocks limits)
 reached-empty blocks limits some = record { blocks = blocks; limits = limits; history = []; some_blocks = some; stands = refl }
 
-pub within-empty : (blocks : ℕ) (limits : Limits) → blocks ≤ 64 → AreLimits limits → IsWithinLimits (empty blocks limits)
+pub within-empty : (blocks : ℕ) (limits : Limits) → blocks ≤ MOST_BLOCKS → AreLimits limits → IsWithinLimits (empty blocks limits)
 within-empty blocks limits bound are = record {
   limits = are;
   events = omega arith;
@@ -46,7 +47,7 @@ within-empty blocks limits bound are = record {
 
 -- a new partition, whose lists are empty
 pub new-partition : (blocks : ℕ) (limits : Limits) (log : List Event) (subs : List (SubName × Subscription)) (rules : List Rule) (grains : List (GrainId × Grain))
-    → log ≡ [] → subs ≡ [] → rules ≡ [] → grains ≡ [] → 1 ≤ blocks → blocks ≤ 64 → AreLimits limits
+    → log ≡ [] → subs ≡ [] → rules ≡ [] → grains ≡ [] → 1 ≤ blocks → blocks ≤ MOST_BLOCKS → AreLimits limits
     → (p : PlainPartition) → p ≡ record (empty blocks limits) { log = log; subs = subs; rules = rules; grains = grains } → IsWithinLimits p × IsReached p
 new-partition blocks limits log subs rules grains no_log no_subs no_rules no_grains some bound are p is =
     let same : p ≡ empty blocks limits = is ∙ (λ i. record (empty blocks limits) { log = no_log i; subs = no_subs i; rules = no_rules i; grains = no_grains i }) in

@@ -4,6 +4,7 @@ use Rattle.std.specs.List.{AllByRecursion}
 use Rattle.stream_ident.specs.declared.ident.SubName.{SubName}
 use Rattle.stream_ident.specs.declared.ident.SubName.TheVariants as name
 use Rattle.stream_ident.specs.declared.event.Event.{Event}
+use Rattle.stream_ident.specs.declared.limits.TheConstants.{MOST_BLOCKS, MOST_EVENTS, MOST_RISES, MOST_RULES, MOST_SUBS}
 use Rattle.stream_model.specs.declared.limits.Limits.{Limits}
 use Rattle.stream_model.specs.declared.plain.PlainPartition.{PlainPartition}
 use Rattle.stream_model.specs.declared.plain.RunningTurn.{RunningTurn}
@@ -15,10 +16,10 @@ IsGiven explicit (name.Implicit kind stream) = ⊤
 
 -- limits that a partition may have
 pub record AreLimits (limits : Limits) : Type 0 where
-  pub events : limits.events ≤ 1000000
-  pub subs : limits.subs ≤ 10000
-  pub rules : limits.rules ≤ 64
-  pub rises : limits.rises ≤ 4000000
+  pub events : limits.events ≤ MOST_EVENTS
+  pub subs : limits.subs ≤ MOST_SUBS
+  pub rules : limits.rules ≤ MOST_RULES
+  pub rises : limits.rises ≤ MOST_RISES
 
 -- positions of the log
 abbrev pub AreIn : List Event → List ℕ → Type 0
@@ -38,7 +39,7 @@ pub record IsWithinLimits (p : PlainPartition) : Type 0 where
   pub explicit : p.explicit ≤ length p.subs
   pub names : AllByRecursion (λ entry. IsGiven p.explicit entry.0) p.subs
   pub handled : AllByRecursion (λ entry. AreIn p.log entry.1.handled) p.subs
-  pub blocks : p.blocks ≤ 64
+  pub blocks : p.blocks ≤ MOST_BLOCKS
   pub rules : length p.rules ≤ p.limits.rules
   pub rises : p.rises ≤ p.limits.rises
   pub turns : p.turns ≤ p.rises

@@ -20,11 +20,12 @@ use Rattle.stream_model.specs.declared.reply.Reply.TheVariants as reply
 use Rattle.stream_ident.specs.Event.{batch_token, events_of}
 use Rattle.stream_model.specs.Positions.{low_token, high_token, lower_bound, sub_at, with_sub, new_subscription}
 use Rattle.stream_ident.specs.Words.{changed_value}
+use Rattle.stream_ident.specs.declared.limits.TheConstants.{BATCH_EVENTS}
 
--- A batch has 1 to 64 payloads.
+-- A batch has some payloads, and not too many.
 unfoldable pub publish : PlainPartition → StreamId → List (List ℕ) → PlainPartition × Reply
 publish p stream payloads =
-    if (length payloads == 0) || nat_lt 64 (length payloads) then (p, reply.BadBatch)
+    if (length payloads == 0) || nat_lt BATCH_EVENTS (length payloads) then (p, reply.BadBatch)
     else if nat_lt p.limits.events (length p.log + length payloads) then (p, reply.QueueFull)
     else (record p { log = p.log ++ events_of stream p.batches 0 payloads; batches = suc p.batches }, reply.Published p.batches)
 

@@ -12,6 +12,7 @@ use Rattle.stream_ident.specs.Words.{least_with, each_value}
 use Rattle.stream_model.specs.declared.plain.Grain.{Grain}
 use Rattle.stream_model.specs.declared.plain.PlainPartition.{PlainPartition}
 use Rattle.stream_ident.specs.declared.rule.Rule.{Rule}
+use Rattle.stream_ident.specs.declared.limits.TheConstants.{BLOCK_EVENTS, MAILBOX_PLACES}
 use Rattle.stream_model.specs.declared.plain.Subscription.{Subscription}
 use Rattle.stream_model.specs.Replies.{Reply}
 use Rattle.stream_model.specs.declared.reply.Reply.TheVariants as reply
@@ -20,13 +21,13 @@ use Rattle.stream_model.specs.Positions.{token_at, between, next_position, sub_a
 abbrev pub is_stale : PlainPartition → ℕ → Bool
 is_stale p generation = not (generation == p.generation)
 
--- whole blocks of 64 from low on that end at or below both high and the slowest resume
+-- whole blocks from low on that end at or below both high and the slowest resume
 abbrev pub free_blocks : PlainPartition → ℕ
 free_blocks p = blocks.free_blocks p.low p.high (slowest p)
 
 -- how many more events the cache takes
 abbrev pub room : PlainPartition → ℕ
-room p = 64 * p.blocks - (p.high - p.low)
+room p = BLOCK_EVENTS * p.blocks - (p.high - p.low)
 
 -- the fewest blocks that make room for want events, or all that are free
 abbrev pub drops : PlainPartition → ℕ → ℕ
@@ -56,10 +57,10 @@ pull_events p low high subs =
 unfoldable pub pull_count : PlainPartition → ℕ → ℕ → PlainPartition × Reply
 pull_count p blocks count =
     if count == 0 then (p, reply.Pressed (unwrap_or (slowest_name p) (name.Explicit 0)))
-    else pull_events p (p.low + 64 * blocks) (p.high + count) (subs_with p.rules p.high p.subs (between p.log p.high (p.high + count)))
+    else pull_events p (p.low + BLOCK_EVENTS * blocks) (p.high + count) (subs_with p.rules p.high p.subs (between p.log p.high (p.high + count)))
 
 unfoldable pub pull_want : PlainPartition → ℕ → PlainPartition × Reply
-pull_want p want = pull_count p (drops p want) (min want (room p + 64 * drops p want))
+pull_want p want = pull_count p (drops p want) (min want (room p + BLOCK_EVENTS * drops p want))
 
 unfoldable pub pull : PlainPartition → ℕ → ℕ → PlainPartition × Reply
 pull p generation max_events =
@@ -95,7 +96,7 @@ delivered p s r st position =
 unfoldable pub deliver_position : PlainPartition → SubName → Subscription → Grain → Option ℕ → PlainPartition × Reply
 deliver_position p s r st None = (with_sub p s (caught_up p s r), reply.Nothing)
 deliver_position p s r st (Some position) =
-    if nat_le 16 (length st.mailbox) then (p, reply.MailboxFull)
+    if nat_le MAILBOX_PLACES (length st.mailbox) then (p, reply.MailboxFull)
     else if not st.active && is_spent p then (p, reply.Spent)
     else (delivered p s r st position, reply.Delivered (token_at p position))
 
@@ -158,7 +159,7 @@ purge_to p low = (record p { low = low }, reply.Purged (token_at p low))
 unfoldable pub purge : PlainPartition → ℕ → ℕ → PlainPartition × Reply
 purge p generation keep =
     if is_stale p generation then (p, reply.StaleAgent p.generation)
-    else purge_to p (p.low + 64 * purges p keep)
+    else purge_to p (p.low + BLOCK_EVENTS * purges p keep)
 
 -- the cursor back at the resume, where the test holds
 abbrev pub rewound_where : Bool → Subscription → Subscription

@@ -1,5 +1,7 @@
 //! Limits of a partition.
 
+use stream_ident::{MOST_EVENTS, MOST_RISES, MOST_RULES, MOST_SUBS};
+
 /// How much a partition holds at most. An operation that would go past it is answered `QueueFull` (events), `TooMany`
 /// (subscriptions and rules) or `Spent` (rises), and changes nothing.
 #[derive(Clone, Copy, Debug, PartialEq, Eq)]
@@ -17,9 +19,9 @@ pub struct Limits {
 impl Limits {
     /// The greatest limits.
     pub const GREATEST: Limits = Limits {
-        events: 1_000_000,
-        subs: 10_000,
-        rules: 64,
-        rises: 4_000_000,
+        events: MOST_EVENTS,
+        subs: MOST_SUBS,
+        rules: MOST_RULES,
+        rises: MOST_RISES,
     };
 }

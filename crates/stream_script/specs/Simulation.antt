@@ -4,6 +4,7 @@ use Rattle.std.specs.Prelude.{◌≡◌, ℕ, suc, ◌<◌, ◌≤◌, Bool, tru
 use Rattle.std.specs.Global.{Vec}
 use Rattle.std.specs.Io.KnownBytes.{Appends, Consumes, IsAtEnd}
 use Rattle.std.specs.declared.alloc.AllocError.{AllocError}
+use Rattle.stream_ident.specs.declared.limits.TheConstants.{MOST_BLOCKS, MOST_QUEUES}
 use Rattle.stream_model.specs.Bounds.{AreLimits}
 use Rattle.stream_model.specs.declared.drain_end.DrainEnd.{DrainEnd}
 use Rattle.stream_model.specs.declared.op.Op.{Op}
@@ -31,9 +32,9 @@ use Rattle.script_printer.specs.Report.{report_of}
 -- what the simulation may be asked for
 pub record IsSimConfig (config : SimConfig) : Type 0 where
   pub some_queues : 1 ≤ config.queues
-  pub queues : config.queues ≤ 64
+  pub queues : config.queues ≤ MOST_QUEUES
   pub some_blocks : 1 ≤ config.blocks
-  pub blocks : config.blocks ≤ 64
+  pub blocks : config.blocks ≤ MOST_BLOCKS
   pub limits : AreLimits config.limits
 
 -- the text, and the fault of the first faulty line

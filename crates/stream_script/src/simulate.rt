@@ -1,6 +1,8 @@
 //! The simulator: a script done line by line, on one thread, with a partition for each queue.
-ghost use Rattle.std.specs.Prelude.{◌≡◌, ◌+◌, ◌^◌, ◌<◌, ◌≤◌, ◌-◌, [], ◌++◌, suc, length, vec_len, false, Ok, Err, IfOk, IfSome, OnOk, replicate, slice_index_or, if◌then◌else◌};
+ghost use Rattle.std.specs.Prelude.{◌≡◌, ◌+◌, ◌^◌, ◌<◌, ◌≤◌, ◌-◌, [], ◌++◌, suc, length, map, vec_len, false, Ok, Err, IfOk, IfSome, OnOk, replicate, slice_index_or, if◌then◌else◌};
 ghost use Rattle.std.specs.Io.KnownBytes.{Appends, Consumes, IsAtEnd, Keeps};
+ghost use Rattle.std.specs.List.{AllByRecursion};
+ghost use Rattle.stream_ident.specs.Alphabet.{IsPayload};
 ghost use Rattle.stream_model.specs.Draining.{drain};
 ghost use Rattle.stream_model.specs.Positions.{empty};
 ghost use Rattle.stream_model.specs.Step.{step};
@@ -9,7 +11,9 @@ ghost use Rattle.script_parser.specs.Forms.{op_of};
 ghost use Rattle.stream_script.specs.Simulation.{IsSimConfig, Simulates, SimulatesSome, RunsLines, Finishes, ReadsScript, ReadsSome, simulation, run_script, is_read_fault, is_write_fault, behind, stepped, stepped_each, drained, drained_each, run_line, RunsLine};
 
 use crate::source_sink::{Failed, Sink, Source, write_all};
-use script_parser::{Command, EachOp, Fault, FaultKind, Lines, Mode, Parsed, parse_line};
+use script_parser::{
+    Command, EachOp, Fault, FaultKind, Lines, Mode, Parsed, Publish, parse_line, read_publish,
+};
 use script_printer::{drain_line, outcome_line, report_text};
 use std::alloc::{AllocError, Global};
 use step_core::Partition;
@@ -178,10 +182,11 @@ fn run_lines<W: Sink>(
 {
     let mut simulator = Simulator::new(alloc, config)?;
     let mut lines = Lines::of(script);
+    let mut payloads = Vec::new(alloc);
     let mut text = Vec::new(alloc);
     let mut number = 1;
     while let Some(line) = lines.next_line() {
-        if let Some(fault) = simulator.run_line(alloc, line, number, &mut text)? {
+        if let Some(fault) = simulator.run_line(alloc, line, number, &mut payloads, &mut text)? {
             return Ok(Some(fault));
         }
         if let Err(Failed) = write_all(sink, &text) {
@@ -232,12 +237,14 @@ impl Simulator {
         Ok(Simulator { config, partitions })
     }
 
-    /// Does a line and leaves its text, or gives its fault.
-    pub fn run_line(
+    /// Does a line and leaves its text, or gives its fault. The texts of a line that publishes go from the line to the
+    /// log, through `payloads`, which keeps its room for the next line.
+    pub fn run_line<'a>(
         &mut self,
         alloc: Global,
-        line: &[u8],
+        line: &'a [u8],
         number: usize,
+        payloads: &mut Vec<&'a [u8]>,
         text: &mut Vec<u8>,
     ) -> Result<Option<Fault>, AllocError>
         ensures config { self.new.config ≡ self.old.config }
@@ -245,6 +252,28 @@ impl Simulator {
             (self.new.partitions.items, text.new.items) result }
     {
         text.clear();
+        match &read_publish(line, self.config.queues, payloads)? {
+            Some(publish) => {
+                self.publish(alloc, publish, payloads, text)?;
+                Ok(None)
+            }
+            None => self.run_command(alloc, line, number, text),
+        }
+    }
+
+    /// Does what a line is read as and leaves its text, or gives its fault.
+    fn run_command(
+        &mut self,
+        alloc: Global,
+        line: &[u8],
+        number: usize,
+        text: &mut Vec<u8>,
+    ) -> Result<Option<Fault>, AllocError>
+        requires { text.old.items ≡ [] }
+        ensures config { self.new.config ≡ self.old.config }
+        ensures ran { RunsLine (run_line self.old.config number self.old.partitions.items line.now)
+            (self.new.partitions.items, text.new.items) result }
+    {
         let parsed = parse_line(alloc, line, number, self.config.queues, Mode::Sim)?;
         match &parsed {
             Parsed::Skip => Ok(None),
@@ -304,6 +333,29 @@ impl Simulator {
         let partition = &mut self.partitions[queue];
         let outcome = partition.advance(alloc, op)?;
         outcome_line(queue, &outcome, partition, text)
+    }
+
+    /// Publishes a batch and appends the line of its reply.
+    fn publish(
+        &mut self,
+        alloc: Global,
+        publish: &Publish,
+        payloads: &[&[u8]],
+        text: &mut Vec<u8>,
+    ) -> Result<(), AllocError>
+        requires queue { publish.now.queue < self.old.config.queues }
+        requires payloads { AllByRecursion IsPayload (map (λ payload. payload.now) payloads.now) }
+        ensures config { self.new.config ≡ self.old.config }
+        ensures text { OnOk result ((self.new.partitions.items, text.new.items) ≡
+            behind text.old.items (stepped self.old.partitions.items publish.now.queue
+            (step (slice_index_or self.old.partitions.items publish.now.queue (empty self.old.config.blocks self.old.config.limits))
+            (Op.Publish publish.now.stream (map (λ payload. payload.now) payloads.now))))) }
+    {
+        let partition = &mut self.partitions[publish.queue];
+        match &partition.publish(alloc, &publish.stream, payloads) {
+            Ok(outcome) => outcome_line(publish.queue, outcome, partition, text),
+            Err(AllocError) => Err(AllocError),
+        }
     }
 
     /// Drains each queue, in order, and leaves the lines of how that ended.

@@ -5,6 +5,7 @@ use Rattle.std.specs.declared.alloc.AllocError.{AllocError}
 use Rattle.stream_ident.specs.declared.ident.GrainId.{GrainId}
 use Rattle.stream_ident.specs.declared.ident.StreamId.{StreamId}
 use Rattle.stream_ident.specs.declared.token.Token.{Token}
+use Rattle.stream_ident.specs.declared.limits.TheConstants.{MOST_SILOS}
 use Rattle.stream_model.specs.declared.op.Op.{Op}
 use Rattle.stream_model.specs.declared.op.Op.TheVariants as op
 use Rattle.stream_model.specs.declared.op.Start.{Start}
@@ -116,7 +117,7 @@ pub record Settles (s : ServiceView) (result : Result Unit SettleError) (t : Ser
 
 -- no silo has this number, and nothing was done
 pub record HasNoSilo (s : ServiceView) (silo : ℕ) (result : Result Unit SiloError) (t : ServiceView) : Type 0 where
-  pub past : 16 ≤ silo
+  pub past : MOST_SILOS ≤ silo
   pub refused : result ≡ Err silos.NoSilo
   pub same : t ≡ s
 

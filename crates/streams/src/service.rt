@@ -19,7 +19,7 @@ use std::sync::{Arc, Wait};
 use std::thread::Threads;
 use step_core::Answer;
 use stream_cluster::Config;
-use stream_ident::{Batch, GrainId, Name, Payload, StreamId, Token};
+use stream_ident::{Batch, GrainId, MOST_SILOS, Name, Payload, StreamId, Token};
 use stream_model::{Op, Pending, Start};
 use turnstile::Refusal;
 
@@ -205,7 +205,7 @@ impl<R: Host, G: Gate + 'static> Service<R, G> {
     pub fn silo_up(&mut self, silo: u8) -> Result<(), SiloError>
         ensures { ChangesUp self.old silo result self.new }
     {
-        if silo >= 16 {
+        if silo >= MOST_SILOS {
             return Err(SiloError::NoSilo);
         }
         came(self.cluster.silo_up(&self.rt, self.rt.alloc(), silo))
@@ -222,7 +222,7 @@ impl<R: Host, G: Gate + 'static> Service<R, G> {
     pub fn silo_down(&mut self, silo: u8) -> Result<(), SiloError>
         ensures { ChangesDown self.old silo result self.new }
     {
-        if silo >= 16 {
+        if silo >= MOST_SILOS {
             return Err(SiloError::NoSilo);
         }
         went(self.cluster.silo_down(&self.rt, self.rt.alloc(), silo))

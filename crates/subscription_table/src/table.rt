@@ -1,6 +1,7 @@
 //! The table, with the rows that stand beside the names of its registry: states, tags, and what the tree of
 //! resumes keeps.
 ghost use Rattle.std.specs.Prelude.{◌≡◌, ◌<◌, ◌≤◌, ◌↔◌, ◌+◌, ◌^◌, ◌++◌, None, Some, length, IfNone, IfSome, IsTrue, OnErr, All, drop, get_or, is_ok, map, set, if◌then◌else◌};
+ghost use Rattle.stream_ident.specs.declared.limits.TheConstants.{MOST_RULES, MOST_SUBS};
 ghost use Rattle.std.specs.Option.{option_copied};
 ghost use Rattle.queue_mapper.specs.Place.{tag_of};
 ghost use Rattle.pubsub_registry.specs.Index.{AreUnique};
@@ -62,8 +63,8 @@ impl Model for SubscriptionTable {
 impl SubscriptionTable {
     /// A table without subscriptions and rules, for at most this many of them. It takes no memory.
     pub fn new(alloc: Global, most_names: usize, most_rules: usize) -> SubscriptionTable
-        requires names { most_names ≤ 10000 }
-        requires rules { most_rules ≤ 64 }
+        requires names { most_names ≤ MOST_SUBS }
+        requires rules { most_rules ≤ MOST_RULES }
         ensures { result ≡ empty most_names most_rules }
     {
         SubscriptionTable {
@@ -79,7 +80,7 @@ impl SubscriptionTable {
     pub fn len(&self) -> usize
         ensures len { result ≡ length self.now.registry.names }
         ensures fits { length self.now.registry.names ≤ self.now.registry.most_names }
-        ensures few { self.now.registry.most_names ≤ 10000 }
+        ensures few { self.now.registry.most_names ≤ MOST_SUBS }
         ensures unique { AreUnique self.now.registry.names }
         ensures records { AreRecords self.now }
     {

@@ -1,9 +1,8 @@
 -- The phases of a call, over the bare seat: what each asks of the one before, and what they come to.
-use Rattle.std.proofs.Common.{◌≡◌, ◌≢◌, ℕ, ◌+◌, ◌%◌, ◌<◌, ◌≤◌, Bool, true, false, if◌then◌else◌, List, [], ◌∷◌, ◌++◌, length, drop, Option, Some, None, Result, Ok, Err, MatchResult, refl, sym, ap, ◌∙◌, subst, arith, length-append}
+use Rattle.std.proofs.Common.{◌≡◌, ◌≢◌, ℕ, ◌+◌, ◌%◌, ◌<◌, ◌≤◌, Bool, true, false, if◌then◌else◌, List, [], ◌∷◌, ◌++◌, length, drop, Option, Some, None, refl, sym, ap, ◌∙◌, subst, arith, length-append}
 use Rattle.std.proofs.lemmas.Bool.{false≢true}
 use Rattle.std.proofs.lemmas.Option.{none-some, same_Some}
 use Rattle.std.specs.Option.{IsSome}
-use Rattle.std.specs.Result.{is_ok}
 use Rattle.atomic_table.specs.Seated.{TableId}
 use Rattle.atomic_table.specs.Table.{State, Allows, rest}
 use Rattle.turnstile.specs.declared.history.Entry.{Entry}
@@ -13,21 +12,12 @@ use Rattle.turnstile.specs.declared.view.View.{View}
 use Rattle.turnstile.specs.Calls.{IsOf, IsTurn}
 use Rattle.turnstile.specs.Closing.{IsTrace}
 use Rattle.turnstile.specs.History.{times, replay, IsLegal, Own, entry}
-use Rattle.turnstile.specs.Plays.{Sat, items_of, state_in, first_of, looked, Turn, left, Begun, MayLeave, MayNote, Applied, Kept, gone}
+use Rattle.turnstile.specs.Plays.{Sat, items_of, state_in, first_of, looked, Turn, left, Begun, MayLeave, MayNote, Applied, gone}
 use Rattle.turnstile.specs.Passes.{Origin, PassView, TurnView, opened, origin, pass_view, turn_view}
 use Rattle.turnstile.specs.Turns.{Turning}
 use Rattle.turnstile.proofs.Histories.{legal_snoc, replay_snoc}
 use Rattle.turnstile.proofs.Keeps.{any_step, looks, serves, Shows}
 use Rattle.turnstile.proofs.Totals.{times_same}
-
-module _ {R E : Type 0} where
-  pub where_ok : (P : R → Type 0) (Q : E → Type 0) (result : Result R E) → is_ok result ≡ true → MatchResult result P Q → (r : R) × P r
-  where_ok P Q (Ok r) ok h = (r, h)
-  where_ok P Q (Err e) ok h = absurd (false≢true ok)
-
-  pub where_err : (P : R → Type 0) (Q : E → Type 0) (result : Result R E) → is_ok result ≡ false → MatchResult result P Q → (e : E) × Q e
-  where_err P Q (Ok r) bad h = absurd (false≢true (sym bad))
-  where_err P Q (Err e) bad h = (e, h)
 
 module _ {S : Type 0} where
   abbrev table_or : TableId → Option (Origin S) → TableId
@@ -180,20 +170,6 @@ module _ {X H S O R : Type 0} (entries : H → List (Entry O R)) (state : X → 
         legal = subst (IsLegal reply after t.start.state) (sym longer) (legal_snoc reply after t.start.state p.seen (entry k op r) turn.legal (did.1 ∙ ap (λ (s : S). reply s op) object));
         object = ap (λ (s : S). Some s) (did.2 ∙ (ap (λ (s : S). after s op) object ∙ (sym (replay_snoc reply after t.start.state p.seen (entry k op r)) ∙ ap (replay reply after t.start.state) (sym longer))));
         bounded = subst (λ (l : List (Entry O R)). length l ≤ t.start.limit) (sym longer) (omega (arith, long, few));
-      }
-
-  -- and where nothing was added
-  pub turn_kept : (t : Origin S) (p q : PassView O R S) (h : TurnView O R S) (slot : Option (Held X H)) (held held' : Held X H) → IsTurn reply after t p h → turn_view entries state slot ≡ h → slot ≡ Some held → Kept entries state held held' → q ≡ p
-      → IsTurn reply after t q (turn_view entries state (Some held'))
-  turn_kept t p q h slot held held' turn view is kept same =
-      let history : entries held.history ≡ p.seen = sym (ap (items_of entries) is) ∙ (ap (λ (u : TurnView O R S). u.history) view ∙ turn.whole) in
-      let object : state held.object ≡ replay reply after t.start.state p.seen = some_state slot (replay reply after t.start.state p.seen) held is (ap (λ (u : TurnView O R S). u.state) view ∙ turn.object) in
-      subst (λ (u : PassView O R S). IsTurn reply after t u (turn_view entries state (Some held'))) (sym same) record {
-        turn = turn.turn;
-        whole = kept.0 ∙ history;
-        legal = turn.legal;
-        object = ap (λ (s : S). Some s) (kept.1 ∙ object);
-        bounded = turn.bounded;
       }
 
   -- what the last look at a table shows of a pass

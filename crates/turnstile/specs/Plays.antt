@@ -112,11 +112,6 @@ module _ {X H S O R : Type 0} (entries : H → List (Entry O R)) (state : X → 
   abbrev pub Applied : Held X H → ℕ → O → R → Held X H → Type 0
   Applied h k op r g = (entries g.history ≡ entries h.history ++ entry k op r ∷ []) × (r ≡ reply (state h.object) op) × (state g.object ≡ after (state h.object) op)
 
-module _ {X H S O R : Type 0} (entries : H → List (Entry O R)) (state : X → S) where
-  -- the history and the object are as before
-  abbrev pub Kept : Held X H → Held X H → Type 0
-  Kept h g = (entries g.history ≡ entries h.history) × (state g.object ≡ state h.object)
-
 module _ {X H S O R : Type 0} (entries : H → List (Entry O R)) where
   -- the seat once it has given up its turn
   abbrev pub gone : Held X H → Sat X H S O R → Sat X H S O R

@@ -86,10 +86,11 @@ impl<T: Replays> Handle<T> {
         ensures calls { CallsBy T.replied T.after self.old op result self.new }
         ensures room { MatchResult result (λ r. T.shows room.old room.new r) (λ _. room.new ≡ room.old) }
     {
+        let op = &mut Some(op);
         let mut turn = take_turn(&self.turnstile, rt, &mut self.pass, self.turn.take());
         let answer = self
             .turnstile
-            .call_in(alloc, &mut self.pass, &mut turn, op, room);
+            .call_lent(alloc, &mut self.pass, &mut turn, op, room);
         settle(
             &self.turnstile,
             &mut self.pass,

@@ -95,6 +95,7 @@ impl<T: Replays> Lock<T> {
     }
 
     // Adds the last entry of what is held to what all see.
+    #[inline(never)]
     pub fn note(&self, seat: &mut Seat<Slot<T>, Seen<T>>, held: &Slot<T>, count: u64)
         requires table { seat.old.table_id ≡ self.now.table.shared.table_id }
         requires held { MayNote T.History.entries T.replied T.after (start_of T.state_of self.now.table.shared.key) held.now seat.old.me }

@@ -1,5 +1,5 @@
 //! The turnstile.
-ghost use Rattle.std.specs.Prelude.{◌≡◌, ◌<◌, ◌≤◌, length, IfOk, MatchResult, Some};
+ghost use Rattle.std.specs.Prelude.{◌≡◌, ◌++◌, ◌∷◌, [], true, IfOk, IfSome, MatchResult, Some};
 
 use crate::history::StoredHistory;
 use crate::lock::Lock;
@@ -72,8 +72,9 @@ impl<T: Replays> Turn<T> {
 }
 
 impl<T: Replays> Turnstile<T> {
-    ghost use Rattle.turnstile.specs.Calls.{first_pass, outside, IsOf, IsTurn, HasEntered, HasOnlySeen, IsFull, Called, CalledNext, Does, Found, FoundNone, Waited};
-    ghost use Rattle.turnstile.specs.Plays.{Applied, Kept};
+    ghost use Rattle.std.specs.Option.{IsSome};
+    ghost use Rattle.turnstile.specs.Calls.{first_pass, outside, IsOf, IsTurn, HasEntered, HasOnlySeen, Called, CalledNext, Does, Found, FoundNone, Waited};
+    ghost use Rattle.turnstile.specs.History.{entry};
 
     /// A turnstile over an object, whose history may have `limit` entries, and its first pass, with number 0.
     ///
@@ -115,34 +116,50 @@ impl<T: Replays> Turnstile<T> {
         }
     }
 
-    // Does an op on what is held, and adds its entry.
-    fn apply(
+    // Adds an entry to a history that has room for it. The op is taken from where it was lent.
+    #[inline(never)]
+    fn add(history: &mut T::History, number: u64, op: &mut Option<T::Op>, reply: &T::Reply)
+        requires room { T.History.has_room history.old ≡ true }
+        requires op { IsSome op.old }
+        ensures { IfSome op.old (λ o. T.History.entries history.new ≡ T.History.entries history.old ++ entry number o reply.now ∷ []) }
+    {
+        history.push(number, op.take().unwrap(), reply);
+    }
+
+    // Does an op in a turn, as `call_in` says. The op is lent, and is taken where its entry is added: each function
+    // that passes an op on by value has the room of another one.
+    #[inline(never)]
+    pub(crate) fn call_lent(
+        &self,
         alloc: Global,
-        held: &mut Held<T, T::History>,
-        limit: u64,
-        number: u64,
-        op: T::Op,
+        pass: &mut PassOf<T>,
+        turn: &mut Turn<T>,
+        op: &mut Option<T::Op>,
         room: &mut T::Room,
     ) -> Result<T::Reply, Refusal>
-        requires { length (T.History.entries held.old.history) ≤ limit }
+        requires turn { IsTurn T.replied T.after self.now pass.old turn.old }
+        requires op { IsSome op.old }
+        ensures pass { HasOnlySeen pass.old pass.new }
+        ensures turn { IsTurn T.replied T.after self.now pass.new turn.new }
+        ensures call { IfSome op.old (λ o. MatchResult result (λ r. CalledNext pass.old o r pass.new.seen) (λ e. FoundNone self.now.start pass.old e pass.new.seen)) }
         ensures room { MatchResult result (λ r. T.shows room.old room.new r) (λ _. room.new ≡ room.old) }
-        ensures does { MatchResult result (λ r. Applied T.History.entries T.state_of T.replied T.after held.old number op r held.new × (length (T.History.entries held.old.history) < limit)) (λ e. Kept T.History.entries T.state_of held.old held.new × IsFull e (length (T.History.entries held.old.history)) limit) }
+        ensures does { IfSome op.old (λ o. IfOk result (λ r. Does T.replied T.after turn.old o r turn.new)) }
     {
-        if held.history.len() as u64 >= limit {
+        let held = turn.slot.as_mut().unwrap();
+        let Some(asked) = &*op else { unreachable!() };
+        if held.history.len() as u64 >= self.lock.limit {
             return Err(Refusal::HistoryFull);
         }
         if held.history.reserve().is_err() {
             return Err(Refusal::Memory);
         }
-        let answer = held.object.apply(alloc, &op, room);
-        match &answer {
-            Ok(reply) => held.history.push(number, op, reply),
-            Err(_) => drop(op),
-        }
-        match answer {
-            Ok(reply) => Ok(reply),
-            Err(_) => Err(Refusal::Memory),
-        }
+        let Ok(reply) = held.object.apply(alloc, asked, room) else {
+            return Err(Refusal::Memory);
+        };
+        Self::add(&mut held.history, pass.number, op, &reply);
+        pass.len += 1;
+        self.lock.note(&mut pass.seat, &turn.slot, pass.len);
+        Ok(reply)
     }
 
     /// Waits for its turn, and keeps it until [`leave`](Turnstile::leave). The pass has then seen the whole
@@ -180,15 +197,7 @@ impl<T: Replays> Turnstile<T> {
         ensures room { MatchResult result (λ r. T.shows room.old room.new r) (λ _. room.new ≡ room.old) }
         ensures does { IfOk result (λ r. Does T.replied T.after turn.old op r turn.new) }
     {
-        let Some(held) = &mut turn.slot else {
-            unreachable!()
-        };
-        let answer = Turnstile::apply(alloc, held, self.lock.limit, pass.number, op, room);
-        if answer.is_ok() {
-            pass.len += 1;
-            self.lock.note(&mut pass.seat, &turn.slot, pass.len);
-        }
-        answer
+        self.call_lent(alloc, pass, turn, &mut Some(op), room)
     }
 
     /// Gives the turn up.
@@ -222,8 +231,9 @@ impl<T: Replays> Turnstile<T> {
         ensures call { MatchResult result (λ r. Called T.replied T.after self.now.start pass.old op r pass.new.seen) (λ e. Found T.replied T.after self.now.start pass.old e pass.new.seen) }
         ensures room { MatchResult result (λ r. T.shows room.old room.new r) (λ _. room.new ≡ room.old) }
     {
+        let op = &mut Some(op);
         let mut turn = self.enter(rt, pass);
-        let answer = self.call_in(alloc, pass, &mut turn, op, room);
+        let answer = self.call_lent(alloc, pass, &mut turn, op, room);
         self.leave(pass, turn);
         answer
     }

@@ -1,6 +1,7 @@
 //! The calls that change subscriptions: they make and close them, commit to them, and move them over the
 //! log.
 ghost use Rattle.std.specs.Prelude.{◌≡◌, ◌+◌, ◌^◌, ◌<◌, ◌≤◌, true, false, length, is_ok, OnErr, All, if◌then◌else◌, IfSome};
+ghost use Rattle.stream_ident.specs.declared.limits.TheConstants.{MOST_EVENTS, PULL_EVENTS};
 ghost use Rattle.stream_ident.specs.Words.{past, Performs};
 ghost use Rattle.pulling_agent.specs.Cache.{high};
 ghost use Rattle.pubsub_registry.specs.Registry.{is_full};
@@ -77,7 +78,7 @@ impl SubscriptionTable {
         events: &[Event],
         position: usize,
     ) -> Result<Implied, AllocError>
-        requires few { length events.now ≤ 256 }
+        requires few { length events.now ≤ PULL_EVENTS }
         requires position { position + 2 < 2 ^ 64 }
         ensures performs { Performs self.old self.new result (imply self.old events.now position) }
         ensures memory { OnErr result (length self.old.registry.names < length (imply self.old events.now position).0.registry.names) }
@@ -200,7 +201,7 @@ impl SubscriptionTable {
     pub fn ack(&mut self, number: usize, queue: &PartitionQueue, token: &Token) -> Acked
         requires within { number < length self.old.registry.names }
         requires handled { All (λ position. position < length queue.now.events) (state_at self.old number).handled }
-        requires few { length queue.now.events ≤ 1000000 }
+        requires few { length queue.now.events ≤ MOST_EVENTS }
         ensures { (self.new, result) ≡ stepped self.old number (ack (state_at self.old number) queue.now token.now) }
     {
         let acked = ack(&mut self.states[number], queue, token);

@@ -1,6 +1,7 @@
 use Rattle.std.proofs.Common.{◌≡◌, ◌+◌, ◌-◌, ◌*◌, ◌≤◌, ◌++◌, length, drop, take, vec_len, vec_capacity}
 use Rattle.std.specs.List.{AllByRecursion, concat}
 use Rattle.stream_ident.specs.Alphabet.{IsPayload}
+use Rattle.stream_ident.specs.declared.limits.TheConstants.{MOST_EVENTS, PAYLOAD_BYTES}
 use Rattle.partition_queue.specs.Log.{entries_of}
 use Rattle.partition_queue.proofs.queue.push_events.Given as goal
 
@@ -12,6 +13,6 @@ invariant-loop-idx l =
       bytes : l.bytes.items ++ concat (drop l.idx l.payloads) ≡ l.fn.bytes.items ++ concat l.payloads;
       payloads : AllByRecursion IsPayload (take l.idx l.payloads);
       room : vec_len l.entries + (length l.payloads - l.idx) ≤ vec_capacity l.entries;
-      bytes_room : vec_len l.bytes + 256 * (length l.payloads - l.idx) ≤ vec_capacity l.bytes;
-      starts : length l.bytes.items ≤ 256000000 + 256 * l.idx;
+      bytes_room : vec_len l.bytes + PAYLOAD_BYTES * (length l.payloads - l.idx) ≤ vec_capacity l.bytes;
+      starts : length l.bytes.items ≤ PAYLOAD_BYTES * MOST_EVENTS + PAYLOAD_BYTES * l.idx;
     }

@@ -8,6 +8,7 @@ use Rattle.stream_model.specs.Positions.{grain_at}
 use Rattle.stream_model.specs.Pulling.{deliver_position, woken}
 use Rattle.stream_model.specs.Step.{takes_memory}
 use Rattle.stream_ident.specs.Words.{Performs, with_value}
+use Rattle.stream_ident.specs.declared.limits.TheConstants.{MAILBOX_PLACES}
 use Rattle.stream_model.proofs.Beginning.{grain_at-is, grain_at-new}
 use Rattle.stream_model.proofs.Answering.{on-error}
 use Rattle.partition_reference.proofs.Handing.{activations-fit, at-found, deliver_position-full, deliver_position-spent, deliver_position-done, deliver_position-takes, rises-woken}
@@ -43,14 +44,14 @@ returns-in_default-clause-memory c = λ r is_r.
     at-found (λ r. OnErr c.deliver_first.result (takes_memory (deliver_position p s r (grain_at p r.grain) (Some c.args.position)).1 ≡ true)) p s found r c.sub_in.ensures is_r
     (subst (λ st. OnErr c.deliver_first.result (takes_memory (deliver_position p s found st (Some c.args.position)).1 ≡ true)) (sym is_new) first)
 
-pub returns-then-as_slice-ge16-clause-performs : goal.returns-then-as_slice-ge16-clause-performs
-returns-then-as_slice-ge16-clause-performs c = λ r is_r.
+pub returns-then-as_slice-ge-MAILBOX_PLACES-clause-performs : goal.returns-then-as_slice-ge-MAILBOX_PLACES-clause-performs
+returns-then-as_slice-ge-MAILBOX_PLACES-clause-performs c = λ r is_r.
     let p = c.args.p.now in
     let s = c.args.sub.now in
     let found = c.sub_in.result.now in
     let st = c.grain_in-grain.result.now in
     let is_st = grain_at-is p found.grain st c.grain_in-grain.ensures in
-    let full : 16 ≤ length st.mailbox = omega (arith, ap length c.as_slice.ensures) in
+    let full : MAILBOX_PLACES ≤ length st.mailbox = omega (arith, ap length c.as_slice.ensures) in
     at-found (λ r. (p, reply.MailboxFull) ≡ deliver_position p s r (grain_at p r.grain) (Some c.args.position)) p s found r c.sub_in.ensures is_r
     (deliver_position-full p s found st c.args.position full ∙ ap (λ st. deliver_position p s found st (Some c.args.position)) (sym is_st))
 
@@ -61,7 +62,7 @@ returns-then-lacks_rise-clause-performs c = λ r is_r.
     let found = c.sub_in.result.now in
     let st = c.grain_in-grain.result.now in
     let is_st = grain_at-is p found.grain st c.grain_in-grain.ensures in
-    let room : length st.mailbox < 16 = omega (arith, ap length c.as_slice.ensures) in
+    let room : length st.mailbox < MAILBOX_PLACES = omega (arith, ap length c.as_slice.ensures) in
     at-found (λ r. (p, reply.Spent) ≡ deliver_position p s r (grain_at p r.grain) (Some c.args.position)) p s found r c.sub_in.ensures is_r
     (deliver_position-spent p s found st c.args.position room (sym c.lacks_rise.ensures ∙ c.if-lacks_rise.true) ∙ ap (λ st. deliver_position p s found st (Some c.args.position)) (sym is_st))
 
@@ -72,7 +73,7 @@ returns-in_err-wake-clause-memory c = λ r is_r.
     let found = c.sub_in.result.now in
     let st = c.grain_in-grain.result.now in
     let is_st = grain_at-is p found.grain st c.grain_in-grain.ensures in
-    let room : length st.mailbox < 16 = omega (arith, ap length c.as_slice.ensures) in
+    let room : length st.mailbox < MAILBOX_PLACES = omega (arith, ap length c.as_slice.ensures) in
     let takes = deliver_position-takes p s found st c.args.position room (sym c.lacks_rise.ensures ∙ c.if-lacks_rise.false) in
     on-error c.from_residual.result
     (at-found (λ r. takes_memory (deliver_position p s r (grain_at p r.grain) (Some c.args.position)).1 ≡ true) p s found r c.sub_in.ensures is_r
@@ -86,7 +87,7 @@ returns-clause-performs c = λ r is_r.
     let found = c.sub_in.result.now in
     let st = c.grain_in-grain.result.now in
     let is_st = grain_at-is p found.grain st c.grain_in-grain.ensures in
-    let room : length st.mailbox < 16 = omega (arith, ap length c.as_slice.ensures) in
+    let room : length st.mailbox < MAILBOX_PLACES = omega (arith, ap length c.as_slice.ensures) in
     let next : position + 1 ≡ suc position = omega arith in
     let is_subs = c.set_cursor.ensures ∙ (place_of-change same_sub s (λ (r : Subscription). record r { cursor = position + 1 }) found c.args.place p.subs c.requires.place c.sub_in.ensures ∙ ap (λ cursor. with_value same_sub s (record found { cursor = cursor }) p.subs) next) in
     let is_grains = c.in_ok-wake.ensures ∙ place_of-change same_grain found.grain (λ st. woken st s position) st c.in-Some.at p.grains (sym c.place_of_grain.ensures ∙ c.in-Some.is) c.grain_in-grain.ensures in

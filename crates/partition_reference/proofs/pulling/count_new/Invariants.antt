@@ -1,4 +1,5 @@
 use Rattle.std.proofs.Common.{◌≡◌, ◌≤◌, ◌+◌, ◌*◌, ℕ, length, take}
+use Rattle.stream_ident.specs.declared.limits.TheConstants.{MOST_RULES}
 use Rattle.stream_model.specs.Pulling.{subs_with}
 use Rattle.partition_reference.proofs.pulling.count_new.Given as goal
 
@@ -6,5 +7,5 @@ abbrev pub invariant-loop-index : goal.invariant-loop-index
 invariant-loop-index l =
     record {
       count : (position : ℕ) → length (subs_with l.rules position l.subs (take l.index l.events)) ≡ length l.subs + l.count;
-      bound : l.count ≤ 64 * l.index;
+      bound : l.count ≤ MOST_RULES * l.index;
     }

@@ -1,9 +1,10 @@
 use Rattle.std.proofs.Common.{◌≡◌, ◌*◌, ◌≤◌}
+use Rattle.stream_ident.specs.declared.limits.TheConstants.{MAILBOX_PLACES}
 use Rattle.step_core.proofs.PendingOps.{waits_before}
 use Rattle.step_core.proofs.looking.all_waiting.Given as goal
 
 abbrev pub invariant-loop-number : goal.invariant-loop-number
 invariant-loop-number l = record {
   count : l.count ≡ waits_before l.parts.grains l.number;
-  few : l.count ≤ 16 * l.number;
+  few : l.count ≤ MAILBOX_PLACES * l.number;
 }

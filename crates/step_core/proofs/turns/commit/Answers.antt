@@ -5,7 +5,7 @@ use Rattle.subscription_table.specs.Table.{PlainTable}
 use Rattle.stream_model.proofs.Answering.{on-error}
 use Rattle.step_core.specs.Assembly.{IsAssembled}
 use Rattle.step_core.specs.Replied.{reply_of}
-use Rattle.step_core.proofs.CommitOps.{commit-assembled, commit-stale, commit-takes, commit-told, is-running, running-below, running-rises, running-within}
+use Rattle.step_core.proofs.CommitOps.{commit-assembled, commit-stale, commit-takes, commit-told, ends-running, is-running, running-below, running-rises, running-within}
 use Rattle.step_core.proofs.NumberedOps.{known-at}
 use Rattle.step_core.proofs.Shared.{distinct-of-unique}
 use Rattle.step_core.proofs.TurnOps.{commit-none}
@@ -61,8 +61,8 @@ pub returns-clause-assembled : goal.returns-clause-assembled
 returns-clause-assembled c =
     let parts = c.args.parts.now in
     let is_current = ap (λ (a : PlainActivation). current_turn a c.args.activation c.args.turn) (sym c.at.ensures.activation) ∙ sym c.in-Some-current_turn.ensures in
-    commit-assembled parts c.args.grain.now c.in-Some.number c.args.activation c.args.turn c.args.note c.in-Some-current_turn.run'.now c.handle.new.subs c.end_turn.new.self (reply_of c.in_ok-told.told) c.requires.assembled c.requires.reached
-    (distinct-of-unique parts.subs.registry.names c.requires.unique) (sym c.requires.records.long) (sym c.find.ensures.number ∙ c.in-Some.is) is_current c.in_ok-told.ensures.performs c.end_turn.ensures
+    commit-assembled parts c.args.grain.now c.in-Some.number c.args.activation c.args.turn c.args.note c.in-Some-current_turn.run'.now c.handle.new.subs c.commit-ended.new.self (reply_of c.in_ok-told.told) c.requires.assembled c.requires.reached
+    (distinct-of-unique parts.subs.registry.names c.requires.unique) (sym c.requires.records.long) (sym c.find.ensures.number ∙ c.in-Some.is) is_current c.in_ok-told.ensures.performs (ends-running parts.grains c.commit-ended.new.self c.in-Some.number c.args.activation c.args.turn c.in-Some-current_turn.run'.now is_current c.commit-ended.ensures.grains)
 
 pub returns-clause-performs : goal.returns-clause-performs
 returns-clause-performs c =
@@ -70,4 +70,4 @@ returns-clause-performs c =
     let i = c.in-Some.number in
     let below = known-at parts i c.requires.assembled c.in-Some.ensures.within in
     let is_current = ap (λ (a : PlainActivation). current_turn a c.args.activation c.args.turn) (sym c.at.ensures.activation) ∙ sym c.in-Some-current_turn.ensures in
-    commit-told parts c.args.grain.now i c.args.activation c.args.turn c.args.note c.in-Some-current_turn.run'.now c.handle.new.subs c.end_turn.new.self (reply_of c.in_ok-told.told) (distinct-of-unique parts.subs.registry.names c.requires.unique) (sym c.requires.records.long) (sym c.find.ensures.number ∙ c.in-Some.is) below is_current c.in_ok-told.ensures.performs c.end_turn.ensures
+    commit-told parts c.args.grain.now i c.args.activation c.args.turn c.args.note c.in-Some-current_turn.run'.now c.handle.new.subs c.commit-ended.new.self (reply_of c.in_ok-told.told) (distinct-of-unique parts.subs.registry.names c.requires.unique) (sym c.requires.records.long) (sym c.find.ensures.number ∙ c.in-Some.is) below is_current c.in_ok-told.ensures.performs (ends-running parts.grains c.commit-ended.new.self c.in-Some.number c.args.activation c.args.turn c.in-Some-current_turn.run'.now is_current c.commit-ended.ensures.grains)

@@ -1,6 +1,6 @@
 use Rattle.std.proofs.Common.{◌∙◌, ap, sym, ◌<◌, length, arith, ◌≡◌, Bool, is_some, if◌then◌else◌, ℕ}
 use Rattle.std.specs.Option.{option_copied_mut}
-use Rattle.stream_ident.specs.Words.{change_at}
+use Rattle.stream_ident.specs.Words.{change_at, past}
 use Rattle.consumer_grain.specs.Activations.{begin, PlainActivation}
 use Rattle.consumer_grain.specs.declared.told.Begun.{Begun}
 use Rattle.grain_table.specs.Changes.{activation_at}
@@ -66,7 +66,7 @@ returns-clause-grains c =
     let grains = t.entries.entries in
     let within : c.args.number < length grains = omega (arith, ap length c.self.view_is) in
     let read = read-value grains c.args.number c.unwrap-activation.result.now within (sym (ap option_copied_mut c.unwrap-activation.ensures) ∙ c.get_index_mut.ensures.value) in
-    let change : PlainActivation → PlainActivation = λ a. (begin a c.args.past c.args.turn c.args.max_events).0 in
+    let change : PlainActivation → PlainActivation = λ a. (begin a (past c.args.state.now.handled) c.args.turn c.args.max_events).0 in
     written grains change c.args.number c.begin-begun.new.self within (ap (λ (r : PlainActivation × Begun). r.0) c.begin-begun.ensures.begun ∙ ap change read)
     ∙ ap (change_at change c.args.number) c.self.view_is
 
@@ -77,4 +77,4 @@ returns-clause-begun c =
     let within : c.args.number < length grains = omega (arith, ap length c.self.view_is) in
     let read = read-value grains c.args.number c.unwrap-activation.result.now within (sym (ap option_copied_mut c.unwrap-activation.ensures) ∙ c.get_index_mut.ensures.value) in
     ap (λ (r : PlainActivation × Begun). r.1) c.begin-begun.ensures.begun
-    ∙ ap (λ (a : PlainActivation). (begin a c.args.past c.args.turn c.args.max_events).1) (read ∙ ap (λ (gs : PlainGrains). activation_at gs c.args.number) c.self.view_is)
+    ∙ ap (λ (a : PlainActivation). (begin a (past c.args.state.now.handled) c.args.turn c.args.max_events).1) (read ∙ ap (λ (gs : PlainGrains). activation_at gs c.args.number) c.self.view_is)

@@ -4,6 +4,7 @@ use Rattle.std.specs.declared.alloc.AllocError.{AllocError}
 use Rattle.indexmap.specs.IndexMap.{set_value_at}
 use Rattle.consumer_grain.specs.declared.mailbox.Delivery.{Delivery}
 use Rattle.stream_ident.specs.Words.{change_at}
+use Rattle.stream_ident.specs.declared.limits.TheConstants.{MAILBOX_PLACES}
 use Rattle.consumer_grain.specs.Activations.{offer_takes_memory, offered, PlainActivation, woken}
 use Rattle.consumer_grain.specs.declared.told.Offered.{Offered}
 use Rattle.consumer_grain.specs.declared.told.Offered.TheVariants as offer
@@ -15,7 +16,7 @@ use Rattle.grain_table.proofs.table.GrainTable.offer.Goals as goal
 
 -- an offer leaves the turn alone
 offered-running : (a : PlainActivation) (delivery : Delivery) → is_running (offered a delivery).0 ≡ is_running a
-offered-running a delivery = by (nat_le 16 (length a.mailbox))
+offered-running a delivery = by (nat_le MAILBOX_PLACES (length a.mailbox))
   where
     by : (full : Bool) → is_running (if◌then◌else◌ {A = PlainActivation × Offered} full (a, offer.MailboxFull) (woken a delivery, offer.Delivered)).0 ≡ is_running a
     by true = refl

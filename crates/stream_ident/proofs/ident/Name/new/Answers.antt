@@ -1,9 +1,10 @@
 use Rattle.std.proofs.Common.{sym}
+use Rattle.stream_ident.specs.declared.limits.TheConstants.{NAME_BYTES}
 use Rattle.stream_ident.proofs.NameLemmas.{IsName-from_right, IsPadded-from_row}
 use Rattle.stream_ident.proofs.ident.Name.new.Goals as goal
 
 pub invariant_of-result : goal.invariant_of-result
 invariant_of-result c =
     let name = IsName-from_right c.args.bytes.now (sym c.in_default.ensures) in
-    let row = IsPadded-from_row 64 c.args.bytes.now c.padded.result name.short c.padded.ensures in
+    let row = IsPadded-from_row NAME_BYTES c.args.bytes.now c.padded.result name.short c.padded.ensures in
     (row.0, rw row.1 name)
