@@ -1,5 +1,5 @@
 -- What was told of a script up to the line that was stopped.
-use Rattle.std.proofs.Common.{◌≡◌, ◌≢◌, inl, inr, if◌then◌else◌, ℕ, true, List, [], ◌∷◌, ◌++◌, Option, Some, None, Result, Ok, Err, refl, sym, ap, subst, ◌∙◌}
+use Rattle.std.proofs.Common.{◌≡◌, ◌≢◌, ◌⊎◌, inl, inr, if◌then◌else◌, ℕ, zero, suc, ◌<◌, true, arith, length, List, [], ◌∷◌, ◌++◌, Option, Some, None, Result, Ok, Err, refl, sym, ap, subst, ◌∙◌}
 use Rattle.std.proofs.lemmas.Bool.{eq-eqb}
 use Rattle.std.proofs.lemmas.Bool.Decides.{eqb_tells}
 use Rattle.std.proofs.lemmas.List.{append-nil}
@@ -21,6 +21,7 @@ use Rattle.stream_cluster.specs.Clusters.{ClusterView}
 use Rattle.script_parser.specs.declared.command.Command.{Command}
 use Rattle.script_parser.specs.declared.command.Command.TheVariants as command
 use Rattle.script_parser.specs.declared.command.EachOp.{EachOp}
+use Rattle.script_parser.specs.Forms.{op_of}
 use Rattle.script_reader.specs.declared.line.Line.{Line}
 use Rattle.script_reader.specs.ScriptLaws.{HasNoLine}
 use Rattle.script_reader.specs.Told as script
@@ -28,10 +29,31 @@ use Rattle.script_reader.proofs.Growing.{scripts-grow}
 use Rattle.script_reader.proofs.Misses.{misses-change-no-other}
 use Rattle.script_producer.specs.declared.answer.Answer.{Answer}
 use Rattle.script_producer.specs.declared.answer.Answer.TheVariants as answer
-use Rattle.script_producer.specs.Telling.{AloneProduces, AsksOnce, BeginsEmpty, HasGoneOn, HasTold, IsNewNumber, ProducesAlone, Tells, told_at, with_missed}
+use Rattle.script_producer.specs.Telling.{AloneProduces, AsksEachOnce, AsksOnce, AsksUpTo, BeginsEmpty, HasTold, IsAsked, IsNewNumber, ProducesAlone, Tells, told_at, with_missed}
+use Rattle.script_producer.proofs.Asked.{before-at}
 use Rattle.script_producer.proofs.Placing.{set-at}
-use Rattle.script_producer.proofs.Seen.{ProducesNone, all_told, asks-foreign, called-told, none-told, told-append}
+use Rattle.script_producer.proofs.Seen.{ProducesNone, asks-foreign, called-told, none-told}
 use Rattle.cluster_scripts.specs.Lines.{DoesLine, HasToldFront, IsToldInPart, IsToldOnce, TellsInPart}
+
+-- ---- parts of a line
+
+-- nothing was told at a queue where nothing was to be, or where the line didn't come
+pub none-part : (at : ℕ) (asked : Command) (queue : ℕ) → (queue < at → script.op_at queue asked ≡ None) → IsToldInPart at asked queue []
+none-part at asked queue none =
+    record { before = λ less. subst (λ (o : Option Op). IsToldOnce o []) (sym (none less)) refl; here = λ same. inl refl; behind = λ past. refl }
+
+-- all was
+whole-part : (at : ℕ) (asked : Command) (queue : ℕ) (rest : List told.Entry) → queue < at → IsToldOnce (script.op_at queue asked) rest → IsToldInPart at asked queue rest
+whole-part at asked queue rest less once = record { before = λ _. once; here = λ same. inr once; behind = λ past. absurd (omega (arith, less, past)) }
+
+-- the line was stopped there
+stopped-part : (at : ℕ) (asked : Command) (queue : ℕ) (rest : List told.Entry) → queue ≡ at → ((rest ≡ []) ⊎ IsToldOnce (script.op_at queue asked) rest) → IsToldInPart at asked queue rest
+stopped-part at asked queue rest same most = record { before = λ less. absurd (omega (arith, less, same)); here = λ _. most; behind = λ past. absurd (omega (arith, past, same)) }
+
+within-all : {A : Type 0} (xs : List A) (k : ℕ) (x : A) → slice_get xs k ≡ Some x → k < length xs
+within-all [] k x at = absurd (cc)
+within-all (y ∷ xs) zero x at = omega arith
+within-all (y ∷ xs) (suc k) x at = omega (arith, within-all xs k x at)
 
 -- ---- a line that asks at one queue
 
@@ -57,7 +79,7 @@ refused-none p q op refusal calls =
     }
 
 call-part : (p q : QueuePass) (op : Op) (outcome : Result Reply Refusal) (before : List told.Entry) → is_producer op ≡ true → ProducesAlone q → QueueCalls p op outcome q → told_at p ≡ before
-    → (rest : List told.Entry) × (told_at q ≡ before ++ rest) × IsToldOnce (Some op) rest
+    → (rest : List told.Entry) × (told_at q ≡ before ++ rest) × ((rest ≡ []) ⊎ IsToldOnce (Some op) rest)
 call-part p q op (Ok r) before produces alone calls so_far =
     let last : List told.Entry = record { op = op; reply = script.told_of r } ∷ [] in
     (last, (called-told p q op r produces calls alone).1 ∙ ap (λ (es : List told.Entry). es ++ last) so_far, inr (script.told_of r, refl))
@@ -65,40 +87,98 @@ call-part p q op (Err refusal) before produces alone calls so_far =
     ([], none-told p q (refused-none p q op refusal calls) alone ∙ so_far ∙ sym (append-nil before), inl refl)
 
 pub step-part : (old new : List QueuePass) (queue : ℕ) (op : Op) (result : Result Answer AllocError) → is_producer op ≡ true → AsksOnce old queue op result new → TellsInPart old (command.Step queue op) new
-step-part old new queue op result produces once begins alone missed lines number fresh has other q at =
-    let calls = once.calls in
-    let was = calls.was in
-    let asks = command.Step queue op in
-    let before = script.told missed other lines in
-    elim (set-at old queue other was calls.is q calls.had (ap (λ (es : List QueuePass). slice_get es other) (sym calls.whole) ∙ at)) as (λ s. (rest : List told.Entry) × (told_at q ≡ before ++ rest) × IsToldOnce (script.op_at other asks) rest) [
-      | inl here ↦
-          let part =
-          call-part was q op once.outcome before produces (all-at ProducesAlone new other q alone at) (subst (λ (w : QueuePass). QueueCalls was op once.outcome w) (sym here.1) calls.calls)
-          (has other was (ap (λ k. slice_get old k) here.0 ∙ calls.had)) in
-          (part.0, part.1, subst (λ (o : Option Op). IsToldOnce o part.0) (sym (ap (λ k. script.op_at k asks) here.0 ∙ op-here queue op produces)) part.2)
-      | inr there ↦ ([], has other q there.1 ∙ sym (append-nil before), subst (λ (o : Option Op). IsToldOnce o []) (sym (op-there queue other op there.0)) refl)
-    ]
+step-part old new queue op result produces once begins alone missed lines number fresh has = (
+  queue,
+  λ other q at.
+      let calls = once.calls in
+      let was = calls.was in
+      let asks = command.Step queue op in
+      let before = script.told missed other lines in
+      elim (set-at old queue other was calls.is q calls.had (ap (λ (es : List QueuePass). slice_get es other) (sym calls.whole) ∙ at)) as (λ s. (rest : List told.Entry) × (told_at q ≡ before ++ rest) × IsToldInPart queue asks other rest) [
+        | inl here ↦
+            let part =
+            call-part was q op once.outcome before produces (all-at ProducesAlone new other q alone at) (subst (λ (w : QueuePass). QueueCalls was op once.outcome w) (sym here.1) calls.calls)
+            (has other was (ap (λ k. slice_get old k) here.0 ∙ calls.had)) in
+            (part.0, part.1, stopped-part queue asks other part.0 here.0 (subst (λ (o : Option Op). (part.0 ≡ []) ⊎ IsToldOnce o part.0) (sym (ap (λ k. script.op_at k asks) here.0 ∙ op-here queue op produces)) part.2))
+        | inr there ↦ ([], has other q there.1 ∙ sym (append-nil before), none-part queue asks other (λ less. op-there queue other op there.0))
+      ],
+)
+
+-- ---- a line that asks at each queue
+
+-- what it asks for at each
+op-each : (each : EachOp) (queue : ℕ) → is_producer (op_of each) ≡ true → script.op_at queue (command.Each each) ≡ Some (op_of each)
+op-each each queue produces = ap (λ b. if b then Some (op_of each) else None) produces
+
+-- at a queue that was asked before the line was stopped
+asked-part : (p q : QueuePass) (each : EachOp) (last : ℕ) (queue : ℕ) (before : List told.Entry) → queue < last → is_producer (op_of each) ≡ true → ProducesAlone q → IsAsked (op_of each) p q → told_at p ≡ before
+    → (rest : List told.Entry) × (told_at q ≡ before ++ rest) × IsToldInPart last (command.Each each) queue rest
+asked-part p q each last queue before less produces alone asked so_far =
+    let op = op_of each in
+    let rest : List told.Entry = record { op = op; reply = script.told_of asked.reply } ∷ [] in (
+      rest,
+      (called-told p q op asked.reply produces asked.calls alone).1 ∙ ap (λ (es : List told.Entry). es ++ rest) so_far,
+      whole-part last (command.Each each) queue rest less (subst (λ (o : Option Op). IsToldOnce o rest) (sym (op-each each queue produces)) (script.told_of asked.reply, refl)),
+    )
+
+all-part : (old new : List QueuePass) (each : EachOp) → is_producer (op_of each) ≡ true → AllZip (IsAsked (op_of each)) old new → TellsInPart old (command.Each each) new
+all-part old new each produces all begins alone missed lines number fresh has = (
+  length new,
+  λ queue q at.
+      let beside = zip-at (IsAsked (op_of each)) old new queue q all at in
+      asked-part beside.0 q each (length new) queue (script.told missed queue lines) (within-all new queue q at) produces (all-at ProducesAlone new queue q alone at) beside.2 (has queue beside.0 beside.1),
+)
+
+upto-part : (old new : List QueuePass) (each : EachOp) (result : Result Answer AllocError) → is_producer (op_of each) ≡ true → AsksUpTo old (op_of each) result new → TellsInPart old (command.Each each) new
+upto-part old new each result produces asks begins alone missed lines number fresh has = (
+  asks.queue,
+  λ queue q at.
+      let op = op_of each in
+      let asked = command.Each each in
+      let last = asks.queue in
+      let calls = asks.last.calls in
+      let was = calls.was in
+      let before = script.told missed queue lines in
+      let alone_there = all-at ProducesAlone new queue q alone at in
+      elim (set-at asks.before last queue was calls.is q calls.had (ap (λ (es : List QueuePass). slice_get es queue) (sym calls.whole) ∙ at)) as (λ s. (rest : List told.Entry) × (told_at q ≡ before ++ rest) × IsToldInPart last asked queue rest) [
+        | inl here ↦
+            elim (before-at op last old asks.before last was asks.front calls.had) as (λ s. (rest : List told.Entry) × (told_at q ≡ before ++ rest) × IsToldInPart last asked queue rest) [
+              | inl less ↦ absurd (omega (arith, less.0))
+              | inr past ↦
+                  let part =
+                  call-part was q op asks.last.outcome before produces alone_there (subst (λ (w : QueuePass). QueueCalls was op asks.last.outcome w) (sym here.1) calls.calls) (has queue was (ap (λ k. slice_get old k) here.0 ∙ past.1)) in
+                  (part.0, part.1, stopped-part last asked queue part.0 here.0 (subst (λ (o : Option Op). (part.0 ≡ []) ⊎ IsToldOnce o part.0) (sym (op-each each queue produces)) part.2))
+            ]
+        | inr there ↦
+            elim (before-at op last old asks.before queue q asks.front there.1) as (λ s. (rest : List told.Entry) × (told_at q ≡ before ++ rest) × IsToldInPart last asked queue rest) [
+              | inl less ↦ asked-part less.1 q each last queue before less.0 produces alone_there less.3 (has queue less.1 less.2)
+              | inr past ↦ ([], has queue q past.1 ∙ sym (append-nil before), none-part last asked queue (λ less. absurd (omega (arith, less, past.0))))
+            ]
+      ],
+)
+
+pub each-part : (old new : List QueuePass) (each : EachOp) (result : Result Answer AllocError) → is_producer (op_of each) ≡ true → AsksEachOnce old (op_of each) result new → TellsInPart old (command.Each each) new
+each-part old new each (Ok answer.Limit) produces once = upto-part old new each (Ok answer.Limit) produces once
+each-part old new each (Ok answer.Taken) produces once = all-part old new each produces once
+each-part old new each (Ok answer.Refused) produces once = all-part old new each produces once
+each-part old new each (Ok answer.Missed) produces once = all-part old new each produces once
+each-part old new each (Err e) produces once = upto-part old new each (Err e) produces once
 
 -- ---- the other lines
 
-pub each-part : (old new : List QueuePass) (each : EachOp) → AllZip HasGoneOn old new → TellsInPart old (command.Each each) new
-each-part old new each on begins alone missed lines number fresh has queue q at =
-    let beside = zip-at HasGoneOn old new queue q on at in
-    let p = beside.0 in
-    let gone = beside.2 in
-    let more = all_told gone.more in
-    (more, ap (λ (es : List (Entry Op Reply)). all_told es) gone.seen ∙ told-append p.seen gone.more ∙ ap (λ (es : List told.Entry). es ++ more) (has queue p beside.1), tt)
-
 pub drain-part : (old new : List QueuePass) → Tells old command.Drain answer.Taken new → TellsInPart old command.Drain new
-drain-part old new tells begins alone missed lines number fresh has queue q at =
-    let all = tells.told begins alone missed lines number fresh has in
-    ([], all queue q at ∙ scripts-grow.told missed queue lines (record { number = number; command = command.Drain }) ∙ sym (append-nil (script.told missed queue lines)), refl)
+drain-part old new tells begins alone missed lines number fresh has = (
+  0,
+  λ queue q at.
+      let all = tells.told begins alone missed lines number fresh has in
+      ([], all queue q at ∙ scripts-grow.told missed queue lines (record { number = number; command = command.Drain }) ∙ sym (append-nil (script.told missed queue lines)), none-part 0 command.Drain queue (λ less. refl)),
+)
 
 pub up-part : (passes : List QueuePass) (silo : ℕ) → TellsInPart passes (command.Up silo) passes
-up-part passes silo begins alone missed lines number fresh has queue q at = ([], has queue q at ∙ sym (append-nil (script.told missed queue lines)), refl)
+up-part passes silo begins alone missed lines number fresh has = (0, λ queue q at. ([], has queue q at ∙ sym (append-nil (script.told missed queue lines)), none-part 0 (command.Up silo) queue (λ less. refl)))
 
 pub down-part : (passes : List QueuePass) (silo : ℕ) → TellsInPart passes (command.Down silo) passes
-down-part passes silo begins alone missed lines number fresh has queue q at = ([], has queue q at ∙ sym (append-nil (script.told missed queue lines)), refl)
+down-part passes silo begins alone missed lines number fresh has = (0, λ queue q at. ([], has queue q at ∙ sym (append-nil (script.told missed queue lines)), none-part 0 (command.Down silo) queue (λ less. refl)))
 
 -- ---- a line that was done, but isn't noted
 
@@ -108,32 +188,27 @@ before-same answer.Taken number missed queue lines none = refl
 before-same answer.Refused number missed queue lines none = refl
 before-same answer.Limit number missed queue lines none = refl
 
-in-part : (asked : Command) (queue : ℕ) (rest : List told.Entry) → IsToldOnce (script.op_at queue asked) rest → IsToldInPart asked queue rest
-in-part (command.Step own op) queue rest once = once
-in-part (command.Each each) queue rest once = tt
-in-part command.Drain queue rest once = once
-in-part command.Report queue rest once = once
-in-part (command.Up silo) queue rest once = once
-in-part (command.Down silo) queue rest once = once
-
 with-part : (missed : List ℕ) (before : List told.Entry) (number : ℕ) (asked : Option Op) → (rest : List told.Entry) × (script.with_told missed before number asked ≡ before ++ rest) × IsToldOnce asked rest
 with-part missed before number None = ([], sym (append-nil before), refl)
 with-part missed before number (Some op) =
     let r = script.told_reply missed before number op in
-    (record { op = op; reply = r } ∷ [], refl, inr (r, refl))
+    (record { op = op; reply = r } ∷ [], refl, (r, refl))
 
 pub done-part : (v w : ClusterView) (old new : List QueuePass) (asked : Command) (a : Answer) → DoesLine v old asked a w new → TellsInPart old asked new
-done-part v w old new asked a does begins alone missed lines number fresh has queue q at =
-    let now = with_missed a number missed in
-    let all = does.told begins alone missed lines number fresh has in
-    let part = with-part now (script.told missed queue lines) number (script.op_at queue asked) in (
-      part.0,
-      all queue q at
-          ∙ scripts-grow.told now queue lines (record { number = number; command = asked })
-          ∙ ap (λ (before : List told.Entry). script.with_told now before number (script.op_at queue asked)) (before-same a number missed queue lines fresh.0)
-          ∙ part.1,
-      in-part asked queue part.0 part.2,
-    )
+done-part v w old new asked a does begins alone missed lines number fresh has = (
+  length new,
+  λ queue q at.
+      let now = with_missed a number missed in
+      let all = does.told begins alone missed lines number fresh has in
+      let part = with-part now (script.told missed queue lines) number (script.op_at queue asked) in (
+        part.0,
+        all queue q at
+            ∙ scripts-grow.told now queue lines (record { number = number; command = asked })
+            ∙ ap (λ (before : List told.Entry). script.with_told now before number (script.op_at queue asked)) (before-same a number missed queue lines fresh.0)
+            ∙ part.1,
+        whole-part (length new) asked queue part.0 (within-all new queue q at) part.2,
+      ),
+)
 
 -- ---- the lines that are left
 

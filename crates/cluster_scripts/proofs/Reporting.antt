@@ -27,6 +27,7 @@ use Rattle.script_printer.specs.Report.{queue_report, report_from}
 use Rattle.stream_cluster.specs.declared.config.Config.{Config}
 use Rattle.silo_crew.specs.Silos.{SiloView}
 use Rattle.stream_cluster.specs.Clusters.{ClusterView, HasFinished, IsAtQueue, IsConfig, IsNew}
+use Rattle.script_parser.specs.declared.command.Command.TheVariants as command
 use Rattle.script_reader.specs.declared.line.Line.{Line}
 use Rattle.script_reader.specs.declared.script_line.ScriptLine.{ScriptLine}
 use Rattle.script_reader.specs.ScriptReport.{told_report}
@@ -38,6 +39,7 @@ use Rattle.cluster_scripts.specs.declared.running.ScriptEnd.{ScriptEnd}
 use Rattle.cluster_scripts.specs.declared.running.ScriptEnd.TheVariants as end
 use Rattle.cluster_scripts.specs.Lines.{HasToldFront}
 use Rattle.cluster_scripts.specs.Runs.{DoesFront, EndsRun, EndsScript, IsPrinted, IsUntouched, TellFront, missed_in, run_end}
+use Rattle.cluster_scripts.proofs.Fronts.{none-part}
 use Rattle.cluster_scripts.proofs.Progress.{alone-back}
 
 -- ---- a new cluster
@@ -108,12 +110,15 @@ histories-tell caller histories missed lines begun made told queue history at =
 -- so is what it tells of a front of a script
 front-tells : (caller : List QueuePass) (histories : List (List (Entry Op Reply))) (missed : List ℕ) (done left : List Line) → AllZip HasBegun caller histories → CallersAloneProduce (caller ∷ []) histories → HasToldFront missed done left caller
     → TellFront missed done left histories
-front-tells caller histories missed done left begun made front queue history at =
-    let beside = zip-at HasBegun caller histories queue history begun at in
-    let p = beside.0 in
-    let is = beside.2 in
-    let has = front queue p beside.1 in
-    (has.0, none-told p (at_end p history) (record { on = ends-on p history is; none = owns-foreign is_producer (numbers_of p) is.rest is.foreign }) (made-alone caller histories queue p history made beside.1 at) ∙ has.1, has.2)
+front-tells caller histories missed done left begun made front = (
+  front.0,
+  λ queue history at.
+      let beside = zip-at HasBegun caller histories queue history begun at in
+      let p = beside.0 in
+      let is = beside.2 in
+      let has = front.1 queue p beside.1 in
+      (has.0, none-told p (at_end p history) (record { on = ends-on p history is; none = owns-foreign is_producer (numbers_of p) is.rest is.foreign }) (made-alone caller histories queue p history made beside.1 at) ∙ has.1, has.2),
+)
 
 -- ---- the report
 
@@ -177,7 +182,7 @@ module _ {H : Type 0} (entries : H → List (Entry Op Reply)) where
         [],
         sym (append-nil lines),
         ends.1.printed config.silos fresh others,
-        front-tells now histories missed lines [] begun made (λ queue p at. ([], ends.1.told config.silos fresh others queue p at ∙ sym (append-nil (script.told missed queue lines)), refl)),
+        front-tells now histories missed lines [] begun made (0, λ queue p at. ([], ends.1.told config.silos fresh others queue p at ∙ sym (append-nil (script.told missed queue lines)), none-part 0 command.Drain queue (λ less. refl))),
       )
   front-done config lines c w caller now found end.Limit histories is new ends begun made = front-known config lines c caller now found histories is new ends.1.0 begun made
   front-done config lines c w caller now found end.NotQuiet histories is new ends begun made = front-known config lines c caller now found histories is new ends.1.0 begun made

@@ -1,5 +1,5 @@
 -- What a line of a script does on a cluster.
-use Rattle.std.specs.Prelude.{◌≡◌, ◌⊎◌, ℕ, false, List, [], ◌∷◌, ◌++◌, Option, Some, None, Ok, Err, slice_get}
+use Rattle.std.specs.Prelude.{◌≡◌, ◌⊎◌, ℕ, ◌<◌, false, List, [], ◌∷◌, ◌++◌, Option, Some, None, Ok, Err, slice_get}
 use Rattle.std.specs.List.{AllByRecursion}
 use Rattle.queue_balancer.specs.Balance.{HasNoDoubles}
 use Rattle.stream_model.specs.declared.op.Op.{Op}
@@ -59,28 +59,30 @@ pub record DoesLine (v : ClusterView) (old : List QueuePass) (command : Command)
       → command_printed (with_missed a number missed) silos lines number command ≡ printed_lines a number
   pub stays : StaysOpen v w
 
--- what producers may have been told at a queue where this was asked at most once, or nothing was
+-- what producers were told at a queue where this was asked once, or nothing was
 abbrev pub IsToldOnce : Option Op → List told.Entry → Type 0
 IsToldOnce None rest = rest ≡ []
-IsToldOnce (Some op) rest = (rest ≡ []) ⊎ ((r : Reply) × (rest ≡ record { op = op; reply = r } ∷ []))
+IsToldOnce (Some op) rest = (r : Reply) × (rest ≡ record { op = op; reply = r } ∷ [])
 
--- What a line may have told at a queue until it was stopped: what it asks for there, at most once. Of a line that asks at
--- each queue nothing is said.
-abbrev pub IsToldInPart : Command → ℕ → List told.Entry → Type 0
-IsToldInPart (command.Each each) queue rest = Unit {0}
-IsToldInPart asked queue rest = IsToldOnce (script.op_at queue asked) rest
+-- What a line has told at a queue that was stopped at the queue `at`: what it asks for there once, if the queue stands
+-- before that one; once or never at that one; and nothing at those behind it.
+pub record IsToldInPart (at : ℕ) (asked : Command) (queue : ℕ) (rest : List told.Entry) : Type 0 where
+  pub before : queue < at → IsToldOnce (script.op_at queue asked) rest
+  pub here : queue ≡ at → (rest ≡ []) ⊎ IsToldOnce (script.op_at queue asked) rest
+  pub behind : at < queue → rest ≡ []
 
 -- what is done next of the lines that are left: past the last one it is waited as a drain does
 abbrev pub next_command : List Line → Command
 next_command [] = command.Drain
 next_command (line ∷ later) = line.command
 
--- At each queue producers asked and were told what the script tells of the lines that are done, and past that no more than
--- the next one may have told until it was stopped.
+-- At each queue producers asked and were told what the script tells of the lines that are done, and past that what the next
+-- one told until it was stopped at some queue.
 abbrev pub HasToldFront : List ℕ → List Line → List Line → List QueuePass → Type 0
 HasToldFront missed done left caller =
-    (queue : ℕ) (p : QueuePass) → slice_get caller queue ≡ Some p
-    → (rest : List told.Entry) × (told_at p ≡ script.told missed queue done ++ rest) × IsToldInPart (next_command left) queue rest
+    (at : ℕ)
+    × ((queue : ℕ) (p : QueuePass) → slice_get caller queue ≡ Some p
+    → (rest : List told.Entry) × (told_at p ≡ script.told missed queue done ++ rest) × IsToldInPart at (next_command left) queue rest)
 
 -- A line was stopped. Where the caller had told the lines of a script before it, and nobody else has produced, it has told
 -- them and no more than a part of this line.

@@ -105,12 +105,13 @@ abbrev pub TellScript : List ℕ → List Line → List (List (Entry Op Reply)) 
 TellScript missed lines histories =
     (queue : ℕ) (history : List (Entry Op Reply)) → slice_get histories queue ≡ Some history → script.producers_entries (told_of history) ≡ script.told missed queue lines
 
--- In the history of each queue they asked and were told what the script tells of the lines that are done, and past that no
--- more than the next one may have told until it was stopped.
+-- In the history of each queue they asked and were told what the script tells of the lines that are done, and past that
+-- what the next one told until it was stopped at some queue.
 abbrev pub TellFront : List ℕ → List Line → List Line → List (List (Entry Op Reply)) → Type 0
 TellFront missed done left histories =
-    (queue : ℕ) (history : List (Entry Op Reply)) → slice_get histories queue ≡ Some history
-    → (rest : List told.Entry) × (script.producers_entries (told_of history) ≡ script.told missed queue done ++ rest) × IsToldInPart (next_command left) queue rest
+    (at : ℕ)
+    × ((queue : ℕ) (history : List (Entry Op Reply)) → slice_get histories queue ≡ Some history
+    → (rest : List told.Entry) × (script.producers_entries (told_of history) ≡ script.told missed queue done ++ rest) × IsToldInPart at (next_command left) queue rest)
 
 module _ {H : Type 0} (entries : H → List (Entry Op Reply)) where
   -- there is a history for each queue, and it is legal

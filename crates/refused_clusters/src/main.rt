@@ -7,20 +7,31 @@
 //! are tried, and each has a line with its name and what came of it.
 #![tactic(auto)]
 
+mod parked;
 mod services;
-mod trying;
 
+use crate::parked::try_retire;
 use crate::services::{Change, try_change};
-use crate::trying::{Came, Stop};
+use refused_calls::{Came, Stop};
 use std::process::ExitCode;
 use streams::Host;
 
+/// A call that is tried.
+#[derive(Clone, Copy)]
+enum Call {
+    /// A call of a service.
+    Service(Change),
+    /// The loops of a silo of a parked cluster are given back.
+    Retire,
+}
+
 /// The calls, by their names.
-static CALLS: [(&str, Change); 4] = [
-    ("open", Change::Open),
-    ("silo_up", Change::Up),
-    ("silo_down", Change::Down),
-    ("close", Change::Close),
+static CALLS: [(&str, Call); 5] = [
+    ("open", Call::Service(Change::Open)),
+    ("silo_up", Call::Service(Change::Up)),
+    ("silo_down", Call::Service(Change::Down)),
+    ("close", Call::Service(Change::Close)),
+    ("retire", Call::Retire),
 ];
 
 /// Status 0 where nothing is wrong.
@@ -47,9 +58,9 @@ fn try_words<R: Host>(rt: R) -> Result<(), Stop> {
 
 /// Tries the call with this name, and prints what came of it.
 fn try_named<R: Host>(rt: R, name: &str) -> Result<(), Stop> {
-    for (call, change) in &CALLS {
-        if *call == name {
-            let word = word_of(try_change(rt, *change)?);
+    for (other, call) in &CALLS {
+        if *other == name {
+            let word = try_call(rt, *call)?.word();
             println!(rt; "{word}")?;
             return Ok(());
         }
@@ -59,18 +70,18 @@ fn try_named<R: Host>(rt: R, name: &str) -> Result<(), Stop> {
 
 /// Tries each call, and prints its name and what came of it.
 fn try_all<R: Host>(rt: R) -> Result<(), Stop> {
-    for (call, change) in &CALLS {
-        print!(rt; "{call} ")?;
-        let word = word_of(try_change(rt, *change)?);
+    for (name, call) in &CALLS {
+        print!(rt; "{name} ")?;
+        let word = try_call(rt, *call)?.word();
         println!(rt; "{word}")?;
     }
     Ok(())
 }
 
-/// The word for what came of a call.
-fn word_of(came: Came) -> &'static str {
-    match came {
-        Came::Done => "done",
-        Came::Refused => "refused",
+/// Tries a call.
+fn try_call<R: Host>(rt: R, call: Call) -> Result<Came, Stop> {
+    match call {
+        Call::Service(change) => try_change(rt, change),
+        Call::Retire => try_retire(&rt, rt.alloc()),
     }
 }

@@ -1,11 +1,11 @@
 //! The calls of a cluster in threads, as a service makes them. Which of its calls memory is refused to, or which loop of a
 //! silo, is by chance: it ends without a loop that is left, and with a report that is right or without memory.
-use crate::trying::{Came, Stop, check, with_memory};
+use refused_calls::{Came, Stop, check, with_memory};
 use std::alloc::{AllocError, Global};
 use std::sync::Arc;
 use streams::{
-    CloseError, Config, Counting, GrainId, Host, Payload, Service, SettleError, SiloError, Start,
-    StreamId,
+    CloseError, Config, Counting, GrainId, Host, Payload, PublishError, Service, SettleError,
+    SiloError, Start, StreamId, SubscribeError,
 };
 
 /// The call that is tried.
@@ -33,16 +33,23 @@ fn open<R: Host>(rt: R, gate: &Shared) -> Result<Service<R, Counting>, AllocErro
 
 /// Publishes an event.
 fn publish<R: Host>(service: &mut Service<R, Counting>) -> Result<(), Stop> {
-    let _token = service.publish(StreamId::new(b"o", b"k")?, &[Payload::new(b"a")?])?;
-    Ok(())
+    let stream = StreamId::new(b"o", b"k")?;
+    match service.publish(stream, &[Payload::new(b"a")?]) {
+        Ok(_token) => Ok(()),
+        Err(PublishError::Memory) => Err(Stop::Memory),
+        Err(_) => Err(Stop::Wrong("an event isn't published")),
+    }
 }
 
 /// A grain subscribes, and an event is published.
 fn begin<R: Host>(service: &mut Service<R, Counting>) -> Result<(), Stop> {
     let stream = StreamId::new(b"o", b"k")?;
     let grain = GrainId::new(b"g", b"x")?;
-    let _subscription = service.subscribe(stream, grain, Start::Latest)?;
-    publish(service)
+    match service.subscribe(stream, grain, Start::Latest) {
+        Ok(_subscription) => publish(service),
+        Err(SubscribeError::Memory) => Err(Stop::Memory),
+        Err(_) => Err(Stop::Wrong("a grain doesn't subscribe")),
+    }
 }
 
 /// Waits until all is handled, and closes a service. Where a change of its silos was broken off, something may be left to

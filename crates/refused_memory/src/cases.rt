@@ -2,8 +2,8 @@
 use crate::calls::{Placing, try_balance, try_line, try_placing};
 use crate::partitions::{BLOCKS, STORY, try_drain, try_run, try_step};
 use crate::simulation::try_sim;
-use crate::trying::{Came, Stop};
 use crate::turnstiles::{try_close, try_enter, try_new, try_split};
+use refused_calls::{Came, Stop};
 use std::sync::Wait;
 
 /// A call that is tried.

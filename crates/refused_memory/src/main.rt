@@ -14,8 +14,7 @@ mod trying;
 mod turnstiles;
 
 use crate::cases::{CASES, try_case};
-use crate::trying::{Came, Stop};
-use std::io;
+use refused_calls::Stop;
 use std::process::ExitCode;
 use std::rt::Runtime;
 use std::sync::Wait;
@@ -46,7 +45,7 @@ fn try_words<R: Runtime + AllocGlobal + Wait>(rt: &R) -> Result<(), Stop> {
 fn try_named<R: Print + AllocGlobal + Wait>(rt: &R, name: &str) -> Result<(), Stop> {
     for case in &CASES {
         if case.name == name {
-            let word = word_of(try_case(rt, case)?);
+            let word = try_case(rt, case)?.word();
             println!(rt; "{word}")?;
             return Ok(());
         }
@@ -58,7 +57,7 @@ fn try_named<R: Print + AllocGlobal + Wait>(rt: &R, name: &str) -> Result<(), St
 fn try_all<R: Print + AllocGlobal + Wait>(rt: &R) -> Result<(), Stop> {
     for case in &CASES {
         print!(rt; "{} ", case.name)?;
-        let word = word_of(try_case(rt, case)?);
+        let word = try_case(rt, case)?.word();
         let memory = if case.takes_memory {
             ""
         } else {
@@ -67,21 +66,4 @@ fn try_all<R: Print + AllocGlobal + Wait>(rt: &R) -> Result<(), Stop> {
         println!(rt; "{word}{memory}")?;
     }
     Ok(())
-}
-
-/// The word for what came of a call.
-fn word_of(came: Came) -> &'static str {
-    match came {
-        Came::Done => "done",
-        Came::Refused => "refused",
-    }
-}
-
-impl From<io::Error> for Stop {
-    fn from(error: io::Error) -> Stop {
-        match error.kind() {
-            io::ErrorKind::OutOfMemory => Stop::Memory,
-            _ => Stop::Wrong("nothing can be printed"),
-        }
-    }
 }

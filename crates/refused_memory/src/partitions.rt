@@ -1,5 +1,6 @@
 //! The calls of a partition.
-use crate::trying::{Came, Stop, Tried, check, try_call, with_memory};
+use crate::trying::{Tried, try_call};
+use refused_calls::{Came, Stop, check, with_memory};
 use script_parser::{Command, Mode, Parsed, parse_line};
 use std::alloc::{AllocError, Global};
 use step_core::{DrainEnd, Limits, Op, Partition, Quiet, Reply};

@@ -1,52 +1,6 @@
-//! How a call is tried, and what comes of it.
-use std::alloc::{AllocError, AllocFailed, Global};
-use stream_ident::BadName;
-use turnstile::Refusal;
-
-/// What came of a call.
-#[derive(Clone, Copy, PartialEq, Eq)]
-pub(crate) enum Came {
-    /// Nothing was refused.
-    Done,
-    /// Memory was refused to the call, and all was as it has to be.
-    Refused,
-}
-
-/// Why neither is said.
-#[derive(Drop)]
-pub(crate) enum Stop {
-    /// Memory was refused to what stands before the call, or behind a call that was done.
-    Memory,
-    /// Something isn't as it has to be.
-    Wrong(&'static str),
-}
-
-impl From<AllocError> for Stop {
-    fn from(_: AllocError) -> Stop {
-        Stop::Memory
-    }
-}
-
-impl<T: Drop> From<AllocFailed<T>> for Stop {
-    fn from(_: AllocFailed<T>) -> Stop {
-        Stop::Memory
-    }
-}
-
-impl From<BadName> for Stop {
-    fn from(_: BadName) -> Stop {
-        Stop::Wrong("a name of the case is none")
-    }
-}
-
-impl From<Refusal> for Stop {
-    fn from(refusal: Refusal) -> Stop {
-        match refusal {
-            Refusal::Memory => Stop::Memory,
-            Refusal::HistoryFull => Stop::Wrong("the history is full"),
-        }
-    }
-}
+//! How a call is tried.
+use refused_calls::{Came, Stop, check, with_memory};
+use std::alloc::{AllocError, Global};
 
 /// A value, and a call of it.
 pub(crate) trait Tried {
@@ -89,24 +43,6 @@ pub(crate) fn try_call<T: Tried>(alloc: Global, one: &mut T, twin: &mut T) -> Re
             Ok(Came::Done)
         }
         Err(AllocError) => with_memory(call_again(alloc, one, twin)),
-    }
-}
-
-/// What came of a call to which memory was refused, where this was found behind it: no more memory was refused.
-pub(crate) fn with_memory(found: Result<(), Stop>) -> Result<Came, Stop> {
-    match found {
-        Ok(()) => Ok(Came::Refused),
-        Err(Stop::Memory) => Err(Stop::Wrong("memory was refused twice")),
-        Err(stop) => Err(stop),
-    }
-}
-
-/// Stops where it isn't so.
-pub(crate) fn check(is_so: bool, wrong: &'static str) -> Result<(), Stop> {
-    if is_so {
-        Ok(())
-    } else {
-        Err(Stop::Wrong(wrong))
     }
 }
 

@@ -23,8 +23,8 @@ const MOST_YIELDS: u32 = 5_000;
 pub enum Drained {
     /// In one look at all queues each was quiet.
     Quiet,
-    /// Not all queues got quiet: a loop has ended, a silo went and its queues weren't given to others, or there were as
-    /// many looks as there may be.
+    /// Not all queues got quiet: a loop has ended, a silo went and its queues weren't given to others, not all loops of
+    /// one that came could be started, or there were as many looks as there may be.
     NotQuiet,
     /// The history of a queue is full.
     Limit,

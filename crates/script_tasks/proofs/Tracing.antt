@@ -95,7 +95,7 @@ left-tells : (config : Config) (old new : Option (List ℕ)) (lines : List Line)
 left-tells config old new lines found why (Some traces) runs legal written =
     let histories = map asked_entries traces.histories.items in
     (runs.0, runs.1, missed_in found, histories, runs.2, each-legal config histories traces.partitions.items legal.each, runs.4, written)
-left-tells config old new lines found why None runs legal written = ([], lines, [], [], refl, tt, (λ queue history at. absurd (cc)), written)
+left-tells config old new lines found why None runs legal written = ([], lines, [], [], refl, tt, (0, λ queue history at. absurd (cc)), written)
 
 -- what was written of a run that read the script so
 pub trace-printed : (config : Config) (script : List ℕ) (old new : Option (List ℕ)) (lines : List Line) (found : List ScriptLine) (end : RunEnd (AskedHistory Op Reply)) (result : Result Unit ProgramFault) → commands_of config.queues script ≡ Ok lines

@@ -15,7 +15,8 @@ use std::sync::Wait;
 use std::thread::Threads;
 use turnstile::Recorded;
 
-// Starts the loops of a silo. Where they can't be started, their passes are joined back.
+// Starts the loops of a silo. Where they can't all be started, their passes are joined back. One that had started may
+// have stopped with a turn in hand, which is never committed then: whoever waits until all is quiet is told.
 pub(crate) fn start_silo<
     G: Gate + 'static,
     H: QueueHistory + Send + 'static,
@@ -36,6 +37,7 @@ pub(crate) fn start_silo<
         Ok(running) => Ok(running),
         Err(back) => {
             operator.take_back(back);
+            operator.doorbell().end(rt);
             Err(AllocError)
         }
     }

@@ -202,6 +202,9 @@ impl<
     /// # Errors
     /// The call failed to allocate, or a thread can't be made. What was answered by then stands, and the
     /// cluster's silos don't change any more.
+    ///
+    /// Where not all of the silo's threads could be made, one of them may have stopped with a turn in hand, and a drain
+    /// of its queue gives up.
     pub fn silo_up<R: Threads + Wait + Copy + Send + 'static>(
         &mut self,
         rt: &R,

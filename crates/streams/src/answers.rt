@@ -109,8 +109,8 @@ pub enum UnsubscribeError {
 /// Why a service doesn't settle.
 #[derive(Clone, Copy, Debug, PartialEq, Eq, Error)]
 pub enum SettleError {
-    /// Not all queues got quiet: a loop has ended, a silo went and its queues weren't given to others, or there were as
-    /// many looks at the queues as `Config::looks` says.
+    /// Not all queues got quiet: a loop has ended, a silo went and its queues weren't given to others, not all loops of
+    /// one that came could be started, or there were as many looks at the queues as `Config::looks` says.
     #[error("not all queues get quiet")]
     NotQuiet,
     /// The history of a queue is full.

@@ -115,7 +115,8 @@ pub returns-in-Each-clause-part : goal.returns-in-Each-clause-part
 returns-in-Each-clause-part g c =
     let old = c.args.caller.now in
     let new = c.ask_each.new.caller in
-    on-err c.unless_limit-in-Each.result (subst (λ (said : Command). TellsInPart old said new) (sym c.in-Each.is) (each-part old new c.in-Each.each c.ask_each.ensures.on))
+    let produces = subst (λ (said : Command). IsRunCommand (length old) said) c.in-Each.is c.requires.command in
+    on-err c.unless_limit-in-Each.result (subst (λ (said : Command). TellsInPart old said new) (sym c.in-Each.is) (each-part old new c.in-Each.each c.ask_each.result produces c.ask_each.ensures.once))
 
 pub returns-in-Up-clause-part : goal.returns-in-Up-clause-part
 returns-in-Up-clause-part g c =
