@@ -1,8 +1,8 @@
 -- The tokens of a log, and the events that are read of it.
-use Rattle.std.proofs.Common.{◌≡◌, ◌∙◌, ap, sym, refl, ℕ, suc, ◌+◌, ◌-◌, ◌<◌, ◌≤◌, inl, inr, true, List, [], ◌∷◌, ◌++◌, length, get_or, drop, take, length-append, arith}
+use Rattle.std.proofs.Common.{◌≡◌, ◌∙◌, ap, sym, refl, ℕ, suc, ◌+◌, ◌-◌, ◌<◌, ◌≤◌, inl, inr, true, List, ◌++◌, length, get_or, map, drop, take, length-append, arith}
 use Rattle.std.proofs.lemmas.Bool.{cases_lt, le-ltb, ne_eqb}
 use Rattle.std.proofs.lemmas.Bool.Decides.{nat_tests}
-use Rattle.std.proofs.lemmas.List.{get_or_append_left, get_or-append_right, get_or-drop, length-drop, length-take, take_more}
+use Rattle.std.proofs.lemmas.List.{get_or_append_left, get_or-append_right, get_or-drop, get_or-map, get_or-take, length-drop, length-take, take-map, take-take}
 use Rattle.stream_ident.specs.declared.event.Event.{Event}
 use Rattle.stream_ident.specs.declared.ident.StreamId.{StreamId}
 use Rattle.stream_ident.specs.declared.token.Token.{Token}
@@ -10,6 +10,7 @@ use Rattle.stream_ident.specs.Event.{events_of, no_event}
 use Rattle.stream_ident.specs.Token.{token_lt}
 use Rattle.stream_ident.specs.declared.limits.TheConstants.{BATCH_EVENTS}
 use Rattle.stream_ident.proofs.EventLemmas.{length-events_of, events_of-token}
+use Rattle.queue_mapper.specs.Place.{bare}
 use Rattle.partition_queue.specs.declared.appended.Appended.{Appended}
 use Rattle.partition_queue.specs.declared.appended.Appended.TheVariants.{Accepted}
 use Rattle.partition_queue.specs.Queue.{PlainQueue, IsLog, TokensRise, append, between, event_at}
@@ -75,16 +76,20 @@ accepts q stream payloads some few fits =
     let next : q.batches + 1 ≡ suc q.batches = omega arith in
     rw (ne_eqb (length payloads) 0 (λ e. omega arith), le-ltb BATCH_EVENTS (length payloads) few, le-ltb q.limit (length q.events + length payloads) fits, next) refl
 
--- one more event is read
-pub read_more : (q : PlainQueue) (from position : ℕ) (read now : List Event) (event : Event) → from ≤ position → position < length q.events → read ≡ between q from position → event ≡ event_at q position → now ≡ read ++ event ∷ [] → now ≡ between q from (position + 1)
-read_more q from position read now event order within was is push =
-    let next : (position + 1) - from ≡ (position - from) + 1 = omega arith in
-    let at : from + (position - from) ≡ position = omega arith in
-    let left = length-drop from q.events in
-    let more : take ((position - from) + 1) (drop from q.events) ≡ take (position - from) (drop from q.events) ++ get_or (drop from q.events) (position - from) no_event ∷ [] =
-    take_more (drop from q.events) (position - from) no_event (omega (arith, left)) in
-    let here : get_or (drop from q.events) (position - from) no_event ≡ event_at q position = get_or-drop from q.events (position - from) no_event ∙ ap (λ n. get_or q.events n no_event) at in
-    push ∙ ((λ i. was i ++ (is ∙ sym here) i ∷ []) ∙ (sym more ∙ ap (λ n. take n (drop from q.events)) (sym next)))
+-- ---- the events between two positions
 
 pub length-between : (q : PlainQueue) (from to : ℕ) → to ≤ length q.events → length (between q from to) ≡ to - from
 length-between q from to within = omega (arith, length-take (to - from) (drop from q.events), length-drop from q.events)
+
+-- an event of a part of the log, without its payload
+pub between_at : (q : PlainQueue) (from to index : ℕ) → to ≤ length q.events → index < to - from → get_or (map bare (between q from to)) index no_event ≡ bare (event_at q (from + index))
+between_at q from to index within inside =
+    get_or-map bare (between q from to) index no_event no_event (omega (arith, inside, length-between q from to within))
+    ∙ ap bare (get_or-take (to - from) (drop from q.events) index no_event inside ∙ get_or-drop from q.events index no_event)
+
+-- the first events of a part
+pub between_first : (q : PlainQueue) (from to count : ℕ) → count ≤ to - from → map bare (between q from (from + count)) ≡ take count (map bare (between q from to))
+between_first q from to count inside =
+    ap (λ n. map bare (take n (drop from q.events))) {x = from + count - from} {y = count} (omega arith)
+    ∙ ap (map bare) (sym (take-take count (to - from) (drop from q.events) inside))
+    ∙ sym (take-map bare count (between q from to))

@@ -5,8 +5,7 @@ use Rattle.stream_ident.specs.declared.event.Event.{Event}
 use Rattle.stream_ident.specs.declared.ident.StreamId.{StreamId}
 use Rattle.stream_ident.specs.declared.token.Token.{Token}
 use Rattle.stream_ident.specs.Alphabet.{IsPayload}
-use Rattle.stream_ident.specs.declared.limits.TheConstants.{PAYLOAD_BYTES, PULL_EVENTS}
-use Rattle.queue_mapper.specs.Place.{tags_of}
+use Rattle.stream_ident.specs.declared.limits.TheConstants.{PAYLOAD_BYTES}
 use Rattle.partition_queue.specs.declared.queue.Entry.{Entry}
 
 -- what stands for a stream where there is none
@@ -51,9 +50,3 @@ entries_of stream seq idx start (payload ∷ payloads) =
 -- one stream more at the end, or none
 abbrev pub Grows : List StreamId → List StreamId → Type 0
 Grows old new = (more : List StreamId) × (new ≡ old ++ more) × (length more ≤ 1)
-
--- what is so of the rows of every excerpt, and of how much they have room for
-pub record IsExcerpt (events : List Event) (room : ℕ) (tags : List ℕ) (tags_room : ℕ) : Type 0 where
-  pub roomy : PULL_EVENTS ≤ room
-  pub tags_roomy : PULL_EVENTS ≤ tags_room
-  pub tagged : tags ≡ tags_of events

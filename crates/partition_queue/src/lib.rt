@@ -5,10 +5,10 @@
 #![tactic(auto)]
 
 mod appended;
-mod excerpt;
 mod queue;
+mod span;
 mod streams;
 
 pub use appended::Appended;
-pub use excerpt::Excerpt;
 pub use queue::PartitionQueue;
+pub use span::Span;

@@ -1,17 +1,18 @@
 //! The queue of a partition.
 ghost use Rattle.std.specs.Prelude.{◌≡◌, ℕ, ◌+◌, ◌-◌, ◌*◌, ◌^◌, ◌<◌, ◌≤◌, ◌↔◌, ◌++◌, List, [], ◌∷◌, true, length, get_or, map, IfOk, IsTrue, MatchOption, OnErr, OnOk, vec_len, vec_capacity};
-ghost use Rattle.stream_ident.specs.declared.limits.TheConstants.{MOST_EVENTS, PULL_EVENTS};
+ghost use Rattle.stream_ident.specs.declared.limits.TheConstants.{MOST_EVENTS};
 ghost use Rattle.std.specs.List.{AllByRecursion, concat};
 ghost use Rattle.stream_ident.specs.declared.ident.StreamId.{StreamId};
 ghost use Rattle.stream_ident.specs.Alphabet.{IsPayload};
 ghost use Rattle.partition_queue.specs.Log.{entries_of, entry_of, event_of, no_stream, Grows, IsEntry};
 ghost use Rattle.partition_queue.specs.Queue.{append, between, empty, event_at, takes_memory, token_at, Fits, TokensRise};
-ghost use Rattle.queue_mapper.specs.Place.{tag_of};
+ghost use Rattle.queue_mapper.specs.Place.{bare};
 ghost use Rattle.stream_ident.specs.Words.{Performs};
 
 use crate::appended::Appended;
-use crate::excerpt::Excerpt;
+use crate::span::Span;
 use crate::streams::Streams;
+use queue_mapper::EventHeader;
 use std::alloc::{AllocError, Global};
 use std::marker::Model;
 use stream_ident::{BATCH_EVENTS, Batch, Event, PAYLOAD_BYTES, Payload, StreamId, Token};
@@ -238,27 +239,21 @@ impl PartitionQueue {
         }
     }
 
-    /// Reads the events from one position up to another, that at `to` left out, and the tags of their streams,
-    /// in place of those that the excerpt had. It takes no memory, and hashes nothing.
-    pub fn read(&self, from: usize, to: usize, excerpt: &mut Excerpt)
-        requires order { from ≤ to }
-        requires end { to ≤ length self.now.events }
-        requires few { to - from ≤ PULL_EVENTS }
-        ensures events { excerpt.new ≡ between self.now from to }
-        ensures count { length excerpt.new ≡ to - from }
+    /// The header of the event at a position. No payload is read, and no digest computed.
+    pub fn header_at(&self, position: usize) -> EventHeader
+        requires { position < length self.now.events }
+        ensures { result ≡ bare (event_at self.now position) }
     {
-        excerpt.clear();
-        for position in from..to {
-            excerpt.push(self.event_at(position), self.tag_at(position));
-        }
+        header_of(&self.streams, &self.entries[position])
     }
 
-    /// The tag of the stream of the event at a position.
-    fn tag_at(&self, position: usize) -> u8
-        requires { position < length self.now.events }
-        ensures { result ≡ tag_of (event_at self.now position).stream }
+    /// The events from one position up to another, that at `to` left out, to be read by their headers.
+    pub fn between(&self, from: usize, to: usize) -> Span<'_>
+        requires order { from ≤ to }
+        requires end { to ≤ length self.now.events }
+        ensures { result ≡ map bare (between self.now from to) }
     {
-        self.streams.tag(self.entries[position].stream)
+        Span::new(self, from, to)
     }
 }
 
@@ -372,6 +367,18 @@ fn event_of(streams: &Streams, bytes: &[u8], entry: &Entry) -> Event
         token: entry.token(),
         payload: payload_of(&bytes[start..start + entry.len as usize]),
     }
+}
+
+/// The header of the event of an entry, of these streams.
+fn header_of(streams: &Streams, entry: &Entry) -> EventHeader
+    requires { entry.now.stream < length streams.now }
+    ensures { (bytes : List ℕ) → result ≡ bare (event_of streams.now bytes entry.now) }
+{
+    EventHeader::new(
+        streams.get(entry.stream),
+        entry.token(),
+        streams.tag(entry.stream),
+    )
 }
 
 /// The payload of bytes that are one.

@@ -1,8 +1,7 @@
 //! A log whose events are read. Its streams are o/KEY, with a key of one byte.
-ghost use Rattle.std.specs.Prelude.{◌≡◌, ◌-◌, ◌≤◌, length};
 
 use crate::names::{payload, stream};
-use partition_queue::{Appended, Excerpt, PartitionQueue};
+use partition_queue::{Appended, PartitionQueue};
 use std::alloc::{AllocError, Global};
 use std::process::Abort;
 use stream_ident::Batch;
@@ -19,37 +18,24 @@ pub(crate) fn batch<R: Abort>(rt: &R, alloc: Global, count: usize) -> Result<Bat
     Ok(Batch::of(payloads))
 }
 
-/// A log, and the events that were read from it last.
+/// A log.
 pub(crate) struct Log {
     pub(crate) queue: PartitionQueue,
-    pub(crate) events: Excerpt,
 }
 
 impl Drop for Log {
     fn drop(self) {
-        let Self {
-            queue: _,
-            events: _,
-        } = self;
-    }
-}
-
-/// An excerpt. One want of memory is answered by asking again.
-fn new_excerpt(alloc: Global) -> Result<Excerpt, AllocError> {
-    match Excerpt::new(alloc) {
-        Ok(excerpt) => Ok(excerpt),
-        Err(_) => Excerpt::new(alloc),
+        let Self { queue: _ } = self;
     }
 }
 
 impl Log {
     /// An empty log of up to so many events.
-    pub(crate) fn new<R: Abort>(rt: &R, alloc: Global, limit: usize) -> Result<Log, AllocError> {
+    pub(crate) fn new<R: Abort>(rt: &R, alloc: Global, limit: usize) -> Log {
         assert!(rt; limit <= 2000);
-        Ok(Log {
+        Log {
             queue: PartitionQueue::new(alloc, limit),
-            events: new_excerpt(alloc)?,
-        })
+        }
     }
 
     /// Appends a batch of so many events to the stream with a key.
@@ -62,15 +48,5 @@ impl Log {
     ) -> Result<Appended, AllocError> {
         let batch = batch(rt, alloc, count)?;
         self.queue.append(alloc, stream(rt, b'o', key), &batch)
-    }
-
-    /// Reads so many events from a position on.
-    pub(crate) fn read<R: Abort>(&mut self, rt: &R, from: usize, count: usize)
-        ensures count { length self.new.events ≡ count }
-        ensures few { count ≤ 256 }
-    {
-        let len = self.queue.len();
-        assert!(rt; from <= len && count <= len - from && count <= 256);
-        self.queue.read(from, from + count, &mut self.events);
     }
 }

@@ -3,7 +3,7 @@ use crate::log::Log;
 use crate::names::{payload, stream};
 use crate::rows::{Asked, Twin, ask_both};
 use partition_queue::Appended;
-use queue_mapper::tag;
+use queue_mapper::{EventHeader, tag};
 use std::alloc::{AllocError, Global};
 use std::process::Abort;
 use std::test::Fail;
@@ -19,7 +19,7 @@ pub(crate) enum Call {
     Token(usize, u64, u32),
     /// The event of a position: the key of its stream, its token, and its payload's byte.
     Event(usize, u8, u64, u32, u8),
-    /// The events from a position on are read, so many, with their tags.
+    /// The headers of the events from a position on are read, so many, with their tags.
     Read(usize, usize),
 }
 
@@ -28,22 +28,28 @@ fn is_at(log: &Log, position: usize, wanted: &Event) -> bool {
     position < log.queue.len() && log.queue.event_at(position) == *wanted
 }
 
-/// Whether the event that was read at a place is that of a position, with the tag of its stream.
-fn is_read(log: &Log, place: usize, position: usize) -> bool {
-    place < log.events.as_slice().len()
-        && is_at(log, position, &log.events.as_slice()[place])
-        && log.events.tags()[place] == tag(&log.events.as_slice()[place].stream)
+/// Whether a header is that of the event at a position, with the tag of its stream.
+fn is_read(log: &Log, header: &EventHeader, position: usize) -> bool {
+    if position >= log.queue.len() {
+        return false;
+    }
+    let event = log.queue.event_at(position);
+    *header.stream() == event.stream
+        && *header.token() == event.token
+        && header.tag() == tag(&event.stream)
 }
 
-/// Whether so many events from a position on are read, with their tags.
-fn reads<R: Abort>(rt: &R, log: &mut Log, from: usize, count: usize) -> bool {
-    log.read(rt, from, count);
-    for place in 0..count {
-        if !is_read(log, place, from.wrapping_add(place)) {
+/// Whether so many headers are read from a position on.
+fn reads<R: Abort>(rt: &R, log: &Log, from: usize, count: usize) -> bool {
+    let len = log.queue.len();
+    assert!(rt; from <= len && count <= len - from);
+    let span = log.queue.between(from, from + count);
+    for place in 0..span.len() {
+        if !is_read(log, &span.at(place), from.wrapping_add(place)) {
             return false;
         }
     }
-    log.events.as_slice().len() == count
+    span.len() == count
 }
 
 impl Asked for Log {
@@ -144,8 +150,8 @@ static CASES: [(usize, &[Call]); 4] = [(66, &COUNTED), (10, &TOKENS), (10, &EVEN
 #[test]
 fn logs_are_asked(rt: HostRuntime) -> Result<(), Fail> {
     for (case, (limit, calls)) in CASES.iter().enumerate() {
-        let mut log = Log::new(&rt, rt.alloc(), *limit)?;
-        let mut twin = Log::new(&rt, rt.alloc(), *limit)?;
+        let mut log = Log::new(&rt, rt.alloc(), *limit);
+        let mut twin = Log::new(&rt, rt.alloc(), *limit);
         ask_both(&rt, rt.alloc(), &mut log, &mut twin, case, calls)?;
     }
     Ok(())

@@ -1,5 +1,6 @@
 -- The names with those that the rules make of events: their front, and how many they are.
-use Rattle.std.proofs.Common.{◌≡◌, ℕ, zero, suc, ◌+◌, ◌*◌, ◌<◌, ◌≤◌, not, Bool, true, false, List, [], ◌∷◌, ◌++◌, length, take, get_or, fold, if◌then◌else◌, refl, ap, arith, length-append}
+use Rattle.std.proofs.Common.{◌≡◌, ◌∙◌, ℕ, zero, suc, ◌+◌, ◌*◌, ◌<◌, ◌≤◌, not, Bool, true, false, List, [], ◌∷◌, ◌++◌, length, take, get_or, fold, if◌then◌else◌, refl, ap, arith, length-append}
+use Rattle.std.proofs.lemmas.Bool.{le-ltb}
 use Rattle.std.proofs.lemmas.List.Concat.{length-flat_map}
 use Rattle.std.proofs.lemmas.List.Filters.{length-filter_both}
 use Rattle.std.proofs.lemmas.List.Sums.{fold-append}
@@ -13,7 +14,10 @@ use Rattle.stream_ident.specs.Token.{token_lt}
 use Rattle.stream_ident.specs.Implying.{added}
 use Rattle.stream_ident.specs.declared.limits.TheConstants.{MOST_RULES}
 use Rattle.stream_ident.proofs.NewNames.{added-more, fold-front, has, length-fold}
-use Rattle.pubsub_registry.specs.Implying.{all_implied, implied, made, names_with, rule_count}
+use Rattle.pubsub_registry.specs.Implying.{all_implied, implied, imply, made, names_with, rule_count}
+use Rattle.pubsub_registry.specs.Registry.{PlainRegistry}
+use Rattle.pubsub_registry.specs.declared.told.Implied.{Implied}
+use Rattle.pubsub_registry.specs.declared.told.Implied.TheVariants as implied_told
 use Rattle.pubsub_registry.specs.declared.registration.Registration.{Registration}
 use Rattle.pubsub_registry.proofs.Entries.{Names}
 use Rattle.pubsub_registry.proofs.ImpliedNames.{implied-on}
@@ -24,6 +28,20 @@ use Rattle.pubsub_registry.proofs.RuleLemmas.{on}
 -- the names stay where they are, and the new ones follow
 pub names-front : (rules : List Rule) (names : Names) (events : List Event) → take (length names) (names_with rules names events) ≡ names
 names-front rules names events = fold-front names (all_implied rules events)
+
+-- without rules there are no new names
+pub no-rules : (names : Names) (events : List Event) → names_with [] names events ≡ names
+no-rules names events = ap (fold added names) (none events)
+  where
+    none : (events : List Event) → all_implied [] events ≡ []
+    none [] = refl
+    none (event ∷ events) = none events
+
+-- so nothing is done
+pub nothing-implied : (r : PlainRegistry) (events : List Event) → r.rules ≡ [] → length r.names ≤ r.most_names → ◌≡◌ {A = PlainRegistry × Implied} (r, implied_told.Implied) (imply r events)
+nothing-implied r events none fits =
+    let same : names_with r.rules r.names events ≡ r.names = ap (λ (rules : List Rule). names_with rules r.names events) none ∙ no-rules r.names events in
+    rw (same, le-ltb r.most_names (length r.names) fits) refl
 
 -- ---- how many there are
 

@@ -1,21 +1,24 @@
 //! The subscriptions that the rules make of events.
-ghost use Rattle.std.specs.Prelude.{◌≡◌, ◌<◌, ◌≤◌, ◌+◌, ◌^◌, ◌↔◌, ◌&&◌, ◌||◌, [], ◌∷◌, ◌++◌, not, length, take, fold, is_some, IsTrue, OnOk, OnErr};
+ghost use Rattle.std.specs.Prelude.{◌≡◌, ◌<◌, ◌≤◌, ◌+◌, ◌^◌, ◌↔◌, ◌&&◌, ◌||◌, [], ◌∷◌, ◌++◌, not, filter, length, take, fold, is_some, IsTrue, OnOk, OnErr};
 ghost use Rattle.stream_ident.specs.declared.limits.TheConstants.{MOST_RULES, PULL_EVENTS};
 ghost use Rattle.std.specs.List.{flat_map, list_any};
 ghost use Rattle.stream_ident.specs.Event.{batch_token};
-ghost use Rattle.stream_ident.specs.Name.{same_stream};
+ghost use Rattle.stream_ident.specs.Name.{same_name, same_stream};
 ghost use Rattle.stream_ident.specs.SubName.{same_sub};
 ghost use Rattle.stream_ident.specs.Token.{token_lt};
 ghost use Rattle.stream_ident.specs.Words.{value_at, Performs};
 ghost use Rattle.stream_ident.specs.declared.event.Event.{Event};
+ghost use Rattle.stream_ident.specs.declared.rule.Rule.{Rule};
 ghost use Rattle.stream_ident.specs.Implying.{added};
 ghost use Rattle.pubsub_registry.specs.Implying.{imply, made, makes_any, names_with, rule_count};
 
 use crate::indexed::{Rules, Subscriptions};
 use crate::registry::{Registry, implied_grain, opened};
 use crate::told::Implied;
+use partition_queue::Span;
+use queue_mapper::EventHeader;
 use std::alloc::{AllocError, Global};
-use stream_ident::{Event, Name, Rule, StreamId, SubName, Token};
+use stream_ident::{Name, Rule, StreamId, SubName, Token};
 
 impl Registry {
     /// The rules make subscriptions of these events, in their order. Each rule on the namespace of an event
@@ -24,7 +27,7 @@ impl Registry {
     ///
     /// All are made, or none where there would be more subscriptions than there may be.
     ///
-    /// The cost is two look-ups for each event, one for each rule on its namespace that makes a subscription
+    /// Without rules nothing is read. Else the cost is two look-ups for each event, one for each rule on its namespace that makes a subscription
     /// of it, and that of `add_implied` for each new one. Only where there are more rules on the namespaces
     /// of the events than places are left are the new ones counted first, each at a look-up and a walk over
     /// the earlier events.
@@ -32,11 +35,14 @@ impl Registry {
     /// # Errors
     /// The call failed to allocate, and nothing has changed. That can happen only where there would be more
     /// subscriptions than before.
-    pub fn imply(&mut self, alloc: Global, events: &[Event]) -> Result<Implied, AllocError>
+    pub fn imply(&mut self, alloc: Global, events: &Span) -> Result<Implied, AllocError>
         requires few { length events.now ≤ PULL_EVENTS }
         ensures performs { Performs self.old self.new result (imply self.old events.now) }
         ensures memory { OnErr result (length self.old.names < length (imply self.old events.now).0.names) }
     {
+        if self.rules.as_slice().is_empty() {
+            return Ok(Implied::Implied);
+        }
         if !has_room(&self.subscriptions, &self.rules, self.most_names, events) {
             return Ok(Implied::TooMany);
         }
@@ -48,7 +54,7 @@ impl Registry {
 /// Whether there may be as many subscriptions as there are with those that the rules make of these events.
 ///
 /// Mostly there is room for one by each rule on the namespaces of the events, and none is looked up.
-fn has_room(subscriptions: &Subscriptions, rules: &Rules, most: usize, events: &[Event]) -> bool
+fn has_room(subscriptions: &Subscriptions, rules: &Rules, most: usize, events: &Span) -> bool
     requires fits { length subscriptions.now ≤ most }
     requires rules { length rules.now ≤ MOST_RULES }
     requires events { length events.now ≤ PULL_EVENTS }
@@ -58,26 +64,41 @@ fn has_room(subscriptions: &Subscriptions, rules: &Rules, most: usize, events: &
     rule_count(rules, events) <= room || count_new(subscriptions, rules, events) <= room
 }
 
+/// The rules on the namespace of an event.
+fn rules_on<'a>(rules: &'a Rules, event: &EventHeader) -> &'a [Rule]
+    ensures { result.now ≡ filter (λ (rule : Rule). same_name event.now.stream.namespace rule.namespace) rules.now }
+{
+    rules.on_namespace(&event.stream().namespace)
+}
+
 /// How many rules there are on the namespaces of these events, counted for each event.
-fn rule_count(rules: &Rules, events: &[Event]) -> usize
+fn rule_count(rules: &Rules, events: &Span) -> usize
     requires { rule_count rules.now events.now < 2 ^ 64 }
     ensures { result ≡ rule_count rules.now events.now }
 {
-    events
-        .iter()
-        .map(|event| rules.on_namespace(&event.stream.namespace).len())
-        .sum()
+    let mut count = 0;
+    for index in 0..events.len() {
+        let event = events.at(index);
+        let here = rules_on(rules, &event);
+        count += here.len();
+    }
+    count
 }
 
 /// How many new subscriptions the rules make of these events. It takes no memory.
-fn count_new(subscriptions: &Subscriptions, rules: &Rules, events: &[Event]) -> usize
+fn count_new(subscriptions: &Subscriptions, rules: &Rules, events: &Span) -> usize
     requires rules { length rules.now ≤ MOST_RULES }
     requires events { length events.now ≤ PULL_EVENTS }
     ensures { length (names_with rules.now subscriptions.now events.now) ≡ length subscriptions.now + result }
 {
     let mut count = 0;
-    for (index, event) in events.iter().enumerate() {
-        count += count_for_event(subscriptions, rules, &events[..index], event);
+    for index in 0..events.len() {
+        count += count_for_event(
+            subscriptions,
+            rules,
+            &events.first(index),
+            &events.at(index),
+        );
     }
     count
 }
@@ -86,14 +107,14 @@ fn count_new(subscriptions: &Subscriptions, rules: &Rules, events: &[Event]) -> 
 fn count_for_event(
     subscriptions: &Subscriptions,
     rules: &Rules,
-    earlier: &[Event],
-    event: &Event,
+    earlier: &Span,
+    event: &EventHeader,
 ) -> usize
     requires { length rules.now ≤ MOST_RULES }
     ensures count { length (names_with rules.now subscriptions.now (earlier.now ++ event.now ∷ [])) ≡ length (names_with rules.now subscriptions.now earlier.now) + result }
     ensures bound { result ≤ MOST_RULES }
 {
-    let rules = rules.on_namespace(&event.stream.namespace);
+    let rules = rules_on(rules, event);
     let mut count = 0;
     for (index, rule) in rules.iter().enumerate() {
         if is_missing(subscriptions, rule, event)
@@ -106,7 +127,7 @@ fn count_for_event(
 }
 
 /// Whether a rule on its namespace makes a subscription of an event, and the name isn't there.
-fn is_missing(subscriptions: &Subscriptions, rule: &Rule, event: &Event) -> bool
+fn is_missing(subscriptions: &Subscriptions, rule: &Rule, event: &EventHeader) -> bool
     ensures { result ≡ (not (token_lt event.now.token (batch_token rule.now.from))
         && not (is_some (value_at same_sub (SubName.Implicit rule.now.kind event.now.stream) subscriptions.now))) }
 {
@@ -115,23 +136,35 @@ fn is_missing(subscriptions: &Subscriptions, rule: &Rule, event: &Event) -> bool
 
 /// Whether the rules before make the subscription of a kind of an event, or the rules on its namespace make
 /// it of an earlier event.
-fn is_repeat(rules: &[Rule], before: &[Rule], earlier: &[Event], event: &Event, kind: &Name) -> bool
+fn is_repeat(
+    rules: &[Rule],
+    before: &[Rule],
+    earlier: &Span,
+    event: &EventHeader,
+    kind: &Name,
+) -> bool
     ensures { result ≡ (makes_any kind.now event.now before.now
         || list_any (λ (other : Event). same_stream event.now.stream other.stream && makes_any kind.now other rules.now) earlier.now) }
 {
-    makes(before, event, kind) || makes_of_any(rules, earlier, &event.stream, kind)
+    makes(before, event, kind) || makes_of_any(rules, earlier, event.stream(), kind)
 }
 
 /// Whether the rules, which are on a stream's namespace, make its subscription of a kind of any of these
 /// events.
-fn makes_of_any(rules: &[Rule], events: &[Event], stream: &StreamId, kind: &Name) -> bool
+fn makes_of_any(rules: &[Rule], events: &Span, stream: &StreamId, kind: &Name) -> bool
     ensures { result ≡ list_any (λ (event : Event). same_stream stream.now event.stream && makes_any kind.now event rules.now) events.now }
 {
-    events.iter().any(|event| *stream == event.stream && makes(rules, event, kind))
+    for index in 0..events.len() {
+        let event = events.at(index);
+        if *stream == *event.stream() && makes(rules, &event, kind) {
+            return true;
+        }
+    }
+    false
 }
 
 /// Whether the rules, which are on an event's namespace, make the subscription of a kind of it.
-fn makes(rules: &[Rule], event: &Event, kind: &Name) -> bool
+fn makes(rules: &[Rule], event: &EventHeader, kind: &Name) -> bool
     ensures { result ≡ makes_any kind.now event.now rules.now }
 {
     rules
@@ -147,7 +180,7 @@ fn add_all(
     subscriptions: &mut Subscriptions,
     alloc: Global,
     rules: &Rules,
-    events: &[Event],
+    events: &Span,
 ) -> Result<(), AllocError>
     ensures ok { OnOk result (subscriptions.new ≡ names_with rules.now subscriptions.old events.now) }
     ensures err { OnErr result (subscriptions.new ≡ subscriptions.old) }
@@ -166,15 +199,16 @@ fn push_all(
     subscriptions: &mut Subscriptions,
     alloc: Global,
     rules: &Rules,
-    events: &[Event],
+    events: &Span,
 ) -> Result<(), AllocError>
     ensures all { OnOk result (subscriptions.new ≡ names_with rules.now subscriptions.old events.now) }
     ensures front { take (length subscriptions.old) subscriptions.new ≡ subscriptions.old }
     ensures memory { OnErr result (length subscriptions.old < length (names_with rules.now subscriptions.old events.now)) }
 {
-    for event in events {
-        let rules = rules.on_namespace(&event.stream.namespace);
-        push_for_event(subscriptions, alloc, rules, event)?;
+    for index in 0..events.len() {
+        let event = events.at(index);
+        let rules = rules_on(rules, &event);
+        push_for_event(subscriptions, alloc, rules, &event)?;
     }
     Ok(())
 }
@@ -184,7 +218,7 @@ fn push_for_event(
     subscriptions: &mut Subscriptions,
     alloc: Global,
     rules: &[Rule],
-    event: &Event,
+    event: &EventHeader,
 ) -> Result<(), AllocError>
     ensures all { OnOk result (subscriptions.new ≡ fold added subscriptions.old (flat_map (made event.now) rules.now)) }
     ensures front { take (length subscriptions.old) subscriptions.new ≡ subscriptions.old }
@@ -204,7 +238,7 @@ fn push_by_rule(
     subscriptions: &mut Subscriptions,
     alloc: Global,
     rule: &Rule,
-    event: &Event,
+    event: &EventHeader,
 ) -> Result<(), AllocError>
     ensures ok { OnOk result (subscriptions.new ≡ fold added subscriptions.old (made event.now rule.now)) }
     ensures err { OnErr result (subscriptions.new ≡ subscriptions.old) }
@@ -214,27 +248,28 @@ fn push_by_rule(
     if !holds_for(rule, event) || subscriptions.find(&sub).is_some() {
         return Ok(());
     }
-    let grain = implied_grain(rule.kind, &event.stream);
+    let stream = *event.stream();
+    let grain = implied_grain(rule.kind, &stream);
     let start = Token {
         seq: rule.from,
         idx: 0,
     };
-    subscriptions.push(alloc, sub, opened(event.stream, grain, start))
+    subscriptions.push(alloc, sub, opened(stream, grain, start))
 }
 
 /// The name of the subscription that a rule makes of an event.
-fn implied_name(rule: &Rule, event: &Event) -> SubName
+fn implied_name(rule: &Rule, event: &EventHeader) -> SubName
     ensures { result ≡ SubName.Implicit rule.now.kind event.now.stream }
 {
     SubName::Implicit {
         kind: rule.kind,
-        stream: event.stream,
+        stream: *event.stream(),
     }
 }
 
 /// Whether an event isn't before a rule's batch.
-fn holds_for(rule: &Rule, event: &Event) -> bool
+fn holds_for(rule: &Rule, event: &EventHeader) -> bool
     ensures { result ≡ not (token_lt event.now.token (batch_token rule.now.from)) }
 {
-    rule.from <= event.token.seq
+    rule.from <= event.token().seq
 }

@@ -1,4 +1,2 @@
 pub mod BlockLemmas
-pub mod RingLemmas
-pub mod SeekLemmas
-pub mod TagLemmas
+pub mod FillLemmas

@@ -1,11 +1,12 @@
 -- A pulling agent as plain data, and what each of its calls does (Orleans, Streaming, implementation
 -- details: pulling agents, queue cache).
-use Rattle.std.specs.Prelude.{ℕ, suc, ◌+◌, ◌-◌, ◌*◌, ◌/◌, ◌<◌, ◌≤◌, min, max, List, length, drop, Result, Ok, Err, ◌==◌, if◌then◌else◌}
+use Rattle.std.specs.Prelude.{ℕ, suc, ◌+◌, ◌-◌, ◌*◌, ◌<◌, ◌≤◌, min, List, length, map, drop, Result, Ok, Err, ◌==◌, if◌then◌else◌}
 use Rattle.stream_ident.specs.declared.event.Event.{Event}
 use Rattle.stream_ident.specs.Blocks as blocks
 use Rattle.stream_ident.specs.Blocks.{pull_size}
 use Rattle.stream_ident.specs.declared.limits.TheConstants.{BLOCK_EVENTS, PULL_EVENTS}
-use Rattle.pulling_agent.specs.Cache as cache
+use Rattle.queue_cache.specs.Cache as cache
+use Rattle.queue_mapper.specs.Place.{bare}
 use Rattle.pulling_agent.specs.declared.agent.Plan.{Plan}
 use Rattle.pulling_agent.specs.declared.agent.Plan.TheVariants as plan
 use Rattle.pulling_agent.specs.declared.agent.StaleAgent.{StaleAgent}
@@ -62,9 +63,9 @@ abbrev pub MayTake : PlainAgent → ℕ → ℕ → Plan → Type 0
 MayTake a len least (plan.Take drops count) = IsTakeable a len least drops count
 MayTake a len least _ = Unit {0}
 
--- the cache without its first blocks, and with the events at the end
+-- the cache without its first blocks, and with the events at the end, bare
 abbrev pub pulled : PlainAgent → ℕ → List Event → PlainAgent
-pulled a drops events = record a { cache = cache.with_events (without_blocks drops a.cache) events }
+pulled a drops events = record a { cache = cache.with_events (without_blocks drops a.cache) (map bare events) }
 
 -- the free blocks beyond those to keep; a part of a block counts as one
 abbrev pub purges : PlainAgent → ℕ → ℕ → ℕ

@@ -1,15 +1,17 @@
 //! The agent.
-ghost use Rattle.std.specs.Prelude.{◌≡◌, ◌+◌, ◌-◌, ◌*◌, ◌^◌, ◌<◌, ◌≤◌, length, max, IfOk};
+ghost use Rattle.std.specs.Prelude.{◌≡◌, ◌+◌, ◌-◌, ◌*◌, ◌^◌, ◌<◌, ◌≤◌, length, map, max, IfOk};
 ghost use Rattle.stream_ident.specs.declared.limits.TheConstants.{MOST_BLOCKS};
-ghost use Rattle.pulling_agent.specs.Cache.{high, room};
-ghost use Rattle.queue_mapper.specs.Place.{tags_of};
+ghost use Rattle.partition_queue.specs.Queue.{between};
+ghost use Rattle.queue_mapper.specs.Place.{bare};
+ghost use Rattle.queue_cache.specs.Cache.{high, room, with_events};
 ghost use Rattle.pulling_agent.specs.Agent.{check, drops, empty, free_blocks, plan_pull, pulled, purge, take_over, without_blocks, MayTake};
 ghost use Rattle.stream_ident.specs.Blocks.{pull_size};
 
-use crate::cache::QueueCache;
+use partition_queue::PartitionQueue;
+use queue_cache::QueueCache;
 use std::alloc::{AllocError, Global};
 use std::marker::Model;
-use stream_ident::{BLOCK_EVENTS, Event, PULL_EVENTS};
+use stream_ident::{BLOCK_EVENTS, PULL_EVENTS};
 use thiserror::Error;
 
 /// The caller speaks for an agent that was replaced.
@@ -148,17 +150,17 @@ impl Agent {
         }
     }
 
-    /// Drops blocks and takes events in behind those of the cache, with the tags of their streams, as a plan
-    /// said. It takes no memory.
-    pub fn pull(&mut self, drops: usize, events: &[Event], tags: &[u8])
-        requires tags { tags.now ≡ tags_of events.now }
+    /// Drops blocks and takes the next `count` events of the log in behind those of the cache, as a plan said.
+    /// It takes no memory.
+    pub fn pull(&mut self, drops: usize, queue: &PartitionQueue, count: usize)
         requires blocks { BLOCK_EVENTS * drops ≤ length self.old.cache.events }
-        requires room { length events.now ≤ room self.old.cache + BLOCK_EVENTS * drops }
-        requires positions { high self.old.cache + length events.now < 2 ^ 64 }
-        ensures { self.new ≡ pulled self.old drops events.now }
+        requires room { count ≤ room self.old.cache + BLOCK_EVENTS * drops }
+        requires there { high self.old.cache + count ≤ length queue.now.events }
+        ensures pulled { self.new ≡ pulled self.old drops (between queue.now (high self.old.cache) (high self.old.cache + count)) }
+        ensures high { high self.new.cache ≡ high self.old.cache + count }
     {
         drop_blocks(&mut self.cache, drops);
-        self.cache.take(events, tags);
+        fill(&mut self.cache, queue, count);
     }
 
     /// Drops the blocks beyond the `keep` last ones, a part of a block counted as one, of those that lie
@@ -224,5 +226,18 @@ fn drop_blocks(cache: &mut QueueCache, blocks: usize)
 {
     for _ in 0..blocks {
         cache.drop_front();
+    }
+}
+
+/// Takes the next `count` events of the log into a cache.
+fn fill(cache: &mut QueueCache, queue: &PartitionQueue, count: usize)
+    requires room { count ≤ room cache.old }
+    requires there { high cache.old + count ≤ length queue.now.events }
+    ensures { cache.new ≡ with_events cache.old (map bare (between queue.now (high cache.old) (high cache.old + count))) }
+{
+    for _ in 0..count {
+        let position = cache.high();
+        prove!(position < queue.len());
+        cache.take(queue.header_at(position));
     }
 }

@@ -1,5 +1,5 @@
 -- The place of a stream: the queue and the tag that SHA-256 gives.
-use Rattle.std.specs.Prelude.{ℕ, ◌%◌, List, ◌∷◌, ◌++◌, map, take, slice_index}
+use Rattle.std.specs.Prelude.{ℕ, ◌%◌, List, [], ◌∷◌, ◌++◌, map, take, slice_index}
 use Rattle.std.specs.Int.{from_be_bytes, w64}
 use Rattle.sha2.specs.Sha256.{sha256}
 use Rattle.stream_ident.specs.declared.event.Event.{Event}
@@ -24,3 +24,7 @@ tag_of stream = (place_of stream 1).tag
 -- the tag of each event's stream
 abbrev pub tags_of : List Event → List ℕ
 tags_of events = map (λ event. tag_of event.stream) events
+
+-- an event with no byte of its payload
+abbrev pub bare : Event → Event
+bare event = record event { payload = [] }

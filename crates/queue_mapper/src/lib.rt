@@ -6,8 +6,10 @@ ghost use Rattle.std.specs.Prelude.{◌≡◌, ◌<◌, ◌≤◌};
 ghost use Rattle.sha2.specs.Sha256.{sha256};
 ghost use Rattle.queue_mapper.specs.Place.{message_of, place_of, tag_of};
 
+mod header;
 mod target;
 
+pub use header::EventHeader;
 use sha2::{Digest, Sha256};
 use stream_ident::StreamId;
 pub use target::Place;

@@ -1,7 +1,7 @@
 -- An agent delivers, done by the parts.
 use Rattle.std.proofs.Common.{◌≡◌, ◌∙◌, ap, sym, refl, ℕ, zero, suc, ◌≤◌, Bool, true, false, ◌&&◌, not, List, [], ◌∷◌, ◌++◌, length, get_or, set, take, drop, map, max, Some, None, ◌==◌, nat_le, arith}
 use Rattle.std.specs.Prelude.{if◌then◌else◌, unwrap_or, ◌-◌}
-use Rattle.std.proofs.lemmas.List.{drop-drop, map-append, length-map}
+use Rattle.std.proofs.lemmas.List.{drop-drop, drop-map, map-append, length-map}
 use Rattle.std.specs.Option.{option_map}
 use Rattle.std.proofs.Math.Seq.{take-nil}
 use Rattle.stream_ident.specs.declared.event.Event.{Event}
@@ -19,13 +19,15 @@ use Rattle.stream_model.specs.declared.plain.PlainPartition.{PlainPartition}
 use Rattle.stream_model.specs.declared.plain.Subscription.{Subscription}
 use Rattle.stream_model.specs.Replies.{Reply}
 use Rattle.stream_model.specs.declared.reply.Reply.TheVariants as reply
-use Rattle.stream_model.specs.Positions.{grain_at, is_outstanding, lower_bound, next_position, token_at, with_grain, with_sub}
+use Rattle.stream_model.specs.Positions.{between, grain_at, is_outstanding, lower_bound, next_position, token_at, with_grain, with_sub}
 use Rattle.stream_model.specs.Pulling as plain
 use Rattle.consumer_grain.specs.Activations.{PlainActivation, new_activation, woken}
 use Rattle.consumer_grain.specs.Subscriptions.{PlainState, advanced, caught_up}
 use Rattle.pubsub_registry.specs.declared.registration.Registration.{Registration}
-use Rattle.pulling_agent.specs.Cursor.{lower_in, next_in}
-use Rattle.pulling_agent.specs.Cache.{high}
+use Rattle.cache_cursor.specs.Cursor.{lower_in, next_in}
+use Rattle.queue_mapper.specs.Place.{bare}
+use Rattle.cache_cursor.proofs.SeekLemmas.{first_at-bare}
+use Rattle.queue_cache.specs.Cache.{high}
 use Rattle.step_core.specs.declared.parts.Parts.{Parts}
 use Rattle.step_core.specs.PlainOf.{plain_of}
 use Rattle.step_core.specs.Assembly.{HasEvents}
@@ -50,12 +52,18 @@ between-from log low cursor top le =
 
 pub next-is : (parts : Parts) (r : Subscription) → HasEvents parts → parts.agent.cache.low ≤ r.cursor → next_position (plain_of parts) r ≡ next_in parts.agent.cache r.cursor r.stream r.start
 next-is parts r has le =
-    sym (ap (λ events. first_at (λ event. is_owed r.stream r.start event) r.cursor (drop (r.cursor - parts.agent.cache.low) events)) has
+    let cached = between parts.queue.events parts.agent.cache.low (high parts.agent.cache) in
+    let past = r.cursor - parts.agent.cache.low in
+    sym (ap (λ events. first_at (λ event. is_owed r.stream r.start event) r.cursor (drop past events)) has
+    ∙ ap (first_at (λ event. is_owed r.stream r.start event) r.cursor) (drop-map bare past cached)
+    ∙ first_at-bare (λ event. is_owed r.stream r.start event) (λ event. refl) r.cursor (drop past cached)
     ∙ ap (λ events. first_at (λ event. is_owed r.stream r.start event) r.cursor events) (between-from parts.queue.events parts.agent.cache.low r.cursor (high parts.agent.cache) le))
 
 pub lower-is : (parts : Parts) (token : Token) → HasEvents parts → lower_bound (plain_of parts) token ≡ lower_in parts.agent.cache token
 lower-is parts token has =
-    ap (λ events. unwrap_or (first_at (λ event. not (token_lt event.token token)) parts.agent.cache.low events) (high parts.agent.cache)) (sym has)
+    let cached = between parts.queue.events parts.agent.cache.low (high parts.agent.cache) in
+    ap (λ found. unwrap_or found (high parts.agent.cache)) (sym (first_at-bare (λ event. not (token_lt event.token token)) (λ event. refl) parts.agent.cache.low cached))
+    ∙ ap (λ events. unwrap_or (first_at (λ event. not (token_lt event.token token)) parts.agent.cache.low events) (high parts.agent.cache)) (sym has)
 
 -- ---- what an agent hands over
 

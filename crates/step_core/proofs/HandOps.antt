@@ -33,8 +33,8 @@ use Rattle.consumer_grain.specs.Subscriptions.{PlainState, advanced, caught_up}
 use Rattle.grain_table.specs.Changes.{OffersAt, no_grain}
 use Rattle.grain_table.specs.Grains.{PlainGrains, number_of, with_grain, AreIdle}
 use Rattle.pubsub_registry.specs.declared.registration.Registration.{Registration}
-use Rattle.pulling_agent.specs.Cursor.{next_in}
-use Rattle.pulling_agent.specs.Cache.{PlainCache, high}
+use Rattle.cache_cursor.specs.Cursor.{next_in}
+use Rattle.queue_cache.specs.Cache.{PlainCache, high}
 use Rattle.subscription_table.specs.Progress.{next_at, next_event}
 use Rattle.subscription_table.specs.Table.{PlainTable, no_entry, no_state, registration_at, state_at, stepped, with_state}
 use Rattle.subscription_table.specs.Table as table

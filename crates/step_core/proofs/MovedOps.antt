@@ -1,6 +1,6 @@
 -- Blocks that leave the cache and an agent that takes over leave parts that agree with each other.
 use Rattle.std.proofs.Common.{◌≡◌, ◌∙◌, ap, sym, subst, refl, ℕ, zero, suc, ◌+◌, ◌-◌, ◌*◌, ◌<◌, ◌≤◌, min, Bool, false, List, [], ◌∷◌, length, take, drop, get_or, map, arith, not}
-use Rattle.std.proofs.lemmas.List.{length-map}
+use Rattle.std.proofs.lemmas.List.{drop-map, length-map}
 use Rattle.std.specs.Prelude.{if◌then◌else◌, Ok, Err}
 use Rattle.stream_ident.specs.declared.token.Token.{Token}
 use Rattle.stream_ident.specs.Words.{least_with}
@@ -13,7 +13,8 @@ use Rattle.stream_model.specs.Pulling as plain
 use Rattle.consumer_grain.specs.Subscriptions.{PlainState}
 use Rattle.pulling_agent.specs.Agent as agent
 use Rattle.pulling_agent.specs.declared.agent.StaleAgent.{StaleAgent}
-use Rattle.pulling_agent.specs.Cache.{PlainCache, high}
+use Rattle.queue_mapper.specs.Place.{bare}
+use Rattle.queue_cache.specs.Cache.{PlainCache, high}
 use Rattle.subscription_table.specs.Standing.{AreRecords}
 use Rattle.subscription_table.specs.Table.{PlainTable, rewound_all, rewound_open}
 use Rattle.stream_model.proofs.Refusals.{purge-stale}
@@ -36,8 +37,10 @@ purges-le a keep least = let free = free-le a least in omega (arith, free)
 pub has-without : (parts : Parts) (blocks : ℕ) → BLOCK_EVENTS * blocks ≤ length parts.agent.cache.events → HasEvents parts → HasEvents (record parts { agent = record parts.agent { cache = agent.without_blocks blocks parts.agent.cache } })
 has-without parts blocks within has =
     ap (drop (BLOCK_EVENTS * blocks)) has
-    ∙ between-drop parts.queue.events c.low (high c) (BLOCK_EVENTS * blocks) (omega (arith, within))
-    ∙ ap (between parts.queue.events (c.low + BLOCK_EVENTS * blocks)) (sym (high-without blocks c within))
+    ∙ drop-map bare (BLOCK_EVENTS * blocks) (between parts.queue.events c.low (high c))
+    ∙ ap (map bare)
+    (between-drop parts.queue.events c.low (high c) (BLOCK_EVENTS * blocks) (omega (arith, within))
+    ∙ ap (between parts.queue.events (c.low + BLOCK_EVENTS * blocks)) (sym (high-without blocks c within)))
   where
     c : PlainCache
     c = parts.agent.cache
@@ -98,7 +101,7 @@ module _ (parts : Parts) (silo position : ℕ) where
         most_subs = assembled.most_subs;
         most_rules = assembled.most_rules;
         most_events = assembled.most_events;
-        cached = ap (λ n. take n (drop position parts.queue.events)) {x = 0} {y = position + 0 - position} (omega arith);
+        cached = ap (λ n. map bare (take n (drop position parts.queue.events))) {x = 0} {y = position + 0 - position} (omega arith);
         numbered = assembled.numbered;
         known = known-rewound parts.subs.registry.names parts.subs.states parts.grains records.long assembled.known;
       }

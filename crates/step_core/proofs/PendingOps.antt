@@ -9,8 +9,8 @@ use Rattle.stream_model.specs.declared.plain.Grain.{Grain}
 use Rattle.stream_model.specs.Draining.{all_waiting}
 use Rattle.stream_model.specs.Positions.{next_position}
 use Rattle.stream_model.specs.Step.{IsReached}
-use Rattle.pulling_agent.specs.Cache.{PlainCache}
-use Rattle.pulling_agent.specs.Cursor.{next_in}
+use Rattle.queue_cache.specs.Cache.{PlainCache}
+use Rattle.cache_cursor.specs.Cursor.{next_in}
 use Rattle.consumer_grain.specs.Activations.{PlainActivation}
 use Rattle.consumer_grain.specs.Subscriptions.{PlainState}
 use Rattle.grain_table.specs.Changes.{activation_at}

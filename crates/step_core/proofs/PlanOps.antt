@@ -17,7 +17,7 @@ use Rattle.pulling_agent.specs.Agent as agent
 use Rattle.pulling_agent.specs.declared.agent.Plan.{Plan}
 use Rattle.pulling_agent.specs.declared.agent.Plan.TheVariants as plan
 use Rattle.pulling_agent.specs.declared.agent.StaleAgent.{StaleAgent}
-use Rattle.pulling_agent.specs.Cache as cache
+use Rattle.queue_cache.specs.Cache as cache
 use Rattle.ranked_index.specs.declared.resumes.Leaf.{Leaf}
 use Rattle.ranked_index.specs.Leaves as leaves
 use Rattle.subscription_table.specs.LeavesOf.{leaf_of, leaves_of, open_resume}

@@ -1,5 +1,5 @@
 -- What producers ask leaves parts that agree with each other.
-use Rattle.std.proofs.Common.{◌≡◌, ◌∙◌, ap, sym, refl, ℕ, suc, ◌+◌, ◌≤◌, Bool, true, false, ◌||◌, List, [], ◌++◌, length, ◌==◌, nat_lt, arith}
+use Rattle.std.proofs.Common.{◌≡◌, ◌∙◌, ap, sym, refl, ℕ, suc, ◌+◌, ◌≤◌, Bool, true, false, ◌||◌, List, [], ◌++◌, length, map, ◌==◌, nat_lt, arith}
 use Rattle.std.specs.Prelude.{if◌then◌else◌}
 use Rattle.std.proofs.lemmas.List.{append-nil}
 use Rattle.stream_ident.specs.declared.event.Event.{Event}
@@ -14,7 +14,8 @@ use Rattle.stream_model.specs.Step as plain
 use Rattle.partition_queue.specs.declared.appended.Appended.{Appended}
 use Rattle.partition_queue.specs.declared.appended.Appended.TheVariants as appended
 use Rattle.partition_queue.specs.Queue.{PlainQueue, append, takes_memory}
-use Rattle.pulling_agent.specs.Cache.{high}
+use Rattle.queue_mapper.specs.Place.{bare}
+use Rattle.queue_cache.specs.Cache.{high}
 use Rattle.step_core.specs.Assembly.{IsAssembled}
 use Rattle.step_core.specs.PlainOf.{plain_of}
 use Rattle.step_core.specs.Replies.{of_append}
@@ -55,8 +56,9 @@ append-assembled parts stream payloads end assembled =
       most_events = longer.limit ∙ assembled.most_events;
       cached =
           assembled.cached
-          ∙ sym (ap (λ log. between log parts.agent.cache.low (high parts.agent.cache)) longer.events
-          ∙ between-longer parts.queue.events longer.more parts.agent.cache.low (high parts.agent.cache) (omega arith) end);
+          ∙ ap (map bare)
+          (sym (ap (λ log. between log parts.agent.cache.low (high parts.agent.cache)) longer.events
+          ∙ between-longer parts.queue.events longer.more parts.agent.cache.low (high parts.agent.cache) (omega arith) end));
       numbered = assembled.numbered;
       known = assembled.known;
     }

@@ -16,7 +16,7 @@ use Rattle.subscription_table.specs.Table as table
 use Rattle.step_core.specs.Numbers.{AreDistinct}
 use Rattle.step_core.specs.View.{name_at}
 use Rattle.step_core.proofs.NamesOps.{name-of-entry}
-use Rattle.pulling_agent.specs.Cache.{high}
+use Rattle.queue_cache.specs.Cache.{high}
 use Rattle.step_core.specs.Assembly.{Agrees}
 use Rattle.step_core.specs.PlainOf.{plain_of}
 use Rattle.step_core.specs.declared.parts.Parts.{Parts}

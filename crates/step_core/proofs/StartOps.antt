@@ -13,8 +13,8 @@ use Rattle.stream_model.specs.declared.reply.Reply.TheVariants as reply
 use Rattle.stream_model.specs.Positions.{high_token, low_token}
 use Rattle.stream_model.specs.Publishing.{subscribe, subscribe_at}
 use Rattle.stream_model.proofs.PublishingSteps.{subscribe-at, subscribe-latest, subscribe-miss}
-use Rattle.pulling_agent.specs.Cursor.{lower_in}
-use Rattle.pulling_agent.specs.Cache.{PlainCache, high}
+use Rattle.cache_cursor.specs.Cursor.{lower_in}
+use Rattle.queue_cache.specs.Cache.{PlainCache, high}
 use Rattle.step_core.specs.Assembly.{HasEvents}
 use Rattle.step_core.specs.PlainOf.{plain_of}
 use Rattle.step_core.specs.declared.parts.Parts.{Parts}

@@ -1,10 +1,15 @@
 -- An agent takes events, done by the parts.
-use Rattle.std.proofs.Common.{◌≡◌, ◌∙◌, ap, sym, subst, refl, ℕ, zero, suc, ◌+◌, ◌-◌, ◌*◌, ◌<◌, ◌≤◌, min, Bool, true, false, List, [], ◌∷◌, ◌++◌, length, take, drop, nat_lt, arith}
+use Rattle.std.proofs.Common.{◌≡◌, ◌∙◌, ap, sym, subst, refl, ℕ, zero, suc, ◌+◌, ◌-◌, ◌*◌, ◌<◌, ◌≤◌, min, Bool, true, false, List, [], ◌∷◌, ◌++◌, length, fold, map, take, drop, nat_lt, arith}
 use Rattle.std.specs.Prelude.{if◌then◌else◌, Result, OnErr}
-use Rattle.std.proofs.lemmas.List.{drop-drop, drop-take, length-append, length-drop, length-take}
+use Rattle.std.proofs.lemmas.List.{drop-drop, drop-map, drop-take, length-append, length-drop, length-map, length-take, map-append}
+use Rattle.std.specs.List.{flat_map}
 use Rattle.std.proofs.Math.Seq.{take-nil}
 use Rattle.stream_ident.specs.declared.event.Event.{Event}
 use Rattle.stream_ident.specs.declared.ident.SubName.{SubName}
+use Rattle.stream_ident.specs.declared.rule.Rule.{Rule}
+use Rattle.stream_ident.specs.Implying.{added}
+use Rattle.stream_ident.specs.Implying as making
+use Rattle.queue_mapper.specs.Place.{bare}
 use Rattle.stream_ident.specs.declared.limits.TheConstants.{BLOCK_EVENTS}
 use Rattle.stream_model.specs.declared.plain.PlainPartition.{PlainPartition}
 use Rattle.stream_model.specs.declared.plain.Subscription.{Subscription}
@@ -17,7 +22,8 @@ use Rattle.pubsub_registry.specs.declared.registration.Registration.{Registratio
 use Rattle.pubsub_registry.specs.declared.told.Implied.{Implied}
 use Rattle.pubsub_registry.specs.declared.told.Implied.TheVariants as implied_told
 use Rattle.pubsub_registry.specs.Implying as implying
-use Rattle.pulling_agent.specs.Cache.{high}
+use Rattle.pubsub_registry.specs.Registry.{registered}
+use Rattle.queue_cache.specs.Cache.{high}
 use Rattle.subscription_table.specs.Table.{PlainTable, implied_by, new_states}
 use Rattle.subscription_table.specs.Table as table
 use Rattle.stream_model.proofs.Answering.{on-error}
@@ -49,11 +55,24 @@ made-by : PlainTable → List Event → ℕ → Bool → PlainTable × Implied
 made-by t events position many =
     implied_by t position (if many then (t.registry, implied_told.TooMany) else (record t.registry { names = names_made t events }, implied_told.Implied))
 
-pub makes-is : (old new : PlainTable) (events seen : List Event) (position at : ℕ) (told : Implied) → seen ≡ events → at ≡ position → ◌≡◌ {A = PlainTable × Implied} (new, told) (table.imply old seen at) → MakesIs old new events position told
+-- the rules read no payload
+bare-implied : (rules : List Rule) (events : List Event) → implying.all_implied rules (map bare events) ≡ implying.all_implied rules events
+bare-implied rules [] = refl
+bare-implied rules (event ∷ events) = ap (λ rest. flat_map (making.implied_by registered event) rules ++ rest) (bare-implied rules events)
+
+bare-made : (t : PlainTable) (events : List Event) → names_made t (map bare events) ≡ names_made t events
+bare-made t events = ap (fold added t.registry.names) (bare-implied t.registry.rules events)
+
+bare-imply : (t : PlainTable) (events : List Event) (position : ℕ) → table.imply t (map bare events) position ≡ table.imply t events position
+bare-imply t events position =
+    ap (λ names. implied_by t position (if nat_lt t.registry.most_names (length names) then (t.registry, implied_told.TooMany) else (record t.registry { names = names }, implied_told.Implied)))
+    (bare-made t events)
+
+pub makes-is : (old new : PlainTable) (events seen : List Event) (position at : ℕ) (told : Implied) → seen ≡ map bare events → at ≡ position → ◌≡◌ {A = PlainTable × Implied} (new, told) (table.imply old seen at) → MakesIs old new events position told
 unfolding made-by
 makes-is old new events seen position at told is_seen is_at is =
     subst (λ (r : PlainTable × Implied). MakesIs old r.0 events position r.1)
-    (sym (is ∙ ap {B = PlainTable × Implied} (λ es. table.imply old es at) is_seen ∙ ap {B = PlainTable × Implied} (λ n. table.imply old events n) is_at))
+    (sym (is ∙ ap {B = PlainTable × Implied} (λ es. table.imply old es at) is_seen ∙ bare-imply old events at ∙ ap {B = PlainTable × Implied} (λ n. table.imply old events n) is_at))
     (by (are_too_many old events) refl)
   where
     by : (many : Bool) → are_too_many old events ≡ many → MakesIs old (made-by old events position many).0 events position (made-by old events position many).1
@@ -61,11 +80,11 @@ makes-is old new events seen position at told is_seen is_at is =
     by false few = (refl, few)
 
 -- there aren't too many, and some are new, where there are more names than before
-pub makes-more : (old : PlainTable) (events seen : List Event) (at : ℕ) → seen ≡ events → length old.registry.names < length (table.imply old seen at).0.registry.names
+pub makes-more : (old : PlainTable) (events seen : List Event) (at : ℕ) → seen ≡ map bare events → length old.registry.names < length (table.imply old seen at).0.registry.names
     → (are_too_many old events ≡ false) × (length old.registry.names < length (names_made old events))
 unfolding made-by
 makes-more old events seen at is_seen more =
-    by (are_too_many old events) refl (subst (λ es. length old.registry.names < length (table.imply old es at).0.registry.names) is_seen more)
+    by (are_too_many old events) refl (subst (λ (r : PlainTable × Implied). length old.registry.names < length r.0.registry.names) (ap {B = PlainTable × Implied} (λ es. table.imply old es at) is_seen ∙ bare-imply old events at) more)
   where
     by : (many : Bool) → are_too_many old events ≡ many → length old.registry.names < length (made-by old events at (are_too_many old events)).0.registry.names
         → (are_too_many old events ≡ false) × (length old.registry.names < length (names_made old events))
@@ -102,19 +121,22 @@ ahead-length parts drops count can =
 
 pub filled-high : (parts : Parts) (drops count : ℕ) → CanTake parts drops count → high (filled parts drops count).agent.cache ≡ high parts.agent.cache + count
 filled-high parts drops count can =
-    ap (λ n. parts.agent.cache.low + BLOCK_EVENTS * drops + n) (length-append (drop (BLOCK_EVENTS * drops) parts.agent.cache.events) (ahead parts count))
-    ∙ ap (λ n. parts.agent.cache.low + BLOCK_EVENTS * drops + (n + length (ahead parts count))) (length-drop (BLOCK_EVENTS * drops) parts.agent.cache.events)
-    ∙ ap (λ n. parts.agent.cache.low + BLOCK_EVENTS * drops + (length parts.agent.cache.events - BLOCK_EVENTS * drops + n)) (ahead-length parts drops count can)
+    ap (λ n. parts.agent.cache.low + BLOCK_EVENTS * drops + n) (length-append (drop (BLOCK_EVENTS * drops) parts.agent.cache.events) (map bare (ahead parts count)))
+    ∙ ap (λ n. parts.agent.cache.low + BLOCK_EVENTS * drops + (n + length (map bare (ahead parts count)))) (length-drop (BLOCK_EVENTS * drops) parts.agent.cache.events)
+    ∙ ap (λ n. parts.agent.cache.low + BLOCK_EVENTS * drops + (length parts.agent.cache.events - BLOCK_EVENTS * drops + n)) (length-map (ahead parts count) bare ∙ ahead-length parts drops count can)
     ∙ omega (arith, can.0)
 
 filled-cached : (parts : Parts) (drops count : ℕ) → HasEvents parts → CanTake parts drops count → HasEvents (filled parts drops count)
 filled-cached parts drops count has can =
-    ap (λ events. drop k events ++ ahead parts count) (has ∙ ap (λ m. take m (drop low log)) {y = n} (omega arith))
-    ∙ ap (λ m. drop k (take n (drop low log)) ++ take m (drop (low + n) log)) {y = count} (omega arith)
+    ap (λ events. drop k events ++ map bare (ahead parts count)) (has ∙ ap (λ m. map bare (take m (drop low log))) {y = n} (omega arith))
+    ∙ ap (λ events. events ++ map bare (ahead parts count)) (drop-map bare k (take n (drop low log)))
+    ∙ sym (map-append bare (drop k (take n (drop low log))) (ahead parts count))
+    ∙ ap (map bare)
+    (ap (λ m. drop k (take n (drop low log)) ++ take m (drop (low + n) log)) {y = count} (omega arith)
     ∙ ap (λ events. drop k (take n (drop low log)) ++ take count events) (sym (drop-drop n low log))
     ∙ splice k n count (drop low log) can.0
     ∙ ap (λ events. take ((n - k) + count) events) (drop-drop k low log)
-    ∙ ap (λ m. take m (drop (low + k) log)) (omega (arith, can.0, filled-high parts drops count can))
+    ∙ ap (λ m. take m (drop (low + k) log)) (omega (arith, can.0, filled-high parts drops count can)))
   where
     k : ℕ
     k = BLOCK_EVENTS * drops

@@ -1,21 +1,22 @@
 -- How the parts of a partition agree with each other.
-use Rattle.std.specs.Prelude.{◌≡◌, length}
+use Rattle.std.specs.Prelude.{◌≡◌, length, map}
 use Rattle.std.specs.List.{AllByRecursion}
 use Rattle.stream_model.specs.Bounds.{IsWithinLimits}
 use Rattle.stream_model.specs.Positions.{between}
 use Rattle.stream_model.specs.Step.{IsReached}
 use Rattle.grain_table.specs.Grains.{AreDistinct}
 use Rattle.pubsub_registry.specs.Index.{AreUnique}
-use Rattle.pulling_agent.specs.Cache.{high}
+use Rattle.queue_cache.specs.Cache.{high}
+use Rattle.queue_mapper.specs.Place.{bare}
 use Rattle.subscription_table.specs.Standing.{AreRecords}
 use Rattle.step_core.specs.declared.parts.Parts.{Parts}
 use Rattle.step_core.specs.Known.{AreKnown}
 use Rattle.step_core.specs.Numbers.{IsBelow}
 use Rattle.step_core.specs.PlainOf.{plain_of}
 
--- the cache has the events of the log at its positions
+-- the cache has the events of the log at its positions, without their payloads
 abbrev pub HasEvents : Parts → Type 0
-HasEvents parts = parts.agent.cache.events ≡ between parts.queue.events parts.agent.cache.low (high parts.agent.cache)
+HasEvents parts = parts.agent.cache.events ≡ map bare (between parts.queue.events parts.agent.cache.low (high parts.agent.cache))
 
 -- the parts have the partition's limits, the cache has events of the log, and grains know only numbers
 -- that are given, of records of theirs, and all that something was offered for

@@ -1,6 +1,6 @@
 -- The plain partition that the parts of a partition stand for.
 use Rattle.stream_model.specs.declared.plain.PlainPartition.{PlainPartition}
-use Rattle.pulling_agent.specs.Cache.{high}
+use Rattle.queue_cache.specs.Cache.{high}
 use Rattle.step_core.specs.declared.parts.Parts.{Parts}
 use Rattle.step_core.specs.View.{subs_of, grains_of}
 

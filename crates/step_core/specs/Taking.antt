@@ -7,7 +7,7 @@ use Rattle.stream_model.specs.Replies.{Reply}
 use Rattle.stream_model.specs.Positions.{between}
 use Rattle.stream_model.specs.Pulling.{pull_events, subs_with}
 use Rattle.pulling_agent.specs.Agent.{pulled}
-use Rattle.pulling_agent.specs.Cache.{high}
+use Rattle.queue_cache.specs.Cache.{high}
 use Rattle.step_core.specs.declared.parts.Parts.{Parts}
 
 -- the next so many events, with so many blocks dropped for them, and the subscriptions that the rules make

@@ -20,9 +20,9 @@ ghost use Rattle.step_core.specs.Serving.{next_due};
 
 use crate::outcome::Outcome;
 use crate::parts::Parts;
+use cache_cursor::next;
 use consumer_grain::SubState;
 use partition_queue::PartitionQueue;
-use pulling_agent::next;
 use stream_ident::{GrainId, SubName, Token};
 use stream_model::{Pending, Reply};
 

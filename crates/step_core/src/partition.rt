@@ -36,7 +36,7 @@ use crate::reading::{
 };
 use crate::stepping::step;
 use grain_table::GrainTable;
-use partition_queue::{Excerpt, PartitionQueue};
+use partition_queue::PartitionQueue;
 use pulling_agent::Agent;
 use std::alloc::{AllocError, Global};
 use std::fmt;
@@ -50,15 +50,11 @@ use subscription_table::SubscriptionTable;
 /// A contract sees it as the plain partition of the definitions.
 pub struct Partition {
     parts: Parts,
-    excerpt: Excerpt,
 }
 
 impl Drop for Partition {
     fn drop(self) {
-        let Self {
-            parts: _,
-            excerpt: _,
-        } = self;
+        let Self { parts: _ } = self;
     }
 }
 
@@ -96,7 +92,6 @@ impl Partition {
                 turns: 0,
                 limits,
             },
-            excerpt: Excerpt::new(alloc)?,
         })
     }
 
@@ -188,7 +183,7 @@ impl Partition {
         ensures of_log { IfOk result (IsOfLog self.new.log) }
         ensures memory { OnErr result (may_allocate self.old op.now ≡ true) }
     {
-        let outcome = step(&mut self.parts, &mut self.excerpt, alloc, op);
+        let outcome = step(&mut self.parts, alloc, op);
         // A table promises with its length that no number is given twice, and that its rows agree. That is
         // asked here, once for all operations: each starts from parts that `Agrees` speaks of.
         let _lengths = (self.parts.subs.len(), self.parts.grains.len());

@@ -1,32 +1,29 @@
 //! What the agent takes from the queue.
 ghost use Rattle.std.specs.Prelude.{◌≡◌, ◌+◌, ◌*◌, ◌<◌, ◌≤◌, OnErr, length, true, unwrap_or, IfOk};
-ghost use Rattle.stream_ident.specs.declared.limits.TheConstants.{BLOCK_EVENTS, MOST_EVENTS};
+ghost use Rattle.stream_ident.specs.declared.limits.TheConstants.{BLOCK_EVENTS};
 ghost use Rattle.stream_model.specs.Positions.{slowest, slowest_name, token_at};
 ghost use Rattle.stream_model.specs.Pulling.{pull};
 ghost use Rattle.stream_model.specs.Step.{takes_memory};
 ghost use Rattle.stream_ident.specs.Words.{Performs};
 ghost use Rattle.pulling_agent.specs.Agent.{IsTakeable};
-ghost use Rattle.pulling_agent.specs.Cache.{high, room};
-ghost use Rattle.queue_mapper.specs.Place.{tags_of};
+ghost use Rattle.queue_cache.specs.Cache.{high, room};
 ghost use Rattle.stream_model.specs.Replies.{IsNoTurn};
 ghost use Rattle.step_core.specs.Assembly.{Agrees, IsAssembled};
 ghost use Rattle.step_core.specs.PlainOf.{plain_of};
-ghost use Rattle.step_core.specs.Taking.{ahead, filled, taken};
+ghost use Rattle.step_core.specs.Taking.{filled, taken};
 ghost use Rattle.step_core.specs.Replied.{replied, reply_of};
 ghost use Rattle.stream_model.specs.declared.reply.Reply.TheVariants.{Pulled};
 
 use crate::outcome::Outcome;
 use crate::parts::Parts;
 use crate::reading::least_resume;
-use partition_queue::Excerpt;
 use pubsub_registry::Implied;
 use pulling_agent::{Plan, StaleAgent};
 use std::alloc::{AllocError, Global};
-use stream_ident::{Event, SubName};
+use stream_ident::SubName;
 use stream_model::Reply;
 
-/// The agent takes events from the queue into its cache, and the rules make subscriptions of them. On their
-/// way the events stand in an excerpt of the log, so that they need no further memory.
+/// The agent takes events from the queue into its cache, and the rules make subscriptions of them.
 ///
 /// # Errors
 /// The call failed to allocate, and nothing has changed. That can happen only where the events would be taken
@@ -34,7 +31,6 @@ use stream_model::Reply;
 #[inline(never)]
 pub(crate) fn pull(
     parts: &mut Parts,
-    excerpt: &mut Excerpt,
     alloc: Global,
     generation: u64,
     max: u32,
@@ -54,7 +50,7 @@ pub(crate) fn pull(
     match parts.agent.plan_pull(max as usize, len, least) {
         Plan::Dry => Ok(Reply::Dry),
         Plan::Pressed => Ok(Reply::Pressed { by: slowest(parts) }),
-        Plan::Take { drops, count } => take(parts, excerpt, alloc, drops, count),
+        Plan::Take { drops, count } => take(parts, alloc, drops, count),
     }
 }
 
@@ -71,13 +67,7 @@ fn slowest(parts: &Parts) -> SubName
 /// The call failed to allocate, and nothing has changed. That can happen only where the events would be
 /// taken and the rules would make a subscription.
 #[inline(never)]
-fn take(
-    parts: &mut Parts,
-    excerpt: &mut Excerpt,
-    alloc: Global,
-    drops: usize,
-    count: usize,
-) -> Result<Outcome, AllocError>
+fn take(parts: &mut Parts, alloc: Global, drops: usize, count: usize) -> Result<Outcome, AllocError>
     requires agrees { Agrees parts.old }
     requires takeable { IsTakeable parts.old.agent (length parts.old.queue.events) (slowest (plain_of parts.old)) drops count }
     ensures assembled { IsAssembled parts.new }
@@ -87,30 +77,26 @@ fn take(
     ensures makes { OnErr result (length (plain_of parts.old).subs < length (taken (plain_of parts.old) drops count).0.subs) }
 {
     let high = parts.agent.cache().high();
-    parts.queue.read(high, high + count, excerpt);
-    let events = excerpt.as_slice();
     // The rules come first: they may find too many subscriptions, or no memory.
-    match parts.subs.imply(alloc, events, high)? {
+    let implied = parts
+        .subs
+        .imply(alloc, &parts.queue.between(high, high + count), high)?;
+    match implied {
         Implied::TooMany => Ok(Reply::TooMany),
-        Implied::Implied => Ok(fill(parts, drops, count, events, excerpt.tags())),
+        Implied::Implied => Ok(fill(parts, drops, count)),
     }
 }
 
-/// Drops blocks of the cache, and takes so many events into it, which are the next of the queue, with the
-/// tags of their streams.
-fn fill(parts: &mut Parts, drops: usize, count: usize, events: &[Event], tags: &[u8]) -> Outcome
+/// Drops blocks of the cache, and takes so many events into it, which are the next of the queue.
+fn fill(parts: &mut Parts, drops: usize, count: usize) -> Outcome
     requires blocks { BLOCK_EVENTS * drops ≤ length parts.old.agent.cache.events }
     requires room { count ≤ room parts.old.agent.cache + BLOCK_EVENTS * drops }
     requires there { high parts.old.agent.cache + count ≤ length parts.old.queue.events }
-    requires few { length parts.old.queue.events ≤ MOST_EVENTS }
-    requires events { events.now ≡ ahead parts.old count }
-    requires counted { length events.now ≡ count }
-    requires tags { tags.now ≡ tags_of events.now }
     ensures parts { parts.new ≡ filled parts.old drops count }
     ensures reply { reply_of result ≡ Pulled count (token_at (plain_of parts.new) parts.new.agent.cache.low) (token_at (plain_of parts.new) (high parts.new.agent.cache)) }
     ensures told { IsNoTurn result }
 {
-    parts.agent.pull(drops, events, tags);
+    parts.agent.pull(drops, &parts.queue, count);
     let cache = parts.agent.cache();
     Reply::Pulled {
         count,

@@ -20,18 +20,12 @@ use crate::parts::Parts;
 use crate::publishing::{add_rule, publish, subscribe, unsubscribe};
 use crate::pulling::pull;
 use crate::turns::{begin, commit, deactivate};
-use partition_queue::Excerpt;
 use std::alloc::{AllocError, Global};
 use stream_model::Op;
 
 /// Does one operation on the parts of a partition.
 #[inline(never)]
-pub(crate) fn step(
-    parts: &mut Parts,
-    excerpt: &mut Excerpt,
-    alloc: Global,
-    op: &Op,
-) -> Result<Outcome, AllocError>
+pub(crate) fn step(parts: &mut Parts, alloc: Global, op: &Op) -> Result<Outcome, AllocError>
     requires { Agrees parts.old }
     ensures assembled { IsAssembled parts.new }
     ensures performs { Performs (plain_of parts.old) (plain_of parts.new) (answered parts.new.queue.events result) (step (plain_of parts.old) op.now) }
@@ -46,7 +40,7 @@ pub(crate) fn step(
             start,
         } => subscribe(parts, alloc, stream, grain, *start),
         Op::AddRule { kind, namespace } => add_rule(parts, alloc, *kind, *namespace),
-        Op::Pull { generation, max } => pull(parts, excerpt, alloc, *generation, *max),
+        Op::Pull { generation, max } => pull(parts, alloc, *generation, *max),
         Op::Deliver { generation, sub } => deliver(parts, alloc, *generation, sub),
         Op::Commit {
             grain,

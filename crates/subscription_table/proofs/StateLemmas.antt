@@ -5,7 +5,7 @@ use Rattle.stream_ident.specs.declared.ident.StreamId.{StreamId}
 use Rattle.stream_ident.specs.declared.token.Token.{Token}
 use Rattle.stream_ident.specs.Token.{same_token}
 use Rattle.partition_queue.specs.Queue.{PlainQueue, token_at}
-use Rattle.pulling_agent.specs.Cache.{PlainCache, high}
+use Rattle.queue_cache.specs.Cache.{PlainCache, high}
 use Rattle.consumer_grain.specs.Subscriptions.{PlainState, acknowledged, advanced, caught_up, committed, rewound}
 use Rattle.subscription_table.specs.LeavesOf.{leaf_of}
 use Rattle.subscription_table.specs.Progress.{ack, ack_at, handled_at, next_at, next_event, retry}

@@ -4,8 +4,8 @@ use Rattle.stream_ident.specs.declared.ident.StreamId.{StreamId}
 use Rattle.stream_ident.specs.declared.token.Token.{Token}
 use Rattle.stream_ident.specs.Token.{same_token}
 use Rattle.partition_queue.specs.Queue.{PlainQueue, token_at}
-use Rattle.pulling_agent.specs.Cache.{PlainCache, high}
-use Rattle.pulling_agent.specs.Cursor.{next_in}
+use Rattle.queue_cache.specs.Cache.{PlainCache, high}
+use Rattle.cache_cursor.specs.Cursor.{next_in}
 use Rattle.consumer_grain.specs.Subscriptions.{PlainState, acknowledged, caught_up, rewound}
 use Rattle.subscription_table.specs.declared.told.Acked.{Acked}
 use Rattle.subscription_table.specs.declared.told.Acked.TheVariants as ack_told

@@ -17,7 +17,6 @@ use crate::partition::Partition;
 use crate::parts::Parts;
 use crate::pulling::pull;
 use crate::turns::{begin, commit};
-use partition_queue::Excerpt;
 use std::alloc::{AllocError, Global};
 use stream_ident::{GrainId, SubName, Token};
 
@@ -30,7 +29,7 @@ impl Partition {
         ensures memory { OnErr result (may_allocate self.old (Pull self.old.generation max) ≡ true) }
         ensures performs { Performs self.old self.new (replied result) (step self.old (Pull self.old.generation max)) }
     {
-        let told = pull_now(&mut self.parts, &mut self.excerpt, alloc, max);
+        let told = pull_now(&mut self.parts, alloc, max);
         let _lengths = (self.parts.subs.len(), self.parts.grains.len());
         told
     }
@@ -100,19 +99,14 @@ impl Partition {
 }
 
 /// The current agent pulls.
-fn pull_now(
-    parts: &mut Parts,
-    excerpt: &mut Excerpt,
-    alloc: Global,
-    max: u32,
-) -> Result<Outcome, AllocError>
+fn pull_now(parts: &mut Parts, alloc: Global, max: u32) -> Result<Outcome, AllocError>
     requires { Agrees parts.old }
     ensures assembled { IsAssembled parts.new }
     ensures performs { Performs (plain_of parts.old) (plain_of parts.new) (replied result) (step (plain_of parts.old) (Pull parts.old.agent.generation max)) }
     ensures memory { OnErr result (may_allocate (plain_of parts.old) (Pull parts.old.agent.generation max) ≡ true) }
 {
     let generation = parts.agent.generation();
-    pull(parts, excerpt, alloc, generation, max)
+    pull(parts, alloc, generation, max)
 }
 
 /// The current agent delivers.

@@ -3,7 +3,7 @@
 ghost use Rattle.std.specs.Prelude.{◌≡◌, ◌+◌, ◌^◌, ◌<◌, ◌≤◌, true, false, length, is_ok, OnErr, All, if◌then◌else◌, IfSome};
 ghost use Rattle.stream_ident.specs.declared.limits.TheConstants.{MOST_EVENTS, PULL_EVENTS};
 ghost use Rattle.stream_ident.specs.Words.{past, Performs};
-ghost use Rattle.pulling_agent.specs.Cache.{high};
+ghost use Rattle.queue_cache.specs.Cache.{high};
 ghost use Rattle.pubsub_registry.specs.Registry.{is_full};
 ghost use Rattle.consumer_grain.specs.Subscriptions.{committed, rises_from, advanced};
 ghost use Rattle.subscription_table.specs.Table.{add_rule, close, imply, state_at, subscribe, with_state, registration_at, rewound_all, stepped, AreRewound};
@@ -14,13 +14,14 @@ ghost use Rattle.subscription_table.specs.Handled.{first_of, IsBound};
 
 use super::{SubscriptionTable, add_rows, refresh, rewind_each, rewind_these};
 use crate::told::{Acked, Retried, Sought};
+use cache_cursor::next;
 use consumer_grain::SubState;
-use partition_queue::PartitionQueue;
+use partition_queue::{PartitionQueue, Span};
 use pubsub_registry::{Added, Closing, Implied, RuleAdded};
-use pulling_agent::{QueueCache, next};
+use queue_cache::QueueCache;
 use queue_mapper::tag;
 use std::alloc::{AllocError, Global};
-use stream_ident::{Event, GrainId, Name, Row, StreamId, SubName, Token};
+use stream_ident::{GrainId, Name, Row, StreamId, SubName, Token};
 
 impl SubscriptionTable {
     /// A grain subscribes to a stream, from a token on, whose first event is sought from a position on. The
@@ -75,7 +76,7 @@ impl SubscriptionTable {
     pub fn imply(
         &mut self,
         alloc: Global,
-        events: &[Event],
+        events: &Span,
         position: usize,
     ) -> Result<Implied, AllocError>
         requires few { length events.now ≤ PULL_EVENTS }

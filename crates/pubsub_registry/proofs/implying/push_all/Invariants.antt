@@ -2,9 +2,9 @@ use Rattle.std.proofs.Common.{◌≡◌, length, take}
 use Rattle.pubsub_registry.specs.Implying.{names_with}
 use Rattle.pubsub_registry.proofs.implying.push_all.Given as goal
 
-abbrev pub invariant-loop-event : goal.invariant-loop-event
-invariant-loop-event l =
+abbrev pub invariant-loop-index : goal.invariant-loop-index
+invariant-loop-index l =
     record {
-      all : l.subscriptions ≡ names_with l.rules l.initial.subscriptions (take l.event-index l.events);
+      all : l.subscriptions ≡ names_with l.rules l.initial.subscriptions (take l.index l.events);
       front : take (length l.initial.subscriptions) l.subscriptions ≡ l.initial.subscriptions;
     }

@@ -1,4 +1,4 @@
-use Rattle.std.proofs.Common.{◌≡◌, ◌<◌, length, fold, rules}
+use Rattle.std.proofs.Common.{◌<◌, length, fold, rules}
 use Rattle.std.specs.List.{flat_map}
 use Rattle.stream_ident.specs.Implying.{added}
 use Rattle.pubsub_registry.specs.Implying.{made}

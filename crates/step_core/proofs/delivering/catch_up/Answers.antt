@@ -1,5 +1,5 @@
 use Rattle.std.proofs.Common.{◌∙◌, ap, sym, subst, ◌≤◌, false, arith}
-use Rattle.pulling_agent.specs.Cache.{PlainCache, high}
+use Rattle.queue_cache.specs.Cache.{PlainCache, high}
 use Rattle.subscription_table.specs.Table.{PlainTable, state_at}
 use Rattle.subscription_table.specs.declared.told.Sought.TheVariants as sought
 use Rattle.step_core.specs.Assembly.{IsAssembled}

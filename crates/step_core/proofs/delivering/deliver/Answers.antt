@@ -6,7 +6,7 @@ use Rattle.stream_model.specs.declared.reply.Reply.TheVariants as reply
 use Rattle.stream_model.specs.Step.{takes_memory}
 use Rattle.grain_table.specs.Grains.{number_of}
 use Rattle.pubsub_registry.specs.declared.registration.Registration.{Registration}
-use Rattle.pulling_agent.specs.Cache.{PlainCache, high}
+use Rattle.queue_cache.specs.Cache.{PlainCache, high}
 use Rattle.subscription_table.specs.Table.{PlainTable, registration_at, state_at}
 use Rattle.subscription_table.specs.declared.told.Sought.TheVariants as sought
 use Rattle.step_core.specs.Assembly.{IsAssembled}

@@ -3,7 +3,7 @@ use Rattle.std.specs.Option.{option_map}
 use Rattle.stream_ident.specs.SubName.{sub_lt}
 use Rattle.stream_ident.specs.Words.{is_above, keys_where}
 use Rattle.stream_model.specs.Looks.{is_due}
-use Rattle.pulling_agent.specs.Cache.{high}
+use Rattle.queue_cache.specs.Cache.{high}
 use Rattle.ranked_index.specs.Leaves.{due_after}
 use Rattle.subscription_table.specs.LeavesOf.{leaves_of}
 use Rattle.subscription_table.specs.Table.{name_at}

@@ -1,6 +1,6 @@
 use Rattle.std.proofs.Common.{◌≡◌, ◌∙◌, ap, arith, min, sym}
 use Rattle.stream_model.specs.Positions.{slowest}
-use Rattle.pulling_agent.specs.Cache.{high}
+use Rattle.queue_cache.specs.Cache.{high}
 use Rattle.stream_model.proofs.Refusals.{move-spent}
 use Rattle.step_core.specs.PlainOf.{plain_of}
 use Rattle.step_core.proofs.Shared.{high-end}

@@ -1,0 +1,13 @@
+use Rattle.std.proofs.Common.{◌-◌, ◌≤◌, length}
+use Rattle.stream_ident.specs.Event.{is_owed}
+use Rattle.cache_cursor.specs.Seek.{NoneBetween}
+use Rattle.cache_cursor.proofs.cursor.next_from.Given as goal
+
+abbrev pub invariant-loop-place : goal.invariant-loop-place
+invariant-loop-place l = record {
+  reached : l.from ≤ l.at;
+  before : NoneBetween (λ event. is_owed l.stream l.start event) l.block l.from l.at;
+}
+
+abbrev pub decreases-loop-place : goal.decreases-loop-place
+decreases-loop-place l = length l.tags - l.at

@@ -1,0 +1,16 @@
+-- What a cursor seeks in a cache.
+use Rattle.std.specs.Prelude.{ℕ, ◌-◌, not, drop, Option, unwrap_or}
+use Rattle.stream_ident.specs.declared.ident.StreamId.{StreamId}
+use Rattle.stream_ident.specs.declared.token.Token.{Token}
+use Rattle.stream_ident.specs.Event.{is_owed}
+use Rattle.stream_ident.specs.Token.{token_lt}
+use Rattle.stream_ident.specs.Words.{first_at}
+use Rattle.queue_cache.specs.Cache.{PlainCache, high}
+
+-- the least position at or past this one whose event is of the stream and not before the start
+abbrev pub next_in : PlainCache → ℕ → StreamId → Token → Option ℕ
+next_in c from stream start = first_at (λ event. is_owed stream start event) from (drop (from - c.low) c.events)
+
+-- the least position whose token isn't less, or high
+abbrev pub lower_in : PlainCache → Token → ℕ
+lower_in c token = unwrap_or (first_at (λ event. not (token_lt event.token token)) c.low c.events) (high c)

@@ -1,0 +1,7 @@
+//! Cursors into the cache of a queue: the next event of a stream, and where a token stands. Nothing here takes
+//! memory.
+#![tactic(auto)]
+
+mod cursor;
+
+pub use cursor::{lower, next};

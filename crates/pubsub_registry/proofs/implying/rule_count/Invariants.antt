@@ -1,0 +1,6 @@
+use Rattle.std.proofs.Common.{◌≡◌, take}
+use Rattle.pubsub_registry.specs.Implying.{rule_count}
+use Rattle.pubsub_registry.proofs.implying.rule_count.Given as goal
+
+abbrev pub invariant-loop-index : goal.invariant-loop-index
+invariant-loop-index l = l.count ≡ rule_count l.rules (take l.index l.events)

@@ -1,0 +1,6 @@
+use Rattle.std.proofs.Common.{◌≡◌}
+use Rattle.pulling_agent.proofs.FillLemmas.{taken}
+use Rattle.pulling_agent.proofs.agent.fill.Given as goal
+
+abbrev pub invariant-loop : goal.invariant-loop
+invariant-loop l = l.cache ≡ taken l.fn.cache l.queue l.counter

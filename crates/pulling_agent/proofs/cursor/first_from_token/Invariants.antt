@@ -1,7 +1,0 @@
-use Rattle.std.specs.Prelude.{not}
-use Rattle.stream_ident.specs.Token.{token_lt}
-use Rattle.pulling_agent.specs.Seek.{NoneBetween}
-use Rattle.pulling_agent.proofs.cursor.first_from_token.Given as goal
-
-abbrev pub invariant-loop-place : goal.invariant-loop-place
-invariant-loop-place l = NoneBetween (λ event. not (token_lt event.token l.token)) l.events 0 l.place
