@@ -12,7 +12,7 @@ ghost use Rattle.stream_ident.specs.Words.{Performs};
 use crate::appended::Appended;
 use crate::span::Span;
 use crate::streams::Streams;
-use queue_mapper::EventHeader;
+use queue_mapper::HeaderRef;
 use std::alloc::{AllocError, Global};
 use std::marker::Model;
 use stream_ident::{BATCH_EVENTS, Batch, Event, PAYLOAD_BYTES, Payload, StreamId, Token};
@@ -115,11 +115,11 @@ impl PartitionQueue {
     pub fn append(
         &mut self,
         _alloc: Global,
-        stream: StreamId,
+        stream: &StreamId,
         payloads: &Batch,
     ) -> Result<Appended, AllocError>
-        ensures performs { Performs self.old self.new result (append self.old stream payloads.now) }
-        ensures memory { OnErr result (takes_memory (append self.old stream payloads.now).1 ≡ true) }
+        ensures performs { Performs self.old self.new result (append self.old stream.now payloads.now) }
+        ensures memory { OnErr result (takes_memory (append self.old stream.now payloads.now).1 ≡ true) }
     {
         let payloads = payloads.as_slice();
         if let Some(refusal) = self.refusal(payloads.len()) {
@@ -165,7 +165,7 @@ impl PartitionQueue {
             &mut self.streams,
             &mut self.entries,
             &mut self.bytes,
-            *stream,
+            stream,
             payloads.len(),
         )?;
         let seq = self.batches;
@@ -239,8 +239,8 @@ impl PartitionQueue {
         }
     }
 
-    /// The header of the event at a position. No payload is read, and no digest computed.
-    pub fn header_at(&self, position: usize) -> EventHeader
+    /// The header of the event at a position, which is lent. No payload is read, no name copied, and no digest computed.
+    pub fn header_at(&self, position: usize) -> HeaderRef<'_>
         requires { position < length self.now.events }
         ensures { result ≡ bare (event_at self.now position) }
     {
@@ -265,7 +265,7 @@ fn make_room(
     streams: &mut Streams,
     entries: &mut Vec<Entry>,
     bytes: &mut Vec<u8>,
-    stream: StreamId,
+    stream: &StreamId,
     count: usize,
 ) -> Result<u32, AllocError>
     requires few { length streams.old < MOST_EVENTS }
@@ -275,7 +275,7 @@ fn make_room(
     ensures entries_room { OnOk result (vec_len entries.new + count ≤ vec_capacity entries.new) }
     ensures bytes_room { OnOk result (vec_len bytes.new + PAYLOAD_BYTES * count ≤ vec_capacity bytes.new) }
     ensures within { IfOk result (λ number. number < length streams.new) }
-    ensures stored { IfOk result (λ number. get_or streams.new number no_stream ≡ stream) }
+    ensures stored { IfOk result (λ number. get_or streams.new number no_stream ≡ stream.now) }
     ensures grows { OnOk result (Grows streams.old streams.new) }
     ensures err { OnErr result (streams.new ≡ streams.old) }
 {
@@ -363,18 +363,18 @@ fn event_of(streams: &Streams, bytes: &[u8], entry: &Entry) -> Event
 {
     let start = entry.start as usize;
     Event {
-        stream: streams.get(entry.stream),
+        stream: *streams.get(entry.stream),
         token: entry.token(),
         payload: payload_of(&bytes[start..start + entry.len as usize]),
     }
 }
 
 /// The header of the event of an entry, of these streams.
-fn header_of(streams: &Streams, entry: &Entry) -> EventHeader
+fn header_of<'a>(streams: &'a Streams, entry: &Entry) -> HeaderRef<'a>
     requires { entry.now.stream < length streams.now }
     ensures { (bytes : List ℕ) → result ≡ bare (event_of streams.now bytes entry.now) }
 {
-    EventHeader::new(
+    HeaderRef::new(
         streams.get(entry.stream),
         entry.token(),
         streams.tag(entry.stream),

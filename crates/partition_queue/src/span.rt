@@ -5,7 +5,7 @@ ghost use Rattle.partition_queue.specs.Queue.{between};
 ghost use Rattle.queue_mapper.specs.Place.{bare};
 
 use crate::queue::PartitionQueue;
-use queue_mapper::EventHeader;
+use queue_mapper::HeaderRef;
 use std::marker::Model;
 
 /// The events of a log from one position up to another. It lends the log and copies nothing.
@@ -48,8 +48,8 @@ impl<'a> Span<'a> {
         self.to - self.from
     }
 
-    /// The header of the event at a place, counted from the first.
-    pub fn at(&self, index: usize) -> EventHeader
+    /// The header of the event at a place, counted from the first. It is lent.
+    pub fn at(&self, index: usize) -> HeaderRef<'a>
         requires { index < length self.now }
         ensures { result ≡ get_or self.now index no_event }
     {

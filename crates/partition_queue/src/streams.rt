@@ -53,27 +53,29 @@ impl Streams {
     ///
     /// # Errors
     /// The call failed to allocate, and the streams are as they were.
-    pub(crate) fn number_of(&mut self, stream: StreamId) -> Result<u32, AllocError>
+    pub(crate) fn number_of(&mut self, stream: &StreamId) -> Result<u32, AllocError>
         requires { length self.old < MOST_EVENTS }
         ensures within { IfOk result (λ number. number < length self.new) }
-        ensures stored { IfOk result (λ number. get_or self.new number no_stream ≡ stream) }
+        ensures stored { IfOk result (λ number. get_or self.new number no_stream ≡ stream.now) }
         ensures grows { OnOk result (Grows self.old self.new) }
         ensures err { OnErr result (self.new ≡ self.old) }
     {
-        self.tags.reserve(1)?;
-        let (number, added) = self.names.insert_full(stream)?;
-        if added {
-            self.tags.push_reserved(tag(&stream));
+        if let Some(number) = self.names.get_index_of(stream) {
+            return Ok(number as u32);
         }
+        let number = self.names.len();
+        self.tags.reserve(1)?;
+        self.names.insert(*stream)?;
+        self.tags.push_reserved(tag(stream));
         Ok(number as u32)
     }
 
     /// The stream of a number.
-    pub(crate) fn get(&self, number: u32) -> StreamId
+    pub(crate) fn get(&self, number: u32) -> &StreamId
         requires { number < length self.now }
-        ensures { result ≡ get_or self.now number no_stream }
+        ensures { result.now ≡ get_or self.now number no_stream }
     {
-        *self.names.get_index(number as usize).unwrap()
+        self.names.get_index(number as usize).unwrap()
     }
 
     /// The tag of the stream of a number.

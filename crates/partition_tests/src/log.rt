@@ -47,6 +47,6 @@ impl Log {
         count: usize,
     ) -> Result<Appended, AllocError> {
         let batch = batch(rt, alloc, count)?;
-        self.queue.append(alloc, stream(rt, b'o', key), &batch)
+        self.queue.append(alloc, &stream(rt, b'o', key), &batch)
     }
 }

@@ -3,7 +3,7 @@ use crate::log::Log;
 use crate::names::{payload, stream};
 use crate::rows::{Asked, Twin, ask_both};
 use partition_queue::Appended;
-use queue_mapper::{EventHeader, tag};
+use queue_mapper::{HeaderRef, tag};
 use std::alloc::{AllocError, Global};
 use std::process::Abort;
 use std::test::Fail;
@@ -29,13 +29,13 @@ fn is_at(log: &Log, position: usize, wanted: &Event) -> bool {
 }
 
 /// Whether a header is that of the event at a position, with the tag of its stream.
-fn is_read(log: &Log, header: &EventHeader, position: usize) -> bool {
+fn is_read(log: &Log, header: &HeaderRef, position: usize) -> bool {
     if position >= log.queue.len() {
         return false;
     }
     let event = log.queue.event_at(position);
     *header.stream() == event.stream
-        && *header.token() == event.token
+        && header.token() == event.token
         && header.tag() == tag(&event.stream)
 }
 

@@ -1,6 +1,6 @@
--- Rows of names from the least to the greatest, with a name put in and with names taken out.
-use Rattle.std.proofs.Common.{◌≡◌, ℕ, zero, suc, ◌≤◌, Bool, true, false, List, [], ◌∷◌, ◌++◌, length, take, drop, get_or, filter, insert, if◌then◌else◌, refl, sym, ap, subst, arith, All, Contains}
-use Rattle.std.proofs.lemmas.List.Elements.{All-nil, All-cons, All-head, All-tail, All-append, All-take, All-drop, All-filter, Contains-get_or}
+-- Rows of names from the least to the greatest, with a name put in and with numbers of names taken out.
+use Rattle.std.proofs.Common.{◌≡◌, ℕ, zero, suc, ◌≤◌, Bool, true, false, List, [], ◌∷◌, ◌++◌, length, take, drop, get_or, filter, insert, map, if◌then◌else◌, refl, sym, ap, subst, arith, All, Contains}
+use Rattle.std.proofs.lemmas.List.Elements.{All-nil, All-cons, All-head, All-tail, All-append, All-take, All-drop, Contains-get_or}
 use Rattle.std.proofs.lemmas.Bool.{false_from_ne_true}
 use Rattle.stream_ident.specs.SubName.{same_sub, sub_lt}
 use Rattle.stream_ident.specs.declared.ident.SubName.{SubName}
@@ -24,12 +24,23 @@ ascending-insert (x ∷ xs) s (suc at) ascending place =
           (record { within = within; before = All-tail (λ a. sub_lt a s ≡ true) x (take at xs) place.before; after = place.after }),
     )
 
-pub ascending-filter : (test : SubName → Bool) (names : List SubName) → IsAscending names → IsAscending (filter test names)
-ascending-filter test [] ascending = tt
-ascending-filter test (x ∷ xs) ascending =
-    elim (test x) as (λ b. IsAscending (if b then x ∷ filter test xs else filter test xs)) [
-      | true ↦ (All-filter test (λ b. sub_lt x b ≡ true) xs ascending.0, ascending-filter test xs ascending.1)
-      | false ↦ ascending-filter test xs ascending.1
+-- the names of the numbers that are left
+All-left : (P : SubName → Type 0) (name : ℕ → SubName) (test : ℕ → Bool) (row : List ℕ) → All P (map name row) → All P (map name (filter test row))
+All-left P name test [] all = all
+All-left P name test (n ∷ row) all =
+    let rest = All-left P name test row (All-tail P (name n) (map name row) all) in
+    elim (test n) as (λ b. All P (map name (if b then n ∷ filter test row else filter test row))) [
+      | true ↦ All-cons P (name n) (map name (filter test row)) (All-head P (name n) (map name row) all) rest
+      | false ↦ rest
+    ]
+
+pub ascending-left : (name : ℕ → SubName) (test : ℕ → Bool) (row : List ℕ) → IsAscending (map name row) → IsAscending (map name (filter test row))
+ascending-left name test [] ascending = tt
+ascending-left name test (n ∷ row) ascending =
+    let rest = ascending-left name test row ascending.1 in
+    elim (test n) as (λ b. IsAscending (map name (if b then n ∷ filter test row else filter test row))) [
+      | true ↦ (All-left (λ b. sub_lt (name n) b ≡ true) name test row ascending.0, rest)
+      | false ↦ rest
     ]
 
 rises-at : (before after : List SubName) (a b : SubName) → IsAscending (before ++ a ∷ (b ∷ after)) → sub_lt a b ≡ true

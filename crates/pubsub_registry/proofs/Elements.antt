@@ -1,8 +1,9 @@
--- The elements of a list with one put in, or with some taken out.
-use Rattle.std.proofs.Common.{◌≡◌, ◌∙◌, ℕ, zero, suc, ◌<◌, Bool, true, false, List, [], ◌∷◌, ◌++◌, length, take, drop, get_or, filter, insert, if◌then◌else◌, refl, sym, ap, subst, arith, Contains, true≢false}
-use Rattle.std.specs.Prelude.{◌⊎◌}
-use Rattle.std.proofs.lemmas.List.{take-append-drop}
+-- The elements of a list with one put in, or with some taken out, and their places with one put behind.
+use Rattle.std.proofs.Common.{◌≡◌, ◌∙◌, ℕ, zero, suc, ◌<◌, Bool, true, false, List, [], ◌∷◌, ◌++◌, length, take, drop, get_or, filter, insert, map, Some, if◌then◌else◌, refl, sym, ap, subst, arith, Contains, true≢false}
+use Rattle.std.specs.Prelude.{◌⊎◌, slice_get}
+use Rattle.std.proofs.lemmas.List.{get_or-map, length-map, take-append-drop}
 use Rattle.std.proofs.lemmas.List.Elements.{Contains-append_left, Contains-append_right, Contains-append_cases}
+use Rattle.std.proofs.lemmas.Option.{none-some, same_Some}
 use mathlib.Core.Logic.{inl, inr}
 
 module _ {X : Type 0} where
@@ -74,3 +75,28 @@ module _ {X : Type 0} where
       by : (b : Bool) → test x ≡ b → Contains (if b then x ∷ filter test xs else filter test xs) y → (Contains (filter test xs) y → Contains xs y × (test y ≡ true)) → Contains (x ∷ xs) y × (test y ≡ true)
       by true is there rest = first is (Contains-cases x (filter test xs) y there) rest
       by false is there rest = later (rest there)
+
+  -- one put behind
+  pub slice_get-left : (xs : List X) (y : X) (i : ℕ) (x : X) → slice_get xs i ≡ Some x → slice_get (xs ++ y ∷ []) i ≡ Some x
+  slice_get-left [] y i x is = absurd (none-some x is)
+  slice_get-left (z ∷ xs) y zero x is = is
+  slice_get-left (z ∷ xs) y (suc i) x is = slice_get-left xs y i x is
+
+  pub slice_get-last : (xs : List X) (y : X) → slice_get (xs ++ y ∷ []) (length xs) ≡ Some y
+  slice_get-last [] y = refl
+  slice_get-last (z ∷ xs) y = slice_get-last xs y
+
+  pub slice_get-cases : (xs : List X) (y : X) (i : ℕ) (x : X) → slice_get (xs ++ y ∷ []) i ≡ Some x → (slice_get xs i ≡ Some x) ⊎ ((i ≡ length xs) × (y ≡ x))
+  slice_get-cases [] y zero x is = inr (refl, same_Some y x is)
+  slice_get-cases [] y (suc i) x is = absurd (none-some x is)
+  slice_get-cases (z ∷ xs) y zero x is = inl is
+  slice_get-cases (z ∷ xs) y (suc i) x is = by (slice_get-cases xs y i x is)
+    where
+      by : (slice_get xs i ≡ Some x) ⊎ ((i ≡ length xs) × (y ≡ x)) → (slice_get xs i ≡ Some x) ⊎ ((suc i ≡ suc (length xs)) × (y ≡ x))
+      by (inl there) = inl there
+      by (inr last) = inr (ap suc last.0, last.1)
+
+-- one of the values of a function at each element
+pub Contains-map : {X Y : Type 0} (f : X → Y) (xs : List X) (x : X) → Contains xs x → Contains (map f xs) (f x)
+Contains-map f xs x there =
+    let inside = there.1 in (there.0, omega (arith, inside, length-map xs f), get_or-map f xs there.0 x (f x) there.1 ∙ ap f there.2)

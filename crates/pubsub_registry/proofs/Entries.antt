@@ -1,5 +1,5 @@
 -- Subscriptions by name: their look-up, and their streams after a change.
-use Rattle.std.proofs.Common.{◌≡◌, ◌∙◌, ℕ, zero, suc, Bool, true, false, List, [], ◌∷◌, ◌++◌, length, Some, None, if◌then◌else◌, refl, sym, ap, subst, Contains, true≢false}
+use Rattle.std.proofs.Common.{◌≡◌, ◌∙◌, ℕ, zero, suc, Bool, true, false, List, [], ◌∷◌, ◌++◌, length, map, Some, None, if◌then◌else◌, refl, sym, ap, subst, Contains, true≢false}
 use Rattle.std.specs.Prelude.{◌⊎◌, slice_get}
 use Rattle.std.specs.List.{IsDistinct, AllByRecursion}
 use Rattle.std.specs.Map.{keys_of, lookup, set_value}
@@ -52,13 +52,14 @@ streams_of-found (entry ∷ entries) s registration found =
     by false is found rest =
         Contains-later (entry.0, entry.1.stream) (streams_of entries) (s, registration.stream) (rest found)
 
--- closing changes no stream
-pub streams_of-closed : (names : Names) (s : SubName) → streams_of (changed_value same_sub s closed_registration names) ≡ streams_of names
-streams_of-closed [] s = refl
-streams_of-closed (entry ∷ entries) s =
-    elim (same_sub s entry.0) as (λ b. streams_of (if b then (entry.0, closed_registration entry.1) ∷ entries else entry ∷ changed_value same_sub s closed_registration entries) ≡ streams_of (entry ∷ entries)) [
-      | true ↦ refl
-      | false ↦ ap (λ rest. (entry.0, entry.1.stream) ∷ rest) (streams_of-closed entries s)
+-- closing changes only whether it is open
+pub map-closed : {X : Type 0} (f : SubName × Registration → X) → ((entry : SubName × Registration) → f (entry.0, closed_registration entry.1) ≡ f entry)
+    → (names : Names) (s : SubName) → map f (changed_value same_sub s closed_registration names) ≡ map f names
+map-closed f same [] s = refl
+map-closed f same (entry ∷ entries) s =
+    elim (same_sub s entry.0) as (λ b. map f (if b then (entry.0, closed_registration entry.1) ∷ entries else entry ∷ changed_value same_sub s closed_registration entries) ≡ map f (entry ∷ entries)) [
+      | true ↦ ap (λ first. first ∷ map f entries) (same entry)
+      | false ↦ ap (λ rest. f entry ∷ rest) (map-closed f same entries s)
     ]
 
 pub length-closed : (names : Names) (s : SubName) → length (changed_value same_sub s closed_registration names) ≡ length names

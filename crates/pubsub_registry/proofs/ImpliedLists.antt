@@ -49,7 +49,7 @@ pub length-names_with : (rules : List Rule) (names : Names) (events : List Event
 length-names_with rules names events = length-fold names (all_implied rules events)
 
 -- what the first items make is no more than what all make
-length-front : {X : Type 0} (make : X → Names) (names : Names) (xs : List X) (n : ℕ) → length (fold added names (flat_map make (take n xs))) ≤ length (fold added names (flat_map make xs))
+pub length-front : {X : Type 0} (make : X → Names) (names : Names) (xs : List X) (n : ℕ) → length (fold added names (flat_map make (take n xs))) ≤ length (fold added names (flat_map make xs))
 length-front make names xs zero = length-fold names (flat_map make xs)
 length-front make names [] (suc n) = omega arith
 length-front make names (x ∷ xs) (suc n) =

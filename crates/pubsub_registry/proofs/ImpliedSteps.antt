@@ -20,10 +20,11 @@ pub event-last : (rules : List Rule) (names : Names) (events : List Event) (even
 event-last rules names events event =
     added-last (λ event. flat_map (implied event) rules) names events event ∙ ap (fold added (names_with rules names events)) (implied-on event rules)
 
-pub event-more : (rules : List Rule) (names : Names) (events : List Event) (i : ℕ) (event : Event) → i < length events → event ≡ get_or events i event
-    → names_with rules names (take (i + 1) events) ≡ fold added (names_with rules names (take i events)) (flat_map (made event) (on event.stream.namespace rules))
-event-more rules names events i event within is =
-    added-more (λ event. flat_map (implied event) rules) names events i event within is ∙ ap (fold added (names_with rules names (take i events))) (implied-on event rules)
+pub event-more : (rules here : List Rule) (names so_far : Names) (events : List Event) (i : ℕ) (event : Event) → i < length events → event ≡ get_or events i event
+    → so_far ≡ names_with rules names (take i events) → here ≡ on event.stream.namespace rules → fold added so_far (flat_map (made event) here) ≡ names_with rules names (take (i + 1) events)
+event-more rules here names so_far events i event within is are theirs =
+    (λ j. fold added (are j) (flat_map (made event) (theirs j))) ∙ ap (fold added (names_with rules names (take i events))) (sym (implied-on event rules))
+    ∙ sym (added-more (λ event. flat_map (implied event) rules) names events i event within is)
 
 -- ---- how many
 

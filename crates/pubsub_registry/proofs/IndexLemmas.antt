@@ -1,137 +1,193 @@
--- The index of names by stream after a change of the subscriptions.
-use Rattle.std.proofs.Common.{◌≡◌, ◌∙◌, ℕ, Bool, true, false, not, List, [], ◌∷◌, ◌++◌, None, filter, insert, if◌then◌else◌, refl, sym, ap, subst, Contains, true≢false}
-use Rattle.std.specs.Prelude.{◌⊎◌}
-use Rattle.std.specs.Map.{lookup}
-use Rattle.std.proofs.lemmas.Bool.{not-true, false_from_ne_true}
-use Rattle.std.proofs.lemmas.List.{map-append}
-use Rattle.std.proofs.lemmas.List.Elements.{Contains-append_left, Contains-push, Contains-push_cases}
+-- The index of numbers by stream after a change of the subscriptions.
+use Rattle.std.proofs.Common.{◌≡◌, ◌∙◌, ℕ, ◌<◌, Bool, true, false, not, List, [], ◌∷◌, ◌++◌, length, take, drop, get_or, map, Some, filter, insert, nat_eq, if◌then◌else◌, refl, sym, ap, subst, arith, All, Contains, true≢false}
+use Rattle.std.specs.Prelude.{◌⊎◌, slice_get}
+use Rattle.std.specs.List.{take-map}
+use Rattle.std.specs.Map.{keys_of}
+use Rattle.std.proofs.lemmas.Bool.Decides.{nat_tests}
+use Rattle.std.proofs.lemmas.List.{drop-map, get_or_append_left, get_or_push, length-map, map-append}
+use Rattle.std.proofs.lemmas.List.Elements.{All-contains_itself, All-head, All-tail, All-weaker}
+use Rattle.std.proofs.lemmas.Option.{slice_get_within}
 use mathlib.Core.Logic.{inl, inr}
 use Rattle.stream_ident.specs.Name.{same_stream}
 use Rattle.stream_ident.specs.SubName.{same_sub}
 use Rattle.stream_ident.specs.Words.{changed_value}
 use Rattle.stream_ident.specs.declared.ident.StreamId.{StreamId}
 use Rattle.stream_ident.specs.declared.ident.SubName.{SubName}
-use Rattle.pubsub_registry.specs.Ascending.{IsPlaceOf}
-use Rattle.pubsub_registry.specs.Index.{streams_of, IsIndexed, IsRowOf}
+use Rattle.stream_ident.specs.declared.ident.SubName.TheVariants as name
+use Rattle.pubsub_registry.specs.Ascending.{IsAscending, IsPlaceOf}
+use Rattle.pubsub_registry.specs.Index.{names_at, AreNumbersOf, IsIndexed, IsRowOf}
 use Rattle.pubsub_registry.specs.Registry.{closed_registration}
 use Rattle.pubsub_registry.specs.declared.registration.Registration.{Registration}
-use Rattle.pubsub_registry.proofs.Ascending.{ascending-insert, ascending-filter}
-use Rattle.pubsub_registry.proofs.Elements.{Contains-insert_here, Contains-insert, Contains-insert_cases, Contains-filter, Contains-filter_parts}
-use Rattle.pubsub_registry.proofs.Entries.{streams_of-none, streams_of-closed}
-use Rattle.stream_ident.proofs.SameValues.{same_stream-equal, same_stream-refl, same_sub-equal, same_sub-refl}
+use Rattle.pubsub_registry.proofs.Ascending.{ascending-insert, ascending-left}
+use Rattle.pubsub_registry.proofs.Elements.{Contains-insert_here, Contains-insert, Contains-insert_cases, Contains-filter, Contains-filter_parts, slice_get-cases, slice_get-last, slice_get-left}
+use Rattle.pubsub_registry.proofs.Entries.{Names, map-closed}
+use Rattle.stream_ident.proofs.SameValues.{same_stream-equal, same_stream-refl}
 
-abbrev Streams : Type 0
-Streams = List (SubName × StreamId)
+-- the numbers of a row are places
+pub row-within : (streams : List StreamId) (stream : StreamId) (row : List ℕ) (most : ℕ) → length streams ≡ most → ((n : ℕ) → Contains row n → slice_get streams n ≡ Some stream) → All (λ n. n < most) row
+row-within streams stream row most are theirs =
+    All-weaker (Contains row) (λ n. n < most) (λ n there. let inside : n < length streams = slice_get_within streams n stream (theirs n there) in omega (arith, are, inside)) row
+    (All-contains_itself row)
 
-abbrev pub Same : SubName → StreamId → SubName → StreamId → Type 0
-Same s stream t other = ◌≡◌ {A = SubName × StreamId} (s, stream) (t, other)
+-- a name behind changes none in front of it
+names-kept : (subs : List SubName) (s : SubName) (row : List ℕ) → All (λ n. n < length subs) row → names_at (subs ++ s ∷ []) row ≡ names_at subs row
+names-kept subs s [] within = refl
+names-kept subs s (n ∷ row) within =
+    let first = get_or_append_left subs (s ∷ []) (name.Explicit 0) n (All-head (λ n. n < length subs) n row within) in
+    λ i. first i ∷ names-kept subs s row (All-tail (λ n. n < length subs) n row within) i
 
-pub name-of : (s t : SubName) (stream other : StreamId) → Same s stream t other → s ≡ t
-name-of s t stream other same = ap (λ (p : SubName × StreamId). p.0) same
+-- its number goes where it goes
+names-put : (subs : List SubName) (s : SubName) (number : ℕ) (row : List ℕ) (at : ℕ) → length subs ≡ number → All (λ n. n < length subs) row → names_at (subs ++ s ∷ []) (insert row at number) ≡ insert (names_at subs row) at s
+names-put subs s number row at last within =
+    let name_of : ℕ → SubName = λ n. get_or (subs ++ s ∷ []) n (name.Explicit 0) in
+    map-append name_of (take at row) (number ∷ drop at row)
+    ∙ (λ i. sym (take-map name_of at row) i ++ (get_or_push subs s (name.Explicit 0) number last i ∷ sym (drop-map name_of at row) i))
+    ∙ ap (λ (names : List SubName). insert names at s) (names-kept subs s row within)
 
-pub stream-of : (s t : SubName) (stream other : StreamId) → Same s stream t other → stream ≡ other
-stream-of s t stream other same = ap (λ (p : SubName × StreamId). p.1) same
+-- the row of a stream with one more subscription, the last
+module _ (subs : List SubName) (streams : List StreamId) (number : ℕ) (named : length subs ≡ number) (placed : length streams ≡ number) (stream : StreamId) (s : SubName) where
+  within : (row : List ℕ) → ((n : ℕ) → Contains row n → slice_get streams n ≡ Some stream) → All (λ n. n < length subs) row
+  within row theirs = row-within streams stream row (length subs) (placed ∙ sym named) theirs
 
-module _ (streams : Streams) (stream : StreamId) (row : List SubName) (s : SubName) where
-  -- one more name of the stream
-  row-put : (at : ℕ) → IsRowOf streams stream row → IsPlaceOf row s at → IsRowOf (streams ++ (s, stream) ∷ []) stream (insert row at s)
-  row-put at is place = record {
-    ascending = ascending-insert row s at is.ascending place;
-    theirs = λ t there. theirs t (Contains-insert_cases row at s t there);
-    complete = λ t there. complete t (Contains-push_cases streams (s, stream) (t, stream) there);
+  -- which is of the stream
+  row-put : (row : List ℕ) (at : ℕ) → IsRowOf subs streams stream row → IsPlaceOf (names_at subs row) s at → IsRowOf (subs ++ s ∷ []) (streams ++ stream ∷ []) stream (insert row at number)
+  row-put row at is place = record {
+    ascending = subst IsAscending (sym (names-put subs s number row at named (within row is.theirs))) (ascending-insert (names_at subs row) s at is.ascending place);
+    theirs = λ n there. theirs n (Contains-insert_cases row at number n there);
+    complete = λ n there. complete n (slice_get-cases streams stream n stream there);
   }
     where
-      theirs : (t : SubName) → (s ≡ t) ⊎ Contains row t → Contains (streams ++ (s, stream) ∷ []) (t, stream)
-      theirs t (inl same) = subst (λ t. Contains (streams ++ (s, stream) ∷ []) (t, stream)) same (Contains-push streams (s, stream))
-      theirs t (inr there) = Contains-append_left streams ((s, stream) ∷ []) (t, stream) (is.theirs t there)
+      theirs : (n : ℕ) → (number ≡ n) ⊎ Contains row n → slice_get (streams ++ stream ∷ []) n ≡ Some stream
+      theirs n (inl same) = subst (λ n. slice_get (streams ++ stream ∷ []) n ≡ Some stream) (placed ∙ same) (slice_get-last streams stream)
+      theirs n (inr there) = slice_get-left streams stream n stream (is.theirs n there)
 
-      complete : (t : SubName) → Contains streams (t, stream) ⊎ Same s stream t stream → Contains (insert row at s) t
-      complete t (inl there) = Contains-insert row at s t (is.complete t there)
-      complete t (inr same) = subst (Contains (insert row at s)) (name-of s t stream stream same) (Contains-insert_here row at s)
+      complete : (n : ℕ) → (slice_get streams n ≡ Some stream) ⊎ ((n ≡ length streams) × (stream ≡ stream)) → Contains (insert row at number) n
+      complete n (inl there) = Contains-insert row at number n (is.complete n there)
+      complete n (inr last) = subst (Contains (insert row at number)) (sym (last.0 ∙ placed)) (Contains-insert_here row at number)
 
-  -- one more name of another stream
-  row-put_other : (other : StreamId) → (other ≡ stream → ⊥) → IsRowOf streams stream row → IsRowOf (streams ++ (s, other) ∷ []) stream row
-  row-put_other other apart is = record {
-    ascending = is.ascending;
-    theirs = λ t there. Contains-append_left streams ((s, other) ∷ []) (t, stream) (is.theirs t there);
-    complete = λ t there. complete t (Contains-push_cases streams (s, other) (t, stream) there);
+  -- or of another stream
+  row-put_other : (row : List ℕ) (other : StreamId) → (other ≡ stream → ⊥) → IsRowOf subs streams stream row → IsRowOf (subs ++ s ∷ []) (streams ++ other ∷ []) stream row
+  row-put_other row other apart is = record {
+    ascending = subst IsAscending (sym (names-kept subs s row (within row is.theirs))) is.ascending;
+    theirs = λ n there. slice_get-left streams other n stream (is.theirs n there);
+    complete = λ n there. complete n (slice_get-cases streams other n stream there);
   }
     where
-      complete : (t : SubName) → Contains streams (t, stream) ⊎ Same s other t stream → Contains row t
-      complete t (inl there) = is.complete t there
-      complete t (inr same) = absurd (apart (stream-of s t other stream same))
+      complete : (n : ℕ) → (slice_get streams n ≡ Some stream) ⊎ ((n ≡ length streams) × (other ≡ stream)) → Contains row n
+      complete n (inl there) = is.complete n there
+      complete n (inr last) = absurd (apart last.1)
 
-  -- without the last name, which was of the stream and stood nowhere else
-  row-cut : (Contains streams (s, stream) → ⊥) → IsRowOf (streams ++ (s, stream) ∷ []) stream row → IsRowOf streams stream (filter (λ name. not (same_sub s name)) row)
-  row-cut gone is = record {
-    ascending = ascending-filter (λ name. not (same_sub s name)) row is.ascending;
-    theirs = λ t there. let parts = Contains-filter_parts (λ name. not (same_sub s name)) row t there in
-        theirs t parts.1 (Contains-push_cases streams (s, stream) (t, stream) (is.theirs t parts.0));
-    complete = λ t there. Contains-filter (λ name. not (same_sub s name)) row t (is.complete t (Contains-append_left streams ((s, stream) ∷ []) (t, stream) there))
-        (ap not (false_from_ne_true (same_sub s t) (λ same. gone (subst (λ name. Contains streams (name, stream)) (sym (same_sub-equal s t same)) there))));
+  -- and without it
+  row-cut : (row : List ℕ) → IsRowOf (subs ++ s ∷ []) (streams ++ stream ∷ []) stream row → IsRowOf subs streams stream (filter (λ n. not (nat_eq n number)) row)
+  row-cut row is = record {
+    ascending = subst IsAscending (names-kept subs s (filter left row) (within (filter left row) theirs)) (ascending-left (λ n. get_or (subs ++ s ∷ []) n (name.Explicit 0)) left row is.ascending);
+    theirs = theirs;
+    complete = λ n there. Contains-filter left row n (is.complete n (slice_get-left streams stream n stream there)) (stays n (slice_get_within streams n stream there));
   }
     where
-      theirs : (t : SubName) → not (same_sub s t) ≡ true → Contains streams (t, stream) ⊎ Same s stream t stream → Contains streams (t, stream)
-      theirs t apart (inl there) = there
-      theirs t apart (inr same) =
-          absurd (true≢false (sym (same_sub-refl s) ∙ ap (same_sub s) (name-of s t stream stream same) ∙ not-true (same_sub s t) apart))
+      left : ℕ → Bool
+      left n = not (nat_eq n number)
 
-  -- without the last name, which was of another stream
-  row-cut_other : (other : StreamId) → (other ≡ stream → ⊥) → IsRowOf (streams ++ (s, other) ∷ []) stream row → IsRowOf streams stream row
-  row-cut_other other apart is = record {
-    ascending = is.ascending;
-    theirs = λ t there. theirs t (Contains-push_cases streams (s, other) (t, stream) (is.theirs t there));
-    complete = λ t there. is.complete t (Contains-append_left streams ((s, other) ∷ []) (t, stream) there);
+      stays : (n : ℕ) → n < length streams → left n ≡ true
+      stays n inside = let before : n < number = omega (arith, placed, inside) in grind (arith, nat_tests)
+
+      goes : (n : ℕ) → n ≡ length streams → left n ≡ true → ⊥
+      goes n last stays = let same : n ≡ number = last ∙ placed in grind (arith, nat_tests)
+
+      by : (n : ℕ) → left n ≡ true → (slice_get streams n ≡ Some stream) ⊎ ((n ≡ length streams) × (stream ≡ stream)) → slice_get streams n ≡ Some stream
+      by n stays (inl there) = there
+      by n stays (inr last) = absurd (goes n last.0 stays)
+
+      theirs : (n : ℕ) → Contains (filter left row) n → slice_get streams n ≡ Some stream
+      theirs n there =
+          let parts = Contains-filter_parts left row n there in
+          by n parts.1 (slice_get-cases streams stream n stream (is.theirs n parts.0))
+
+  row-cut_other : (row : List ℕ) (other : StreamId) → (other ≡ stream → ⊥) → IsRowOf (subs ++ s ∷ []) (streams ++ other ∷ []) stream row → IsRowOf subs streams stream row
+  row-cut_other row other apart is = record {
+    ascending = subst IsAscending (names-kept subs s row (within row theirs)) is.ascending;
+    theirs = theirs;
+    complete = λ n there. is.complete n (slice_get-left streams other n stream there);
   }
     where
-      theirs : (t : SubName) → Contains streams (t, stream) ⊎ Same s other t stream → Contains streams (t, stream)
-      theirs t (inl there) = there
-      theirs t (inr same) = absurd (apart (stream-of s t other stream same))
+      by : (n : ℕ) → (slice_get streams n ≡ Some stream) ⊎ ((n ≡ length streams) × (other ≡ stream)) → slice_get streams n ≡ Some stream
+      by n (inl there) = there
+      by n (inr last) = absurd (apart last.1)
 
-pub streams_of-push : (names : List (SubName × Registration)) (s : SubName) (registration : Registration) → streams_of (names ++ (s, registration) ∷ []) ≡ streams_of names ++ (s, registration.stream) ∷ []
-streams_of-push names s registration = map-append (λ (entry : SubName × Registration). (entry.0, entry.1.stream)) names ((s, registration) ∷ [])
+      theirs : (n : ℕ) → Contains row n → slice_get streams n ≡ Some stream
+      theirs n there = by n (slice_get-cases streams other n stream (is.theirs n there))
 
 apart-from : (stream other : StreamId) → same_stream stream other ≡ false → stream ≡ other → ⊥
 apart-from stream other isnt same =
     true≢false (sym (same_stream-refl stream) ∙ ap (same_stream stream) same ∙ isnt)
 
+abbrev pub stream_in : SubName × Registration → StreamId
+stream_in entry = entry.1.stream
+
+-- a row of names and streams
+abbrev IsRowIn : List SubName × List StreamId → StreamId → List ℕ → Type 0
+IsRowIn lists = IsRowOf lists.0 lists.1
+
+-- the row of a stream
+pub indexed-row : (names now : Names) (rows : StreamId → List ℕ) (stream : StreamId) (row : List ℕ) → IsIndexed names rows → now ≡ names → row ≡ rows stream → AreNumbersOf now stream row
+indexed-row names now rows stream row indexed is at =
+    subst (λ (names : Names). AreNumbersOf names stream row) (sym is) (subst (AreNumbersOf names stream) (sym at) (indexed stream))
+
 -- rows that are as they were
-pub indexed-same : (names : List (SubName × Registration)) (old new : StreamId → List SubName) → IsIndexed names old → ((other : StreamId) → new other ≡ old other) → IsIndexed names new
-indexed-same names old new indexed same stream = subst (IsRowOf (streams_of names) stream) (sym (same stream)) (indexed stream)
+pub indexed-same : (names : Names) (old new : StreamId → List ℕ) → IsIndexed names old → ((other : StreamId) → new other ≡ old other) → IsIndexed names new
+indexed-same names old new indexed same stream = subst (AreNumbersOf names stream) (sym (same stream)) (indexed stream)
 
 -- closing changes no row
-pub indexed-closed : (names entries : List (SubName × Registration)) (s : SubName) (old new : StreamId → List SubName) → entries ≡ changed_value same_sub s closed_registration names → IsIndexed names old
+pub indexed-closed : (names entries : Names) (s : SubName) (old new : StreamId → List ℕ) → entries ≡ changed_value same_sub s closed_registration names → IsIndexed names old
     → ((other : StreamId) → new other ≡ old other) → IsIndexed entries new
 indexed-closed names entries s old new is indexed same stream =
-    subst (λ streams. IsRowOf streams stream (new stream)) (sym (ap streams_of is ∙ streams_of-closed names s)) (indexed-same names old new indexed same stream)
+    let subs = ap keys_of is ∙ map-closed (λ (entry : SubName × Registration). entry.0) (λ _. refl) names s in
+    let streams = ap (map stream_in) is ∙ map-closed stream_in (λ _. refl) names s in
+    subst (λ lists. IsRowIn lists stream (new stream)) (λ i. (sym subs i, sym streams i)) (indexed-same names old new indexed same stream)
 
-module _ (names : List (SubName × Registration)) (old new : StreamId → List SubName) (s : SubName) (registration : Registration) where
-  pub indexed-push : (at : ℕ) → IsIndexed names old → IsPlaceOf (old registration.stream) s at
-      → ((other : StreamId) → new other ≡ (if same_stream registration.stream other then insert (old registration.stream) at s else old other))
+module _ (names : Names) (old new : StreamId → List ℕ) (s : SubName) (registration : Registration) (number : ℕ) (last : number ≡ length names) where
+  abbrev subs : List SubName
+  subs = keys_of names
+
+  abbrev streams : List StreamId
+  streams = map stream_in names
+
+  named : length subs ≡ number
+  named = length-map names (λ (entry : SubName × Registration). entry.0) ∙ sym last
+
+  placed : length streams ≡ number
+  placed = length-map names stream_in ∙ sym last
+
+  more : ◌≡◌ {A = List SubName × List StreamId} (keys_of (names ++ (s, registration) ∷ []), map stream_in (names ++ (s, registration) ∷ [])) (subs ++ s ∷ [], streams ++ registration.stream ∷ [])
+  more i = (map-append (λ (entry : SubName × Registration). entry.0) names ((s, registration) ∷ []) i, map-append stream_in names ((s, registration) ∷ []) i)
+
+  pub indexed-push : (at : ℕ) → IsIndexed names old → IsPlaceOf (names_at (keys_of names) (old registration.stream)) s at
+      → ((other : StreamId) → new other ≡ (if same_stream registration.stream other then insert (old registration.stream) at number else old other))
       → IsIndexed (names ++ (s, registration) ∷ []) new
   indexed-push at indexed place puts stream =
-      subst (λ streams. IsRowOf streams stream (new stream)) (sym (streams_of-push names s registration))
-      (subst (IsRowOf (streams_of names ++ (s, registration.stream) ∷ []) stream) (sym (puts stream)) (by (same_stream registration.stream stream) refl))
+      subst (λ lists. IsRowIn lists stream (new stream)) (sym more)
+      (subst (IsRowOf (subs ++ s ∷ []) (streams ++ registration.stream ∷ []) stream) (sym (puts stream)) (by (same_stream registration.stream stream) refl))
     where
-      by : (b : Bool) → same_stream registration.stream stream ≡ b → IsRowOf (streams_of names ++ (s, registration.stream) ∷ []) stream (if b then insert (old registration.stream) at s else old stream)
+      by : (b : Bool) → same_stream registration.stream stream ≡ b → IsRowOf (subs ++ s ∷ []) (streams ++ registration.stream ∷ []) stream (if b then insert (old registration.stream) at number else old stream)
       by true same =
-          subst (λ other. IsRowOf (streams_of names ++ (s, registration.stream) ∷ []) other (insert (old registration.stream) at s)) (same_stream-equal registration.stream stream same)
-          (row-put (streams_of names) registration.stream (old registration.stream) s at (indexed registration.stream) place)
+          subst (λ other. IsRowOf (subs ++ s ∷ []) (streams ++ registration.stream ∷ []) other (insert (old registration.stream) at number)) (same_stream-equal registration.stream stream same)
+          (row-put subs streams number named placed registration.stream s (old registration.stream) at (indexed registration.stream) place)
       by false apart =
-          row-put_other (streams_of names) stream (old stream) s registration.stream (apart-from registration.stream stream apart) (indexed stream)
+          row-put_other subs streams number named placed stream s (old stream) registration.stream (apart-from registration.stream stream apart) (indexed stream)
 
-  pub indexed-pop : (all : List (SubName × Registration)) → all ≡ names ++ (s, registration) ∷ [] → lookup (same_sub s) names ≡ None → IsIndexed all old
-      → ((other : StreamId) → new other ≡ (if same_stream registration.stream other then filter (λ name. not (same_sub s name)) (old registration.stream) else old other))
+  pub indexed-pop : (all : Names) → all ≡ names ++ (s, registration) ∷ [] → IsIndexed all old
+      → ((other : StreamId) → new other ≡ (if same_stream registration.stream other then filter (λ n. not (nat_eq n number)) (old registration.stream) else old other))
       → IsIndexed names new
-  indexed-pop all is gone indexed takes stream =
-      subst (IsRowOf (streams_of names) stream) (sym (takes stream)) (by (same_stream registration.stream stream) refl)
+  indexed-pop all is indexed takes stream =
+      subst (IsRowOf subs streams stream) (sym (takes stream)) (by (same_stream registration.stream stream) refl)
     where
-      was : (stream : StreamId) → IsRowOf (streams_of names ++ (s, registration.stream) ∷ []) stream (old stream)
-      was stream = subst (λ streams. IsRowOf streams stream (old stream)) (ap streams_of is ∙ streams_of-push names s registration) (indexed stream)
+      was : (stream : StreamId) → IsRowOf (subs ++ s ∷ []) (streams ++ registration.stream ∷ []) stream (old stream)
+      was stream =
+          subst (λ lists. IsRowIn lists stream (old stream)) more (subst (λ (names : Names). AreNumbersOf names stream (old stream)) is (indexed stream))
 
-      by : (b : Bool) → same_stream registration.stream stream ≡ b → IsRowOf (streams_of names) stream (if b then filter (λ name. not (same_sub s name)) (old registration.stream) else old stream)
+      by : (b : Bool) → same_stream registration.stream stream ≡ b → IsRowOf subs streams stream (if b then filter (λ n. not (nat_eq n number)) (old registration.stream) else old stream)
       by true same =
-          subst (λ other. IsRowOf (streams_of names) other (filter (λ name. not (same_sub s name)) (old registration.stream))) (same_stream-equal registration.stream stream same)
-          (row-cut (streams_of names) registration.stream (old registration.stream) s (streams_of-none names s registration.stream gone) (was registration.stream))
+          subst (λ other. IsRowOf subs streams other (filter (λ n. not (nat_eq n number)) (old registration.stream))) (same_stream-equal registration.stream stream same)
+          (row-cut subs streams number named placed registration.stream s (old registration.stream) (was registration.stream))
       by false apart =
-          row-cut_other (streams_of names) stream (old stream) s registration.stream (apart-from registration.stream stream apart) (was stream)
+          row-cut_other subs streams number named placed stream s (old stream) registration.stream (apart-from registration.stream stream apart) (was stream)

@@ -4,7 +4,7 @@ use Rattle.std.specs.Prelude.{◌⊎◌}
 use Rattle.std.specs.List.{take-map}
 use Rattle.std.specs.Map.{lookup}
 use Rattle.std.proofs.lemmas.Bool.{leb-false}
-use Rattle.std.proofs.lemmas.List.{take-append-drop}
+use Rattle.std.proofs.lemmas.List.{map-append, take-append-drop}
 use Rattle.std.proofs.lemmas.List.Elements.{Contains-append_left, Contains-push_cases}
 use mathlib.Core.Logic.{inl, inr}
 use Rattle.stream_ident.specs.SubName.{same_sub}
@@ -16,8 +16,11 @@ use Rattle.pubsub_registry.specs.Index.{streams_of}
 use Rattle.pubsub_registry.specs.Registry.{PlainRegistry, is_full, closed_registration}
 use Rattle.pubsub_registry.specs.Sound.{IsSound}
 use Rattle.pubsub_registry.specs.declared.registration.Registration.{Registration}
-use Rattle.pubsub_registry.proofs.Entries.{Names, streams_of-found, streams_of-closed, length-closed}
-use Rattle.pubsub_registry.proofs.IndexLemmas.{Same, name-of, streams_of-push}
+use Rattle.pubsub_registry.proofs.Entries.{Names, streams_of-found, map-closed, length-closed}
+
+-- a name with its stream
+abbrev stream_of : SubName × Registration → SubName × StreamId
+stream_of entry = (entry.0, entry.1.stream)
 
 -- each explicit number is at most this one
 abbrev IsNumbered : Names → ℕ → Type 0
@@ -36,11 +39,11 @@ new-number r sound number greater = by (lookup (same_sub (name.Explicit number))
 numbered-push : (names : Names) (s : SubName) (registration : Registration) (most more : ℕ) → IsNumbered names most → most ≤ more
     → ((number : ℕ) → s ≡ name.Explicit number → number ≤ more) → IsNumbered (names ++ (s, registration) ∷ []) more
 numbered-push names s registration most more numbered rises own number stream there =
-    by (Contains-push_cases (streams_of names) (s, registration.stream) (name.Explicit number, stream) (subst (λ streams. Contains streams (name.Explicit number, stream)) (streams_of-push names s registration) there))
+    by (Contains-push_cases (streams_of names) (s, registration.stream) (name.Explicit number, stream) (subst (λ streams. Contains streams (name.Explicit number, stream)) (map-append stream_of names ((s, registration) ∷ [])) there))
   where
-    by : Contains (streams_of names) (name.Explicit number, stream) ⊎ Same s registration.stream (name.Explicit number) stream → number ≤ more
+    by : Contains (streams_of names) (name.Explicit number, stream) ⊎ (◌≡◌ {A = SubName × StreamId} (s, registration.stream) (name.Explicit number, stream)) → number ≤ more
     by (inl before) = let within : number ≤ most = numbered number stream before in omega arith
-    by (inr same) = own number (name-of s (name.Explicit number) registration.stream stream same)
+    by (inr same) = own number (ap (λ (p : SubName × StreamId). p.0) same)
 
 module _ (r : PlainRegistry) (sound : IsSound r) where
   -- one more subscription
@@ -64,7 +67,7 @@ module _ (r : PlainRegistry) (sound : IsSound r) where
     few_names = sound.few_names;
     rules_fit = sound.rules_fit;
     few_rules = sound.few_rules;
-    numbered = λ number stream there. sound.numbered number stream (subst (λ streams. Contains streams (name.Explicit number, stream)) (ap streams_of is ∙ streams_of-closed r.names s) there);
+    numbered = λ number stream there. sound.numbered number stream (subst (λ streams. Contains streams (name.Explicit number, stream)) (ap streams_of is ∙ map-closed stream_of (λ _. refl) r.names s) there);
   }
 
   -- the last ones are taken back
@@ -73,7 +76,7 @@ module _ (r : PlainRegistry) (sound : IsSound r) where
       let parts : length (take len r.names) + length (drop len r.names) ≡ length r.names = sym (length-append (take len r.names) (drop len r.names)) ∙ ap length (take-append-drop len r.names) in
       let same = ap length is in
       let fits = sound.names_fit in
-      let streams = ap streams_of is ∙ sym (take-map (λ (entry : SubName × Registration). (entry.0, entry.1.stream)) len r.names) in
+      let streams = ap streams_of is ∙ sym (take-map stream_of len r.names) in
       record {
         names_fit = omega (arith, parts, same);
         few_names = sound.few_names;

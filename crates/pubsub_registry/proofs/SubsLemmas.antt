@@ -1,52 +1,81 @@
--- The row of a stream is that of its subscriptions.
-use Rattle.std.proofs.Common.{◌≡◌, ◌∙◌, List, [], ◌∷◌, sym, ap, subst, Contains}
-use Rattle.std.specs.Prelude.{◌⊎◌}
-use mathlib.Core.Logic.{inl, inr}
+-- The names of a stream's numbers are those of its subscriptions.
+use Rattle.std.proofs.Common.{◌≡◌, ◌∙◌, ℕ, ◌<◌, List, length, get_or, map, Option, Some, None, refl, sym, ap, subst, arith, All, Contains}
+use Rattle.std.specs.Prelude.{slice_get}
+use Rattle.std.specs.Map.{keys_of, lookup}
+use Rattle.std.specs.Option.{option_map}
+use Rattle.std.proofs.lemmas.List.{get_or-map, length-map}
+use Rattle.std.proofs.lemmas.List.Elements.{Contains-get_or}
+use Rattle.std.proofs.lemmas.Option.{get_or_from_slice_get, none-some, same_Some, slice_get-get_or, slice_get-map, slice_get_within}
 use Rattle.stream_ident.specs.Name.{same_stream}
+use Rattle.stream_ident.specs.SubName.{same_sub}
 use Rattle.stream_ident.specs.declared.ident.StreamId.{StreamId}
 use Rattle.stream_ident.specs.declared.ident.SubName.{SubName}
-use Rattle.pubsub_registry.specs.Index.{streams_of, IsRowOf}
+use Rattle.stream_ident.specs.declared.ident.SubName.TheVariants as name
+use Rattle.pubsub_registry.specs.Index.{names_at, AreNumbersOf}
 use Rattle.pubsub_registry.specs.Registry.{PlainRegistry, AreSubsOf}
 use Rattle.pubsub_registry.specs.declared.registration.Registration.{Registration}
 use Rattle.pubsub_registry.proofs.Ascending.{rises}
-use Rattle.pubsub_registry.proofs.Elements.{Contains-here, Contains-later, Contains-cases, Contains-none}
-use Rattle.pubsub_registry.proofs.Entries.{Names}
-use Rattle.pubsub_registry.proofs.IndexLemmas.{Same, name-of, stream-of}
+use Rattle.pubsub_registry.proofs.Elements.{Contains-map}
+use Rattle.pubsub_registry.proofs.Entries.{Names, streams_of-none}
+use Rattle.pubsub_registry.proofs.IndexLemmas.{row-within, stream_in}
 use Rattle.stream_ident.proofs.SameValues.{same_stream-equal, same_stream-refl}
 
 -- a subscription of the stream under this name
 abbrev HasEntry : Names → SubName → StreamId → Type 0
 HasEntry names s stream = (registration : Registration) × (Contains names (s, registration) × (registration.stream ≡ stream))
 
-entry-of : (names : Names) (s : SubName) (stream : StreamId) → Contains (streams_of names) (s, stream) → HasEntry names s stream
-entry-of [] s stream there = absurd (Contains-none _ there)
-entry-of (entry ∷ entries) s stream there =
-    by (Contains-cases (entry.0, entry.1.stream) (streams_of entries) (s, stream) there) (entry-of entries s stream)
-  where
-    by : Same entry.0 entry.1.stream s stream ⊎ Contains (streams_of entries) (s, stream) → (Contains (streams_of entries) (s, stream) → HasEntry entries s stream) → HasEntry (entry ∷ entries) s stream
-    by (inl same) rest =
-        let name = name-of entry.0 s entry.1.stream stream same in
-        (entry.1, (Contains-here entry entries (s, entry.1) (λ i. (name i, entry.1)), stream-of entry.0 s entry.1.stream stream same))
-    by (inr later) rest =
-        let found = rest later in (found.0, (Contains-later entry entries (s, found.0) found.1.0, found.1.1))
+-- the name of a subscription, by its place
+pub name-is : (names : Names) (n : ℕ) (entry : SubName × Registration) → slice_get names n ≡ Some entry → get_or (keys_of names) n (name.Explicit 0) ≡ entry.0
+name-is names n entry found =
+    let key : SubName × Registration → SubName = λ entry. entry.0 in
+    get_or_from_slice_get (keys_of names) n entry.0 (name.Explicit 0) (slice_get-map key names n ∙ ap (option_map key) found)
 
-stream-at : (names : Names) (s : SubName) (registration : Registration) → Contains names (s, registration) → Contains (streams_of names) (s, registration.stream)
-stream-at [] s registration there = absurd (Contains-none _ there)
-stream-at (entry ∷ entries) s registration there =
-    by (Contains-cases entry entries (s, registration) there) (stream-at entries s registration)
-  where
-    by : (◌≡◌ {A = SubName × Registration} entry (s, registration)) ⊎ Contains entries (s, registration) → (Contains entries (s, registration) → Contains (streams_of entries) (s, registration.stream))
-        → Contains (streams_of (entry ∷ entries)) (s, registration.stream)
-    by (inl same) rest =
-        Contains-here (entry.0, entry.1.stream) (streams_of entries) (s, registration.stream) (ap (λ (e : SubName × Registration). (e.0, e.1.stream)) same)
-    by (inr later) rest =
-        Contains-later (entry.0, entry.1.stream) (streams_of entries) (s, registration.stream) (rest later)
+module _ (names : Names) (stream : StreamId) (row : List ℕ) (is : AreNumbersOf names stream row) where
+  abbrev name_of : ℕ → SubName
+  name_of n = get_or (keys_of names) n (name.Explicit 0)
 
-pub subs-of : (r : PlainRegistry) (stream : StreamId) (names : List SubName) → IsRowOf (streams_of r.names) stream names → AreSubsOf r stream names
-subs-of r stream names row = record {
-  rising = rises names row.ascending;
-  theirs = λ s there. let found = entry-of r.names s stream (row.theirs s there) in
+  stream-is : (n : ℕ) (found : Option (SubName × Registration)) → slice_get names n ≡ found → slice_get (map stream_in names) n ≡ option_map stream_in found
+  stream-is n found at = slice_get-map stream_in names n ∙ ap (option_map stream_in) at
+
+  entry-of : (s : SubName) → Contains (names_at (keys_of names) row) s → HasEntry names s stream
+  entry-of s there = by (slice_get names n) refl
+    where
+      in_row : there.0 < length row
+      in_row = let inside = there.1 in omega (arith, inside, length-map row name_of)
+
+      n : ℕ
+      n = get_or row there.0 0
+
+      theirs : slice_get (map stream_in names) n ≡ Some stream
+      theirs = is.theirs n (Contains-get_or row there.0 0 in_row)
+
+      by : (found : Option (SubName × Registration)) → slice_get names n ≡ found → HasEntry names s stream
+      by None none = absurd (none-some stream (sym (stream-is n None none) ∙ theirs))
+      by (Some entry) found =
+          let own : entry.0 ≡ s = sym (name-is names n entry found) ∙ sym (get_or-map name_of row there.0 0 s in_row) ∙ there.2 in
+          let inside : Contains names entry = (n, slice_get_within names n entry found, get_or_from_slice_get names n entry entry found) in
+          (entry.1, (subst (λ (s : SubName). Contains names (s, entry.1)) own inside, same_Some entry.1.stream stream (sym (stream-is n (Some entry) found) ∙ theirs)))
+
+  name-at : (s : SubName) (registration : Registration) → Contains names (s, registration) → registration.stream ≡ stream → Contains (names_at (keys_of names) row) s
+  name-at s registration there of_stream =
+      let n = there.0 in
+      let found : slice_get names n ≡ Some (s, registration) = slice_get-get_or names n (s, registration) there.1 ∙ ap Some there.2 in
+      subst (Contains (names_at (keys_of names) row)) (name-is names n (s, registration) found)
+      (Contains-map name_of row n (is.complete n (stream-is n (Some (s, registration)) found ∙ ap Some of_stream)))
+
+  pub numbers-within : All (λ n. n < length names) row
+  numbers-within = row-within (map stream_in names) stream row (length names) (length-map names stream_in) is.theirs
+
+  -- a name that isn't found is not among them
+  pub not-among : (s : SubName) → lookup (same_sub s) names ≡ None → Contains (names_at (keys_of names) row) s → ⊥
+  not-among s none there =
+      let found = entry-of s there in
+      streams_of-none names s found.0.stream none (Contains-map (λ (entry : SubName × Registration). (entry.0, entry.1.stream)) names (s, found.0) found.1.0)
+
+pub subs-of : (r : PlainRegistry) (stream : StreamId) (row : List ℕ) → AreNumbersOf r.names stream row → AreSubsOf r stream (names_at (keys_of r.names) row)
+subs-of r stream row are = record {
+  rising = rises (names_at (keys_of r.names) row) are.ascending;
+  theirs = λ s there. let found = entry-of r.names stream row are s there in
       (found.0, (found.1.0, ap (same_stream stream) found.1.1 ∙ same_stream-refl stream));
-  complete = λ s is. row.complete s
-      (subst (λ other. Contains (streams_of r.names) (s, other)) (sym (same_stream-equal stream is.0.stream is.1.1)) (stream-at r.names s is.0 is.1.0));
+  complete = λ s is. name-at r.names stream row are s is.0 is.1.0 (sym (same_stream-equal stream is.0.stream is.1.1));
 }

@@ -1,6 +1,6 @@
 //! The subscriptions that the rules make of events.
 ghost use Rattle.std.specs.Prelude.{◌≡◌, ◌<◌, ◌≤◌, ◌+◌, ◌^◌, ◌↔◌, ◌&&◌, ◌||◌, [], ◌∷◌, ◌++◌, not, filter, length, take, fold, is_some, IsTrue, OnOk, OnErr};
-ghost use Rattle.stream_ident.specs.declared.limits.TheConstants.{MOST_RULES, PULL_EVENTS};
+ghost use Rattle.stream_ident.specs.declared.limits.TheConstants.{MOST_RULES, MOST_SUBS, PULL_EVENTS};
 ghost use Rattle.std.specs.List.{flat_map, list_any};
 ghost use Rattle.stream_ident.specs.Event.{batch_token};
 ghost use Rattle.stream_ident.specs.Name.{same_name, same_stream};
@@ -16,7 +16,7 @@ use crate::indexed::{Rules, Subscriptions};
 use crate::registry::{Registry, implied_grain, opened};
 use crate::told::Implied;
 use partition_queue::Span;
-use queue_mapper::EventHeader;
+use queue_mapper::HeaderRef;
 use std::alloc::{AllocError, Global};
 use stream_ident::{Name, Rule, StreamId, SubName, Token};
 
@@ -65,7 +65,7 @@ fn has_room(subscriptions: &Subscriptions, rules: &Rules, most: usize, events: &
 }
 
 /// The rules on the namespace of an event.
-fn rules_on<'a>(rules: &'a Rules, event: &EventHeader) -> &'a [Rule]
+fn rules_on<'a>(rules: &'a Rules, event: &HeaderRef) -> &'a [Rule]
     ensures { result.now ≡ filter (λ (rule : Rule). same_name event.now.stream.namespace rule.namespace) rules.now }
 {
     rules.on_namespace(&event.stream().namespace)
@@ -108,7 +108,7 @@ fn count_for_event(
     subscriptions: &Subscriptions,
     rules: &Rules,
     earlier: &Span,
-    event: &EventHeader,
+    event: &HeaderRef,
 ) -> usize
     requires { length rules.now ≤ MOST_RULES }
     ensures count { length (names_with rules.now subscriptions.now (earlier.now ++ event.now ∷ [])) ≡ length (names_with rules.now subscriptions.now earlier.now) + result }
@@ -127,7 +127,7 @@ fn count_for_event(
 }
 
 /// Whether a rule on its namespace makes a subscription of an event, and the name isn't there.
-fn is_missing(subscriptions: &Subscriptions, rule: &Rule, event: &EventHeader) -> bool
+fn is_missing(subscriptions: &Subscriptions, rule: &Rule, event: &HeaderRef) -> bool
     ensures { result ≡ (not (token_lt event.now.token (batch_token rule.now.from))
         && not (is_some (value_at same_sub (SubName.Implicit rule.now.kind event.now.stream) subscriptions.now))) }
 {
@@ -140,7 +140,7 @@ fn is_repeat(
     rules: &[Rule],
     before: &[Rule],
     earlier: &Span,
-    event: &EventHeader,
+    event: &HeaderRef,
     kind: &Name,
 ) -> bool
     ensures { result ≡ (makes_any kind.now event.now before.now
@@ -164,7 +164,7 @@ fn makes_of_any(rules: &[Rule], events: &Span, stream: &StreamId, kind: &Name) -
 }
 
 /// Whether the rules, which are on an event's namespace, make the subscription of a kind of it.
-fn makes(rules: &[Rule], event: &EventHeader, kind: &Name) -> bool
+fn makes(rules: &[Rule], event: &HeaderRef, kind: &Name) -> bool
     ensures { result ≡ makes_any kind.now event.now rules.now }
 {
     rules
@@ -182,6 +182,7 @@ fn add_all(
     rules: &Rules,
     events: &Span,
 ) -> Result<(), AllocError>
+    requires { length (names_with rules.now subscriptions.old events.now) ≤ MOST_SUBS }
     ensures ok { OnOk result (subscriptions.new ≡ names_with rules.now subscriptions.old events.now) }
     ensures err { OnErr result (subscriptions.new ≡ subscriptions.old) }
     ensures memory { OnErr result (length subscriptions.old < length (names_with rules.now subscriptions.old events.now)) }
@@ -201,6 +202,7 @@ fn push_all(
     rules: &Rules,
     events: &Span,
 ) -> Result<(), AllocError>
+    requires { length (names_with rules.now subscriptions.old events.now) ≤ MOST_SUBS }
     ensures all { OnOk result (subscriptions.new ≡ names_with rules.now subscriptions.old events.now) }
     ensures front { take (length subscriptions.old) subscriptions.new ≡ subscriptions.old }
     ensures memory { OnErr result (length subscriptions.old < length (names_with rules.now subscriptions.old events.now)) }
@@ -218,8 +220,9 @@ fn push_for_event(
     subscriptions: &mut Subscriptions,
     alloc: Global,
     rules: &[Rule],
-    event: &EventHeader,
+    event: &HeaderRef,
 ) -> Result<(), AllocError>
+    requires { length (fold added subscriptions.old (flat_map (made event.now) rules.now)) ≤ MOST_SUBS }
     ensures all { OnOk result (subscriptions.new ≡ fold added subscriptions.old (flat_map (made event.now) rules.now)) }
     ensures front { take (length subscriptions.old) subscriptions.new ≡ subscriptions.old }
     ensures memory { OnErr result (length subscriptions.old < length (fold added subscriptions.old (flat_map (made event.now) rules.now))) }
@@ -238,8 +241,9 @@ fn push_by_rule(
     subscriptions: &mut Subscriptions,
     alloc: Global,
     rule: &Rule,
-    event: &EventHeader,
+    event: &HeaderRef,
 ) -> Result<(), AllocError>
+    requires { length subscriptions.old ≤ MOST_SUBS }
     ensures ok { OnOk result (subscriptions.new ≡ fold added subscriptions.old (made event.now rule.now)) }
     ensures err { OnErr result (subscriptions.new ≡ subscriptions.old) }
     ensures memory { OnErr result (length subscriptions.old < length (fold added subscriptions.old (made event.now rule.now))) }
@@ -258,7 +262,7 @@ fn push_by_rule(
 }
 
 /// The name of the subscription that a rule makes of an event.
-fn implied_name(rule: &Rule, event: &EventHeader) -> SubName
+fn implied_name(rule: &Rule, event: &HeaderRef) -> SubName
     ensures { result ≡ SubName.Implicit rule.now.kind event.now.stream }
 {
     SubName::Implicit {
@@ -268,7 +272,7 @@ fn implied_name(rule: &Rule, event: &EventHeader) -> SubName
 }
 
 /// Whether an event isn't before a rule's batch.
-fn holds_for(rule: &Rule, event: &EventHeader) -> bool
+fn holds_for(rule: &Rule, event: &HeaderRef) -> bool
     ensures { result ≡ not (token_lt event.now.token (batch_token rule.now.from)) }
 {
     rule.from <= event.token().seq

@@ -1,30 +1,33 @@
-//! The subscriptions and the rules, each with an index: the names of each stream's subscriptions, and the
+//! The subscriptions and the rules, each with an index: the numbers of each stream's subscriptions, and the
 //! rules on each namespace.
-ghost use Rattle.std.specs.Prelude.{◌≡◌, ◌-◌, ◌<◌, [], ◌∷◌, ◌++◌, ◌&&◌, ◌≤◌, filter, length, take, not, None, Some, slice_get, OnOk, OnErr, IfSome, is_some, Contains, insert, if◌then◌else◌};
+ghost use Rattle.std.specs.Prelude.{◌≡◌, ◌-◌, ◌<◌, [], ◌∷◌, ◌++◌, ◌&&◌, ◌≤◌, filter, length, take, nat_eq, not, None, Some, slice_get, OnOk, OnErr, IfSome, is_some, Contains, insert, if◌then◌else◌};
 ghost use Rattle.std.specs.Option.{option_copied};
 ghost use Rattle.std.specs.List.{list_any};
 ghost use Rattle.stream_ident.specs.Name.{same_stream, same_name};
 ghost use Rattle.stream_ident.specs.SubName.{same_sub};
 ghost use Rattle.stream_ident.specs.Words.{changed_value, first_at, value_at};
 ghost use Rattle.stream_ident.specs.declared.ident.StreamId.{StreamId};
+ghost use Rattle.stream_ident.specs.declared.limits.TheConstants.{MOST_SUBS};
 ghost use Rattle.stream_ident.specs.declared.rule.Rule.{Rule};
 ghost use Rattle.pubsub_registry.specs.Rows.{row_of};
 ghost use Rattle.pubsub_registry.specs.Ascending.{IsAscending, IsPlaceOf};
 
 use crate::registration::Registration;
+use crate::sub_names::SubNames;
 use indexmap::IndexMap;
 use std::alloc::{AllocError, Global};
 use std::hash::Hash;
 use std::marker::Model;
 use stream_ident::{Name, Rule, StreamId, SubName};
 
-/// The subscriptions by name, in the order in which they were made, with the names of each stream.
+/// The subscriptions by name, in the order in which they were made, with the numbers of each stream's. A number is the
+/// place in that order.
 ///
 /// A contract sees it as the names with their registrations, in that order.
 #[derive(Debug, Drop)]
 pub(crate) struct Subscriptions {
     names: IndexMap<SubName, Registration>,
-    by_stream: IndexMap<StreamId, Vec<SubName>>,
+    by_stream: IndexMap<StreamId, Vec<u32>>,
 }
 
 impl Model for Subscriptions {
@@ -43,7 +46,7 @@ impl Model for Subscriptions {
 }
 
 impl Subscriptions {
-    ghost use Rattle.pubsub_registry.specs.Index.{AreUnique, IsRowOf, streams_of};
+    ghost use Rattle.pubsub_registry.specs.Index.{AreNumbersOf, AreUnique};
     ghost use Rattle.pubsub_registry.specs.Registry.{closed_registration};
 
     /// No subscriptions. It takes no memory.
@@ -88,9 +91,16 @@ impl Subscriptions {
         self.names.get_index(index).unwrap()
     }
 
-    /// The names of a stream, from the least to the greatest.
-    pub(crate) fn of_stream(&self, stream: &StreamId) -> &[SubName]
-        ensures { IsRowOf (streams_of self.now) stream.now result.now }
+    /// The subscriptions by name.
+    pub(crate) fn names(&self) -> &IndexMap<SubName, Registration>
+        ensures { result.now.entries ≡ self.now }
+    {
+        &self.names
+    }
+
+    /// The numbers of a stream's subscriptions, in the order of their names.
+    pub(crate) fn numbers_of(&self, stream: &StreamId) -> &[u32]
+        ensures { AreNumbersOf self.now stream.now result.now }
     {
         row(&self.by_stream, stream)
     }
@@ -105,13 +115,16 @@ impl Subscriptions {
         sub: SubName,
         registration: Registration,
     ) -> Result<(), AllocError>
-        requires { value_at same_sub sub self.old ≡ None }
+        requires few { length self.old ≤ MOST_SUBS }
+        requires new { value_at same_sub sub self.old ≡ None }
         ensures ok { OnOk result (self.new ≡ self.old ++ (sub, registration) ∷ []) }
         ensures err { OnErr result (self.new ≡ self.old) }
     {
         self.names.reserve(1)?;
-        let at = place_of(row(&self.by_stream, &registration.stream), &sub);
-        put(&mut self.by_stream, alloc, registration.stream, at, sub)?;
+        let number = self.names.len() as u32;
+        let numbers = row(&self.by_stream, &registration.stream);
+        let at = place_of(&SubNames::new(&self.names, numbers), &sub);
+        put(&mut self.by_stream, alloc, registration.stream, at, number)?;
         self.names.insert(sub, registration).unwrap();
         Ok(())
     }
@@ -138,38 +151,38 @@ impl Subscriptions {
     fn pop(&mut self)
         ensures { self.new ≡ take (length self.old - 1) self.old }
     {
-        if let Some((sub, registration)) = self.names.pop() {
-            forget(&mut self.by_stream, &registration.stream, &sub);
+        if let Some((_, registration)) = self.names.pop() {
+            forget(&mut self.by_stream, &registration.stream, self.names.len());
         }
     }
 }
 
-/// Takes a name out of the row of its stream.
-fn forget(by_stream: &mut IndexMap<StreamId, Vec<SubName>>, stream: &StreamId, sub: &SubName)
-    ensures { (other : StreamId) → row_of same_stream by_stream.new other ≡ (if same_stream stream.now other then filter (λ name. not (same_sub sub.now name)) (row_of same_stream by_stream.old stream.now) else row_of same_stream by_stream.old other) }
+/// Takes a number out of the row of its stream.
+fn forget(by_stream: &mut IndexMap<StreamId, Vec<u32>>, stream: &StreamId, number: usize)
+    ensures { (other : StreamId) → row_of same_stream by_stream.new other ≡ (if same_stream stream.now other then filter (λ n. not (nat_eq n number)) (row_of same_stream by_stream.old stream.now) else row_of same_stream by_stream.old other) }
 {
     if let Some(row) = by_stream.get_mut(stream) {
-        take_out(row, sub);
+        take_out(row, number);
     }
     drop_if_empty(by_stream, stream);
 }
 
-/// Takes a name out of a row.
-fn take_out(row: &mut Vec<SubName>, sub: &SubName)
-    ensures { row.new.items ≡ filter (λ name. not (same_sub sub.now name)) row.old.items }
+/// Takes a number out of a row.
+fn take_out(row: &mut Vec<u32>, number: usize)
+    ensures { row.new.items ≡ filter (λ n. not (nat_eq n number)) row.old.items }
 {
-    row.retain(|name| *sub != *name);
+    row.retain(|n| *n as usize != number);
 }
 
-/// The place of a new name in a row that goes from the least name to the greatest. The walk goes from the
-/// end, over the greater names alone: over none at a name that is greater than all.
-fn place_of(row: &[SubName], sub: &SubName) -> usize
-    requires ascending { IsAscending row.now }
-    requires new { Contains row.now sub.now → ⊥ }
-    ensures { IsPlaceOf row.now sub.now result }
+/// The place of a new name among names that go from the least to the greatest. The walk goes from the end,
+/// over the greater names alone: over none at a name that is greater than all.
+fn place_of(names: &SubNames, sub: &SubName) -> usize
+    requires ascending { IsAscending names.now }
+    requires new { Contains names.now sub.now → ⊥ }
+    ensures { IsPlaceOf names.now sub.now result }
 {
-    let mut at = row.len();
-    while at > 0 && sub.is_before(&row[at - 1]) {
+    let mut at = names.len();
+    while at > 0 && sub.is_before(names.at(at - 1)) {
         at -= 1;
     }
     at
@@ -276,8 +289,9 @@ fn put<K: Eq + Hash + Drop, V: Drop>(
         row.insert(at, value)?;
         return Ok(());
     }
-    let mut row = Vec::new(alloc);
-    row.push(value)?;
+    // Most keys have one value, so the row begins with room for one.
+    let mut row = Vec::with_capacity(alloc, 1)?;
+    row.push_reserved(value);
     rows.insert(key, row)?;
     Ok(())
 }

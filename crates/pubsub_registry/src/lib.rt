@@ -10,8 +10,10 @@ mod implying;
 mod indexed;
 mod registration;
 mod registry;
+mod sub_names;
 mod told;
 
 pub use registration::Registration;
 pub use registry::Registry;
+pub use sub_names::SubNames;
 pub use told::{Added, Closing, Implied, RuleAdded};

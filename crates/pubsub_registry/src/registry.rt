@@ -4,11 +4,12 @@ ghost use Rattle.stream_ident.specs.declared.limits.TheConstants.{MOST_RULES, MO
 ghost use Rattle.stream_ident.specs.SubName.{same_sub};
 ghost use Rattle.stream_ident.specs.Words.{first_at, Performs};
 ghost use Rattle.stream_ident.specs.declared.ident.SubName.TheVariants.{Explicit, Implicit};
-ghost use Rattle.pubsub_registry.specs.Index.{AreUnique};
+ghost use Rattle.pubsub_registry.specs.Index.{AreNumbersOf, AreUnique};
 ghost use Rattle.pubsub_registry.specs.Registry.{add, add_implied, add_rule, close, empty, is_full, registered, registration_of, rules_on, truncated, AreSubsOf};
 
 use crate::indexed::{Rules, Subscriptions};
 use crate::registration::Registration;
+use crate::sub_names::SubNames;
 use crate::told::{Added, Closing, Implied, RuleAdded};
 use std::alloc::{AllocError, Global};
 use std::marker::Model;
@@ -145,7 +146,7 @@ impl Registry {
     }
 
     /// Takes back the subscriptions behind the first `len`. The explicit numbers stay given. It takes no
-    /// memory, and costs a look-up and a walk over the names of its stream for each that is taken back.
+    /// memory, and costs a look-up and a walk over the numbers of its stream for each that is taken back.
     pub fn truncate(&mut self, len: usize)
         ensures { self.new ≡ truncated self.old len }
     {
@@ -232,12 +233,15 @@ impl Registry {
         self.subscriptions.at(index)
     }
 
-    /// The names of a stream's subscriptions, closed ones too, from the least to the greatest. The cost is
-    /// a look-up.
-    pub fn subs_of(&self, stream: &StreamId) -> &[SubName]
-        ensures { AreSubsOf self.now stream.now result.now }
+    /// The names of a stream's subscriptions, closed ones too, from the least to the greatest. It takes no
+    /// memory, and costs a look-up.
+    pub fn subs_of(&self, stream: &StreamId) -> SubNames<'_>
+        ensures { AreSubsOf self.now stream.now result }
     {
-        self.subscriptions.of_stream(stream)
+        SubNames::new(
+            self.subscriptions.names(),
+            self.subscriptions.numbers_of(stream),
+        )
     }
 
     /// The rules on a stream's namespace, in the order in which they were added. The cost is a look-up.

@@ -238,6 +238,6 @@ fn fill(cache: &mut QueueCache, queue: &PartitionQueue, count: usize)
     for _ in 0..count {
         let position = cache.high();
         prove!(position < queue.len());
-        cache.take(queue.header_at(position));
+        cache.take(&queue.header_at(position));
     }
 }

@@ -6,7 +6,7 @@ ghost use Rattle.queue_mapper.specs.Place.{tags_of};
 ghost use Rattle.queue_cache.specs.Cache.{empty, high, room, event_at, with_events, without_front, block_count, block_events};
 
 use circular_buffer::HeapCircularBuffer;
-use queue_mapper::EventHeader;
+use queue_mapper::{EventHeader, HeaderRef};
 use std::alloc::{AllocError, Global};
 use std::marker::Model;
 use stream_ident::BLOCK_EVENTS;
@@ -61,12 +61,12 @@ impl Block {
     }
 
     /// Takes one event in at the end. It takes no memory.
-    fn push(&mut self, header: EventHeader)
+    fn push(&mut self, header: &HeaderRef)
         requires { length self.old < BLOCK_EVENTS }
-        ensures { self.new ≡ self.old ++ header ∷ [] }
+        ensures { self.new ≡ self.old ++ header.now ∷ [] }
     {
         self.tags[self.headers.len()] = header.tag();
-        self.headers.push_reserved(header);
+        self.headers.push_reserved(header.to_header());
     }
 
     /// Drops the events, and keeps their room.
@@ -161,11 +161,11 @@ impl QueueCache {
         self.len.div_ceil(BLOCK_EVENTS)
     }
 
-    /// Takes one event in at the end. It takes no memory.
-    pub fn take(&mut self, header: EventHeader)
+    /// Takes one event in at the end. Its names are copied into their block alone, and it takes no memory.
+    pub fn take(&mut self, header: &HeaderRef)
         requires room { 0 < room self.old }
         requires positions { high self.old + 1 < 2 ^ 64 }
-        ensures { self.new ≡ with_events self.old (header ∷ []) }
+        ensures { self.new ≡ with_events self.old (header.now ∷ []) }
     {
         push_to_block(&mut self.ring, self.len / BLOCK_EVENTS, header);
         self.len += 1;
@@ -222,10 +222,10 @@ fn empty_ring(alloc: Global, blocks: usize) -> Result<HeapCircularBuffer<Block>,
 }
 
 /// Takes one event in at the end of a block.
-fn push_to_block(ring: &mut HeapCircularBuffer<Block>, index: usize, header: EventHeader)
+fn push_to_block(ring: &mut HeapCircularBuffer<Block>, index: usize, header: &HeaderRef)
     requires index { index < length ring.old.items }
     requires room { length (slice_index_or ring.old.items index []) < BLOCK_EVENTS }
-    ensures { ring.new ≡ buffer (slice_set ring.old.items index (slice_index_or ring.old.items index [] ++ header ∷ [])) ring.old.capacity }
+    ensures { ring.new ≡ buffer (slice_set ring.old.items index (slice_index_or ring.old.items index [] ++ header.now ∷ [])) ring.old.capacity }
 {
     let block = ring.get_mut(index).unwrap();
     block.push(header);

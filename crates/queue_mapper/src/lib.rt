@@ -9,7 +9,7 @@ ghost use Rattle.queue_mapper.specs.Place.{message_of, place_of, tag_of};
 mod header;
 mod target;
 
-pub use header::EventHeader;
+pub use header::{EventHeader, HeaderRef};
 use sha2::{Digest, Sha256};
 use stream_ident::StreamId;
 pub use target::Place;

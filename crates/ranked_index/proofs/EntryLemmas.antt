@@ -1,7 +1,8 @@
 -- Entries and their keys where one is added, changed or taken back.
-use Rattle.std.proofs.Common.{◌≡◌, ◌≢◌, ◌∙◌, ap, ap₂, sym, subst, ℕ, ◌+◌, ◌<◌, ◌≤◌, inl, inr, Bool, true, false, not, List, [], ◌∷◌, ◌++◌, length, get_or, take, set, Option, Some, None, arith, length-set, get_or-set_same, get_or-set_other}
+use Rattle.std.proofs.Common.{◌≡◌, ◌≢◌, ◌∙◌, ap, ap₂, sym, subst, ℕ, ◌+◌, ◌<◌, ◌≤◌, inl, inr, Bool, true, false, not, List, [], ◌∷◌, ◌++◌, length, get_or, take, set, Option, Some, None, nat_lt, arith, length-set, get_or-set_same, get_or-set_other}
+use Rattle.std.proofs.lemmas.Bool.Decides.{nat_tests}
 use Rattle.std.proofs.lemmas.Bool.{both_ways, cases_lt, cases_eq, cases_order, false_from_ne_true, not-false, not-true, not_from_false}
-use Rattle.std.proofs.lemmas.List.{get_or_append_left, get_or_default, get_or_push, get_or-take, length_push, length-take-le}
+use Rattle.std.proofs.lemmas.List.{get_or_append_left, get_or_default, get_or_push, get_or-take, length_push}
 use Rattle.std.proofs.lemmas.List.Edits.{length-insert, length-remove, get_or-remove_below, get_or-remove_above}
 use Rattle.std.proofs.lemmas.Option.{slice_get-get_or}
 use Rattle.std.specs.List.{insert, remove}
@@ -11,30 +12,7 @@ use Rattle.ranked_index.specs.Ranked.{entry_at, is_up_to, some_up_to, AreKeys, A
 use Rattle.ranked_index.specs.Listed.{AreRising}
 use Rattle.ranked_index.specs.Ranking.{IsRanking}
 use Rattle.stream_ident.proofs.Order.{IsOrder}
-use Rattle.ranked_index.proofs.RankLemmas.{distinct_numbers, insert-before, insert-here, insert-past, placed, ranking-insert, ranking-remove, removed_within, Placed, Before, Here, Past}
-
--- no name stands twice
-pub distinct_names : {E N : Type 0} (name : E → N) (lt same : N → N → Bool) → IsOrder lt same → (entries : List E) (order : List ℕ) → AreRanked name lt entries order
-    → (d : E) (i j : ℕ) → i < length entries → j < length entries → same (name (get_or entries i d)) (name (get_or entries j d)) ≡ true → i ≡ j
-distinct_names {E} name lt same o entries order are d i j i_within j_within is =
-    elim (cases_order (rank_of i) (rank_of j)) [
-      | inl level ↦ sym (forth i i_within) ∙ ap (slice_index order) level ∙ forth j j_within
-      | inr apart ↦ elim apart [
-        | inl less ↦ absurd (both_ways (lt (name (get_or entries i d)) (name (get_or entries j d))) (o.apart _ _ is).0 (rises i j i_within j_within less))
-        | inr more ↦ absurd (both_ways (lt (name (get_or entries j d)) (name (get_or entries i d))) (o.apart _ _ is).1 (rises j i j_within i_within more))
-      ]
-    ]
-  where
-    rank_of : ℕ → ℕ
-    rank_of = are.ranking.rank_of
-
-    forth : (i : ℕ) → i < length entries → slice_index order (rank_of i) ≡ i
-    forth i within = are.ranking.inverse.forth i (omega (arith, are.long))
-
-    rises : (i j : ℕ) → i < length entries → j < length entries → rank_of i < rank_of j → lt (name (get_or entries i d)) (name (get_or entries j d)) ≡ true
-    rises i j i_within j_within less =
-        ap₂ (λ (m n : ℕ). lt (name (get_or entries m d)) (name (get_or entries n d))) (sym (forth i i_within)) (sym (forth j j_within))
-        ∙ are.rises d (rank_of i) (rank_of j) less (are.ranking.inverse.rank_within j (omega (arith, are.long)))
+use Rattle.ranked_index.proofs.RankLemmas.{distinct_numbers, insert-before, insert-here, insert-past, placed, ranking-insert, removed_within, Placed, Before, Here, Past}
 
 -- ---- an entry more
 
@@ -170,24 +148,6 @@ module _ {E : Type 0} (entries : List E) (order : List ℕ) (last rank : ℕ) (r
   entry-high d i high below =
       get_or-take last entries (slice_index shorter i) d (inside i below) ∙ ap (λ (n : ℕ). get_or entries n d) (get_or-remove_above order rank 0 i high within)
 
-  pub ranked-remove : {N : Type 0} (name : E → N) (lt : N → N → Bool) → AreRanked name lt entries order → AreRanked name lt fewer shorter
-  ranked-remove name lt are = record {
-    long = shorter_long ∙ sym (length-take-le last entries (omega (arith, are.long, end)));
-    ranking = ranking-remove order ranking.rank_of ranking.inverse rank within at;
-    rises = λ d i j less below.
-        let j_below : j < last = omega (arith, shorter_long) in
-        elim (cases_lt j rank) [
-          | inl before ↦ along _ _ _ _ (entry-low d i (omega arith) (omega arith)) (entry-low d j before j_below) (are.rises d i j less (omega (arith, end)))
-          | inr past ↦ elim (cases_lt i rank) [
-            | inl before ↦ along _ _ _ _ (entry-low d i before (omega arith)) (entry-high d j past j_below) (are.rises d i (j + 1) (omega arith) (omega (arith, end)))
-            | inr also ↦ along _ _ _ _ (entry-high d i also (omega arith)) (entry-high d j past j_below) (are.rises d (i + 1) (j + 1) (omega arith) (omega (arith, end)))
-          ]
-        ];
-  }
-    where
-      along : (a a' b b' : E) → a ≡ a' → b ≡ b' → lt (name a') (name b') ≡ true → lt (name a) (name b) ≡ true
-      along a a' b b' is is' less = ap₂ (λ (a b : E). lt (name a) (name b)) is is' ∙ less
-
   pub keys-remove : (key : E → Option ℕ) (keys : List (Option ℕ)) → AreKeys key entries order keys → AreKeys key fewer shorter (remove keys rank)
   keys-remove key keys are = record {
     long = omega (arith, length-remove keys rank (omega (arith, are.long)), are.long, shorter_long, end);
@@ -201,13 +161,6 @@ module _ {E : Type 0} (entries : List E) (order : List ℕ) (last rank : ℕ) (r
   }
 
 -- ---- the search by name
-
--- names by rank rise
-pub rising : {E N : Type 0} (name : E → N) (lt : N → N → Bool) (entries : List E) (order : List ℕ) → AreRanked name lt entries order → AreRising name lt entries order
-rising name lt entries order are = record {
-  within = λ i within. omega (arith, are.ranking.inverse.number_within i within, are.long);
-  rises = are.rises;
-}
 
 module _ {E N : Type 0} (name : E → N) (lt same : N → N → Bool) (o : IsOrder lt same) (entries : List E) (order : List ℕ) (are : AreRising name lt entries order) (a : N) where
   abbrev not_past : ℕ → Bool
@@ -243,11 +196,35 @@ module _ {E N : Type 0} (name : E → N) (lt same : N → N → Bool) (o : IsOrd
         not-false (lt a (name (entry_at entries order d k))) (sym (not_past-at d k below) ∙ (search (partitioned d)).1 k 0 high below);
   })
 
--- of rows that are others under another name
-pub first_past-along : {E N : Type 0} (name : E → N) (lt : N → N → Bool) (after : Option N) (entries entries' : List E) (order order' : List ℕ) (rank : ℕ) → entries ≡ entries' → order ≡ order'
-    → IsFirstPast name lt after entries order rank → IsFirstPast name lt after entries' order' rank
-first_past-along {E} name lt after entries entries' order order' rank same same' is =
-    subst (λ (xs : List E). IsFirstPast name lt after xs order' rank) same (subst (λ (ns : List ℕ). IsFirstPast name lt after entries ns rank) same' is)
+-- a name is less where its rank is
+pub rank-before : {E N : Type 0} (name : E → N) (lt same : N → N → Bool) → IsOrder lt same → (entries : List E) (order : List ℕ) → AreRanked name lt entries order → (d : E) (m n i j : ℕ)
+    → i < length order → slice_index order i ≡ m → j < length order → slice_index order j ≡ n → nat_lt i j ≡ lt (name (get_or entries m d)) (name (get_or entries n d))
+rank-before {E} {N} name lt same o entries order are d m n i j within at inside there =
+    elim (cases_order i j) [
+      | inl level ↦ not-less level ∙ sym (own-same (sym at ∙ ap (slice_index order) level ∙ there))
+      | inr apart ↦ elim apart [
+        | inl less ↦ is-less less ∙ sym (named i m at j n there ∙ are.rises d i j less inside)
+        | inr more ↦ is-not-less more ∙ sym (o.one_way _ _ (named j n there i m at ∙ are.rises d j i more within))
+      ]
+    ]
+  where
+    named : (i m : ℕ) → slice_index order i ≡ m → (j n : ℕ) → slice_index order j ≡ n
+        → lt (name (get_or entries m d)) (name (get_or entries n d)) ≡ lt (name (entry_at entries order d i)) (name (entry_at entries order d j))
+    named i m at j n there = ap₂ (λ (x y : ℕ). lt (name (get_or entries x d)) (name (get_or entries y d))) (sym at) (sym there)
+
+    own-same : m ≡ n → lt (name (get_or entries m d)) (name (get_or entries n d)) ≡ false
+    own-same same_number =
+        let a = name (get_or entries m d) in
+        ap (λ (y : ℕ). lt a (name (get_or entries y d))) (sym same_number) ∙ false_from_ne_true (lt a a) (λ less. both_ways (lt a a) (o.one_way a a less) less)
+
+    not-less : i ≡ j → nat_lt i j ≡ false
+    not-less level = grind (arith, nat_tests)
+
+    is-less : i < j → nat_lt i j ≡ true
+    is-less less = grind (arith, nat_tests)
+
+    is-not-less : j < i → nat_lt i j ≡ false
+    is-not-less more = grind (arith, nat_tests)
 
 -- the names past the rank of an entry are greater than its own
 pub first_past-rank : {E N : Type 0} (name : E → N) (lt same : N → N → Bool) → IsOrder lt same → (entries : List E) (order : List ℕ) → AreRanked name lt entries order

@@ -1,15 +1,17 @@
 -- The least name of the entries that pass, by rank.
 use Rattle.std.proofs.Common.{◌≡◌, ◌∙◌, ap, sym, refl, subst, ℕ, zero, suc, ◌+◌, ◌-◌, ◌<◌, ◌≤◌, ◌⊎◌, inl, inr, Bool, true, false, ◌&&◌, List, [], ◌∷◌, length, get_or, drop, map, filter, Option, Some, None, arith, length-drop}
 use Rattle.std.proofs.lemmas.Bool.{and_from, and_left, and_right, both_ways, cases_lt, cases_order, cond_both, cond-true, cond-false}
-use Rattle.std.proofs.lemmas.List.{get_or-drop}
+use Rattle.std.proofs.lemmas.List.{get_or-drop, get_or-map, length-map}
 use Rattle.std.proofs.lemmas.Option.{same_Some}
 use Rattle.std.specs.Option.{option_map}
 use Rattle.std.specs.Prelude.{slice_index, if◌then◌else◌}
-use Rattle.ranked_index.specs.Keys.{first_at_most, is_at_most}
+use Rattle.ranked_index.specs.Keys.{first_at_most, is_at_most, least_key}
 use Rattle.stream_ident.specs.Words.{above, least, lesser, next_after, or_else, is_above}
 use Rattle.stream_ident.proofs.FirstLemmas.{first_at-None, first_at-Some}
 use Rattle.ranked_index.specs.Ranked.{entry_at, AreKeys, AreRanked, IsFirstPast}
+use Rattle.ranked_index.specs.Ranking.{IsRanking}
 use Rattle.stream_ident.proofs.Order.{IsOrder}
+use Rattle.ranked_index.proofs.LeastKeys.{least_key-same, IsAt}
 
 -- the first key from a rank on that is at most the bound
 pub record IsFirstKey (from bound rank : ℕ) (keys : List (Option ℕ)) : Type 0 where
@@ -37,6 +39,35 @@ first_at_most-met from bound rank keys same =
 pub first_at_most-missed : (from bound : ℕ) (keys : List (Option ℕ)) → first_at_most from bound keys ≡ None → (i : ℕ) → from ≤ i → i < length keys → is_at_most bound (get_or keys i None) ≡ false
 first_at_most-missed from bound keys same i after within =
     key_from from bound i keys after ∙ first_at-None (is_at_most bound) from (drop from keys) None same (i - from) (omega (arith, length-drop from keys))
+
+-- the least key by rank is the least of all
+pub least_key-ranked : {E : Type 0} (key : E → Option ℕ) (entries : List E) (order : List ℕ) (keys : List (Option ℕ)) → length order ≡ length entries → IsRanking order → E → AreKeys key entries order keys → least_key keys ≡ least_key (map key entries)
+least_key-ranked {E} key entries order keys long ranking d are = least_key-same keys (map key entries) to from
+  where
+    own : (i : ℕ) → i < length entries → get_or (map key entries) i None ≡ key (get_or entries i d)
+    own i within = get_or-map key entries i d None within
+
+    to : (least : ℕ) → IsAt keys least → IsAt (map key entries) least
+    to least at =
+        let below : at.at < length order = omega (arith, at.within, are.long) in
+        let inside : slice_index order at.at < length entries = omega (arith, ranking.inverse.number_within at.at below, long) in
+        record {
+          at = slice_index order at.at;
+          within = omega (arith, inside, length-map entries key);
+          is = own (slice_index order at.at) inside ∙ sym (are.key_at d at.at below) ∙ at.is;
+        }
+
+    from : (least : ℕ) → IsAt (map key entries) least → IsAt keys least
+    from least at =
+        let inside : at.at < length entries = omega (arith, at.within, length-map entries key) in
+        let below : ranking.rank_of at.at < length order = ranking.inverse.rank_within at.at (omega (arith, long)) in
+        record {
+          at = ranking.rank_of at.at;
+          within = omega (arith, below, are.long);
+          is = are.key_at d (ranking.rank_of at.at) below
+              ∙ ap (λ (n : ℕ). key (get_or entries n d)) (ranking.inverse.forth at.at (omega (arith, long)))
+              ∙ sym (own at.at inside) ∙ at.is;
+        }
 
 module _ {E N : Type 0} (name : E → N) (lt same : N → N → Bool) (o : IsOrder lt same) where
   abbrev pub names_of : (E → Bool) → List E → List N

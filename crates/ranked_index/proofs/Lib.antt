@@ -1,4 +1,4 @@
-pub mod Answering
+pub mod BelowLemmas
 pub mod Doubled
 pub mod EntryLemmas
 pub mod KeyLemmas

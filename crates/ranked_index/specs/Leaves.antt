@@ -1,57 +1,61 @@
--- What is kept of each subscription's record to find the slowest one and the next one that is due.
-use Rattle.std.specs.Prelude.{◌≡◌, ℕ, ◌<◌, Bool, true, false, ◌&&◌, ◌||◌, List, length, map, filter, get_or, Option, Some, None, nat_lt, is_some}
-use Rattle.stream_ident.specs.declared.ident.SubName.{SubName}
-use Rattle.stream_ident.specs.SubName.{same_sub, sub_lt}
-use Rattle.ranked_index.specs.Keys.{least_key}
-use Rattle.stream_ident.specs.Words.{least, next_after, has_number}
+-- The resumes as contracts see them: a leaf for each number, and the numbers in their order.
+use Rattle.std.specs.Prelude.{ℕ, Bool, false, ◌&&◌, List, [], ◌∷◌, ◌++◌, length, map, filter, get_or, set, take, Option, Some, None, is_some, nat_lt, slice_index}
+use Rattle.std.specs.List.{insert}
+use Rattle.std.specs.Option.{option_map}
+use Rattle.stream_ident.specs.Words.{or_else}
+use Rattle.ranked_index.specs.Keys.{first_at_most, least_key, least_place}
+use Rattle.ranked_index.specs.Ranks.{due_key, resume_key}
 use Rattle.ranked_index.specs.declared.resumes.Leaf.{Leaf}
 
--- the least resume of the open subscriptions, none where none is open
-abbrev pub least_resume : List Leaf → Option ℕ
-least_resume leaves = least_key (map (λ (leaf : Leaf). leaf.resume) leaves)
+-- the leaves by number, and the numbers by rank
+pub record PlainResumes : Type 0 where
+  pub leaves : List Leaf
+  pub order : List ℕ
 
--- the names of those that pass
-abbrev pub names_where : (Leaf → Bool) → List Leaf → List SubName
-names_where passes leaves = map (λ (leaf : Leaf). leaf.name) (filter passes leaves)
+abbrev pub empty : PlainResumes
+empty = record { leaves = []; order = [] }
 
--- the least name of the open ones with this resume
-abbrev pub slowest_at : Option ℕ → List Leaf → Option SubName
-slowest_at None leaves = None
-slowest_at (Some resume) leaves = least sub_lt (names_where (λ leaf. has_number resume leaf.resume) leaves)
+-- what stands for a leaf where there is none
+abbrev pub no_leaf : Leaf
+no_leaf = record { resume = None; is_unacknowledged = false }
 
--- the least by resume, and of those the least by name; none where none is open
-abbrev pub slowest : List Leaf → Option SubName
-slowest leaves = slowest_at (least_resume leaves) leaves
-
--- open, with a resume below high
-abbrev pub resumes_below : ℕ → Option ℕ → Bool
-resumes_below high None = false
-resumes_below high (Some resume) = nat_lt resume high
-
--- open, and with something to acknowledge or a resume below high
-abbrev pub is_due : ℕ → Leaf → Bool
-is_due high leaf = is_some leaf.resume && (leaf.is_unacknowledged || resumes_below high leaf.resume)
-
--- the least due name after the given one, else the least
-abbrev pub due_after : ℕ → Option SubName → List Leaf → Option SubName
-due_after high after leaves = next_after sub_lt after (names_where (is_due high) leaves)
-
--- no name stands twice
-abbrev pub AreDistinct : List Leaf → Type 0
-AreDistinct leaves = (i j : ℕ) (d : Leaf) → i < length leaves → j < length leaves → same_sub (get_or leaves i d).name (get_or leaves j d).name ≡ true → i ≡ j
-
--- a name that none of them has
-abbrev pub IsNew : SubName → List Leaf → Type 0
-IsNew name leaves = (i : ℕ) (d : Leaf) → i < length leaves → same_sub name (get_or leaves i d).name ≡ false
-
--- another resume, and whether something is unacknowledged
-abbrev pub changed : Option ℕ → Bool → Leaf → Leaf
-changed resume is_unacknowledged leaf = record leaf { resume = resume; is_unacknowledged = is_unacknowledged }
+-- the leaf with a resume, none where it is closed, and with something to acknowledge only where it is open
+abbrev pub leaf_with : Option ℕ → Bool → Leaf
+leaf_with resume is_unacknowledged = record { resume = resume; is_unacknowledged = is_some resume && is_unacknowledged }
 
 -- open, with nothing to acknowledge
-abbrev pub open_leaf : SubName → ℕ → Leaf
-open_leaf name resume = record { name = name; resume = Some resume; is_unacknowledged = false }
+abbrev pub open_leaf : ℕ → Leaf
+open_leaf resume = leaf_with (Some resume) false
 
--- this is the name of the leaf with that number
-abbrev pub IsNameAt : Option SubName → List Leaf → ℕ → Type 0
-IsNameAt name leaves number = (number < length leaves) × ((d : Leaf) → name ≡ Some (get_or leaves number d).name)
+-- one leaf more, which has the next number, at a rank
+abbrev pub pushed : ℕ → Leaf → PlainResumes → PlainResumes
+pushed rank leaf r = record { leaves = r.leaves ++ leaf ∷ []; order = insert r.order rank (length r.order) }
+
+-- another leaf under a number
+abbrev pub with_leaf : ℕ → Leaf → PlainResumes → PlainResumes
+with_leaf number leaf r = record r { leaves = set r.leaves number leaf }
+
+-- the numbers below a length, in the order that they had
+abbrev pub numbers_below : ℕ → List ℕ → List ℕ
+numbers_below len order = filter (λ number. nat_lt number len) order
+
+-- the first leaves
+abbrev pub truncated : ℕ → PlainResumes → PlainResumes
+truncated len r = record { leaves = take len r.leaves; order = numbers_below len r.order }
+
+-- the least resume of the open leaves, none where none is open
+abbrev pub least_resume : PlainResumes → Option ℕ
+least_resume r = least_key (map resume_key r.leaves)
+
+-- the keys of the leaves by rank
+abbrev pub keys_by_rank : (Leaf → Option ℕ) → PlainResumes → List (Option ℕ)
+keys_by_rank key r = map (λ number. key (get_or r.leaves number no_leaf)) r.order
+
+-- the number of the open leaf with the least resume, and of those with the least rank
+abbrev pub top : PlainResumes → Option ℕ
+top r = option_map (slice_index r.order) (least_place (keys_by_rank resume_key r))
+
+-- the number of the first leaf from a rank on that is due at high, else of the first of all
+abbrev pub due_from : ℕ → ℕ → PlainResumes → Option ℕ
+due_from from high r =
+    option_map (slice_index r.order) (or_else (first_at_most from high (keys_by_rank due_key r)) (first_at_most 0 high (keys_by_rank due_key r)))

@@ -1,12 +1,11 @@
--- What is kept of the leaves beside them: their numbers in the order of their names, and their keys by rank.
-use Rattle.std.specs.Prelude.{ℕ, ◌+◌, ◌^◌, ◌<◌, Bool, true, false, List, length, get_or, Option, Some, None, IfSome}
-use Rattle.stream_ident.specs.declared.ident.SubName.{SubName}
-use Rattle.stream_ident.specs.SubName.{sub_lt}
-use Rattle.ranked_index.specs.Ranked.{AreKeys, AreRanked}
+-- What is kept of the leaves: their numbers in an order, and their keys by rank.
+use Rattle.std.specs.Prelude.{◌≡◌, ℕ, ◌+◌, ◌<◌, Bool, true, false, List, length, map, get_or, Option, Some, None, unwrap_or, ◌==◌}
+use Rattle.std.specs.List.{range_with_len}
+use Rattle.stream_ident.specs.Words.{first_at}
+use Rattle.ranked_index.specs.Keys.{is_at_most}
+use Rattle.ranked_index.specs.Ranked.{AreKeys}
+use Rattle.ranked_index.specs.Ranking.{IsRanking}
 use Rattle.ranked_index.specs.declared.resumes.Leaf.{Leaf}
-
-abbrev pub name_of : Leaf → SubName
-name_of leaf = leaf.name
 
 -- the least high at which a leaf is due, less than any where something is unacknowledged, and none of a closed one
 abbrev pub due_at : Option ℕ → Bool → Option ℕ
@@ -22,13 +21,29 @@ due_key leaf = due_at leaf.resume leaf.is_unacknowledged
 abbrev pub resume_key : Leaf → Option ℕ
 resume_key leaf = leaf.resume
 
--- each resume is below 2^64 - 2
-abbrev pub AreBelow : List Leaf → Type 0
-AreBelow leaves = (d : Leaf) (number : ℕ) → number < length leaves → IfSome (get_or leaves number d).resume (λ resume. resume + 2 < 2 ^ 64)
+-- the rank of a number
+abbrev pub rank_in : List ℕ → ℕ → ℕ
+rank_in order number = unwrap_or (first_at (λ other. other == number) 0 order) 0
+
+-- the leaf of a number, by its keys: it is due at once where it has something to acknowledge
+abbrev pub leaf_at : List ℕ → List (Option ℕ) → List (Option ℕ) → ℕ → Leaf
+leaf_at order resumes due number = record {
+  resume = get_or resumes (rank_in order number) None;
+  is_unacknowledged = is_at_most 0 (get_or due (rank_in order number) None);
+}
+
+-- the leaves by number
+abbrev pub leaves_by : List ℕ → List (Option ℕ) → List (Option ℕ) → List Leaf
+leaves_by order resumes due = map (leaf_at order resumes due) (range_with_len 0 (length order))
+
+-- it has something to acknowledge exactly where it is due at once
+abbrev pub IsTold : Leaf → Type 0
+IsTold leaf = leaf.is_unacknowledged ≡ is_at_most 0 (due_key leaf)
 
 -- all that is kept of the leaves fits them
 pub record AreKept (leaves : List Leaf) (order : List ℕ) (resumes due : List (Option ℕ)) : Type 0 where
-  pub ranked : AreRanked name_of sub_lt leaves order
+  pub long : length order ≡ length leaves
+  pub ranking : IsRanking order
   pub resumes_are : AreKeys resume_key leaves order resumes
   pub due_are : AreKeys due_key leaves order due
-  pub below : AreBelow leaves
+  pub told : (d : Leaf) (number : ℕ) → number < length leaves → IsTold (get_or leaves number d)

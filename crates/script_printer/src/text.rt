@@ -7,13 +7,14 @@ ghost use Rattle.stream_ident.specs.Token.{token_text};
 ghost use Rattle.stream_ident.specs.declared.event.Event.{Event};
 ghost use Rattle.stream_model.specs.Replies.{with_events, IsNoTurn};
 ghost use Rattle.step_core.specs.Replied.{reply_with, IsOfLog};
+ghost use Rattle.step_core.specs.Replies.{of_append};
 ghost use Rattle.script_printer.specs.Replies.{reply_text, reply_line, drain_text, drain_line, event_text, ack_text, pending_text};
 ghost use Rattle.script_parser.specs.Spelling.{name_text};
 ghost use Rattle.script_printer.specs.Writing.{Writes};
 
 use crate::parts::{push_count, push_grain, push_named, push_placed, push_quoted, push_text};
 use std::alloc::AllocError;
-use step_core::{Outcome, Partition};
+use step_core::{Appended, Outcome, Partition};
 use stream_ident::{Event, SubName, Token};
 use stream_model::{DrainEnd, Pending, Reply};
 
@@ -62,6 +63,30 @@ pub fn outcome_line(
     push_queue(queue, out)?;
     push_outcome(outcome, partition, out)?;
     push_text(b"\n", out)
+}
+
+/// Appends the line of what came of a batch: it is the line of its producer's reply.
+///
+/// # Errors
+/// The call failed to allocate, and a front of the line may stay.
+pub fn appended_line(queue: usize, appended: &Appended, out: &mut Vec<u8>) -> Result<(), AllocError>
+    ensures { Writes out.old.items out.new.items result (reply_line queue (of_append appended.now)) }
+{
+    push_queue(queue, out)?;
+    push_appended(appended, out)?;
+    push_text(b"\n", out)
+}
+
+/// Appends the text of what came of a batch.
+#[tactic(auto, unfolding(crate::specs::Replies::reply_text))]
+fn push_appended(appended: &Appended, out: &mut Vec<u8>) -> Result<(), AllocError>
+    ensures { Writes out.old.items out.new.items result (reply_text (of_append appended.now)) }
+{
+    match appended {
+        Appended::Accepted { seq } => push_count(b"published ", *seq, out),
+        Appended::BadBatch => push_text(b"bad-batch", out),
+        Appended::QueueFull => push_text(b"queue-full", out),
+    }
 }
 
 /// Appends the number of the queue that a line is of, and a space.
@@ -120,9 +145,9 @@ fn push_told<E>(reply: &Reply<E>, out: &mut Vec<u8>) -> Result<(), AllocError>
     ensures { (events : E → List Event) → Writes out.old.items out.new.items result (reply_text (with_events events reply.now)) }
 {
     match reply {
-        Reply::Published { seq } => push_count(b"published ", *seq, out),
-        Reply::QueueFull => push_text(b"queue-full", out),
-        Reply::BadBatch => push_text(b"bad-batch", out),
+        Reply::Published { seq } => push_appended(&Appended::Accepted { seq: *seq }, out),
+        Reply::QueueFull => push_appended(&Appended::QueueFull, out),
+        Reply::BadBatch => push_appended(&Appended::BadBatch, out),
         Reply::Subscribed { number } => push_count(b"subscribed ", u64::from(*number), out),
         Reply::Miss {
             requested,

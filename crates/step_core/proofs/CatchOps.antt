@@ -1,30 +1,37 @@
--- A subscription that a delivery by its number leaves settled, and what that makes of the partition.
-use Rattle.std.proofs.Common.{◌≡◌, ◌∙◌, ap, sym, subst, refl, ℕ, eq-eqb, Bool, true, false, length, Option, Some, None, Ok}
+-- What is done for a subscription at once, and what that makes of the partition.
+use Rattle.std.proofs.Common.{◌≡◌, ◌∙◌, ap, ap₂, sym, subst, refl, ℕ, suc, ◌+◌, ◌<◌, ◌≤◌, max, Bool, true, false, List, [], ◌∷◌, length, Option, Some, None, arith}
+use Rattle.std.proofs.lemmas.Bool.{le-ltb}
+use Rattle.std.proofs.lemmas.List.{get_or-set_same, set-set}
 use Rattle.std.specs.Option.{option_map}
 use Rattle.stream_ident.specs.declared.ident.SubName.{SubName}
-use Rattle.stream_model.specs.declared.op.Op.TheVariants.{Deliver}
+use Rattle.stream_ident.specs.Name.{same_grain}
+use Rattle.stream_ident.specs.Words.{past, value_at}
 use Rattle.stream_model.specs.declared.plain.PlainPartition.{PlainPartition}
-use Rattle.stream_model.specs.Replies.{Reply}
-use Rattle.stream_model.specs.declared.reply.Reply.TheVariants as reply
+use Rattle.stream_model.specs.declared.plain.Subscription.{Subscription}
 use Rattle.stream_model.specs.Bounds.{IsWithinLimits}
-use Rattle.stream_model.specs.Positions.{is_outstanding, sub_at, with_sub}
-use Rattle.stream_model.specs.Pulling.{caught_up}
-use Rattle.stream_model.specs.Step.{step, IsReached}
-use Rattle.stream_model.proofs.Answering.{within-after}
-use Rattle.stream_model.proofs.Reaching.{reached-after}
+use Rattle.stream_model.specs.Draining.{next_note}
+use Rattle.stream_model.specs.History.{Entry}
+use Rattle.stream_model.specs.Positions.{is_spent, sub_at, with_sub}
+use Rattle.stream_model.specs.Step.{step, IsReached, Leads}
+use Rattle.stream_model.proofs.Reaching.{reached-leads}
 use Rattle.stream_model.proofs.StepBounds.{bounds-step}
-use Rattle.stream_laws.proofs.DrainDeliver.{deliver-nothing}
-use Rattle.subscription_table.specs.Table.{PlainTable, name_at, no_entry, no_state}
+use Rattle.consumer_grain.specs.Subscriptions.{PlainState, advanced, caught_up, committed}
+use Rattle.queue_cache.specs.Cache.{high}
+use Rattle.subscription_table.specs.Table.{PlainTable, name_at, no_entry, no_state, state_at, with_state}
 use Rattle.subscription_table.specs.declared.told.Sought.TheVariants as sought
 use Rattle.step_core.specs.declared.parts.Parts.{Parts}
+use Rattle.step_core.specs.DrainPhases.{Ends}
 use Rattle.step_core.specs.PlainOf.{plain_of}
 use Rattle.step_core.specs.Records.{record_of}
-use Rattle.step_core.specs.Serving.{is_settled_in, name_of, CatchesUp, IsCaughtUp}
-use Rattle.step_core.specs.Assembly.{Agrees}
-use Rattle.step_core.proofs.HandOps.{Searched, Stands, named, nothing-performs, sought-next, with_subs}
+use Rattle.step_core.specs.Serving.{is_held, name_of, resting_grain, serve_up_to, turned, CatchesUp, HandlesNext, IsCaughtUp, IsFresh, IsHandledOnce}
+use Rattle.step_core.specs.Assembly.{Agrees, IsAssembled}
+use Rattle.step_core.proofs.HandOps.{Searched, Stands, named, sought-next, with_subs}
+use Rattle.step_core.proofs.KnownOps.{known-state}
 use Rattle.step_core.proofs.NamesOps.{name_of-same, record-of-number}
-use Rattle.step_core.proofs.SettledOps.{caught-settled}
-use Rattle.step_core.proofs.Shared.{distinct-of-unique, history-of, name-same}
+use Rattle.step_core.proofs.OnceOps.{turn-leads}
+use Rattle.step_core.proofs.RecordOps.{record-set}
+use Rattle.step_core.proofs.SettledOps.{served-caught}
+use Rattle.step_core.proofs.Shared.{distinct-of-unique, name-same}
 use Rattle.step_core.proofs.ViewLemmas.{records-length}
 
 found-at : (parts : Parts) (number : ℕ) → Stands parts number → sub_at (plain_of parts) (name_at parts.subs number) ≡ Some (record_of parts number)
@@ -32,36 +39,131 @@ found-at parts number stands =
     ap (sub_at (plain_of parts)) (sym (name-same parts.subs number))
     ∙ record-of-number parts number no_entry no_state (distinct-of-unique parts.subs.registry.names stands.agrees.unique) (sym stands.agrees.records.long) stands.within
 
-pub caught-up : (parts : Parts) (t : PlainTable) (number : ℕ) → Stands parts number → false ≡ is_outstanding (plain_of parts) (name_at parts.subs number) (record_of parts number) → Searched parts t number false sought.Nothing
-    → IsCaughtUp (plain_of parts) (plain_of (with_subs parts t)) (name_at parts.subs number)
-unfolding step
-caught-up parts t number stands none searched =
+pub caught-up : (parts : Parts) (t : PlainTable) (number : ℕ) → Stands parts number → is_held (plain_of parts) (name_at parts.subs number) (record_of parts number) ≡ false
+    → past (record_of parts number).handled ≤ max (record_of parts number).cursor (plain_of parts).high → Searched parts t number false sought.Nothing → IsCaughtUp (plain_of parts) (plain_of (with_subs parts t)) (name_at parts.subs number)
+caught-up parts t number stands free reach searched =
     let p = plain_of parts in
     let s = name_at parts.subs number in
     let r = record_of parts number in
+    let state = state_at parts.subs number in
+    let top = max state.cursor (high parts.agent.cache) in
     let found = found-at parts number stands in
-    let told : ◌≡◌ {A = PlainPartition × Reply} (plain_of (with_subs parts t), reply.Nothing) (step p (Deliver p.generation s)) =
-    nothing-performs parts t number parts.agent.generation s false stands (eq-eqb parts.agent.generation parts.agent.generation refl) (named parts number stands) none searched in
-    let is : plain_of (with_subs parts t) ≡ with_sub p s (caught_up p s r) =
-    ap (λ (out : PlainPartition × Reply). out.0) (told ∙ deliver-nothing p s r found searched.1 (sought-next parts number None stands searched.1 searched.2)) in
-    let served = ((history-of p stands.agrees.reached).fits.subs s r found).served searched.1 in
+    let is : plain_of (with_subs parts t) ≡ with_sub p s (record r { cursor = top; resume = top }) =
+    ap (λ (t : PlainTable). plain_of (with_subs parts t)) searched.0
+    ∙ sym (record-set parts s number no_entry no_state (caught_up (high parts.agent.cache) false state) (λ (r : Subscription). record r { cursor = max r.cursor (high parts.agent.cache); resume = max r.cursor (high parts.agent.cache) })
+    (sym stands.agrees.records.long) (named parts number stands) refl) in
     record {
       record_of = r;
       found = found;
-      stepped = told;
-      settled = subst (λ (q : PlainPartition). is_settled_in q.high (sub_at q s) ≡ true) (sym is) (caught-settled p s r searched.1 (sym none) served.resume_cursor);
+      served = λ n g. subst (λ (q : PlainPartition). Ends p q (Some None) (serve_up_to n s g p)) (sym is)
+          (served-caught p s r stands.agrees.reached found searched.1 (sought-next parts number None stands searched.1 searched.2) free reach n g);
     }
+
+-- a state that follows its cursor keeps what grains know
+pub caught-assembled : (parts : Parts) (t : PlainTable) (number : ℕ) → Stands parts number → Searched parts t number false sought.Nothing → IsAssembled (with_subs parts t)
+caught-assembled parts t number stands searched =
+    subst (λ (t : PlainTable). IsAssembled (with_subs parts t)) (sym searched.0)
+    (record {
+      most_subs = stands.agrees.assembled.most_subs;
+      most_rules = stands.agrees.assembled.most_rules;
+      most_events = stands.agrees.assembled.most_events;
+      cached = stands.agrees.assembled.cached;
+      numbered = stands.agrees.assembled.numbered;
+      known =
+          known-state parts.subs.registry.names parts.subs.states parts.grains number (caught_up (high parts.agent.cache) false (state_at parts.subs number)) stands.agrees.assembled.known (omega (arith, stands.within, stands.agrees.records.long)) (λ is_open. is_open)
+          (λ at none unheld. (refl, none));
+    })
+
+-- ---- the next event handled
+
+-- the state after that
+abbrev turned_state : ℕ → ℕ → PlainState → PlainState
+turned_state position note state = advanced position (committed (position ∷ []) note state)
+
+pub state-turned : (t t1 t2 : PlainTable) (number position note : ℕ) → number < length t.states → t1 ≡ with_state t number (committed (position ∷ []) note (state_at t number))
+    → t2 ≡ with_state t1 number (advanced position (state_at t1 number)) → t2 ≡ with_state t number (turned_state position note (state_at t number))
+state-turned t t1 t2 number position note within first second =
+    let state = committed (position ∷ []) note (state_at t number) in
+    let written : state_at t1 number ≡ state = ap (λ (t : PlainTable). state_at t number) first ∙ get_or-set_same t.states number state no_state within in
+    second
+    ∙ ap (λ (s : PlainState). with_state t1 number (advanced position s)) written
+    ∙ ap (λ (x : PlainTable). with_state x number (advanced position state)) first
+    ∙ ap (λ (states : List PlainState). record t { states = states }) (set-set t.states number state (advanced position state))
+
+abbrev pub turned_parts : Parts → PlainTable → Parts
+turned_parts parts t = record parts { subs = t; rises = parts.rises + 1; turns = parts.turns + 1 }
+
+pub handled-once : (parts : Parts) (t : PlainTable) (number position note : ℕ) → Stands parts number → note ≡ next_note (state_at parts.subs number).note → is_spent (plain_of parts) ≡ false → IsFresh (plain_of parts) (record_of parts number) position
+    → (activation : ℕ) × (value_at same_grain (record_of parts number).grain (plain_of parts).grains ≡ Some (resting_grain activation)) → t ≡ with_state parts.subs number (turned_state position note (state_at parts.subs number))
+    → IsHandledOnce (plain_of parts) (plain_of (turned_parts parts t)) (name_at parts.subs number)
+handled-once parts t number position note stands is_note left fresh rests is =
+    let p = plain_of parts in
+    let s = name_at parts.subs number in
+    let r = record_of parts number in
+    let state = state_at parts.subs number in
+    record {
+      record_of = r;
+      position = position;
+      activation = rests.0;
+      can = record {
+        found = found-at parts number stands;
+        is_open = fresh.is_open;
+        next = fresh.next;
+        fresh = le-ltb position (past r.handled) fresh.fresh;
+        rests = rests.1;
+        left = left;
+      };
+      is =
+          ap (λ (t : PlainTable). plain_of (turned_parts parts t)) (is ∙ ap (λ (n : ℕ). with_state parts.subs number (turned_state position n state)) is_note)
+          ∙ ap₂ (λ (rises turns : ℕ). record (plain_of (with_subs parts (with_state parts.subs number (turned_state position (next_note state.note) state)))) { rises = rises; turns = turns }) (more p.rises) (more p.turns)
+          ∙ ap (λ (q : PlainPartition). record q { rises = suc p.rises; turns = suc p.turns })
+          (sym (record-set parts s number no_entry no_state (turned_state position (next_note state.note) state) (λ (r : Subscription). turned r position) (sym stands.agrees.records.long) (named parts number stands) refl));
+    }
+  where
+    more : (n : ℕ) → n + 1 ≡ suc n
+    more n = omega arith
+
+pub handled-assembled : (parts : Parts) (t : PlainTable) (number position note : ℕ) → Stands parts number → 0 < past (state_at parts.subs number).handled → t ≡ with_state parts.subs number (turned_state position note (state_at parts.subs number))
+    → IsAssembled (turned_parts parts t)
+handled-assembled parts t number position note stands some is =
+    subst (λ (t : PlainTable). IsAssembled (turned_parts parts t)) (sym is)
+    (record {
+      most_subs = stands.agrees.assembled.most_subs;
+      most_rules = stands.agrees.assembled.most_rules;
+      most_events = stands.agrees.assembled.most_events;
+      cached = stands.agrees.assembled.cached;
+      numbered = stands.agrees.assembled.numbered;
+      known =
+          known-state parts.subs.registry.names parts.subs.states parts.grains number (turned_state position note (state_at parts.subs number)) stands.agrees.assembled.known (omega (arith, stands.within, stands.agrees.records.long)) (λ is_open. is_open)
+          (λ at none unheld. let zero_past : past (state_at parts.subs number).handled ≡ 0 = ap past none in absurd (omega (arith, some, zero_past)));
+    })
 
 -- ---- what stands for the partition after it
 
-pub catches-within : (old new : PlainPartition) (s : SubName) (b : Bool) → CatchesUp old new s b → IsWithinLimits old → IsWithinLimits new
-catches-within old new s true caught within =
-    within-after old new (Ok reply.Nothing) (step old (Deliver old.generation s)) caught.stepped within (bounds-step old (Deliver old.generation s) within)
-catches-within old new s false unchanged within = subst IsWithinLimits (sym unchanged) within
+pub leads-within : (p q : PlainPartition) (entries : List Entry) → Leads p entries q → IsWithinLimits p → IsWithinLimits q
+leads-within p q [] leads within = subst IsWithinLimits (sym leads) within
+leads-within p q (e ∷ entries) leads within = leads-within (step p e.op).0 q entries leads.1 (bounds-step p e.op within)
 
-pub catches-reached : (old new : PlainPartition) (s : SubName) (b : Bool) → CatchesUp old new s b → IsReached old → IsReached new
-catches-reached old new s true caught reached = reached-after old new (Deliver old.generation s) (Ok reply.Nothing) caught.stepped reached
-catches-reached old new s false unchanged reached = subst IsReached (sym unchanged) reached
+pub caught-within : (old new : PlainPartition) (s : SubName) (b : Bool) → CatchesUp old new s b → IsWithinLimits old → IsWithinLimits new
+caught-within old new s true caught within = leads-within old new (serve_up_to 0 s caught.record_of.grain old).entries (caught.served 0 caught.record_of.grain).2 within
+caught-within old new s false unchanged within = subst IsWithinLimits (sym unchanged) within
+
+pub caught-reached : (old new : PlainPartition) (s : SubName) (b : Bool) → CatchesUp old new s b → IsReached old → IsReached new
+caught-reached old new s true caught reached = reached-leads old (serve_up_to 0 s caught.record_of.grain old).entries new reached (caught.served 0 caught.record_of.grain).2
+caught-reached old new s false unchanged reached = subst IsReached (sym unchanged) reached
+
+handled-leads : (old new : PlainPartition) (s : SubName) → IsHandledOnce old new s → (entries : List Entry) × Leads old entries new
+handled-leads old new s handled =
+    let leads = turn-leads old s handled.record_of handled.position handled.activation handled.can in
+    (leads.0, subst (λ (q : PlainPartition). Leads old leads.0 q) (sym handled.is) leads.1)
+
+pub handled-within : (old new : PlainPartition) (s : SubName) (b : Bool) → HandlesNext old new s b → IsWithinLimits old → IsWithinLimits new
+handled-within old new s true handled within = let leads = handled-leads old new s handled in leads-within old new leads.0 leads.1 within
+handled-within old new s false unchanged within = subst IsWithinLimits (sym unchanged) within
+
+pub handled-reached : (old new : PlainPartition) (s : SubName) (b : Bool) → HandlesNext old new s b → IsReached old → IsReached new
+handled-reached old new s true handled reached = let leads = handled-leads old new s handled in reached-leads old leads.0 new reached leads.1
+handled-reached old new s false unchanged reached = subst IsReached (sym unchanged) reached
 
 -- ---- names by number, of the parts and of the plain partition
 
@@ -75,3 +177,8 @@ option-name-is parts (Some number) agrees = ap Some (name-is parts number agrees
 pub count-is : (parts : Parts) (p : PlainPartition) → Agrees parts → plain_of parts ≡ p → length p.subs ≡ length parts.subs.registry.names
 count-is parts p agrees same =
     ap (λ (p : PlainPartition). length p.subs) (sym same) ∙ records-length parts.subs.registry.names parts.subs.states (sym agrees.records.long)
+
+-- the record of the name with a number
+pub number-found : (parts : Parts) (number : ℕ) → Agrees parts → number < length parts.subs.registry.names → sub_at (plain_of parts) (name_of (plain_of parts) number) ≡ Some (record_of parts number)
+number-found parts number agrees within =
+    ap (sub_at (plain_of parts)) (name-is parts number agrees) ∙ found-at parts number (record { agrees = agrees; within = within })

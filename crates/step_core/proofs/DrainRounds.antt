@@ -19,33 +19,14 @@ use Rattle.stream_model.specs.History.{Entry}
 use Rattle.stream_model.specs.Step.{IsReached, Leads}
 use Rattle.stream_ident.specs.Words.{IsPrefixOf}
 use Rattle.stream_laws.proofs.Drained.{drain-ends}
-use Rattle.step_core.specs.declared.draining.Served.{Served}
-use Rattle.step_core.specs.DrainPhases.{BreaksOff, Ends, after_deliveries}
-use Rattle.step_core.specs.Serving.{served_of}
+use Rattle.step_core.specs.DrainPhases.{BreaksOff, Ends}
+use Rattle.step_core.specs.Serving.{serve_up_to}
 use Rattle.step_core.proofs.DrainReplies.{rounds_up_to}
 
 -- a subscription that has a record is delivered to from its cursor on
-serve-found : (p : PlainPartition) (s : SubName) (served : Served) (most : ℕ) (found : Option Subscription) → Some served ≡ option_map served_of found → most ≡ p.high - served.cursor
-    → and_then (deliver_up_to most s served.grain p) (after_deliveries s) ≡ serve s p found
+pub serve-known : (p : PlainPartition) (s : SubName) (r : Subscription) (most : ℕ) → sub_at p s ≡ Some r → most ≡ p.high - r.cursor → serve_up_to most s r.grain p ≡ serve s p (sub_at p s)
 unfolding serve deliver_all
-serve-found p s served most None is is_most = absurd (cc)
-serve-found p s served most (Some r) is is_most =
-    let same : served ≡ served_of r = cc in
-    ap (λ n. and_then (deliver_up_to n s served.grain p) (after_deliveries s)) is_most
-    ∙ ap (λ (of : Served). and_then (deliver_up_to (p.high - of.cursor) s of.grain p) (after_deliveries s)) same
-
-pub serve-known : (p : PlainPartition) (s : SubName) (served : Served) (most : ℕ) → Some served ≡ option_map served_of (sub_at p s) → most ≡ p.high - served.cursor
-    → and_then (deliver_up_to most s served.grain p) (after_deliveries s) ≡ serve s p (sub_at p s)
-serve-known p s served most is is_most = serve-found p s served most (sub_at p s) is is_most
-
--- and nothing is done without one
-serve-none : (p : PlainPartition) (s : SubName) (found : Option Subscription) → None ≡ option_map served_of found → stopped Astray p ≡ serve s p found
-unfolding serve
-serve-none p s None none = refl
-serve-none p s (Some r) none = absurd (cc)
-
-pub serve-unknown : (p : PlainPartition) (s : SubName) → None ≡ option_map served_of (sub_at p s) → stopped Astray p ≡ serve s p (sub_at p s)
-serve-unknown p s none = serve-none p s (sub_at p s) none
+serve-known p s r most found is_most = ap (λ n. serve_up_to n s r.grain p) is_most ∙ ap (serve s p) (sym found)
 
 pub drain_all-rounds : (p : PlainPartition) (n : ℕ) → n ≡ length p.log - p.high → rounds_up_to n p ≡ drain_all p
 unfolding drain_all

@@ -23,7 +23,7 @@ front-behind : (first entries whole : List Entry) → IsPrefixOf entries whole �
 front-behind first entries whole front = (front.0, append_assoc first entries front.0 ∙ ap (λ all. first ++ all) front.1)
 
 -- what comes after entries that lead to mid
-ends-behind : (old mid new : PlainPartition) (first : List Entry) (end : Option (Option draining.Stop)) (m : Progress) → Leads old first mid → Ends mid new end m → Ends old new end (joined first m)
+pub ends-behind : (old mid new : PlainPartition) (first : List Entry) (end : Option (Option draining.Stop)) (m : Progress) → Leads old first mid → Ends mid new end m → Ends old new end (joined first m)
 ends-behind old mid new first (Some why) m leads ends = (ends.0, ends.1, leads-append old mid new first m.entries leads ends.2)
 ends-behind old mid new first None m leads ends =
     record {

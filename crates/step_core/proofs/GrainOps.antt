@@ -47,7 +47,7 @@ activation_at parts i d = (get_or parts.grains i d).1
 placed : (parts : Parts) (g : GrainId) (i : ℕ) → place_of same_grain g parts.grains ≡ Some i → place_of same_grain g (grains_of parts.subs.registry.names parts.grains) ≡ Some i
 placed parts g i found = place_of_grain parts.subs.registry.names (same_grain g) 0 parts.grains ∙ found
 
-value-found : (parts : Parts) (g : GrainId) (i : ℕ) (d : GrainId × PlainActivation) → place_of same_grain g parts.grains ≡ Some i → value_at same_grain g (grains_of parts.subs.registry.names parts.grains) ≡ Some (grain_of parts.subs.registry.names (activation_at parts i d))
+pub value-found : (parts : Parts) (g : GrainId) (i : ℕ) (d : GrainId × PlainActivation) → place_of same_grain g parts.grains ≡ Some i → value_at same_grain g (grains_of parts.subs.registry.names parts.grains) ≡ Some (grain_of parts.subs.registry.names (activation_at parts i d))
 value-found parts g i d found =
     place_of-value same_grain g i (grains_of parts.subs.registry.names parts.grains) (d.0, grain_of parts.subs.registry.names d.1) (placed parts g i found)
     ∙ ap {B = Option Grain} (λ (entry : GrainId × Grain). Some entry.1) (activation-at parts.subs.registry.names parts.grains i d)

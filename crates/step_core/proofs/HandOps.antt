@@ -50,6 +50,7 @@ use Rattle.step_core.specs.declared.parts.Parts.{Parts}
 use Rattle.step_core.specs.Numbers.{AreDistinct, IsBelow}
 use Rattle.step_core.specs.PlainOf.{plain_of}
 use Rattle.step_core.specs.Records.{record_of}
+use Rattle.step_core.specs.Serving.{is_held}
 use Rattle.step_core.specs.View.{delivery_of, grain_of, grains_of, name_at, turn_of}
 use Rattle.step_core.proofs.DeliverOps.{Seeks, deliver-closed, deliver-first, deliver-next, deliver-nothing, next-is, handed, handed_first}
 use Rattle.step_core.proofs.GrainOps.{AreSome, activation_at, grain-found, grain-new, outstanding-is}
@@ -114,22 +115,12 @@ idle-empty parts g j agrees found idle =
     sym (length-map (activation_at parts j no_grain).mailbox (delivery_of parts.subs.registry.names))
     ∙ ap length (sym (ap (λ (st : Grain). st.mailbox) is) ∙ none.0)
 
--- something is handled and not acknowledged
-pub outstanding-handled : (parts : Parts) (number : ℕ) (s : SubName) → is_unacknowledged (record_of parts number) ≡ true → is_outstanding (plain_of parts) s (record_of parts number) ≡ true
-outstanding-handled parts number s is = by _ _ _ is
-  where
-    by : (waits runs handled : Bool) → handled ≡ true → (waits || (runs || handled)) ≡ true
-    by true runs handled is = refl
-    by false true handled is = refl
-    by false false handled is = is
-
--- else what the grain holds
-pub outstanding-held : (parts : Parts) (number j : ℕ) → Stands parts number → is_unacknowledged (record_of parts number) ≡ false → place_of same_grain (record_of parts number).grain parts.grains ≡ Some j
-    → is_outstanding (plain_of parts) (table.name_at parts.subs number) (record_of parts number) ≡ holds number (activation_at parts j no_grain)
-outstanding-held parts number j stands none found =
-    ap (λ s. is_outstanding (plain_of parts) s r) (sym (name-same parts.subs number))
-    ∙ ap (λ (st : Grain). nat_lt 0 (length (waiting_in s st.mailbox)) || (nat_lt 0 (length (running_in s st.running)) || is_unacknowledged r)) (grain-found parts r.grain j no_grain found)
-    ∙ by (nat_lt 0 (length (waiting_in s (grain_of names a).mailbox))) (nat_lt 0 (length (running_in s (grain_of names a).running))) (is_unacknowledged r) none
+-- what the grain holds is what waits or runs
+pub held-there : (parts : Parts) (number j : ℕ) → Stands parts number → place_of same_grain (record_of parts number).grain parts.grains ≡ Some j
+    → is_held (plain_of parts) (table.name_at parts.subs number) (record_of parts number) ≡ holds number (activation_at parts j no_grain)
+held-there parts number j stands found =
+    ap (λ s. is_held (plain_of parts) s r) (sym (name-same parts.subs number))
+    ∙ ap (λ (st : Grain). nat_lt 0 (length (waiting_in s st.mailbox)) || nat_lt 0 (length (running_in s st.running))) (grain-found parts r.grain j no_grain found)
     ∙ outstanding-is parts number a (distinct parts number stands) stands.within (below-at parts j stands.agrees.assembled (place_of-within same_grain r.grain j parts.grains found)) (some-at parts r.grain j stands.agrees found)
   where
     names : List (SubName × Registration)
@@ -144,35 +135,38 @@ outstanding-held parts number j stands none found =
     s : SubName
     s = name_at names number
 
+-- a grain that was never active holds nothing
+pub held-nowhere : (parts : Parts) (number : ℕ) (s : SubName) → place_of same_grain (record_of parts number).grain parts.grains ≡ None → is_held (plain_of parts) s (record_of parts number) ≡ false
+held-nowhere parts number s none =
+    ap (λ (st : Grain). nat_lt 0 (length (waiting_in s st.mailbox)) || nat_lt 0 (length (running_in s st.running))) (grain-new parts (record_of parts number).grain none)
+
+-- and one that is idle neither
+pub held-idle : (parts : Parts) (number : ℕ) → Stands parts number → AreIdle parts.grains → is_held (plain_of parts) (table.name_at parts.subs number) (record_of parts number) ≡ false
+held-idle parts number stands idle = by (place_of same_grain (record_of parts number).grain parts.grains) refl
+  where
+    by : (found : Option ℕ) → place_of same_grain (record_of parts number).grain parts.grains ≡ found → is_held (plain_of parts) (table.name_at parts.subs number) (record_of parts number) ≡ false
+    by None at = held-nowhere parts number (table.name_at parts.subs number) at
+    by (Some j) at =
+        let none = idle j no_grain (place_of-within same_grain (record_of parts number).grain j parts.grains at) in
+        held-there parts number j stands at
+        ∙ ap₂ (λ (mailbox : List Delivery) (running : Option RunningTurn). list_any (λ (d : Delivery). number == d.sub) mailbox || runs number running) none.0 none.1
+
+-- with all that is handled acknowledged, what is held is outstanding
+unacknowledged-none : (parts : Parts) (number : ℕ) (s : SubName) → is_unacknowledged (record_of parts number) ≡ false → is_outstanding (plain_of parts) s (record_of parts number) ≡ is_held (plain_of parts) s (record_of parts number)
+unacknowledged-none parts number s none = by _ _ _ none
+  where
     by : (waits runs handled : Bool) → handled ≡ false → (waits || (runs || handled)) ≡ (waits || runs)
     by true runs handled none = refl
     by false true handled none = refl
     by false false handled none = none
 
--- a grain that was never active holds nothing
+pub outstanding-held : (parts : Parts) (number j : ℕ) → Stands parts number → is_unacknowledged (record_of parts number) ≡ false → place_of same_grain (record_of parts number).grain parts.grains ≡ Some j
+    → is_outstanding (plain_of parts) (table.name_at parts.subs number) (record_of parts number) ≡ holds number (activation_at parts j no_grain)
+outstanding-held parts number j stands none found = unacknowledged-none parts number (table.name_at parts.subs number) none ∙ held-there parts number j stands found
+
 pub outstanding-nowhere : (parts : Parts) (number : ℕ) (s : SubName) → is_unacknowledged (record_of parts number) ≡ false → place_of same_grain (record_of parts number).grain parts.grains ≡ None
     → is_outstanding (plain_of parts) s (record_of parts number) ≡ false
-outstanding-nowhere parts number s handled none =
-    ap (λ (st : Grain). nat_lt 0 (length (waiting_in s st.mailbox)) || (nat_lt 0 (length (running_in s st.running)) || is_unacknowledged (record_of parts number))) (grain-new parts (record_of parts number).grain none)
-    ∙ handled
-
--- where all grains are idle, what is handled and not acknowledged is all that is outstanding
-pub outstanding-idle : (parts : Parts) (number : ℕ) → Stands parts number → AreIdle parts.grains → is_unacknowledged (record_of parts number) ≡ is_outstanding (plain_of parts) (table.name_at parts.subs number) (record_of parts number)
-outstanding-idle parts number stands idle =
-    by (is_unacknowledged (record_of parts number)) refl (place_of same_grain (record_of parts number).grain parts.grains) refl
-  where
-    s : SubName
-    s = table.name_at parts.subs number
-
-    by : (handled : Bool) → is_unacknowledged (record_of parts number) ≡ handled → (found : Option ℕ) → place_of same_grain (record_of parts number).grain parts.grains ≡ found
-        → is_unacknowledged (record_of parts number) ≡ is_outstanding (plain_of parts) s (record_of parts number)
-    by true is found at = is ∙ sym (outstanding-handled parts number s is)
-    by false is None at = is ∙ sym (outstanding-nowhere parts number s is at)
-    by false is (Some j) at =
-        let none = idle j no_grain (place_of-within same_grain (record_of parts number).grain j parts.grains at) in
-        let held : holds number (activation_at parts j no_grain) ≡ false =
-        ap₂ (λ (mailbox : List Delivery) (running : Option RunningTurn). list_any (λ (d : Delivery). number == d.sub) mailbox || runs number running) none.0 none.1 in
-        is ∙ sym (outstanding-held parts number j stands is at ∙ held)
+outstanding-nowhere parts number s handled none = unacknowledged-none parts number s handled ∙ held-nowhere parts number s none
 
 -- ---- what was sought
 

@@ -10,8 +10,8 @@ use Rattle.stream_model.specs.Positions.{least_or, open_resumes, slowest}
 use Rattle.consumer_grain.specs.Subscriptions.{PlainState, is_unacknowledged}
 use Rattle.ranked_index.specs.Keys.{lesser_key}
 use Rattle.pubsub_registry.specs.declared.registration.Registration.{Registration}
-use Rattle.ranked_index.specs.declared.resumes.Leaf.{Leaf}
-use Rattle.ranked_index.specs.Leaves as leaves
+use Rattle.subscription_table.specs.Leaves.{NamedLeaf}
+use Rattle.subscription_table.specs.Leaves as leaves
 use Rattle.subscription_table.specs.LeavesOf.{leaf_of, leaves_of, open_resume}
 use Rattle.step_core.specs.declared.parts.Parts.{Parts}
 use Rattle.step_core.specs.PlainOf.{plain_of}
@@ -54,7 +54,7 @@ pub slowest-is : (parts : Parts) → slowest (plain_of parts) ≡ unwrap_or (lea
 slowest-is parts = least-or-key (plain_of parts).high parts.subs.registry.names parts.subs.states
 
 -- names of records that pass a test are those of their leaves
-names-of-leaves : (passes : Subscription → Bool) (test : Leaf → Bool) (names : List (SubName × Registration)) (states : List PlainState)
+names-of-leaves : (passes : Subscription → Bool) (test : NamedLeaf → Bool) (names : List (SubName × Registration)) (states : List PlainState)
     → ((entry : SubName × Registration) (state : PlainState) → passes (sub_of entry state).1 ≡ test (leaf_of entry state)) → keys_where passes (subs_of names states) ≡ leaves.names_where test (leaves_of names states)
 names-of-leaves passes test [] states same = refl
 names-of-leaves passes test (entry ∷ names) [] same = refl
@@ -63,7 +63,7 @@ names-of-leaves passes test (entry ∷ names) (state ∷ states) same =
   where
     by : (b c : Bool) → b ≡ c → keys_where passes (subs_of names states) ≡ leaves.names_where test (leaves_of names states)
         → map (λ (e : SubName × Subscription). e.0) (if b then sub_of entry state ∷ filter (λ e. passes e.1) (subs_of names states) else filter (λ e. passes e.1) (subs_of names states))
-        ≡ map (λ (leaf : Leaf). leaf.name) (if c then leaf_of entry state ∷ filter test (leaves_of names states) else filter test (leaves_of names states))
+        ≡ map (λ (leaf : NamedLeaf). leaf.name) (if c then leaf_of entry state ∷ filter test (leaves_of names states) else filter test (leaves_of names states))
     by true true is rest = ap (λ ns. entry.0 ∷ ns) rest
     by true false is rest = absurd (cc)
     by false true is rest = absurd (cc)

@@ -33,6 +33,7 @@ pub mod NewParts
 pub mod NumberLemmas
 pub mod NumberedOps
 pub mod NumberedReads
+pub mod OnceOps
 pub mod OutcomeLemmas
 pub mod PendingOps
 pub mod PlanOps
@@ -45,6 +46,7 @@ pub mod RetryOps
 pub mod RisingNames
 pub mod RuleOps
 pub mod RunLemmas
+pub mod ServeOps
 pub mod SettledOps
 pub mod Shared
 pub mod SortedOnce

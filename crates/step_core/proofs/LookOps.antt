@@ -19,7 +19,7 @@ use Rattle.consumer_grain.specs.Subscriptions.{is_unacknowledged}
 use Rattle.grain_table.specs.Grains as grains
 use Rattle.partition_queue.specs.Queue.{token_at}
 use Rattle.pubsub_registry.specs.declared.registration.Registration.{Registration}
-use Rattle.ranked_index.specs.Leaves as leaves
+use Rattle.subscription_table.specs.Leaves as leaves
 use Rattle.subscription_table.specs.LeavesOf.{leaves_of}
 use Rattle.subscription_table.specs.Table as table
 use Rattle.subscription_table.specs.Table.{no_entry, no_state, state_at}

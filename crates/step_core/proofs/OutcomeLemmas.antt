@@ -45,6 +45,6 @@ both-fail P Q (Ok came) first second = tt
 both-fail P Q (Err e) first second = (first, second)
 
 -- a failure means less
-pub fails : {P Q : Type 0} (r : Result Outcome AllocError) → OnErr r P → (P → Q) → OnErr r Q
+pub fails : {T P Q : Type 0} (r : Result T AllocError) → OnErr r P → (P → Q) → OnErr r Q
 fails (Ok came) failed so = tt
 fails (Err e) failed so = so failed

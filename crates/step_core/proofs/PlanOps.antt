@@ -18,8 +18,8 @@ use Rattle.pulling_agent.specs.declared.agent.Plan.{Plan}
 use Rattle.pulling_agent.specs.declared.agent.Plan.TheVariants as plan
 use Rattle.pulling_agent.specs.declared.agent.StaleAgent.{StaleAgent}
 use Rattle.queue_cache.specs.Cache as cache
-use Rattle.ranked_index.specs.declared.resumes.Leaf.{Leaf}
-use Rattle.ranked_index.specs.Leaves as leaves
+use Rattle.subscription_table.specs.Leaves.{NamedLeaf}
+use Rattle.subscription_table.specs.Leaves as leaves
 use Rattle.subscription_table.specs.LeavesOf.{leaf_of, leaves_of, open_resume}
 use Rattle.stream_ident.specs.Words.{keys_where, least, has_number}
 use Rattle.stream_model.proofs.Refusals.{pull-stale}
@@ -35,12 +35,12 @@ use Rattle.stream_ident.specs.declared.limits.TheConstants.{BLOCK_EVENTS}
 -- ---- the slowest subscription
 
 -- where nothing is open, none has a resume
-none-open : (resume : ℕ) (all : List Leaf) → leaves.least_resume all ≡ None → leaves.names_where (λ leaf. has_number resume leaf.resume) all ≡ []
+none-open : (resume : ℕ) (all : List NamedLeaf) → leaves.least_resume all ≡ None → leaves.names_where (λ leaf. has_number resume leaf.resume) all ≡ []
 none-open resume [] none = refl
 none-open resume (leaf ∷ all) none = by leaf.resume (leaves.least_resume all) none (none-open resume all)
   where
     by : (own least : Option ℕ) → lesser_key own least ≡ None → (least ≡ None → leaves.names_where (λ leaf. has_number resume leaf.resume) all ≡ [])
-        → map (λ (leaf : Leaf). leaf.name) (if has_number resume own then leaf ∷ filter (λ (leaf : Leaf). has_number resume leaf.resume) all else filter (λ (leaf : Leaf). has_number resume leaf.resume) all) ≡ []
+        → map (λ (leaf : NamedLeaf). leaf.name) (if has_number resume own then leaf ∷ filter (λ (leaf : NamedLeaf). has_number resume leaf.resume) all else filter (λ (leaf : NamedLeaf). has_number resume leaf.resume) all) ≡ []
     by None least none rest = rest none
     by (Some key) None none rest = absurd (cc)
     by (Some key) (Some other) none rest = absurd (cc)
@@ -53,19 +53,19 @@ at-resume resume (entry ∷ names) (state ∷ states) = by state.is_open (at-res
     later : List (SubName × Subscription)
     later = filter (λ (e : SubName × Subscription). is_open_at resume e.1) (subs_of names states)
 
-    behind : List Leaf
-    behind = filter (λ (leaf : Leaf). has_number resume leaf.resume) (leaves_of names states)
+    behind : List NamedLeaf
+    behind = filter (λ (leaf : NamedLeaf). has_number resume leaf.resume) (leaves_of names states)
 
     Rest : Type 0
     Rest = keys_where (is_open_at resume) (subs_of names states) ≡ leaves.names_where (λ leaf. has_number resume leaf.resume) (leaves_of names states)
 
-    pick : (passes : Bool) → Rest → map (λ (e : SubName × Subscription). e.0) (if passes then sub_of entry state ∷ later else later) ≡ map (λ (leaf : Leaf). leaf.name) (if passes then leaf_of entry state ∷ behind else behind)
+    pick : (passes : Bool) → Rest → map (λ (e : SubName × Subscription). e.0) (if passes then sub_of entry state ∷ later else later) ≡ map (λ (leaf : NamedLeaf). leaf.name) (if passes then leaf_of entry state ∷ behind else behind)
     pick true rest = ap (λ ns. entry.0 ∷ ns) rest
     pick false rest = rest
 
     by : (is_open : Bool) → Rest
         → map (λ (e : SubName × Subscription). e.0) (if is_open && (state.resume == resume) then sub_of entry state ∷ later else later)
-        ≡ map (λ (leaf : Leaf). leaf.name) (if has_number resume (open_resume is_open state.resume) then leaf_of entry state ∷ behind else behind)
+        ≡ map (λ (leaf : NamedLeaf). leaf.name) (if has_number resume (open_resume is_open state.resume) then leaf_of entry state ∷ behind else behind)
     by false rest = rest
     by true rest = pick (state.resume == resume) rest
 
@@ -75,7 +75,7 @@ slowest-name-is parts =
     ∙ ap (λ names. least sub_lt names) (at-resume (unwrap_or (leaves.least_resume all) (plain_of parts).high) parts.subs.registry.names parts.subs.states)
     ∙ by (leaves.least_resume all) refl
   where
-    all : List Leaf
+    all : List NamedLeaf
     all = leaves_of parts.subs.registry.names parts.subs.states
 
     by : (o : Option ℕ) → leaves.least_resume all ≡ o → least sub_lt (leaves.names_where (λ leaf. has_number (unwrap_or o (plain_of parts).high) leaf.resume) all) ≡ leaves.slowest_at o all

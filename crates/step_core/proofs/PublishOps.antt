@@ -1,10 +1,12 @@
 -- What producers ask leaves parts that agree with each other.
-use Rattle.std.proofs.Common.{◌≡◌, ◌∙◌, ap, sym, refl, ℕ, suc, ◌+◌, ◌≤◌, Bool, true, false, ◌||◌, List, [], ◌++◌, length, map, ◌==◌, nat_lt, arith}
-use Rattle.std.specs.Prelude.{if◌then◌else◌}
+use Rattle.std.proofs.Common.{◌≡◌, ◌∙◌, ap, subst, sym, refl, ℕ, suc, ◌+◌, ◌≤◌, Bool, true, false, ◌||◌, List, [], ◌++◌, length, map, ◌==◌, nat_lt, arith}
+use Rattle.std.specs.Prelude.{if◌then◌else◌, Result, Ok, Err}
+use Rattle.std.specs.declared.alloc.AllocError.{AllocError}
 use Rattle.std.proofs.lemmas.List.{append-nil}
 use Rattle.stream_ident.specs.declared.event.Event.{Event}
 use Rattle.stream_ident.specs.declared.ident.StreamId.{StreamId}
 use Rattle.stream_ident.specs.Event.{events_of}
+use Rattle.stream_ident.specs.Words.{Performs}
 use Rattle.stream_ident.specs.declared.limits.TheConstants.{BATCH_EVENTS}
 use Rattle.stream_model.specs.declared.plain.PlainPartition.{PlainPartition}
 use Rattle.stream_model.specs.Replies.{Reply}
@@ -18,7 +20,7 @@ use Rattle.queue_mapper.specs.Place.{bare}
 use Rattle.queue_cache.specs.Cache.{high}
 use Rattle.step_core.specs.Assembly.{IsAssembled}
 use Rattle.step_core.specs.PlainOf.{plain_of}
-use Rattle.step_core.specs.Replies.{of_append}
+use Rattle.step_core.specs.Replies.{appended_reply, of_append}
 use Rattle.step_core.specs.declared.parts.Parts.{Parts}
 use Rattle.step_core.proofs.CachedEvents.{between-longer}
 use Rattle.step_core.proofs.ProducerOps.{publish-parts}
@@ -69,6 +71,17 @@ pub append-performs : (parts : Parts) (stream : StreamId) (payloads : List (List
 append-performs parts stream payloads new told assembled done =
     ap {B = PlainPartition × Reply} (λ (stepped : PlainQueue × Appended). (plain_of (record parts { queue = stepped.0 }), of_append stepped.1)) done
     ∙ sym (publish-parts parts stream payloads assembled.most_events)
+
+pub appends : (parts : Parts) (stream : StreamId) (payloads : List (List ℕ)) (new : PlainQueue) (r : Result Appended AllocError) → IsAssembled parts → Performs parts.queue new r (append parts.queue stream payloads)
+    → Performs (plain_of parts) (plain_of (record parts { queue = new })) (appended_reply r) (publish (plain_of parts) stream payloads)
+appends parts stream payloads new (Ok told) assembled done = append-performs parts stream payloads new told assembled done
+appends parts stream payloads new (Err e) assembled unchanged = ap (λ (q : PlainQueue). plain_of (record parts { queue = q })) unchanged
+
+pub appends-assembled : (parts : Parts) (stream : StreamId) (payloads : List (List ℕ)) (new : PlainQueue) (r : Result Appended AllocError) → high parts.agent.cache ≤ length parts.queue.events → IsAssembled parts → Performs parts.queue new r (append parts.queue stream payloads)
+    → IsAssembled (record parts { queue = new })
+appends-assembled parts stream payloads new (Ok told) end assembled done =
+    subst (λ (q : PlainQueue). IsAssembled (record parts { queue = q })) (sym (ap (λ (out : PlainQueue × Appended). out.0) done)) (append-assembled parts stream payloads end assembled)
+appends-assembled parts stream payloads new (Err e) end assembled unchanged = subst (λ (q : PlainQueue). IsAssembled (record parts { queue = q })) (sym unchanged) assembled
 
 -- only a batch that is accepted takes memory
 accepted-memory : (told : Appended) → takes_memory told ≡ plain.takes_memory (of_append told)

@@ -1,20 +1,22 @@
 -- A subscription that is settled: to serve it changes nothing.
-use Rattle.std.proofs.Common.{◌≡◌, ◌∙◌, ap, sym, refl, subst, ℕ, zero, suc, pred, ◌-◌, ◌≤◌, ◌==◌, ◌||◌, max, nat_le, nat_lt, Bool, true, false, List, [], ◌∷◌, length, Option, Some, None, if◌then◌else◌, arith}
-use Rattle.std.proofs.lemmas.Bool.{and_parts, eq-eqb, eqb-true, le-leb, le-ltb, leb-true, ltb-false, lt-ltb, not-true, or_parts}
+use Rattle.std.proofs.Common.{◌≡◌, ◌∙◌, ap, sym, refl, subst, ℕ, zero, suc, pred, ◌-◌, ◌≤◌, ◌==◌, ◌||◌, max, ◌<◌, nat_le, nat_lt, Bool, true, false, List, [], ◌∷◌, length, Option, Some, None, Ok, if◌then◌else◌, arith}
+use Rattle.std.proofs.lemmas.Bool.{and_parts, eq-eqb, eqb-true, le-leb, le-ltb, leb-true, ltb-false, ltb-true, lt-ltb, not-true}
 use Rattle.stream_ident.specs.declared.ident.GrainId.{GrainId}
 use Rattle.stream_ident.specs.declared.ident.SubName.{SubName}
+use Rattle.stream_ident.specs.declared.token.Token.{Token}
 use Rattle.stream_ident.proofs.SameValues.{sub_equality}
 use Rattle.stream_ident.specs.SubName.{same_sub}
-use Rattle.stream_ident.specs.Words.{past}
+use Rattle.stream_ident.specs.Words.{past, with_value}
 use Rattle.stream_model.specs.declared.op.Op.TheVariants.{Ack, Deliver}
 use Rattle.stream_model.specs.declared.plain.PlainPartition.{PlainPartition}
 use Rattle.stream_model.specs.declared.plain.Subscription.{Subscription}
 use Rattle.stream_model.specs.Replies.{Reply}
 use Rattle.stream_model.specs.declared.reply.Reply.TheVariants as reply
-use Rattle.stream_model.specs.Draining.{acknowledge, after_ack, after_deliver, after_last_deliver, deliver_all, deliver_once_more, done, last_handled, serve}
-use Rattle.stream_model.specs.Positions.{grain_at, is_outstanding, is_unacknowledged, running_in, sub_at, token_at, waiting_in, with_sub}
+use Rattle.stream_model.specs.Draining.{acknowledge, after_ack, after_deliver, after_last_deliver, and_then, deliver_all, deliver_once_more, deliver_up_to, done, last_handled, serve}
+use Rattle.stream_model.specs.Positions.{grain_at, is_outstanding, is_unacknowledged, next_position, running_in, sub_at, token_at, waiting_in, with_sub}
 use Rattle.stream_model.specs.Pulling.{acknowledged, caught_up}
 use Rattle.stream_model.specs.Step.{step, IsReached}
+use Rattle.stream_model.proofs.Reaching.{reached-after}
 use Rattle.stream_model.proofs.Values.{with_value-at}
 use Rattle.stream_laws.proofs.DrainAck.{ack-first}
 use Rattle.stream_laws.proofs.DrainDeliver.{deliver-nothing, next-none}
@@ -22,8 +24,9 @@ use Rattle.stream_laws.proofs.FitsOne.{with_value-same}
 use Rattle.stream_laws.proofs.Invariant.{running_of}
 use Rattle.stream_laws.proofs.LastHandled.{HasLast, handled_at-last, has-last}
 use Rattle.step_core.specs.DrainPhases.{Ends, after_deliveries}
-use Rattle.step_core.specs.Serving.{is_settled, is_settled_in, IsCaughtUp}
+use Rattle.step_core.specs.Serving.{is_held, is_settled, is_settled_in, IsCaughtUp}
 use Rattle.step_core.proofs.DrainSteps.{ends-done, ends-last, ends-then}
+use Rattle.step_core.proofs.OnceOps.{with_value-twice}
 use Rattle.step_core.proofs.Shared.{history-of}
 
 record IsSettled (p : PlainPartition) (s : SubName) (r : Subscription) : Type 0 where
@@ -136,32 +139,168 @@ settles-settled p s reached is =
     let settled = settled-found p s (sub_at p s) refl is in
     ends-after p s settled.0 settled.1 reached
 
--- ---- a subscription that has nothing to do
+-- ---- a subscription for which the cache has nothing
 
--- one of which nothing is outstanding is settled by a delivery that finds nothing
-pub caught-settled : (p : PlainPartition) (s : SubName) (r : Subscription) → r.is_open ≡ true → is_outstanding p s r ≡ false → r.resume ≤ r.cursor → is_settled_in p.high (sub_at (with_sub p s (caught_up p s r)) s) ≡ true
-caught-settled p s r is_open none order =
-    ap (is_settled_in p.high) (with_value-at same_sub sub_equality s (caught_up p s r) p.subs)
-    ∙ rw (none, is_open, le-leb p.high (max r.cursor p.high) (omega arith), eq-eqb (max r.cursor p.high) (max r.cursor p.high) refl, ltb-past) refl
-  where
-    acked : is_unacknowledged r ≡ false
-    acked =
-        let waits = nat_lt 0 (length (waiting_in s (grain_at p r.grain).mailbox)) in
-        let runs = nat_lt 0 (length (running_in s (grain_at p r.grain).running)) in
-        (or_parts runs (is_unacknowledged r) (or_parts waits (runs || is_unacknowledged r) none).1).1
+-- Nothing of it is on its way, and it has handled nothing past its cursor and the end of the cache.
+module _ (p : PlainPartition) (s : SubName) (r : Subscription) (reached : IsReached p) (found : sub_at p s ≡ Some r) (is_open : r.is_open ≡ true)
+    (none : next_position p r ≡ None) (free : is_held p s r ≡ false) (within : past r.handled ≤ max r.cursor p.high) where
+  abbrev top : ℕ
+  top = max r.cursor p.high
 
-    ltb-past : nat_lt (max r.cursor p.high) (past r.handled) ≡ false
-    ltb-past = le-ltb (max r.cursor p.high) (past r.handled) (omega (arith, order, ltb-false r.resume (past r.handled) acked))
+  -- what serving it comes to
+  abbrev end : Subscription
+  end = record r { cursor = top; resume = top }
+
+  abbrev q : PlainPartition
+  q = with_sub p s end
+
+  -- Deliver finds nothing
+
+  abbrev first : Bool → Subscription
+  first unacked = record r { cursor = top; resume = if unacked then r.resume else top }
+
+  abbrev x : Bool → PlainPartition
+  x unacked = with_sub p s (first unacked)
+
+  outstanding-is : is_outstanding p s r ≡ is_unacknowledged r
+  outstanding-is = by (nat_lt 0 (length (waiting_in s (grain_at p r.grain).mailbox))) (nat_lt 0 (length (running_in s (grain_at p r.grain).running))) (is_unacknowledged r) free
+    where
+      by : (waits runs handled : Bool) → (waits || runs) ≡ false → (waits || (runs || handled)) ≡ handled
+      by true runs handled is = absurd (cc)
+      by false true handled is = absurd (cc)
+      by false false handled is = refl
+
+  delivers : (unacked : Bool) → is_unacknowledged r ≡ unacked → step p (Deliver p.generation s) ≡ (x unacked, reply.Nothing)
+  delivers unacked is =
+      deliver-nothing p s r found is_open none
+      ∙ ap {B = PlainPartition × Reply} (λ b. (with_sub p s (record r { cursor = top; resume = if b then r.resume else top }), reply.Nothing)) (outstanding-is ∙ is)
+
+  finds-nothing : (n : ℕ) (g : GrainId) (y : PlainPartition) → done y ≡ after_deliver n s g y reply.Nothing
+  unfolding after_deliver
+  finds-nothing zero g y = refl
+  finds-nothing (suc n) g y = refl
+
+  ends-first : (unacked : Bool) → is_unacknowledged r ≡ unacked → (n : ℕ) (g : GrainId) → Ends p (x unacked) (Some None) (deliver_up_to n s g p)
+  ends-first unacked is n g =
+      ends-last p (x unacked) None (Deliver p.generation s) reply.Nothing (λ y answer. after_deliver n s g y answer) (sym (delivers unacked is)) (finds-nothing n g (x unacked))
+
+  reached-first : (unacked : Bool) → is_unacknowledged r ≡ unacked → IsReached (x unacked)
+  reached-first unacked is = reached-after p (x unacked) (Deliver p.generation s) (Ok reply.Nothing) (sym (delivers unacked is)) reached
+
+  found-first : (unacked : Bool) → sub_at (x unacked) s ≡ Some (first unacked)
+  found-first unacked = with_value-at same_sub sub_equality s (first unacked) p.subs
+
+  -- all that it has handled is acknowledged
+
+  settled : is_settled_in q.high (sub_at q s) ≡ true
+  settled =
+      ap (is_settled_in p.high) (with_value-at same_sub sub_equality s end p.subs)
+      ∙ rw (is_open, le-leb p.high top (omega arith), eq-eqb top top refl, le-ltb top (past r.handled) within) refl
+
+  -- or it isn't: Ack names the last of it, and Deliver finds nothing once more
+
+  module _ (unacked : is_unacknowledged r ≡ true) (last : HasLast 0 r.handled) where
+    abbrev r1 : Subscription
+    r1 = first true
+
+    abbrev p1 : PlainPartition
+    p1 = x true
+
+    abbrev token : Token
+    token = token_at p1 (pred (past r.handled))
+
+    below : r.resume < past r.handled
+    below = ltb-true r.resume (past r.handled) unacked
+
+    abbrev r2 : Subscription
+    r2 = acknowledged r1 last.last
+
+    abbrev p2 : PlainPartition
+    p2 = with_sub p1 s r2
+
+    acks : step p1 (Ack p1.generation s token) ≡ (p2, reply.Acked)
+    acks =
+        let history = history-of p1 (reached-first true unacked) in
+        let at = handled_at-last history.past p1 r1 (running_of p1 s r1) last history.fits.log (history.fits.subs s r1 (found-first true)).in_turn in
+        ack-first p1 s r1 token last.last at.0 (found-first true) is_open at.1
+
+    resume-is : max r.resume (suc last.last) ≡ past r.handled
+    resume-is = let end = last.past_last in omega (arith, below, end)
+
+    cursor-is : max top (max r.resume (suc last.last)) ≡ top
+    cursor-is = let end = last.past_last in omega (arith, below, end, within)
+
+    abbrev r3 : Subscription
+    r3 = record r2 { cursor = max r2.cursor p2.high; resume = max r2.cursor p2.high }
+
+    abbrev p3 : PlainPartition
+    p3 = with_sub p2 s r3
+
+    free-again : is_outstanding p2 s r2 ≡ false
+    free-again =
+        by (nat_lt 0 (length (waiting_in s (grain_at p r.grain).mailbox))) (nat_lt 0 (length (running_in s (grain_at p r.grain).running))) (is_unacknowledged r2) free
+        (ap (λ n. nat_lt n (past r.handled)) resume-is ∙ le-ltb (past r.handled) (past r.handled) (omega arith))
+      where
+        by : (waits runs handled : Bool) → (waits || runs) ≡ false → handled ≡ false → (waits || (runs || handled)) ≡ false
+        by true runs handled is unhandled = absurd (cc)
+        by false true handled is unhandled = absurd (cc)
+        by false false handled is unhandled = unhandled
+
+    once_more : step p2 (Deliver p2.generation s) ≡ (p3, reply.Nothing)
+    once_more =
+        deliver-nothing p2 s r2 (with_value-at same_sub sub_equality s r2 p1.subs) is_open (next-none p2 r2 (omega (arith, cursor-is)))
+        ∙ ap {B = PlainPartition × Reply} (λ b. (with_sub p2 s (record r2 { cursor = max r2.cursor p2.high; resume = if b then r2.resume else max r2.cursor p2.high }), reply.Nothing)) free-again
+
+    end-is : r3 ≡ end
+    end-is =
+        let level : max r2.cursor p.high ≡ top = omega (arith, cursor-is) in
+        λ i. record r { cursor = level i; resume = level i }
+
+    all-is : p3 ≡ q
+    all-is =
+        ap (λ subs. record p { subs = subs })
+        (with_value-twice same_sub sub_equality s r2 r3 p1.subs ∙ with_value-twice same_sub sub_equality s r1 r3 p.subs ∙ ap (λ (r : Subscription). with_value same_sub s r p.subs) end-is)
+
+    some-handled : nat_lt 0 (length r.handled) ≡ true
+    some-handled = by r.handled below
+      where
+        by : (handled : List ℕ) → r.resume < past handled → nat_lt 0 (length handled) ≡ true
+        by [] less = absurd (omega (arith, less))
+        by (position ∷ handled) less = lt-ltb 0 (suc (length handled)) (omega arith)
+
+    ends-acks : Ends p1 p2 (Some None) (acknowledge s p1 (last_handled p1 (sub_at p1 s)))
+    unfolding acknowledge
+    ends-acks =
+        subst (λ (o : Option Subscription). Ends p1 p2 (Some None) (acknowledge s p1 (last_handled p1 o))) (sym (found-first true))
+        (subst (λ b. Ends p1 p2 (Some None) (acknowledge s p1 (if b then Some token else None))) (sym some-handled)
+        (ends-last p1 p2 None (Ack p1.generation s token) reply.Acked after_ack (sym acks) refl))
+
+    ends-more : Ends p2 p3 (Some None) (deliver_once_more s p2)
+    unfolding deliver_once_more
+    ends-more = ends-last p2 p3 None (Deliver p2.generation s) reply.Nothing after_last_deliver (sym once_more) refl
+
+    ends-acked-after : Ends p1 q (Some None) (after_deliveries s p1)
+    ends-acked-after =
+        subst (λ (y : PlainPartition). Ends p1 y (Some None) (after_deliveries s p1)) all-is
+        (ends-then p1 p2 p3 (Some None) (acknowledge s p1 (last_handled p1 (sub_at p1 s))) (deliver_once_more s) ends-acks ends-more)
+
+  pub served-caught : (n : ℕ) (g : GrainId) → Ends p q (Some None) (and_then (deliver_up_to n s g p) (after_deliveries s))
+  served-caught n g = by (is_unacknowledged r) refl r.handled refl
+    where
+      by : (unacked : Bool) → is_unacknowledged r ≡ unacked → (handled : List ℕ) → r.handled ≡ handled → Ends p q (Some None) (and_then (deliver_up_to n s g p) (after_deliveries s))
+      by false is handled are =
+          ends-then p q q (Some None) (deliver_up_to n s g p) (after_deliveries s) (ends-first false is n g) (settles-settled q s (reached-first false is) settled)
+      by true is [] are =
+          let none : past r.handled ≡ 0 = ap past are in
+          let less = ltb-true r.resume (past r.handled) is in
+          absurd (omega (arith, none, less))
+      by true is (position ∷ handled) are =
+          ends-then p (x true) q (Some None) (deliver_up_to n s g p) (after_deliveries s) (ends-first true is n g)
+          (ends-acked-after is (subst (HasLast 0) (sym are) (has-last 0 position handled)))
 
 -- and then it is served
-pub serves-caught-up : (p q : PlainPartition) (s : SubName) → IsReached q → IsCaughtUp p q s → Ends p q (Some None) (serve s p (sub_at p s))
-unfolding serve deliver_all after_deliver
-serves-caught-up p q s reached caught =
+pub serves-caught-up : (p q : PlainPartition) (s : SubName) → IsCaughtUp p q s → Ends p q (Some None) (serve s p (sub_at p s))
+unfolding serve deliver_all
+serves-caught-up p q s caught =
     let r = caught.record_of in
-    let first : Ends p q (Some None) (deliver_all s r p) = ends-last p q None (Deliver p.generation s) reply.Nothing (after_deliver (p.high - r.cursor) s r.grain) caught.stepped (finds-nothing (p.high - r.cursor)) in
-    subst (λ (o : Option Subscription). Ends p q (Some None) (serve s p o)) (sym caught.found)
-    (ends-then p q q (Some None) (deliver_all s r p) (after_deliveries s) first (settles-settled q s reached caught.settled))
-  where
-    finds-nothing : (n : ℕ) → done q ≡ after_deliver n s caught.record_of.grain q reply.Nothing
-    finds-nothing zero = refl
-    finds-nothing (suc n) = refl
+    subst (λ (o : Option Subscription). Ends p q (Some None) (serve s p o)) (sym caught.found) (caught.served (p.high - r.cursor) r.grain)

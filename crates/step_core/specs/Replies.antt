@@ -1,5 +1,6 @@
 -- The replies of a partition, from what its parts tell.
-use Rattle.std.specs.Prelude.{ℕ}
+use Rattle.std.specs.Prelude.{ℕ, Result, Ok, Err}
+use Rattle.std.specs.declared.alloc.AllocError.{AllocError}
 use Rattle.stream_model.specs.Replies.{Reply}
 use Rattle.stream_model.specs.declared.reply.Reply.TheVariants as reply
 use Rattle.partition_queue.specs.declared.appended.Appended.{Appended}
@@ -15,6 +16,11 @@ abbrev pub of_append : Appended → Reply
 of_append (appended.Accepted seq) = reply.Published seq
 of_append appended.BadBatch = reply.BadBatch
 of_append appended.QueueFull = reply.QueueFull
+
+-- the reply to the producer of a batch
+abbrev pub appended_reply : Result Appended AllocError → Result Reply AllocError
+appended_reply (Ok appended) = Ok (of_append appended)
+appended_reply (Err e) = Err e
 
 abbrev pub of_rule : ℕ → RuleAdded → Reply
 of_rule from rule_told.Added = reply.RuleAdded from

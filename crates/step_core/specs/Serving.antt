@@ -1,23 +1,26 @@
--- What a drain asks of a subscription, of which one next, and what it does for one that has nothing to do.
-use Rattle.std.specs.Prelude.{◌≡◌, ℕ, Bool, true, false, ◌&&◌, ◌==◌, not, nat_le, List, get_or, map, Option, Some, None}
+-- What a drain asks of a subscription, of which one next, and what it does for one at once.
+use Rattle.std.specs.Prelude.{◌≡◌, ℕ, suc, ◌<◌, ◌≤◌, Bool, true, false, ◌&&◌, ◌||◌, ◌==◌, not, nat_le, nat_lt, List, [], ◌∷◌, ◌++◌, length, get_or, map, Option, Some, None}
 use Rattle.consumer_grain.specs.Subscriptions as state
 use Rattle.consumer_grain.specs.Subscriptions.{PlainState}
+use Rattle.stream_ident.specs.declared.ident.GrainId.{GrainId}
 use Rattle.stream_ident.specs.declared.ident.SubName.{SubName}
 use Rattle.stream_ident.specs.declared.ident.SubName.TheVariants as name
+use Rattle.stream_ident.specs.Name.{same_grain}
 use Rattle.stream_ident.specs.SubName.{sub_lt}
-use Rattle.stream_ident.specs.Words.{above, keys_where, least}
+use Rattle.stream_ident.specs.Words.{above, keys_where, least, past, value_at}
+use Rattle.stream_model.specs.declared.plain.Grain.{Grain}
 use Rattle.stream_model.specs.declared.plain.PlainPartition.{PlainPartition}
 use Rattle.stream_model.specs.declared.plain.Subscription.{Subscription}
-use Rattle.stream_model.specs.declared.op.Op.TheVariants.{Deliver}
-use Rattle.stream_model.specs.Replies.{Reply}
-use Rattle.stream_model.specs.declared.reply.Reply.TheVariants as reply
+use Rattle.stream_model.specs.Draining.{Progress, and_then, deliver_up_to, next_note}
 use Rattle.stream_model.specs.Looks.{is_due}
-use Rattle.stream_model.specs.Positions.{is_unacknowledged, sub_at}
-use Rattle.stream_model.specs.Step.{step}
-use Rattle.step_core.specs.declared.draining.Served.{Served}
+use Rattle.stream_model.specs.Positions.{grain_at, is_spent, is_unacknowledged, next_position, running_in, sub_at, waiting_in, with_sub}
+use Rattle.step_core.specs.DrainPhases.{Ends, after_deliveries}
 
-abbrev pub served_of : Subscription → Served
-served_of r = record { grain = r.grain; cursor = r.cursor }
+abbrev pub grain_of : Subscription → GrainId
+grain_of r = r.grain
+
+abbrev pub cursor_of : Subscription → ℕ
+cursor_of r = r.cursor
 
 -- It is open, what it has handled is acknowledged, and its next event is sought from its resume on, which stands at or
 -- past the end of the cache. So a drain that serves it changes nothing.
@@ -43,14 +46,64 @@ names_of p = map (λ entry. entry.0) p.subs
 abbrev pub name_of : PlainPartition → ℕ → SubName
 name_of p number = get_or (names_of p) number (name.Explicit 0)
 
--- a delivery to the subscription finds nothing, and leaves it settled
+-- a grain that is active, for which nothing waits and no turn runs
+abbrev pub resting_grain : ℕ → Grain
+resting_grain activation = record { activation = activation; active = true; mailbox = []; running = None }
+
+-- the next event of the subscription can be delivered and handled at once, by a turn of its grain
+pub record CanTurn (p : PlainPartition) (s : SubName) (r : Subscription) (position activation : ℕ) : Type 0 where
+  pub found : sub_at p s ≡ Some r
+  pub is_open : r.is_open ≡ true
+  pub next : next_position p r ≡ Some position
+  pub fresh : nat_lt position (past r.handled) ≡ false
+  pub rests : value_at same_grain r.grain p.grains ≡ Some (resting_grain activation)
+  pub left : is_spent p ≡ false
+
+-- The subscription is open, and this is the next event of the cache that it is owed. It has handled an event, and none from
+-- this one on.
+pub record IsFresh (p : PlainPartition) (r : Subscription) (position : ℕ) : Type 0 where
+  pub is_open : r.is_open ≡ true
+  pub next : next_position p r ≡ Some position
+  pub some : 0 < past r.handled
+  pub fresh : past r.handled ≤ position
+  pub within : position < p.high
+
+-- one more event delivered and handled
+abbrev pub turned : Subscription → ℕ → Subscription
+turned r position = record r { handled = r.handled ++ position ∷ []; note = next_note r.note; cursor = suc position }
+
+-- the partition after that, in which a turn was made and its grain rests again
+abbrev pub with_turn : PlainPartition → SubName → Subscription → ℕ → PlainPartition
+with_turn p s r position = record (with_sub p s (turned r position)) { rises = suc p.rises; turns = suc p.turns }
+
+-- so many deliveries at most, the first that finds nothing the last, and what is done after them
+abbrev pub serve_up_to : ℕ → SubName → GrainId → PlainPartition → Progress
+serve_up_to n s g p = and_then (deliver_up_to n s g p) (after_deliveries s)
+
+-- nothing is left for the subscription in the cache: to serve it comes to this, however many deliveries may be made
 pub record IsCaughtUp (old new : PlainPartition) (s : SubName) : Type 0 where
   pub record_of : Subscription
   pub found : sub_at old s ≡ Some record_of
-  pub stepped : ◌≡◌ {A = PlainPartition × Reply} (new, reply.Nothing) (step old (Deliver old.generation s))
-  pub settled : is_settled_in new.high (sub_at new s) ≡ true
+  pub served : (n : ℕ) (g : GrainId) → Ends old new (Some None) (serve_up_to n s g old)
 
 -- whether it is, where nothing has changed if it isn't
 abbrev pub CatchesUp : PlainPartition → PlainPartition → SubName → Bool → Type 0
 CatchesUp old new s true = IsCaughtUp old new s
 CatchesUp old new s false = new ≡ old
+
+-- the next event of the subscription was delivered, and a turn of its grain has handled it
+pub record IsHandledOnce (old new : PlainPartition) (s : SubName) : Type 0 where
+  pub record_of : Subscription
+  pub position : ℕ
+  pub activation : ℕ
+  pub can : CanTurn old s record_of position activation
+  pub is : new ≡ with_turn old s record_of position
+
+-- whether it was, where nothing has changed if it wasn't
+abbrev pub HandlesNext : PlainPartition → PlainPartition → SubName → Bool → Type 0
+HandlesNext old new s true = IsHandledOnce old new s
+HandlesNext old new s false = new ≡ old
+
+-- a delivery of the subscription waits or runs
+abbrev pub is_held : PlainPartition → SubName → Subscription → Bool
+is_held p s r = nat_lt 0 (length (waiting_in s (grain_at p r.grain).mailbox)) || nat_lt 0 (length (running_in s (grain_at p r.grain).running))

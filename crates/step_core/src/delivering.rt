@@ -14,7 +14,6 @@ ghost use Rattle.step_core.specs.Handing.{sent, IsNext};
 ghost use Rattle.step_core.specs.PlainOf.{plain_of};
 ghost use Rattle.step_core.specs.Records.{record_of};
 ghost use Rattle.step_core.specs.Replied.{replied, reply_of};
-ghost use Rattle.step_core.specs.Serving.{CatchesUp};
 ghost use Rattle.stream_model.specs.declared.reply.Reply.TheVariants.{Delivered};
 
 use crate::outcome::Outcome;
@@ -69,38 +68,6 @@ pub(crate) fn deliver(
         Sought::Nothing => Ok(Reply::Nothing),
         Sought::Closed => Ok(Reply::Closed),
     }
-}
-
-/// Delivers to the subscription with a number where the cache has nothing for it and nothing of it is outstanding: its
-/// cursor and its resume go to the end of the cache. Elsewhere nothing changes, and the result is false.
-pub(crate) fn catch_up(parts: &mut Parts, number: usize) -> bool
-    requires agrees { Agrees parts.old }
-    requires number { number < length parts.old.subs.registry.names }
-    ensures assembled { IsAssembled parts.new }
-    ensures told { CatchesUp (plain_of parts.old) (plain_of parts.new) (name_at parts.old.subs number) result }
-{
-    if has_outstanding(parts, number) {
-        return false;
-    }
-    match parts.subs.next_event(number, parts.agent.cache(), false) {
-        Sought::Nothing => true,
-        Sought::Next { .. } => false,
-        Sought::Closed => false,
-    }
-}
-
-/// Whether a delivery of a subscription waits or runs, or it has handled an event at or past its resume. Its grain
-/// is looked for only where some grain isn't idle.
-fn has_outstanding(parts: &Parts, number: usize) -> bool
-    requires agrees { Agrees parts.now }
-    requires number { number < length parts.now.subs.registry.names }
-    ensures { result ≡ is_outstanding (plain_of parts.now) (name_at parts.now.subs number) (record_of parts.now number) }
-{
-    if parts.grains.is_idle() {
-        return parts.subs.state(number).is_unacknowledged();
-    }
-    let grain = parts.grains.find(&parts.subs.registration(number).grain);
-    is_outstanding(parts, number, grain)
 }
 
 /// Whether a delivery of a subscription waits or runs, or it has handled an event at or past its resume. Its

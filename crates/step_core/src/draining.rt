@@ -1,19 +1,21 @@
 //! A drain of a partition: operations, one after another, until nothing is left to do.
-ghost use Rattle.std.specs.Prelude.{◌≡◌, ◌<◌, length, IfOk, None, OnErr};
+ghost use Rattle.std.specs.Prelude.{◌≡◌, ◌<◌, length, IfOk, None, OnErr, Some};
 ghost use Rattle.stream_model.specs.declared.op.Op.TheVariants.{Commit, Deliver, Pull};
-ghost use Rattle.stream_model.specs.Draining.{acknowledge, after_begin, after_commit, ask, deliver_once_more, drain, drain_all, drain_round, empty_mailboxes, last_handled, next_note, open_names, serve, serve_each, take_turn, DrainsTo, deliver_up_to};
+ghost use Rattle.stream_model.specs.Draining.{acknowledge, after_begin, after_commit, ask, deliver_once_more, drain, drain_all, drain_round, empty_mailboxes, last_handled, open_names, serve, serve_each, take_turn, DrainsTo, deliver_up_to};
 ghost use Rattle.stream_ident.specs.Name.{grain_lt};
 ghost use Rattle.stream_ident.specs.Words.{keys_where, least};
 ghost use Rattle.stream_model.specs.Looks.{is_running};
 ghost use Rattle.stream_model.specs.Positions.{sub_at};
+ghost use Rattle.stream_model.specs.declared.plain.Subscription.{Subscription};
 ghost use Rattle.step_core.specs.declared.draining.Stop.TheVariants.{Memory};
 ghost use Rattle.step_core.specs.DrainPhases.{Asks, BreaksOff, Follows, after_deliveries, deliver_told, is_acknowledged, is_committed, is_nothing, pull_told};
 ghost use Rattle.step_core.specs.Finishing.{Finishes};
 ghost use Rattle.step_core.specs.Replied.{reply_of, reply_with};
-ghost use Rattle.step_core.specs.Serving.{name_of};
+ghost use Rattle.step_core.specs.Serving.{name_of, serve_up_to};
 
 use crate::outcome::Outcome;
 use crate::partition::Partition;
+use crate::serving::next_note;
 use std::alloc::{AllocError, Global};
 use stream_ident::{GrainId, SubName};
 use stream_model::{DrainEnd, Reply};
@@ -40,15 +42,6 @@ impl From<AllocError> for Stop {
     fn from(wanting: AllocError) -> Stop {
         Stop::Memory(wanting)
     }
-}
-
-/// Where the deliveries of a subscription go, and from where on.
-#[derive(Clone, Copy, Debug, PartialEq, Eq)]
-pub(crate) struct Served {
-    /// The grain that consumes it.
-    pub(crate) grain: GrainId,
-    /// The next event to deliver is sought from this position on.
-    pub(crate) cursor: usize,
 }
 
 impl Partition {
@@ -159,7 +152,8 @@ fn serve_each(partition: &mut Partition, alloc: Global) -> Result<(), Stop>
     Ok(())
 }
 
-/// Serves the subscription with a number. One that has nothing to do isn't looked for by its name.
+/// Serves the subscription with a number: all that the cache has for it is delivered and handled, the last of it is
+/// acknowledged, and one more delivery finds nothing. As long as that comes to the same, it is done at once.
 fn serve_number(partition: &mut Partition, alloc: Global, number: usize) -> Result<(), Stop>
     requires { number < length partition.old.subs }
     ensures { Follows partition.old partition.new result
@@ -168,21 +162,33 @@ fn serve_number(partition: &mut Partition, alloc: Global, number: usize) -> Resu
     if partition.catch_up(number) {
         return Ok(());
     }
-    let sub = partition.name(number);
-    serve(partition, alloc, &sub)
+    let most = partition.high().saturating_sub(partition.cursor(number));
+    for done in 0..most {
+        if !partition.handle_next(alloc, number) {
+            return serve_rest(partition, alloc, number, most - done);
+        }
+    }
+    serve_rest(partition, alloc, number, 0)
 }
 
-/// Serves a subscription: all that the cache has for it is delivered and handled, the last of it is
-/// acknowledged, and one more delivery finds nothing.
-fn serve(partition: &mut Partition, alloc: Global, sub: &SubName) -> Result<(), Stop>
-    ensures { Follows partition.old partition.new result (serve sub.now partition.old (sub_at partition.old sub.now)) }
+/// Serves the subscription with a number, to which so many events are delivered at most.
+fn serve_rest(
+    partition: &mut Partition,
+    alloc: Global,
+    number: usize,
+    most: usize,
+) -> Result<(), Stop>
+    requires { number < length partition.old.subs }
+    ensures { (r : Subscription) → sub_at partition.old (name_of partition.old number) ≡ Some r
+        → Follows partition.old partition.new result (serve_up_to most (name_of partition.old number) r.grain partition.old) }
 {
-    let Some(served) = partition.served(sub) else {
-        return Err(Stop::Astray);
-    };
-    let most = partition.high().saturating_sub(served.cursor);
-    deliver_all(partition, alloc, sub, &served.grain, most)?;
-    settle(partition, alloc, sub)
+    if partition.catch_up(number) {
+        return Ok(());
+    }
+    let sub = partition.name(number);
+    let grain = partition.grain(number);
+    deliver_all(partition, alloc, &sub, &grain, most)?;
+    settle(partition, alloc, &sub)
 }
 
 /// Goes on after the deliveries of a subscription: the last of what it has handled is acknowledged, and one more delivery
@@ -272,13 +278,6 @@ fn follow_begin(
         Reply::Spent => Err(Stop::Spent),
         _ => Err(Stop::Astray),
     }
-}
-
-/// The note that a turn leaves: one more, up to the greatest.
-fn next_note(note: u64) -> u64
-    ensures { result ≡ next_note note }
-{
-    note.saturating_add(1)
 }
 
 /// Commits a turn.

@@ -18,12 +18,14 @@ mod publishing;
 mod pulling;
 mod quiet;
 mod reading;
+mod serving;
 mod stepping;
 mod turns;
 
 pub use answer::Answer;
 pub use outcome::Outcome;
 pub use partition::Partition;
+pub use partition_queue::Appended;
 pub use quiet::Quiet;
 pub use ranked_index::{Leaf, Resumes};
 pub use reading::SubSummary;

@@ -81,7 +81,7 @@ fn due_past(parts: &Parts, last: usize) -> Option<usize>
 {
     let number = parts.subs.due_past(last, parts.agent.cache().high())?;
     // Past the greatest name the table begins again at the least.
-    let is_past = parts.subs.name(last).is_before(parts.subs.name(number));
+    let is_past = parts.subs.is_before(last, number);
     is_past.then_some(number)
 }
 

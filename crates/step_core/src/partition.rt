@@ -1,5 +1,5 @@
 //! The partition.
-ghost use Rattle.std.specs.Prelude.{◌≡◌, ◌<◌, ◌≤◌, true, length, map, slice_index_or, IfOk, IfSome, MatchResult, OnErr, OnOk};
+ghost use Rattle.std.specs.Prelude.{◌≡◌, ◌<◌, ◌≤◌, true, length, map, slice_index_or, Some, IfOk, IfSome, MatchResult, OnErr, OnOk};
 ghost use Rattle.stream_ident.specs.declared.limits.TheConstants.{MOST_BLOCKS};
 ghost use Rattle.std.specs.List.{AllByRecursion};
 ghost use Rattle.std.specs.Option.{option_map};
@@ -18,13 +18,13 @@ ghost use Rattle.step_core.specs.Quiets.{quiet_by};
 ghost use Rattle.step_core.specs.declared.quiet.Quiet.TheVariants.{Yes};
 ghost use Rattle.step_core.specs.Reads.{handled_of, handled_positions, summaries_in_order};
 ghost use Rattle.step_core.specs.Replied.{answered, IsOfLog, Shows};
+ghost use Rattle.step_core.specs.Replies.{appended_reply};
 ghost use Rattle.step_core.specs.Run.{Does, StopsBefore};
-ghost use Rattle.step_core.specs.Serving.{is_settled_in, name_of, next_due, served_of};
+ghost use Rattle.step_core.specs.Serving.{cursor_of, grain_of, is_settled_in, name_of, next_due};
 
 mod asking;
 
 use crate::answer::Answer;
-use crate::draining::Served;
 use crate::looking::{all_waiting, least_running, least_waiting, next_due, pending};
 use crate::outcome::{Outcome, reply_of, show};
 use crate::parts::Parts;
@@ -32,11 +32,11 @@ use crate::publishing::publish_slices;
 use crate::quiet::Quiet;
 use crate::reading::{
     SubSummary, handled, handled_positions, high_token, is_settled, last_handled, low_token,
-    served, summaries,
+    summaries,
 };
 use crate::stepping::step;
 use grain_table::GrainTable;
-use partition_queue::PartitionQueue;
+use partition_queue::{Appended, PartitionQueue};
 use pulling_agent::Agent;
 use std::alloc::{AllocError, Global};
 use std::fmt;
@@ -191,7 +191,7 @@ impl Partition {
     }
 
     /// Publishes a batch, as `advance` does it at a Publish, where each payload is lent as its bytes. They are copied
-    /// once, into the log.
+    /// once, into the log. It gives what came of the batch, which the producer's reply says.
     ///
     /// # Errors
     /// They are those of `step`.
@@ -201,16 +201,15 @@ impl Partition {
         alloc: Global,
         stream: &StreamId,
         payloads: &[&[u8]],
-    ) -> Result<Outcome, AllocError>
+    ) -> Result<Appended, AllocError>
         requires { AllByRecursion IsPayload (map (λ payload. payload.now) payloads.now) }
-        ensures performs { Performs self.old self.new (answered self.new.log result) (step self.old (Op.Publish stream.now (map (λ payload. payload.now) payloads.now))) }
-        ensures of_log { IfOk result (IsOfLog self.new.log) }
+        ensures performs { Performs self.old self.new (appended_reply result) (step self.old (Op.Publish stream.now (map (λ payload. payload.now) payloads.now))) }
         ensures memory { OnErr result (may_allocate self.old (Op.Publish stream.now (map (λ payload. payload.now) payloads.now)) ≡ true) }
     {
-        let outcome = publish_slices(&mut self.parts, alloc, stream, payloads);
+        let appended = publish_slices(&mut self.parts, alloc, stream, payloads);
         // As in `advance`: the next operation starts from parts that `Agrees` speaks of.
         let _lengths = (self.parts.subs.len(), self.parts.grains.len());
-        outcome
+        appended
     }
 
     /// The limits that the partition was made with. Its events, subscriptions, rules and rises are never
@@ -293,11 +292,20 @@ impl Partition {
         *self.parts.subs.name(number)
     }
 
-    /// The grain and the cursor of a subscription.
-    pub(crate) fn served(&self, sub: &SubName) -> Option<Served>
-        ensures { result ≡ option_map served_of (sub_at self.now sub.now) }
+    /// The grain of the subscription with a number.
+    pub(crate) fn grain(&self, number: usize) -> GrainId
+        requires { number < length self.now.subs }
+        ensures { Some result ≡ option_map grain_of (sub_at self.now (name_of self.now number)) }
     {
-        served(&self.parts, sub)
+        self.parts.subs.registration(number).grain
+    }
+
+    /// From where on the next event of the subscription with a number is sought.
+    pub(crate) fn cursor(&self, number: usize) -> usize
+        requires { number < length self.now.subs }
+        ensures { Some result ≡ option_map cursor_of (sub_at self.now (name_of self.now number)) }
+    {
+        self.parts.subs.state(number).cursor()
     }
 
     /// Whether a drain that serves a subscription changes nothing, in a partition that a legal history leads to.

@@ -11,7 +11,7 @@ ghost use Rattle.consumer_grain.specs.Activations.{forgotten};
 ghost use Rattle.stream_model.specs.Replies.{IsNoTurn};
 ghost use Rattle.step_core.specs.Assembly.{Agrees, IsAssembled};
 ghost use Rattle.step_core.specs.PlainOf.{plain_of};
-ghost use Rattle.step_core.specs.Replies.{of_append, of_rule};
+ghost use Rattle.step_core.specs.Replies.{appended_reply, of_append, of_rule};
 ghost use Rattle.step_core.specs.Replied.{replied, reply_of};
 ghost use Rattle.step_core.specs.SubscriberReplies.{of_added};
 
@@ -44,7 +44,7 @@ pub(crate) fn publish(
     ensures told { IfOk result IsNoTurn }
     ensures memory { OnErr result (takes_memory (publish (plain_of parts.old) stream.now payloads.now).1 ≡ true) }
 {
-    let appended = parts.queue.append(alloc, *stream, payloads)?;
+    let appended = parts.queue.append(alloc, stream, payloads)?;
     Ok(told_of_batch(appended))
 }
 
@@ -58,16 +58,14 @@ pub(crate) fn publish_slices(
     alloc: Global,
     stream: &StreamId,
     payloads: &[&[u8]],
-) -> Result<Outcome, AllocError>
+) -> Result<Appended, AllocError>
     requires agrees { Agrees parts.old }
     requires payloads { AllByRecursion IsPayload (map (λ payload. payload.now) payloads.now) }
     ensures assembled { IsAssembled parts.new }
-    ensures performs { Performs (plain_of parts.old) (plain_of parts.new) (replied result) (publish (plain_of parts.old) stream.now (map (λ payload. payload.now) payloads.now)) }
-    ensures told { IfOk result IsNoTurn }
+    ensures performs { Performs (plain_of parts.old) (plain_of parts.new) (appended_reply result) (publish (plain_of parts.old) stream.now (map (λ payload. payload.now) payloads.now)) }
     ensures memory { OnErr result (takes_memory (publish (plain_of parts.old) stream.now (map (λ payload. payload.now) payloads.now)).1 ≡ true) }
 {
-    let appended = parts.queue.append_slices(alloc, stream, payloads)?;
-    Ok(told_of_batch(appended))
+    parts.queue.append_slices(alloc, stream, payloads)
 }
 
 /// The reply to the producer of a batch.

@@ -1,17 +1,15 @@
 //! What can be read of a partition.
 ghost use Rattle.std.specs.Prelude.{◌≡◌, ◌<◌, length, get_or, map, All, IfOk};
 ghost use Rattle.std.specs.List.{AllByRecursion};
-ghost use Rattle.std.specs.Option.{option_map};
 ghost use Rattle.stream_model.specs.Draining.{last_handled};
 ghost use Rattle.stream_model.specs.Positions.{events_at, high_token, is_spent, low_token, slowest, sub_at};
 ghost use Rattle.subscription_table.specs.Table.{name_at, no_entry, state_at};
 ghost use Rattle.step_core.specs.Assembly.{Agrees};
 ghost use Rattle.step_core.specs.PlainOf.{plain_of};
 ghost use Rattle.step_core.specs.Reads.{handled_of, handled_positions, summary_of};
-ghost use Rattle.step_core.specs.Serving.{is_settled_in, is_settled_state, served_of};
+ghost use Rattle.step_core.specs.Serving.{is_settled_in, is_settled_state};
 ghost use Rattle.step_core.specs.View.{sub_of, subs_of};
 
-use crate::draining::Served;
 use crate::parts::Parts;
 use consumer_grain::SubState;
 use partition_queue::PartitionQueue;
@@ -96,19 +94,6 @@ pub(crate) fn summaries(
         summaries.push(summary_of(subs, number, name))?;
     }
     Ok(summaries)
-}
-
-/// The grain and the cursor of a subscription.
-pub(crate) fn served(parts: &Parts, sub: &SubName) -> Option<Served>
-    requires { Agrees parts.now }
-    ensures { result ≡ option_map served_of (sub_at (plain_of parts.now) sub.now) }
-{
-    let subs = &parts.subs;
-    let number = subs.find(sub)?;
-    Some(Served {
-        grain: subs.registration(number).grain,
-        cursor: subs.state(number).cursor(),
-    })
 }
 
 /// Whether a drain that serves a subscription changes nothing.

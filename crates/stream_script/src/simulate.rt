@@ -14,7 +14,7 @@ use crate::source_sink::{Failed, Sink, Source, write_all};
 use script_parser::{
     Command, EachOp, Fault, FaultKind, Lines, Mode, Parsed, Publish, parse_line, read_publish,
 };
-use script_printer::{drain_line, outcome_line, report_text};
+use script_printer::{appended_line, drain_line, outcome_line, report_text};
 use std::alloc::{AllocError, Global};
 use step_core::Partition;
 use stream_model::{Limits, Op};
@@ -352,10 +352,8 @@ impl Simulator {
             (Op.Publish publish.now.stream (map (λ payload. payload.now) payloads.now))))) }
     {
         let partition = &mut self.partitions[publish.queue];
-        match &partition.publish(alloc, &publish.stream, payloads) {
-            Ok(outcome) => outcome_line(publish.queue, outcome, partition, text),
-            Err(AllocError) => Err(AllocError),
-        }
+        let appended = partition.publish(alloc, &publish.stream, payloads)?;
+        appended_line(publish.queue, &appended, text)
     }
 
     /// Drains each queue, in order, and leaves the lines of how that ended.

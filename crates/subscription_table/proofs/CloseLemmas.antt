@@ -3,26 +3,27 @@ use Rattle.std.proofs.Common.{◌≡◌, ◌∙◌, ℕ, zero, suc, ◌+◌, ◌
 use Rattle.std.specs.Prelude.{slice_get}
 use Rattle.std.proofs.Math.Seq.{map-set_same}
 use Rattle.std.proofs.lemmas.Bool.{cases_eq, false_from_ne_true}
+use Rattle.std.proofs.lemmas.List.{get_or_default}
 use Rattle.std.proofs.lemmas.Option.{get_or_from_slice_get, slice_get-get_or}
-use Rattle.stream_ident.specs.SubName.{same_sub}
+use Rattle.stream_ident.specs.SubName.{same_sub, sub_lt}
 use Rattle.stream_ident.specs.Words.{changed_value}
 use Rattle.stream_ident.specs.declared.ident.SubName.{SubName}
 use Rattle.stream_ident.specs.declared.ident.SubName.TheVariants as name
 use Rattle.queue_mapper.specs.Place.{tag_of}
-use Rattle.consumer_grain.specs.Subscriptions.{PlainState, closed, is_unacknowledged}
+use Rattle.consumer_grain.specs.Subscriptions.{PlainState, closed}
 use Rattle.pubsub_registry.specs.Index.{AreUnique}
 use Rattle.pubsub_registry.specs.Registry as registry
 use Rattle.pubsub_registry.specs.declared.registration.Registration.{Registration}
 use Rattle.pubsub_registry.specs.declared.told.Closing.{Closing}
 use Rattle.pubsub_registry.specs.declared.told.Closing.TheVariants.{Done, NoSuch, Implicit, Closed}
 use Rattle.stream_ident.proofs.SameValues.{same_sub-refl}
-use Rattle.ranked_index.specs.declared.resumes.Leaf.{Leaf}
-use Rattle.ranked_index.specs.Leaves.{changed}
+use Rattle.ranked_index.specs.Leaves.{with_leaf, PlainResumes}
+use Rattle.ranked_index.specs.Ranked.{AreRanked}
+use Rattle.ranked_index.proofs.EntryLemmas.{ranked-set}
 use Rattle.pubsub_registry.specs.Registry.{PlainRegistry, close_found, registration_of, closed_registration}
-use Rattle.subscription_table.specs.LeavesOf.{leaf_of, leaves_of, open_resume}
-use Rattle.subscription_table.specs.Standing.{AreRecords, IsTable, tags_of}
+use Rattle.subscription_table.specs.Standing.{kept_of, name_of, tags_of, AreRecords, IsTable}
 use Rattle.subscription_table.specs.Table.{PlainTable, close, closed_by, no_entry, no_state, state_at}
-use Rattle.subscription_table.proofs.LeafLemmas.{Entry, Names, leaf-changed}
+use Rattle.subscription_table.proofs.LeafLemmas.{Entry, Names, kept-changed}
 
 -- what a registry told, and what it is then
 abbrev Told : Type 0
@@ -74,16 +75,6 @@ closed-at (entry ∷ entries) (suc number) within unique =
         let one = unique (suc number) 0 (get_or entries number no_entry) entry (slice_get-get_or entries number no_entry here) refl same in
         absurd (omega arith))
 
--- the leaves don't see the registrations
-leaves_of-rekept : (names : Names) (states : List PlainState) (number : ℕ) (entry : Entry) → entry.0 ≡ (get_or names number no_entry).0 → leaves_of (set names number entry) states ≡ leaves_of names states
-leaves_of-rekept [] states number entry same = refl
-leaves_of-rekept (other ∷ entries) [] zero entry same = refl
-leaves_of-rekept (other ∷ entries) [] (suc number) entry same = refl
-leaves_of-rekept (other ∷ entries) (state ∷ states) zero entry same =
-    ap (λ (s : SubName). record { name = s; resume = open_resume state.is_open state.resume; is_unacknowledged = is_unacknowledged state } ∷ leaves_of entries states) same
-leaves_of-rekept (other ∷ entries) (state ∷ states) (suc number) entry same =
-    ap (λ (rest : List Leaf). leaf_of other state ∷ rest) (leaves_of-rekept entries states number entry same)
-
 -- what holds of a new entry and its state and of the old ones holds of all
 at-both : (P : Entry → PlainState → Type 0) (names : Names) (states : List PlainState) (number : ℕ) (entry : Entry) (state : PlainState) → length states ≡ length names → P entry state
     → ((i : ℕ) → i < length states → P (get_or names i no_entry) (get_or states i no_state))
@@ -103,18 +94,18 @@ at-both P names states number entry state long here each i within =
         subst (λ (e : Entry). P e (get_or (set states number state) i no_state)) (sym (get_or-set_other names number i entry no_entry other))
         (subst (P (get_or names i no_entry)) (sym (get_or-set_other states number i state no_state other)) (each i old))
 
-module _ (t : PlainTable) (tags : List ℕ) (leaves : List Leaf) (is : IsTable t tags leaves) (number : ℕ) (within : number < length t.registry.names) (unique : AreUnique t.registry.names)
-    (r : PlainRegistry) (names-closed : r.names ≡ changed_value same_sub (get_or t.registry.names number no_entry).0 closed_registration t.registry.names) where
+module _ (t : PlainTable) (tags : List ℕ) (r : PlainResumes) (is : IsTable t tags r) (number : ℕ) (within : number < length t.registry.names) (unique : AreUnique t.registry.names)
+    (new_registry : PlainRegistry) (names-closed : new_registry.names ≡ changed_value same_sub (get_or t.registry.names number no_entry).0 closed_registration t.registry.names) where
   abbrev entry : Entry
   entry = get_or t.registry.names number no_entry
 
   abbrev closed_entry : Entry
   closed_entry = (entry.0, closed_registration entry.1)
 
-  names : r.names ≡ set t.registry.names number closed_entry
+  names : new_registry.names ≡ set t.registry.names number closed_entry
   names = names-closed ∙ closed-at t.registry.names number within unique
 
-  records-closed : AreRecords (record { registry = r; states = set t.states number (closed (state_at t number)) })
+  records-closed : AreRecords (record { registry = new_registry; states = set t.states number (closed (state_at t number)) })
   records-closed =
       let state = closed (state_at t number) in
       let there : number < length t.states = omega (arith, is.records.long) in
@@ -128,17 +119,18 @@ module _ (t : PlainTable) (tags : List ℕ) (leaves : List Leaf) (is : IsTable t
         resumes = at-both (λ e s. s.resume + 2 < 2 ^ 64) t.registry.names t.states number closed_entry state is.records.long (is.records.resumes number there) is.records.resumes;
       }
 
-  pub table-closed : (now seen : PlainState) → now ≡ closed (state_at t number) → seen ≡ get_or (set t.states number now) number seen → (new : List Leaf)
-      → ((d : Leaf) → new ≡ set leaves number (changed (open_resume seen.is_open seen.resume) (is_unacknowledged seen) (get_or leaves number d))) → IsTable (record { registry = r; states = set t.states number now }) tags new
+  pub table-closed : (now seen : PlainState) → now ≡ closed (state_at t number) → seen ≡ get_or (set t.states number now) number seen → (new : PlainResumes) → new ≡ with_leaf number (kept_of seen) r
+      → IsTable (record { registry = new_registry; states = set t.states number now }) tags new
   table-closed now seen closes look new set_to =
       let there : number < length t.states = omega (arith, is.records.long) in
       let same : seen ≡ now = look ∙ get_or-set_same t.states number now seen there in
+      let renamed = ranked-set t.registry.names r.order number closed_entry within name_of sub_lt (λ d. ap name_of (get_or_default t.registry.names number no_entry d within)) is.ranked in
       record {
-        records = subst (λ (s : PlainState). AreRecords (record { registry = r; states = set t.states number s })) (sym closes) records-closed;
+        records = subst (λ (s : PlainState). AreRecords (record { registry = new_registry; states = set t.states number s })) (sym closes) records-closed;
         tagged = is.tagged ∙ sym (ap tags_of names ∙ map-set_same (λ (e : Entry). tag_of e.1.stream) t.registry.names number closed_entry no_entry refl);
-        leaved = subst (λ (s : PlainState). (d : Leaf) → new ≡ set leaves number (changed (open_resume s.is_open s.resume) (is_unacknowledged s) (get_or leaves number d))) same set_to (leaf_of no_entry no_state)
-            ∙ leaf-changed t.registry.names t.states leaves number now is.leaved is.records.long within
-            ∙ sym (ap (λ (all : Names). leaves_of all (set t.states number now)) names ∙ leaves_of-rekept t.registry.names (set t.states number now) number closed_entry refl);
+        leaved = ap (λ (r : PlainResumes). r.leaves) set_to ∙ ap (λ (s : PlainState). set r.leaves number (kept_of s)) same ∙ kept-changed t.states r.leaves number now is.leaved;
+        ranked = subst (λ (order : List ℕ). AreRanked name_of sub_lt new_registry.names order) (sym (ap (λ (r : PlainResumes). r.order) set_to))
+            (subst (λ (all : Names). AreRanked name_of sub_lt all r.order) (sym names) renamed);
       }
 
 -- what a close told, by what the registry told

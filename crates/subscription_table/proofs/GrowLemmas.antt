@@ -1,18 +1,21 @@
 -- A table with more subscriptions, which have handled nothing.
-use Rattle.std.proofs.Common.{◌≡◌, ◌∙◌, ℕ, suc, ◌+◌, ◌-◌, ◌^◌, ◌<◌, ◌≤◌, ◌⊎◌, inl, inr, Bool, true, false, List, [], ◌∷◌, ◌++◌, length, get_or, take, drop, if◌then◌else◌, refl, sym, ap, subst, arith, All, length-append, true≢false}
+use Rattle.std.proofs.Common.{◌≡◌, ◌∙◌, ℕ, suc, ◌+◌, ◌-◌, ◌^◌, ◌<◌, ◌≤◌, ◌⊎◌, inl, inr, Bool, true, false, List, [], ◌∷◌, ◌++◌, length, get_or, map, take, drop, None, Some, if◌then◌else◌, refl, sym, ap, subst, arith, All, length-append, true≢false}
 use Rattle.std.specs.Prelude.{fold, is_some, nat_lt, ◌&&◌, not}
-use Rattle.std.specs.List.{flat_map}
+use Rattle.std.specs.List.{flat_map, insert}
 use Rattle.std.proofs.lemmas.Bool.{cases_lt}
-use Rattle.std.proofs.lemmas.List.{append-nil, append_assoc, drop_at, get_or-append_right, get_or-map, get_or_append_left, length-map, map-append, take_all, take_at}
-use Rattle.std.proofs.lemmas.List.Elements.{All-append, All-cons, All-head, All-nil, All-tail}
+use Rattle.std.proofs.lemmas.List.{append-nil, append_assoc, drop_at, get_or-append_right, get_or-map, get_or_append_left, length-map, map-append, take-append-le, take_all, take_at}
+use Rattle.std.proofs.lemmas.List.Elements.{All-append, All-cons, All-from_recursion, All-head, All-nil, All-tail}
+use Rattle.std.proofs.lemmas.Map.{none_passes_from_lookup}
 use Rattle.stream_ident.specs.Event.{batch_token}
 use Rattle.stream_ident.specs.Name.{same_name}
-use Rattle.stream_ident.specs.SubName.{same_sub}
+use Rattle.stream_ident.specs.SubName.{same_sub, sub_lt}
+use Rattle.stream_ident.proofs.NameOrders.{sub_order}
 use Rattle.stream_ident.specs.Token.{token_lt}
 use Rattle.stream_ident.specs.Words.{value_at}
 use Rattle.stream_ident.specs.declared.event.Event.{Event}
 use Rattle.stream_ident.specs.declared.ident.GrainId.{GrainId}
 use Rattle.stream_ident.specs.declared.ident.StreamId.{StreamId}
+use Rattle.stream_ident.specs.declared.ident.SubName.{SubName}
 use Rattle.stream_ident.specs.declared.ident.SubName.TheVariants as name
 use Rattle.stream_ident.specs.declared.rule.Rule.{Rule}
 use Rattle.stream_ident.specs.declared.token.Token.{Token}
@@ -23,15 +26,16 @@ use Rattle.pubsub_registry.specs.declared.told.Added.{Added}
 use Rattle.pubsub_registry.specs.declared.told.Added.TheVariants as add_told
 use Rattle.pubsub_registry.specs.declared.told.Implied.{Implied}
 use Rattle.pubsub_registry.specs.declared.told.Implied.TheVariants as implied_told
-use Rattle.ranked_index.specs.Leaves.{open_leaf}
+use Rattle.ranked_index.specs.Leaves.{open_leaf, pushed, PlainResumes}
+use Rattle.ranked_index.specs.Ranked.{AreRanked, IsFirstPast}
+use Rattle.ranked_index.proofs.EntryLemmas.{ranked-insert}
 use Rattle.ranked_index.specs.declared.resumes.Leaf.{Leaf}
 use Rattle.stream_ident.specs.Implying.{added}
 use Rattle.pubsub_registry.specs.Implying.{all_implied, implied, imply, names_with}
-use Rattle.subscription_table.specs.LeavesOf.{leaves_of}
-use Rattle.subscription_table.specs.Rows.{new_leaves, AreNamed}
-use Rattle.subscription_table.specs.Standing.{AreRecords, IsTable, tags_of}
+use Rattle.subscription_table.specs.Rows.{new_leaves, AreAllNamed, AreNamed}
+use Rattle.subscription_table.specs.Standing.{kept_of, name_of, tags_of, AreRecords, IsTable}
 use Rattle.subscription_table.specs.Table.{PlainTable, new_states, no_entry, no_state}
-use Rattle.subscription_table.proofs.LeafLemmas.{Entry, Names, leaves_of-append, leaves_of-new}
+use Rattle.subscription_table.proofs.LeafLemmas.{Entry, Names, kept-new_states}
 
 abbrev pub AreOpen : Names → Type 0
 AreOpen names = All (λ (entry : Entry). entry.1.is_open ≡ true) names
@@ -81,14 +85,16 @@ module _ (t : PlainTable) (r : PlainRegistry) (more : Names) (names : r.names �
   }
 
   -- the rows with those of the new names
-  pub table-grown : (tags new_tags : List ℕ) (leaves added_leaves : List Leaf) → IsTable t tags leaves → new_tags ≡ tags ++ tags_of more → added_leaves ≡ leaves ++ new_leaves position more → IsTable grown new_tags added_leaves
-  table-grown tags new_tags leaves added_leaves is tagged leaved = record {
+  pub table-grown : (tags new_tags : List ℕ) (kept new : PlainResumes) → IsTable t tags kept → new_tags ≡ tags ++ tags_of more → new.leaves ≡ kept.leaves ++ new_leaves position more → AreRanked name_of sub_lt r.names new.order
+      → IsTable grown new_tags new
+  table-grown tags new_tags kept new is tagged leaved ranked = record {
     records = records-grown is.records;
     tagged = tagged ∙ ap (λ (old : List ℕ). old ++ tags_of more) is.tagged
         ∙ sym (ap tags_of names ∙ map-append (λ (entry : Entry). _) t.registry.names more);
     leaved = leaved ∙ ap (λ (old : List Leaf). old ++ new_leaves position more) is.leaved
-        ∙ ap (λ (new : List Leaf). leaves_of t.registry.names t.states ++ new) (sym (leaves_of-new position more))
-        ∙ sym (ap (λ (all : Names). leaves_of all grown.states) names ∙ leaves_of-append t.registry.names more t.states (new_states position more) is.records.long);
+        ∙ ap (λ (new : List Leaf). map kept_of t.states ++ new) (sym (kept-new_states position more))
+        ∙ sym (map-append kept_of t.states (new_states position more));
+    ranked = ranked;
   }
 
 -- names with open ones behind them
@@ -154,43 +160,52 @@ implies old new events told is = by (nat_lt old.most_names (length (names_with o
           back = ap (λ (names : Names). record old { names = names }) (ap (take (length old.names)) grown.is ∙ take_at old.names grown.more (length old.names) refl);
         })
 
--- leaves that have the names with their numbers, also where more names stand behind
-pub named-grown : (leaves : List Leaf) (old new : Names) → AreNamed leaves old → IsGrown old new → AreNamed leaves new
-named-grown leaves old new named grown =
-    let all : length new ≡ length old + length grown.more = ap length grown.is ∙ length-append old grown.more in
-    let most = named.within in
-    record {
-      within = omega arith;
-      name_of = λ i d within. named.name_of i d within
-          ∙ sym (ap (λ (names : Names). (get_or names i no_entry).0) grown.is ∙ ap (λ (e : Entry). e.0) (get_or_append_left old grown.more no_entry i (omega arith)));
-    }
+-- what the first names are, also where more names stand behind
+pub named-grown : (r : PlainResumes) (old new : Names) → AreNamed r old → IsGrown old new → AreNamed r new
+named-grown r old new named grown = record {
+  within = omega (arith, named.within, ap length grown.is, length-append old grown.more);
+  ranked = subst (λ (all : Names). AreRanked name_of sub_lt all r.order) (sym (ap (take (length r.leaves)) grown.is ∙ take-append-le (length r.leaves) old grown.more named.within)) named.ranked;
+}
 
 -- what is behind the old names
 pub grown-rest : (old new : Names) (grown : IsGrown old new) (len : ℕ) → len ≡ length old → drop len new ≡ grown.more
 grown-rest old new grown len is = ap (drop len) grown.is ∙ drop_at old grown.more len (sym is)
 
-module _ (t : PlainTable) (tags : List ℕ) (leaves : List Leaf) (is : IsTable t tags leaves) (position : ℕ) (room : position + 2 < 2 ^ 64) where
+-- a name that isn't there is none of the names
+absent : (names : Names) (s : SubName) → value_at same_sub s names ≡ None → (d : Entry) (i : ℕ) → i < length names → same_sub s (get_or names i d).0 ≡ false
+absent names s none d i within = All-from_recursion (λ (e : Entry). same_sub s e.0 ≡ false) names (none_passes_from_lookup (same_sub s) names none) i d within
+
+module _ (t : PlainTable) (tags : List ℕ) (r : PlainResumes) (is : IsTable t tags r) (position : ℕ) (room : position + 2 < 2 ^ 64) where
   -- all that the rules made
-  pub table-implied : (new : PlainRegistry) → Implies t.registry new → (states : List PlainState) (new_tags : List ℕ) (added_leaves : List Leaf)
+  pub table-implied : (new : PlainRegistry) → Implies t.registry new → (states : List PlainState) (new_tags : List ℕ) (new_r : PlainResumes)
       → states ≡ t.states ++ new_states position (drop (length t.states) new.names) → new_tags ≡ tags ++ tags_of (drop (length t.states) new.names)
-      → added_leaves ≡ leaves ++ new_leaves position (drop (length t.states) new.names) → IsTable (record { registry = new; states = states }) new_tags added_leaves
-  table-implied new implies states new_tags added_leaves stated tagged leaved =
+      → AreAllNamed position r new_r new.names → IsTable (record { registry = new; states = states }) new_tags new_r
+  table-implied new implies states new_tags new_r stated tagged named =
       let more = implies.grown.more in
       let rest : drop (length t.states) new.names ≡ more = grown-rest t.registry.names new.names implies.grown (length t.states) is.records.long in
-      subst (λ (all : List PlainState). IsTable (record { registry = new; states = all }) new_tags added_leaves) (sym (stated ∙ ap (λ (names : Names). t.states ++ new_states position names) rest))
-      (table-grown t new more implies.grown.is implies.grown.opened position room tags new_tags leaves added_leaves is
-      (tagged ∙ ap (λ (names : Names). tags ++ tags_of names) rest) (leaved ∙ ap (λ (names : Names). leaves ++ new_leaves position names) rest))
+      let leaves : length r.leaves ≡ length t.registry.names = ap length is.leaved ∙ length-map t.states kept_of ∙ is.records.long in
+      subst (λ (all : List PlainState). IsTable (record { registry = new; states = all }) new_tags new_r) (sym (stated ∙ ap (λ (names : Names). t.states ++ new_states position names) rest))
+      (table-grown t new more implies.grown.is implies.grown.opened position room tags new_tags r new_r is
+      (tagged ∙ ap (λ (names : Names). tags ++ tags_of names) rest)
+      (named.leaves ∙ ap (λ (names : Names). r.leaves ++ new_leaves position names) (grown-rest t.registry.names new.names implies.grown (length r.leaves) leaves))
+      named.ranked)
 
   -- one that a grain made
   pub table-subscribed : (new : PlainRegistry) (stream : StreamId) (grain : GrainId) (start : Token) (told : Added) → is_full t.registry ≡ false → ◌≡◌ {A = PlainRegistry × Added} (new, told) (add t.registry stream grain start)
-      → (number : ℕ) → number ≡ t.registry.explicit → (states : List PlainState) (new_tags : List ℕ) (added_leaves : List Leaf) → states ≡ t.states ++ new_state start position ∷ [] → new_tags ≡ tags ++ tag_of stream ∷ []
-      → added_leaves ≡ leaves ++ open_leaf (name.Explicit (number + 1)) position ∷ [] → IsTable (record { registry = new; states = states }) new_tags added_leaves
-  table-subscribed new stream grain start told not_full adds number numbered states new_tags added_leaves stated tagged leaved =
-      let more : Names = (name.Explicit (suc t.registry.explicit), registered stream grain start) ∷ [] in
+      → (number rank : ℕ) → number ≡ t.registry.explicit → value_at same_sub (name.Explicit (number + 1)) t.registry.names ≡ None → IsFirstPast name_of sub_lt (Some (name.Explicit (number + 1))) t.registry.names r.order rank
+      → (states : List PlainState) (new_tags : List ℕ) (new_r : PlainResumes) → states ≡ t.states ++ new_state start position ∷ [] → new_tags ≡ tags ++ tag_of stream ∷ []
+      → new_r ≡ pushed rank (open_leaf position) r → IsTable (record { registry = new; states = states }) new_tags new_r
+  table-subscribed new stream grain start told not_full adds number rank numbered none first states new_tags new_r stated tagged pushes =
+      let entry : Entry = (name.Explicit (number + 1), registered stream grain start) in
       let next : number + 1 ≡ suc t.registry.explicit = omega (arith, numbered) in
-      subst (λ (all : List PlainState). IsTable (record { registry = new; states = all }) new_tags added_leaves) (sym stated)
-      (table-grown t new more (by (is_full t.registry) not_full adds) (All-cons (λ (entry : Entry). entry.1.is_open ≡ true) _ [] refl (All-nil (λ (entry : Entry). entry.1.is_open ≡ true)))
-      position room tags new_tags leaves added_leaves is tagged (leaved ∙ ap (λ (n : ℕ). leaves ++ open_leaf (name.Explicit n) position ∷ []) next))
+      let names : new.names ≡ t.registry.names ++ entry ∷ [] =
+      by (is_full t.registry) not_full adds ∙ ap (λ (n : ℕ). t.registry.names ++ (name.Explicit n, registered stream grain start) ∷ []) (sym next) in
+      subst (λ (all : List PlainState). IsTable (record { registry = new; states = all }) new_tags new_r) (sym stated)
+      (subst (λ (new_r : PlainResumes). IsTable (record { registry = new; states = t.states ++ new_state start position ∷ [] }) new_tags new_r) (sym pushes)
+      (table-grown t new (entry ∷ []) names (All-cons (λ (entry : Entry). entry.1.is_open ≡ true) _ [] refl (All-nil (λ (entry : Entry). entry.1.is_open ≡ true)))
+      position room tags new_tags r (pushed rank (open_leaf position) r) is tagged refl
+      (subst (λ (all : Names). AreRanked name_of sub_lt all (insert r.order rank (length r.order))) (sym names)
+      (ranked-insert t.registry.names r.order rank entry is.ranked.long is.ranked.ranking first.within name_of sub_lt same_sub sub_order is.ranked first (absent t.registry.names entry.0 none)))))
     where
       by : (b : Bool) → b ≡ false
           → ◌≡◌ {A = PlainRegistry × Added} (new, told)

@@ -1,3 +1,4 @@
+pub mod Answering
 pub mod CloseLemmas
 pub mod GrowLemmas
 pub mod HandledLemmas

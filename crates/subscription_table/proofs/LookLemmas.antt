@@ -1,77 +1,136 @@
 -- What a table tells, by its parts.
-use Rattle.std.proofs.Common.{◌≡◌, ◌∙◌, ℕ, ◌<◌, false, List, length, get_or, None, Some, Option, sym, ap, arith}
-use Rattle.std.specs.Prelude.{slice_get, IfNone, IfSome}
-use Rattle.std.proofs.lemmas.List.{get_or_read}
-use Rattle.std.proofs.lemmas.List.Elements.{All-from_recursion}
-use Rattle.std.proofs.lemmas.Map.{none_passes_from_lookup}
+use Rattle.std.proofs.Common.{◌≡◌, ◌∙◌, ℕ, ◌+◌, ◌<◌, List, length, get_or, map, nat_lt, None, Some, Option, refl, sym, subst, ap, ap₂, arith}
+use Rattle.std.specs.Option.{option_map}
+use Rattle.std.specs.Prelude.{slice_get, slice_index, IfNone, IfSome}
+use Rattle.std.proofs.lemmas.List.{get_or_read, get_or-map, length-map, take_all}
 use Rattle.std.proofs.lemmas.Option.{get_or_from_slice_get}
-use Rattle.stream_ident.specs.SubName.{same_sub}
-use Rattle.stream_ident.specs.Words.{value_at}
+use Rattle.stream_ident.specs.SubName.{same_sub, sub_lt}
+use Rattle.stream_ident.specs.Words.{is_above}
 use Rattle.stream_ident.specs.declared.ident.SubName.{SubName}
-use Rattle.consumer_grain.specs.Subscriptions.{PlainState}
+use Rattle.stream_ident.proofs.NameOrders.{sub_order}
+use Rattle.consumer_grain.specs.Subscriptions.{PlainState, is_unacknowledged}
 use Rattle.pubsub_registry.specs.declared.registration.Registration.{Registration}
-use Rattle.ranked_index.specs.Leaves.{IsNameAt, IsNew}
+use Rattle.ranked_index.specs.Keys.{least_key}
+use Rattle.ranked_index.specs.Leaves as index
+use Rattle.ranked_index.specs.Leaves.{due_from, keys_by_rank, no_leaf, top, PlainResumes}
+use Rattle.ranked_index.specs.Ranked.{entry_at, AreKeys, AreRanked, IsFirstPast}
+use Rattle.ranked_index.specs.Ranks.{due_key, resume_key}
 use Rattle.ranked_index.specs.declared.resumes.Leaf.{Leaf}
-use Rattle.subscription_table.specs.LeavesOf.{leaf_of, leaves_of}
-use Rattle.subscription_table.specs.Standing.{IsTable}
+use Rattle.ranked_index.proofs.EntryLemmas.{first_past-rank, rank-before}
+use Rattle.ranked_index.proofs.LeafRows.{due-with}
+use Rattle.subscription_table.specs.Leaves.{due_after, least_resume, slowest, NamedLeaf}
+use Rattle.subscription_table.specs.LeavesOf.{leaf_of, leaves_of, open_resume}
+use Rattle.subscription_table.specs.Rows.{AreNamed}
+use Rattle.subscription_table.specs.Standing.{kept_of, name_of, IsTable}
 use Rattle.subscription_table.specs.Table.{PlainTable, name_at, no_entry, no_state, registration_at, state_at, stepped, with_state}
-use Rattle.subscription_table.proofs.LeafLemmas.{Entry, leaf_at, leaves-named, length-leaves_of}
+use Rattle.subscription_table.proofs.Answering.{due-is, due_of, resume_of, slowest-is, AreKeyed}
+use Rattle.subscription_table.proofs.LeafLemmas.{Entry, Names, leaf_at, length-leaves_of, same-resumes}
 
--- what holds of a value holds where there is one
-pub where-some : {A : Type 0} (P Q : A → Type 0) → ((x : A) → P x → Q x) → (o : Option A) → IfSome o P → IfSome o Q
-where-some P Q from None some = tt
-where-some P Q from (Some x) some = from x some
+-- what a number that was found names
+pub none-given : (found : Option ℕ) (at : ℕ → SubName) (name : Option SubName) → option_map at found ≡ name → IfNone found (name ≡ None)
+none-given None at name is = sym is
+none-given (Some number) at name is = tt
 
--- and where there is none
-pub where-none : {A : Type 0} (P Q : Type 0) → (P → Q) → (o : Option A) → IfNone o P → IfNone o Q
-where-none P Q from None none = from none
-where-none P Q from (Some x) none = tt
+pub some-given : (found : Option ℕ) (at : ℕ → SubName) (name : Option SubName) → option_map at found ≡ name → IfSome found (λ number. name ≡ Some (at number))
+some-given None at name is = tt
+some-given (Some number) at name is = sym is
 
-module _ (t old : PlainTable) (tags : List ℕ) (leaves : List Leaf) (is : IsTable t tags leaves) (same : t ≡ old) where
-  long : length leaves ≡ length t.registry.names
-  long = ap length is.leaved ∙ length-leaves_of t.registry.names t.states is.records.long
+module _ (t old : PlainTable) (tags : List ℕ) (r : PlainResumes) (is : IsTable t tags r) (same : t ≡ old) where
+  abbrev names : Names
+  names = t.registry.names
+
+  abbrev leaves : List NamedLeaf
+  leaves = leaves_of names t.states
+
+  abbrev some_leaf : NamedLeaf
+  some_leaf = leaf_of no_entry no_state
+
+  long : length r.leaves ≡ length names
+  long = ap length is.leaved ∙ length-map t.states kept_of ∙ is.records.long
 
   -- each number has a leaf
-  pub leaf-within : (number : ℕ) → number < length old.registry.names → number < length leaves
+  pub leaf-within : (number : ℕ) → number < length old.registry.names → number < length r.leaves
   leaf-within number within = omega (arith, long, ap (λ (t : PlainTable). length t.registry.names) same)
 
-  -- and each leaf a name
-  pub name-within : (number : ℕ) → number < length leaves → number < length old.registry.names
-  name-within number within = omega (arith, long, ap (λ (t : PlainTable). length t.registry.names) same)
+  -- the order ranks the names, each of which has a leaf
+  pub table-named : AreNamed r names
+  table-named = record {
+    within = omega (arith, long);
+    ranked = subst (λ (all : Names). AreRanked name_of sub_lt all r.order) (sym (take_all (length r.leaves) names (omega (arith, long)))) is.ranked;
+  }
 
-  -- a name that was looked for among the leaves
-  pub name-found : (look : List Leaf → Option SubName) (number : ℕ) → IsNameAt (look leaves) leaves number → look (leaves_of old.registry.names old.states) ≡ Some (name_at old number)
-  name-found look number found =
-      let within : number < length t.registry.names = omega (arith, long, found.0) in
-      let d : Leaf = get_or leaves number (record { name = (no_entry).0; resume = None; is_unacknowledged = false }) in
-      sym (ap (λ (t : PlainTable). look (leaves_of t.registry.names t.states)) same)
-      ∙ ap look (sym is.leaved)
-      ∙ found.1 d
-      ∙ ap (λ (all : List Leaf). Some (get_or all number d).name) is.leaved
-      ∙ ap (λ (leaf : Leaf). Some leaf.name) (leaf_at t.registry.names t.states number d is.records.long within)
-      ∙ ap (λ (t : PlainTable). Some (name_at t number)) same
+  -- the leaf at a rank
+  ranked-leaf : (d : NamedLeaf) (rank : ℕ) → rank < length r.order → entry_at leaves r.order d rank ≡ leaf_of (entry_at names r.order no_entry rank) (get_or t.states (slice_index r.order rank) no_state)
+  ranked-leaf d rank within = leaf_at names t.states (slice_index r.order rank) d is.records.long (omega (arith, is.ranked.long, is.ranked.ranking.inverse.number_within rank within))
 
-  -- the name of a leaf
-  pub leaf-name : (number : ℕ) → number < length old.registry.names → (get_or leaves number (leaf_of no_entry no_state)).name ≡ name_at old number
-  leaf-name number within =
-      let there : number < length t.registry.names = omega (arith, ap (λ (t : PlainTable). length t.registry.names) same) in
-      ap (λ (all : List Leaf). (get_or all number (leaf_of no_entry no_state)).name) is.leaved
-      ∙ ap (λ (leaf : Leaf). leaf.name) (leaf_at t.registry.names t.states number (leaf_of no_entry no_state) is.records.long there)
-      ∙ ap (λ (t : PlainTable). name_at t number) same
+  keys-are : (key : Leaf → Option ℕ) (own : NamedLeaf → Option ℕ) → ((entry : Entry) (state : PlainState) → key (kept_of state) ≡ own (leaf_of entry state)) → AreKeys own leaves r.order (keys_by_rank key r)
+  keys-are key own fits = record {
+    long = length-map r.order (λ number. key (get_or r.leaves number no_leaf));
+    key_at = λ d rank within.
+        let number = slice_index r.order rank in
+        let there : number < length t.states = omega (arith, is.records.long, is.ranked.long, is.ranked.ranking.inverse.number_within rank within) in
+        get_or-map (λ number. key (get_or r.leaves number no_leaf)) r.order rank 0 None within
+        ∙ ap (λ (all : List Leaf). key (get_or all number no_leaf)) is.leaved
+        ∙ ap key (get_or-map kept_of t.states number no_state no_leaf there)
+        ∙ fits (entry_at names r.order no_entry rank) (get_or t.states number no_state)
+        ∙ sym (ap own (ranked-leaf d rank within));
+  }
+
+  keyed : AreKeyed leaves r.order (keys_by_rank resume_key r) (keys_by_rank due_key r)
+  keyed = record {
+    ranked = record {
+      long = is.ranked.long ∙ sym (length-leaves_of names t.states is.records.long);
+      ranking = is.ranked.ranking;
+      rises = λ d low high less below. ap₂ (λ (a b : NamedLeaf). sub_lt a.name b.name) (ranked-leaf d low (omega arith)) (ranked-leaf d high below) ∙ is.ranked.rises no_entry low high less below;
+    };
+    resumes_are = keys-are resume_key resume_of (λ entry state. refl);
+    due_are = keys-are due_key due_of (λ entry state. sym (due-with (open_resume state.is_open state.resume) (is_unacknowledged state)));
+  }
+
+  -- the name of a number is that of its leaf
+  named : (found : Option ℕ) → IfSome found (λ number. number < length r.leaves) → option_map (name_at old) found ≡ option_map (λ number. (get_or leaves number some_leaf).name) found
+  named None within = refl
+  named (Some number) within =
+      sym (ap (λ (leaf : NamedLeaf). Some leaf.name) (leaf_at names t.states number some_leaf is.records.long (omega (arith, within, long))) ∙ ap (λ (t : PlainTable). Some (name_at t number)) same)
+
+  pub slowest-found : (found : Option ℕ) → found ≡ top r → IfSome found (λ number. number < length r.leaves) → option_map (name_at old) found ≡ slowest (leaves_of old.registry.names old.states)
+  slowest-found found is within =
+      named found within ∙ ap (option_map (λ number. (get_or leaves number some_leaf).name)) is
+      ∙ slowest-is leaves r.order (keys_by_rank resume_key r) (keys_by_rank due_key r) keyed some_leaf
+      ∙ ap (λ (t : PlainTable). slowest (leaves_of t.registry.names t.states)) same
+
+  pub due-found : (high : ℕ) (after : Option SubName) (from : ℕ) → IsFirstPast name_of sub_lt after names r.order from → (found : Option ℕ) → found ≡ due_from from high r → IfSome found (λ number. number < length r.leaves)
+      → option_map (name_at old) found ≡ due_after high after (leaves_of old.registry.names old.states)
+  due-found high after from first found is within =
+      named found within ∙ ap (option_map (λ number. (get_or leaves number some_leaf).name)) is
+      ∙ due-is leaves r.order (keys_by_rank resume_key r) (keys_by_rank due_key r) keyed high after from (record {
+        within = first.within;
+        before = λ d i low. ap (λ (leaf : NamedLeaf). is_above sub_lt after leaf.name) (ranked-leaf d i (omega (arith, first.within))) ∙ first.before no_entry i low;
+        past = λ d i reached below. ap (λ (leaf : NamedLeaf). is_above sub_lt after leaf.name) (ranked-leaf d i below) ∙ first.past no_entry i reached below;
+      }) some_leaf
+      ∙ ap (λ (t : PlainTable). due_after high after (leaves_of t.registry.names t.states)) same
+
+  pub least-found : index.least_resume r ≡ least_resume (leaves_of old.registry.names old.states)
+  least-found =
+      ap (λ (all : List Leaf). least_key (map resume_key all)) is.leaved ∙ ap least_key (same-resumes names t.states is.records.long)
+      ∙ ap (λ (t : PlainTable). least_resume (leaves_of t.registry.names t.states)) same
+
+  -- the ranks past that of a number
+  pub past-rank : (number rank : ℕ) → rank < length r.order → slice_index r.order rank ≡ number → IsFirstPast name_of sub_lt (Some (name_at old number)) names r.order (rank + 1)
+  past-rank number rank within at =
+      subst (λ (t : PlainTable). IsFirstPast name_of sub_lt (Some (name_at t number)) names r.order (rank + 1)) same
+      (first_past-rank name_of sub_lt same_sub sub_order names r.order is.ranked no_entry number rank within at)
+
+  pub before-rank : (m n i j : ℕ) → i < length r.order → slice_index r.order i ≡ m → j < length r.order → slice_index r.order j ≡ n → nat_lt i j ≡ sub_lt (name_at old m) (name_at old n)
+  before-rank m n i j within at inside there =
+      rank-before name_of sub_lt same_sub sub_order names r.order is.ranked no_entry m n i j within at inside there
+      ∙ ap (λ (t : PlainTable). sub_lt (name_at t m) (name_at t n)) same
 
   -- a state that was read
   pub state-read : (number : ℕ) → number < length old.registry.names → (was : PlainState) → was ≡ get_or t.states number was → was ≡ state_at old number
   state-read number within was read =
       let there : number < length t.states = omega (arith, is.records.long, ap (λ (t : PlainTable). length t.registry.names) same) in
       get_or_read t.states number was there read no_state ∙ ap (λ (t : PlainTable). state_at t number) same
-
-  -- a name that isn't there has no leaf
-  pub name-absent : (s : SubName) → value_at same_sub s t.registry.names ≡ None → IsNew s leaves
-  name-absent s absent i d within =
-      let named = leaves-named t.registry.names t.states leaves is.leaved is.records.long in
-      let there : i < length t.registry.names = omega (arith, long) in
-      ap (same_sub s) (named.name_of i d within)
-      ∙ All-from_recursion (λ (e : Entry). same_sub s e.0 ≡ false) t.registry.names (none_passes_from_lookup (same_sub s) t.registry.names absent) i no_entry there
 
 -- what a call made of one state, and what it told
 pub stepped-is : {R : Type 0} (call : PlainState → Registration → PlainState × R) (t old : PlainTable) → t ≡ old → (number : ℕ) (was now : PlainState) (told : R) (entry : Entry) → was ≡ state_at old number → slice_get t.registry.names number ≡ Some entry

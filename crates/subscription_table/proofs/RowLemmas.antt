@@ -1,15 +1,23 @@
 -- The rows beside the names while those of more names are written.
-use Rattle.std.proofs.Common.{◌≡◌, ◌∙◌, ℕ, ◌+◌, ◌-◌, ◌<◌, ◌≤◌, ◌⊎◌, inl, inr, List, [], ◌∷◌, ◌++◌, length, get_or, take, drop, map, Some, sym, ap, arith, length-drop}
-use Rattle.std.specs.Prelude.{slice_get}
-use Rattle.std.proofs.lemmas.Bool.{cases_lt, false_from_ne_true}
-use Rattle.std.proofs.lemmas.List.{append_assoc, get_or-drop, get_or_append_left, get_or_push, length_push, map-append, take_more}
+use Rattle.std.proofs.Common.{◌≡◌, ◌∙◌, ℕ, ◌+◌, ◌-◌, ◌<◌, ◌≤◌, false, List, [], ◌∷◌, ◌++◌, length, get_or, take, drop, map, Some, sym, subst, ap, ap₂, arith, length-drop}
+use Rattle.std.specs.List.{insert}
+use Rattle.std.specs.Prelude.{slice_get, slice_index}
+use Rattle.std.proofs.lemmas.Bool.{false_from_ne_true}
+use Rattle.std.proofs.lemmas.List.{append_assoc, get_or-drop, get_or-take, length_push, length-take-le, map-append, take_at, take_more}
 use Rattle.std.proofs.lemmas.Option.{get_or_from_slice_get, slice_get-get_or, slice_get_within}
-use Rattle.stream_ident.specs.SubName.{same_sub}
+use Rattle.stream_ident.proofs.NameOrders.{sub_order}
+use Rattle.stream_ident.specs.SubName.{same_sub, sub_lt}
+use Rattle.stream_ident.specs.Words.{is_above}
 use Rattle.pubsub_registry.specs.Index.{AreUnique}
-use Rattle.ranked_index.specs.Leaves.{open_leaf, IsNew}
+use Rattle.ranked_index.specs.Leaves.{numbers_below, open_leaf, pushed, truncated, PlainResumes}
 use Rattle.ranked_index.specs.declared.resumes.Leaf.{Leaf}
+use Rattle.ranked_index.specs.Ranking.{IsRanking}
+use Rattle.ranked_index.proofs.BelowLemmas.{below-all, below-insert}
+use Rattle.ranked_index.specs.Listed.{AreRising}
+use Rattle.ranked_index.specs.Ranked.{entry_at, AreRanked, IsFirstPast}
+use Rattle.ranked_index.proofs.EntryLemmas.{ranked-insert}
 use Rattle.subscription_table.specs.Rows.{AreNamed}
-use Rattle.subscription_table.specs.Table.{no_entry}
+use Rattle.subscription_table.specs.Standing.{name_of}
 use Rattle.subscription_table.proofs.LeafLemmas.{Entry, Names}
 
 -- one more of the names from a number on
@@ -33,31 +41,55 @@ row-more f old row new names from number entry above there so_far pushed =
     ∙ append_assoc old (map f (take (number - from) (drop from names))) (f entry ∷ [])
     ∙ ap (λ (more : List _). old ++ more) (sym (ap (map f) (taken-more names from number entry above there) ∙ map-append f (take (number - from) (drop from names)) (entry ∷ [])))
 
--- one more leaf with the name of its number
-pub named-more : (leaves new : List Leaf) (names : Names) (number : ℕ) (entry : Entry) (position : ℕ) → AreNamed leaves names → length leaves ≡ number → slice_get names number ≡ Some entry
-    → new ≡ leaves ++ open_leaf entry.0 position ∷ [] → AreNamed new names
-named-more leaves new names number entry position named long there is =
-    let within : number < length names = slice_get_within names number entry there in
-    let more : length new ≡ length leaves + 1 = ap length is ∙ length_push leaves (open_leaf entry.0 position) in
-    record {
-      within = omega arith;
-      name_of = λ i d i_within. ap (λ (all : List Leaf). (get_or all i d).name) is ∙ by i d (cases_lt i (length leaves)) (omega (arith, more));
-    }
-  where
-    by : (i : ℕ) (d : Leaf) → (i < length leaves) ⊎ (length leaves ≤ i) → i ≤ length leaves → (get_or (leaves ++ open_leaf entry.0 position ∷ []) i d).name ≡ (get_or names i no_entry).0
-    by i d (inl old) most =
-        ap (λ (leaf : Leaf). leaf.name) (get_or_append_left leaves (open_leaf entry.0 position ∷ []) d i old) ∙ named.name_of i d old
-    by i d (inr last) most =
-        let here : length leaves ≡ i = omega arith in
-        let same : number ≡ i = omega arith in
-        ap (λ (leaf : Leaf). leaf.name) (get_or_push leaves (open_leaf entry.0 position) d i here)
-        ∙ sym (ap (λ (n : ℕ). (get_or names n no_entry).0) (sym same) ∙ ap (λ (e : Entry). e.0) (get_or_from_slice_get names number entry no_entry there))
+-- the numbers are those of the first names
+number-named : (r : PlainResumes) (names : Names) → AreNamed r names → (i : ℕ) → i < length r.order → slice_index r.order i < length r.leaves
+number-named r names named i below =
+    omega (arith, named.ranked.ranking.inverse.number_within i below, named.ranked.long, named.within, length-take-le (length r.leaves) names named.within)
 
--- the name with a number past those of the leaves is new
-pub name-new : (leaves : List Leaf) (names : Names) (number : ℕ) (entry : Entry) → AreNamed leaves names → AreUnique names → length leaves ≤ number → slice_get names number ≡ Some entry → IsNew entry.0 leaves
-name-new leaves names number entry named unique past there i d within =
-    false_from_ne_true (same_sub entry.0 (get_or leaves i d).name) (λ same.
-    let listed : i < length names = let most = named.within in omega arith in
-    let one : number ≡ i = unique number i entry (get_or names i no_entry) there (slice_get-get_or names i no_entry listed)
-    (sym (ap (same_sub entry.0) (named.name_of i d within)) ∙ same) in
-    absurd (omega arith))
+first-entry : (r : PlainResumes) (names : Names) → AreNamed r names → (d : Entry) (i : ℕ) → i < length r.order → entry_at (take (length r.leaves) names) r.order d i ≡ entry_at names r.order d i
+first-entry r names named d i below = get_or-take (length r.leaves) names (slice_index r.order i) d (number-named r names named i below)
+
+-- the first names are ranked, and so stand in the order that all have
+pub rising-named : (r : PlainResumes) (names : Names) → AreNamed r names → AreRising name_of sub_lt names r.order
+rising-named r names named = record {
+  within = λ i below. omega (arith, number-named r names named i below, named.within);
+  rises = λ d low high less below.
+      ap₂ (λ (a b : Entry). sub_lt a.0 b.0) (sym (first-entry r names named d low (omega arith))) (sym (first-entry r names named d high below)) ∙ named.ranked.rises d low high less below;
+}
+
+module _ (r : PlainResumes) (names : Names) (named : AreNamed r names) (entry : Entry) (position rank : ℕ) (there : slice_get names (length r.leaves) ≡ Some entry) where
+  abbrev len : ℕ
+  len = length r.leaves
+
+  -- one more leaf, at the rank of the name with its number
+  pub named-more : AreUnique names → IsFirstPast name_of sub_lt (Some entry.0) names r.order rank → AreNamed (pushed rank (open_leaf position) r) names
+  named-more unique first = record {
+    within = omega (arith, within, length_push r.leaves (open_leaf position));
+    ranked = subst (λ (all : Names). AreRanked name_of sub_lt all (insert r.order rank (length r.order)))
+        (sym (ap (λ (n : ℕ). take n names) (length_push r.leaves (open_leaf position)) ∙ take_more names len entry within ∙ ap (λ (e : Entry). take len names ++ e ∷ []) (get_or_from_slice_get names len entry entry there)))
+        (ranked-insert (take len names) r.order rank entry named.ranked.long named.ranked.ranking first.within name_of sub_lt same_sub sub_order named.ranked
+        (record {
+          within = first.within;
+          before = λ d i low. ap (λ (e : Entry). is_above sub_lt (Some entry.0) e.0) (first-entry r names named d i (omega (arith, first.within))) ∙ first.before d i low;
+          past = λ d i reached below. ap (λ (e : Entry). is_above sub_lt (Some entry.0) e.0) (first-entry r names named d i below) ∙ first.past d i reached below;
+        })
+        (λ d i inside. is-new d i (omega (arith, inside, length-take-le len names (omega (arith, within))))));
+  }
+    where
+      within : len < length names
+      within = slice_get_within names len entry there
+
+      is-new : (d : Entry) (i : ℕ) → i < len → same_sub entry.0 (get_or (take len names) i d).0 ≡ false
+      is-new d i low =
+          ap (λ (e : Entry). same_sub entry.0 e.0) (get_or-take len names i d low)
+          ∙ false_from_ne_true (same_sub entry.0 (get_or names i d).0) (λ same.
+          let one : len ≡ i = unique len i entry (get_or names i d) there (slice_get-get_or names i d (omega arith)) same in
+          absurd (omega arith))
+
+-- the rows as they were, with the order that they had
+pub rows-back : (r new : PlainResumes) (more : List Leaf) (len : ℕ) → len ≡ length r.leaves → new.leaves ≡ r.leaves ++ more → numbers_below len new.order ≡ r.order → truncated len new ≡ r
+rows-back r new more len is leaved ordered = λ i. record { leaves = (ap (take len) leaved ∙ take_at r.leaves more len (sym is)) i; order = ordered i }
+
+-- also after one more was pushed
+pub below-pushed : (r : PlainResumes) (rank resume len : ℕ) → IsRanking r.order → len ≡ length r.order → numbers_below len (pushed rank (open_leaf resume) r).order ≡ r.order
+below-pushed r rank resume len ranking is = below-insert len rank (length r.order) r.order (omega arith) ∙ below-all len r.order ranking (omega arith)

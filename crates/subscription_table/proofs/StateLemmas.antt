@@ -7,13 +7,12 @@ use Rattle.stream_ident.specs.Token.{same_token}
 use Rattle.partition_queue.specs.Queue.{PlainQueue, token_at}
 use Rattle.queue_cache.specs.Cache.{PlainCache, high}
 use Rattle.consumer_grain.specs.Subscriptions.{PlainState, acknowledged, advanced, caught_up, committed, rewound}
-use Rattle.subscription_table.specs.LeavesOf.{leaf_of}
 use Rattle.subscription_table.specs.Progress.{ack, ack_at, handled_at, next_at, next_event, retry}
+use Rattle.subscription_table.specs.Standing.{kept_of}
 use Rattle.subscription_table.specs.declared.told.Acked.TheVariants as ack_told
 use Rattle.subscription_table.specs.declared.told.Retried.TheVariants as retry_told
 use Rattle.subscription_table.specs.declared.told.Sought.{Sought}
 use Rattle.subscription_table.specs.declared.told.Sought.TheVariants as sought
-use Rattle.subscription_table.proofs.LeafLemmas.{Entry}
 use Rattle.subscription_table.proofs.TableLemmas.{Fits}
 
 -- what a call gives: nothing new where the state is closed
@@ -72,9 +71,9 @@ module _ (s : PlainState) (stands : Fits s s) where
       (not s.is_open)
 
 -- a retry leaves the leaf
-pub leaf-retried : (entry : Entry) (s : PlainState) → leaf_of entry (retry s).0 ≡ leaf_of entry s
-leaf-retried entry s =
-    asked-either s retry_told.Closed (rewound s, retry_told.Rewound) (λ new. leaf_of entry new ≡ leaf_of entry s) refl refl (not s.is_open)
+pub kept-retried : (s : PlainState) → kept_of (retry s).0 ≡ kept_of s
+kept-retried s =
+    asked-either s retry_told.Closed (rewound s, retry_told.Rewound) (λ new. kept_of new ≡ kept_of s) refl refl (not s.is_open)
 
 -- a call that found anything but nothing leaves the state
 pub same-sought : (cache : PlainCache) (s new : PlainState) (stream : StreamId) (outstanding : Bool) (told : Sought) → (told ≡ sought.Nothing → ⊥)

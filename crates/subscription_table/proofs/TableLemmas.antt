@@ -2,13 +2,13 @@
 use Rattle.std.proofs.Common.{◌≡◌, ◌∙◌, ℕ, ◌+◌, ◌^◌, ◌<◌, ◌⊎◌, inl, inr, List, length, get_or, set, refl, sym, ap, subst, arith, length-set, get_or-set_same, get_or-set_other}
 use Rattle.std.proofs.lemmas.Bool.{cases_eq}
 use Rattle.std.proofs.lemmas.List.{get_or_read}
-use Rattle.consumer_grain.specs.Subscriptions.{PlainState, is_unacknowledged}
-use Rattle.ranked_index.specs.declared.resumes.Leaf.{Leaf}
-use Rattle.ranked_index.specs.Leaves.{changed}
-use Rattle.subscription_table.specs.LeavesOf.{leaf_of, open_resume}
-use Rattle.subscription_table.specs.Standing.{AreRecords, IsTable}
+use Rattle.stream_ident.specs.SubName.{sub_lt}
+use Rattle.consumer_grain.specs.Subscriptions.{PlainState}
+use Rattle.ranked_index.specs.Leaves.{with_leaf, PlainResumes}
+use Rattle.ranked_index.specs.Ranked.{AreRanked}
+use Rattle.subscription_table.specs.Standing.{kept_of, name_of, AreRecords, IsTable}
 use Rattle.subscription_table.specs.Table.{PlainTable, no_entry, no_state, state_at, with_state}
-use Rattle.subscription_table.proofs.LeafLemmas.{Entry, leaf-changed, leaf-kept}
+use Rattle.subscription_table.proofs.LeafLemmas.{kept-changed, kept-same}
 
 -- a state that agrees with the registration of another, and leaves room for two more positions
 pub record Fits (old new : PlainState) : Type 0 where
@@ -43,27 +43,27 @@ module _ (t : PlainTable) (r : AreRecords t) (number : ℕ) (within : number < l
     resumes = at-each (λ i s. s.resume + 2 < 2 ^ 64) t.states number state fits.resume r.resumes;
   }
 
-module _ (t : PlainTable) (tags : List ℕ) (leaves : List Leaf) (is : IsTable t tags leaves) (number : ℕ) (within : number < length t.registry.names) (state : PlainState) (fits : Fits (state_at t number) state) where
+module _ (t : PlainTable) (tags : List ℕ) (r : PlainResumes) (is : IsTable t tags r) (number : ℕ) (within : number < length t.registry.names) (state : PlainState) (fits : Fits (state_at t number) state) where
   -- a state changed, and its leaf with it
-  pub table-changed : (new : List Leaf) → ((d : Leaf) → new ≡ set leaves number (changed (open_resume state.is_open state.resume) (is_unacknowledged state) (get_or leaves number d)))
-      → IsTable (with_state t number state) tags new
+  pub table-changed : (new : PlainResumes) → new ≡ with_leaf number (kept_of state) r → IsTable (with_state t number state) tags new
   table-changed new set_to = record {
     records = records-with t is.records number within state fits;
     tagged = is.tagged;
-    leaved = set_to (leaf_of no_entry no_state) ∙ leaf-changed t.registry.names t.states leaves number state is.leaved is.records.long within;
+    leaved = ap (λ (r : PlainResumes). r.leaves) set_to ∙ kept-changed t.states r.leaves number state is.leaved;
+    ranked = subst (λ (order : List ℕ). AreRanked name_of sub_lt t.registry.names order) (sym (ap (λ (r : PlainResumes). r.order) set_to)) is.ranked;
   }
 
   -- a state changed to one with the same leaf
-  pub table-kept : leaf_of (get_or t.registry.names number no_entry) state ≡ leaf_of (get_or t.registry.names number no_entry) (state_at t number)
-      → IsTable (with_state t number state) tags leaves
+  pub table-kept : kept_of state ≡ kept_of (state_at t number) → IsTable (with_state t number state) tags r
   table-kept same = record {
     records = records-with t is.records number within state fits;
     tagged = is.tagged;
-    leaved = is.leaved ∙ sym (leaf-kept t.registry.names t.states number state is.records.long within same);
+    leaved = is.leaved ∙ sym (kept-same t.states number state same);
+    ranked = is.ranked;
   }
 
 -- a state that was read and written: what it was, what it is now, and what is seen of it then
-module _ (t old : PlainTable) (tags : List ℕ) (leaves : List Leaf) (is : IsTable t tags leaves) (same : t ≡ old) (number : ℕ) (within : number < length old.registry.names)
+module _ (t old : PlainTable) (tags : List ℕ) (r : PlainResumes) (is : IsTable t tags r) (same : t ≡ old) (number : ℕ) (within : number < length old.registry.names)
     (was now : PlainState) (read : was ≡ get_or t.states number was) (fits : Fits was was → Fits was now) where
   named : number < length t.registry.names
   named = omega (arith, ap (λ (t : PlainTable). length t.registry.names) same)
@@ -81,10 +81,8 @@ module _ (t old : PlainTable) (tags : List ℕ) (leaves : List Leaf) (is : IsTab
   here-fits : Fits (state_at t number) now
   here-fits = subst (λ (s : PlainState). Fits s now) was-is now-fits
 
-  pub kept : ((entry : Entry) → leaf_of entry now ≡ leaf_of entry was) → IsTable (with_state t number now) tags leaves
-  kept leaf =
-      table-kept t tags leaves is number named now here-fits
-      (leaf (get_or t.registry.names number no_entry) ∙ ap (leaf_of (get_or t.registry.names number no_entry)) was-is)
+  pub kept : kept_of now ≡ kept_of was → IsTable (with_state t number now) tags r
+  kept leaf = table-kept t tags r is number named now here-fits (leaf ∙ ap kept_of was-is)
 
   module _ (seen : PlainState) (look : seen ≡ get_or (set t.states number now) number seen) where
     seen-is : seen ≡ now
@@ -93,14 +91,12 @@ module _ (t old : PlainTable) (tags : List ℕ) (leaves : List Leaf) (is : IsTab
     pub seen-below : seen.resume + 2 < 2 ^ 64
     seen-below = subst (λ (s : PlainState). s.resume + 2 < 2 ^ 64) (sym seen-is) now-fits.resume
 
-    pub refreshed : (new : List Leaf) → ((d : Leaf) → new ≡ set leaves number (changed (open_resume seen.is_open seen.resume) (is_unacknowledged seen) (get_or leaves number d)))
-        → IsTable (with_state t number now) tags new
+    pub refreshed : (new : PlainResumes) → new ≡ with_leaf number (kept_of seen) r → IsTable (with_state t number now) tags new
     refreshed new set_to =
-        table-changed t tags leaves is number named now here-fits new
-        (subst (λ (s : PlainState). (d : Leaf) → new ≡ set leaves number (changed (open_resume s.is_open s.resume) (is_unacknowledged s) (get_or leaves number d))) seen-is set_to)
+        table-changed t tags r is number named now here-fits new (set_to ∙ ap (λ (s : PlainState). with_leaf number (kept_of s) r) seen-is)
 
 -- equal parts
-pub same-table : (t new : PlainTable) (tags new_tags : List ℕ) (leaves new_leaves : List Leaf) → new ≡ t → new_tags ≡ tags → new_leaves ≡ leaves → IsTable t tags leaves → IsTable new new_tags new_leaves
-same-table t new tags new_tags leaves new_leaves same tagged leaved is =
-    subst (λ (t : PlainTable). IsTable t new_tags new_leaves) (sym same)
-    (subst (λ (tags : List ℕ). IsTable t tags new_leaves) (sym tagged) (subst (λ (leaves : List Leaf). IsTable t tags leaves) (sym leaved) is))
+pub same-table : (t new : PlainTable) (tags new_tags : List ℕ) (r new_r : PlainResumes) → new ≡ t → new_tags ≡ tags → new_r ≡ r → IsTable t tags r → IsTable new new_tags new_r
+same-table t new tags new_tags r new_r same tagged kept is =
+    subst (λ (t : PlainTable). IsTable t new_tags new_r) (sym same)
+    (subst (λ (tags : List ℕ). IsTable t tags new_r) (sym tagged) (subst (λ (r : PlainResumes). IsTable t tags r) (sym kept) is))

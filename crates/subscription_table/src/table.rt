@@ -1,18 +1,20 @@
-//! The table, with the rows that stand beside the names of its registry: states, tags, and what the tree of
-//! resumes keeps.
-ghost use Rattle.std.specs.Prelude.{◌≡◌, ◌<◌, ◌≤◌, ◌↔◌, ◌+◌, ◌^◌, ◌++◌, None, Some, length, IfNone, IfSome, IsTrue, OnErr, All, drop, get_or, is_ok, map, set, if◌then◌else◌};
+//! The table, with the rows that stand beside the names of its registry: states, tags, and the resumes in the order of
+//! the names.
+ghost use Rattle.std.specs.Prelude.{◌≡◌, ◌<◌, ◌≤◌, ◌↔◌, ◌+◌, ◌^◌, ◌++◌, None, Some, length, IfNone, IfSome, IsTrue, OnErr, OnOk, All, drop, is_ok, map, if◌then◌else◌};
 ghost use Rattle.stream_ident.specs.declared.limits.TheConstants.{MOST_RULES, MOST_SUBS};
 ghost use Rattle.std.specs.Option.{option_copied};
+ghost use Rattle.stream_ident.specs.SubName.{sub_lt};
 ghost use Rattle.queue_mapper.specs.Place.{tag_of};
 ghost use Rattle.pubsub_registry.specs.Index.{AreUnique};
 ghost use Rattle.pubsub_registry.specs.Registry.{is_full};
-ghost use Rattle.consumer_grain.specs.Subscriptions.{is_unacknowledged};
-ghost use Rattle.ranked_index.specs.Leaves.{due_after, least_resume, slowest, changed};
-ghost use Rattle.ranked_index.specs.declared.resumes.Leaf.{Leaf};
+ghost use Rattle.ranked_index.specs.Leaves.{with_leaf};
+ghost use Rattle.ranked_index.specs.Listed.{AreRising};
+ghost use Rattle.ranked_index.specs.Ranked.{is_up_to, IsFirstPast};
+ghost use Rattle.subscription_table.specs.Leaves.{due_after, least_resume, slowest};
 ghost use Rattle.subscription_table.specs.LeavesOf.{leaves_of, open_resume};
-ghost use Rattle.subscription_table.specs.Standing.{AreRecords, tags_of};
+ghost use Rattle.subscription_table.specs.Standing.{kept_of, name_of, tags_of, AreRecords};
 ghost use Rattle.subscription_table.specs.Table.{empty, name_at, number_of, registration_at, state_at, new_states, rewound_open};
-ghost use Rattle.subscription_table.specs.Rows.{new_leaves, AreNamed, AreRewoundAt};
+ghost use Rattle.subscription_table.specs.Rows.{AreAllNamed, AreNamed, AreRewoundAt};
 
 mod changes;
 
@@ -28,14 +30,16 @@ use stream_ident::SubName;
 ///
 /// A subscription goes by its number, which is its place in the order in which they were made and never
 /// changes. A contract sees the table as the registry, whose names have the numbers 0, 1, 2 and so on, and
-/// by number how far each subscription is. The tags of the streams, the tree of the resumes and the room
-/// that all take in memory are no part of it.
+/// by number how far each subscription is. The tags of the streams, the order of the names, the trees of the resumes
+/// and the room that all take in memory are no part of it.
 #[derive(Debug)]
 pub struct SubscriptionTable {
     registry: Registry,
     states: Vec<SubState>,
     tags: Vec<u8>,
     resumes: Resumes,
+    // The number of the subscription whose next event was sought last: the next calls mostly ask for it again.
+    last: usize,
 }
 
 impl Drop for SubscriptionTable {
@@ -45,6 +49,7 @@ impl Drop for SubscriptionTable {
             states: _,
             tags: _,
             resumes: _,
+            last: _,
         } = self;
     }
 }
@@ -72,6 +77,7 @@ impl SubscriptionTable {
             states: Vec::new(alloc),
             tags: Vec::new(alloc),
             resumes: Resumes::new(alloc),
+            last: 0,
         }
     }
 
@@ -94,12 +100,27 @@ impl SubscriptionTable {
         self.len() == 0
     }
 
-    /// The number of a name. The cost is a look-up.
+    /// The number of a name. It costs a look-up, and less for the subscription whose next event was sought last.
     pub fn find(&self, sub: &SubName) -> Option<usize>
         ensures number { result ≡ number_of self.now sub.now }
         ensures within { IfSome result (λ number. number < length self.now.registry.names) }
     {
+        if let Some(number) = self.find_last(sub) {
+            return Some(number);
+        }
         self.registry.find(sub)
+    }
+
+    /// The number of a name, where it is that of the subscription whose next event was sought last.
+    fn find_last(&self, sub: &SubName) -> Option<usize>
+        ensures number { IfSome result (λ number. Some number ≡ number_of self.now sub.now) }
+        ensures within { IfSome result (λ number. number < length self.now.registry.names) }
+    {
+        let number = self.last;
+        if number >= self.len() {
+            return None;
+        }
+        (*sub == *self.name(number)).then_some(number)
     }
 
     /// The name with a number.
@@ -141,6 +162,16 @@ impl SubscriptionTable {
         self.registry.is_full()
     }
 
+    /// Whether the name of the subscription with a number is less than that of another. It costs a constant, and compares
+    /// no names.
+    pub fn is_before(&self, number: usize, other: usize) -> bool
+        requires number { number < length self.now.registry.names }
+        requires other { other < length self.now.registry.names }
+        ensures { result ≡ sub_lt (name_at self.now number) (name_at self.now other) }
+    {
+        self.resumes.rank(number) < self.resumes.rank(other)
+    }
+
     /// The least resume of an open subscription, where one is open. It costs a constant.
     pub fn least_resume(&self) -> Option<usize>
         ensures { result ≡ least_resume (leaves_of self.now.registry.names self.now.states) }
@@ -165,7 +196,8 @@ impl SubscriptionTable {
         ensures within { IfSome result (λ number. number < length self.now.registry.names) }
         ensures some { IfSome result (λ number. due_after high (option_copied after.entry) (leaves_of self.now.registry.names self.now.states) ≡ Some (name_at self.now number)) }
     {
-        self.resumes.due_after(after, high)
+        let from = first_past(&self.registry, self.resumes.numbers(), after);
+        self.resumes.due_from(from, high)
     }
 
     /// The number of the next subscription that is due, as `due_after` says, after the name of the subscription with
@@ -176,7 +208,8 @@ impl SubscriptionTable {
         ensures within { IfSome result (λ found. found < length self.now.registry.names) }
         ensures some { IfSome result (λ found. due_after high (Some (name_at self.now number)) (leaves_of self.now.registry.names self.now.states) ≡ Some (name_at self.now found)) }
     {
-        self.resumes.due_past(number, high)
+        let from = self.resumes.rank(number) + 1;
+        self.resumes.due_from(from, high)
     }
 }
 
@@ -194,12 +227,13 @@ fn add_rows(
     resumes: &mut Resumes,
 ) -> Result<(), AllocError>
     requires tags { length tags.old.items ≡ length states.old.items }
-    requires leaves { length resumes.old ≡ length states.old.items }
+    requires leaves { length resumes.old.leaves ≡ length states.old.items }
     requires named { AreNamed resumes.old registry.now.names }
     requires below { position + 2 < 2 ^ 64 }
     ensures states { states.new.items ≡ (if is_ok result then states.old.items ++ new_states position (drop (length states.old.items) registry.now.names) else states.old.items) }
     ensures tags { tags.new.items ≡ (if is_ok result then tags.old.items ++ tags_of (drop (length states.old.items) registry.now.names) else tags.old.items) }
-    ensures leaves { resumes.new ≡ (if is_ok result then resumes.old ++ new_leaves position (drop (length states.old.items) registry.now.names) else resumes.old) }
+    ensures named { OnOk result (AreAllNamed position resumes.old resumes.new registry.now.names) }
+    ensures same { OnErr result (resumes.new ≡ resumes.old) }
     ensures memory { OnErr result (length states.old.items < length registry.now.names) }
 {
     let len = states.len();
@@ -215,7 +249,7 @@ fn add_rows(
     Ok(())
 }
 
-/// Pushes the leaves of those names of a registry that have none yet, each with this resume.
+/// Pushes the leaves of those names of a registry that have none yet, each with this resume and at the rank of its name.
 ///
 /// # Errors
 /// The call failed to allocate, and nothing has changed. That can happen only where a name has none yet.
@@ -227,12 +261,14 @@ fn push_leaves(
 ) -> Result<(), AllocError>
     requires named { AreNamed resumes.old registry.now.names }
     requires below { position + 2 < 2 ^ 64 }
-    ensures leaves { resumes.new ≡ (if is_ok result then resumes.old ++ new_leaves position (drop (length resumes.old) registry.now.names) else resumes.old) }
-    ensures memory { OnErr result (length resumes.old < length registry.now.names) }
+    ensures named { OnOk result (AreAllNamed position resumes.old resumes.new registry.now.names) }
+    ensures same { OnErr result (resumes.new ≡ resumes.old) }
+    ensures memory { OnErr result (length resumes.old.leaves < length registry.now.names) }
 {
     let len = resumes.len();
     for number in len..registry.len() {
-        if let Err(error) = resumes.push(alloc, *registry.at(number).0, position) {
+        let rank = first_past(registry, resumes.numbers(), Some(registry.at(number).0));
+        if let Err(error) = resumes.push(alloc, rank, position) {
             resumes.truncate(len);
             return Err(error);
         }
@@ -240,11 +276,29 @@ fn push_leaves(
     Ok(())
 }
 
+/// The first rank whose name is greater than the given one, 0 where none is given. A binary search.
+fn first_past(registry: &Registry, order: &[usize], after: Option<&SubName>) -> usize
+    requires { AreRising name_of sub_lt registry.now.names order.now }
+    ensures { IsFirstPast name_of sub_lt (option_copied after.entry) registry.now.names order.now result }
+{
+    let Some(name) = after else {
+        return 0;
+    };
+    order.partition_point(|number| is_up_to(registry, *number, name))
+}
+
+/// Whether there is a name with this number, and it is not greater than the given one.
+fn is_up_to(registry: &Registry, number: usize, name: &SubName) -> bool
+    ensures { result ≡ is_up_to name_of sub_lt registry.now.names name.now number }
+{
+    number < registry.len() && !name.is_before(registry.at(number).0)
+}
+
 /// Sets the leaf with a number to what is kept of a state. It takes no memory.
 fn refresh(resumes: &mut Resumes, number: usize, state: &SubState)
-    requires within { number < length resumes.old }
+    requires within { number < length resumes.old.leaves }
     requires below { state.now.resume + 2 < 2 ^ 64 }
-    ensures { (d : Leaf) → resumes.new ≡ set resumes.old number (changed (open_resume state.now.is_open state.now.resume) (is_unacknowledged state.now) (get_or resumes.old number d)) }
+    ensures { resumes.new ≡ with_leaf number (kept_of state.now) resumes.old }
 {
     resumes.set(number, open_resume(state), state.is_unacknowledged());
 }

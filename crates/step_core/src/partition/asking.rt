@@ -8,14 +8,15 @@ ghost use Rattle.stream_model.specs.Step.{step, IsReached};
 ghost use Rattle.step_core.specs.Assembly.{Agrees, IsAssembled};
 ghost use Rattle.step_core.specs.PlainOf.{plain_of};
 ghost use Rattle.step_core.specs.Replied.{replied, reply_of, reply_with};
-ghost use Rattle.step_core.specs.Serving.{name_of, CatchesUp};
+ghost use Rattle.step_core.specs.Serving.{name_of, CatchesUp, HandlesNext};
 
 use crate::acknowledging::ack;
-use crate::delivering::{catch_up, deliver};
+use crate::delivering::deliver;
 use crate::outcome::Outcome;
 use crate::partition::Partition;
 use crate::parts::Parts;
 use crate::pulling::pull;
+use crate::serving::{catch_up, handle_next};
 use crate::turns::{begin, commit};
 use std::alloc::{AllocError, Global};
 use stream_ident::{GrainId, SubName, Token};
@@ -47,16 +48,28 @@ impl Partition {
         told
     }
 
-    /// The agent delivers to the subscription with a number, where it finds nothing and leaves the subscription settled.
-    /// Elsewhere nothing is done.
+    /// Serves the subscription with a number to its end, where the cache has nothing for it, nothing of it waits or runs, and
+    /// it has handled no event past both its cursor and the end of the cache. Elsewhere nothing is done, and the result is
+    /// false.
     pub(crate) fn catch_up(&mut self, number: usize) -> bool
         requires { number < length self.old.subs }
-        ensures told { CatchesUp self.old self.new (name_of self.old number) result }
-        ensures reached { IsReached self.new }
+        ensures { CatchesUp self.old self.new (name_of self.old number) result }
     {
         let is_caught_up = catch_up(&mut self.parts, number);
         let _lengths = (self.parts.subs.len(), self.parts.grains.len());
         is_caught_up
+    }
+
+    /// The next event of the subscription with a number is delivered, and a turn of its grain handles it, where the
+    /// subscription is open and has handled an event but none from that one on, its grain is active and at rest, and a rise is
+    /// left. Elsewhere, and where memory is wanting, nothing is done, and the result is false.
+    pub(crate) fn handle_next(&mut self, alloc: Global, number: usize) -> bool
+        requires { number < length self.old.subs }
+        ensures { HandlesNext self.old self.new (name_of self.old number) result }
+    {
+        let is_handled = handle_next(&mut self.parts, alloc, number);
+        let _lengths = (self.parts.subs.len(), self.parts.grains.len());
+        is_handled
     }
 
     /// The agent learns that a subscription has handled an event and all that it was owed before.

@@ -12,7 +12,7 @@ ghost use Rattle.partition_queue.specs.Queue.{TokensRise};
 ghost use Rattle.queue_mapper.specs.Place.{tag_of};
 ghost use Rattle.subscription_table.specs.Handled.{first_of, IsBound};
 
-use super::{SubscriptionTable, add_rows, refresh, rewind_each, rewind_these};
+use super::{SubscriptionTable, add_rows, first_past, refresh, rewind_each, rewind_these};
 use crate::told::{Acked, Retried, Sought};
 use cache_cursor::next;
 use consumer_grain::SubState;
@@ -51,7 +51,8 @@ impl SubscriptionTable {
         self.tags.reserve(1)?;
         let len = self.resumes.len();
         let sub = SubName::Explicit(self.registry.explicit() + 1);
-        self.resumes.push(alloc, sub, position)?;
+        let rank = first_past(&self.registry, self.resumes.numbers(), Some(&sub));
+        self.resumes.push(alloc, rank, position)?;
         match self.registry.add(alloc, stream, grain, start) {
             Ok(added) => {
                 self.states
@@ -169,6 +170,7 @@ impl SubscriptionTable {
         ensures sought { (self.new, result) ≡ stepped self.old number (next_event cache.now (state_at self.old number) (registration_at self.old number).stream outstanding) }
         ensures found { IsFound cache.now (state_at self.old number) result }
     {
+        self.last = number;
         let stream = &self.registry.at(number).1.stream;
         let tag = self.tags[number];
         let state = &mut self.states[number];

@@ -1,24 +1,32 @@
-use Rattle.std.proofs.Common.{◌≡◌, ◌<◌, ◌∙◌, ap, sym, subst, length, fold, rules, arith}
+use Rattle.std.proofs.Common.{◌≡◌, ◌+◌, ◌<◌, ◌∙◌, ap, sym, subst, length, fold, rules, arith}
 use Rattle.std.proofs.lemmas.List.{get_or_default}
 use Rattle.std.specs.List.{flat_map}
 use Rattle.stream_ident.specs.Event.{no_event}
 use Rattle.stream_ident.specs.Implying.{added}
 use Rattle.pubsub_registry.specs.Implying.{implied, made, names_with}
 use Rattle.stream_ident.proofs.WordLemmas.{front-of-front}
-use Rattle.pubsub_registry.proofs.ImpliedLists.{more-at}
+use Rattle.pubsub_registry.proofs.ImpliedLists.{length-front, more-at}
 use Rattle.pubsub_registry.proofs.ImpliedNames.{implied-on}
 use Rattle.pubsub_registry.proofs.ImpliedSteps.{event-more}
 use Rattle.pubsub_registry.proofs.implying.push_all.Goals as goal
+
+pub push_for_event-requires : goal.push_for_event-requires
+push_for_event-requires c =
+    let event = c.at-event.result in
+    let within : c.loop-index.index < length c.args.events.now = omega (arith, c.loop-index-test.true, c.len-index-end.ensures) in
+    let is = c.at-event.ensures ∙ get_or_default c.args.events.now c.loop-index.index no_event event within in
+    let more = event-more c.args.rules.now c.rules_on-rules.result.now c.args.subscriptions.now c.loop-index.subscriptions c.args.events.now c.loop-index.index event within is c.loop-index.invariant.all c.rules_on-rules.ensures in
+    omega (arith, c.requires, ap length more, length-front (λ event. flat_map (implied event) c.args.rules.now) c.args.subscriptions.now c.args.events.now (c.loop-index.index + 1))
 
 pub loop-index-preserved : goal.loop-index-preserved
 loop-index-preserved c =
     let event = c.at-event.result in
     let within : c.loop-index.index < length c.args.events.now = omega (arith, c.loop-index-test.true, c.len-index-end.ensures) in
+    let is = c.at-event.ensures ∙ get_or_default c.args.events.now c.loop-index.index no_event event within in
     record {
       all =
           c.in_ok-push_for_event.ensures.all
-          ∙ (λ i. fold added (c.loop-index.invariant.all i) (flat_map (made event) (c.rules_on-rules.ensures i)))
-          ∙ sym (event-more c.args.rules.now c.args.subscriptions.now c.args.events.now c.loop-index.index event within (c.at-event.ensures ∙ get_or_default c.args.events.now c.loop-index.index no_event event within));
+          ∙ event-more c.args.rules.now c.rules_on-rules.result.now c.args.subscriptions.now c.loop-index.subscriptions c.args.events.now c.loop-index.index event within is c.loop-index.invariant.all c.rules_on-rules.ensures;
       front = front-of-front c.args.subscriptions.now c.loop-index.subscriptions c.push_for_event.new.subscriptions c.loop-index.invariant.front c.push_for_event.ensures.front;
     }
 

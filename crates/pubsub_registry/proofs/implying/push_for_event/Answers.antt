@@ -1,9 +1,13 @@
-use Rattle.std.proofs.Common.{◌<◌, length, fold, rules}
+use Rattle.std.proofs.Common.{◌<◌, ap, length, fold, rules, arith}
 use Rattle.std.specs.List.{flat_map}
 use Rattle.stream_ident.specs.Implying.{added}
 use Rattle.pubsub_registry.specs.Implying.{made}
-use Rattle.pubsub_registry.proofs.ImpliedLists.{more-at}
+use Rattle.pubsub_registry.proofs.ImpliedLists.{length-front, more-at}
 use Rattle.pubsub_registry.proofs.implying.push_for_event.Goals as goal
+
+pub push_by_rule-requires : goal.push_by_rule-requires
+push_by_rule-requires c =
+    omega (arith, c.requires, ap length c.loop-rule.invariant.all, length-front (made c.args.event.now) c.args.subscriptions.now c.args.rules.now c.loop-rule.rule-index)
 
 pub returns-in_err-push_by_rule-clause-memory : goal.returns-in_err-push_by_rule-clause-memory
 returns-in_err-push_by_rule-clause-memory c =

@@ -1,6 +1,5 @@
-use Rattle.std.proofs.Common.{◌∙◌, not, IsSome, refl, ap, subst}
+use Rattle.std.proofs.Common.{◌∙◌, nat_eq, not, IsSome, refl, ap, subst}
 use Rattle.stream_ident.specs.Name.{same_stream}
-use Rattle.stream_ident.specs.SubName.{same_sub}
 use Rattle.indexmap.specs.IndexMap.{get}
 use Rattle.stream_ident.proofs.SameValues.{same_stream-equal}
 use Rattle.pubsub_registry.proofs.RowLemmas.{row_of-filtered, row_of-none}
@@ -18,8 +17,8 @@ returns c = λ other.
           let found = w.in-Some.ensures.value in
           let some = subst IsSome found refl in
           let updates = ((c.get_mut.follows.holds w.take_out.new.row).3 some).0 other in
-          row_of-filtered same_stream (λ name. not (same_sub c.args.sub.now name)) stream other old new w.in-Some.row.now w.take_out.new.row found w.take_out.ensures
+          row_of-filtered same_stream (λ n. not (nat_eq n c.args.number)) stream other old new w.in-Some.row.now w.take_out.new.row found w.take_out.ensures
           (ap (λ map. get same_stream map other) w.by_stream-is ∙ updates)
       | in_default w ↦
-          row_of-none same_stream (λ name. not (same_sub c.args.sub.now name)) stream other old new (same_stream-equal stream other) w.in_default.ensures.value (w.by_stream-is ∙ c.get_mut.follows.holds-at-none)
+          row_of-none same_stream (λ n. not (nat_eq n c.args.number)) stream other old new (same_stream-equal stream other) w.in_default.ensures.value (w.by_stream-is ∙ c.get_mut.follows.holds-at-none)
     ])

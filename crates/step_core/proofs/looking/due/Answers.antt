@@ -6,7 +6,7 @@ use Rattle.stream_ident.specs.Words.{past}
 use Rattle.consumer_grain.specs.Subscriptions.{PlainState, is_unacknowledged}
 use Rattle.partition_queue.specs.Queue.{token_at}
 use Rattle.queue_cache.specs.Cache.{high}
-use Rattle.ranked_index.specs.Leaves.{due_after}
+use Rattle.subscription_table.specs.Leaves.{due_after}
 use Rattle.subscription_table.specs.LeavesOf.{leaves_of}
 use Rattle.step_core.proofs.LookOps.{due-none, due-some, handled-within}
 use Rattle.step_core.proofs.Shared.{distinct-of-unique}

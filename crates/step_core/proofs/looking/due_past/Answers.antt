@@ -4,7 +4,7 @@ use Rattle.stream_ident.specs.SubName.{sub_lt}
 use Rattle.stream_ident.specs.Words.{is_above, keys_where}
 use Rattle.stream_model.specs.Looks.{is_due}
 use Rattle.queue_cache.specs.Cache.{high}
-use Rattle.ranked_index.specs.Leaves.{due_after}
+use Rattle.subscription_table.specs.Leaves.{due_after}
 use Rattle.subscription_table.specs.LeavesOf.{leaves_of}
 use Rattle.subscription_table.specs.Table.{name_at}
 use Rattle.step_core.specs.PlainOf.{plain_of}
@@ -30,6 +30,5 @@ returns-clause-next c =
     let leaves = leaves_of parts.subs.registry.names parts.subs.states in
     let is_high = c.high.ensures ∙ ap high c.cache.ensures in
     let found = due-is parts after ∙ ap (λ n. due_after n after leaves) (sym is_high) ∙ c.in_ok-number.ensures.some in
-    let past : c.is_before-is_past.result ≡ is_above sub_lt after (name number) =
-    c.is_before-is_past.ensures ∙ ap (λ s. sub_lt s c.name-2.result.now) c.name.ensures ∙ ap (sub_lt (name c.args.last)) c.name-2.ensures in
+    let past : c.is_before-is_past.result ≡ is_above sub_lt after (name number) = c.is_before-is_past.ensures in
     ap (option_map name) c.then_some.ensures ∙ due-by name after (keys_where (is_due (plain_of parts)) (plain_of parts).subs) number found c.is_before-is_past.result past

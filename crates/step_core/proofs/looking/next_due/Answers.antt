@@ -3,7 +3,7 @@ use Rattle.std.specs.Option.{option_map}
 use Rattle.stream_ident.specs.Words.{keys_where}
 use Rattle.stream_model.specs.Looks.{is_due}
 use Rattle.queue_cache.specs.Cache.{high}
-use Rattle.ranked_index.specs.Leaves.{due_after}
+use Rattle.subscription_table.specs.Leaves.{due_after}
 use Rattle.subscription_table.specs.LeavesOf.{leaves_of}
 use Rattle.subscription_table.specs.Table.{name_at}
 use Rattle.step_core.specs.PlainOf.{plain_of}

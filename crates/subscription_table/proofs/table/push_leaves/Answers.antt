@@ -1,25 +1,52 @@
-use Rattle.std.proofs.Common.{◌≡◌, ◌≤◌, ◌+◌, ◌∙◌, ◌++◌, ◌∷◌, [], length, ap, arith}
-use Rattle.std.proofs.lemmas.List.{length_push}
-use Rattle.ranked_index.specs.Leaves.{open_leaf}
+use Rattle.std.proofs.Common.{◌≡◌, ◌≤◌, ◌+◌, ◌-◌, ◌∙◌, ◌++◌, ℕ, List, Some, length, take, drop, ap, sym, subst, arith}
+use Rattle.std.specs.Prelude.{slice_get}
+use Rattle.std.proofs.lemmas.List.{append-nil, length_push, length-take-le}
+use Rattle.stream_ident.specs.SubName.{sub_lt}
+use Rattle.ranked_index.specs.Leaves.{numbers_below, open_leaf, pushed, PlainResumes}
+use Rattle.ranked_index.specs.Listed.{AreRising}
+use Rattle.ranked_index.specs.Ranked.{IsFirstPast}
+use Rattle.ranked_index.proofs.BelowLemmas.{below-all, below-insert}
+use Rattle.subscription_table.specs.Rows.{new_leaves, AreNamed}
+use Rattle.subscription_table.specs.Standing.{name_of}
 use Rattle.subscription_table.proofs.LeafLemmas.{Entry}
-use Rattle.subscription_table.proofs.RowLemmas.{name-new, named-more, row-more}
+use Rattle.subscription_table.proofs.RowLemmas.{named-more, rising-named, row-more}
 use Rattle.subscription_table.proofs.table.push_leaves.Goals as goal
 
-pub push-requires-clause-new : goal.push-requires-clause-new
-push-requires-clause-new c =
-    let past : length c.loop-number.resumes ≤ c.loop-number.number = omega (arith, c.loop-number.invariant.long) in
-    name-new c.loop-number.resumes c.args.registry.now.names c.loop-number.number _ c.loop-number.invariant.named c.len-number-end.ensures.unique past c.at.ensures
+pub loop-number-init : goal.loop-number-init
+loop-number-init c =
+    let old = c.args.resumes.now in
+    let len = c.len-len.result in
+    let of = c.len-len.ensures in
+    let none : len - len ≡ 0 = omega arith in
+    record {
+      rows = sym (ap (λ (n : ℕ). old.leaves ++ new_leaves c.args.position (take n (drop len c.args.registry.now.names))) none ∙ append-nil old.leaves);
+      order = below-all len old.order of.ranking (omega (arith, of.len, of.order));
+      long = sym of.len;
+      named = c.requires.named;
+    }
+
+pub first_past-rank-requires : goal.first_past-rank-requires
+first_past-rank-requires c =
+    let names = c.args.registry.now.names in
+    subst (λ (order : List ℕ). AreRising name_of sub_lt names order) (sym c.numbers.ensures.numbers) (rising-named c.loop-number.resumes names c.loop-number.invariant.named)
 
 pub loop-number-preserved : goal.loop-number-preserved
 loop-number-preserved c =
-    let old = c.loop-number.resumes in
+    let r = c.loop-number.resumes in
+    let is = c.loop-number.invariant in
     let names = c.args.registry.now.names in
     let number = c.loop-number.number in
     let entry : Entry = (c.at.result.0.now, c.at.result.1.now) in
     let position = c.args.position in
-    let pushed : c.push.new.self ≡ old ++ open_leaf entry.0 position ∷ [] = c.in_default.ensures in
+    let len = c.len-len.result in
+    let rank = c.first_past-rank.result in
+    let pushes : c.push.new.self ≡ pushed rank (open_leaf position) r = c.in_default.ensures in
+    let first = subst (λ (order : List ℕ). IsFirstPast name_of sub_lt (Some entry.0) names order rank) c.numbers.ensures.numbers c.first_past-rank.ensures in
+    let there : slice_get names (length r.leaves) ≡ Some entry = ap (slice_get names) is.long ∙ c.at.ensures in
+    let reached : len ≤ length r.order = omega (arith, is.long, is.named.ranked.long, length-take-le (length r.leaves) names is.named.within, c.loop-number.auto.number) in
     record {
-      rows = row-more (λ (entry : Entry). open_leaf entry.0 position) c.args.resumes.now old c.push.new.self names c.len-len.result number entry c.loop-number.auto.number c.at.ensures c.loop-number.invariant.rows pushed;
-      long = ap length pushed ∙ length_push old (open_leaf entry.0 position) ∙ ap (λ n. n + 1) c.loop-number.invariant.long;
-      named = named-more old c.push.new.self names number entry position c.loop-number.invariant.named c.loop-number.invariant.long c.at.ensures pushed;
+      rows = row-more (λ (entry : Entry). open_leaf position) c.args.resumes.now.leaves r.leaves c.push.new.self.leaves names len number entry c.loop-number.auto.number c.at.ensures is.rows (ap (λ (r : PlainResumes). r.leaves) pushes);
+      order = ap (λ (r : PlainResumes). numbers_below len r.order) pushes ∙ below-insert len rank (length r.order) r.order reached ∙ is.order;
+      long = ap (λ (r : PlainResumes). length r.leaves) pushes ∙ length_push r.leaves (open_leaf position) ∙ ap (λ (n : ℕ). n + 1) is.long;
+      named = subst (λ (r : PlainResumes). AreNamed r names) (sym pushes) (named-more r names is.named entry position rank there c.len-number-end.ensures.unique first);
     }

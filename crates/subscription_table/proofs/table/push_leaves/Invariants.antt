@@ -1,10 +1,12 @@
 use Rattle.std.proofs.Common.{◌≡◌, ◌-◌, ◌++◌, drop, length, take}
+use Rattle.ranked_index.specs.Leaves.{numbers_below}
 use Rattle.subscription_table.specs.Rows.{new_leaves, AreNamed}
 use Rattle.subscription_table.proofs.table.push_leaves.Given as goal
 
 abbrev pub invariant-loop-number : goal.invariant-loop-number
 invariant-loop-number l = record {
-  rows : l.resumes ≡ l.initial.resumes ++ new_leaves l.position (take (l.number - l.len) (drop l.len l.registry.names));
-  long : length l.resumes ≡ l.number;
+  rows : l.resumes.leaves ≡ l.initial.resumes.leaves ++ new_leaves l.position (take (l.number - l.len) (drop l.len l.registry.names));
+  order : numbers_below l.len l.resumes.order ≡ l.initial.resumes.order;
+  long : length l.resumes.leaves ≡ l.number;
   named : AreNamed l.resumes l.registry.names;
 }

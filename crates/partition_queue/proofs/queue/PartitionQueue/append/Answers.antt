@@ -11,7 +11,7 @@ old c = record { streams = c.self.inside.streams; bytes = c.self.inside.bytes.it
 abbrev new : goal.After-self-1 → Kept
 new c = record { streams = c.make_room.new.streams; bytes = c.push_events.new.bytes.items; entries = c.push_events.new.entries.items }
 
-written : (c : goal.After-self-1) → IsWritten (old c) (new c) c.args.stream c.in_ok-stream.stream c.self.inside.batches c.args.payloads.now
+written : (c : goal.After-self-1) → IsWritten (old c) (new c) c.args.stream.now c.in_ok-stream.stream c.self.inside.batches c.args.payloads.now
 written c = record {
   grows = c.in_ok-stream.ensures.grows;
   long = search rules;
@@ -28,9 +28,9 @@ fits c =
 
 pub invariant_of-self-2 : goal.invariant_of-self-2
 invariant_of-self-2 c =
-    still_log (old c) (new c) c.args.stream c.in_ok-stream.stream c.self.inside.batches c.self.inside.limit c.args.payloads.now (written c) c.self.invariant.0 c.self.invariant.1 (fits c)
+    still_log (old c) (new c) c.args.stream.now c.in_ok-stream.stream c.self.inside.batches c.self.inside.limit c.args.payloads.now (written c) c.self.invariant.0 c.self.invariant.1 (fits c)
 
 pub returns-clause-performs : goal.returns-clause-performs
 returns-clause-performs c =
-    written-appends (old c) (new c) c.args.stream c.in_ok-stream.stream c.self.inside.batches c.self.inside.limit c.args.payloads.now (written c) c.self.invariant.1 (fits c)
-    ∙ ap (λ q. append q c.args.stream c.args.payloads.now) c.self.view_is
+    written-appends (old c) (new c) c.args.stream.now c.in_ok-stream.stream c.self.inside.batches c.self.inside.limit c.args.payloads.now (written c) c.self.invariant.1 (fits c)
+    ∙ ap (λ q. append q c.args.stream.now c.args.payloads.now) c.self.view_is

@@ -1,17 +1,12 @@
-use Rattle.std.proofs.Common.{◌≡◌, ◌∙◌, sym, ap, List, get_or}
-use Rattle.stream_ident.specs.declared.ident.StreamId.{StreamId}
+use Rattle.std.proofs.Common.{sym}
+use Rattle.std.proofs.lemmas.List.Quantifiers.{position-Some}
 use Rattle.stream_ident.proofs.SameValues.{same_stream-equal}
+use Rattle.stream_ident.specs.Name.{same_stream}
 use Rattle.partition_queue.specs.Log.{no_stream}
-use Rattle.std.proofs.lemmas.Option.{get_or_from_slice_get}
 use Rattle.partition_queue.proofs.streams.Streams.number_of.Goals as goal
-use Rattle.partition_queue.proofs.streams.Streams.number_of.Goals.{then-added, else-added}
 
-pub returns-clause-stored : goal.returns-clause-stored
-returns-clause-stored c =
-    let stored = c.in_ok-number.ensures.stored in
-    let found : get_or c.insert_full.new.self.keys c.in_ok-number.number no_stream ≡ c.args.stream =
-    get_or_from_slice_get c.insert_full.new.self.keys c.in_ok-number.number stored.0 no_stream stored.1 ∙ sym (same_stream-equal c.args.stream stored.0 stored.2) in
-    elim c.if-added.branch [
-      | then-added w ↦ ap (λ (keys : List StreamId). get_or keys c.in_ok-number.number no_stream) w.self-is ∙ found
-      | else-added w ↦ ap (λ (keys : List StreamId). get_or keys c.in_ok-number.number no_stream) w.self-is ∙ found
-    ]
+pub returns-in-Some-clause-stored : goal.returns-in-Some-clause-stored
+returns-in-Some-clause-stored c =
+    let stream = c.args.stream.now in
+    let found = position-Some (same_stream stream) c.self.inside.names.keys c.in-Some.number no_stream (sym c.in-Some.ensures.index) in
+    rw (← c.self.view_is) (sym (same_stream-equal stream _ found.1))

@@ -4,8 +4,11 @@ use Rattle.pubsub_registry.specs.Registry.{PlainRegistry, is_full}
 use Rattle.pubsub_registry.proofs.SoundLemmas.{new-number, sound-push}
 use Rattle.pubsub_registry.proofs.registry.Registry.add.Goals as goal
 
-pub push-requires : goal.push-requires
-push-requires c = new-number _ c.self.invariant (c.self.inside.explicit + 1) (omega arith)
+pub push-requires-clause-few : goal.push-requires-clause-few
+push-requires-clause-few c = omega (arith, c.self.invariant.names_fit, c.self.invariant.few_names)
+
+pub push-requires-clause-new : goal.push-requires-clause-new
+push-requires-clause-new c = new-number _ c.self.invariant (c.self.inside.explicit + 1) (omega arith)
 
 pub invariant_of-self-2 : goal.invariant_of-self-2
 invariant_of-self-2 c =

@@ -4,6 +4,9 @@ use Rattle.pubsub_registry.specs.Registry.{PlainRegistry, is_full}
 use Rattle.pubsub_registry.proofs.SoundLemmas.{sound-push}
 use Rattle.pubsub_registry.proofs.registry.Registry.add_implied.Goals as goal
 
+pub push-requires-clause-few : goal.push-requires-clause-few
+push-requires-clause-few c = omega (arith, c.self.invariant.names_fit, c.self.invariant.few_names)
+
 pub invariant_of-self-2 : goal.invariant_of-self-2
 invariant_of-self-2 c =
     let room = subst (λ (r : PlainRegistry). is_full r ≡ false) (sym c.self.view_is) (sym c.is_full.ensures ∙ c.if-is_full.false) in

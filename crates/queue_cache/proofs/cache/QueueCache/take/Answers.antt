@@ -11,14 +11,14 @@ push_to_block-requires-clause-room c =
     omega (arith, room, counted, length-next blocks _ _ _ c.self.invariant (omega (arith, room, counted)))
 
 held : (c : goal.After-self-1)
-    → Holds (set c.self.inside.ring.items (c.self.inside.len / 64) (get_or c.self.inside.ring.items (c.self.inside.len / 64) [] ++ c.args.header ∷ []))
+    → Holds (set c.self.inside.ring.items (c.self.inside.len / 64) (get_or c.self.inside.ring.items (c.self.inside.len / 64) [] ++ c.args.header.now ∷ []))
     (length c.self.inside.ring.items)
-    (joined c.self.inside.ring.items ++ c.args.header ∷ [])
+    (joined c.self.inside.ring.items ++ c.args.header.now ∷ [])
 held c =
     let blocks = c.self.inside.ring.items in
     let room = rw (← c.self.view_is) at c.requires.room in
     let counted : c.self.inside.len ≡ length (joined blocks) = c.self.invariant.counted in
-    held_extended blocks _ _ _ c.self.invariant (c.args.header ∷ []) (omega arith) (omega (arith, counted)) (omega (arith, room, counted, c.self.invariant.fits))
+    held_extended blocks _ _ _ c.self.invariant (c.args.header.now ∷ []) (omega arith) (omega (arith, counted)) (omega (arith, room, counted, c.self.invariant.fits))
 
 pub invariant_of-self : goal.invariant_of-self
 invariant_of-self c =
@@ -26,7 +26,7 @@ invariant_of-self c =
     let counted : c.self.inside.len ≡ length (joined blocks) = c.self.invariant.counted in
     let positions = rw (← c.self.view_is) at c.requires.positions in
     rw c.push_to_block.ensures
-    (ring_of _ _ _ _ _ _ (held c) c.self.invariant.full (omega (arith, counted, length-append (joined blocks) (c.args.header ∷ []))) (omega (arith, counted, positions)))
+    (ring_of _ _ _ _ _ _ (held c) c.self.invariant.full (omega (arith, counted, length-append (joined blocks) (c.args.header.now ∷ []))) (omega (arith, counted, positions)))
 
 pub returns : goal.returns
 returns c = rw (c.push_to_block.ensures, ← c.self.view_is) (plain_held _ _ _ c.self.inside.low (held c))

@@ -1,37 +1,43 @@
-use Rattle.std.proofs.Common.{◌≡◌, ◌∙◌, ℕ, ◌≤◌, List, [], ◌∷◌, ◌++◌, length, Some, ap, subst, sym, arith}
+use Rattle.std.proofs.Common.{◌≡◌, ◌∙◌, ℕ, ◌≤◌, List, length, ap, arith}
 use Rattle.std.specs.List.{remove}
 use Rattle.std.specs.Prelude.{slice_index}
-use Rattle.stream_ident.specs.SubName.{sub_lt}
-use Rattle.ranked_index.proofs.EntryLemmas.{first_past-along}
 use Rattle.ranked_index.proofs.RankLemmas.{popped}
-use Rattle.ranked_index.specs.declared.resumes.Leaf.{Leaf}
-use Rattle.ranked_index.specs.Leaves.{open_leaf, IsNew}
-use Rattle.ranked_index.specs.Ranks.{name_of}
-use Rattle.ranked_index.proofs.LeafRows.{kept-push}
+use Rattle.ranked_index.specs.Leaves.{open_leaf, pushed, PlainResumes}
+use Rattle.ranked_index.specs.Ranks.{leaves_by}
+use Rattle.ranked_index.proofs.LeafRows.{kept-again, kept-push, view-is}
 use Rattle.ranked_index.proofs.resumes.Resumes.push.Goals as goal
 
 pub invariant_of-self-in-Err : goal.invariant_of-self-in-Err
 invariant_of-self-in-Err c =
-    let t = c.self.inside in
-    let order = t.ranking in
-    let rank = c.first_past-rank.result in
-    let fits : rank ≤ length order = omega (arith, c.first_past-rank.ensures.within, ap length c.numbers-order.ensures.numbers) in
+    let order = c.self.inside.ranking in
+    let fits : c.args.rank ≤ length order = omega (arith, c.requires.within, ap (λ (r : PlainResumes). length r.order) c.self.view_is) in
     let more = c.in_ok-insert.ensures.numbers in
     let back : c.pop.new.self ≡ order =
     c.pop.ensures.numbers ∙ ap (λ (ns : List ℕ). remove ns c.pop.result) more
-    ∙ popped order rank c.pop.result c.self.invariant.ranked.ranking fits (omega (arith, c.pop.ensures.within, ap length more)) (omega (arith, c.pop.ensures.last, ap length more, ap (λ (ns : List ℕ). slice_index ns c.pop.result) more)) in
-    rw (c.reserve.ensures.items, back, c.in-Err.ensures.resumes, c.in-Err.ensures.due) c.self.invariant
+    ∙ popped order c.args.rank c.pop.result c.self.invariant.ranking fits (omega (arith, c.pop.ensures.within, ap length more)) (omega (arith, c.pop.ensures.last, ap length more, ap (λ (ns : List ℕ). slice_index ns c.pop.result) more)) in
+    rw (back, c.in-Err.ensures.resumes, c.in-Err.ensures.due) c.self.invariant
 
-pub invariant_of-self-2 : goal.invariant_of-self-2
-invariant_of-self-2 c =
+pub returns-in-Err : goal.returns-in-Err
+returns-in-Err c =
+    let order = c.self.inside.ranking in
+    let fits : c.args.rank ≤ length order = omega (arith, c.requires.within, ap (λ (r : PlainResumes). length r.order) c.self.view_is) in
+    let more = c.in_ok-insert.ensures.numbers in
+    let back : c.pop.new.self ≡ order =
+    c.pop.ensures.numbers ∙ ap (λ (ns : List ℕ). remove ns c.pop.result) more
+    ∙ popped order c.args.rank c.pop.result c.self.invariant.ranking fits (omega (arith, c.pop.ensures.within, ap length more)) (omega (arith, c.pop.ensures.last, ap length more, ap (λ (ns : List ℕ). slice_index ns c.pop.result) more)) in
+    rw (back, c.in-Err.ensures.resumes, c.in-Err.ensures.due) c.self.view_is
+
+pub invariant_of-self-in_default : goal.invariant_of-self-in_default
+invariant_of-self-in_default c =
     let t = c.self.inside in
-    let leaves = t.leaves.items in
-    let name = c.args.name in
-    let rank = c.first_past-rank.result in
-    let first =
-    first_past-along name_of sub_lt (Some name) c.as_slice.result.now leaves c.numbers-order.result.now t.ranking rank (c.as_slice.ensures.value ∙ c.reserve.ensures.items) c.numbers-order.ensures.numbers c.first_past-rank.ensures in
-    let pushed : c.push_reserved.new.self.items ≡ leaves ++ open_leaf name c.args.resume ∷ [] =
-    c.push_reserved.ensures.items ∙ ap (λ (xs : List Leaf). xs ++ open_leaf name c.args.resume ∷ []) c.reserve.ensures.items in
-    let is_new : IsNew name leaves = subst (IsNew name) (sym c.self.view_is) c.requires.new in
-    rw (pushed, c.in_ok-insert.ensures.numbers, c.in_default.ensures.resumes, c.in_default.ensures.due)
-    (kept-push leaves t.ranking t.resumes t.due c.self.invariant rank name c.args.resume c.requires.below is_new first)
+    let fits : c.args.rank ≤ length t.ranking = omega (arith, c.requires.within, ap (λ (r : PlainResumes). length r.order) c.self.view_is) in
+    rw (c.in_ok-insert.ensures.numbers, c.in_default.ensures.resumes, c.in_default.ensures.due)
+    (kept-again _ _ _ _ (kept-push (leaves_by t.ranking t.resumes t.due) t.ranking t.resumes t.due c.self.invariant c.args.rank c.args.resume fits))
+
+pub returns : goal.returns
+returns c =
+    let t = c.self.inside in
+    let fits : c.args.rank ≤ length t.ranking = omega (arith, c.requires.within, ap (λ (r : PlainResumes). length r.order) c.self.view_is) in
+    rw (c.in_ok-insert.ensures.numbers, c.in_default.ensures.resumes, c.in_default.ensures.due)
+    (view-is _ _ _ _ (kept-push (leaves_by t.ranking t.resumes t.due) t.ranking t.resumes t.due c.self.invariant c.args.rank c.args.resume fits)
+    ∙ ap (pushed c.args.rank (open_leaf c.args.resume)) c.self.view_is)

@@ -1,17 +1,15 @@
-use Rattle.std.proofs.Common.{List, subst}
-use Rattle.ranked_index.specs.declared.resumes.Leaf.{Leaf}
-use Rattle.ranked_index.specs.Leaves.{slowest}
-use Rattle.ranked_index.proofs.Answering.{slowest-given, IsGiven}
+use Rattle.std.proofs.Common.{◌∙◌, ℕ, List, Option, ap}
+use Rattle.std.specs.Option.{option_map}
+use Rattle.std.specs.Prelude.{slice_index}
+use Rattle.ranked_index.specs.Keys.{least_place}
+use Rattle.ranked_index.specs.Leaves.{top}
+use Rattle.ranked_index.specs.Ranks.{leaves_by, resume_key}
+use Rattle.ranked_index.proofs.LeafRows.{keys-ranked}
 use Rattle.ranked_index.proofs.resumes.Resumes.top.Goals as goal
 
-pub returns-clause-none : goal.returns-clause-none
-returns-clause-none c =
+pub returns-clause-top : goal.returns-clause-top
+returns-clause-top c =
     let t = c.self.inside in
-    let of = slowest-given t.leaves.items t.ranking t.resumes t.due c.self.invariant c.least_number.result c.least_number.ensures.number c.least_number.ensures.within in
-    (subst (λ (xs : List Leaf). IsGiven (slowest xs) xs c.least_number.result) c.self.view_is of).none
-
-pub returns-clause-some : goal.returns-clause-some
-returns-clause-some c =
-    let t = c.self.inside in
-    let of = slowest-given t.leaves.items t.ranking t.resumes t.due c.self.invariant c.least_number.result c.least_number.ensures.number c.least_number.ensures.within in
-    (subst (λ (xs : List Leaf). IsGiven (slowest xs) xs c.least_number.result) c.self.view_is of).some
+    c.least_number.ensures.number
+    ∙ ap (λ (keys : List (Option ℕ)). option_map (slice_index t.ranking) (least_place keys)) (keys-ranked resume_key (leaves_by t.ranking t.resumes t.due) t.ranking t.resumes c.self.invariant.resumes_are)
+    ∙ ap top c.self.view_is

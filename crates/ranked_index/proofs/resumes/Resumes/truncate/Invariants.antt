@@ -1,8 +1,9 @@
-use Rattle.std.proofs.Common.{◌≡◌, length, take}
+use Rattle.std.proofs.Common.{◌≡◌, length}
+use Rattle.ranked_index.specs.Leaves.{truncated}
 use Rattle.ranked_index.proofs.resumes.Resumes.truncate.Given as goal
 
 abbrev pub invariant-loop-self : goal.invariant-loop-self
-invariant-loop-self l = take l.len l.self ≡ take l.len l.initial.self
+invariant-loop-self l = truncated l.len l.self ≡ truncated l.len l.initial.self
 
 abbrev pub decreases-loop-self : goal.decreases-loop-self
-decreases-loop-self l = length l.self
+decreases-loop-self l = length l.self.leaves

@@ -4,7 +4,7 @@ use Rattle.stream_model.specs.declared.plain.PlainPartition.{PlainPartition}
 use Rattle.subscription_table.specs.Table.{name_at}
 use Rattle.step_core.specs.PlainOf.{plain_of}
 use Rattle.step_core.specs.Serving.{name_of, CatchesUp}
-use Rattle.step_core.proofs.CatchOps.{catches-reached, catches-within, count-is, name-is}
+use Rattle.step_core.proofs.CatchOps.{caught-reached, caught-within, count-is, name-is}
 use Rattle.step_core.proofs.partition.Partition.catch_up.Goals as goal
 
 pub catch_up-is_caught_up-requires-clause-number : goal.catch_up-is_caught_up-requires-clause-number
@@ -18,21 +18,16 @@ invariant_of-self c =
     let s = name_at parts.subs c.args.number in
     record {
       assembled = c.catch_up-is_caught_up.ensures.assembled;
-      within = catches-within old new s c.catch_up-is_caught_up.result c.catch_up-is_caught_up.ensures.told c.self.invariant.within;
+      within = caught-within old new s c.catch_up-is_caught_up.result c.catch_up-is_caught_up.ensures.told c.self.invariant.within;
       unique = c.len.ensures.unique;
       records = c.len.ensures.records;
       distinct = c.len-2.ensures.distinct;
-      reached = catches-reached old new s c.catch_up-is_caught_up.result c.catch_up-is_caught_up.ensures.told c.self.invariant.reached;
+      reached = caught-reached old new s c.catch_up-is_caught_up.result c.catch_up-is_caught_up.ensures.told c.self.invariant.reached;
     }
 
-pub returns-clause-told : goal.returns-clause-told
-returns-clause-told c =
+pub returns : goal.returns
+returns c =
     let parts = c.self.inside.parts in
     let new = plain_of c.catch_up-is_caught_up.new.parts in
     subst (λ (p : PlainPartition). CatchesUp p new (name_of p c.args.number) c.catch_up-is_caught_up.result) c.self.view_is
     (subst (λ (s : SubName). CatchesUp (plain_of parts) new s c.catch_up-is_caught_up.result) (sym (name-is parts c.args.number c.self.invariant)) c.catch_up-is_caught_up.ensures.told)
-
-pub returns-clause-reached : goal.returns-clause-reached
-returns-clause-reached c =
-    let parts = c.self.inside.parts in
-    catches-reached (plain_of parts) (plain_of c.catch_up-is_caught_up.new.parts) (name_at parts.subs c.args.number) c.catch_up-is_caught_up.result c.catch_up-is_caught_up.ensures.told c.self.invariant.reached

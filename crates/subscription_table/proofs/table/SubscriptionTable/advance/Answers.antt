@@ -1,5 +1,5 @@
 use Rattle.std.proofs.Common.{sym, ap, subst}
-use Rattle.subscription_table.specs.LeavesOf.{leaf_of}
+use Rattle.subscription_table.specs.Standing.{kept_of}
 use Rattle.subscription_table.specs.Table.{PlainTable}
 use Rattle.subscription_table.proofs.StateLemmas.{fits-advanced}
 use Rattle.subscription_table.proofs.TableLemmas.{Fits, kept}
@@ -12,4 +12,4 @@ invariant_of-self c =
     kept t c.args.self.now c.self.inside.tags.items c.self.inside.resumes c.self.invariant c.self.view_is c.args.number c.requires.within
     c.index_mut.result.now c.advance.new.self c.index_mut.ensures.value
     (λ stands. subst (Fits c.index_mut.result.now) (sym told) (fits-advanced _ stands c.args.position c.requires.room))
-    (λ entry. ap (leaf_of entry) c.advance.ensures)
+    (ap kept_of c.advance.ensures)

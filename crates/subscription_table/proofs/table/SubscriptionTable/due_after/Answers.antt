@@ -1,24 +1,30 @@
-use Rattle.std.proofs.Common.{◌≡◌, ℕ, ◌<◌, length, Some}
+use Rattle.std.proofs.Common.{ℕ, List, subst}
 use Rattle.std.specs.Option.{option_copied}
-use Rattle.ranked_index.specs.Leaves.{due_after, IsNameAt}
+use Rattle.stream_ident.specs.SubName.{sub_lt}
+use Rattle.ranked_index.specs.Ranked.{IsFirstPast}
+use Rattle.subscription_table.specs.Leaves.{due_after}
 use Rattle.subscription_table.specs.LeavesOf.{leaves_of}
+use Rattle.subscription_table.specs.Standing.{name_of}
 use Rattle.subscription_table.specs.Table.{PlainTable, name_at}
-use Rattle.subscription_table.proofs.LookLemmas.{name-found, name-within, where-some}
+use Rattle.subscription_table.proofs.LookLemmas.{due-found, none-given, some-given}
 use Rattle.subscription_table.proofs.table.SubscriptionTable.due_after.Goals as goal
 
-pub returns-clause-within : goal.returns-clause-within
-returns-clause-within c =
+pub returns-clause-none : goal.returns-clause-none
+returns-clause-none c =
     let t : PlainTable = record { registry = c.self.inside.registry; states = c.self.inside.states.items } in
     let old = c.args.self.now in
-    where-some (IsNameAt (due_after c.args.high (option_copied c.args.after) c.self.inside.resumes) c.self.inside.resumes) (λ (number : ℕ). number < length old.registry.names)
-    (λ number found. name-within t old c.self.inside.tags.items c.self.inside.resumes c.self.invariant c.self.view_is number found.0)
-    c.due_after.result c.due_after.ensures.some
+    let after = option_copied c.args.after in
+    let first = subst (λ (order : List ℕ). IsFirstPast name_of sub_lt after t.registry.names order c.first_past-from.result) c.numbers.ensures.numbers c.first_past-from.ensures in
+    let found = due-found t c.args.self.now c.self.inside.tags.items c.self.inside.resumes c.self.invariant c.self.view_is
+    c.args.high after c.first_past-from.result first c.due_from.result c.due_from.ensures.due c.due_from.ensures.within in
+    none-given c.due_from.result (name_at old) (due_after c.args.high after (leaves_of old.registry.names old.states)) found
 
 pub returns-clause-some : goal.returns-clause-some
 returns-clause-some c =
     let t : PlainTable = record { registry = c.self.inside.registry; states = c.self.inside.states.items } in
     let old = c.args.self.now in
-    let look = due_after c.args.high (option_copied c.args.after) in
-    where-some (IsNameAt (look c.self.inside.resumes) c.self.inside.resumes) (λ (number : ℕ). look (leaves_of old.registry.names old.states) ≡ Some (name_at old number))
-    (λ number found. name-found t old c.self.inside.tags.items c.self.inside.resumes c.self.invariant c.self.view_is look number found)
-    c.due_after.result c.due_after.ensures.some
+    let after = option_copied c.args.after in
+    let first = subst (λ (order : List ℕ). IsFirstPast name_of sub_lt after t.registry.names order c.first_past-from.result) c.numbers.ensures.numbers c.first_past-from.ensures in
+    let found = due-found t c.args.self.now c.self.inside.tags.items c.self.inside.resumes c.self.invariant c.self.view_is
+    c.args.high after c.first_past-from.result first c.due_from.result c.due_from.ensures.due c.due_from.ensures.within in
+    some-given c.due_from.result (name_at old) (due_after c.args.high after (leaves_of old.registry.names old.states)) found

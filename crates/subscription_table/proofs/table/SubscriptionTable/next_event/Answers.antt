@@ -1,7 +1,7 @@
 use Rattle.std.proofs.Common.{sym, ap, subst}
 use Rattle.consumer_grain.specs.Subscriptions.{PlainState}
 use Rattle.subscription_table.proofs.StateLemmas.{fits-sought, same-sought}
-use Rattle.subscription_table.specs.LeavesOf.{leaf_of}
+use Rattle.subscription_table.specs.Standing.{kept_of}
 use Rattle.subscription_table.specs.Progress.{next_event}
 use Rattle.subscription_table.specs.Table.{PlainTable}
 use Rattle.subscription_table.specs.declared.told.Sought.{Sought}
@@ -27,7 +27,7 @@ invariant_of-self-in_default c =
     let same = same-sought c.args.cache.now c.index_mut-state.result.now c.next_event-sought.new.state _ c.args.outstanding c.next_event-sought.result c.in_default.not-Nothing c.next_event-sought.ensures.sought in
     kept t c.args.self.now c.self.inside.tags.items c.self.inside.resumes c.self.invariant c.self.view_is c.args.number c.requires.within
     c.index_mut-state.result.now c.next_event-sought.new.state c.index_mut-state.ensures.value
-    (λ stands. subst (Fits c.index_mut-state.result.now) (sym same) stands) (λ entry. ap (leaf_of entry) same)
+    (λ stands. subst (Fits c.index_mut-state.result.now) (sym same) stands) (ap kept_of same)
 
 pub returns-in-Nothing-clause-sought : goal.returns-in-Nothing-clause-sought
 returns-in-Nothing-clause-sought c =

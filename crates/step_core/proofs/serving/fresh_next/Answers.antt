@@ -1,0 +1,43 @@
+use Rattle.std.proofs.Common.{◌≡◌, ◌∙◌, ap, sym, ℕ, Some, arith}
+use Rattle.stream_ident.specs.Words.{past}
+use Rattle.stream_model.specs.Positions.{next_position}
+use Rattle.consumer_grain.specs.Subscriptions.{PlainState}
+use Rattle.stream_laws.proofs.DrainDeliver.{next-bounds}
+use Rattle.pubsub_registry.specs.declared.registration.Registration.{Registration}
+use Rattle.queue_cache.specs.Cache.{PlainCache}
+use Rattle.cache_cursor.specs.Cursor.{next_in}
+use Rattle.step_core.specs.PlainOf.{plain_of}
+use Rattle.step_core.specs.Records.{record_of}
+use Rattle.step_core.proofs.DeliverOps.{next-is}
+use Rattle.step_core.proofs.HandOps.{Stands, cursor-low}
+use Rattle.step_core.proofs.serving.fresh_next.Goals as goal
+
+pub next-requires-clause-low : goal.next-requires-clause-low
+next-requires-clause-low c =
+    let parts = c.args.parts.now in
+    let stands : Stands parts c.args.number = record { agrees = c.requires.agrees; within = c.requires.number } in
+    let is_open = ap (λ (state : PlainState). state.is_open) (sym c.state-state.ensures) ∙ (sym c.is_open.ensures ∙ c.if-not-is_open.false) in
+    rw (c.cache.ensures, c.cursor.ensures, c.state-state.ensures) (cursor-low parts c.args.number stands is_open)
+
+pub returns : goal.returns
+returns c =
+    let parts = c.args.parts.now in
+    let r = record_of parts c.args.number in
+    let stands : Stands parts c.args.number = record { agrees = c.requires.agrees; within = c.requires.number } in
+    let is_open = ap (λ (state : PlainState). state.is_open) (sym c.state-state.ensures) ∙ (sym c.is_open.ensures ∙ c.if-not-is_open.false) in
+    let handled : c.past-handled.result ≡ past r.handled = c.past-handled.ensures ∙ ap (λ (state : PlainState). past state.handled) c.state-state.ensures in
+    let read : c.next.result ≡ next_in parts.agent.cache r.cursor r.stream r.start =
+    c.next.ensures.next
+    ∙ ap (λ (cache : PlainCache). next_in cache c.cursor.result c.registration-registration.result.now.stream c.registration-registration.result.now.start) c.cache.ensures
+    ∙ ap (λ (from : ℕ). next_in parts.agent.cache from c.registration-registration.result.now.stream c.registration-registration.result.now.start) (c.cursor.ensures ∙ ap (λ (state : PlainState). state.cursor) c.state-state.ensures)
+    ∙ ap (λ (registration : Registration). next_in parts.agent.cache r.cursor registration.stream registration.start) c.registration-registration.ensures in
+    let next : next_position (plain_of parts) r ≡ Some c.in_ok-position.position =
+    next-is parts r c.requires.agrees.assembled.cached (cursor-low parts c.args.number stands is_open)
+    ∙ sym read ∙ c.in_ok-position.was in
+    record {
+      is_open = is_open;
+      next = next;
+      some = omega (arith, c.if-handled-eq0.false, handled);
+      fresh = omega (arith, c.if-position-handled.false, handled);
+      within = (next-bounds (plain_of parts) r c.in_ok-position.position next).1;
+    }

@@ -1,0 +1,149 @@
+//! What a drain does for a subscription at once, where that comes to what its single operations come to.
+ghost use Rattle.std.specs.Prelude.{◌≡◌, ◌<◌, ℕ, true, max, length, nat_lt, IfSome, Some};
+ghost use Rattle.stream_ident.specs.Name.{same_grain};
+ghost use Rattle.stream_ident.specs.Words.{past, value_at};
+ghost use Rattle.stream_model.specs.Draining.{next_note};
+ghost use Rattle.stream_model.specs.Positions.{next_position};
+ghost use Rattle.subscription_table.specs.Table.{name_at, state_at};
+ghost use Rattle.step_core.specs.Assembly.{Agrees, IsAssembled};
+ghost use Rattle.step_core.specs.PlainOf.{plain_of};
+ghost use Rattle.step_core.specs.Records.{record_of};
+ghost use Rattle.step_core.specs.Serving.{is_held, resting_grain, CatchesUp, HandlesNext, IsFresh};
+
+use crate::parts::Parts;
+use crate::reading::is_spent;
+use cache_cursor::next;
+use std::alloc::{AllocError, Global};
+use stream_ident::Row;
+use subscription_table::Sought;
+
+/// Serves the subscription with a number to its end where the cache has nothing for it, nothing of it waits or runs, and it
+/// has handled no event past both its cursor and the end of the cache: what it has handled is acknowledged, and its cursor
+/// and its resume go to the end of the cache. Elsewhere nothing changes, and the result is false.
+pub(crate) fn catch_up(parts: &mut Parts, number: usize) -> bool
+    requires agrees { Agrees parts.old }
+    requires number { number < length parts.old.subs.registry.names }
+    ensures assembled { IsAssembled parts.new }
+    ensures told { CatchesUp (plain_of parts.old) (plain_of parts.new) (name_at parts.old.subs number) result }
+{
+    if is_held(parts, number) {
+        return false;
+    }
+    if is_ahead(parts, number) {
+        return false;
+    }
+    match parts.subs.next_event(number, parts.agent.cache(), false) {
+        Sought::Nothing => true,
+        Sought::Next { .. } => false,
+        Sought::Closed => false,
+    }
+}
+
+/// Whether a delivery of a subscription waits or runs. Its grain is looked for only where some grain isn't idle.
+fn is_held(parts: &Parts, number: usize) -> bool
+    requires agrees { Agrees parts.now }
+    requires number { number < length parts.now.subs.registry.names }
+    ensures { result ≡ is_held (plain_of parts.now) (name_at parts.now.subs number) (record_of parts.now number) }
+{
+    if parts.grains.is_idle() {
+        return false;
+    }
+    match parts.grains.find(&parts.subs.registration(number).grain) {
+        Some(grain) => parts.grains.at(grain).holds(number),
+        None => false,
+    }
+}
+
+/// Whether a subscription has handled an event past its cursor and past the end of the cache. Only a move leads to that.
+fn is_ahead(parts: &Parts, number: usize) -> bool
+    requires { number < length parts.now.subs.registry.names }
+    ensures { result ≡ nat_lt (max (state_at parts.now.subs number).cursor (plain_of parts.now).high) (past (state_at parts.now.subs number).handled) }
+{
+    let state = parts.subs.state(number);
+    state.cursor().max(parts.agent.cache().high()) < state.past()
+}
+
+/// Delivers the next event of the subscription with a number and has a turn of its grain handle it, where the subscription is
+/// open and has handled an event but none from that one on, its grain is active and at rest, and a rise is left. Elsewhere,
+/// and where memory is wanting, nothing changes, and the result is false.
+pub(crate) fn handle_next(parts: &mut Parts, alloc: Global, number: usize) -> bool
+    requires agrees { Agrees parts.old }
+    requires number { number < length parts.old.subs.registry.names }
+    ensures assembled { IsAssembled parts.new }
+    ensures told { HandlesNext (plain_of parts.old) (plain_of parts.new) (name_at parts.old.subs number) result }
+{
+    if is_spent(parts) {
+        return false;
+    }
+    let Some(position) = fresh_next(parts, number) else {
+        return false;
+    };
+    if !rests(parts, number) {
+        return false;
+    }
+    let note = next_note(parts.subs.state(number).note());
+    match parts.subs.commit(alloc, number, &Row::of(position), note) {
+        Ok(()) => {
+            parts.subs.advance(number, position);
+            parts.rises += 1;
+            parts.turns += 1;
+            true
+        }
+        Err(AllocError) => false,
+    }
+}
+
+/// The next event of the cache that a subscription is owed, where the subscription is open, has handled an event and has
+/// handled none from that one on.
+fn fresh_next(parts: &Parts, number: usize) -> Option<usize>
+    requires agrees { Agrees parts.now }
+    requires number { number < length parts.now.subs.registry.names }
+    ensures { IfSome result (IsFresh (plain_of parts.now) (record_of parts.now number)) }
+{
+    let state = parts.subs.state(number);
+    if !state.is_open() {
+        return None;
+    }
+    let handled = state.past();
+    if handled == 0 {
+        return None;
+    }
+    let registration = parts.subs.registration(number);
+    let position = next(
+        parts.agent.cache(),
+        state.cursor(),
+        &registration.stream,
+        parts.subs.tag(number),
+        &registration.start,
+    )?;
+    if position < handled {
+        return None;
+    }
+    Some(position)
+}
+
+/// Whether the grain of a subscription is active, with nothing that waits and no turn that runs.
+fn rests(parts: &Parts, number: usize) -> bool
+    requires agrees { Agrees parts.now }
+    requires number { number < length parts.now.subs.registry.names }
+    ensures { result ≡ true → (activation : ℕ) × (value_at same_grain (record_of parts.now number).grain (plain_of parts.now).grains ≡ Some (resting_grain activation)) }
+{
+    let Some(grain) = parts.grains.find(&parts.subs.registration(number).grain) else {
+        return false;
+    };
+    let activation = parts.grains.at(grain);
+    if activation.waiting() > 0 {
+        return false;
+    }
+    if activation.running().is_some() {
+        return false;
+    }
+    activation.is_active()
+}
+
+/// The note that a turn of a drain leaves: one more, up to the greatest.
+pub(crate) fn next_note(note: u64) -> u64
+    ensures { result ≡ next_note note }
+{
+    note.saturating_add(1)
+}
