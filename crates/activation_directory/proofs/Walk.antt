@@ -20,13 +20,6 @@ split placed i entry some is =
     let next : i ≡ suc (i - 1) = omega arith in
     ap (λ n. entry ∷ drop n placed) next ∙ sym (drop-at placed (i - 1) entry is)
 
--- past the end there is none
-pub least_on-end : (silo : ℕ) (placed : Placed) (n : ℕ) → length placed ≤ n → None ≡ least_on silo (drop n placed)
-least_on-end silo placed n past = sym (ap (least_on silo) (drop_all n placed past))
-
-pub count_on-end : (silo : ℕ) (placed : Placed) (n : ℕ) → length placed ≤ n → 0 ≡ count_on silo (drop n placed)
-count_on-end silo placed n past = sym (ap (count_on silo) (drop_all n placed past))
-
 -- an entry of the silo in front, and one of another
 pub least_on-yes : (silo : ℕ) (entry : GrainId × Place) (rest : Placed) → (entry.1.silo == silo) ≡ true → Some (lesser grain_lt entry.0 (least_on silo rest)) ≡ least_on silo (entry ∷ rest)
 least_on-yes silo entry rest is = rw is refl

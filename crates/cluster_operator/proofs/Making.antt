@@ -1,8 +1,8 @@
 -- Calls that a pass has made past a mark.
-use Rattle.std.proofs.Common.{◌≡◌, ℕ, zero, suc, ◌≤◌, ◌⊎◌, inl, inr, List, [], ◌∷◌, ◌++◌, length, drop, Contains, Result, Ok, Err, refl, sym, ap, subst, ◌∙◌, append_assoc, arith}
+use Rattle.std.proofs.Common.{◌≡◌, ℕ, zero, suc, ◌≤◌, Bool, ◌⊎◌, inl, inr, List, [], ◌∷◌, ◌++◌, length, drop, Contains, Result, Ok, Err, refl, sym, ap, subst, ◌∙◌, append_assoc, arith}
 use Rattle.std.specs.Result.{IfErr, IsErrAnd}
 use Rattle.std.proofs.Math.Seq.{drop-append_seam, drop-length}
-use Rattle.std.proofs.lemmas.List.{drop-append-le, length-append}
+use Rattle.std.proofs.lemmas.List.{append-nil, drop-append-le, length-append}
 use Rattle.turnstile.specs.declared.history.Entry.{Entry}
 use Rattle.turnstile.specs.Calls.{numbers_of}
 use Rattle.turnstile.specs.Closing.{HasSome}
@@ -14,7 +14,7 @@ use Rattle.silo_loops.specs.Passes.{CallsBy}
 use Rattle.silo_loops.proofs.Owning.{calls-number}
 use Rattle.silo_loops.proofs.Taking.{called-alone}
 use Rattle.silo_crew.specs.Silos.{GoesOn, IsSilent}
-use Rattle.cluster_operator.specs.Changes.{HasFound, HasMade, halt_of}
+use Rattle.cluster_operator.specs.Changes.{HasFound, HasMade, HasMadeLast, halt_of}
 
 -- what holds of the error that `?` passes on
 pub passed-on : {A E : Type 0} (P : E → Type 0) (result : Result A E) (e : E) → IsErrAnd result (λ y. y ≡ e) → P e → IfErr result P
@@ -81,6 +81,12 @@ module _ {O R S : Type 0} (IsSuch : O → R → Type 0) where
       (sym (ap (λ (es : List (Entry O R)). drop mark es) on.seen ∙ drop-append-le mark p.seen on.more less))
       (some-left (λ (e : Entry O R). (e.number ≡ q.number) × IsSuch e.op e.reply) (drop mark p.seen) on.more renamed)
 
+-- the last call past a mark is so past an earlier one
+pub last-earlier : {O R S : Type 0} (test : O → Bool) (IsSuch : O → R → Type 0) (m n : ℕ) (p : PassView O R S) → m ≤ n → HasMadeLast test n p IsSuch → HasMadeLast test m p IsSuch
+last-earlier test IsSuch m n p less made =
+    let past = made.past in
+    record { before = made.before; asked = made.asked; answered = made.answered; later = made.later; whole = made.whole; past = omega (arith, less, past); such = made.such; none = made.none }
+
 pub goes-longer : {O R S : Type 0} (p q : PassView O R S) → GoesOn p q → length p.seen ≤ length q.seen
 goes-longer {O} {R} p q on = let long = ap (λ (es : List (Entry O R)). length es) on.seen ∙ length-append p.seen on.more in omega (arith, long)
 
@@ -104,6 +110,23 @@ module _ {S O R : Type 0} (reply : S → O → R) (after : S → O → S) where
       subst (λ (es : List (Entry O R)). HasSome (λ (e : Entry O R). (e.number ≡ q.number) × IsSuch e.op e.reply) es)
       (sym (ap (λ (es : List (Entry O R)). drop (length p.seen) es) (calls.call.1 ∙ append_assoc p.seen between (entry p.number op r ∷ [])) ∙ drop-append_seam p.seen (between ++ entry p.number op r ∷ [])))
       (some-right (λ (e : Entry O R). (e.number ≡ q.number) × IsSuch e.op e.reply) between (entry p.number op r ∷ []) (inl (sym number, such)))
+
+  -- a call that was just made is the last one
+  pub called-last : (test : O → Bool) (IsSuch : O → R → Type 0) (p : PassView O R S) (op : O) (r : R) (q : PassView O R S) → CallsBy reply after p op (Ok r) q → IsSuch op r → HasMadeLast test (length p.seen) q IsSuch
+  called-last test IsSuch p op r q calls such =
+      let front = p.seen ++ calls.call.0 in
+      let number = calls-number reply after p op (Ok r) q calls in
+      let long = length-append p.seen calls.call.0 in
+      record {
+        before = front;
+        asked = op;
+        answered = r;
+        later = [];
+        whole = calls.call.1 ∙ ap (λ n. front ++ entry n op r ∷ []) (sym number) ∙ sym (append-nil (front ++ entry q.number op r ∷ []));
+        past = omega (arith, long);
+        such = such;
+        none = tt;
+      }
 
   -- a call past the mark is one from before, or the last one
   pub made-cases : (IsSuch : O → R → Type 0) (mark : ℕ) (p : PassView O R S) (op : O) (r : R) (q : PassView O R S) → CallsBy reply after p op (Ok r) q → mark ≤ length p.seen → HasMade mark q IsSuch → HasMade mark p IsSuch ⊎ IsSuch op r

@@ -2,12 +2,17 @@
 use Rattle.std.proofs.Common.{◌≡◌, ◌≢◌, ℕ, zero, suc, ◌<◌, List, [], ◌∷◌, ◌++◌, length, get_or, Contains, refl, sym, ap, subst, ◌∙◌, arith}
 use Rattle.std.proofs.lemmas.List.Quantifiers.{all_pairs_push}
 use Rattle.queue_balancer.specs.Balance.{HasNoDoubles}
+use Rattle.silo_loops.specs.Lines.{DirectoryPass, LineView}
 use Rattle.silo_crew.specs.Silos.{GoOn}
 use Rattle.silo_crew.proofs.Going.{goes-length, goes-refl, goes-some, on-refl}
 use Rattle.cluster_operator.specs.Operators.{HasOnlyGoneOn, IsOperator, OperatorView}
 
 pub only-refl : (v : OperatorView) → HasOnlyGoneOn v v
 only-refl v = record { on = record { lines = goes-refl v.lines; directory = on-refl v.directory }; live = refl; assignment = refl }
+
+-- an operator with the same passes
+pub same-passes : (v : OperatorView) (ls : List LineView) (d : DirectoryPass) → (ls ≡ v.lines) × (d ≡ v.directory) → record v { lines = ls; directory = d } ≡ v
+same-passes v ls d same = ap (λ (ms : List LineView). record v { lines = ms; directory = d }) same.0 ∙ ap (λ (e : DirectoryPass). record v { directory = e }) same.1
 
 -- lines that go on are as many
 pub kept-lines : (v w : OperatorView) → GoOn v.lines w.lines → w.live ≡ v.live → w.assignment ≡ v.assignment → IsOperator v → IsOperator w

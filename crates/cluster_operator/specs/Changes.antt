@@ -1,5 +1,6 @@
 -- What the calls of a cluster's own passes leave when its silos change.
-use Rattle.std.specs.Prelude.{◌≡◌, ◌≢◌, ◌⊎◌, ℕ, List, length, drop, Option, Some, None, Result, Ok, Err, slice_get, slice_index}
+use Rattle.std.specs.Prelude.{◌≡◌, ◌≢◌, ◌⊎◌, ℕ, ◌≤◌, Bool, true, false, List, [], ◌∷◌, ◌++◌, length, drop, Option, Some, None, Result, Ok, Err, slice_get, slice_index}
+use Rattle.std.specs.List.{AllZip}
 use Rattle.stream_ident.specs.declared.ident.GrainId.{GrainId}
 use Rattle.stream_ident.specs.declared.token.Token.{Token}
 use Rattle.stream_model.specs.declared.op.Op.{Op}
@@ -13,12 +14,13 @@ use Rattle.activation_directory.specs.declared.reply.DirectoryReply.TheVariants 
 use Rattle.turnstile.specs.declared.history.Entry.{Entry}
 use Rattle.turnstile.specs.declared.turnstile.Refusal.{Refusal}
 use Rattle.turnstile.specs.declared.turnstile.Refusal.TheVariants as refusal
-use Rattle.turnstile.specs.Calls.{IsFull}
+use Rattle.turnstile.specs.Calls.{HasOnlySeen, IsFull}
 use Rattle.turnstile.specs.Closing.{HasSome}
+use Rattle.turnstile.specs.History.{entry}
 use Rattle.turnstile.specs.Passes.{Origin, PassView}
 use Rattle.shared_partition.specs.Directories as places
 use Rattle.silo_loops.specs.Lines.{DirectoryPass, LineView}
-use Rattle.silo_loops.specs.Passes.{CallsBy}
+use Rattle.silo_loops.specs.Passes.{CallsBy, OwnsNone}
 use Rattle.cluster_operator.specs.declared.halt.Halt.{Halt}
 use Rattle.cluster_operator.specs.declared.halt.Halt.TheVariants as halt
 use Rattle.cluster_operator.specs.declared.leaving.Release.{Release}
@@ -32,6 +34,17 @@ moved_of _ = None
 -- past its mark one of the pass's own calls is such
 abbrev pub HasMade : {O R S : Type 0} → ℕ → PassView O R S → (O → R → Type 0) → Type 0
 HasMade {O} {R} mark p IsSuch = HasSome (λ (e : Entry O R). (e.number ≡ p.number) × IsSuch e.op e.reply) (drop mark p.seen)
+
+-- Past its mark the pass has made a call of its own that the test picks, and the last one of these is such.
+pub record HasMadeLast {O R S : Type 0} (test : O → Bool) (mark : ℕ) (p : PassView O R S) (IsSuch : O → R → Type 0) : Type 0 where
+  pub before : List (Entry O R)
+  pub asked : O
+  pub answered : R
+  pub later : List (Entry O R)
+  pub whole : p.seen ≡ (before ++ entry p.number asked answered ∷ []) ++ later
+  pub past : mark ≤ length before
+  pub such : IsSuch asked answered
+  pub none : OwnsNone test (p.number ∷ []) later
 
 -- since the line was so the other, later one has made such a call
 abbrev pub HasSince : LineView → LineView → (Op → Reply → Type 0) → Type 0
@@ -50,6 +63,19 @@ HasFound {S = S} why p = (e : Refusal) × (why ≡ halt_of e) × ((t : Origin S)
 -- the queue went to an agent on this silo
 abbrev pub IsMove : ℕ → Op → Reply → Type 0
 IsMove silo o r = (o ≡ op.Move silo) × ((generation : ℕ) × (low : Token) × (r ≡ reply.Moved generation low))
+
+-- the operation moves the queue
+abbrev pub is_move : Op → Bool
+is_move (op.Move silo) = true
+is_move _ = false
+
+-- the last Move of the queue since is to this silo
+abbrev pub HasMovedLast : ℕ → LineView → LineView → Type 0
+HasMovedLast silo was is = HasMadeLast is_move (length was.pass.seen) is.pass (IsMove silo)
+
+-- the queue was moved nowhere since
+abbrev pub HasMovedNowhere : LineView → LineView → Type 0
+HasMovedNowhere was is = OwnsNone is_move (is.pass.number ∷ []) (drop (length was.pass.seen) is.pass.seen)
 
 -- the queue has as many rises as it may have
 abbrev pub IsSpentMove : ℕ → Op → Reply → Type 0
@@ -77,10 +103,29 @@ Releases silo d (Err why) e = (refused : Refusal) × (why ≡ halt_of refused) �
 abbrev pub AtEachQueue : List LineView → List LineView → (ℕ → LineView → LineView → Type 0) → Type 0
 AtEachQueue old new R = (queue : ℕ) (was is : LineView) → slice_get old queue ≡ Some was → slice_get new queue ≡ Some is → R queue was is
 
--- each queue that has another silo than before was moved there
+-- each queue that has another silo than before was moved there, and nowhere after that
 abbrev pub HaveMoved : List LineView → List LineView → List ℕ → List ℕ → Type 0
 HaveMoved old new before now =
-    AtEachQueue old new (λ queue was is. slice_index now queue ≢ slice_index before queue → HasSince was is (IsMove (slice_index now queue)))
+    AtEachQueue old new (λ queue was is. slice_index now queue ≢ slice_index before queue → HasMovedLast (slice_index now queue) was is)
+
+-- each queue that has the silo that it had was moved nowhere
+abbrev pub HaveStayed : List LineView → List LineView → List ℕ → List ℕ → Type 0
+HaveStayed old new before now = AtEachQueue old new (λ queue was is. slice_index now queue ≡ slice_index before queue → HasMovedNowhere was is)
+
+-- each queue was moved nowhere
+abbrev pub HaveMovedNowhere : List LineView → List LineView → Type 0
+HaveMovedNowhere old new = AtEachQueue old new (λ queue was is. HasMovedNowhere was is)
+
+-- a queue that had the first silo is to have the second one
+abbrev pub IsAtSilo : ℕ → ℕ → LineView → LineView → Type 0
+IsAtSilo before now was is = (now ≢ before → HasMovedLast now was is) × (now ≡ before → HasMovedNowhere was is)
+
+-- the line is as before, save what its pass has seen: no pass was joined to that
+abbrev pub LineHasOnlySeen : LineView → LineView → Type 0
+LineHasOnlySeen l m = (m.mark ≡ l.mark) × HasOnlySeen l.pass m.pass
+
+abbrev pub HaveOnlySeen : List LineView → List LineView → Type 0
+HaveOnlySeen old new = AllZip LineHasOnlySeen old new
 
 -- the grain was deactivated at each queue
 abbrev pub IsDeactivated : List LineView → List LineView → GrainId → Type 0

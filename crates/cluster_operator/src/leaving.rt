@@ -1,7 +1,7 @@
 //! A silo that goes: its grains leave the directory and the partitions.
 ghost use Rattle.std.specs.Prelude.{◌≡◌, length, IfErr, OnOk};
 ghost use Rattle.silo_crew.specs.Silos.{GoOn, GoesOn, LineGoesOn};
-ghost use Rattle.cluster_operator.specs.Changes.{AreDeactivated, HasFound, HasFoundOne, HasMade, HasSince, HoldsGrains, IsDeactivated, IsDeactivation, IsNoneLeft, Releases};
+ghost use Rattle.cluster_operator.specs.Changes.{AreDeactivated, HasFound, HasFoundOne, HasMade, HasMovedNowhere, HasSince, HaveMovedNowhere, HoldsGrains, IsDeactivated, IsDeactivation, IsNoneLeft, Releases};
 
 use crate::halt::Halt;
 use activation_directory::{DirectoryOp, DirectoryReply};
@@ -21,6 +21,7 @@ fn deactivate<G: Gate, H: QueueHistory, R: Wait>(
     grain: &GrainId,
 ) -> Result<(), Halt>
     ensures on { LineGoesOn line.old line.new }
+    ensures nowhere { OnOk result (HasMovedNowhere line.old line.new) }
     ensures done { OnOk result (HasSince line.old line.new (IsDeactivation grain.now)) }
     ensures found { IfErr result (λ why. HasFound why line.new.pass) }
 {
@@ -37,6 +38,7 @@ fn deactivate_everywhere<G: Gate, H: QueueHistory, R: Wait>(
     grain: &GrainId,
 ) -> Result<(), Halt>
     ensures on { GoOn lines.old.items lines.new.items }
+    ensures nowhere { OnOk result (HaveMovedNowhere lines.old.items lines.new.items) }
     ensures done { OnOk result (IsDeactivated lines.old.items lines.new.items grain.now) }
     ensures found { IfErr result (λ why. HasFoundOne why lines.new.items) }
 {
@@ -84,6 +86,7 @@ pub(crate) fn evict<G: Gate, H: QueueHistory, D: DirectoryHistory, R: Wait>(
 ) -> Result<(), Halt>
     ensures on { GoOn lines.old.items lines.new.items }
     ensures directory { GoesOn directory.old directory.new }
+    ensures nowhere { OnOk result (HaveMovedNowhere lines.old.items lines.new.items) }
     ensures deactivated { OnOk result (AreDeactivated silo directory.old directory.new lines.old.items lines.new.items) }
     ensures none_left { OnOk result (HasMade (length directory.old.seen) directory.new (IsNoneLeft silo)) }
     ensures holds { IfErr result (λ why. HoldsGrains why silo directory.old directory.new lines.new.items) }

@@ -2,7 +2,7 @@
 ghost use Rattle.std.specs.Prelude.{◌≡◌, ◌≢◌, length, IfErr, OnOk};
 ghost use Rattle.silo_crew.specs.Silos.{GoOn, LineGoesOn};
 ghost use Rattle.step_core.specs.Replied.{reply_of};
-ghost use Rattle.cluster_operator.specs.Changes.{HasSince, HaveMoved, IsMove, IsUnmoved, StaysBehind, moved_of};
+ghost use Rattle.cluster_operator.specs.Changes.{HaveMoved, HaveOnlySeen, HaveStayed, IsAtSilo, IsUnmoved, LineHasOnlySeen, StaysBehind, moved_of};
 
 use crate::halt::Halt;
 use shared_partition::{Gate, QueueHistory};
@@ -25,7 +25,8 @@ fn move_queue<G: Gate, H: QueueHistory, R: Wait>(
     to: u8,
 ) -> Result<(), Halt>
     ensures on { LineGoesOn line.old line.new }
-    ensures moved { OnOk result (to ≢ from → HasSince line.old line.new (IsMove to)) }
+    ensures seen { LineHasOnlySeen line.old line.new }
+    ensures moved { OnOk result (IsAtSilo from to line.old line.new) }
     ensures unmoved { IfErr result (λ why. to ≢ from × IsUnmoved why to line.old line.new) }
 {
     if from == to {
@@ -62,7 +63,7 @@ fn tell(agents: &Vec<Arc<Assigned, Global>>, queue: usize, from: u8, to: u8, gen
     }
 }
 
-/// Moves each queue that is to have another silo.
+/// Moves each queue that is to have another silo, and no other.
 ///
 /// # Errors
 /// A move was refused. Those before it stand.
@@ -78,7 +79,9 @@ pub(crate) fn spread<G: Gate, H: QueueHistory, R: Wait>(
     requires old { length old.now ≡ length lines.old.items }
     requires new { length new.now ≡ length lines.old.items }
     ensures on { GoOn lines.old.items lines.new.items }
+    ensures seen { HaveOnlySeen lines.old.items lines.new.items }
     ensures moved { OnOk result (HaveMoved lines.old.items lines.new.items old.now new.now) }
+    ensures stayed { OnOk result (HaveStayed lines.old.items lines.new.items old.now new.now) }
     ensures behind { IfErr result (λ why. StaysBehind why lines.old.items lines.new.items old.now new.now) }
 {
     for queue in 0..lines.len() {

@@ -1,8 +1,8 @@
 //! What the operator of a cluster holds: passes of its own, the silos that live, and the silo of each queue.
 ghost use Rattle.std.specs.Prelude.{◌≡◌, ◌<◌, [], ◌∷◌, ◌++◌, length, remove, replicate, Contains, Some, slice_get, OnErr, OnOk, IfErr, IfOk, MatchOption};
 ghost use Rattle.queue_balancer.specs.Balance.{HasNoDoubles, IsBalanced};
-ghost use Rattle.silo_crew.specs.Silos.{AreTakenIn, GoOn, HaveJoined, IsFresh, IsSilent, IsSiloAt};
-ghost use Rattle.cluster_operator.specs.Changes.{AreDeactivated, HasMade, HaveMoved, HoldsGrains, IsNoneLeft};
+ghost use Rattle.silo_crew.specs.Silos.{AreSilent, AreSplitOff, AreTakenIn, GoOn, HaveJoined, IsFresh, IsSilent, IsSiloAt};
+ghost use Rattle.cluster_operator.specs.Changes.{AreDeactivated, HasMade, HaveMoved, HaveOnlySeen, HaveMovedNowhere, HaveStayed, HoldsGrains, IsNoneLeft};
 ghost use Rattle.cluster_operator.specs.Operators.{HasOnlyGoneOn, HasSpread, IsUnspread, OperatorGoesOn};
 
 use crate::halt::Halt;
@@ -77,8 +77,10 @@ fn spread_queues<G: Gate, H: QueueHistory, R: Wait>(
     requires assigned { length assignment.old.items ≡ length lines.old.items }
     ensures assigned { length assignment.new.items ≡ length lines.new.items }
     ensures on { GoOn lines.old.items lines.new.items }
+    ensures seen { HaveOnlySeen lines.old.items lines.new.items }
     ensures balanced { OnOk result (IsBalanced assignment.old.items live.now assignment.new.items) }
     ensures moved { OnOk result (HaveMoved lines.old.items lines.new.items assignment.old.items assignment.new.items) }
+    ensures stayed { OnOk result (HaveStayed lines.old.items lines.new.items assignment.old.items assignment.new.items) }
     ensures kept { OnErr result (assignment.new.items ≡ assignment.old.items) }
     ensures unspread { IfErr result (λ why. IsUnspread why assignment.old.items live.now lines.old.items lines.new.items) }
 {
@@ -205,7 +207,8 @@ impl<G: Gate, H: QueueHistory, D: DirectoryHistory> Operator<G, H, D> {
         })
     }
 
-    /// The loops of a silo, which have done nothing yet, and may begin so many rounds each.
+    /// The loops of a silo, which have done nothing yet, and may begin so many rounds each. Their passes are split off
+    /// from the operator's, and the operator is as before.
     ///
     /// # Errors
     /// The call failed to allocate. Each pass that was split off is joined back.
@@ -215,8 +218,10 @@ impl<G: Gate, H: QueueHistory, D: DirectoryHistory> Operator<G, H, D> {
         silo: u8,
         rounds: u64,
     ) -> Result<SiloLoops<G, H, D>, AllocError>
+        ensures same { OnOk result (self.new ≡ self.old) }
         ensures only { HasOnlyGoneOn self.old self.new }
         ensures silent { IsSilent self.old.directory self.new.directory }
+        ensures split { IfOk result (λ loops. AreSplitOff self.old.lines self.old.directory loops) }
         ensures fresh { IfOk result (λ loops. IsFresh rounds silo loops) }
         ensures at { IfOk result (λ loops. IsSiloAt self.new.lines self.new.directory loops) }
     {
@@ -229,13 +234,15 @@ impl<G: Gate, H: QueueHistory, D: DirectoryHistory> Operator<G, H, D> {
         requires { IsSiloAt self.old.lines self.old.directory loops }
         ensures only { HasOnlyGoneOn self.old self.new }
         ensures silent { IsSilent self.old.directory self.new.directory }
+        ensures silent_lines { AreSilent self.old.lines self.new.lines }
         ensures joined { HaveJoined loops self.old.lines self.old.directory self.new.lines self.new.directory }
         ensures taken { AreTakenIn self.new.lines self.new.directory loops }
     {
         loops.join_into(&mut self.lines, &mut self.directory)
     }
 
-    /// Spreads the queues over the silos that live.
+    /// Spreads the queues over the silos that live. Each queue that is to have another silo is moved there, and no other.
+    /// The operator's passes have only made calls.
     ///
     /// # Errors
     /// `Limit` where a history is full, a Move was answered `Spent`, or no silo lives, and `Memory` where the call
@@ -243,9 +250,11 @@ impl<G: Gate, H: QueueHistory, D: DirectoryHistory> Operator<G, H, D> {
     /// answered by then stands, and each queue still counts for the silo that it had.
     pub fn spread<R: Wait>(&mut self, rt: &R, alloc: Global) -> Result<(), Halt>
         ensures on { OperatorGoesOn self.old self.new }
+        ensures seen { HaveOnlySeen self.old.lines self.new.lines }
         ensures directory { self.new.directory ≡ self.old.directory }
         ensures live { self.new.live ≡ self.old.live }
         ensures spread { OnOk result (HasSpread self.old self.new) }
+        ensures stayed { OnOk result (HaveStayed self.old.lines self.new.lines self.old.assignment self.new.assignment) }
         ensures kept { OnErr result (self.new.assignment ≡ self.old.assignment) }
         ensures unspread { IfErr result (λ why. IsUnspread why self.old.assignment self.old.live self.old.lines self.new.lines) }
     {
@@ -267,6 +276,7 @@ impl<G: Gate, H: QueueHistory, D: DirectoryHistory> Operator<G, H, D> {
     /// without a grain of the silo then. What was answered by then stands.
     pub fn evict<R: Wait>(&mut self, rt: &R, alloc: Global, silo: u8) -> Result<(), Halt>
         ensures only { HasOnlyGoneOn self.old self.new }
+        ensures nowhere { OnOk result (HaveMovedNowhere self.old.lines self.new.lines) }
         ensures deactivated { OnOk result (AreDeactivated silo self.old.directory self.new.directory self.old.lines self.new.lines) }
         ensures none_left { OnOk result (HasMade (length self.old.directory.seen) self.new.directory (IsNoneLeft silo)) }
         ensures holds { IfErr result (λ why. HoldsGrains why silo self.old.directory self.new.directory self.new.lines) }

@@ -25,10 +25,6 @@ use Rattle.pubsub_registry.proofs.RuleLemmas.{on}
 
 -- ---- the front
 
--- the names stay where they are, and the new ones follow
-pub names-front : (rules : List Rule) (names : Names) (events : List Event) → take (length names) (names_with rules names events) ≡ names
-names-front rules names events = fold-front names (all_implied rules events)
-
 -- without rules there are no new names
 pub no-rules : (names : Names) (events : List Event) → names_with [] names events ≡ names
 no-rules names events = ap (fold added names) (none events)
@@ -44,9 +40,6 @@ nothing-implied r events none fits =
     rw (same, le-ltb r.most_names (length r.names) fits) refl
 
 -- ---- how many there are
-
-pub length-names_with : (rules : List Rule) (names : Names) (events : List Event) → length names ≤ length (names_with rules names events)
-length-names_with rules names events = length-fold names (all_implied rules events)
 
 -- what the first items make is no more than what all make
 pub length-front : {X : Type 0} (make : X → Names) (names : Names) (xs : List X) (n : ℕ) → length (fold added names (flat_map make (take n xs))) ≤ length (fold added names (flat_map make xs))

@@ -237,6 +237,7 @@ fn push_for_event(
 ///
 /// # Errors
 /// The call failed to allocate, and nothing has changed. That can happen only where the name is new.
+#[inline(never)]
 fn push_by_rule(
     subscriptions: &mut Subscriptions,
     alloc: Global,
@@ -252,13 +253,13 @@ fn push_by_rule(
     if !holds_for(rule, event) || subscriptions.find(&sub).is_some() {
         return Ok(());
     }
-    let stream = *event.stream();
-    let grain = implied_grain(rule.kind, &stream);
+    let stream = event.stream();
+    let grain = implied_grain(rule.kind, stream);
     let start = Token {
         seq: rule.from,
         idx: 0,
     };
-    subscriptions.push(alloc, sub, opened(stream, grain, start))
+    subscriptions.push(alloc, sub, opened(*stream, grain, start))
 }
 
 /// The name of the subscription that a rule makes of an event.

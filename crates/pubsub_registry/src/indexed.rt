@@ -109,6 +109,7 @@ impl Subscriptions {
     ///
     /// # Errors
     /// The call failed to allocate, and nothing has changed.
+    #[inline(never)]
     pub(crate) fn push(
         &mut self,
         alloc: Global,
@@ -151,9 +152,13 @@ impl Subscriptions {
     fn pop(&mut self)
         ensures { self.new ≡ take (length self.old - 1) self.old }
     {
-        if let Some((_, registration)) = self.names.pop() {
-            forget(&mut self.by_stream, &registration.stream, self.names.len());
+        let len = self.names.len();
+        if len == 0 {
+            return;
         }
+        let (_, registration) = self.names.get_index(len - 1).unwrap();
+        forget(&mut self.by_stream, &registration.stream, len - 1);
+        self.names.truncate(len - 1);
     }
 }
 
@@ -248,6 +253,7 @@ impl Rules {
     ///
     /// # Errors
     /// The call failed to allocate, and nothing has changed.
+    #[inline(never)]
     pub(crate) fn push(&mut self, alloc: Global, rule: Rule) -> Result<(), AllocError>
         ensures ok { OnOk result (self.new ≡ self.old ++ rule ∷ []) }
         ensures err { OnErr result (self.new ≡ self.old) }
@@ -274,6 +280,7 @@ fn row<'a, K: Eq + Hash, V>(rows: &'a IndexMap<K, Vec<V>>, key: &K) -> &'a [V]
 ///
 /// # Errors
 /// The call failed to allocate, and each row is as it was.
+#[inline(never)]
 fn put<K: Eq + Hash + Drop, V: Drop>(
     rows: &mut IndexMap<K, Vec<V>>,
     alloc: Global,

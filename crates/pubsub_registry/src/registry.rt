@@ -77,6 +77,7 @@ impl Registry {
     /// # Errors
     /// The call failed to allocate, and nothing has changed. That can happen only where a subscription would
     /// be added.
+    #[inline(never)]
     pub fn add(
         &mut self,
         alloc: Global,

@@ -21,9 +21,12 @@ pub record PlainAgent : Type 0 where
 abbrev pub empty : ℕ → PlainAgent
 empty blocks = record { generation = 0; silo = 0; cache = cache.empty blocks 0 }
 
--- a caller that names another generation speaks for an agent that was replaced
+-- what is answered to a caller: one that names another generation speaks for an agent that was replaced
+abbrev pub answered : {T : Type 0} → PlainAgent → ℕ → T → Result T StaleAgent
+answered a generation answer = if generation == a.generation then Ok answer else Err (record { now = a.generation })
+
 abbrev pub check : PlainAgent → ℕ → Result (Unit {0}) StaleAgent
-check a generation = if generation == a.generation then Ok tt else Err (record { now = a.generation })
+check a generation = answered a generation tt
 
 -- the cache without its first blocks
 abbrev pub without_blocks : ℕ → cache.PlainCache → cache.PlainCache
@@ -38,16 +41,19 @@ abbrev pub drops : PlainAgent → ℕ → ℕ → ℕ
 drops a least want = blocks.blocks_to_drop (cache.room a.cache) (free_blocks a least) want
 
 abbrev pub plan_count : ℕ → ℕ → Plan
-plan_count drops count = if count == 0 then plan.Pressed else plan.Take drops count
+plan_count drops count = if count == 0 then plan.Held else plan.Take drops count
 
 abbrev pub plan_want : PlainAgent → ℕ → ℕ → Plan
 plan_want a least want = plan_count (drops a least want) (min want (cache.room a.cache + BLOCK_EVENTS * drops a least want))
 
--- what a pull would do to a cache that is behind a log of this length
-abbrev pub plan_pull : PlainAgent → ℕ → ℕ → ℕ → Plan
-plan_pull a max_events len least =
+-- what a pull would do to the cache, for a log of this length
+abbrev pub plan_of : PlainAgent → ℕ → ℕ → ℕ → Plan
+plan_of a max_events len least =
     if cache.high a.cache == len then plan.Dry
     else plan_want a least (min (pull_size max_events) (len - cache.high a.cache))
+
+abbrev pub plan_pull : PlainAgent → ℕ → ℕ → ℕ → ℕ → Result Plan StaleAgent
+plan_pull a generation max_events len least = answered a generation (plan_of a max_events len least)
 
 -- What a plan to take promises: the blocks are there, and none holds an event at or past the least resume;
 -- the events are in the log, and the cache has room for them.
@@ -75,8 +81,13 @@ purges a keep least = blocks.blocks_to_purge (cache.block_count a.cache) (free_b
 abbrev pub purge_blocks : PlainAgent → ℕ → PlainAgent × ℕ
 purge_blocks a blocks = (record a { cache = without_blocks blocks a.cache }, a.cache.low + BLOCK_EVENTS * blocks)
 
-abbrev pub purge : PlainAgent → ℕ → ℕ → PlainAgent × ℕ
-purge a keep least = purge_blocks a (purges a keep least)
+abbrev pub purge_free : PlainAgent → ℕ → ℕ → PlainAgent × ℕ
+purge_free a keep least = purge_blocks a (purges a keep least)
+
+-- where the caller speaks for an agent that was replaced, nothing changes
+abbrev pub purge : PlainAgent → ℕ → ℕ → ℕ → PlainAgent × Result ℕ StaleAgent
+purge a generation keep least =
+    if generation == a.generation then ((purge_free a keep least).0, Ok (purge_free a keep least).1) else (a, Err (record { now = a.generation }))
 
 -- the next agent of the queue, on a silo, with an empty cache at a position
 abbrev pub take_over : PlainAgent → ℕ → ℕ → PlainAgent × ℕ

@@ -4,7 +4,7 @@ ghost use Rattle.stream_ident.specs.declared.limits.TheConstants.{MOST_BLOCKS};
 ghost use Rattle.partition_queue.specs.Queue.{between};
 ghost use Rattle.queue_mapper.specs.Place.{bare};
 ghost use Rattle.queue_cache.specs.Cache.{high, room, with_events};
-ghost use Rattle.pulling_agent.specs.Agent.{check, drops, empty, free_blocks, plan_pull, pulled, purge, take_over, without_blocks, MayTake};
+ghost use Rattle.pulling_agent.specs.Agent.{check, drops, empty, free_blocks, plan_of, plan_pull, pulled, purge, purge_free, take_over, without_blocks, MayTake};
 ghost use Rattle.stream_ident.specs.Blocks.{pull_size};
 
 use partition_queue::PartitionQueue;
@@ -28,7 +28,7 @@ pub enum Plan {
     /// The cache has all events of the queue.
     Dry,
     /// The cache has no room, and no block that may be dropped.
-    Pressed,
+    Held,
     /// It would drop blocks and take events.
     Take {
         /// How many blocks it drops, from the front.
@@ -41,8 +41,8 @@ pub enum Plan {
 /// The pulling agent of a queue.
 ///
 /// A queue has one agent at a time, and each has a generation, counted from 0. A caller names the generation
-/// of the agent that it speaks for, and asks `check` first: that is the one place where a caller for an
-/// agent that was replaced is refused. The other calls take no generation.
+/// of the agent that it speaks for: `plan_pull` and `purge` refuse one that speaks for an agent which was
+/// replaced, and `check` does where a caller asks for something else than the cache.
 ///
 /// A contract sees the agent as its generation, the silo that it runs on, and its cache.
 pub struct Agent {
@@ -132,20 +132,37 @@ impl Agent {
     ///
     /// It takes 1 to 256 events: 0 is read as 1, and more as 256. It drops the fewest blocks that make
     /// room for them, of those that lie before `least`, and takes as many events as then fit.
-    pub fn plan_pull(&self, max_events: usize, len: usize, least: usize) -> Plan
-        requires { high self.now.cache ≤ len }
-        ensures plan { result ≡ plan_pull self.now max_events len least }
+    ///
+    /// # Errors
+    /// `StaleAgent` where the caller names another generation than the agent's.
+    pub fn plan_pull(
+        &self,
+        generation: u64,
+        max_events: usize,
+        len: usize,
+        least: usize,
+    ) -> Result<Plan, StaleAgent>
+        ensures plan { result ≡ plan_pull self.now generation max_events len least }
+        ensures may { IfOk result (MayTake self.now len least) }
+    {
+        self.check(generation)?;
+        Ok(self.plan(max_events, len, least))
+    }
+
+    /// What a pull would do, whoever asks.
+    fn plan(&self, max_events: usize, len: usize, least: usize) -> Plan
+        ensures plan { result ≡ plan_of self.now max_events len least }
         ensures may { MayTake self.now len least result }
     {
         let high = self.cache.high();
         if high == len {
             return Plan::Dry;
         }
-        let want = pull_size(max_events).min(len - high);
+        let want = pull_size(max_events).min(len.saturating_sub(high));
         let drops = self.drops(least, want);
         let room = self.cache.room().saturating_add(BLOCK_EVENTS * drops);
         match want.min(room) {
-            0 => Plan::Pressed,
+            0 => Plan::Held,
             count => Plan::Take { drops, count },
         }
     }
@@ -165,8 +182,20 @@ impl Agent {
 
     /// Drops the blocks beyond the `keep` last ones, a part of a block counted as one, of those that lie
     /// before `least`, and gives the position that the cache then begins at. It takes no memory.
-    pub fn purge(&mut self, keep: usize, least: usize) -> usize
-        ensures purge { (self.new, result) ≡ purge self.old keep least }
+    ///
+    /// # Errors
+    /// `StaleAgent` where the caller names another generation than the agent's. Nothing has changed then.
+    pub fn purge(&mut self, generation: u64, keep: usize, least: usize) -> Result<usize, StaleAgent>
+        ensures purge { (self.new, result) ≡ purge self.old generation keep least }
+        ensures spent { IfOk result (λ low. low ≤ max self.old.cache.low least) }
+    {
+        self.check(generation)?;
+        Ok(self.purge_free(keep, least))
+    }
+
+    /// Drops the free blocks beyond those to keep, whoever asks.
+    fn purge_free(&mut self, keep: usize, least: usize) -> usize
+        ensures purge { (self.new, result) ≡ purge_free self.old keep least }
         ensures spent { result ≤ max self.old.cache.low least }
     {
         let beyond = self.cache.block_count().saturating_sub(keep);

@@ -39,28 +39,6 @@ module _ {A : Type 0} (xs : List A) (rank : ℕ) (x d : A) (fits : rank ≤ leng
 pub distinct_numbers : (order : List ℕ) (rank_of : ℕ → ℕ) → IsInverse order rank_of → (i j : ℕ) → i < length order → j < length order → slice_index order i ≡ slice_index order j → i ≡ j
 distinct_numbers order rank_of is i j i_within j_within same = sym (is.back i i_within) ∙ ap rank_of same ∙ is.back j j_within
 
-pub rerank_none : (order ranks : List ℕ) (from : ℕ) → IsReranked order ranks ranks from from
-rerank_none order ranks from = record { here = λ rank after before. absurd (omega arith); elsewhere = λ number none. refl }
-
--- one number more has its rank
-pub rerank_step : (order old new : List ℕ) (rank_of : ℕ → ℕ) (from to : ℕ) → IsInverse order rank_of → length new ≡ length order → from ≤ to → to < length order
-    → IsReranked order old new from to → IsReranked order old (set new (slice_index order to) to) from (to + 1)
-rerank_step order old new rank_of from to inverse long after within is = record {
-  here = λ rank reached below.
-      elim (cases_eq rank to) [
-        | inl same ↦
-            ap (λ (r : ℕ). slice_index (set new (slice_index order to) to) (slice_index order r)) same
-            ∙ get_or-set_same new (slice_index order to) to 0 (omega (arith, long, inverse.number_within to within)) ∙ sym same
-        | inr other ↦
-            get_or-set_other new (slice_index order to) (slice_index order rank) to 0
-            (λ same. other (distinct_numbers order rank_of inverse rank to (omega arith) within same))
-            ∙ is.here rank reached (omega arith)
-      ];
-  elsewhere = λ number none.
-      get_or-set_other new (slice_index order to) number to 0 (λ same. none to after (omega arith) (sym same))
-      ∙ is.elsewhere number (λ rank reached below. none rank reached (omega arith));
-}
-
 -- of rows that are others under another name
 pub reranked_along : (order order' old old' new : List ℕ) (from : ℕ) → order ≡ order' → old ≡ old' → IsReranked order old new from (length order) → IsReranked order' old' new from (length order')
 reranked_along order order' old old' new from same same' is =

@@ -44,16 +44,3 @@ settled_step first last at n nodes is from to settled = record {
             ]
       ];
 }
-
--- the one node that may not be the lesser of its children is so too
-pub tree-of-but : (at n : ℕ) (nodes : List ℕ) → n ≡ min (slice_index nodes (2 * at)) (slice_index nodes (2 * at + 1)) → slice_index nodes at ≡ n → IsTreeBut at at nodes → IsTree nodes
-tree-of-but at n nodes is here but = record {
-  lesser = λ x some inner.
-      elim (cases_lt x at) [
-        | inl before ↦ but.before x some inner before
-        | inr from ↦ elim (cases_eq x at) [
-          | inl same ↦ subst (IsLesser nodes) (sym same) (here ∙ is ∙ ap₂ min (ap (slice_index nodes) (omega arith)) (ap (slice_index nodes) (omega arith)))
-          | inr other ↦ but.past x some inner (omega arith)
-        ]
-      ];
-}

@@ -266,6 +266,10 @@ fn first_leaf_at_most(nodes: &[usize], leaf: usize, bound: usize) -> Option<usiz
     requires leaves { length nodes.now ≤ leaf + leaf }
     ensures { MatchOption result (AreGreater leaf (length nodes.now) bound nodes.now) (λ place. IsFirstAtMost leaf bound place nodes.now) }
 {
+    // In a walk from one to the next that is due, the leaf itself mostly is.
+    if leaf < nodes.len() && nodes[leaf] <= bound {
+        return Some(leaf);
+    }
     let at = subtree_at_most(nodes, leaf, bound)?;
     Some(first_below(nodes, at, bound))
 }

@@ -1,2 +1,3 @@
+mod Checks
 pub mod Running
 pub mod Tracing

@@ -26,7 +26,7 @@ use Rattle.script_tasks.specs.Printing.{PrintsRun, RunsSource, WritesRun, comman
 use Rattle.script_tasks.proofs.Tracing.{each-legal}
 
 -- what was read is all that there was
-whole-input : (input script : List ℕ) (left : Option (List ℕ)) → Consumes (Some input) left script → IsAtEnd left → input ≡ script
+pub whole-input : (input script : List ℕ) (left : Option (List ℕ)) → Consumes (Some input) left script → IsAtEnd left → input ≡ script
 whole-input input script None read end = absurd read
 whole-input input script (Some rest) read end = read ∙ ap (λ (bytes : List ℕ). script ++ bytes) end ∙ append-nil script
 

@@ -1,16 +1,18 @@
 //! What the program `streams` does: its command line, the tasks that it can ask for, and how the program ends. A script
-//! is simulated on one thread, or run on silos in threads, or run and traced.
+//! is simulated on one thread, run on silos in threads, run and traced, or checked.
 #![tactic(auto)]
 
+mod checking;
 mod fault;
 mod options;
 mod performing;
 mod silos;
 
+pub use checking::check_source;
 pub use fault::ProgramFault;
 pub use options::{
-    RUN_EXAMPLE, Request, SIM_EXAMPLE, Task, parse_options, run_config, sim_config, trace_config,
-    unread_words,
+    CheckConfig, RUN_EXAMPLE, Request, SIM_EXAMPLE, Task, check_config, parse_options, run_config,
+    sim_config, trace_config, unread_words,
 };
 pub use performing::{end, perform, perform_task, perform_words};
 pub use silos::{run_on_silos, trace_on_silos};

@@ -4,12 +4,13 @@ ghost use Rattle.std.specs.IoError.{error_kind};
 ghost use Rattle.std.specs.declared.io.ErrorKind.TheVariants.{InvalidData};
 ghost use Rattle.clap.specs.Values.{kind_of};
 ghost use Rattle.stream_cluster.specs.Clusters.{IsConfig};
-ghost use Rattle.script_tasks.specs.Tasks.{IsTask, cluster_with, simulation_with};
+ghost use Rattle.script_tasks.specs.Tasks.{IsTask, check_with, cluster_with, simulation_with};
 ghost use Rattle.script_tasks.specs.declared.options.Task.TheVariants.{Simulate};
 ghost use Rattle.stream_script.specs.Simulation.{IsSimConfig};
 
 use clap::error::ErrorKind;
-use clap::{Arg, ArgMatches, Command, value_parser};
+use clap::{Arg, ArgAction, ArgMatches, Command, value_parser};
+use script_parser::Mode;
 use std::alloc::{AllocError, Global};
 use std::io;
 use stream_cluster::Config;
@@ -108,6 +109,25 @@ gives these replies at its queue.
 Exit status: as for `streams run`. A run that met a limit, or of which not all was handled, is printed too.
 A trace stores what was asked, at most 4,000,000 calls a queue."#;
 
+/// What help says below the options of a check.
+const CHECK_EXAMPLE: &str = r#"Every line is read, and nothing is done. Of the script
+
+    sub orders/17 clerk/17 latst
+    pub orders/17 "paid" shipped
+
+both faults are told, each with its line and column, the word, and what was expected:
+
+    line 1, column 24: bad command: "latst": a subscription starts with `latest`, or with `from` and a token
+        hint: write `latest`
+    line 2, column 22: word count: "shipped": the line is `pub STREAM TEXT ..`
+        hint: a text stands between quotes, as "paid"
+
+Of a script without a fault it is told how many lines of each command there are, and which queue each
+stream has that it names.
+
+Exit status: 0 no line is faulty; 1 a line is faulty; 2 the command line is faulty; 3 reading or writing
+failed, or memory ran out."#;
+
 /// How many rounds a loop of a silo may begin in a run.
 const MOST_ROUNDS: u64 = 1_000_000;
 
@@ -132,6 +152,17 @@ pub enum Task {
     Run(Config),
     /// It is run, and what was done at each queue is printed.
     Trace(Config),
+    /// Its lines are checked, and nothing is done.
+    Check(CheckConfig),
+}
+
+/// How a script is checked.
+#[derive(Clone, Copy, Debug, PartialEq, Eq)]
+pub struct CheckConfig {
+    /// How many queues there are, 1 to 64.
+    pub queues: usize,
+    /// Whether it is to be simulated or run.
+    pub mode: Mode,
 }
 
 /// What the words ask for. Where there are none, they ask for a simulation with one queue and four blocks.
@@ -196,6 +227,9 @@ fn task_of(name: &str, given: &ArgMatches<'_>) -> Task
     ensures { IsTask result }
 {
     let queues = number(given, "queues", 1);
+    if name == "check" {
+        return Task::Check(check_config(queues, given.get_flag("run")));
+    }
     let blocks = number(given, "blocks", 4);
     match name {
         "run" => Task::Run(run_config(queues, blocks, number(given, "silos", 1))),
@@ -204,7 +238,7 @@ fn task_of(name: &str, given: &ArgMatches<'_>) -> Task
     }
 }
 
-/// The command with its three subcommands.
+/// The command with its four subcommands.
 fn command<'a>(alloc: Global) -> Result<Command<'a>, AllocError> {
     let sim = Command::new(alloc, "sim")
         .about("Does a script line by line, and prints the reply to each line")
@@ -228,6 +262,12 @@ fn command<'a>(alloc: Global) -> Result<Command<'a>, AllocError> {
         .arg(queues(alloc))?
         .arg(blocks(alloc))?
         .after_help(TRACE_EXAMPLE);
+    let check = Command::new(alloc, "check")
+        .about("Tells all faults of a script, or what stands in one without a fault")
+        .arg(file(alloc))?
+        .arg(queues(alloc))?
+        .arg(run_flag(alloc))?
+        .after_help(CHECK_EXAMPLE);
     Command::new(alloc, "streams")
         .bin_name("streams")?
         .version(VERSION)
@@ -236,7 +276,8 @@ fn command<'a>(alloc: Global) -> Result<Command<'a>, AllocError> {
         .after_help(STATUSES)
         .subcommand(sim)?
         .subcommand(run)?
-        .subcommand(trace)
+        .subcommand(trace)?
+        .subcommand(check)
 }
 
 /// The script.
@@ -276,6 +317,14 @@ fn blocks<'a>(alloc: Global) -> Arg<'a> {
         .default_value("4")
 }
 
+/// Whether the script is one to run.
+fn run_flag<'a>(alloc: Global) -> Arg<'a> {
+    Arg::new(alloc, "run")
+        .long("run")
+        .help("Checks the script as `streams run` reads it, and not as `streams sim` does")
+        .action(ArgAction::SetTrue)
+}
+
 /// A number of the matches, which the parser has found to be in its range.
 fn number(matches: &ArgMatches<'_>, id: &str, usual: u32) -> u32 {
     matches.get_one::<u32>(id).unwrap_or(usual)
@@ -290,6 +339,16 @@ pub fn sim_config(queues: u32, blocks: u32) -> SimConfig
         queues: (queues as usize).clamp(1, MOST_QUEUES),
         blocks: (blocks as usize).clamp(1, MOST_BLOCKS),
         limits: Limits::GREATEST,
+    }
+}
+
+/// The check of a script on this many queues, taken as 1 to 64.
+pub fn check_config(queues: u32, is_run: bool) -> CheckConfig
+    ensures { result ≡ check_with queues is_run }
+{
+    CheckConfig {
+        queues: (queues as usize).clamp(1, MOST_QUEUES),
+        mode: if is_run { Mode::Run } else { Mode::Sim },
     }
 }
 

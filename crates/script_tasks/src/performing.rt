@@ -4,6 +4,7 @@ ghost use Rattle.stream_script.specs.Simulation.{IsSimConfig, simulation};
 ghost use Rattle.script_tasks.specs.Statuses.{Exits};
 ghost use Rattle.script_tasks.specs.Tasks.{IsTask, PrintsSimulation, PrintsTask};
 
+use crate::checking::check_source;
 use crate::fault::ProgramFault;
 use crate::options::{Request, Task, parse_options, unread_words};
 use crate::silos::{run_on_silos, trace_on_silos};
@@ -80,7 +81,8 @@ fn open<R: Files>(rt: &R, path: &str) -> Result<R::File, SimError> {
 /// Does a task on a script. The text goes out through a buffer, which is flushed at the end.
 ///
 /// # Errors
-/// They are those of [`sim`], [`run_on_silos`] or [`trace_on_silos`], by the task, or the buffer failed to allocate.
+/// They are those of [`sim`], [`run_on_silos`], [`trace_on_silos`] or [`check_source`], by the task, or the buffer failed
+/// to allocate.
 pub fn perform_task<T: Threads + Wait + Copy + Send + 'static, R: Read + Drop, W: Write + Drop>(
     rt: &T,
     alloc: Global,
@@ -117,6 +119,7 @@ fn write_task<T: Threads + Wait + Copy + Send + 'static, R: Source, W: Write>(
         Task::Simulate(config) => return simulate(alloc, config, source, sink),
         Task::Run(config) => run_on_silos(rt, alloc, &config, source, &mut sink),
         Task::Trace(config) => trace_on_silos(rt, alloc, &config, source, &mut sink),
+        Task::Check(config) => check_source(alloc, config, source, &mut sink),
     };
     (sink, ended)
 }

@@ -173,7 +173,7 @@ fn write_trace<W: Write>(
 }
 
 /// Writes a text, and hands it on.
-fn write_text<W: Write>(text: &[u8], sink: &mut W) -> Result<(), SimError>
+pub(crate) fn write_text<W: Write>(text: &[u8], sink: &mut W) -> Result<(), SimError>
     ensures { WritesText (W.contents sink.old) (W.contents sink.new) text.now result }
 {
     if let Err(_) = sink.write_all(text) {

@@ -1,7 +1,7 @@
 //! The tasks that the tests do, as their tables name them.
 ghost use Rattle.script_tasks.specs.Tasks.{IsTask};
 
-use script_tasks::{Task, run_config, sim_config, trace_config};
+use script_tasks::{Task, check_config, run_config, sim_config, trace_config};
 
 /// What is done with a script.
 #[derive(Clone, Copy)]
@@ -9,9 +9,11 @@ pub enum Doing {
     Simulating,
     Running,
     Tracing,
+    Checking,
+    CheckingForARun,
 }
 
-/// The task, with this many queues, blocks and silos. A simulation has no silos.
+/// The task, with this many queues, blocks and silos. A simulation has no silos, and a check neither these nor blocks.
 pub fn task_of(doing: Doing, queues: u32, blocks: u32, silos: u32) -> Task
     ensures { IsTask result }
 {
@@ -19,5 +21,7 @@ pub fn task_of(doing: Doing, queues: u32, blocks: u32, silos: u32) -> Task
         Doing::Simulating => Task::Simulate(sim_config(queues, blocks)),
         Doing::Running => Task::Run(run_config(queues, blocks, silos)),
         Doing::Tracing => Task::Trace(trace_config(queues, blocks, silos)),
+        Doing::Checking => Task::Check(check_config(queues, false)),
+        Doing::CheckingForARun => Task::Check(check_config(queues, true)),
     }
 }

@@ -7,7 +7,7 @@ use std::test::Fail;
 /// What a command line asks for: what is done, the file or a dash, and how many queues, blocks and silos.
 type Asked = (Doing, &'static str, u32, u32, u32);
 
-static ASKED: [(&[&str], Asked); 13] = [
+static ASKED: [(&[&str], Asked); 15] = [
     (&["streams"], (Doing::Simulating, "-", 1, 4, 1)),
     (&["streams", "sim"], (Doing::Simulating, "-", 1, 4, 1)),
     (
@@ -52,10 +52,15 @@ static ASKED: [(&[&str], Asked); 13] = [
         ],
         (Doing::Tracing, "f", 2, 1, 3),
     ),
+    (&["streams", "check"], (Doing::Checking, "-", 1, 4, 1)),
+    (
+        &["streams", "check", "--run", "f", "--queues", "64"],
+        (Doing::CheckingForARun, "f", 64, 4, 1),
+    ),
 ];
 
 /// Command lines that ask for no task, and the status that they end with.
-static REFUSED: [(&[&str], i32); 20] = [
+static REFUSED: [(&[&str], i32); 24] = [
     (&["streams", "sim", "--queues", "0"], 2),
     (&["streams", "sim", "--queues", "65"], 2),
     (&["streams", "sim", "--blocks", "0"], 2),
@@ -76,6 +81,10 @@ static REFUSED: [(&[&str], i32); 20] = [
     (&["streams", "run", "--help"], 0),
     (&["streams", "trace", "--silos", "17"], 2),
     (&["streams", "trace", "--help"], 0),
+    (&["streams", "check", "--queues", "0"], 2),
+    (&["streams", "check", "--silos", "2"], 2),
+    (&["streams", "check", "--run", "f", "g"], 2),
+    (&["streams", "check", "--help"], 0),
 ];
 
 /// The words of a command line.

@@ -11,15 +11,15 @@ use Rattle.turnstile.proofs.Histories.{foreign-append}
 use Rattle.stream_model.specs.declared.plain.PlainPartition.{PlainPartition}
 use Rattle.silo_loops.specs.Lines.{DirectoryPass, LineView, places}
 use Rattle.silo_loops.specs.Chains.{Stays}
-use Rattle.silo_loops.specs.Workers.{Follows}
+use Rattle.silo_loops.specs.Workers.{Follows, WorkerView}
 use Rattle.cluster_callers.specs.Calls.{AllZipFront}
-use Rattle.silo_crew.specs.Silos.{AreAlike, AreTakenIn, GoOn, GoesOn, HasRun, HasTakenIn, IsMarked, IsSilent, IsSplitLine, LineGoesOn, SiloView, joined_line, joined_lines}
+use Rattle.silo_crew.specs.Silos.{AreAlike, AreSilent, AreTakenIn, GoOn, GoesOn, HasRun, HasTakenIn, IsMarked, IsSilent, IsSplitLine, IsSplitWorker, LineGoesOn, LineIsSilent, SiloView, joined_line, joined_lines}
 use Rattle.silo_loops.specs.Passes.{IsOtherIn}
 use Rattle.silo_loops.proofs.Taking.{alone-append, alone-fewer, alone-foreign, taken-joined, taken-on}
 use Rattle.cluster_callers.proofs.Fronts.{front-all, front-fits, front-last, front-push, front-set, front-weaker}
 
 -- the first of a longer list
-first-of-all : (number : ℕ) (joined : List ℕ) (k : ℕ) → Contains (number ∷ []) k → Contains (number ∷ joined) k
+pub first-of-all : (number : ℕ) (joined : List ℕ) (k : ℕ) → Contains (number ∷ []) k → Contains (number ∷ joined) k
 first-of-all number joined k here = (0, omega arith, only-one here.0 here.1 here.2)
   where
     only-one : (at : ℕ) → at < 1 → get_or (number ∷ []) at k ≡ k → number ≡ k
@@ -86,6 +86,26 @@ module _ {O R S : Type 0} where
 
   pub silent-joined : (p q r : PassView O R S) → r ≡ joined_pass p q → Agree p q r → IsSilent p r
   silent-joined p q r is agree = record { on = on-joined p q r is agree; foreign = foreign-first p.number p.joined agree.0.rest agree.0.foreign }
+
+pub silents-refl : (ls : List LineView) → AreSilent ls ls
+silents-refl [] = tt
+silents-refl (l ∷ ls) = (silent-refl l.pass, silents-refl ls)
+
+pub silents-trans : (ls ms ns : List LineView) → AreSilent ls ms → AreSilent ms ns → AreSilent ls ns
+silents-trans [] [] [] a b = tt
+silents-trans [] [] (n ∷ ns) a b = absurd b
+silents-trans [] (m ∷ ms) ns a b = absurd a
+silents-trans (l ∷ ls) [] ns a b = absurd a
+silents-trans (l ∷ ls) (m ∷ ms) [] a b = absurd b
+silents-trans (l ∷ ls) (m ∷ ms) (n ∷ ns) a b = (silent-trans l.pass m.pass n.pass a.0 b.0, silents-trans ls ms ns a.1 b.1)
+
+-- one line more makes no call
+pub silents-set : (old now : List LineView) (at : ℕ) (l m : LineView) → at < length now → l ≡ get_or now at l → LineIsSilent l m → AreSilent old now → AreSilent old (set now at m)
+silents-set [] [] at l m within read one all = absurd (omega arith)
+silents-set [] (y ∷ ys) at l m within read one all = absurd all
+silents-set (x ∷ xs) [] at l m within read one all = absurd all
+silents-set (x ∷ xs) (y ∷ ys) zero l m within read one all = (silent-trans x.pass y.pass m.pass all.0 (subst (λ (w : LineView). LineIsSilent w m) read one), all.1)
+silents-set (x ∷ xs) (y ∷ ys) (suc at) l m within read one all = (all.0, silents-set xs ys at l m (omega arith) read one all.1)
 
 pub goes-refl : (ls : List LineView) → GoOn ls ls
 goes-refl [] = tt
@@ -213,6 +233,11 @@ splits-all old made at past long front =
 -- lines that were split off these are at their turnstiles, and stay there
 pub split-at : (old own new : List LineView) → AllZip IsSplitLine old own → GoOn old new → places own ≡ places new
 split-at old own new split on = split-places old own split ∙ sym (goes-places old new on)
+
+-- a worker whose passes were split off from the same passes
+pub split-same : (old new : List LineView) (d e : DirectoryPass) (w : WorkerView) → (new ≡ old) × (e ≡ d) → IsSplitWorker new e w → IsSplitWorker old d w
+split-same old new d e w same split =
+    subst (λ (ls : List LineView). IsSplitWorker ls d w) same.0 (subst (λ (x : DirectoryPass). IsSplitWorker new x w) same.1 split)
 
 -- what is at the turnstiles of these lines is so when they have gone on
 pub still-at : (others ls ms : List LineView) → places others ≡ places ls → GoOn ls ms → places others ≡ places ms

@@ -33,6 +33,13 @@ LineGoesOn l m = GoesOn l.pass m.pass
 abbrev pub GoOn : List LineView → List LineView → Type 0
 GoOn old new = AllZip LineGoesOn old new
 
+-- the same lines later, whose passes have made no call since
+abbrev pub LineIsSilent : LineView → LineView → Type 0
+LineIsSilent l m = IsSilent l.pass m.pass
+
+abbrev pub AreSilent : List LineView → List LineView → Type 0
+AreSilent old new = AllZip LineIsSilent old new
+
 -- two lines at one turnstile
 abbrev pub AreAlike : LineView → LineView → Type 0
 AreAlike l m = m.pass.turnstile ≡ l.pass.turnstile
@@ -54,6 +61,10 @@ IsMarked l = l.mark ≡ length l.pass.seen
 -- a line with a pass that was split off, of which nothing is new
 abbrev pub IsSplitLine : LineView → LineView → Type 0
 IsSplitLine l m = IsSplitOff l.pass m.pass × IsMarked m
+
+-- the passes of a worker were split off from those of these lines and from this one at the directory
+abbrev pub IsSplitWorker : List LineView → DirectoryPass → WorkerView → Type 0
+IsSplitWorker lines d w = AllZip IsSplitLine lines w.lines × IsSplitOff d w.directory
 
 -- the three loops of a silo; of running ones, as they were started
 pub record SiloView : Type 0 where
@@ -86,6 +97,12 @@ pub record IsSiloAt (lines : List LineView) (d : DirectoryPass) (s : SiloView) :
   pub agent : IsAgentAt lines s.agent
   pub first : IsWorkerAt lines d s.first
   pub second : IsWorkerAt lines d s.second
+
+-- the passes of all loops of the silo were split off from those of these lines and from this one at the directory
+pub record AreSplitOff (lines : List LineView) (d : DirectoryPass) (s : SiloView) : Type 0 where
+  pub agent : AllZip IsSplitLine lines s.agent.lines
+  pub first : IsSplitWorker lines d s.first
+  pub second : IsSplitWorker lines d s.second
 
 -- the passes of all loops of the silo were joined to those of these lines and to this pass at the directory
 pub record HaveJoined (s : SiloView) (ls : List LineView) (d : DirectoryPass) (new : List LineView) (e : DirectoryPass) : Type 0 where

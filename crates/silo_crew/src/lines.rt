@@ -3,7 +3,7 @@ ghost use Rattle.std.specs.Prelude.{◌≡◌, IfOk, OnOk};
 ghost use Rattle.silo_loops.specs.Lines.{places};
 ghost use Rattle.std.specs.List.{AllZip};
 ghost use Rattle.cluster_callers.specs.Calls.{AllZipFront};
-ghost use Rattle.silo_crew.specs.Silos.{AreAlike, GoOn, HasTakenIn, IsSplitLine, joined_lines};
+ghost use Rattle.silo_crew.specs.Silos.{AreAlike, AreSilent, GoOn, HasTakenIn, IsSplitLine, joined_lines};
 
 use shared_partition::{Gate, QueueHistory};
 use silo_loops::Line;
@@ -40,6 +40,7 @@ pub fn split_lines<G: Gate, H: QueueHistory>(
 pub fn join_lines<G: Gate, H: QueueHistory>(lines: &mut Vec<Line<G, H>>, others: Vec<Line<G, H>>)
     requires { places others.items ≡ places lines.old.items }
     ensures go_on { GoOn lines.old.items lines.new.items }
+    ensures silent { AreSilent lines.old.items lines.new.items }
     ensures joined { lines.new.items ≡ joined_lines lines.old.items others.items }
     ensures taken { AllZip HasTakenIn lines.new.items others.items }
 {
@@ -50,6 +51,7 @@ pub fn join_lines<G: Gate, H: QueueHistory>(lines: &mut Vec<Line<G, H>>, others:
 fn join_front<G: Gate, H: QueueHistory>(lines: &mut Vec<Line<G, H>>, mut others: Vec<Line<G, H>>)
     requires { AllZipFront AreAlike lines.old.items others.items }
     ensures go_on { GoOn lines.old.items lines.new.items }
+    ensures silent { AreSilent lines.old.items lines.new.items }
     ensures joined { lines.new.items ≡ joined_lines lines.old.items others.items }
     ensures taken { AllZipFront HasTakenIn lines.new.items others.items }
 {

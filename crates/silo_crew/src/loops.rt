@@ -1,9 +1,9 @@
 //! The loops of a silo.
-ghost use Rattle.std.specs.Prelude.{◌≡◌, ◌<◌, length, IfOk};
+ghost use Rattle.std.specs.Prelude.{◌≡◌, ◌<◌, length, IfOk, OnOk};
 ghost use Rattle.turnstile.specs.Calls.{joined_pass};
 ghost use Rattle.std.specs.List.{AllZip};
 ghost use Rattle.silo_loops.specs.Passes.{IsOtherIn};
-ghost use Rattle.silo_crew.specs.Silos.{AreTakenIn, GoOn, HasTakenIn, HaveJoined, IsAgentAt, IsFresh, IsFreshAgent, IsFreshWorker, IsSilent, IsSiloAt, IsWorkerAt, joined_lines};
+ghost use Rattle.silo_crew.specs.Silos.{AreSilent, AreSplitOff, AreTakenIn, GoOn, HasTakenIn, HaveJoined, IsAgentAt, IsFresh, IsFreshAgent, IsFreshWorker, IsSilent, IsSiloAt, IsSplitLine, IsSplitWorker, IsWorkerAt, joined_lines};
 
 use crate::lines::{join_lines, split_lines};
 use shared_partition::{DirectoryHistory, Gate, QueueHistory};
@@ -71,7 +71,9 @@ fn make_agent<G: Gate, H: QueueHistory>(
     tools: SiloTools<G>,
     lines: &mut Vec<Line<G, H>>,
 ) -> Result<AgentLoop<G, H>, AllocError>
+    ensures same { OnOk result (lines.new.items ≡ lines.old.items) }
     ensures go_on { GoOn lines.old.items lines.new.items }
+    ensures split { IfOk result (λ agent. AllZip IsSplitLine lines.old.items agent.lines) }
     ensures fresh { IfOk result (λ agent. IsFreshAgent rounds agent × IsAgentAt lines.new.items agent) }
 {
     let own = split_lines(alloc, lines)?;
@@ -94,8 +96,10 @@ fn make_worker<G: Gate, H: QueueHistory, D: DirectoryHistory>(
     directory: &mut DirectoryLine<D>,
 ) -> Result<WorkerLoop<G, H, D>, AllocError>
     requires some { 0 < length lines.old.items }
+    ensures same { OnOk result ((lines.new.items ≡ lines.old.items) × (directory.new ≡ directory.old)) }
     ensures go_on { GoOn lines.old.items lines.new.items }
     ensures directory { IsSilent directory.old directory.new }
+    ensures split { IfOk result (λ worker. IsSplitWorker lines.old.items directory.old worker) }
     ensures fresh { IfOk result (λ worker. IsFreshWorker rounds silo worker × IsWorkerAt lines.new.items directory.new worker) }
 {
     let room = TurnRoom::new(alloc)?;
@@ -113,6 +117,7 @@ fn make_worker<G: Gate, H: QueueHistory, D: DirectoryHistory>(
 fn join_agent<G: Gate, H: QueueHistory>(lines: &mut Vec<Line<G, H>>, agent: AgentLoop<G, H>)
     requires { IsAgentAt lines.old.items agent }
     ensures go_on { GoOn lines.old.items lines.new.items }
+    ensures silent { AreSilent lines.old.items lines.new.items }
     ensures joined { lines.new.items ≡ joined_lines lines.old.items agent.lines }
     ensures taken { AllZip HasTakenIn lines.new.items agent.lines }
 {
@@ -127,6 +132,7 @@ fn join_worker<G: Gate, H: QueueHistory, D: DirectoryHistory>(
 )
     requires { IsWorkerAt lines.old.items directory.old worker }
     ensures go_on { GoOn lines.old.items lines.new.items }
+    ensures silent { AreSilent lines.old.items lines.new.items }
     ensures directory { IsSilent directory.old directory.new }
     ensures joined { lines.new.items ≡ joined_lines lines.old.items worker.lines }
     ensures joined_directory { directory.new ≡ joined_pass directory.old worker.directory }
@@ -148,8 +154,10 @@ fn make_workers<G: Gate, H: QueueHistory, D: DirectoryHistory>(
     directory: &mut DirectoryLine<D>,
 ) -> Result<(WorkerLoop<G, H, D>, WorkerLoop<G, H, D>), AllocError>
     requires some { 0 < length lines.old.items }
+    ensures same { OnOk result ((lines.new.items ≡ lines.old.items) × (directory.new ≡ directory.old)) }
     ensures go_on { GoOn lines.old.items lines.new.items }
     ensures directory { IsSilent directory.old directory.new }
+    ensures split { IfOk result (λ r. IsSplitWorker lines.old.items directory.old r.0 × IsSplitWorker lines.old.items directory.old r.1) }
     ensures first { IfOk result (λ r. IsFreshWorker rounds silo r.0 × IsWorkerAt lines.new.items directory.new r.0) }
     ensures second { IfOk result (λ r. IsFreshWorker rounds silo r.1 × IsWorkerAt lines.new.items directory.new r.1) }
 {
@@ -166,7 +174,8 @@ fn make_workers<G: Gate, H: QueueHistory, D: DirectoryHistory>(
 }
 
 impl<G: Gate, H: QueueHistory, D: DirectoryHistory> SiloLoops<G, H, D> {
-    /// The loops of a silo, which have done nothing yet, with passes that are split off from these.
+    /// The loops of a silo, which have done nothing yet, with passes that are split off from these. These are then as
+    /// before: no pass was joined to them.
     ///
     /// # Errors
     /// The call failed to allocate, or a turnstile has no number for another pass. Each pass that was split off
@@ -179,8 +188,10 @@ impl<G: Gate, H: QueueHistory, D: DirectoryHistory> SiloLoops<G, H, D> {
         directory: &mut DirectoryLine<D>,
     ) -> Result<SiloLoops<G, H, D>, AllocError>
         requires some { 0 < length lines.old.items }
+        ensures same { OnOk result ((lines.new.items ≡ lines.old.items) × (directory.new ≡ directory.old)) }
         ensures go_on { GoOn lines.old.items lines.new.items }
         ensures directory { IsSilent directory.old directory.new }
+        ensures split { IfOk result (λ loops. AreSplitOff lines.old.items directory.old loops) }
         ensures fresh { IfOk result (λ loops. IsFresh tools.now.rounds silo loops) }
         ensures at { IfOk result (λ loops. IsSiloAt lines.new.items directory.new loops) }
     {
@@ -206,6 +217,7 @@ impl<G: Gate, H: QueueHistory, D: DirectoryHistory> SiloLoops<G, H, D> {
     pub fn join_into(self, lines: &mut Vec<Line<G, H>>, directory: &mut DirectoryLine<D>)
         requires { IsSiloAt lines.old.items directory.old self }
         ensures go_on { GoOn lines.old.items lines.new.items }
+        ensures silent { AreSilent lines.old.items lines.new.items }
         ensures directory { IsSilent directory.old directory.new }
         ensures joined { HaveJoined self lines.old.items directory.old lines.new.items directory.new }
         ensures taken { AreTakenIn lines.new.items directory.new self }

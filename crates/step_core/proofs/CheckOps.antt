@@ -1,27 +1,40 @@
 -- Whether an agent was replaced.
 use Rattle.std.proofs.Common.{◌≡◌, ap, refl, ℕ, Bool, true, false, ◌==◌}
 use Rattle.std.specs.Prelude.{if◌then◌else◌, Result, Ok, Err}
-use Rattle.pulling_agent.specs.Agent.{PlainAgent, check}
+use Rattle.pulling_agent.specs.Agent.{PlainAgent, answered, check}
 use Rattle.pulling_agent.specs.declared.agent.StaleAgent.{StaleAgent}
 
+-- the caller named another generation
 pub record IsReplaced (a : PlainAgent) (generation : ℕ) (stale : StaleAgent) : Type 0 where
   pub other : (generation == a.generation) ≡ false
   pub now : stale.now ≡ a.generation
 
--- what an agent tells of a generation that is its own or not
-abbrev told_by : PlainAgent → Bool → Result (Unit {0}) StaleAgent
-told_by a own = if own then Ok tt else Err (record { now = a.generation })
+-- the caller named the generation, and was answered
+pub record IsAnswered {T : Type 0} (a : PlainAgent) (generation : ℕ) (answer given : T) : Type 0 where
+  pub own : (generation == a.generation) ≡ true
+  pub is : given ≡ answer
+
+module _ {T : Type 0} (a : PlainAgent) (generation : ℕ) (answer : T) where
+  -- what is answered to a generation that is the agent's own or not
+  abbrev answered_by : Bool → Result T StaleAgent
+  answered_by own = if own then Ok answer else Err (record { now = a.generation })
+
+  pub answered-stale : (stale : StaleAgent) → Err stale ≡ answered a generation answer → IsReplaced a generation stale
+  answered-stale stale = by (generation == a.generation) refl
+    where
+      by : (b : Bool) → (generation == a.generation) ≡ b → Err stale ≡ answered_by b → IsReplaced a generation stale
+      by true same e = absurd (cc)
+      by false other e = let is : stale ≡ record { now = a.generation } = cc in record { other = other; now = ap (λ (s : StaleAgent). s.now) is }
+
+  pub answered-current : (given : T) → Ok given ≡ answered a generation answer → IsAnswered a generation answer given
+  answered-current given = by (generation == a.generation) refl
+    where
+      by : (b : Bool) → (generation == a.generation) ≡ b → Ok given ≡ answered_by b → IsAnswered a generation answer given
+      by true own e = record { own = own; is = cc }
+      by false other e = absurd (cc)
 
 pub check-stale : (a : PlainAgent) (generation : ℕ) (stale : StaleAgent) → Err stale ≡ check a generation → IsReplaced a generation stale
-check-stale a generation stale = by (generation == a.generation) refl
-  where
-    by : (b : Bool) → (generation == a.generation) ≡ b → Err stale ≡ told_by a b → IsReplaced a generation stale
-    by true same e = absurd (cc)
-    by false other e = let is : stale ≡ record { now = a.generation } = cc in record { other = other; now = ap (λ (s : StaleAgent). s.now) is }
+check-stale a generation stale = answered-stale a generation tt stale
 
 pub check-current : (a : PlainAgent) (generation : ℕ) (checked : Unit {0}) → Ok checked ≡ check a generation → (generation == a.generation) ≡ true
-check-current a generation checked = by (generation == a.generation)
-  where
-    by : (b : Bool) → Ok checked ≡ told_by a b → b ≡ true
-    by true e = refl
-    by false e = absurd (cc)
+check-current a generation checked is = (answered-current a generation tt checked is).own

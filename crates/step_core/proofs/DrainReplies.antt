@@ -18,9 +18,6 @@ commit-by : (p : PlainPartition) (answer : Reply) → done_where (is_committed a
 commit-by p (reply.Committed s token) = refl
 commit-by p _ = refl
 
-pub commit-where : (p : PlainPartition) (answer : Reply) (b : Bool) → is_committed answer ≡ b → done_where b p ≡ after_commit p answer
-commit-where p answer b is = ap (λ b. done_where b p) (sym is) ∙ commit-by p answer
-
 ack-by : (p : PlainPartition) (answer : Reply) → done_where (is_acknowledged answer) p ≡ after_ack p answer
 ack-by p reply.Acked = refl
 ack-by p _ = refl
@@ -70,15 +67,3 @@ pull-told (suc n) p (reply.Pulled count low high) = refl
 pull-told (suc n) p reply.Dry = refl
 pull-told (suc n) p reply.TooMany = refl
 pull-told (suc n) p _ = refl
-
-pub deliver_told-never : (answer : Reply) → is_wanting (deliver_told answer) ≡ false
-deliver_told-never (reply.Delivered token) = refl
-deliver_told-never reply.Nothing = refl
-deliver_told-never reply.Spent = refl
-deliver_told-never _ = refl
-
-pub pull_told-never : (answer : Reply) → is_wanting (pull_told answer) ≡ false
-pull_told-never (reply.Pulled count low high) = refl
-pull_told-never reply.Dry = refl
-pull_told-never reply.TooMany = refl
-pull_told-never _ = refl

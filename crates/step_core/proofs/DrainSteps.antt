@@ -140,11 +140,3 @@ asked-halted old new (stop.Memory wanting) op told more next is_told failed = en
 abbrev pub is_wanting : Result Bool Stop → Bool
 is_wanting (Err (stop.Memory wanting)) = true
 is_wanting _ = false
-
--- the operation was done, and this is what its reply says
-pub asks-told : (old new : PlainPartition) (result : Result Bool Stop) (op : Op) (told : Reply → Result Bool Stop) (answer : Reply) → (new, answer) ≡ step old op → result ≡ told answer → is_wanting (told answer) ≡ false → Asks old new result op told
-asks-told old new (Ok b) op told answer stepped is_told never = (answer, stepped, sym is_told)
-asks-told old new (Err stop.TooMany) op told answer stepped is_told never = (answer, stepped, sym is_told)
-asks-told old new (Err stop.Spent) op told answer stepped is_told never = (answer, stepped, sym is_told)
-asks-told old new (Err stop.Astray) op told answer stepped is_told never = (answer, stepped, sym is_told)
-asks-told old new (Err (stop.Memory wanting)) op told answer stepped is_told never = let e = ap is_wanting is_told ∙ never in absurd (cc)

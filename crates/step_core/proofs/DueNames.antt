@@ -41,9 +41,6 @@ use Rattle.step_core.proofs.Shared.{history-of}
 
 -- ---- the next that is due
 
-dues : PlainPartition → List SubName
-dues p = keys_where (is_due p) p.subs
-
 -- where the search that begins again finds nothing, none is due past the given one
 pub due-none-past : (after : Option SubName) (xs : List SubName) → next_after sub_lt after xs ≡ None → least sub_lt (above sub_lt after xs) ≡ None
 due-none-past after xs none = (or_else-parts (least sub_lt (above sub_lt after xs)) (least sub_lt xs) none).0

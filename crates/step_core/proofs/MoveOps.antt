@@ -30,7 +30,7 @@ free-le a least = omega arith
 abbrev pub purged_by : Parts → agent.PlainAgent × ℕ → PlainPartition × Reply
 purged_by parts (a, low) = (plain_of (record parts { agent = a }), reply.Purged (token_at (plain_of parts) low))
 
-pub purge-parts : (parts : Parts) (generation keep : ℕ) → (generation == parts.agent.generation) ≡ true → plain.purge (plain_of parts) generation keep ≡ purged_by parts (agent.purge parts.agent keep (slowest (plain_of parts)))
+pub purge-parts : (parts : Parts) (generation keep : ℕ) → (generation == parts.agent.generation) ≡ true → plain.purge (plain_of parts) generation keep ≡ purged_by parts (agent.purge_free parts.agent keep (slowest (plain_of parts)))
 unfolding plain.purge plain.purge_to
 purge-parts parts generation keep current = rw current drops
   where

@@ -28,16 +28,6 @@ keys-one passes x = by (passes x.1)
     by true = refl
     by false = refl
 
--- one number further
-pub keys-more : (passes : Subscription → Bool) (names : List (SubName × Registration)) (states : List PlainState) (i : ℕ) (d : SubName × Registration) (e : PlainState) → length names ≡ length states → i < length names
-    → keys_where passes (take (i + 1) (subs_of names states)) ≡ keys_where passes (take i (subs_of names states)) ++ (if passes (sub_of (get_or names i d) (get_or states i e)).1 then (get_or names i d).0 ∷ [] else [])
-keys-more passes names states i d e lengths within =
-    let subs = subs_of names states in
-    let x = sub_of (get_or names i d) (get_or states i e) in
-    ap (keys_where passes) (take_more subs i (sub_of d e) (omega (arith, within, records-length names states lengths)) ∙ ap (λ (y : SubName × Subscription). take i subs ++ y ∷ []) (record-at names states i (sub_of d e) d e lengths within))
-    ∙ keys-append passes (take i subs) (x ∷ [])
-    ∙ ap (λ keys. keys_where passes (take i subs) ++ keys) (keys-one passes x)
-
 pub summaries-more : (names : List (SubName × Registration)) (states : List PlainState) (i : ℕ) (d : SubName × Registration) (e : PlainState) → length names ≡ length states → i < length names
     → map summary_of (take (i + 1) (subs_of names states)) ≡ map summary_of (take i (subs_of names states)) ++ summary_of (sub_of (get_or names i d) (get_or states i e)) ∷ []
 summaries-more names states i d e lengths within =

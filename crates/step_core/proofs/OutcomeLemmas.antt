@@ -16,10 +16,6 @@ pub none-outside : (log : List Event) (came : Outcome) → IsNoTurn came → IsO
 none-outside log (reply.Turn sub activation turn positions note) it = absurd it
 none-outside log _ it = tt
 
-pub none-outside-ok : (log : List Event) (r : Result Outcome AllocError) → IfOk r IsNoTurn → IfOk r (IsOfLog log)
-none-outside-ok log (Ok came) it = none-outside log came it
-none-outside-ok log (Err e) it = tt
-
 -- the log has nothing to do with a reply that is no turn
 pub of-any-log : (log : List Event) (came : Outcome) → IsNoTurn came → reply_of came ≡ reply_with log came
 of-any-log log came it = with-any (λ positions. []) (events_at log) came it

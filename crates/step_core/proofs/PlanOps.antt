@@ -27,7 +27,7 @@ use Rattle.step_core.specs.declared.parts.Parts.{Parts}
 use Rattle.step_core.specs.PlainOf.{plain_of}
 use Rattle.step_core.specs.Taking.{taken}
 use Rattle.step_core.specs.View.{sub_of, subs_of}
-use Rattle.step_core.proofs.CheckOps.{check-current, check-stale}
+use Rattle.step_core.proofs.CheckOps.{IsAnswered, answered-current, answered-stale}
 use Rattle.step_core.proofs.LeafOps.{slowest-is}
 use Rattle.stream_ident.specs.Blocks.{pull_size}
 use Rattle.stream_ident.specs.declared.limits.TheConstants.{BLOCK_EVENTS}
@@ -87,7 +87,7 @@ slowest-name-is parts =
 -- what the plain pull does where this is planned
 abbrev pub planned : PlainPartition → Plan → PlainPartition × Reply
 planned p plan.Dry = (p, reply.Dry)
-planned p plan.Pressed = (p, reply.Pressed (unwrap_or (slowest_name p) (name.Explicit 0)))
+planned p plan.Held = (p, reply.Pressed (unwrap_or (slowest_name p) (name.Explicit 0)))
 planned p (plan.Take drops count) = taken p drops count
 
 room-is : (parts : Parts) → plain.room (plain_of parts) ≡ cache.room parts.agent.cache
@@ -102,7 +102,7 @@ count-planned parts drops count = by (count == 0)
   where
     by : (none : Bool)
         → (if none then (plain_of parts, reply.Pressed (unwrap_or (slowest_name (plain_of parts)) (name.Explicit 0))) else taken (plain_of parts) drops count)
-        ≡ planned (plain_of parts) (if none then plan.Pressed else plan.Take drops count)
+        ≡ planned (plain_of parts) (if none then plan.Held else plan.Take drops count)
     by true = refl
     by false = refl
 
@@ -116,7 +116,7 @@ want-planned parts want =
     drops : ℕ
     drops = agent.drops parts.agent (slowest (plain_of parts)) want
 
-pub pull-planned : (parts : Parts) (generation max_events : ℕ) → (generation == parts.agent.generation) ≡ true → plain.pull (plain_of parts) generation max_events ≡ planned (plain_of parts) (agent.plan_pull parts.agent max_events (length parts.queue.events) (slowest (plain_of parts)))
+pub pull-planned : (parts : Parts) (generation max_events : ℕ) → (generation == parts.agent.generation) ≡ true → plain.pull (plain_of parts) generation max_events ≡ planned (plain_of parts) (agent.plan_of parts.agent max_events (length parts.queue.events) (slowest (plain_of parts)))
 unfolding plain.pull
 pull-planned parts generation max_events current =
     rw current (by (cache.high parts.agent.cache == length parts.queue.events) (want-planned parts want))
@@ -131,15 +131,19 @@ pull-planned parts generation max_events current =
     by false same = same
 
 -- a plan for the log's length and the slowest resume
-pub planned-is : (parts : Parts) (generation max_events : ℕ) (checked : Unit {0}) → Ok checked ≡ agent.check parts.agent generation → (len least : ℕ) (made : Plan) → len ≡ length parts.queue.events → least ≡ slowest (plain_of parts) → made ≡ agent.plan_pull parts.agent max_events len least
+pub planned-is : (parts : Parts) (generation max_events len least : ℕ) (made : Plan) → len ≡ length parts.queue.events → least ≡ slowest (plain_of parts) → Ok made ≡ agent.plan_pull parts.agent generation max_events len least
     → planned (plain_of parts) made ≡ plain.pull (plain_of parts) generation max_events
-planned-is parts generation max_events checked current len least made is_len is_least is =
+planned-is parts generation max_events len least made is_len is_least is =
     ap {B = PlainPartition × Reply} (λ (made : Plan). planned (plain_of parts) made)
-    (is ∙ ap (λ n. agent.plan_pull parts.agent max_events n least) is_len ∙ ap (λ n. agent.plan_pull parts.agent max_events (length parts.queue.events) n) is_least)
-    ∙ sym (pull-planned parts generation max_events (check-current parts.agent generation checked current))
+    (answer.is ∙ ap (λ n. agent.plan_of parts.agent max_events n least) is_len ∙ ap (λ n. agent.plan_of parts.agent max_events (length parts.queue.events) n) is_least)
+    ∙ sym (pull-planned parts generation max_events answer.own)
+  where
+    answer : IsAnswered parts.agent generation (agent.plan_of parts.agent max_events len least) made
+    answer = answered-current parts.agent generation (agent.plan_of parts.agent max_events len least) made is
 
 -- the agent was replaced
-pub pull-replaced : (parts : Parts) (generation max_events : ℕ) (stale : StaleAgent) → Err stale ≡ agent.check parts.agent generation → (plain_of parts, reply.StaleAgent stale.now) ≡ plain.pull (plain_of parts) generation max_events
-pull-replaced parts generation max_events stale checked =
-    let replaced = check-stale parts.agent generation stale checked in
+pub pull-replaced : (parts : Parts) (generation max_events len least : ℕ) (stale : StaleAgent) → Err stale ≡ agent.plan_pull parts.agent generation max_events len least
+    → (plain_of parts, reply.StaleAgent stale.now) ≡ plain.pull (plain_of parts) generation max_events
+pull-replaced parts generation max_events len least stale is =
+    let replaced = answered-stale parts.agent generation (agent.plan_of parts.agent max_events len least) stale is in
     ap {B = PlainPartition × Reply} (λ now. (plain_of parts, reply.StaleAgent now)) replaced.now ∙ pull-stale (plain_of parts) generation max_events (ap not replaced.other)

@@ -90,18 +90,6 @@ pub forgotten-is : (names : List (SubName × Registration)) (sub : ℕ) (a : Pla
 forgotten-is names sub a distinct within below =
     ap (λ ds. record (grain_of names a) { mailbox = ds }) (other-deliveries names sub a.mailbox distinct within below.waiting)
 
--- the grain's record, where it has one
-pub forgotten-at : (parts : Parts) (g : GrainId) (i sub : ℕ) (d : GrainId × PlainActivation) → AreDistinct parts.subs.registry.names → sub < length parts.subs.registry.names → IsBelow (length parts.subs.registry.names) (activation_at parts i d) → i < length parts.grains → place_of same_grain g parts.grains ≡ Some i
-    → changed_value same_grain g (plain.without (name_at parts.subs.registry.names sub)) (grains_of parts.subs.registry.names parts.grains) ≡ grains_of parts.subs.registry.names (change_at (forgotten sub) i parts.grains)
-forgotten-at parts g i sub d distinct within below inside found =
-    sym (place_of-changed same_grain g (plain.without (name_at parts.subs.registry.names sub)) i (grains_of parts.subs.registry.names parts.grains) (place_of_grain parts.subs.registry.names (same_grain g) 0 parts.grains ∙ found))
-    ∙ activation-changed parts.subs.registry.names (forgotten sub) (plain.without (name_at parts.subs.registry.names sub)) i parts.grains d inside (forgotten-is parts.subs.registry.names sub (activation_at parts i d) distinct within below)
-
-pub forgotten-nowhere : (parts : Parts) (g : GrainId) (sub : ℕ) → place_of same_grain g parts.grains ≡ None
-    → changed_value same_grain g (plain.without (name_at parts.subs.registry.names sub)) (grains_of parts.subs.registry.names parts.grains) ≡ grains_of parts.subs.registry.names parts.grains
-forgotten-nowhere parts g sub none =
-    sym (place_of-unchanged same_grain g (plain.without (name_at parts.subs.registry.names sub)) (grains_of parts.subs.registry.names parts.grains) (place_of_grain parts.subs.registry.names (same_grain g) 0 parts.grains ∙ none))
-
 -- ---- unsubscribing
 
 abbrev pub with_closed : Parts → SubName → List PlainState → List (GrainId × PlainActivation) → Parts

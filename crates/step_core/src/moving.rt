@@ -21,13 +21,12 @@ pub(crate) fn purge(parts: &mut Parts, generation: u64, keep: u32) -> Outcome
     ensures performs { (plain_of parts.new, reply_of result) ≡ purge (plain_of parts.old) generation keep }
     ensures told { IsNoTurn result }
 {
-    if let Err(StaleAgent { now }) = parts.agent.check(generation) {
-        return Reply::StaleAgent { now };
-    }
     let least = least_resume(parts);
-    let low = parts.agent.purge(keep as usize, least);
-    Reply::Purged {
-        low: parts.queue.token_at(low),
+    match parts.agent.purge(generation, keep as usize, least) {
+        Ok(low) => Reply::Purged {
+            low: parts.queue.token_at(low),
+        },
+        Err(StaleAgent { now }) => Reply::StaleAgent { now },
     }
 }
 

@@ -42,15 +42,13 @@ pub(crate) fn pull(
     ensures memory { OnErr result (takes_memory (pull (plain_of parts.old) generation max).1 ≡ true) }
     ensures makes { OnErr result (length (plain_of parts.old).subs < length (pull (plain_of parts.old) generation max).0.subs) }
 {
-    if let Err(StaleAgent { now }) = parts.agent.check(generation) {
-        return Ok(Reply::StaleAgent { now });
-    }
     let least = least_resume(parts);
     let len = parts.queue.len();
-    match parts.agent.plan_pull(max as usize, len, least) {
-        Plan::Dry => Ok(Reply::Dry),
-        Plan::Pressed => Ok(Reply::Pressed { by: slowest(parts) }),
-        Plan::Take { drops, count } => take(parts, alloc, drops, count),
+    match parts.agent.plan_pull(generation, max as usize, len, least) {
+        Ok(Plan::Dry) => Ok(Reply::Dry),
+        Ok(Plan::Held) => Ok(Reply::Pressed { by: slowest(parts) }),
+        Ok(Plan::Take { drops, count }) => take(parts, alloc, drops, count),
+        Err(StaleAgent { now }) => Ok(Reply::StaleAgent { now }),
     }
 }
 

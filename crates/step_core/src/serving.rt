@@ -65,7 +65,7 @@ fn is_ahead(parts: &Parts, number: usize) -> bool
 
 /// Delivers the next event of the subscription with a number and has a turn of its grain handle it, where the subscription is
 /// open and has handled an event but none from that one on, its grain is active and at rest, and a rise is left. Elsewhere,
-/// and where memory is wanting, nothing changes, and the result is false.
+/// and where there is no memory, nothing changes, and the result is false.
 pub(crate) fn handle_next(parts: &mut Parts, alloc: Global, number: usize) -> bool
     requires agrees { Agrees parts.old }
     requires number { number < length parts.old.subs.registry.names }

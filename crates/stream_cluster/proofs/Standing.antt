@@ -6,7 +6,7 @@ use Rattle.std.proofs.lemmas.List.Edits.{length-remove}
 use Rattle.std.proofs.lemmas.List.FromFn.{get_or-range_with_len, length-range_with_len}
 use Rattle.std.specs.List.{AllByRecursion, AllZip, range_with_len, slice_get, slice_index}
 use Rattle.std.specs.Option.{unwrap_or}
-use Rattle.std.specs.Prelude.{replicate, IfOk, ◌||◌}
+use Rattle.std.specs.Prelude.{replicate, IfOk, OnOk, ◌||◌}
 use Rattle.std.specs.declared.alloc.AllocError.{AllocError}
 use Rattle.turnstile.specs.Calls.{IsSplitOff}
 use Rattle.turnstile.specs.History.{Foreign}
@@ -23,14 +23,14 @@ use Rattle.stream_model.specs.Replies.{Reply}
 use Rattle.turnstile.specs.declared.history.Entry.{Entry}
 use Rattle.silo_loops.specs.Lines.{DirectoryPass, LineView, QueuePass, places}
 use Rattle.silo_loops.proofs.Running.{agent-stays, worker-stays}
-use Rattle.silo_crew.specs.Silos.{AreTakenIn, GoOn, GoesOn, HasRun, IsFresh, IsSilent, IsSiloAt, IsSplitLine, SiloView}
+use Rattle.silo_crew.specs.Silos.{AreSilent, AreSplitOff, AreTakenIn, GoOn, GoesOn, HasRun, IsFresh, IsSilent, IsSiloAt, IsSplitLine, SiloView}
 use Rattle.silo_crew.proofs.Going.{goes-length, goes-places, goes-refl, goes-trans, on-refl, still-at, taken-silo}
 use Rattle.cluster_operator.specs.declared.halt.Halt.{Halt}
 use Rattle.cluster_operator.specs.declared.halt.Halt.TheVariants as halt
-use Rattle.cluster_operator.specs.Changes.{AreDeactivated, HasFound, HasMade, HasSince, HaveMoved, HoldsGrains, IsDeactivation, IsMove, IsNoneLeft, IsRelease, IsSpentMove, StaysBehind}
+use Rattle.cluster_operator.specs.Changes.{AreDeactivated, HasFound, HasMade, HasSince, HaveMoved, HaveMovedNowhere, HaveOnlySeen, HaveStayed, HoldsGrains, IsDeactivation, IsMove, IsNoneLeft, IsRelease, IsSpentMove, StaysBehind, is_move}
 use Rattle.cluster_operator.specs.Operators.{HasOnlyGoneOn, HasSpread, IsUnspread, OperatorGoesOn, OperatorView}
-use Rattle.cluster_operator.proofs.Changing.{each-earlier, each-later, goes-at, goes-back, op-trans}
-use Rattle.cluster_operator.proofs.Making.{goes-longer, made-earlier, made-later, made-since-silent}
+use Rattle.cluster_operator.proofs.Changing.{each-earlier, each-later, goes-at, goes-back, nowhere-silents, nowhere-trans, op-trans, stayed-earlier}
+use Rattle.cluster_operator.proofs.Making.{goes-longer, last-earlier, made-earlier, made-since-silent}
 use Rattle.stream_cluster.specs.Clusters.{AnswersDown, AnswersRetire, AnswersUp, AreAtQueues, AreFresh, AreNoted, AreStarted, ClusterView, HasEnded, HasHalted, HasLeft, HasMetLimit, HasNoted, HaveComeBack, HaveEnded, IsAtDirectory, IsBrokenOff, IsCluster, IsDownBy, IsLimitedAt, IsOpened, IsRetired, IsRetiredBy, IsUpBy, MayGo, RunsOn, WereMoved, all_noted, is_fixed, none_ended, noted}
 use Rattle.stream_cluster.specs.declared.config.Config.{Config}
 use Rattle.stream_cluster.specs.declared.cluster.Retired.{Retired}
@@ -38,6 +38,10 @@ use Rattle.stream_cluster.specs.declared.cluster.SiloDown.{SiloDown}
 use Rattle.stream_cluster.specs.declared.cluster.SiloDown.TheVariants as down
 use Rattle.stream_cluster.specs.declared.cluster.SiloUp.{SiloUp}
 use Rattle.stream_cluster.specs.declared.cluster.SiloUp.TheVariants as up
+
+pub on_ok_both : {A E P Q R : Type 0} → (r : Result A E) → (P → Q → R) → OnOk r P → OnOk r Q → OnOk r R
+on_ok_both (Ok x) f p q = f p q
+on_ok_both (Err e) f p q = tt
 
 pub op-refl : (v : OperatorView) → OperatorGoesOn v v
 op-refl v = record { lines = goes-refl v.lines; directory = on-refl v.directory }
@@ -89,7 +93,7 @@ moved-earlier old new fresh before now on on2 moved =
     λ k was is a b differs.
     let middle = goes-back new fresh k is on2 b in
     let goes = goes-at old new k was middle.0 on a middle.1 in
-    made-earlier (IsMove (slice_index now k)) (length was.pass.seen) (length middle.0.pass.seen) is.pass (goes-longer was.pass middle.0.pass goes) (moved k middle.0 is middle.1 b differs)
+    last-earlier is_move (IsMove (slice_index now k)) (length was.pass.seen) (length middle.0.pass.seen) is.pass (goes-longer was.pass middle.0.pass goes) (moved k middle.0 is middle.1 b differs)
 
 pub spread-from : (u v w : OperatorView) → OperatorGoesOn u v → OperatorGoesOn v w → v.assignment ≡ u.assignment → HasSpread v w → HasSpread u w
 spread-from u v w on on2 same spread =
@@ -183,9 +187,9 @@ deactivated-from silo d e f old new last later silent on lines lines2 lines3 gon
     (each-earlier (IsDeactivation grain) old new last lines lines2 (gone grain (made-since-silent (IsRelease silo grain) d e f silent on made)))
 
 -- What is left once a silo went: its passes were joined, its grains taken, it lives no more, and the queues are spread.
-pub left-whole : (silo place : ℕ) (v u t s w : OperatorView) → HasOnlyGoneOn v u → IsSilent v.directory u.directory → HasOnlyGoneOn u t → AreDeactivated silo u.directory t.directory u.lines t.lines
-    → HasMade (length u.directory.seen) t.directory (IsNoneLeft silo) → s ≡ record t { live = remove t.live place } → OperatorGoesOn s w → w.directory ≡ s.directory → w.live ≡ s.live → HasSpread s w → HasLeft silo place v w
-left-whole silo place v u t s w back silent taken gone none_left dismissed on kept live spread =
+pub left-whole : (silo place : ℕ) (v u t s w : OperatorView) → HasOnlyGoneOn v u → IsSilent v.directory u.directory → AreSilent v.lines u.lines → HasOnlyGoneOn u t → HaveMovedNowhere u.lines t.lines → AreDeactivated silo u.directory t.directory u.lines t.lines
+    → HasMade (length u.directory.seen) t.directory (IsNoneLeft silo) → s ≡ record t { live = remove t.live place } → OperatorGoesOn s w → w.directory ≡ s.directory → w.live ≡ s.live → HasSpread s w → HaveStayed s.lines w.lines s.assignment w.assignment → HasLeft silo place v w
+left-whole silo place v u t s w back silent silents taken nowhere gone none_left dismissed on kept live spread stayed =
     let directory : w.directory ≡ t.directory = kept ∙ ap (λ (o : OperatorView). o.directory) dismissed in
     let lines : s.lines ≡ t.lines = ap (λ (o : OperatorView). o.lines) dismissed in
     let later : GoOn t.lines w.lines = subst (λ (ls : List LineView). GoOn ls w.lines) lines on.lines in
@@ -196,6 +200,11 @@ left-whole silo place v u t s w back silent taken gone none_left dismissed on ke
           (made-earlier (IsNoneLeft silo) (length v.directory.seen) (length u.directory.seen) t.directory (goes-longer v.directory u.directory back.on.directory) none_left);
       deactivated = subst (λ (d : DirectoryPass). AreDeactivated silo v.directory d v.lines w.lines) (sym directory)
           (deactivated-from silo v.directory u.directory t.directory v.lines u.lines t.lines w.lines silent taken.on.directory back.on.lines taken.on.lines later gone);
+      stayed =
+          stayed-earlier v.lines t.lines w.lines v.assignment w.assignment away.lines later
+          (nowhere-trans v.lines u.lines t.lines back.on.lines taken.on.lines (nowhere-silents v.lines u.lines silents) nowhere)
+          (subst (λ (xs : List ℕ). HaveStayed t.lines w.lines xs w.assignment) (ap (λ (o : OperatorView). o.assignment) dismissed ∙ taken.assignment ∙ back.assignment)
+          (subst (λ (ls : List LineView). HaveStayed ls w.lines s.assignment w.assignment) lines stayed));
       spread = spread-from v s w (op-trans v t s away (op-same t s lines (ap (λ (o : OperatorView). o.directory) dismissed))) on (ap (λ (o : OperatorView). o.assignment) dismissed ∙ taken.assignment ∙ back.assignment) spread;
     }
 
@@ -210,16 +219,9 @@ as-many : (caller : List QueuePass) (lines : List LineView) → turnstiles calle
 as-many caller lines beside =
     sym (length-map caller (λ (p : QueuePass). p.turnstile)) ∙ ap (λ ts. length ts) beside ∙ length-map lines (λ (l : LineView). l.pass.turnstile)
 
--- what was opened is so while the operator's passes go on
 -- a pass stays at its turnstile
 directory-goes : (config : Config) (d e : DirectoryPass) → GoesOn d e → IsAtDirectory config d → IsAtDirectory config e
 directory-goes config d e on at = (at.0, on.turnstile ∙ at.1, at.2)
-
--- what was moved stays so
-moved-on : (ls ms : List LineView) (assignment : List ℕ) → GoOn ls ms → WereMoved ls assignment → WereMoved ms assignment
-moved-on ls ms assignment on moved queue l had other =
-    let was = goes-back ls ms queue l on had in
-    made-later (IsMove (slice_index assignment queue)) 0 was.0.pass l.pass (goes-at ls ms queue was.0 l on was.1 had) (omega arith) (moved queue was.0 was.1 other)
 
 first-silo : (n queue : ℕ) → slice_index (replicate n 0) queue ≡ 0
 first-silo zero queue = refl
@@ -230,22 +232,7 @@ first-silo (suc n) (suc queue) = first-silo n queue
 moved-first : (ls ms : List LineView) (n : ℕ) (assignment : List ℕ) → GoOn ls ms → HaveMoved ls ms (replicate n 0) assignment → WereMoved ms assignment
 moved-first ls ms n assignment on moved queue l had other =
     let was = goes-back ls ms queue l on had in
-    made-earlier (IsMove (slice_index assignment queue)) 0 (length was.0.pass.seen) l.pass (omega arith) (moved queue was.0 l was.1 had (λ same. other (same ∙ first-silo n queue)))
-
-pub opened-on : (config : Config) (v w : OperatorView) (caller : List QueuePass) → HasOnlyGoneOn v w → IsOpened config v caller → IsOpened config w caller
-opened-on config v w caller only opened =
-    record {
-      live = only.live ∙ opened.live;
-      queues = goes-length v.lines w.lines only.on.lines ∙ opened.queues;
-      at = at-goes config v.lines w.lines only.on.lines opened.at;
-      directory = directory-goes config v.directory w.directory only.on.directory opened.directory;
-      balanced = subst (λ (xs : List ℕ). IsBalanced (replicate config.queues 0) xs w.assignment) (sym only.live)
-          (subst (λ (xs : List ℕ). IsBalanced (replicate config.queues 0) v.live xs) (sym only.assignment) opened.balanced);
-      moved = subst (λ (xs : List ℕ). WereMoved w.lines xs) (sym only.assignment) (moved-on v.lines w.lines v.assignment only.on.lines opened.moved);
-      beside = opened.beside ∙ sym (goes-places v.lines w.lines only.on.lines);
-      each = opened.each;
-      unused = opened.unused;
-    }
+    last-earlier is_move (IsMove (slice_index assignment queue)) 0 (length was.0.pass.seen) l.pass (omega arith) (moved queue was.0 l was.1 had (λ same. other (same ∙ first-silo n queue)))
 
 -- one number more at the end
 pub range-more : (a n : ℕ) → range_with_len a (suc n) ≡ range_with_len a n ++ (a + n) ∷ []
@@ -395,10 +382,11 @@ pub down-done : (v w : ClusterView) (place silo gone : ℕ) → is_fixed v ≡ f
 down-done v w place silo gone fixed may stood named on left same goes noted =
     (fixed, may, record { on = on; place = place; stood = stood; left = subst (λ k. HasLeft k place v.operator w.operator) named left; same = same; goes_on = goes }, noted)
 
-pub up-done : (v w : ClusterView) (silo : ℕ) (s : SiloView) → is_fixed v ≡ false → (Contains v.operator.live silo → ⊥) → OperatorGoesOn v.operator w.operator → w.operator.live ≡ v.operator.live ++ silo ∷ [] → w.silos ≡ v.silos ++ s ∷ [] → IsFresh v.rounds silo s → HasSpread v.operator w.operator → w.ends ≡ v.ends → (w.is_parked ≡ v.is_parked) × (w.rounds ≡ v.rounds) × (w.looks ≡ v.looks) → w.is_halted ≡ false
+pub up-done : (v w : ClusterView) (silo : ℕ) (s : SiloView) → is_fixed v ≡ false → (Contains v.operator.live silo → ⊥) → OperatorGoesOn v.operator w.operator → HaveOnlySeen v.operator.lines w.operator.lines → w.operator.directory ≡ v.operator.directory → w.operator.live ≡ v.operator.live ++ silo ∷ [] → w.silos ≡ v.silos ++ s ∷ [] → IsFresh v.rounds silo s
+    → AreSplitOff v.operator.lines v.operator.directory s → HasSpread v.operator w.operator → HaveStayed v.operator.lines w.operator.lines v.operator.assignment w.operator.assignment → w.ends ≡ v.ends → (w.is_parked ≡ v.is_parked) × (w.rounds ≡ v.rounds) × (w.looks ≡ v.looks) → w.is_halted ≡ false
     → AnswersUp v silo (Ok up.Up) w
-up-done v w silo s fixed absent on live more fresh spread ends same goes =
-    (fixed, absent, record { on = on; live = live; started = (s, more, fresh); spread = spread; ends = ends; same = same; goes_on = goes })
+up-done v w silo s fixed absent on seen directory live more fresh split spread stayed ends same goes =
+    (fixed, absent, record { on = on; seen = seen; directory = directory; live = live; started = (s, more, fresh, split); spread = spread; stayed = stayed; ends = ends; same = same; goes_on = goes })
 
 -- a silo that ran came back, and how its loops have ended was noted
 pub has-noted : (v w : ClusterView) (place silo : ℕ) (s back : SiloView) → AreFresh v.rounds v.silos → place < length v.silos → s ≡ get_or v.silos place s → back.silo ≡ silo → HasRun s back → HaveComeBack w.operator.lines w.operator.directory back → w.ends ≡ noted v.ends back → HasNoted v silo w

@@ -17,7 +17,7 @@ use Rattle.turnstile.specs.declared.view.Start.{Start}
 use Rattle.queue_balancer.specs.Balance.{IsBalanced}
 use Rattle.silo_loops.specs.Lines.{DirectoryPass, LineView, QueuePass, places}
 use Rattle.cluster_callers.specs.Calls.{IsUnused, turnstiles}
-use Rattle.silo_crew.specs.Silos.{AreTakenIn, GoOn, GoesOn, HasRun, HaveCauses, IsFresh, IsSiloAt, SiloView}
+use Rattle.silo_crew.specs.Silos.{AreSplitOff, AreTakenIn, GoOn, GoesOn, HasRun, HaveCauses, IsFresh, IsSiloAt, SiloView}
 use Rattle.cluster_ending.specs.declared.ends.LoopEnds.{LoopEnds}
 use Rattle.cluster_ending.specs.declared.finishing.Finished.{Finished}
 use Rattle.cluster_ending.specs.Ends.{ends_with}
@@ -25,7 +25,7 @@ use Rattle.cluster_ending.specs.Finishing.{CallersAloneProduce, HaveBegun, IsFin
 use Rattle.cluster_ending.specs.Gathering.{gathered, passes_of}
 use Rattle.cluster_operator.specs.declared.halt.Halt.{Halt}
 use Rattle.cluster_operator.specs.declared.halt.Halt.TheVariants as halt
-use Rattle.cluster_operator.specs.Changes.{AreDeactivated, HasFound, HasMade, HasSince, IsMove, IsNoneLeft, IsSpentMove}
+use Rattle.cluster_operator.specs.Changes.{AreDeactivated, HasFound, HasMade, HasMadeLast, HasSince, HaveOnlySeen, HaveStayed, IsMove, IsNoneLeft, IsSpentMove, is_move}
 use Rattle.cluster_operator.specs.Operators.{HasSpread, OperatorGoesOn, OperatorView}
 use Rattle.stream_cluster.specs.declared.config.Config.{Config}
 use Rattle.stream_cluster.specs.declared.cluster.Retired.{Retired}
@@ -163,12 +163,17 @@ pub record IsLimitedAt (v w : OperatorView) (queue : ℕ) : Type 0 where
 abbrev pub HasMetLimit : OperatorView → OperatorView → Type 0
 HasMetLimit v w = HasFound halt.Limit w.directory ⊎ ((queue : ℕ) × IsLimitedAt v w queue)
 
--- a silo came: its loops, which had done nothing, were started, and the queues are spread anew
+-- A silo came: its loops, which had done nothing and whose passes were split off from the operator's, were started, and
+-- the queues are spread anew. A queue that stays on its silo was moved nowhere. No pass was joined to the operator's: at
+-- the queues these have only made calls, and the one at the directory is as before.
 pub record IsUp (v : ClusterView) (silo : ℕ) (w : ClusterView) : Type 0 where
   pub on : OperatorGoesOn v.operator w.operator
+  pub seen : HaveOnlySeen v.operator.lines w.operator.lines
+  pub directory : w.operator.directory ≡ v.operator.directory
   pub live : w.operator.live ≡ v.operator.live ++ silo ∷ []
-  pub started : (s : SiloView) × (w.silos ≡ v.silos ++ s ∷ []) × IsFresh v.rounds silo s
+  pub started : (s : SiloView) × (w.silos ≡ v.silos ++ s ∷ []) × IsFresh v.rounds silo s × AreSplitOff v.operator.lines v.operator.directory s
   pub spread : HasSpread v.operator w.operator
+  pub stayed : HaveStayed v.operator.lines w.operator.lines v.operator.assignment w.operator.assignment
   pub ends : w.ends ≡ v.ends
   pub same : (w.is_parked ≡ v.is_parked) × (w.rounds ≡ v.rounds) × (w.looks ≡ v.looks)
   pub goes_on : w.is_halted ≡ false
@@ -195,12 +200,14 @@ IsRetiredBy halt.Limit result = result ≡ Ok retired.Limit
 IsRetiredBy halt.Memory result = IsErr result
 
 -- What is left once a silo went that stood at this place among those that live: no grain is left on it, each grain that
--- was taken from it is deactivated at each queue, and the queues are spread anew.
+-- was taken from it is deactivated at each queue, and the queues are spread anew. A queue that stays on its silo was moved
+-- nowhere.
 pub record HasLeft (silo place : ℕ) (v w : OperatorView) : Type 0 where
   pub live : w.live ≡ remove v.live place
   pub none_left : HasMade (length v.directory.seen) w.directory (IsNoneLeft silo)
   pub deactivated : AreDeactivated silo v.directory w.directory v.lines w.lines
   pub spread : HasSpread v w
+  pub stayed : HaveStayed v.lines w.lines v.assignment w.assignment
 
 -- a silo went: its loops came back, and this is left
 pub record IsDown (v : ClusterView) (silo : ℕ) (w : ClusterView) : Type 0 where
@@ -252,10 +259,10 @@ AnswersRetire v loops (Err e) w = IsBrokenOff v loops w
 abbrev pub AreAtQueues : Config → List LineView → Type 0
 AreAtQueues config lines = AllByRecursion (λ (l : LineView). IsAtQueue config l.pass) lines
 
--- each queue that is on another silo than the first was moved there
+-- each queue that is on another silo than the first was moved there, and nowhere after that
 abbrev pub WereMoved : List LineView → List ℕ → Type 0
 WereMoved lines assignment =
-    (queue : ℕ) (l : LineView) → slice_get lines queue ≡ Some l → slice_index assignment queue ≢ 0 → HasMade 0 l.pass (IsMove (slice_index assignment queue))
+    (queue : ℕ) (l : LineView) → slice_get lines queue ≡ Some l → slice_index assignment queue ≢ 0 → HasMadeLast is_move 0 l.pass (IsMove (slice_index assignment queue))
 
 -- The operator of a new cluster and its caller: the first silos are to live, all queues are spread from silo 0 over them,
 -- the directory has no grain, and the caller has a pass at each queue and has made no call.

@@ -2,7 +2,8 @@
 ghost use Rattle.std.specs.Prelude.{◌≡◌, ◌<◌, [], ◌∷◌, ◌++◌, length, map, Contains, Some, slice_get, IfErr, IfOk, OnErr, OnOk};
 ghost use Rattle.std.specs.List.{AllByRecursion, AllZip, range_with_len};
 ghost use Rattle.turnstile.specs.Recorded.{recorded};
-ghost use Rattle.silo_crew.specs.Silos.{AreTakenIn, HasRun, HaveCauses, IsFresh, IsSiloAt, SiloView};
+ghost use Rattle.silo_crew.specs.Silos.{AreSplitOff, AreTakenIn, HasRun, HaveCauses, IsFresh, IsSiloAt, SiloView};
+ghost use Rattle.cluster_operator.specs.Changes.{HaveOnlySeen, HaveStayed};
 ghost use Rattle.cluster_operator.specs.Operators.{HasOnlyGoneOn, HasSpread, OperatorGoesOn};
 ghost use Rattle.stream_cluster.specs.Clusters.{AreFresh, AreStarted, HasLeft, HasMetLimit, HaveComeBack, HaveEnded, RunsOn, all_noted, noted};
 
@@ -29,7 +30,9 @@ pub(crate) fn start_silo<
     silo: u8,
     rounds: u64,
 ) -> Result<RunningSilo<G, H, D>, AllocError>
+    ensures same { OnOk result (operator.new ≡ operator.old) }
     ensures only { HasOnlyGoneOn operator.old operator.new }
+    ensures split { IfOk result (AreSplitOff operator.old.lines operator.old.directory) }
     ensures started { IfOk result (λ running. IsFresh rounds silo running × IsSiloAt operator.new.lines operator.new.directory running) }
 {
     let loops = operator.make_loops(alloc, silo, rounds)?;
@@ -63,9 +66,12 @@ pub(crate) fn bring_up<
     ensures at { RunsOn operator.new silos.new.items }
     ensures fresh { AreFresh rounds silos.new.items }
     ensures on { OperatorGoesOn operator.old operator.new }
+    ensures seen { OnOk result (HaveOnlySeen operator.old.lines operator.new.lines) }
+    ensures directory { OnOk result (operator.new.directory ≡ operator.old.directory) }
     ensures live { OnOk result (operator.new.live ≡ operator.old.live ++ silo ∷ []) }
-    ensures started { OnOk result ((s : SiloView) × (silos.new.items ≡ silos.old.items ++ s ∷ []) × IsFresh rounds silo s) }
+    ensures started { OnOk result ((s : SiloView) × (silos.new.items ≡ silos.old.items ++ s ∷ []) × IsFresh rounds silo s × AreSplitOff operator.old.lines operator.old.directory s) }
     ensures spread { OnOk result (HasSpread operator.old operator.new) }
+    ensures stayed { OnOk result (HaveStayed operator.old.lines operator.new.lines operator.old.assignment operator.new.assignment) }
     ensures kept { OnErr result (operator.new.assignment ≡ operator.old.assignment) }
     ensures limit { IfErr result (λ why. why ≡ Halt.Limit → HasMetLimit operator.old operator.new) }
 {
@@ -114,6 +120,7 @@ pub(crate) fn start_all<
     silos: u8,
     rounds: u64,
 ) -> Result<Vec<RunningSilo<G, H, D>>, AllocError>
+    ensures same { OnOk result (operator.new ≡ operator.old) }
     ensures only { HasOnlyGoneOn operator.old operator.new }
     ensures started { IfOk result (λ running. AreStarted silos running.items × AreFresh rounds running.items × RunsOn operator.new running.items) }
 {
@@ -176,6 +183,7 @@ pub(crate) fn make_all<G: Gate, H: QueueHistory, D: DirectoryHistory>(
     silos: u8,
     rounds: u64,
 ) -> Result<Vec<SiloLoops<G, H, D>>, AllocError>
+    ensures same { OnOk result (operator.new ≡ operator.old) }
     ensures only { HasOnlyGoneOn operator.old operator.new }
     ensures made { IfOk result (λ made. AreStarted silos made.items × AreFresh rounds made.items × RunsOn operator.new made.items) }
 {

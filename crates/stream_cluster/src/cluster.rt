@@ -196,8 +196,9 @@ impl<
         Ok((cluster, caller))
     }
 
-    /// Starts the loops of a silo, and spreads the queues over all silos that live. Each queue that has another silo
-    /// then was moved there.
+    /// Starts the loops of a silo, with passes that are split off from the cluster's own, and spreads the queues over
+    /// all silos that live. Each queue that has another silo then was moved there last, and no other was moved. No pass
+    /// was joined to the cluster's own.
     ///
     /// # Errors
     /// The call failed to allocate, or a thread can't be made. What was answered by then stands, and the
@@ -255,7 +256,7 @@ impl<G: Gate, H: QueueHistory, D: DirectoryHistory> Cluster<G, H, D> {
     }
 
     /// Stops the loops of a silo and waits until they came back, deactivates the grains that the directory has on
-    /// it, and spreads the queues over the silos that live. Each queue that has another silo then was moved there.
+    /// it, and spreads the queues over the silos that live. Each queue that has another silo then was moved there last.
     ///
     /// # Errors
     /// The call failed to allocate. The loops of the silo came back, what was answered by then stands, no pass is
@@ -357,7 +358,7 @@ impl<G: Gate, H: QueueHistory, D: DirectoryHistory> Cluster<G, H, D> {
     }
 
     /// Takes back the loops of a silo of a parked cluster, deactivates the grains that the directory has on it, and
-    /// spreads the queues over the silos that are left. Each queue that has another silo then was moved there.
+    /// spreads the queues over the silos that are left. Each queue that has another silo then was moved there last.
     ///
     /// Where the cluster's silos don't change any more, or no other silo lives, the loops are handed out again.
     ///

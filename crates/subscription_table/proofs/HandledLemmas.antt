@@ -41,10 +41,6 @@ token_there q position there = get_or-map (λ event. event.token) q.events posit
 order_there : (q : PlainQueue) (i j : ℕ) → TokensRise q → i < j → j < length q.events → token_lt (token_at q i) (token_at q j) ≡ true
 order_there q i j tokens less there = rw (token_there q i (omega arith), token_there q j there) (tokens.rising i j less there)
 
--- the token at a place among the handled positions
-handled_token : List ℕ → PlainQueue → ℕ → Token
-handled_token handled q i = token_at q (get_or handled i 0)
-
 -- what is so of every position is so of each
 there_at : (handled : List ℕ) (q : PlainQueue) (i : ℕ) → All (λ position. position < length q.events) handled → i < length handled → get_or handled i 0 < length q.events
 there_at handled q i there within = All-get_or (λ position. position < length q.events) handled i 0 within there

@@ -62,7 +62,7 @@ impl Partition {
 
     /// The next event of the subscription with a number is delivered, and a turn of its grain handles it, where the
     /// subscription is open and has handled an event but none from that one on, its grain is active and at rest, and a rise is
-    /// left. Elsewhere, and where memory is wanting, nothing is done, and the result is false.
+    /// left. Elsewhere, and where there is no memory, nothing is done, and the result is false.
     pub(crate) fn handle_next(&mut self, alloc: Global, number: usize) -> bool
         requires { number < length self.old.subs }
         ensures { HandlesNext self.old self.new (name_of self.old number) result }

@@ -8,14 +8,14 @@ use Rattle.cluster_operator.proofs.Changing.{found-at, since-all, since-more, si
 use Rattle.cluster_operator.proofs.leaving.deactivate_everywhere.Goals as goal
 
 pub loop-queue-init : goal.loop-queue-init
-loop-queue-init g c = since-none _ _ c.args.lines.now.items
+loop-queue-init g c = since-none _ c.args.lines.now.items
 
 pub returns-in_err-deactivate-clause-on : goal.returns-in_err-deactivate-clause-on
 returns-in_err-deactivate-clause-on g c =
     let below = c.loop-queue-test.true in
     let len = c.len-queue-end.ensures in
     let long = goes-length _ _ c.loop-queue.invariant.on in
-    since-on _ _ c.args.lines.now.items c.loop-queue.lines.items _ c.loop-queue.queue c.index_mut-line.result.now c.deactivate.new.line (first_of (omega (arith, below, len, long), search rules, grind (arith, common_steps))) c.index_mut-line.ensures.value
+    since-on _ c.args.lines.now.items c.loop-queue.lines.items _ c.loop-queue.queue c.index_mut-line.result.now c.deactivate.new.line (first_of (omega (arith, below, len, long), search rules, grind (arith, common_steps))) c.index_mut-line.ensures.value
     c.deactivate.ensures.on refl c.loop-queue.invariant
 
 pub loop-queue-preserved : goal.loop-queue-preserved
@@ -23,15 +23,22 @@ loop-queue-preserved g c =
     let below = c.loop-queue-test.true in
     let len = c.len-queue-end.ensures in
     let long = goes-length _ _ c.loop-queue.invariant.on in
-    since-more _ _ c.args.lines.now.items c.loop-queue.lines.items _ c.loop-queue.queue c.index_mut-line.result.now c.deactivate.new.line (first_of (omega (arith, below, len, long), search rules, grind (arith, common_steps))) c.index_mut-line.ensures.value
-    c.deactivate.ensures.on (λ due. c.in_ok-deactivate.ensures.done) refl c.loop-queue.invariant
+    since-more _ c.args.lines.now.items c.loop-queue.lines.items _ c.loop-queue.queue c.index_mut-line.result.now c.deactivate.new.line (first_of (omega (arith, below, len, long), search rules, grind (arith, common_steps))) c.index_mut-line.ensures.value
+    c.deactivate.ensures.on (c.in_ok-deactivate.ensures.nowhere, c.in_ok-deactivate.ensures.done) refl c.loop-queue.invariant
+
+pub returns-clause-nowhere : goal.returns-clause-nowhere
+returns-clause-nowhere g c =
+    let past = c.loop-queue-test.false in
+    let len = c.len-queue-end.ensures in
+    let all = since-all _ c.args.lines.now.items c.loop-queue.lines.items c.loop-queue.queue (omega (arith, past, len)) c.loop-queue.invariant in
+    λ queue was is had has. (all queue was is had has).0
 
 pub returns-clause-done : goal.returns-clause-done
 returns-clause-done g c =
     let past = c.loop-queue-test.false in
     let len = c.len-queue-end.ensures in
-    λ queue was is had has.
-    since-all _ _ c.args.lines.now.items c.loop-queue.lines.items c.loop-queue.queue (first_of (omega (arith, past, len), search rules, grind (arith, common_steps))) c.loop-queue.invariant queue was is had has tt
+    let all = since-all _ c.args.lines.now.items c.loop-queue.lines.items c.loop-queue.queue (omega (arith, past, len)) c.loop-queue.invariant in
+    λ queue was is had has. (all queue was is had has).1
 
 pub returns-in_err-deactivate-clause-found : goal.returns-in_err-deactivate-clause-found
 returns-in_err-deactivate-clause-found g c =

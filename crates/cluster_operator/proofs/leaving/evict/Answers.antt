@@ -4,11 +4,11 @@ use Rattle.cluster_operator.specs.declared.halt.Halt.{Halt}
 use Rattle.cluster_operator.specs.Changes.{HoldsGrains, Releases}
 use Rattle.cluster_operator.specs.declared.leaving.Release.{Release}
 use Rattle.cluster_operator.proofs.Making.{passed-on}
-use Rattle.cluster_operator.proofs.Changing.{all-gone, holds-refused, none-gone, none-none, none-released, one-gone, released-on}
+use Rattle.cluster_operator.proofs.Changing.{all-gone, holds-refused, none-gone, none-none, none-released, nowhere-none, nowhere-trans, one-gone, released-on}
 use Rattle.cluster_operator.proofs.leaving.evict.Goals as goal
 
 pub loop-init : goal.loop-init
-loop-init g c = record { on = goes-refl c.args.lines.now.items; directory = on-refl c.args.directory.now; deactivated = none-gone c.args.silo c.args.directory.now c.args.lines.now.items; none = none-none c.args.silo c.args.directory.now }
+loop-init g c = record { on = goes-refl c.args.lines.now.items; directory = on-refl c.args.directory.now; nowhere = nowhere-none c.args.lines.now.items; deactivated = none-gone c.args.silo c.args.directory.now c.args.lines.now.items; none = none-none c.args.silo c.args.directory.now }
 
 pub loop-preserved : goal.loop-preserved
 loop-preserved g c =
@@ -20,6 +20,7 @@ loop-preserved g c =
     record {
       on = goes-trans c.args.lines.now.items c.loop.lines.items c.deactivate_everywhere.new.lines.items on lines;
       directory = on-trans c.args.directory.now e f c.loop.invariant.directory (released-on c.args.silo e c.take_grain.result f c.take_grain.ensures);
+      nowhere = nowhere-trans c.args.lines.now.items c.loop.lines.items c.deactivate_everywhere.new.lines.items on lines c.loop.invariant.nowhere c.in_ok-deactivate_everywhere-in-Grain.ensures.nowhere;
       deactivated =
           one-gone c.args.silo c.args.directory.now e f c.args.lines.now.items c.loop.lines.items c.deactivate_everywhere.new.lines.items c.in-Grain.grain c.loop.invariant.directory taken on lines
           c.in_ok-deactivate_everywhere-in-Grain.ensures.done c.loop.invariant.deactivated;

@@ -1,6 +1,6 @@
 use Rattle.std.proofs.Common.{length}
 use Rattle.silo_crew.specs.Silos.{GoOn, GoesOn}
-use Rattle.cluster_operator.specs.Changes.{AreDeactivated, HasMade, IsNoneLeft}
+use Rattle.cluster_operator.specs.Changes.{AreDeactivated, HasMade, HaveMovedNowhere, IsNoneLeft}
 use Rattle.cluster_operator.proofs.leaving.evict.Given as goal
 
 abbrev pub invariant-loop : goal.invariant-loop
@@ -8,6 +8,7 @@ invariant-loop g l =
     record {
       on : GoOn l.fn.lines.items l.lines.items;
       directory : GoesOn l.fn.directory l.directory;
+      nowhere : HaveMovedNowhere l.fn.lines.items l.lines.items;
       deactivated : AreDeactivated l.fn.silo l.fn.directory l.directory l.fn.lines.items l.lines.items;
       none : HasMade (length l.fn.directory.seen) l.directory (IsNoneLeft l.fn.silo) → ⊥;
     }

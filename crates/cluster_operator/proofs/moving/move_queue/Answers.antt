@@ -4,17 +4,19 @@ use Rattle.stream_model.specs.Replies.{Reply}
 use Rattle.shared_partition.specs.Partitions.{after, replied}
 use Rattle.silo_loops.specs.Lines.{CallsOn}
 use Rattle.cluster_operator.specs.declared.halt.Halt.{Halt}
-use Rattle.cluster_operator.specs.Changes.{IsMove, IsUnmoved, halt_of}
-use Rattle.cluster_operator.proofs.Changing.{unmoved-refused, unmoved-spent}
-use Rattle.cluster_operator.proofs.Making.{called-reply, goes-called, made-called, passed-on}
+use Rattle.cluster_operator.specs.Changes.{IsUnmoved, halt_of}
+use Rattle.cluster_operator.proofs.Changing.{at-other, at-same, unmoved-refused, unmoved-spent}
+use Rattle.cluster_operator.proofs.Making.{called-reply, goes-called, passed-on}
 use Rattle.cluster_operator.proofs.Replies.{MovesOrSpent, move-replies, moved-reply, spent-reply}
 use Rattle.cluster_operator.proofs.moving.move_queue.Goals as goal
 
+pub returns-then-from-to-clause-moved : goal.returns-then-from-to-clause-moved
+returns-then-from-to-clause-moved g c = at-same c.args.from c.args.to c.args.line.now (sym c.if-from-to.true)
+
 pub returns-in-Some-clause-moved : goal.returns-in-Some-clause-moved
 returns-in-Some-clause-moved g c =
-    λ other.
     let moved = moved-reply c.in_ok-answer.answer c.in-Some.generation (sym c.moved_of.ensures ∙ c.in-Some.is) in
-    made-called replied after (IsMove c.args.to) c.args.line.now.pass _ c.in_ok-answer.answer c.call.new.self.pass c.in_ok-answer.ensures.call (refl, (c.in-Some.generation, moved.0, moved.1))
+    at-other c.args.from c.args.to c.args.line.now c.in_ok-answer.answer c.call.new.self (λ same. c.if-from-to.false (sym same)) c.in_ok-answer.ensures (c.in-Some.generation, moved.0, moved.1)
 
 pub returns-in_err-answer-clause-unmoved : goal.returns-in_err-answer-clause-unmoved
 returns-in_err-answer-clause-unmoved g c =
@@ -37,3 +39,15 @@ returns-in-Some-clause-on g c = goes-called replied after c.args.line.now.pass _
 
 pub returns-clause-on : goal.returns-clause-on
 returns-clause-on g c = goes-called replied after c.args.line.now.pass _ c.call.result c.call.new.self.pass c.call.ensures.call
+
+pub returns-then-from-to-clause-seen : goal.returns-then-from-to-clause-seen
+returns-then-from-to-clause-seen g c = (refl, refl)
+
+pub returns-in_err-answer-clause-seen : goal.returns-in_err-answer-clause-seen
+returns-in_err-answer-clause-seen g c = (c.call.ensures.mark, c.call.ensures.call.only)
+
+pub returns-in-Some-clause-seen : goal.returns-in-Some-clause-seen
+returns-in-Some-clause-seen g c = (c.call.ensures.mark, c.call.ensures.call.only)
+
+pub returns-clause-seen : goal.returns-clause-seen
+returns-clause-seen g c = (c.call.ensures.mark, c.call.ensures.call.only)

@@ -1,8 +1,12 @@
-use Rattle.std.proofs.Common.{◌≢◌, ℕ}
+use Rattle.std.proofs.Common.{ℕ}
 use Rattle.std.specs.List.{slice_index}
-use Rattle.cluster_operator.specs.Changes.{IsMove}
+use Rattle.cluster_operator.specs.Changes.{HaveOnlySeen, IsAtSilo}
 use Rattle.cluster_operator.proofs.Changing.{Since}
 use Rattle.cluster_operator.proofs.moving.spread.Given as goal
 
 abbrev pub invariant-loop-queue : goal.invariant-loop-queue
-invariant-loop-queue g l = Since (λ (k : ℕ). IsMove (slice_index l.fn.new k)) (λ (k : ℕ). slice_index l.fn.new k ≢ slice_index l.fn.old k) l.queue l.fn.lines.items l.lines.items
+invariant-loop-queue g l =
+    record {
+      since : Since (λ (k : ℕ). IsAtSilo (slice_index l.fn.old k) (slice_index l.fn.new k)) l.queue l.fn.lines.items l.lines.items;
+      seen : HaveOnlySeen l.fn.lines.items l.lines.items;
+    }

@@ -1,13 +1,13 @@
-use Rattle.std.proofs.Common.{◌≡◌, List, [], arith, refl, rules, set, subst, sym}
+use Rattle.std.proofs.Common.{◌≡◌, List, [], ap, arith, refl, rules, set, subst, sym}
 use Rattle.std.proofs.lemmas.Grind.{common_steps}
 use Rattle.silo_loops.specs.Lines.{LineView}
 use Rattle.cluster_callers.specs.Calls.{AllZipFront}
 use Rattle.silo_crew.specs.Silos.{HasTakenIn, joined_lines}
-use Rattle.silo_crew.proofs.Going.{goes-refl, join-more, join-next, joined-more, takes-more}
+use Rattle.silo_crew.proofs.Going.{goes-refl, join-more, join-next, joined-more, silent-joined, silents-refl, silents-set, takes-more}
 use Rattle.silo_crew.proofs.lines.join_front.Goals as goal
 
 pub loop-other-init : goal.loop-other-init
-loop-other-init g c = record { alike = c.requires; on = goes-refl c.args.lines.now.items; joined = refl; takes = λ ms on front. front }
+loop-other-init g c = record { alike = c.requires; on = goes-refl c.args.lines.now.items; silent = silents-refl c.args.lines.now.items; joined = refl; takes = λ ms on front. front }
 
 pub index_mut-line-requires : goal.index_mut-line-requires
 index_mut-line-requires g c =
@@ -30,7 +30,10 @@ loop-other-preserved g c =
     c.loop-other.invariant.alike c.index_mut-line.ensures.value c.join.ensures.joined refl c.loop-other.invariant.joined in
     let takes = takes-more c.loop-other.lines.items c.loop-other.others.items c.pop.new.self.items c.args.others.items c.len.result c.index_mut-line.result.now c.in-Some.other c.join.new.self c.in-Some.ensures.items (first_of (omega (arith, len), search rules, grind (arith, common_steps)))
     c.loop-other.invariant.alike c.index_mut-line.ensures.value c.join.ensures.joined c.join.ensures.agree c.loop-other.invariant.takes in
-    record { alike = more.0; on = more.1; joined = joined; takes = takes }
+    let next = join-next c.loop-other.lines.items c.loop-other.others.items c.pop.new.self.items c.len.result c.index_mut-line.result.now c.in-Some.other c.in-Some.ensures.items (first_of (omega (arith, len), search rules, grind (arith, common_steps))) c.loop-other.invariant.alike in
+    let silent = silents-set c.args.lines.now.items c.loop-other.lines.items c.len.result c.index_mut-line.result.now c.join.new.self next.0 c.index_mut-line.ensures.value
+    (silent-joined c.index_mut-line.result.now.pass c.in-Some.other.pass c.join.new.self.pass (ap (λ (l : LineView). l.pass) c.join.ensures.joined) c.join.ensures.agree) c.loop-other.invariant.silent in
+    record { alike = more.0; on = more.1; silent = silent; joined = joined; takes = takes }
 
 pub returns-clause-taken : goal.returns-clause-taken
 returns-clause-taken g c =

@@ -1,6 +1,6 @@
 use Rattle.std.proofs.Common.{◌≡◌, vec_len}
 use Rattle.cluster_callers.specs.Calls.{AllZipFront}
-use Rattle.silo_crew.specs.Silos.{AreAlike, GoOn, joined_lines}
+use Rattle.silo_crew.specs.Silos.{AreAlike, AreSilent, GoOn, joined_lines}
 use Rattle.silo_crew.proofs.Going.{Takes}
 use Rattle.silo_crew.proofs.lines.join_front.Given as goal
 
@@ -9,6 +9,7 @@ invariant-loop-other g l =
     record {
       alike : AllZipFront AreAlike l.lines.items l.others.items;
       on : GoOn l.fn.lines.items l.lines.items;
+      silent : AreSilent l.fn.lines.items l.lines.items;
       joined : joined_lines l.lines.items l.others.items ≡ joined_lines l.fn.lines.items l.fn.others.items;
       takes : Takes l.lines.items l.others.items l.fn.others.items;
     }

@@ -1,6 +1,7 @@
 use Rattle.std.proofs.Common.{refl, rules, sym, subst}
+use Rattle.std.specs.List.{AllZip}
 use Rattle.silo_loops.specs.Agents.{AgentView}
-use Rattle.silo_crew.specs.Silos.{IsAgentAt, IsFreshAgent}
+use Rattle.silo_crew.specs.Silos.{IsAgentAt, IsFreshAgent, IsSplitLine}
 use Rattle.silo_crew.proofs.Going.{split-at, split-marked}
 use Rattle.silo_crew.proofs.loops.make_agent.Goals as goal
 
@@ -15,3 +16,6 @@ join_lines-requires-after_bounds g c κs within =
     let same = c.in-Err.ensures.back in
     let at = split-at _ _ _ c.in_ok-own.ensures.new c.split_lines.ensures.go_on in
     search (rules, same, at)
+
+pub returns-in-Ok-clause-split : goal.returns-in-Ok-clause-split
+returns-in-Ok-clause-split g c = subst (λ (a : AgentView). AllZip IsSplitLine c.args.lines.now.items a.lines) (sym c.in-Ok.ensures.made) c.in_ok-own.ensures.new

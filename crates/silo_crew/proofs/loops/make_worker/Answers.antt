@@ -1,6 +1,6 @@
 use Rattle.std.proofs.Common.{refl, sym, subst, ap, ◌∙◌}
 use Rattle.silo_loops.specs.Workers.{WorkerView}
-use Rattle.silo_crew.specs.Silos.{IsFreshWorker, IsWorkerAt}
+use Rattle.silo_crew.specs.Silos.{IsFreshWorker, IsSplitWorker, IsWorkerAt}
 use Rattle.silo_crew.proofs.Going.{goes-refl, silent-made, silent-refl, silent-same, split-at, split-fresh, split-marked}
 use Rattle.silo_crew.proofs.loops.make_worker.Goals as goal
 
@@ -32,3 +32,6 @@ returns-in-Ok-clause-directory g c = silent-same c.args.directory.now c.split.ne
 
 pub returns-in-Err-clause-directory : goal.returns-in-Err-clause-directory
 returns-in-Err-clause-directory g c = silent-made c.args.directory.now c.split.new.self c.in-Err.ensures.made
+
+pub returns-in-Ok-clause-split : goal.returns-in-Ok-clause-split
+returns-in-Ok-clause-split g c = subst (λ (w : WorkerView). IsSplitWorker c.args.lines.now.items c.args.directory.now w) (sym c.new-in-Ok.ensures) (c.in_ok-own.ensures.new, c.in-Ok.ensures.new)

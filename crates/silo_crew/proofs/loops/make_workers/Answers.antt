@@ -1,5 +1,5 @@
 use Rattle.std.proofs.Common.{◌∙◌, sym}
-use Rattle.silo_crew.proofs.Going.{goes-refl, goes-some, goes-trans, silent-refl, silent-trans, still-at}
+use Rattle.silo_crew.proofs.Going.{goes-refl, goes-some, goes-trans, silent-refl, silent-trans, split-same, still-at}
 use Rattle.silo_crew.proofs.loops.make_workers.Goals as goal
 
 pub returns-in_err-first_tools-clause-go_on : goal.returns-in_err-first_tools-clause-go_on
@@ -43,3 +43,12 @@ returns-in_err-second_tools-clause-directory g c = silent-refl c.args.directory.
 
 pub returns-in-Ok-clause-directory : goal.returns-in-Ok-clause-directory
 returns-in-Ok-clause-directory g c = silent-trans c.args.directory.now c.make_worker.new.directory c.make_worker-2.new.directory c.make_worker.ensures.directory c.make_worker-2.ensures.directory
+
+pub returns-in-Ok-clause-same : goal.returns-in-Ok-clause-same
+returns-in-Ok-clause-same g c =
+    let first = c.in_ok-first.ensures.same in
+    let second = c.in-Ok.ensures.same in
+    (second.0 ∙ first.0, second.1 ∙ first.1)
+
+pub returns-in-Ok-clause-split : goal.returns-in-Ok-clause-split
+returns-in-Ok-clause-split g c = (c.in_ok-first.ensures.split, split-same c.args.lines.now.items c.make_worker.new.lines.items c.args.directory.now c.make_worker.new.directory c.in-Ok.second c.in_ok-first.ensures.same c.in-Ok.ensures.split)

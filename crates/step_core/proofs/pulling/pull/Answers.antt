@@ -1,46 +1,51 @@
-use Rattle.std.proofs.Common.{◌≡◌, ◌∙◌, ◌<◌, ap, subst, true, length, arith}
-use Rattle.std.specs.Prelude.{OnErr}
+use Rattle.std.proofs.Common.{◌≡◌, ◌∙◌, ◌<◌, ap, subst, sym, true, length}
+use Rattle.std.specs.Prelude.{OnErr, Result, Ok}
 use Rattle.stream_ident.specs.declared.ident.SubName.{SubName}
 use Rattle.stream_model.specs.declared.reply.Reply.TheVariants as reply
 use Rattle.stream_model.specs.Step.{takes_memory}
 use Rattle.stream_ident.specs.Words.{Performs}
+use Rattle.pulling_agent.specs.declared.agent.Plan.{Plan}
 use Rattle.pulling_agent.specs.declared.agent.Plan.TheVariants as plan
+use Rattle.pulling_agent.specs.declared.agent.StaleAgent.{StaleAgent}
 use Rattle.step_core.specs.PlainOf.{plain_of}
 use Rattle.step_core.specs.Replied.{replied}
 use Rattle.step_core.proofs.HandOps.{Answer}
-use Rattle.step_core.proofs.Shared.{high-end}
 use Rattle.step_core.proofs.PlanOps.{planned-is, pull-replaced}
 use Rattle.step_core.proofs.pulling.pull.Goals as goal
 
+abbrev told_of : Plan → Result Plan StaleAgent
+told_of made = Ok made
+
+planned_as : {given made : Plan} → given ≡ made → told_of made ≡ told_of given
+planned_as is = ap told_of (sym is)
+
 pub returns-in-Err-clause-performs : goal.returns-in-Err-clause-performs
-returns-in-Err-clause-performs c = pull-replaced c.args.parts.now c.args.generation c.args.max c.in-Err.field-0 c.in-Err.ensures
+returns-in-Err-clause-performs c =
+    pull-replaced c.args.parts.now c.args.generation c.args.max c.len-len.result c.least_resume-least.result c.in-Err.field-0 c.in-Err.ensures.plan
 
-pub plan_pull-requires : goal.plan_pull-requires
-plan_pull-requires c = omega (arith, high-end c.args.parts.now c.requires, c.len-len.ensures.count)
+pub returns-in-Ok-Dry-clause-performs : goal.returns-in-Ok-Dry-clause-performs
+returns-in-Ok-Dry-clause-performs c =
+    planned-is c.args.parts.now c.args.generation c.args.max c.len-len.result c.least_resume-least.result plan.Dry c.len-len.ensures.count c.least_resume-least.ensures (planned_as c.in-Ok-Dry.field-0-is ∙ c.in-Ok-Dry.ensures.plan)
 
-pub returns-in-Dry-clause-performs : goal.returns-in-Dry-clause-performs
-returns-in-Dry-clause-performs c =
-    planned-is c.args.parts.now c.args.generation c.args.max c.in_default.field-0 c.in_default.ensures c.len-len.result c.least_resume-least.result plan.Dry c.len-len.ensures.count c.least_resume-least.ensures c.in-Dry.ensures.plan
-
-pub returns-in-Pressed-clause-performs : goal.returns-in-Pressed-clause-performs
-returns-in-Pressed-clause-performs c =
+pub returns-in-Ok-Held-clause-performs : goal.returns-in-Ok-Held-clause-performs
+returns-in-Ok-Held-clause-performs c =
     ap {B = Answer} (λ (by : SubName). (plain_of c.args.parts.now, reply.Pressed by)) c.slowest.ensures
-    ∙ planned-is c.args.parts.now c.args.generation c.args.max c.in_default.field-0 c.in_default.ensures c.len-len.result c.least_resume-least.result plan.Pressed c.len-len.ensures.count c.least_resume-least.ensures c.in-Pressed.ensures.plan
+    ∙ planned-is c.args.parts.now c.args.generation c.args.max c.len-len.result c.least_resume-least.result plan.Held c.len-len.ensures.count c.least_resume-least.ensures (planned_as c.in-Ok-Held.field-0-is ∙ c.in-Ok-Held.ensures.plan)
 
-pub returns-in-Take-clause-performs : goal.returns-in-Take-clause-performs
-returns-in-Take-clause-performs c =
+pub returns-in-Ok-Take-clause-performs : goal.returns-in-Ok-Take-clause-performs
+returns-in-Ok-Take-clause-performs c =
     subst (λ (done : Answer). Performs (plain_of c.args.parts.now) (plain_of c.take.new.parts) (replied c.take.result) done)
-    (planned-is c.args.parts.now c.args.generation c.args.max c.in_default.field-0 c.in_default.ensures c.len-len.result c.least_resume-least.result (plan.Take c.in-Take.drops c.in-Take.count) c.len-len.ensures.count c.least_resume-least.ensures c.in-Take.ensures.plan)
+    (planned-is c.args.parts.now c.args.generation c.args.max c.len-len.result c.least_resume-least.result (plan.Take c.in-Ok-Take.drops c.in-Ok-Take.count) c.len-len.ensures.count c.least_resume-least.ensures (planned_as c.in-Ok-Take.field-0-is ∙ c.in-Ok-Take.ensures.plan))
     c.take.ensures.performs
 
-pub returns-in-Take-clause-memory : goal.returns-in-Take-clause-memory
-returns-in-Take-clause-memory c =
+pub returns-in-Ok-Take-clause-memory : goal.returns-in-Ok-Take-clause-memory
+returns-in-Ok-Take-clause-memory c =
     subst (λ (done : Answer). OnErr c.take.result (takes_memory done.1 ≡ true))
-    (planned-is c.args.parts.now c.args.generation c.args.max c.in_default.field-0 c.in_default.ensures c.len-len.result c.least_resume-least.result (plan.Take c.in-Take.drops c.in-Take.count) c.len-len.ensures.count c.least_resume-least.ensures c.in-Take.ensures.plan)
+    (planned-is c.args.parts.now c.args.generation c.args.max c.len-len.result c.least_resume-least.result (plan.Take c.in-Ok-Take.drops c.in-Ok-Take.count) c.len-len.ensures.count c.least_resume-least.ensures (planned_as c.in-Ok-Take.field-0-is ∙ c.in-Ok-Take.ensures.plan))
     c.take.ensures.memory
 
-pub returns-in-Take-clause-makes : goal.returns-in-Take-clause-makes
-returns-in-Take-clause-makes c =
+pub returns-in-Ok-Take-clause-makes : goal.returns-in-Ok-Take-clause-makes
+returns-in-Ok-Take-clause-makes c =
     subst (λ (done : Answer). OnErr c.take.result (length (plain_of c.args.parts.now).subs < length done.0.subs))
-    (planned-is c.args.parts.now c.args.generation c.args.max c.in_default.field-0 c.in_default.ensures c.len-len.result c.least_resume-least.result (plan.Take c.in-Take.drops c.in-Take.count) c.len-len.ensures.count c.least_resume-least.ensures c.in-Take.ensures.plan)
+    (planned-is c.args.parts.now c.args.generation c.args.max c.len-len.result c.least_resume-least.result (plan.Take c.in-Ok-Take.drops c.in-Ok-Take.count) c.len-len.ensures.count c.least_resume-least.ensures (planned_as c.in-Ok-Take.field-0-is ∙ c.in-Ok-Take.ensures.plan))
     c.take.ensures.makes

@@ -1,8 +1,10 @@
-use Rattle.std.proofs.Common.{List, ap, subst, sym, ◌∙◌, ◌++◌, ◌∷◌, [], ◌≡◌}
+use Rattle.std.proofs.Common.{List, OnOk, ap, subst, sym, ℕ, ◌∙◌, ◌++◌, ◌∷◌, [], ◌≡◌}
 use Rattle.std.proofs.lemmas.Result.{IfErr-weaker, on_err_weaker, on_ok_weaker}
+use Rattle.silo_loops.specs.Lines.{LineView}
 use Rattle.silo_crew.specs.Silos.{IsSiloAt, SiloView}
 use Rattle.cluster_operator.specs.declared.halt.Halt.{Halt}
 use Rattle.cluster_operator.specs.declared.halt.Halt.TheVariants as halt
+use Rattle.cluster_operator.specs.Changes.{HaveOnlySeen, HaveStayed}
 use Rattle.cluster_operator.specs.Operators.{HasSpread, IsUnspread, OperatorView}
 use Rattle.stream_cluster.specs.Clusters.{AreFresh, HasMetLimit, RunsOn}
 use Rattle.stream_ident.proofs.EachOf.{All-push}
@@ -45,7 +47,7 @@ returns-clause-on g c =
 pub returns-clause-started : goal.returns-clause-started
 returns-clause-started g c =
     let whole : c.push_reserved.new.self.items ≡ c.args.silos.now.items ++ c.in_ok-start_silo.field-0 ∷ [] = c.push_reserved.ensures.items ∙ ap (λ (ss : List SiloView). ss ++ c.in_ok-start_silo.field-0 ∷ []) c.reserve.ensures.items in
-    on_ok_weaker c.spread.result (λ (spread : HasSpread c.enlist.new.self c.spread.new.self). (c.in_ok-start_silo.field-0, whole, c.in_ok-start_silo.ensures.started.0)) c.spread.ensures.spread
+    on_ok_weaker c.spread.result (λ (spread : HasSpread c.enlist.new.self c.spread.new.self). (c.in_ok-start_silo.field-0, whole, c.in_ok-start_silo.ensures.started.0, c.in_ok-start_silo.ensures.split)) c.spread.ensures.spread
 
 pub returns-clause-spread : goal.returns-clause-spread
 returns-clause-spread g c =
@@ -84,3 +86,23 @@ pub returns-clause-fresh : goal.returns-clause-fresh
 returns-clause-fresh g c =
     let whole = c.push_reserved.ensures.items ∙ ap (λ (ss : List SiloView). ss ++ c.in_ok-start_silo.field-0 ∷ []) c.reserve.ensures.items in
     subst (λ (ss : List SiloView). AreFresh c.args.rounds ss) (sym whole) (fresh-push c.args.rounds c.args.silo c.args.silos.now.items c.in_ok-start_silo.field-0 c.requires.fresh c.in_ok-start_silo.ensures.started.0)
+
+pub returns-clause-seen : goal.returns-clause-seen
+returns-clause-seen g c =
+    let lines = ap (λ (o : OperatorView). o.lines) c.in_ok-enlist.ensures.ok ∙ ap (λ (o : OperatorView). o.lines) c.in_ok-start_silo.ensures.same in
+    on_ok_weaker c.spread.result (λ (spread : HasSpread c.enlist.new.self c.spread.new.self). subst (λ (ls : List LineView). HaveOnlySeen ls c.spread.new.self.lines) lines c.spread.ensures.seen) c.spread.ensures.spread
+
+pub returns-clause-directory : goal.returns-clause-directory
+returns-clause-directory g c =
+    let directory = ap (λ (o : OperatorView). o.directory) c.in_ok-enlist.ensures.ok ∙ ap (λ (o : OperatorView). o.directory) c.in_ok-start_silo.ensures.same in
+    on_ok_weaker c.spread.result (λ (spread : HasSpread c.enlist.new.self c.spread.new.self). c.spread.ensures.directory ∙ directory) c.spread.ensures.spread
+
+pub returns-clause-stayed : goal.returns-clause-stayed
+returns-clause-stayed g c =
+    let enlisted = c.in_ok-enlist.ensures.ok in
+    let same = c.in_ok-start_silo.ensures.same in
+    let lines = ap (λ (o : OperatorView). o.lines) enlisted ∙ ap (λ (o : OperatorView). o.lines) same in
+    let assignment = ap (λ (o : OperatorView). o.assignment) enlisted ∙ ap (λ (o : OperatorView). o.assignment) same in
+    let w = c.spread.new.self in
+    subst (λ (xs : List ℕ). OnOk c.spread.result (HaveStayed c.args.operator.now.lines w.lines xs w.assignment)) assignment
+    (subst (λ (ls : List LineView). OnOk c.spread.result (HaveStayed ls w.lines c.enlist.new.self.assignment w.assignment)) lines c.spread.ensures.stayed)

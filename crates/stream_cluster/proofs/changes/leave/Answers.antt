@@ -1,14 +1,15 @@
 use Rattle.std.proofs.Common.{List, OnOk, ℕ, arith, ap, length, subst, sym, ◌∙◌, ◌<◌, ◌≡◌}
 use Rattle.std.proofs.lemmas.Option.{slice_get_within}
-use Rattle.std.proofs.lemmas.Result.{IfErr-weaker, on_ok_weaker}
+use Rattle.std.proofs.lemmas.Result.{IfErr-weaker}
 use Rattle.silo_crew.specs.Silos.{SiloView}
 use Rattle.cluster_operator.specs.declared.halt.Halt.{Halt}
 use Rattle.cluster_operator.specs.declared.halt.Halt.TheVariants as halt
+use Rattle.cluster_operator.specs.Changes.{HaveStayed}
 use Rattle.cluster_operator.specs.Operators.{HasSpread, IsUnspread, OperatorView}
 use Rattle.cluster_operator.proofs.Making.{passed-on}
 use Rattle.stream_cluster.specs.Clusters.{HasLeft, HasMetLimit}
 use Rattle.cluster_operator.proofs.Changing.{op-trans}
-use Rattle.stream_cluster.proofs.Standing.{evict-met, left-some, left-whole, op-same, spread-met, taken-op}
+use Rattle.stream_cluster.proofs.Standing.{evict-met, left-some, left-whole, on_ok_both, op-same, spread-met, taken-op}
 use Rattle.stream_cluster.proofs.changes.leave.Goals as goal
 
 pub returns-in_err-evict-clause-on : goal.returns-in_err-evict-clause-on
@@ -28,12 +29,14 @@ returns-clause-on g c =
 
 pub returns-clause-left : goal.returns-clause-left
 returns-clause-left g c =
-    subst (λ (silo : ℕ). OnOk c.spread.result (HasLeft silo c.args.place c.args.operator.now c.spread.new.self)) (ap (λ (s : SiloView). s.silo) c.loops.view_is)
-    (on_ok_weaker c.spread.result
-    (λ (spread : HasSpread c.dismiss.new.self c.spread.new.self).
-    left-whole c.loops.inside.silo c.args.place c.args.operator.now c.take_back.new.self c.evict.new.self c.dismiss.new.self c.spread.new.self c.take_back.ensures.only c.take_back.ensures.silent c.evict.ensures.only
-    c.in_ok-evict.ensures.deactivated c.in_ok-evict.ensures.none_left c.dismiss.ensures c.spread.ensures.on c.spread.ensures.directory c.spread.ensures.live spread)
-    c.spread.ensures.spread)
+    let v = c.dismiss.new.self in
+    let w = c.spread.new.self in
+    subst (λ (silo : ℕ). OnOk c.spread.result (HasLeft silo c.args.place c.args.operator.now w)) (ap (λ (s : SiloView). s.silo) c.loops.view_is)
+    (on_ok_both c.spread.result
+    (λ (spread : HasSpread v w) (stayed : HaveStayed v.lines w.lines v.assignment w.assignment).
+    left-whole c.loops.inside.silo c.args.place c.args.operator.now c.take_back.new.self c.evict.new.self v w c.take_back.ensures.only c.take_back.ensures.silent c.take_back.ensures.silent_lines c.evict.ensures.only
+    c.in_ok-evict.ensures.nowhere c.in_ok-evict.ensures.deactivated c.in_ok-evict.ensures.none_left c.dismiss.ensures c.spread.ensures.on c.spread.ensures.directory c.spread.ensures.live spread stayed)
+    c.spread.ensures.spread c.spread.ensures.stayed)
 
 pub returns-in_err-evict-clause-limit : goal.returns-in_err-evict-clause-limit
 returns-in_err-evict-clause-limit g c =

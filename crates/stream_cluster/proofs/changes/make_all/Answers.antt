@@ -1,4 +1,4 @@
-use Rattle.std.proofs.Common.{◌≡◌, ℕ, List, ap, arith, length, map, rules, subst, sym, ◌+◌, ◌∙◌}
+use Rattle.std.proofs.Common.{◌≡◌, ℕ, List, ap, arith, length, map, refl, rules, subst, sym, ◌+◌, ◌∙◌}
 use Rattle.std.proofs.lemmas.Grind.{common_steps}
 use Rattle.std.proofs.lemmas.List.{length_push}
 use Rattle.silo_crew.specs.Silos.{SiloView}
@@ -14,6 +14,7 @@ pub loop-silo-init : goal.loop-silo-init
 loop-silo-init g c =
     let none = c.in_ok-made.ensures.items in
     record {
+      same = refl;
       only = only-refl c.args.operator.now;
       many = ap (λ (ss : List SiloView). length ss) none;
       started = ap (λ (ss : List SiloView). map (λ (s : SiloView). s.silo) ss) none;
@@ -33,6 +34,7 @@ pub loop-silo-preserved : goal.loop-silo-preserved
 loop-silo-preserved g c =
     let more = made-more c.args.rounds c.loop-silo.operator c.make_loops.new.self c.loop-silo.made.items c.in-Ok.loops c.loop-silo.silo c.make_loops.ensures.only c.loop-silo.invariant.started c.loop-silo.invariant.fresh c.loop-silo.invariant.runs c.in-Ok.ensures.fresh c.in-Ok.ensures.at in
     record {
+      same = c.in-Ok.ensures.same ∙ c.loop-silo.invariant.same;
       only = only-trans c.args.operator.now c.loop-silo.operator c.make_loops.new.self c.loop-silo.invariant.only c.make_loops.ensures.only;
       many = ap (λ (ss : List SiloView). length ss) c.push_reserved.ensures.items ∙ length_push c.loop-silo.made.items c.in-Ok.loops ∙ ap (λ n. n + 1) c.loop-silo.invariant.many;
       started = subst (λ (ss : List SiloView). AreStarted (c.loop-silo.silo + 1) ss) (sym c.push_reserved.ensures.items) more.0;

@@ -6,6 +6,7 @@ use Rattle.stream_cluster.proofs.changes.make_all.Given as goal
 abbrev pub invariant-loop-silo : goal.invariant-loop-silo
 invariant-loop-silo g l =
     record {
+      same : l.operator ≡ l.fn.operator;
       only : HasOnlyGoneOn l.fn.operator l.operator;
       many : length l.made.items ≡ l.silo;
       started : AreStarted l.silo l.made.items;

@@ -1,4 +1,4 @@
-use Rattle.std.proofs.Common.{List, ap, length, map, subst, sym, ◌+◌, ◌∙◌}
+use Rattle.std.proofs.Common.{List, ap, length, map, refl, subst, sym, ◌+◌, ◌∙◌}
 use Rattle.std.proofs.lemmas.List.{length_push}
 use Rattle.silo_crew.specs.Silos.{SiloView}
 use Rattle.cluster_operator.proofs.Spreading.{only-refl}
@@ -13,6 +13,7 @@ pub loop-silo-init : goal.loop-silo-init
 loop-silo-init g c =
     let none = c.in_ok-running.ensures.items in
     record {
+      same = refl;
       only = only-refl c.args.operator.now;
       many = ap (λ (ss : List SiloView). length ss) none;
       started = ap (λ (ss : List SiloView). map (λ (s : SiloView). s.silo) ss) none;
@@ -33,6 +34,7 @@ loop-silo-preserved g c =
     let started = c.in-Ok.ensures.started in
     let more = made-more c.args.rounds c.loop-silo.operator c.start_silo.new.operator c.loop-silo.running.items c.in-Ok.started c.loop-silo.silo c.start_silo.ensures.only c.loop-silo.invariant.started c.loop-silo.invariant.fresh c.loop-silo.invariant.runs started.0 started.1 in
     record {
+      same = c.in-Ok.ensures.same ∙ c.loop-silo.invariant.same;
       only = only-trans c.args.operator.now c.loop-silo.operator c.start_silo.new.operator c.loop-silo.invariant.only c.start_silo.ensures.only;
       many = ap (λ (ss : List SiloView). length ss) c.push_reserved.ensures.items ∙ length_push c.loop-silo.running.items c.in-Ok.started ∙ ap (λ n. n + 1) c.loop-silo.invariant.many;
       started = subst (λ (ss : List SiloView). AreStarted (c.loop-silo.silo + 1) ss) (sym c.push_reserved.ensures.items) more.0;

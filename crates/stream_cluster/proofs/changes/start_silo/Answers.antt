@@ -1,3 +1,5 @@
+use Rattle.std.proofs.Common.{subst, sym}
+use Rattle.silo_crew.specs.Silos.{AreSplitOff}
 use Rattle.stream_cluster.proofs.Standing.{only-trans, same-at}
 use Rattle.stream_cluster.proofs.changes.start_silo.Goals as goal
 
@@ -6,3 +8,6 @@ take_back-requires-after_bounds g c κs within = same-at c.make_loops.new.self.l
 
 pub returns-in-Err-clause-only : goal.returns-in-Err-clause-only
 returns-in-Err-clause-only g c = only-trans c.args.operator.now c.make_loops.new.self c.take_back.new.self c.make_loops.ensures.only c.take_back.ensures.only
+
+pub returns-in-Ok-clause-split : goal.returns-in-Ok-clause-split
+returns-in-Ok-clause-split g c = subst (AreSplitOff c.args.operator.now.lines c.args.operator.now.directory) (sym c.in-Ok.ensures) c.in_ok-loops.ensures.split

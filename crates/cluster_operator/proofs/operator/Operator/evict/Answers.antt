@@ -1,7 +1,7 @@
 use Rattle.std.proofs.Common.{◌∙◌, IfErr, OnOk, subst, sym}
 use Rattle.silo_crew.proofs.Going.{goes-length, goes-some}
 use Rattle.cluster_operator.specs.declared.halt.Halt.{Halt}
-use Rattle.cluster_operator.specs.Changes.{AreDeactivated, HoldsGrains}
+use Rattle.cluster_operator.specs.Changes.{AreDeactivated, HaveMovedNowhere, HoldsGrains}
 use Rattle.cluster_operator.specs.Operators.{OperatorView}
 use Rattle.cluster_operator.proofs.operator.Operator.evict.Goals as goal
 
@@ -20,3 +20,7 @@ invariant_of-self g c =
 pub returns-clause-holds : goal.returns-clause-holds
 returns-clause-holds g c =
     subst (λ (v : OperatorView). IfErr c.evict.result (λ (why : Halt). HoldsGrains why c.args.silo v.directory c.evict.new.directory c.evict.new.lines.items)) c.self.view_is c.evict.ensures.holds
+
+pub returns-clause-nowhere : goal.returns-clause-nowhere
+returns-clause-nowhere g c =
+    subst (λ (v : OperatorView). OnOk c.evict.result (HaveMovedNowhere v.lines c.evict.new.lines.items)) c.self.view_is c.evict.ensures.nowhere

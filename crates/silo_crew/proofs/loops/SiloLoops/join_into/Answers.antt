@@ -1,6 +1,6 @@
 use Rattle.std.proofs.Common.{◌∙◌, subst, sym}
 use Rattle.silo_crew.specs.Silos.{AreTakenIn, IsSiloAt, SiloView}
-use Rattle.silo_crew.proofs.Going.{goes-trans, silent-trans, still-at, taken-goes, taken-lines}
+use Rattle.silo_crew.proofs.Going.{goes-trans, silent-trans, silents-trans, still-at, taken-goes, taken-lines}
 use Rattle.silo_crew.proofs.loops.SiloLoops.join_into.Goals as goal
 
 pub join_worker-requires-after_bounds : goal.join_worker-requires-after_bounds
@@ -36,3 +36,8 @@ returns-clause-taken g c =
       first_asks = taken-goes c.self.inside.first.directory c.join_worker.new.directory c.join_worker-2.new.directory c.join_worker.ensures.asks c.join_worker-2.ensures.directory.on;
       second_asks = c.join_worker-2.ensures.asks;
     })
+
+pub returns-clause-silent : goal.returns-clause-silent
+returns-clause-silent g c =
+    silents-trans c.args.lines.now.items c.join_worker.new.lines.items c.join_worker-2.new.lines.items
+    (silents-trans c.args.lines.now.items c.join_agent.new.lines.items c.join_worker.new.lines.items c.join_agent.ensures.silent c.join_worker.ensures.silent) c.join_worker-2.ensures.silent

@@ -1,4 +1,7 @@
-use Rattle.std.proofs.Common.{◌∙◌, sym}
+use Rattle.std.proofs.Common.{◌∙◌, List, subst, sym}
+use Rattle.std.specs.List.{AllZip}
+use Rattle.silo_loops.specs.Lines.{LineView}
+use Rattle.silo_crew.specs.Silos.{IsSplitLine}
 use Rattle.silo_crew.proofs.Going.{goes-refl, goes-trans, silent-refl, silent-trans, still-at}
 use Rattle.silo_crew.proofs.loops.SiloLoops.new.Goals as goal
 
@@ -48,3 +51,17 @@ returns-in-Err-clause-directory g c =
 
 pub returns-in_err-agent_tools-clause-directory : goal.returns-in_err-agent_tools-clause-directory
 returns-in_err-agent_tools-clause-directory g c = silent-refl c.args.directory.now
+
+pub returns-in-Ok-clause-same : goal.returns-in-Ok-clause-same
+returns-in-Ok-clause-same g c =
+    let workers = c.in_ok-first.ensures.same in
+    (c.in-Ok.ensures.same ∙ workers.0, workers.1)
+
+pub returns-in-Ok-clause-split : goal.returns-in-Ok-clause-split
+returns-in-Ok-clause-split g c =
+    let workers = c.in_ok-first.ensures.split in
+    record {
+      agent = subst (λ (ls : List LineView). AllZip IsSplitLine ls c.in-Ok.agent.lines) c.in_ok-first.ensures.same.0 c.in-Ok.ensures.split;
+      first = workers.0;
+      second = workers.1;
+    }

@@ -1,15 +1,17 @@
-use Rattle.std.proofs.Common.{◌≡◌, false, refl, sym, true, ◌∙◌}
-use Rattle.stream_cluster.proofs.Standing.{ends-none, opened-on}
+use Rattle.std.proofs.Common.{◌≡◌, false, refl, subst, sym, true, ◌∙◌}
+use Rattle.cluster_operator.specs.Operators.{OperatorView}
+use Rattle.stream_cluster.specs.Clusters.{IsOpened}
+use Rattle.stream_cluster.proofs.Standing.{ends-none}
 use Rattle.stream_cluster.proofs.cluster.Cluster.new.Goals as goal
 
 pub returns : goal.returns
 returns g c =
-    let opened = opened-on c.args.config.now c.in_ok-operator.operator c.start_all.new.operator c.in_ok-operator.caller c.start_all.ensures.only c.in_ok-operator.ensures in
+    let opened = subst (λ (o : OperatorView). IsOpened c.args.config.now o c.in_ok-operator.caller) (sym c.in_ok-silos.ensures.same) c.in_ok-operator.ensures in
     let started = c.in_ok-silos.ensures.started in
     record { opened = opened; loops = started.0 ∙ sym opened.live; fresh = started.1; goes_on = refl; none = ends-none c.default.result c.default.ensures.0 c.default.ensures.1.0 c.default.ensures.1.1; rounds = refl; looks = refl }
 
 pub invariant_of-cluster : goal.invariant_of-cluster
 invariant_of-cluster g c =
-    let opened = opened-on c.args.config.now c.in_ok-operator.operator c.start_all.new.operator c.in_ok-operator.caller c.start_all.ensures.only c.in_ok-operator.ensures in
+    let opened = subst (λ (o : OperatorView). IsOpened c.args.config.now o c.in_ok-operator.caller) (sym c.in_ok-silos.ensures.same) c.in_ok-operator.ensures in
     let started = c.in_ok-silos.ensures.started in
     record { at = started.2; fresh = started.1; loops = λ fixed. started.0 ∙ sym opened.live; parked = λ is. let differ : false ≡ true = is in absurd (cc (differ)) }

@@ -1,12 +1,13 @@
 use Rattle.std.proofs.Common.{◌≡◌, List, false, refl, subst, sym, true, ◌∙◌}
 use Rattle.silo_crew.specs.Silos.{SiloView}
-use Rattle.stream_cluster.specs.Clusters.{AreFresh, RunsOn}
-use Rattle.stream_cluster.proofs.Standing.{ends-none, opened-on}
+use Rattle.cluster_operator.specs.Operators.{OperatorView}
+use Rattle.stream_cluster.specs.Clusters.{AreFresh, IsOpened, RunsOn}
+use Rattle.stream_cluster.proofs.Standing.{ends-none}
 use Rattle.stream_cluster.proofs.cluster.Cluster.parked.Goals as goal
 
 pub returns : goal.returns
 returns g c =
-    let opened = opened-on c.args.config.now c.in_ok-operator.operator c.make_all.new.operator c.in_ok-operator.caller c.make_all.ensures.only c.in_ok-operator.ensures in
+    let opened = subst (λ (o : OperatorView). IsOpened c.args.config.now o c.in_ok-operator.caller) (sym c.in_ok-loops.ensures.same) c.in_ok-operator.ensures in
     let made = c.in_ok-loops.ensures.made in
     record { opened = opened; parked = refl; goes_on = refl; none = ends-none c.default.result c.default.ensures.0 c.default.ensures.1.0 c.default.ensures.1.1; rounds = refl; looks = refl; silos = made.0 ∙ sym opened.live; fresh = made.1; at = made.2 }
 

@@ -19,7 +19,7 @@ returns-in-Ok g c =
     let started = c.in-Ok.ensures.started in
     let fresh : IsFresh c.self.inside.rounds c.args.silo started.0 = started.2 in
     subst (λ (u : ClusterView). AnswersUp u c.args.silo (Ok up.Up) w) c.self.view_is
-    (up-done v w c.args.silo started.0 (not-fixed v c.if-self.false c.if-self-2.false) c.in-None.ensures c.bring_up.ensures.on c.in-Ok.ensures.live started.1 fresh c.in-Ok.ensures.spread refl (refl, refl, refl) c.if-self-2.false)
+    (up-done v w c.args.silo started.0 (not-fixed v c.if-self.false c.if-self-2.false) c.in-None.ensures c.bring_up.ensures.on c.in-Ok.ensures.seen c.in-Ok.ensures.directory c.in-Ok.ensures.live started.1 fresh started.3 c.in-Ok.ensures.spread c.in-Ok.ensures.stayed refl (refl, refl, refl) c.if-self-2.false)
 
 pub returns-in-Err : goal.returns-in-Err
 returns-in-Err g c =

@@ -1,0 +1,15 @@
+-- Printable bytes are ASCII.
+use Rattle.std.proofs.Common.{◌≡◌, ℕ, ◌<◌, true, List, [], ◌∷◌, arith, zero, suc}
+use Rattle.std.specs.List.{list_all}
+use Rattle.std.specs.Str.{IsAscii}
+use Rattle.stream_ident.specs.Alphabet.{is_printable}
+use Rattle.std.proofs.lemmas.Bool.{leb-true, and_parts}
+
+small : (byte : ℕ) → is_printable byte ≡ true → byte < 128
+small byte e = omega (arith, leb-true byte 126 (and_parts _ _ e).1)
+
+pub IsAscii-printable : (bytes : List ℕ) → list_all is_printable bytes ≡ true → IsAscii bytes
+IsAscii-printable [] e zero = omega arith
+IsAscii-printable [] e (suc i) = omega arith
+IsAscii-printable (byte ∷ bytes) e zero = small byte (and_parts _ _ e).0
+IsAscii-printable (byte ∷ bytes) e (suc i) = IsAscii-printable bytes (and_parts _ _ e).1 i

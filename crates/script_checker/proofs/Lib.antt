@@ -1,0 +1,7 @@
+mod AsciiLemmas
+mod CountLemmas
+mod PlaceLemmas
+mod QueueLemmas
+mod ScriptLemmas
+mod SummaryLemmas
+mod VerbLemmas

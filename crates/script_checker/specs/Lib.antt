@@ -1,0 +1,9 @@
+pub mod Checks
+pub mod Counts
+pub mod FaultTexts
+pub mod Fields
+pub mod Places
+pub mod PlainSummary
+pub mod Scripts
+pub mod Summaries
+pub mod SummaryLaws

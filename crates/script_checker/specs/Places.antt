@@ -1,0 +1,57 @@
+-- Places in a line, counted from 0, and where its fault is.
+use Rattle.std.specs.Prelude.{◌≡◌, ◌≢◌, ℕ, ◌+◌, ◌-◌, ◌<◌, ◌≤◌, ◌⊎◌, not, List, length, min, slice_index}
+use Rattle.std.specs.List.{position_or_len}
+use Rattle.stream_ident.specs.Alphabet.{is_printable}
+use Rattle.script_parser.specs.declared.command.FaultKind.{FaultKind}
+use Rattle.script_parser.specs.declared.command.FaultKind.TheVariants.{BadByte, WordCount}
+use Rattle.script_checker.specs.declared.finding.Finding.{Finding}
+use Rattle.script_checker.specs.declared.piece.Piece.{Piece}
+
+-- from one place of the line to another
+abbrev pub IsSpan : List ℕ → ℕ → ℕ → Type 0
+IsSpan line start end = (start ≤ end) × (end ≤ length line)
+
+-- no piece goes on here: the line ends, or a space stands here
+abbrev pub EndsAt : List ℕ → ℕ → Type 0
+EndsAt line place = place < length line → slice_index line place ≡ 32
+
+-- no piece goes on from the byte before: the line begins here, or that byte is a space
+abbrev pub BeginsAt : List ℕ → ℕ → Type 0
+BeginsAt line place = 0 < place → slice_index line (place - 1) ≡ 32
+
+-- a piece of the line, and all of it: bytes of which the first isn't a space, with no other piece right in front of them
+-- or behind them
+pub record IsWhole (line : List ℕ) (start end : ℕ) : Type 0 where
+  pub some : start < end
+  pub within : end ≤ length line
+  pub first : slice_index line start ≢ 32
+  pub begins : BeginsAt line start
+  pub ends : EndsAt line end
+
+-- where a piece is missing at the end of the line
+abbrev pub IsMissing : List ℕ → ℕ → ℕ → Type 0
+IsMissing line start end = (start ≡ length line) × (end ≡ length line)
+
+-- the first byte that may not stand in a line
+abbrev pub IsBadByte : List ℕ → ℕ → ℕ → Type 0
+IsBadByte line start end =
+    (start ≡ position_or_len (λ byte. not (is_printable byte)) line) × (end ≡ min (start + 1) (length line))
+
+-- Where a fault of this kind is: at a byte, at a whole piece, or, where the number of pieces is wrong, at the end of the
+-- line.
+pub record IsSpot (kind : FaultKind) (line : List ℕ) (start end : ℕ) : Type 0 where
+  pub byte : kind ≡ BadByte → IsBadByte line start end
+  pub count : kind ≡ WordCount → IsWhole line start end ⊎ IsMissing line start end
+  pub whole : kind ≢ BadByte → kind ≢ WordCount → IsWhole line start end
+
+-- a whole piece that doesn't begin in front of this place
+abbrev pub IsWholeFrom : List ℕ → ℕ → Piece → Type 0
+IsWholeFrom line from piece = (from ≤ piece.start) × IsWhole line piece.start piece.end
+
+-- what stands from this place on is spaces
+abbrev pub AreSpacesFrom : List ℕ → ℕ → Type 0
+AreSpacesFrom line from = (k : ℕ) → from ≤ k → k < length line → slice_index line k ≡ 32
+
+-- the fault is that of the piece
+abbrev pub IsOfPiece : Piece → Finding → Type 0
+IsOfPiece piece finding = (finding.start ≡ piece.start) × (finding.end ≡ piece.end)
