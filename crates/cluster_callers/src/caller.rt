@@ -185,7 +185,7 @@ fn ask_at<G: Gate, H: QueueHistory, R: Wait>(
     ensures shows { MatchResult result (λ r. Shows events.old events.new r) (λ _. events.new ≡ events.old) }
 {
     let caller = &mut queues[queue];
-    caller.ask(rt, alloc, doorbell, op, events)
+    caller.ask(rt, alloc, doorbell, queue, op, events)
 }
 
 // A new caller of each queue, for which there is room before a pass is split.

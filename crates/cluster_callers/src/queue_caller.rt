@@ -7,7 +7,7 @@ ghost use Rattle.shared_partition.specs.Partitions.{BeganEmpty};
 ghost use Rattle.cluster_callers.specs.Calls.{IsUnused, QueueCalls};
 
 use shared_partition::{Gate, QueueHistory, SharedPartition};
-use silo_loops::{Doorbell, rings};
+use silo_loops::Doorbell;
 use std::alloc::{AllocError, Global};
 use std::marker::Model;
 use std::sync::{Arc, Wait};
@@ -64,6 +64,7 @@ impl<G: Gate, H: QueueHistory> QueueCaller<G, H> {
         rt: &R,
         alloc: Global,
         doorbell: &Doorbell,
+        queue: usize,
         op: Op,
         events: &mut Vec<Event>,
     ) -> Result<Answer, Refusal>
@@ -71,10 +72,8 @@ impl<G: Gate, H: QueueHistory> QueueCaller<G, H> {
         ensures shows { MatchResult result (λ r. Shows events.old events.new r) (λ _. events.new ≡ events.old) }
     {
         let answer = SharedPartition::call_by(&mut self.handle, rt, alloc, op, events);
-        if let Ok(ref reply) = answer
-            && rings(reply)
-        {
-            doorbell.ring(rt);
+        if let Ok(ref reply) = answer {
+            doorbell.tell(rt, queue, reply);
         }
         answer
     }

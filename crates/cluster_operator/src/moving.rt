@@ -36,7 +36,7 @@ fn move_queue<G: Gate, H: QueueHistory, R: Wait>(
     match moved_of(&answer) {
         Some(generation) => {
             tell(agents, queue, from, to, generation);
-            doorbell.ring(rt);
+            doorbell.moved(rt, queue, to);
             Ok(())
         }
         None => Err(Halt::Limit),

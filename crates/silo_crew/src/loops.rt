@@ -67,6 +67,7 @@ impl<G: Gate, H: QueueHistory, D: DirectoryHistory> Model for SiloLoops<G, H, D>
 // An agent with passes that are split off.
 fn make_agent<G: Gate, H: QueueHistory>(
     alloc: Global,
+    silo: u8,
     rounds: u64,
     tools: SiloTools<G>,
     lines: &mut Vec<Line<G, H>>,
@@ -77,7 +78,7 @@ fn make_agent<G: Gate, H: QueueHistory>(
     ensures fresh { IfOk result (λ agent. IsFreshAgent rounds agent × IsAgentAt lines.new.items agent) }
 {
     let own = split_lines(alloc, lines)?;
-    match AgentLoop::new(alloc, tools.doorbell, tools.assigned, own, rounds) {
+    match AgentLoop::new(alloc, silo, tools.doorbell, tools.assigned, own, rounds) {
         Ok(agent) => Ok(agent),
         Err(own) => {
             join_lines(lines, own);
@@ -198,7 +199,7 @@ impl<G: Gate, H: QueueHistory, D: DirectoryHistory> SiloLoops<G, H, D> {
         let rounds = tools.rounds;
         let agent_tools = tools.try_clone()?;
         let (first, second) = make_workers(alloc, silo, rounds, tools, lines, directory)?;
-        match make_agent(alloc, rounds, agent_tools, lines) {
+        match make_agent(alloc, silo, rounds, agent_tools, lines) {
             Ok(agent) => Ok(SiloLoops {
                 silo,
                 agent,

@@ -180,9 +180,11 @@ impl<
             first,
             second,
         } = loops;
+        doorbell.opens(silo);
         let (first, second) = match start_workers(rt, alloc, doorbell, first, second, &stop) {
             Ok(threads) => threads,
             Err((first, second)) => {
+                doorbell.closes(silo);
                 return Err(SiloLoops {
                     silo,
                     agent,
@@ -200,6 +202,7 @@ impl<
                 second,
             }),
             Err(agent) => {
+                doorbell.closes(silo);
                 tell_to_stop(rt, doorbell, &stop);
                 Err(SiloLoops {
                     silo,
@@ -231,12 +234,16 @@ impl<G: Gate, H: QueueHistory, D: DirectoryHistory> RunningSilo<G, H, D> {
             first,
             second,
         } = self;
+        doorbell.closes(silo);
         tell_to_stop(rt, doorbell, &stop);
-        SiloLoops {
+        let loops = SiloLoops {
             silo,
             agent: agent.join(rt),
             first: first.join(rt),
             second: second.join(rt),
-        }
+        };
+        // What was left to the silo's workers meanwhile is for those of others.
+        doorbell.ring(rt);
+        loops
     }
 }

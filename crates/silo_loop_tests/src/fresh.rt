@@ -55,7 +55,7 @@ pub fn line<G: Gate, H: QueueHistory>(
     calls: u64,
 ) -> Result<Line<G, H>, AllocError> {
     let (turnstile, pass) = partition(alloc, gate, queue, BLOCKS, calls)?;
-    Ok(Line::new(Arc::new(alloc, turnstile)?, pass))
+    Ok(Line::new(queue, Arc::new(alloc, turnstile)?, pass))
 }
 
 /// A caller with the pass of a line.

@@ -52,7 +52,7 @@ trait Asks: Send + Drop {
 impl<H: QueueHistory + Send> Asks for QueueCaller<Entered, H> {
     fn ask<R: Wait + Abort>(&mut self, rt: &R, alloc: Global, doorbell: &Doorbell, call: Call) {
         let op = operation(rt, alloc, call).expect(rt, "memory");
-        let answer = self.ask(rt, alloc, doorbell, op, &mut Vec::new(alloc));
+        let answer = self.ask(rt, alloc, doorbell, QUEUE, op, &mut Vec::new(alloc));
         let _answer = answer.expect(rt, "an answer");
     }
 }
@@ -97,7 +97,8 @@ fn check<H: QueueHistory + Send, R: Threads + Wait + Abort + Sync>(rt: &R, alloc
     let line = line::<Entered, H>(alloc, shared, QUEUE, 10_000).expect(rt, "memory");
     let mut first = caller_of(line);
     let second = first.split().expect(rt, "a pass");
-    let first = in_two_threads(rt, alloc, &Doorbell::new(0), first, second);
+    let doorbell = Doorbell::new(alloc, 1, 0).expect(rt, "memory");
+    let first = in_two_threads(rt, alloc, &doorbell, first, second);
     let (_turnstile, pass) = first.into_parts();
     assert!(rt; pass.len() == 1_001 && gate.calls.load(Ordering::SeqCst) == 1_001);
 }

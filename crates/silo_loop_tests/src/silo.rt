@@ -107,7 +107,7 @@ fn new_agent<G: Gate, H: QueueHistory, R: Abort>(
 ) -> AgentLoop<G, H> {
     let doorbell = Arc::try_clone(doorbell).expect(rt, "memory");
     let assigned = Arc::try_clone(assigned).expect(rt, "memory");
-    match AgentLoop::new(alloc, doorbell, assigned, lines, rounds) {
+    match AgentLoop::new(alloc, 0, doorbell, assigned, lines, rounds) {
         Ok(agent) => agent,
         Err(_lines) => panic!(rt; "memory"),
     }
@@ -187,7 +187,8 @@ impl<G: Gate, H: QueueHistory, D: DirectoryHistory> Silo<G, H, D> {
         rounds: u64,
     ) -> Silo<G, H, D> {
         let gate = Arc::new(alloc, gate).expect(rt, "memory");
-        let doorbell = Arc::new(alloc, Doorbell::new(u64::MAX)).expect(rt, "memory");
+        let doorbell = Doorbell::new(alloc, queues, u64::MAX).expect(rt, "memory");
+        let doorbell = Arc::new(alloc, doorbell).expect(rt, "memory");
         let assigned = all_assigned(rt, alloc, queues);
         let mut lines = first_lines(rt, alloc, &gate, queues, calls);
         let pulling = split_lines(rt, alloc, &mut lines);

@@ -14,7 +14,7 @@ use Rattle.silo_loops.specs.declared.advance.Over.{Over}
 use Rattle.silo_loops.specs.declared.advance.Over.TheVariants as over
 use Rattle.silo_loops.specs.declared.worker_walk.Step.TheVariants as step
 use Rattle.silo_loops.specs.declared.worker_walk.Walk.{Walk}
-use Rattle.silo_loops.specs.Walks.{Fits, IsAt, work_in}
+use Rattle.silo_loops.specs.Walks.{Fits, IsAt, work_in, Work}
 use Rattle.silo_loops.specs.Agents.{AgentAdvancesFrom, AgentCalls, AgentCounts, AgentView, HasSamePlaces, OnesPulled, agent_at}
 use Rattle.silo_loops.specs.Answers.{advance_of}
 use Rattle.silo_loops.specs.Lines.{CallsAt, DirectoryPass, HasLooked, LineView, QueuePass, places, rested}
@@ -90,17 +90,21 @@ get-rested (x ∷ xs) (suc k) l had = get-rested xs k l had
 
 -- the same parts between two rounds
 module _ (silo : ℕ) (lines mid : List LineView) (d : DirectoryPass) (walk between : Walk) (events : List Event) (rounds counted : ℕ) (was : Option Over) where
-  between-at : mid ≡ lines → between ≡ record walk { changed = between.changed } → was ≡ None → worker_at silo mid d between events rounds None ≡ worker_at silo lines d walk events rounds was
-  between-at same is none =
-      ap (λ ls. worker_at silo ls d between events rounds None) same ∙ ap (λ (w : Walk). worker_at silo lines d w events rounds None) is
+  resting-at : Work → WorkerView
+  resting-at work = record { silo = silo; lines = lines; directory = d; work = work; rounds = rounds; over = None }
+
+  between-at : mid ≡ lines → walk.step ≡ step.Rest → between.step ≡ step.Rest → was ≡ None → worker_at silo mid d between events rounds None ≡ worker_at silo lines d walk events rounds was
+  unfolding resting-at
+  between-at same rest is none =
+      ap (λ ls. worker_at silo ls d between events rounds None) same ∙ ap resting-at (ap (λ s. work_in between.at s events) is ∙ sym (ap (λ s. work_in walk.at s events) rest))
       ∙ ap (λ o. worker_at silo lines d walk events rounds o) (sym none)
 
-  pub round-begun : (follows : Follows) (u : WorkerView) (over : Option Over) (answer : Advance) → mid ≡ lines → counted + 1 ≡ rounds → between ≡ record walk { changed = between.changed } → was ≡ None
+  pub round-begun : (follows : Follows) (u : WorkerView) (over : Option Over) (answer : Advance) → mid ≡ lines → counted + 1 ≡ rounds → walk.step ≡ step.Rest → between.step ≡ step.Rest → was ≡ None
       → answer ≡ advance_of over → u.over ≡ over → u.rounds ≡ counted → WorkerLooks (worker_at silo mid d between events rounds None) u
       → WorkerAdvancesFrom follows None answer (worker_at silo lines d walk events rounds was) u
-  round-begun follows u over answer same more is none says ended now looks =
+  round-begun follows u over answer same more rest is none says ended now looks =
       let v = worker_at silo lines d walk events rounds was in
-      let looked : WorkerLooks v u = subst (λ x. WorkerLooks x u) (between-at same is none) looks in
+      let looked : WorkerLooks v u = subst (λ x. WorkerLooks x u) (between-at same rest is none) looks in
       subst (λ a. WorkerAdvancesFrom follows None a v u) (sym says) (goes-on follows v u over (steps-called follows v u over looked.0) ended (inr (ap (λ n. n + 1) now ∙ more, looked)))
 
   pub round-idle : (follows : Follows) (fresh : Option Over) → All HasLooked lines → mid ≡ map rested lines → counted ≡ rounds → walk.step ≡ step.Rest → between ≡ record walk { changed = between.changed } → was ≡ None → fresh ≡ was

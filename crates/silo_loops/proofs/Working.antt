@@ -1,5 +1,5 @@
 -- What a worker's next step is, and what its passes have done by then.
-use Rattle.std.proofs.Common.{◌≡◌, ℕ, ◌<◌, true, List, [], ◌∷◌, length, get_or, Some, None, Result, Ok, Err, refl, sym, ap, subst, ◌∙◌, arith}
+use Rattle.std.proofs.Common.{◌≡◌, ℕ, ◌<◌, true, List, [], ◌∷◌, length, get_or, Some, None, Result, Ok, Err, refl, sym, ap, subst, ◌∙◌, arith, false}
 use Rattle.std.specs.List.{slice_get, slice_set}
 use Rattle.std.proofs.lemmas.List.{get_or-set_same, length-set}
 use Rattle.std.proofs.lemmas.Option.{slice_get-get_or, slice_get_within}
@@ -103,6 +103,6 @@ free-at walk lines d within free any =
     }
 
 -- a worker that has done nothing is at its first queue
-pub fresh-at : (walk : Walk) (lines : List LineView) (d : DirectoryPass) → walk ≡ record { at = 0; last = None; changed = true; step = step.Rest; again = 0; found = None; untold = None } → 0 < length lines → IsAt walk lines d
+pub fresh-at : (walk : Walk) (lines : List LineView) (d : DirectoryPass) → walk ≡ record { at = 0; last = None; changed = true; step = step.Rest; again = 0; found = None; untold = None; by_notes = false; noted = None; seen = 0 } → 0 < length lines → IsAt walk lines d
 fresh-at walk [] d is some = absurd (omega arith)
 fresh-at walk (l ∷ lines) d is some = subst (λ w. IsAt w (l ∷ lines) d) (sym is) (record { line = l; had = refl; fits = tt })

@@ -30,6 +30,7 @@ const MOST_STEPS: u32 = 64;
 /// A contract sees its lines, the generation under which it holds each queue, as it last looked, how many more
 /// rounds it may begin, and why it has ended.
 pub struct AgentLoop<G: Gate, H: QueueHistory> {
+    silo: u8,
     doorbell: Arc<Doorbell, Global>,
     assigned: Arc<Assigned, Global>,
     lines: Vec<Line<G, H>>,
@@ -42,6 +43,7 @@ pub struct AgentLoop<G: Gate, H: QueueHistory> {
 impl<G: Gate + Drop, H: QueueHistory + Drop> Drop for AgentLoop<G, H> {
     fn drop(self) {
         let Self {
+            silo: _,
             doorbell: _,
             assigned: _,
             lines: _,
@@ -85,6 +87,75 @@ fn next_held(assigned: &Assigned, held: &mut Vec<Option<u64>>, visit: &mut Visit
         }
     }
     None
+}
+
+// The same among the queues that the round is for.
+fn next_noted(assigned: &Assigned, held: &mut Vec<Option<u64>>, visit: &mut Visit) -> Option<u64>
+    ensures same { length held.new.items ≡ length held.old.items }
+    ensures held { IfSome result (λ generation. slice_get held.new.items visit.new.at ≡ Some (Some generation)) }
+    ensures place { IfSome result (λ generation. visit.new.at < length held.new.items) }
+    ensures visiting { (lines : List LineView) → IsVisiting visit.old lines → IsVisiting visit.new lines }
+{
+    for at in visit.at..held.len() {
+        if !visit.is_for(at) {
+            continue;
+        }
+        let generation = assigned.generation(at);
+        held[at] = generation;
+        if generation.is_some() {
+            if at != visit.at {
+                visit.arrive(at);
+            }
+            return generation;
+        }
+    }
+    None
+}
+
+// The first queue of a round at the queues that are noted, where it goes by notes and one of them is held.
+fn begin_noted(
+    silo: u8,
+    assigned: &Assigned,
+    doorbell: &Doorbell,
+    held: &mut Vec<Option<u64>>,
+    visit: &mut Visit,
+) -> Option<u64>
+    ensures same { length held.new.items ≡ length held.old.items }
+    ensures held { IfSome result (λ generation. slice_get held.new.items visit.new.at ≡ Some (Some generation)) }
+    ensures place { IfSome result (λ generation. visit.new.at < length held.new.items) }
+    ensures visiting { (lines : List LineView) → IsVisiting visit.new lines }
+{
+    visit.begin();
+    if !visit.by_notes {
+        return None;
+    }
+    let noted = doorbell.watch_for_agent(silo);
+    if noted.is_empty() {
+        return None;
+    }
+    visit.noted = Some(noted);
+    next_noted(assigned, held, visit)
+}
+
+// The first queue of a round over all queues.
+fn begin_all<R: Wait>(
+    rt: &R,
+    silo: u8,
+    assigned: &Assigned,
+    doorbell: &Doorbell,
+    held: &mut Vec<Option<u64>>,
+    visit: &mut Visit,
+) -> Option<u64>
+    ensures same { length held.new.items ≡ length held.old.items }
+    ensures held { IfSome result (λ generation. slice_get held.new.items visit.new.at ≡ Some (Some generation)) }
+    ensures place { IfSome result (λ generation. visit.new.at < length held.new.items) }
+    ensures visiting { (lines : List LineView) → IsVisiting visit.new lines }
+    ensures none { IfNone result ((at : ℕ) → at < length held.new.items → slice_get held.new.items at ≡ Some None) }
+{
+    visit.begin();
+    visit.noted = None;
+    visit.seen = doorbell.agent_count(rt, silo);
+    next_held(assigned, held, visit)
 }
 
 // Whether each queue that it holds was pulled since its mark.
@@ -202,6 +273,7 @@ fn take_step<G: Gate, H: QueueHistory, R: Wait>(
 fn begin_round<G: Gate, H: QueueHistory, R: Wait>(
     rt: &R,
     alloc: Global,
+    silo: u8,
     assigned: &Assigned,
     doorbell: &Doorbell,
     lines: &mut Vec<Line<G, H>>,
@@ -216,8 +288,11 @@ fn begin_round<G: Gate, H: QueueHistory, R: Wait>(
     ensures visiting { IsVisiting visit.new lines.new.items }
     ensures advances { (was : List (Option ℕ)) → AgentAdvancesFrom None result (agent_at lines.old.items was rounds.old over.old) (agent_at lines.new.items held.new.items rounds.new over.new) }
 {
-    visit.begin();
-    let Some(generation) = next_held(assigned, held, visit) else {
+    let first = match begin_noted(silo, assigned, doorbell, held, visit) {
+        Some(generation) => Some(generation),
+        None => begin_all(rt, silo, assigned, doorbell, held, visit),
+    };
+    let Some(generation) = first else {
         return rest(lines, visit);
     };
     if *rounds == 0 {
@@ -232,6 +307,7 @@ fn begin_round<G: Gate, H: QueueHistory, R: Wait>(
 fn end_round<G: Gate, H: QueueHistory, R: Wait>(
     rt: &R,
     alloc: Global,
+    silo: u8,
     assigned: &Assigned,
     doorbell: &Doorbell,
     lines: &mut Vec<Line<G, H>>,
@@ -251,11 +327,11 @@ fn end_round<G: Gate, H: QueueHistory, R: Wait>(
         return rest(lines, visit);
     }
     begin_round(
-        rt, alloc, assigned, doorbell, lines, held, visit, rounds, over,
+        rt, alloc, silo, assigned, doorbell, lines, held, visit, rounds, over,
     )
 }
 
-// Whether the round changed nothing.
+// Whether the round was over all queues and changed nothing.
 fn is_done<G: Gate, H: QueueHistory>(
     lines: &Vec<Line<G, H>>,
     held: &Vec<Option<u64>>,
@@ -264,7 +340,7 @@ fn is_done<G: Gate, H: QueueHistory>(
     requires { length held.now.items ≡ length lines.now.items }
     ensures { result ≡ true → OnesPulled lines.now.items held.now.items }
 {
-    if visit.changed {
+    if visit.changed || visit.noted.is_some() {
         return false;
     }
     all_pulled(lines, held)
@@ -274,6 +350,7 @@ fn is_done<G: Gate, H: QueueHistory>(
 fn go_on<G: Gate, H: QueueHistory, R: Wait>(
     rt: &R,
     alloc: Global,
+    silo: u8,
     assigned: &Assigned,
     doorbell: &Doorbell,
     lines: &mut Vec<Line<G, H>>,
@@ -289,10 +366,10 @@ fn go_on<G: Gate, H: QueueHistory, R: Wait>(
     ensures visiting { IsVisiting visit.new lines.new.items }
     ensures advances { AgentAdvancesFrom None result (agent_at lines.old.items held.old.items rounds.old over.old) (agent_at lines.new.items held.new.items rounds.new over.new) }
 {
-    match next_held(assigned, held, visit) {
+    match next_noted(assigned, held, visit) {
         Some(generation) => take_step(rt, alloc, doorbell, lines, visit, generation, over),
         None => end_round(
-            rt, alloc, assigned, doorbell, lines, held, visit, rounds, over,
+            rt, alloc, silo, assigned, doorbell, lines, held, visit, rounds, over,
         ),
     }
 }
@@ -301,6 +378,7 @@ fn go_on<G: Gate, H: QueueHistory, R: Wait>(
 fn advance_parts<G: Gate, H: QueueHistory, R: Wait>(
     rt: &R,
     alloc: Global,
+    silo: u8,
     assigned: &Assigned,
     doorbell: &Doorbell,
     lines: &mut Vec<Line<G, H>>,
@@ -318,19 +396,20 @@ fn advance_parts<G: Gate, H: QueueHistory, R: Wait>(
     match *over {
         Some(end) => Advance::Over(end),
         None => go_on(
-            rt, alloc, assigned, doorbell, lines, held, visit, rounds, over,
+            rt, alloc, silo, assigned, doorbell, lines, held, visit, rounds, over,
         ),
     }
 }
 
 impl<G: Gate, H: QueueHistory> AgentLoop<G, H> {
-    /// An agent that has done nothing yet, with a line for each queue, in their order, and so many rounds that it may
+    /// An agent of this silo that has done nothing yet, with a line for each queue, in their order, and so many rounds that it may
     /// begin. What is assigned to it others may change at any time.
     ///
     /// # Errors
     /// The call failed to allocate. The lines are handed back.
     pub fn new(
         alloc: Global,
+        silo: u8,
         doorbell: Arc<Doorbell, Global>,
         assigned: Arc<Assigned, Global>,
         lines: Vec<Line<G, H>>,
@@ -344,6 +423,7 @@ impl<G: Gate, H: QueueHistory> AgentLoop<G, H> {
             return Err(lines);
         };
         Ok(AgentLoop {
+            silo,
             doorbell,
             assigned,
             lines,
@@ -367,6 +447,7 @@ impl<G: Gate, H: QueueHistory> AgentLoop<G, H> {
         advance_parts(
             rt,
             alloc,
+            self.silo,
             &self.assigned,
             &self.doorbell,
             &mut self.lines,
@@ -430,7 +511,7 @@ impl<G: Gate, H: QueueHistory> AgentLoop<G, H> {
     }
 
     // One visit, unless it is told to stop, and a wait where it is idle. Whether it goes on.
-    fn go<R: Wait>(&mut self, rt: &R, alloc: Global, stop: &AtomicBool, seen: &mut u64) -> bool
+    fn go<R: Wait>(&mut self, rt: &R, alloc: Global, stop: &AtomicBool) -> bool
         ensures { AgentRuns self.old self.new }
     {
         if stop.load(Ordering::SeqCst) {
@@ -439,23 +520,31 @@ impl<G: Gate, H: QueueHistory> AgentLoop<G, H> {
         match self.visit(rt, alloc) {
             Advance::Did => true,
             Advance::Idle => {
-                self.doorbell.wait_past(rt, *seen, stop);
-                *seen = self.doorbell.now(rt);
+                self.doorbell
+                    .wait_for_agent(rt, self.silo, self.visit.seen, stop);
                 true
             }
             Advance::Over(_) => false,
         }
     }
 
-    /// Makes visits until `stop` is set or the loop has ended, and waits at the doorbell where a round found nothing
-    /// to do. It comes back with its passes.
+    // Goes by notes from now on.
+    fn go_by_notes(&mut self)
+        ensures { self.new ≡ self.old }
+    {
+        self.visit.by_notes = true;
+    }
+
+    /// Makes visits until `stop` is set or the loop has ended, and waits at the doorbell where a round over all queues
+    /// found nothing to do. Before such a round it goes to the queues that are noted for it, as long as there are some.
+    /// It comes back with its passes.
     pub fn run<R: Wait>(self, rt: &R, alloc: Global, stop: &AtomicBool) -> AgentLoop<G, H>
         ensures { AgentRuns self result }
     {
         let mut agent = self;
-        let mut seen = agent.doorbell.now(rt);
+        agent.go_by_notes();
         for _ in rt.forever() {
-            if !agent.go(rt, alloc, stop, &mut seen) {
+            if !agent.go(rt, alloc, stop) {
                 break;
             }
         }
@@ -467,6 +556,7 @@ impl<G: Gate, H: QueueHistory> AgentLoop<G, H> {
         ensures { result.items ≡ self.lines }
     {
         let AgentLoop {
+            silo: _,
             doorbell: _,
             assigned: _,
             lines,

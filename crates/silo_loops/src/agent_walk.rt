@@ -7,12 +7,17 @@ ghost use Rattle.silo_loops.specs.declared.heard.Heard.TheVariants as heard;
 ghost use Rattle.stream_model.specs.Producers.{is_producer};
 
 use crate::advance::Over;
+use crate::desk::Noted;
 use crate::heard::Heard;
 use stream_ident::{SubName, Token};
 use stream_model::Op;
 
 // The most events of a pull.
 const MOST_PULLED: u32 = 32;
+
+// How often an agent pulls again at once, as long as there was something to pull. Each pull makes every subscription due
+// that has caught up, so a few pulls at a time spare looks at those which none of the events concerns.
+const MOST_AGAIN: u8 = 31;
 
 // How often each due subscription is named before an agent goes on.
 const LAPS: u8 = 2;
@@ -31,48 +36,58 @@ pub(crate) enum AgentStep {
 }
 
 /// The queue at which an agent is, the due subscription that was named there last, how many more laps over the
-/// due ones it makes, whether the round changed anything, and what it does next; whether it keeps its turn between
-/// calls, and at which queue it may have one.
+/// due ones it makes, how often it may pull again there, whether the round changed anything, and what it does next;
+/// whether it keeps its turn between calls, and at which queue it may have one; whether it goes by notes, which queues
+/// the round is for where it isn't for all, and the count of its desk before the round.
 #[derive(Drop)]
 pub(crate) struct Visit {
     pub(crate) at: usize,
     pub(crate) last: Option<SubName>,
     pub(crate) laps: u8,
+    pub(crate) pulls: u8,
     pub(crate) changed: bool,
     pub(crate) step: AgentStep,
     pub(crate) keeps: bool,
     pub(crate) kept: Option<usize>,
+    pub(crate) by_notes: bool,
+    pub(crate) noted: Option<Noted>,
+    pub(crate) seen: u64,
 }
 
 impl Visit {
     /// Before the first round over so many queues.
     pub(crate) fn new(queues: usize) -> Visit
-        ensures { result ≡ record { at = queues; last = None; laps = result.laps; changed = true; step = step.Pull; keeps = false; kept = None } }
+        ensures { result ≡ record { at = queues; last = None; laps = result.laps; pulls = result.pulls; changed = true; step = step.Pull; keeps = false; kept = None; by_notes = false; noted = None; seen = 0 } }
     {
         Visit {
             at: queues,
             last: None,
             laps: LAPS,
+            pulls: MOST_AGAIN,
             changed: true,
             step: AgentStep::Pull,
             keeps: false,
             kept: None,
+            by_notes: false,
+            noted: None,
+            seen: 0,
         }
     }
 
     /// At this queue, before anything is done there.
     pub(crate) fn arrive(&mut self, at: usize)
-        ensures { self.new ≡ record self.old { at = at; last = None; laps = self.new.laps; step = step.Pull } }
+        ensures { self.new ≡ record self.old { at = at; last = None; laps = self.new.laps; pulls = self.new.pulls; step = step.Pull } }
     {
         self.at = at;
         self.last = None;
         self.laps = LAPS;
+        self.pulls = MOST_AGAIN;
         self.step = AgentStep::Pull;
     }
 
     /// Begins another round.
     pub(crate) fn begin(&mut self)
-        ensures { self.new ≡ record self.old { at = 0; last = None; laps = self.new.laps; changed = self.new.changed; step = step.Pull } }
+        ensures { self.new ≡ record self.old { at = 0; last = None; laps = self.new.laps; pulls = self.new.pulls; changed = self.new.changed; step = step.Pull } }
     {
         self.arrive(0);
         self.changed = false;
@@ -123,7 +138,7 @@ impl Visit {
     {
         let step = self.step;
         match step {
-            AgentStep::Pull => self.step = AgentStep::Due,
+            AgentStep::Pull => self.after_pull(answer),
             AgentStep::Due => self.after_due(answer),
             AgentStep::Acknowledge { ref sub, .. } => {
                 self.note_change(answer);
@@ -133,6 +148,20 @@ impl Visit {
                 self.note_change(answer);
                 self.step = AgentStep::Due;
             }
+        }
+    }
+
+    // Where there was something to pull there may be more.
+    fn after_pull(&mut self, answer: &Heard)
+        requires step { self.old.step ≡ step.Pull }
+        requires goes_on { end_in answer.now ≡ None }
+        ensures { GoesOnTo self.new.step self.old answer.now self.new }
+    {
+        if answer.is_change() && self.pulls > 0 {
+            self.pulls -= 1;
+            self.last = None;
+        } else {
+            self.step = AgentStep::Due;
         }
     }
 
@@ -176,6 +205,14 @@ impl Visit {
         };
     }
 
+    /// Whether the round is for this queue.
+    pub(crate) fn is_for(&self, queue: usize) -> bool {
+        match self.noted {
+            Some(ref noted) => noted.has(queue),
+            None => true,
+        }
+    }
+
     // Whether the subscription is past the last one.
     fn is_new(&self, sub: &SubName) -> bool {
         match self.last {
@@ -186,7 +223,7 @@ impl Visit {
 
     // On to the next queue.
     fn leave(&mut self)
-        ensures { self.new ≡ record self.old { at = self.new.at; last = None; laps = self.new.laps; step = step.Pull } }
+        ensures { self.new ≡ record self.old { at = self.new.at; last = None; laps = self.new.laps; pulls = self.new.pulls; step = step.Pull } }
     {
         let next = self.at.saturating_add(1);
         self.arrive(next);

@@ -86,7 +86,7 @@ impl<D: DirectoryHistory> DirectoryLine<D> {
         ensures { self.new ≡ self.old }
     {
         self.handle.leave();
-        self.bell.leave(rt, doorbell);
+        self.bell.leave(rt, doorbell, 0);
     }
 
     /// A line with a pass of its own at the directory.

@@ -1,36 +1,157 @@
-//! The doorbell that loops wait at.
+//! The doorbell that loops wait at, and what it notes for them.
 ghost use Rattle.std.specs.Prelude.{◌≡◌};
 ghost use Rattle.step_core.specs.Replied.{reply_of};
 ghost use Rattle.silo_loops.specs.Answers.{directory_rings, rings};
 
+use crate::desk::{Desk, Noted};
 use activation_directory::DirectoryReply;
-use std::sync::atomic::{AtomicBool, Ordering};
+use std::alloc::{AllocError, Global};
+use std::sync::atomic::{AtomicBool, AtomicU64, Ordering};
 use std::sync::{Condvar, Mutex, Wait};
 use step_core::{Answer, Reply};
+use stream_ident::MOST_SILOS;
+use turnstile::Refusal;
 
-/// A count of what happened, at which loops that found nothing to do wait for more. It wraps.
+/// A count of what happened, at which those who found nothing to do wait for more. It wraps.
 ///
 /// It is rung after each answer for which [`rings`] or [`directory_rings`] holds, by [`end`](Doorbell::end), and by
-/// whoever tells a loop to stop. No contract says that it wakes anybody.
+/// whoever tells a loop to stop. Beside it each silo has a desk for its agent and one for its workers, each with a count
+/// of its own, which rises after the answers that concern these loops, and with notes that say at which queues to look
+/// first.
+///
+/// A note that is wrong or late costs time and never an event: a loop looks at all its queues before it waits. No
+/// contract says that the doorbell wakes anybody.
 #[derive(Drop)]
 pub struct Doorbell {
     count: Mutex<u64>,
     rung: Condvar,
     ended: AtomicBool,
+    agents: Vec<Desk>,
+    workers: Vec<Desk>,
+    places: Vec<Place>,
 }
 
-impl Doorbell {
-    /// A doorbell whose count begins with this number.
-    pub fn new(count: u64) -> Doorbell {
-        Doorbell {
-            count: Mutex::new(count),
-            rung: Condvar::new(),
-            ended: AtomicBool::new(false),
+/// Where the loops of a queue are.
+#[derive(Drop)]
+struct Place {
+    // the silo whose agent has the queue
+    holder: AtomicU64,
+    // for each silo whether a grain of the queue was found there
+    grains: Vec<AtomicBool>,
+    // whether the agent has found a mailbox full
+    full: AtomicBool,
+    // how many turns the workers that were told last had handled by then
+    handled: AtomicU64,
+}
+
+impl Place {
+    /// A queue on silo 0, none of whose grains was found anywhere.
+    fn new(alloc: Global) -> Result<Place, AllocError> {
+        let mut grains = Vec::with_capacity(alloc, usize::from(MOST_SILOS))?;
+        for _ in 0..MOST_SILOS {
+            grains.push(AtomicBool::new(false))?;
+        }
+        Ok(Place {
+            holder: AtomicU64::new(0),
+            grains,
+            full: AtomicBool::new(false),
+            handled: AtomicU64::new(0),
+        })
+    }
+}
+
+/// Whom answers at a queue concern.
+#[derive(Clone, Copy, Debug, PartialEq, Eq)]
+pub(crate) struct News {
+    // whoever waits at the doorbell
+    rings: bool,
+    // the queue's agent, also where it waits for room in a mailbox
+    agent: bool,
+    begun: bool,
+    // workers
+    workers: bool,
+    // the agent has found a mailbox full
+    full: bool,
+}
+
+impl News {
+    /// They concern nobody.
+    const NONE: News = News {
+        rings: false,
+        agent: false,
+        begun: false,
+        workers: false,
+        full: false,
+    };
+
+    /// Whom this answer concerns.
+    fn of(answer: &Answer) -> News {
+        let rings = rings(answer);
+        let workers = matches!(answer.outcome(), Reply::Delivered { .. });
+        let own = matches!(answer.outcome(), Reply::Pulled { .. } | Reply::Acked);
+        News {
+            rings,
+            agent: rings && !workers && !own,
+            begun: matches!(answer.outcome(), Reply::Turn { .. }),
+            workers,
+            full: matches!(answer.outcome(), Reply::MailboxFull),
         }
     }
 
-    /// Counts one more, and wakes all that wait.
+    /// Also what this answer concerns.
+    fn add(&mut self, news: News) {
+        self.rings |= news.rings;
+        self.agent |= news.agent;
+        self.begun |= news.begun;
+        self.workers |= news.workers;
+        self.full |= news.full;
+    }
+}
+
+/// A desk for each silo.
+fn desks(alloc: Global, queues: usize) -> Result<Vec<Desk>, AllocError> {
+    let mut desks = Vec::with_capacity(alloc, usize::from(MOST_SILOS))?;
+    for _ in 0..MOST_SILOS {
+        desks.push(Desk::new(alloc, queues)?)?;
+    }
+    Ok(desks)
+}
+
+impl Doorbell {
+    /// A doorbell for so many queues, which are on silo 0, whose count begins with this number.
+    ///
+    /// # Errors
+    /// The call failed to allocate.
+    pub fn new(alloc: Global, queues: usize, count: u64) -> Result<Doorbell, AllocError> {
+        let agents = desks(alloc, queues)?;
+        let workers = desks(alloc, queues)?;
+        let mut places = Vec::with_capacity(alloc, queues)?;
+        for _ in 0..queues {
+            places.push(Place::new(alloc)?)?;
+        }
+        Ok(Doorbell {
+            count: Mutex::new(count),
+            rung: Condvar::new(),
+            ended: AtomicBool::new(false),
+            agents,
+            workers,
+            places,
+        })
+    }
+
+    /// Counts one more everywhere, and wakes all that wait. Each loop looks at all its queues.
     pub fn ring<R: Wait>(&self, rt: &R) {
+        for desk in &self.agents {
+            desk.ring(rt);
+        }
+        for desk in &self.workers {
+            desk.ring(rt);
+        }
+        self.ring_once(rt);
+    }
+
+    // Counts one more, and wakes those that wait at this count.
+    fn ring_once<R: Wait>(&self, rt: &R) {
         let mut count = self.count.lock(rt);
         *count = count.wrapping_add(1);
         drop(count);
@@ -50,7 +171,7 @@ impl Doorbell {
         self.ended.load(Ordering::SeqCst)
     }
 
-    /// The count, to be remembered before a loop looks for something to do.
+    /// The count, to be remembered before looking for something to do.
     pub fn now<R: Wait>(&self, rt: &R) -> u64 {
         *self.count.lock(rt)
     }
@@ -61,13 +182,267 @@ impl Doorbell {
             *count == seen && !stop.load(Ordering::SeqCst)
         });
     }
+
+    /// Tells whom an answer at a queue concerns.
+    pub fn tell<R: Wait>(&self, rt: &R, queue: usize, answer: &Answer) {
+        self.spread(rt, queue, News::of(answer));
+    }
+
+    /// The agent of a silo has the queue from now on. It is told, and so are all.
+    pub fn moved<R: Wait>(&self, rt: &R, queue: usize, silo: u8) {
+        if let Some(place) = self.places.get(queue) {
+            place.holder.store(u64::from(silo), Ordering::SeqCst);
+        }
+        self.note_for_agent(silo, queue, true);
+        self.note_for_workers(silo, queue, true);
+        self.ring(rt);
+    }
+
+    /// The loops of a silo run from now on.
+    pub fn opens(&self, silo: u8) {
+        if let Some(desk) = self.workers(silo) {
+            desk.open(true);
+        }
+    }
+
+    /// The loops of a silo are told to stop: nothing is left to its workers any more.
+    pub fn closes(&self, silo: u8) {
+        if let Some(desk) = self.workers(silo) {
+            desk.open(false);
+        }
+    }
+
+    /// Notes that a queue may have something for a silo's agent, or that it has nothing. Nobody is woken. A note may be
+    /// wrong, so this changes what a loop looks at first, and nothing else.
+    pub fn note_for_agent(&self, silo: u8, queue: usize, is_noted: bool) {
+        if let Some(desk) = self.agents.get(usize::from(silo)) {
+            desk.note(queue, is_noted);
+        }
+    }
+
+    /// Notes that a queue may have something for a silo's workers, or that it has nothing, as
+    /// [`note_for_agent`](Doorbell::note_for_agent) does.
+    pub fn note_for_workers(&self, silo: u8, queue: usize, is_noted: bool) {
+        if let Some(desk) = self.workers.get(usize::from(silo)) {
+            desk.note(queue, is_noted);
+        }
+    }
+
+    // The desk of a silo's agent, and that of its workers.
+    pub(crate) fn agent(&self, silo: u8) -> Option<&Desk> {
+        self.agents.get(usize::from(silo))
+    }
+
+    pub(crate) fn workers(&self, silo: u8) -> Option<&Desk> {
+        self.workers.get(usize::from(silo))
+    }
+
+    // Notes are left before a count rises, and that before anybody is woken: whoever waits has seen the note or the count.
+    fn spread<R: Wait>(&self, rt: &R, queue: usize, news: News) {
+        if let Some(place) = self.places.get(queue) {
+            self.tell_loops(rt, queue, place, news);
+        }
+        if news.rings {
+            self.ring_once(rt);
+        }
+    }
+
+    // Tells the loops that the news concern.
+    fn tell_loops<R: Wait>(&self, rt: &R, queue: usize, place: &Place, news: News) {
+        if news.full {
+            place.full.store(true, Ordering::SeqCst);
+        }
+        let has_room = news.begun && place.full.swap(false, Ordering::SeqCst);
+        if news.agent || has_room {
+            if let Some(desk) = self.agent(holder_of(place)) {
+                desk.tell(rt, queue);
+            }
+        }
+        if news.workers {
+            self.tell_workers(rt, queue, place);
+        }
+    }
+
+    // Tells the workers of the silos on which grains of the queue were found, or else those of the silo that has it.
+    fn tell_workers<R: Wait>(&self, rt: &R, queue: usize, place: &Place) {
+        let mut is_told = false;
+        for (silo, desk) in self.workers.iter().enumerate() {
+            if is_set(&place.grains, silo) && desk.is_open() {
+                desk.tell(rt, queue);
+                is_told = true;
+            }
+        }
+        if let Some(desk) = self.workers(holder_of(place)) {
+            if !is_told {
+                desk.tell(rt, queue);
+            }
+            if is_stuck(place, desk) {
+                self.call_for_help(rt, queue);
+            }
+        }
+    }
+
+    // Tells the workers of a silo at which one waits.
+    fn call_for_help<R: Wait>(&self, rt: &R, queue: usize) {
+        for desk in &self.workers {
+            if desk.is_waited_at() {
+                desk.tell(rt, queue);
+                return;
+            }
+        }
+    }
+
+    // The count at which a silo's agent waits.
+    pub(crate) fn agent_count<R: Wait>(&self, rt: &R, silo: u8) -> u64 {
+        match self.agent(silo) {
+            Some(desk) => desk.now(rt),
+            None => 0,
+        }
+    }
+
+    // Waits while the count of a silo's agent is this one and `stop` isn't set.
+    pub(crate) fn wait_for_agent<R: Wait>(&self, rt: &R, silo: u8, seen: u64, stop: &AtomicBool) {
+        if let Some(desk) = self.agent(silo) {
+            desk.wait_past(rt, seen, stop);
+        }
+    }
+
+    // The notes for a silo's agent, which are taken away. Where there are none it looks for some time.
+    pub(crate) fn watch_for_agent(&self, silo: u8) -> Noted {
+        match self.agent(silo) {
+            Some(desk) => desk.watch(),
+            None => Noted::NONE,
+        }
+    }
+
+    // The notes for a silo's workers, where there are some. Where there are none it looks for some time.
+    pub(crate) fn watch_for_workers(&self, silo: u8) -> Option<Noted> {
+        let desk = self.workers(silo)?;
+        if desk.has_news() {
+            Some(desk.noted())
+        } else {
+            None
+        }
+    }
+
+    // Whether there is a note for a silo's workers.
+    pub(crate) fn has_work(&self, silo: u8) -> bool {
+        match self.workers(silo) {
+            Some(desk) => !desk.noted().is_empty(),
+            None => false,
+        }
+    }
+
+    // The count at which a silo's workers wait.
+    pub(crate) fn worker_count<R: Wait>(&self, rt: &R, silo: u8) -> u64 {
+        match self.workers(silo) {
+            Some(desk) => desk.now(rt),
+            None => 0,
+        }
+    }
+
+    // Waits while the count of a silo's workers is this one and `stop` isn't set.
+    pub(crate) fn wait_for_work<R: Wait>(&self, rt: &R, silo: u8, seen: u64, stop: &AtomicBool) {
+        if let Some(desk) = self.workers(silo) {
+            desk.wait_past(rt, seen, stop);
+        }
+    }
+
+    // A worker of the silo begins to handle the events of a turn, or has handled them.
+    pub(crate) fn begin_handling(&self, silo: u8) {
+        if let Some(desk) = self.workers(silo) {
+            desk.begin();
+        }
+    }
+
+    pub(crate) fn end_handling(&self, silo: u8) {
+        if let Some(desk) = self.workers(silo) {
+            desk.end();
+        }
+    }
+
+    // A worker of the silo has given a permit back.
+    pub(crate) fn left<R: Wait>(&self, rt: &R, silo: u8) {
+        if let Some(desk) = self.workers(silo) {
+            desk.left(rt);
+        }
+    }
+
+    // What came of a ready grain at the queue, for whose permit a worker of the silo asked.
+    pub(crate) fn hear_entering<R: Wait>(
+        &self,
+        rt: &R,
+        silo: u8,
+        queue: usize,
+        answer: &Result<DirectoryReply, Refusal>,
+    ) {
+        match *answer {
+            Ok(DirectoryReply::Entered { .. }) => self.entered(queue, silo),
+            Ok(DirectoryReply::Elsewhere { silo: other }) => self.elsewhere(rt, queue, other),
+            Ok(DirectoryReply::Busy) => self.busy(silo, queue),
+            _ => {}
+        }
+    }
+
+    // A ready grain at the queue has its permit out on this silo.
+    fn busy(&self, silo: u8, queue: usize) {
+        if let Some(desk) = self.workers(silo) {
+            desk.busy(queue);
+        }
+    }
+
+    // A grain of the queue was entered on this silo.
+    fn entered(&self, queue: usize, silo: u8) {
+        if let Some(place) = self.places.get(queue) {
+            set(&place.grains, usize::from(silo));
+        }
+    }
+
+    // A grain of the queue that is ready was found on another silo, whose workers are told.
+    fn elsewhere<R: Wait>(&self, rt: &R, queue: usize, silo: u8) {
+        self.entered(queue, silo);
+        if let Some(desk) = self.workers(silo) {
+            desk.tell(rt, queue);
+        }
+    }
 }
 
-/// Rings for calls, at once or where a turn that is kept ends.
+// The silo whose agent has the queue.
+fn holder_of(place: &Place) -> u8 {
+    let holder = place.holder.load(Ordering::SeqCst);
+    holder.min(u64::from(MOST_SILOS)) as u8
+}
+
+// Whether all workers at a desk are in handlers, and have handled no turn since this queue told somebody last.
+fn is_stuck(place: &Place, desk: &Desk) -> bool {
+    match desk.all_handle() {
+        Some(handled) => place.handled.swap(handled, Ordering::SeqCst) == handled,
+        None => false,
+    }
+}
+
+// Whether the flag at this place is set.
+fn is_set(flags: &Vec<AtomicBool>, at: usize) -> bool {
+    match flags.get(at) {
+        Some(flag) => flag.load(Ordering::SeqCst),
+        None => false,
+    }
+}
+
+// Sets the flag at this place. It is written only where it isn't set, so that threads that only read it share it.
+fn set(flags: &Vec<AtomicBool>, at: usize) {
+    if let Some(flag) = flags.get(at)
+        && !flag.load(Ordering::SeqCst)
+    {
+        flag.store(true, Ordering::SeqCst);
+    }
+}
+
+/// Rings for calls at the doorbell, at once or where a turn that is kept ends.
 #[derive(Drop)]
 pub(crate) struct Bell {
     keeps: bool,
-    rings: bool,
+    news: News,
 }
 
 impl Bell {
@@ -75,7 +450,7 @@ impl Bell {
     pub(crate) fn new() -> Bell {
         Bell {
             keeps: false,
-            rings: false,
+            news: News::NONE,
         }
     }
 
@@ -84,22 +459,37 @@ impl Bell {
         self.keeps = true;
     }
 
-    /// Rings, where it is to.
-    pub(crate) fn ring<R: Wait>(&mut self, rt: &R, doorbell: &Doorbell, rings: bool) {
+    /// Tells whom an answer at a queue concerns.
+    pub(crate) fn hear<R: Wait>(
+        &mut self,
+        rt: &R,
+        doorbell: &Doorbell,
+        queue: usize,
+        answer: &Answer,
+    ) {
+        let news = News::of(answer);
         if self.keeps {
-            self.rings |= rings;
-        } else if rings {
-            doorbell.ring(rt);
+            self.news.add(news);
+        } else {
+            doorbell.spread(rt, queue, news);
         }
     }
 
-    /// Rings, where it was to meanwhile, and waits no more.
-    pub(crate) fn leave<R: Wait>(&mut self, rt: &R, doorbell: &Doorbell) {
-        self.keeps = false;
-        if self.rings {
-            self.rings = false;
-            doorbell.ring(rt);
+    /// Tells those who wait at the doorbell, where an answer of the directory concerns them.
+    pub(crate) fn ring<R: Wait>(&mut self, rt: &R, doorbell: &Doorbell, rings: bool) {
+        if self.keeps {
+            self.news.rings |= rings;
+        } else if rings {
+            doorbell.ring_once(rt);
         }
+    }
+
+    /// Tells whom what was heard meanwhile concerns, and waits no more.
+    pub(crate) fn leave<R: Wait>(&mut self, rt: &R, doorbell: &Doorbell, queue: usize) {
+        self.keeps = false;
+        let news = self.news;
+        self.news = News::NONE;
+        doorbell.spread(rt, queue, news);
     }
 }
 

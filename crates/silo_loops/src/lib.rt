@@ -13,6 +13,7 @@ mod advance;
 mod agent;
 mod agent_walk;
 mod assigned;
+mod desk;
 mod directory_line;
 mod doorbell;
 mod heard;

@@ -7,7 +7,7 @@ ghost use Rattle.shared_partition.specs.Partitions.{BeganEmpty, IsOfEmpty};
 ghost use Rattle.stream_model.specs.Producers.{is_producer};
 ghost use Rattle.silo_loops.specs.Lines.{CallsOn, Hears, HasLooked, HasPulled, NeverProduces, is_pull, is_ready, rested};
 
-use crate::doorbell::{Bell, Doorbell, rings};
+use crate::doorbell::{Bell, Doorbell};
 use crate::heard::{Heard, heard_of};
 use shared_partition::{Gate, QueueHistory, SharedPartition};
 use std::alloc::{AllocError, Global};
@@ -25,6 +25,7 @@ use turnstile::{Handle, Pass, Refusal, Turnstile};
 /// A contract sees the pass and the mark.
 pub struct Line<G: Gate, H: QueueHistory> {
     handle: Handle<SharedPartition<G, H>>,
+    queue: usize,
     mark: u64,
     // whether the pass has asked for a ready grain past the mark, and whether it has pulled
     looked: bool,
@@ -36,6 +37,7 @@ impl<G: Gate + Drop, H: QueueHistory + Drop> Drop for Line<G, H> {
     fn drop(self) {
         let Self {
             handle: _,
+            queue: _,
             mark: _,
             looked: _,
             pulled: _,
@@ -56,9 +58,10 @@ impl<G: Gate, H: QueueHistory> Model for Line<G, H> {
 }
 
 impl<G: Gate, H: QueueHistory> Line<G, H> {
-    /// A line of a pass that has made no producer's call, nor any pass that was joined to it. Its mark is
-    /// what the pass has seen.
+    /// A line of a pass at this queue that has made no producer's call, nor any pass that was joined to it. Its mark is
+    /// what the pass has seen. The doorbell's notes name the queue by this number, and no contract does.
     pub fn new(
+        queue: usize,
         turnstile: Arc<Turnstile<SharedPartition<G, H>>, Global>,
         pass: Pass<SharedPartition<G, H>, H, Op, Answer, PlainPartition>,
     ) -> Line<G, H>
@@ -67,7 +70,7 @@ impl<G: Gate, H: QueueHistory> Line<G, H> {
         requires never { NeverProduces pass }
         ensures { result ≡ record { pass = pass; mark = length pass.seen } }
     {
-        line_of(Handle::new(turnstile, pass))
+        line_of(queue, Handle::new(turnstile, pass))
     }
 
     /// Waits for its turn, does an operation that isn't a producer's, and rings where a loop may then find
@@ -110,7 +113,7 @@ impl<G: Gate, H: QueueHistory> Line<G, H> {
         };
         self.looked |= looks;
         self.pulled |= pulls;
-        self.bell.ring(rt, doorbell, rings(reply));
+        self.bell.hear(rt, doorbell, self.queue, reply);
         answer
     }
 
@@ -144,7 +147,7 @@ impl<G: Gate, H: QueueHistory> Line<G, H> {
         ensures { self.new ≡ self.old }
     {
         self.handle.leave();
-        self.bell.leave(rt, doorbell);
+        self.bell.leave(rt, doorbell, self.queue);
     }
 
     /// Whether the pass has asked for a ready grain since the mark.
@@ -181,7 +184,7 @@ impl<G: Gate, H: QueueHistory> Line<G, H> {
         ensures new { IfOk result (λ line. IsSplitOff self.old.pass line.pass × (line.mark ≡ length line.pass.seen)) }
         ensures made { OnErr result (HasOnlyMade self.old.pass self.new.pass × (self.new.mark ≡ self.old.mark)) }
     {
-        Ok(line_of(self.handle.split()?))
+        Ok(line_of(self.queue, self.handle.split()?))
     }
 
     /// Takes in another line of the same queue: the numbers of its pass, and what that has seen where it is
@@ -193,6 +196,7 @@ impl<G: Gate, H: QueueHistory> Line<G, H> {
     {
         let Line {
             handle,
+            queue: _,
             mark: _,
             looked: _,
             pulled: _,
@@ -215,6 +219,7 @@ impl<G: Gate, H: QueueHistory> Line<G, H> {
     {
         let Line {
             handle,
+            queue: _,
             mark: _,
             looked: _,
             pulled: _,
@@ -225,7 +230,10 @@ impl<G: Gate, H: QueueHistory> Line<G, H> {
 }
 
 // A line whose mark is what the pass has seen.
-fn line_of<G: Gate, H: QueueHistory>(handle: Handle<SharedPartition<G, H>>) -> Line<G, H>
+fn line_of<G: Gate, H: QueueHistory>(
+    queue: usize,
+    handle: Handle<SharedPartition<G, H>>,
+) -> Line<G, H>
     requires of { IsOfEmpty handle }
     requires never { NeverProduces handle }
     ensures { result ≡ record { pass = handle; mark = length handle.seen } }
@@ -233,6 +241,7 @@ fn line_of<G: Gate, H: QueueHistory>(handle: Handle<SharedPartition<G, H>>) -> L
     let mark = handle.len();
     Line {
         handle,
+        queue,
         mark,
         looked: false,
         pulled: false,

@@ -104,17 +104,19 @@ enum Start {
     RanOut,
 }
 
-// Begins another round, where the last one found something to do. Where it found nothing, each line begins
-// anew instead.
+// Begins another round, where the last one found something to do or wasn't for all queues, or where a queue is noted.
+// Where a round over all queues found nothing, each line begins anew instead.
 fn start_round<G: Gate, H: QueueHistory>(
     lines: &mut Vec<Line<G, H>>,
     walk: &mut Walk,
     rounds: &mut u64,
+    is_told: bool,
 ) -> Start
     ensures starts { Starts result lines.old.items lines.new.items rounds.old rounds.new }
     ensures walk { walk.new ≡ record walk.old { changed = walk.new.changed } }
 {
-    if !walk.changed && all_looked(lines) {
+    let is_over = !walk.changed && !is_told && walk.noted.is_none();
+    if is_over && all_looked(lines) {
         rest_all(lines);
         walk.changed = true;
         return Start::Idle;
@@ -125,6 +127,22 @@ fn start_round<G: Gate, H: QueueHistory>(
     *rounds -= 1;
     walk.changed = false;
     Start::Begun
+}
+
+// At the first queue of a round: of those that are noted, where it goes by notes and there are some, or else of all.
+fn begin_at<R: Wait>(rt: &R, doorbell: &Doorbell, silo: u8, queues: usize, walk: &mut Walk)
+    requires { 0 < queues }
+    ensures at { walk.new.at < queues }
+    ensures step { walk.new.step ≡ walk.old.step }
+{
+    if walk.by_notes
+        && let Some(noted) = doorbell.watch_for_workers(silo)
+    {
+        walk.begin(queues, Some(noted));
+    } else {
+        walk.seen = doorbell.worker_count(rt, silo);
+        walk.begin(queues, None);
+    }
 }
 
 // Whether each line has asked for a ready grain past its mark.
@@ -159,10 +177,10 @@ fn step<G: Gate, H: QueueHistory, D: DirectoryHistory, R: Wait>(
 {
     let step = walk.step;
     match &step {
-        Step::Rest | Step::Look => look(rt, alloc, doorbell, lines, directory, walk, events),
+        Step::Rest | Step::Look => look(rt, alloc, doorbell, silo, lines, directory, walk, events),
         Step::Enter { grain } => enter(rt, alloc, doorbell, silo, directory, walk, grain),
         Step::Begin { grain, permit } => begin(
-            rt, alloc, doorbell, lines, directory, walk, events, grain, *permit,
+            rt, alloc, doorbell, silo, lines, directory, walk, events, grain, *permit,
         ),
         Step::Handle {
             grain,
@@ -174,7 +192,7 @@ fn step<G: Gate, H: QueueHistory, D: DirectoryHistory, R: Wait>(
                 return None;
             }
             commit(
-                rt, alloc, doorbell, lines, directory, walk, events, grain, *permit, turn,
+                rt, alloc, doorbell, silo, lines, directory, walk, events, grain, *permit, turn,
             )
         }
         Step::Tell {
@@ -187,10 +205,10 @@ fn step<G: Gate, H: QueueHistory, D: DirectoryHistory, R: Wait>(
             None
         }
         Step::Again { grain, permit } => again(
-            rt, alloc, doorbell, lines, directory, walk, events, grain, *permit,
+            rt, alloc, doorbell, silo, lines, directory, walk, events, grain, *permit,
         ),
         Step::Leave { grain, permit } => {
-            leave(rt, alloc, doorbell, directory, walk, grain, *permit)
+            leave(rt, alloc, doorbell, silo, directory, walk, grain, *permit)
         }
     }
 }
@@ -227,6 +245,7 @@ fn begin_round<G: Gate, H: QueueHistory, D: DirectoryHistory, R: Wait>(
     rt: &R,
     alloc: Global,
     doorbell: &Doorbell,
+    own_silo: u8,
     lines: &mut Vec<Line<G, H>>,
     directory: &DirectoryLine<D>,
     walk: &mut Walk,
@@ -241,9 +260,13 @@ fn begin_round<G: Gate, H: QueueHistory, D: DirectoryHistory, R: Wait>(
     ensures room { vec_capacity events.new ≡ vec_capacity events.old }
     ensures advances { (silo : ℕ) → WorkerAdvancesFrom G.follows None result (worker_at silo lines.old.items directory.now walk.old events.old.items rounds.old over.old) (worker_at silo lines.new.items directory.now walk.new events.new.items rounds.new over.new) }
 {
-    match start_round(lines, walk, rounds) {
+    let is_told = walk.by_notes && doorbell.has_work(own_silo);
+    match start_round(lines, walk, rounds, is_told) {
         Start::Begun => {
-            *over = look(rt, alloc, doorbell, lines, directory, walk, events);
+            begin_at(rt, doorbell, own_silo, lines.len(), walk);
+            *over = look(
+                rt, alloc, doorbell, own_silo, lines, directory, walk, events,
+            );
             told(rt, doorbell, *over)
         }
         Start::Idle => Advance::Idle,
@@ -277,7 +300,7 @@ fn go_on<G: Gate, H: QueueHistory, D: DirectoryHistory, R: Wait>(
 {
     match walk.step {
         Step::Rest => begin_round(
-            rt, alloc, doorbell, lines, directory, walk, events, rounds, over,
+            rt, alloc, doorbell, silo, lines, directory, walk, events, rounds, over,
         ),
         _ => take_step(
             rt, alloc, gate, doorbell, silo, lines, directory, walk, events, over,
@@ -473,7 +496,7 @@ impl<G: Gate, H: QueueHistory, D: DirectoryHistory> WorkerLoop<G, H, D> {
     }
 
     // One visit, unless it is told to stop, and a wait where it is idle. Whether it goes on.
-    fn go<R: Wait>(&mut self, rt: &R, alloc: Global, stop: &AtomicBool, seen: &mut u64) -> bool
+    fn go<R: Wait>(&mut self, rt: &R, alloc: Global, stop: &AtomicBool) -> bool
         ensures { WorkerRuns G.follows self.old self.new }
     {
         if stop.load(Ordering::SeqCst) {
@@ -482,23 +505,31 @@ impl<G: Gate, H: QueueHistory, D: DirectoryHistory> WorkerLoop<G, H, D> {
         match self.visit(rt, alloc) {
             Advance::Did => true,
             Advance::Idle => {
-                self.doorbell.wait_past(rt, *seen, stop);
-                *seen = self.doorbell.now(rt);
+                self.doorbell
+                    .wait_for_work(rt, self.silo, self.walk.seen, stop);
                 true
             }
             Advance::Over(_) => false,
         }
     }
 
-    /// Makes visits until `stop` is set or the loop has ended, and waits at the doorbell where a round found nothing
-    /// to do. It comes back with its passes.
+    // Goes by notes from now on.
+    fn go_by_notes(&mut self)
+        ensures { self.new ≡ self.old }
+    {
+        self.walk.by_notes = true;
+    }
+
+    /// Makes visits until `stop` is set or the loop has ended, and waits at the doorbell where a round over all queues
+    /// found nothing to do. Before such a round it goes to the queues that are noted for its silo's workers, as long as
+    /// there are some. It comes back with its passes.
     pub fn run<R: Wait>(self, rt: &R, alloc: Global, stop: &AtomicBool) -> WorkerLoop<G, H, D>
         ensures { WorkerRuns G.follows self result }
     {
         let mut worker = self;
-        let mut seen = worker.doorbell.now(rt);
+        worker.go_by_notes();
         for _ in rt.forever() {
-            if !worker.go(rt, alloc, stop, &mut seen) {
+            if !worker.go(rt, alloc, stop) {
                 break;
             }
         }

@@ -44,6 +44,7 @@ pub(crate) fn look<G: Gate, H: QueueHistory, D: DirectoryHistory, R: Wait>(
     rt: &R,
     alloc: Global,
     doorbell: &Doorbell,
+    own_silo: u8,
     lines: &mut Vec<Line<G, H>>,
     directory: &DirectoryLine<D>,
     walk: &mut Walk,
@@ -55,17 +56,14 @@ pub(crate) fn look<G: Gate, H: QueueHistory, D: DirectoryHistory, R: Wait>(
     ensures room { vec_capacity events.new ≡ vec_capacity events.old }
     ensures looks { (silo rounds counted : ℕ) → WorkerLooks (worker_at silo lines.old.items directory.now walk.old events.old.items rounds None) (worker_at silo lines.new.items directory.now walk.new events.new.items counted result) }
 {
-    let last = walk.last;
-    let answer = hear_at(
-        rt,
-        alloc,
-        doorbell,
-        lines,
-        walk.at,
-        Op::Ready { after: last },
-        events,
-    );
-    walk.after_look(lines.len(), &answer)
+    let at = walk.at;
+    let op = Op::Ready { after: walk.last };
+    doorbell.note_for_workers(own_silo, at, false);
+    let answer = hear_at(rt, alloc, doorbell, lines, at, op, events);
+    let over = walk.after_look(lines.len(), &answer);
+    // There may be more than one that is ready, so that the silo's other worker looks there too.
+    doorbell.note_for_workers(own_silo, at, walk.has_found());
+    over
 }
 
 // Asks the directory for the permit of a grain.
@@ -90,6 +88,7 @@ pub(crate) fn enter<D: DirectoryHistory, R: Wait>(
             silo,
         },
     );
+    doorbell.hear_entering(rt, silo, walk.at, &answer);
     walk.after_enter(grain, &answer)
 }
 
@@ -98,6 +97,7 @@ pub(crate) fn begin<G: Gate, H: QueueHistory, D: DirectoryHistory, R: Wait>(
     rt: &R,
     alloc: Global,
     doorbell: &Doorbell,
+    own_silo: u8,
     lines: &mut Vec<Line<G, H>>,
     directory: &DirectoryLine<D>,
     walk: &mut Walk,
@@ -117,6 +117,9 @@ pub(crate) fn begin<G: Gate, H: QueueHistory, D: DirectoryHistory, R: Wait>(
         max: TURN_EVENTS as u32,
     };
     let answer = hear_at(rt, alloc, doorbell, lines, walk.at, op, events);
+    if let Heard::Turn { .. } = answer {
+        doorbell.begin_handling(own_silo);
+    }
     walk.after_begin(grain, permit, &answer)
 }
 
@@ -125,6 +128,7 @@ pub(crate) fn commit<G: Gate, H: QueueHistory, D: DirectoryHistory, R: Wait>(
     rt: &R,
     alloc: Global,
     doorbell: &Doorbell,
+    own_silo: u8,
     lines: &mut Vec<Line<G, H>>,
     directory: &DirectoryLine<D>,
     walk: &mut Walk,
@@ -140,6 +144,7 @@ pub(crate) fn commit<G: Gate, H: QueueHistory, D: DirectoryHistory, R: Wait>(
     ensures room { vec_capacity events.new ≡ vec_capacity events.old }
     ensures steps { (silo rounds counted : ℕ) → WorkerSteps G.follows (worker_at silo lines.old.items directory.now walk.old events.old.items rounds None) (worker_at silo lines.new.items directory.now walk.new events.new.items counted result) result }
 {
+    doorbell.end_handling(own_silo);
     let op = Op::Commit {
         grain: *grain,
         activation: turn.activation,
@@ -155,6 +160,7 @@ pub(crate) fn leave<D: DirectoryHistory, R: Wait>(
     rt: &R,
     alloc: Global,
     doorbell: &Doorbell,
+    own_silo: u8,
     directory: &mut DirectoryLine<D>,
     walk: &mut Walk,
     grain: &GrainId,
@@ -172,6 +178,7 @@ pub(crate) fn leave<D: DirectoryHistory, R: Wait>(
             permit,
         },
     );
+    doorbell.left(rt, own_silo);
     walk.after_leave();
     end_of_asking(&answer)
 }
@@ -208,6 +215,7 @@ pub(crate) fn again<G: Gate, H: QueueHistory, D: DirectoryHistory, R: Wait>(
     rt: &R,
     alloc: Global,
     doorbell: &Doorbell,
+    own_silo: u8,
     lines: &mut Vec<Line<G, H>>,
     directory: &DirectoryLine<D>,
     walk: &mut Walk,
@@ -222,7 +230,9 @@ pub(crate) fn again<G: Gate, H: QueueHistory, D: DirectoryHistory, R: Wait>(
     ensures steps { (silo rounds counted : ℕ) → WorkerSteps G.follows (worker_at silo lines.old.items directory.now walk.old events.old.items rounds None) (worker_at silo lines.new.items directory.now walk.new events.new.items counted result) result }
 {
     let op = Op::Ready { after: walk.last };
-    let answer = hear_at(rt, alloc, doorbell, lines, walk.at, op, events);
+    let at = walk.at;
+    let answer = hear_at(rt, alloc, doorbell, lines, at, op, events);
+    doorbell.note_for_workers(own_silo, at, matches!(answer, Heard::Next(_)));
     walk.after_again(grain, permit, &answer)
 }
 

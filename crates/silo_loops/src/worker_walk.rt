@@ -1,10 +1,11 @@
 //! Where a worker is, and what it does next.
-ghost use Rattle.std.specs.Prelude.{◌≡◌, ◌<◌, ◌⊎◌, true, None};
+ghost use Rattle.std.specs.Prelude.{◌≡◌, ◌<◌, ◌⊎◌, true, false, None, IfSome};
 ghost use Rattle.silo_loops.specs.Answers.{end_in, end_of_asking};
 ghost use Rattle.silo_loops.specs.declared.worker_walk.Step.TheVariants as step;
 ghost use Rattle.silo_loops.specs.Walks.{IsFree, step_after_begin, step_after_commit, step_after_enter};
 
 use crate::advance::{Over, end_by};
+use crate::desk::Noted;
 use crate::heard::Heard;
 use activation_directory::DirectoryReply;
 use stream_ident::{GrainId, SubName, Token};
@@ -74,7 +75,8 @@ pub(crate) struct Commit {
 
 /// The queue at which a worker is, the ready grain that it found there last, whether the round changed
 /// anything, and what it does next; how many more turns of that grain it may add, the ready grain that it found while it
-/// had the permit of that, and a commit of which the gate is still to be told, where no turn is kept.
+/// had the permit of that, and a commit of which the gate is still to be told, where no turn is kept; whether it goes by
+/// notes, which queues the round is for where it isn't for all, and the count of its desk before the round.
 #[derive(Drop)]
 pub(crate) struct Walk {
     pub(crate) at: usize,
@@ -84,12 +86,15 @@ pub(crate) struct Walk {
     pub(crate) again: u8,
     pub(crate) found: Option<GrainId>,
     pub(crate) untold: Option<Commit>,
+    pub(crate) by_notes: bool,
+    pub(crate) noted: Option<Noted>,
+    pub(crate) seen: u64,
 }
 
 impl Walk {
     // Before the first round.
     pub(crate) fn new() -> Walk
-        ensures { result ≡ record { at = 0; last = None; changed = true; step = step.Rest; again = 0; found = None; untold = None } }
+        ensures { result ≡ record { at = 0; last = None; changed = true; step = step.Rest; again = 0; found = None; untold = None; by_notes = false; noted = None; seen = 0 } }
     {
         Walk {
             at: 0,
@@ -99,6 +104,9 @@ impl Walk {
             again: 0,
             found: None,
             untold: None,
+            by_notes: false,
+            noted: None,
+            seen: 0,
         }
     }
 
@@ -116,19 +124,56 @@ impl Walk {
         matches!(self.step, Step::Leave { .. }) && self.found.is_some()
     }
 
-    // On to the next queue, or where this was the last one, the end of the round.
+    // On to the next queue that the round is for, or where there is none, the end of the round.
     fn go_on(&mut self, queues: usize)
         requires { self.old.at < queues }
         ensures at { self.new.at < queues }
         ensures free { IsFree self.new.step }
     {
         self.last = None;
-        if self.at + 1 < queues {
-            self.at += 1;
-            self.step = Step::Look;
-        } else {
-            self.at = 0;
-            self.step = Step::Rest;
+        match self.next(self.at + 1, queues) {
+            Some(next) => {
+                self.at = next;
+                self.step = Step::Look;
+            }
+            None => {
+                self.at = 0;
+                self.step = Step::Rest;
+            }
+        }
+    }
+
+    // The first queue from this one on that the round is for.
+    fn next(&self, from: usize, queues: usize) -> Option<usize>
+        ensures { IfSome result (λ next. next < queues) }
+    {
+        for queue in from..queues {
+            if self.is_for(queue) {
+                return Some(queue);
+            }
+        }
+        None
+    }
+
+    // Whether the round is for this queue.
+    fn is_for(&self, queue: usize) -> bool {
+        match self.noted {
+            Some(ref noted) => noted.has(queue),
+            None => true,
+        }
+    }
+
+    /// At the first queue of a round at the queues that are noted.
+    pub(crate) fn begin(&mut self, queues: usize, noted: Option<Noted>)
+        requires { 0 < queues }
+        ensures at { self.new.at < queues }
+        ensures walk { self.new ≡ record self.old { at = self.new.at; changed = false; noted = self.new.noted } }
+    {
+        self.changed = false;
+        self.noted = noted;
+        match self.next(0, queues) {
+            Some(first) => self.at = first,
+            None => self.at = 0,
         }
     }
 
@@ -145,6 +190,11 @@ impl Walk {
             _ => self.go_on(queues),
         }
         answer.end()
+    }
+
+    /// Whether a ready grain was found, for which it is to ask for the permit.
+    pub(crate) fn has_found(&self) -> bool {
+        matches!(self.step, Step::Enter { .. })
     }
 
     // On to a ready grain.

@@ -51,7 +51,7 @@ fn open_queue<G: Gate, H: QueueHistory>(
     let gate = Arc::try_clone(gate)?;
     let (turnstile, pass) = open_turnstile(alloc, gate, config, queue)?;
     let shared = Arc::new(alloc, turnstile)?;
-    Ok(Line::new(shared, pass))
+    Ok(Line::new(queue, shared, pass))
 }
 
 // The partition of each queue behind its turnstile.
@@ -152,7 +152,7 @@ pub(crate) fn open<G: Gate, H: QueueHistory, D: DirectoryHistory, R: Wait>(
     requires { IsConfig config.now }
     ensures { IfOk result (λ made. IsOpened config.now made.0 made.1) }
 {
-    let doorbell = Arc::new(alloc, Doorbell::new(0))?;
+    let doorbell = Arc::new(alloc, Doorbell::new(alloc, config.queues, 0)?)?;
     let mut lines = open_queues(alloc, &gate, config)?;
     let caller = first_caller(alloc, Arc::try_clone(&doorbell)?, &mut lines)?;
     let directory = open_directory(alloc, config)?;

@@ -53,7 +53,7 @@ fn lines<H: QueueHistory>(
     let mut lines = Vec::new(alloc);
     for queue in 0..QUEUES {
         let (turnstile, pass) = partition(alloc, Arc::try_clone(gate)?, queue)?;
-        lines.push(Line::new(Arc::new(alloc, turnstile)?, pass))?;
+        lines.push(Line::new(queue, Arc::new(alloc, turnstile)?, pass))?;
     }
     Ok(lines)
 }
@@ -101,7 +101,8 @@ fn operate<H: QueueHistory, D: DirectoryHistory, R: Wait + Abort>(
     alloc: Global,
 ) -> (Arc<Doorbell, Global>, Vec<Line<Counting, H>>) {
     let gate = Arc::new(alloc, Counting).expect(rt, "memory");
-    let doorbell = Arc::new(alloc, Doorbell::new(0)).expect(rt, "memory");
+    let doorbell = Doorbell::new(alloc, QUEUES, 0).expect(rt, "memory");
+    let doorbell = Arc::new(alloc, doorbell).expect(rt, "memory");
     let directory = directory::<D, R>(rt, alloc, &doorbell);
     let lines = lines(alloc, &gate).expect(rt, "memory");
     assert!(rt; !lines.is_empty());

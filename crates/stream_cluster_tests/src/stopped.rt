@@ -303,7 +303,7 @@ fn void_permits<D: DirectoryHistory, R: Wait + Abort>(
     directory: &mut DirectoryLine<D>,
     grain: GrainId,
 ) -> u64 {
-    let doorbell = Doorbell::new(0);
+    let doorbell = Doorbell::new(alloc, 1, 0).expect(rt, "memory");
     let enter = DirectoryOp::Enter { grain, silo: 0 };
     let Ok(DirectoryReply::Entered { permit }) = directory.call(rt, alloc, &doorbell, enter) else {
         panic!(rt; "the grain is nowhere");
