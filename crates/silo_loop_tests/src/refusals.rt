@@ -56,7 +56,7 @@ fn is_answered<H: QueueHistory, R: Wait + Abort>(
     let Ok(op) = operation(rt, alloc, call) else {
         return false;
     };
-    match caller.ask(rt, alloc, doorbell, op, &mut Vec::new(alloc)) {
+    match caller.ask(rt, alloc, doorbell, 0, op, &mut Vec::new(alloc)) {
         Ok(_answer) => true,
         Err(refusal) => {
             assert!(rt; refusal == Refusal::Memory);
@@ -71,7 +71,10 @@ fn insist<H: QueueHistory, R: Wait + Abort>(rt: &R, alloc: Global) {
         Ok(caller) => caller,
         Err(AllocError) => opened::<H>(alloc).expect(rt, "memory"),
     };
-    let doorbell = Doorbell::new(0);
+    let doorbell = match Doorbell::new(alloc, 1, 0) {
+        Ok(doorbell) => doorbell,
+        Err(AllocError) => Doorbell::new(alloc, 1, 0).expect(rt, "memory"),
+    };
     for call in &CALLS {
         if !is_answered(rt, alloc, &mut caller, &doorbell, *call) {
             assert!(rt; is_answered(rt, alloc, &mut caller, &doorbell, *call));

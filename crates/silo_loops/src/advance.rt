@@ -38,14 +38,29 @@ pub(crate) fn end_by(refusal: Refusal) -> Over
     }
 }
 
+/// What has ended a loop, and at which queue, where it was at one: a loop also ends where it may begin no more rounds,
+/// and by an answer of the directory.
+#[derive(Clone, Copy, Debug, PartialEq, Eq)]
+pub struct LoopEnd {
+    /// Why.
+    pub over: Over,
+    /// The queue.
+    pub queue: Option<usize>,
+}
+
 // What a step answers that ended the loop or didn't. Where a loop ends, the doorbell tells.
-pub(crate) fn told<R: Wait>(rt: &R, doorbell: &Doorbell, over: Option<Over>) -> Advance
+pub(crate) fn told<R: Wait>(
+    rt: &R,
+    doorbell: &Doorbell,
+    queue: Option<usize>,
+    over: Option<Over>,
+) -> Advance
     ensures { result ≡ advance_of over }
 {
     match over {
         None => Advance::Did,
         Some(end) => {
-            doorbell.end(rt);
+            doorbell.end_by(rt, LoopEnd { over: end, queue });
             Advance::Over(end)
         }
     }

@@ -265,8 +265,9 @@ fn take_step<G: Gate, H: QueueHistory, R: Wait>(
     ensures calls { (held was : List (Option ℕ)) (rounds counted : ℕ) → slice_get held visit.old.at ≡ Some (Some generation) → AgentCalls (agent_at lines.old.items was rounds None) (agent_at lines.new.items held counted over.new) }
 {
     keep_here(rt, doorbell, lines, visit);
+    let at = visit.at;
     *over = ask(rt, alloc, doorbell, lines, visit, generation);
-    told(rt, doorbell, *over)
+    told(rt, doorbell, Some(at), *over)
 }
 
 // The first step of another round, where one may be made. Where the agent holds no queue it is idle, and no round counts.
@@ -297,7 +298,7 @@ fn begin_round<G: Gate, H: QueueHistory, R: Wait>(
     };
     if *rounds == 0 {
         *over = Some(Over::Rounds);
-        return told(rt, doorbell, *over);
+        return told(rt, doorbell, None, *over);
     }
     *rounds -= 1;
     take_step(rt, alloc, doorbell, lines, visit, generation, over)

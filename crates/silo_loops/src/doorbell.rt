@@ -3,6 +3,7 @@ ghost use Rattle.std.specs.Prelude.{◌≡◌};
 ghost use Rattle.step_core.specs.Replied.{reply_of};
 ghost use Rattle.silo_loops.specs.Answers.{directory_rings, rings};
 
+use crate::advance::LoopEnd;
 use crate::desk::{Desk, Noted};
 use activation_directory::DirectoryReply;
 use std::alloc::{AllocError, Global};
@@ -26,6 +27,7 @@ pub struct Doorbell {
     count: Mutex<u64>,
     rung: Condvar,
     ended: AtomicBool,
+    end: Mutex<Option<LoopEnd>>,
     agents: Vec<Desk>,
     workers: Vec<Desk>,
     places: Vec<Place>,
@@ -133,6 +135,7 @@ impl Doorbell {
             count: Mutex::new(count),
             rung: Condvar::new(),
             ended: AtomicBool::new(false),
+            end: Mutex::new(None),
             agents,
             workers,
             places,
@@ -163,6 +166,22 @@ impl Doorbell {
     pub fn end<R: Wait>(&self, rt: &R) {
         self.ended.store(true, Ordering::SeqCst);
         self.ring(rt);
+    }
+
+    // A loop has ended by itself.
+    pub(crate) fn end_by<R: Wait>(&self, rt: &R, end: LoopEnd) {
+        let mut first = self.end.lock(rt);
+        if first.is_none() {
+            *first = Some(end);
+        }
+        drop(first);
+        self.end(rt);
+    }
+
+    /// What has ended a loop by itself, the first that did. No contract says so: a service tells its caller by it what
+    /// happened, and what is promised of an end stands with [`AgentLoop::over`](crate::AgentLoop::over).
+    pub fn loop_end<R: Wait>(&self, rt: &R) -> Option<LoopEnd> {
+        *self.end.lock(rt)
     }
 
     /// Whether a loop has ended by itself, or a silo went and its queues weren't given to others. Then a queue may never

@@ -22,7 +22,7 @@ mod worker;
 mod worker_steps;
 mod worker_walk;
 
-pub use advance::{Advance, Over};
+pub use advance::{Advance, LoopEnd, Over};
 pub use agent::AgentLoop;
 pub use assigned::Assigned;
 pub use directory_line::DirectoryLine;

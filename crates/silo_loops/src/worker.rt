@@ -233,10 +233,11 @@ fn take_step<G: Gate, H: QueueHistory, D: DirectoryHistory, R: Wait>(
     ensures answer { result ≡ advance_of over.new }
     ensures steps { (rounds counted : ℕ) → WorkerSteps G.follows (worker_at silo lines.old.items directory.old walk.old events.old.items rounds None) (worker_at silo lines.new.items directory.new walk.new events.new.items counted over.new) over.new }
 {
+    let queue = walk.queue();
     *over = step(
         rt, alloc, gate, doorbell, silo, lines, directory, walk, events,
     );
-    told(rt, doorbell, *over)
+    told(rt, doorbell, queue, *over)
 }
 
 // The first step after a round: it begins another, or answers that the last one found nothing to do, or that
@@ -264,15 +265,16 @@ fn begin_round<G: Gate, H: QueueHistory, D: DirectoryHistory, R: Wait>(
     match start_round(lines, walk, rounds, is_told) {
         Start::Begun => {
             begin_at(rt, doorbell, own_silo, lines.len(), walk);
+            let queue = walk.queue();
             *over = look(
                 rt, alloc, doorbell, own_silo, lines, directory, walk, events,
             );
-            told(rt, doorbell, *over)
+            told(rt, doorbell, queue, *over)
         }
         Start::Idle => Advance::Idle,
         Start::RanOut => {
             *over = Some(Over::Rounds);
-            told(rt, doorbell, *over)
+            told(rt, doorbell, None, *over)
         }
     }
 }

@@ -192,6 +192,14 @@ impl Walk {
         answer.end()
     }
 
+    /// The queue that its next step calls, where it calls one.
+    pub(crate) fn queue(&self) -> Option<usize> {
+        match self.step {
+            Step::Enter { .. } | Step::Leave { .. } => None,
+            _ => Some(self.at),
+        }
+    }
+
     /// Whether a ready grain was found, for which it is to ask for the permit.
     pub(crate) fn has_found(&self) -> bool {
         matches!(self.step, Step::Enter { .. })
