@@ -42,16 +42,29 @@ impl<H: QueueHistory + Send> Produces for Caller<Tally, H> {
     }
 }
 
-// Waits until all is handled and each queue is quiet, or a loop has ended.
+// Leaves notes of two queues, or takes them away, as the bits of a number say.
+fn muddle(doorbell: &Doorbell, drawn: u32) {
+    let (agent, worker) = ((drawn >> 8) % 7, (drawn >> 16) % 7);
+    doorbell.note_for_agent(0, agent as usize, drawn & 1 == 1);
+    doorbell.note_for_workers(0, worker as usize, drawn & 2 == 2);
+}
+
+// Waits until all is handled and each queue is quiet, or a loop has ended. Meanwhile it muddles the notes, where it is to.
 fn wait<P: Produces, R: Wait + Abort>(
     rt: &R,
     alloc: Global,
     gate: &Tally,
     doorbell: &Doorbell,
     producer: &mut P,
+    muddles: bool,
 ) {
     let backoff = Backoff::new();
+    let mut drawn: u32 = 7;
     for _ in 0..LOOKS {
+        if muddles {
+            drawn = drawn.wrapping_mul(1_664_525).wrapping_add(1_013_904_223);
+            muddle(doorbell, drawn);
+        }
         let (handled, _, _) = gate.work();
         if doorbell.has_ended() || (handled >= EVENTS && producer.is_quiet(rt, alloc)) {
             return;
@@ -68,9 +81,10 @@ fn produce<P: Produces, R: Wait + Abort>(
     doorbell: &Doorbell,
     mut producer: P,
     stop: &AtomicBool,
+    muddles: bool,
 ) -> bool {
     producer.publish(rt, alloc);
-    wait(rt, alloc, gate, doorbell, &mut producer);
+    wait(rt, alloc, gate, doorbell, &mut producer, muddles);
     stop.store(true, Ordering::SeqCst);
     doorbell.ring(rt);
     producer.is_quiet(rt, alloc)
@@ -96,6 +110,7 @@ fn go_all<A: Runs, B: Runs, P: Produces, R: Threads + Wait + Abort + Sync>(
     agent: A,
     workers: (B, B),
     producer: P,
+    muddles: bool,
 ) -> bool {
     let stop = AtomicBool::new(false);
     let (first, second) = workers;
@@ -108,7 +123,7 @@ fn go_all<A: Runs, B: Runs, P: Produces, R: Threads + Wait + Abort + Sync>(
                 || agent.go(rt, alloc, &stop),
             )
         },
-        || produce(rt, alloc, gate, doorbell, producer, &stop),
+        || produce(rt, alloc, gate, doorbell, producer, &stop, muddles),
     );
     quiet
 }
@@ -118,6 +133,7 @@ fn go_all<A: Runs, B: Runs, P: Produces, R: Threads + Wait + Abort + Sync>(
 fn all_run<H: QueueHistory + Send, D: DirectoryHistory + Send, R: Threads + Wait + Abort + Sync>(
     rt: &R,
     alloc: Global,
+    muddles: bool,
 ) {
     let Silo {
         gate,
@@ -128,7 +144,11 @@ fn all_run<H: QueueHistory + Send, D: DirectoryHistory + Send, R: Threads + Wait
         worker,
     } = begun::<H, D, R>(rt, alloc, Tally::new(false), BEFORE);
     let workers = two_workers(rt, alloc, &gate, &doorbell, worker);
-    assert!(rt; go_all(rt, alloc, &gate, &doorbell, agent, workers, producer));
+    assert!(rt;
+        go_all(
+            rt, alloc, &gate, &doorbell, agent, workers, producer, muddles
+        )
+    );
     let (handled, done, astray) = gate.work();
     assert!(rt; handled == EVENTS && astray == 0);
     assert!(rt; done < EVENTS);
@@ -136,5 +156,11 @@ fn all_run<H: QueueHistory + Send, D: DirectoryHistory + Send, R: Threads + Wait
 
 #[test]
 fn loops_run_in_threads(rt: HostRuntime) {
-    all_run::<History, Asked, HostRuntime>(&rt, rt.alloc());
+    all_run::<History, Asked, HostRuntime>(&rt, rt.alloc(), false);
+}
+
+// Notes say where to look first, and nothing else: whatever stands there, each event is handled once and in order.
+#[test]
+fn loops_run_whatever_is_noted(rt: HostRuntime) {
+    all_run::<History, Asked, HostRuntime>(&rt, rt.alloc(), true);
 }
