@@ -45,8 +45,8 @@ impl<H: QueueHistory + Send> Produces for Caller<Tally, H> {
 // Leaves notes of two queues, or takes them away, as the bits of a number say.
 fn muddle(doorbell: &Doorbell, drawn: u32) {
     let (agent, worker) = ((drawn >> 8) % 7, (drawn >> 16) % 7);
-    doorbell.note_for_agent(0, agent as usize, drawn & 1 == 1);
-    doorbell.note_for_workers(0, worker as usize, drawn & 2 == 2);
+    doorbell.hint_agent(0, agent as usize, drawn & 1 == 1);
+    doorbell.hint_workers(0, worker as usize, drawn & 2 == 2);
 }
 
 // Waits until all is handled and each queue is quiet, or a loop has ended. Meanwhile it muddles the notes, where it is to.
@@ -161,6 +161,6 @@ fn loops_run_in_threads(rt: HostRuntime) {
 
 // Notes say where to look first, and nothing else: whatever stands there, each event is handled once and in order.
 #[test]
-fn loops_run_whatever_is_noted(rt: HostRuntime) {
+fn loops_run_whatever_is_hinted(rt: HostRuntime) {
     all_run::<History, Asked, HostRuntime>(&rt, rt.alloc(), true);
 }

@@ -103,6 +103,6 @@ free-at walk lines d within free any =
     }
 
 -- a worker that has done nothing is at its first queue
-pub fresh-at : (walk : Walk) (lines : List LineView) (d : DirectoryPass) → walk ≡ record { at = 0; last = None; changed = true; step = step.Rest; again = 0; found = None; untold = None; by_notes = false; noted = None; seen = 0 } → 0 < length lines → IsAt walk lines d
+pub fresh-at : (walk : Walk) (lines : List LineView) (d : DirectoryPass) → walk ≡ record { at = 0; last = None; changed = true; step = step.Rest; again = 0; found = None; untold = None; by_hints = false; hinted = None; seen = 0 } → 0 < length lines → IsAt walk lines d
 fresh-at walk [] d is some = absurd (omega arith)
 fresh-at walk (l ∷ lines) d is some = subst (λ w. IsAt w (l ∷ lines) d) (sym is) (record { line = l; had = refl; fits = tt })

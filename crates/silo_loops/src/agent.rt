@@ -90,7 +90,7 @@ fn next_held(assigned: &Assigned, held: &mut Vec<Option<u64>>, visit: &mut Visit
 }
 
 // The same among the queues that the round is for.
-fn next_noted(assigned: &Assigned, held: &mut Vec<Option<u64>>, visit: &mut Visit) -> Option<u64>
+fn next_hinted(assigned: &Assigned, held: &mut Vec<Option<u64>>, visit: &mut Visit) -> Option<u64>
     ensures same { length held.new.items ≡ length held.old.items }
     ensures held { IfSome result (λ generation. slice_get held.new.items visit.new.at ≡ Some (Some generation)) }
     ensures place { IfSome result (λ generation. visit.new.at < length held.new.items) }
@@ -112,8 +112,8 @@ fn next_noted(assigned: &Assigned, held: &mut Vec<Option<u64>>, visit: &mut Visi
     None
 }
 
-// The first queue of a round at the queues that are noted, where it goes by notes and one of them is held.
-fn begin_noted(
+// The first queue of a round at those with a hint, where it goes by hints and holds one of them.
+fn begin_hinted(
     silo: u8,
     assigned: &Assigned,
     doorbell: &Doorbell,
@@ -126,15 +126,15 @@ fn begin_noted(
     ensures visiting { (lines : List LineView) → IsVisiting visit.new lines }
 {
     visit.begin();
-    if !visit.by_notes {
+    if !visit.by_hints {
         return None;
     }
-    let noted = doorbell.watch_for_agent(silo);
-    if noted.is_empty() {
+    let hinted = doorbell.watch_for_agent(silo);
+    if hinted.is_empty() {
         return None;
     }
-    visit.noted = Some(noted);
-    next_noted(assigned, held, visit)
+    visit.hinted = Some(hinted);
+    next_hinted(assigned, held, visit)
 }
 
 // The first queue of a round over all queues.
@@ -153,7 +153,7 @@ fn begin_all<R: Wait>(
     ensures none { IfNone result ((at : ℕ) → at < length held.new.items → slice_get held.new.items at ≡ Some None) }
 {
     visit.begin();
-    visit.noted = None;
+    visit.hinted = None;
     visit.seen = doorbell.agent_count(rt, silo);
     next_held(assigned, held, visit)
 }
@@ -289,7 +289,7 @@ fn begin_round<G: Gate, H: QueueHistory, R: Wait>(
     ensures visiting { IsVisiting visit.new lines.new.items }
     ensures advances { (was : List (Option ℕ)) → AgentAdvancesFrom None result (agent_at lines.old.items was rounds.old over.old) (agent_at lines.new.items held.new.items rounds.new over.new) }
 {
-    let first = match begin_noted(silo, assigned, doorbell, held, visit) {
+    let first = match begin_hinted(silo, assigned, doorbell, held, visit) {
         Some(generation) => Some(generation),
         None => begin_all(rt, silo, assigned, doorbell, held, visit),
     };
@@ -341,7 +341,7 @@ fn is_done<G: Gate, H: QueueHistory>(
     requires { length held.now.items ≡ length lines.now.items }
     ensures { result ≡ true → OnesPulled lines.now.items held.now.items }
 {
-    if visit.changed || visit.noted.is_some() {
+    if visit.changed || visit.hinted.is_some() {
         return false;
     }
     all_pulled(lines, held)
@@ -367,7 +367,7 @@ fn go_on<G: Gate, H: QueueHistory, R: Wait>(
     ensures visiting { IsVisiting visit.new lines.new.items }
     ensures advances { AgentAdvancesFrom None result (agent_at lines.old.items held.old.items rounds.old over.old) (agent_at lines.new.items held.new.items rounds.new over.new) }
 {
-    match next_noted(assigned, held, visit) {
+    match next_hinted(assigned, held, visit) {
         Some(generation) => take_step(rt, alloc, doorbell, lines, visit, generation, over),
         None => end_round(
             rt, alloc, silo, assigned, doorbell, lines, held, visit, rounds, over,
@@ -529,21 +529,21 @@ impl<G: Gate, H: QueueHistory> AgentLoop<G, H> {
         }
     }
 
-    // Goes by notes from now on.
-    fn go_by_notes(&mut self)
+    // Goes by hints from now on.
+    fn go_by_hints(&mut self)
         ensures { self.new ≡ self.old }
     {
-        self.visit.by_notes = true;
+        self.visit.by_hints = true;
     }
 
     /// Makes visits until `stop` is set or the loop has ended, and waits at the doorbell where a round over all queues
-    /// found nothing to do. Before such a round it goes to the queues that are noted for it, as long as there are some.
+    /// found nothing to do. Before such a round it goes to the queues that have a hint for it, as long as there are some.
     /// It comes back with its passes.
     pub fn run<R: Wait>(self, rt: &R, alloc: Global, stop: &AtomicBool) -> AgentLoop<G, H>
         ensures { AgentRuns self result }
     {
         let mut agent = self;
-        agent.go_by_notes();
+        agent.go_by_hints();
         for _ in rt.forever() {
             if !agent.go(rt, alloc, stop) {
                 break;

@@ -7,7 +7,7 @@ ghost use Rattle.silo_loops.specs.declared.heard.Heard.TheVariants as heard;
 ghost use Rattle.stream_model.specs.Producers.{is_producer};
 
 use crate::advance::Over;
-use crate::desk::Noted;
+use crate::desk::QueueSet;
 use crate::heard::Heard;
 use stream_ident::{SubName, Token};
 use stream_model::Op;
@@ -37,7 +37,7 @@ pub(crate) enum AgentStep {
 
 /// The queue at which an agent is, the due subscription that was named there last, how many more laps over the
 /// due ones it makes, how often it may pull again there, whether the round changed anything, and what it does next;
-/// whether it keeps its turn between calls, and at which queue it may have one; whether it goes by notes, which queues
+/// whether it keeps its turn between calls, and at which queue it may have one; whether it goes by hints, which queues
 /// the round is for where it isn't for all, and the count of its desk before the round.
 #[derive(Drop)]
 pub(crate) struct Visit {
@@ -49,15 +49,15 @@ pub(crate) struct Visit {
     pub(crate) step: AgentStep,
     pub(crate) keeps: bool,
     pub(crate) kept: Option<usize>,
-    pub(crate) by_notes: bool,
-    pub(crate) noted: Option<Noted>,
+    pub(crate) by_hints: bool,
+    pub(crate) hinted: Option<QueueSet>,
     pub(crate) seen: u64,
 }
 
 impl Visit {
     /// Before the first round over so many queues.
     pub(crate) fn new(queues: usize) -> Visit
-        ensures { result ≡ record { at = queues; last = None; laps = result.laps; pulls = result.pulls; changed = true; step = step.Pull; keeps = false; kept = None; by_notes = false; noted = None; seen = 0 } }
+        ensures { result ≡ record { at = queues; last = None; laps = result.laps; pulls = result.pulls; changed = true; step = step.Pull; keeps = false; kept = None; by_hints = false; hinted = None; seen = 0 } }
     {
         Visit {
             at: queues,
@@ -68,8 +68,8 @@ impl Visit {
             step: AgentStep::Pull,
             keeps: false,
             kept: None,
-            by_notes: false,
-            noted: None,
+            by_hints: false,
+            hinted: None,
             seen: 0,
         }
     }
@@ -207,8 +207,8 @@ impl Visit {
 
     /// Whether the round is for this queue.
     pub(crate) fn is_for(&self, queue: usize) -> bool {
-        match self.noted {
-            Some(ref noted) => noted.has(queue),
+        match self.hinted {
+            Some(ref hinted) => hinted.has(queue),
             None => true,
         }
     }

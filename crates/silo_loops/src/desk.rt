@@ -1,22 +1,22 @@
-//! Where the agent of a silo waits, or its workers, and the notes that are left for them.
+//! Where the agent of a silo waits, or its workers, and the hints that are left for them.
 
 use std::alloc::{AllocError, Global};
 use std::sync::atomic::{AtomicBool, AtomicU64, Ordering};
 use std::sync::{Condvar, Mutex, Wait};
 use std::thread;
 
-// How often a loop looks for a note, and yields, before it looks at all its queues.
+// How often a loop looks for a hint, and yields, before it looks at all its queues.
 const MOST_GLANCES: u32 = 60;
 
 /// Some of the queues, as bits. Of queues from 64 on it has each.
 #[derive(Clone, Copy, Debug, PartialEq, Eq)]
-pub(crate) struct Noted {
+pub(crate) struct QueueSet {
     bits: u64,
 }
 
-impl Noted {
+impl QueueSet {
     /// No queue below 64.
-    pub(crate) const NONE: Noted = Noted { bits: 0 };
+    pub(crate) const NONE: QueueSet = QueueSet { bits: 0 };
 
     /// Whether it has the queue.
     pub(crate) fn has(&self, queue: usize) -> bool {
@@ -44,10 +44,10 @@ fn bit(queue: usize) -> Option<u64> {
     if queue < 64 { Some(1 << queue) } else { None }
 }
 
-/// A count at which the loops of one kind at a silo wait, and notes of the queues at which they are to look first.
+/// A count at which the loops of one kind at a silo wait, and hints of the queues at which they are to look first.
 #[derive(Drop)]
 pub(crate) struct Desk {
-    notes: Vec<AtomicBool>,
+    hints: Vec<AtomicBool>,
     // for each queue whether a ready grain was found there whose permit is out
     busy: Vec<AtomicBool>,
     count: Mutex<u64>,
@@ -68,10 +68,10 @@ fn flags(alloc: Global, count: usize) -> Result<Vec<AtomicBool>, AllocError> {
 }
 
 impl Desk {
-    /// A desk for so many queues, with no note.
+    /// A desk for so many queues, with no hint.
     pub(crate) fn new(alloc: Global, queues: usize) -> Result<Desk, AllocError> {
         Ok(Desk {
-            notes: flags(alloc, queues)?,
+            hints: flags(alloc, queues)?,
             busy: flags(alloc, queues)?,
             count: Mutex::new(0),
             rung: Condvar::new(),
@@ -82,53 +82,53 @@ impl Desk {
         })
     }
 
-    /// Notes a queue, or takes its note away. It writes only what changes, since loops read it all the time.
-    pub(crate) fn note(&self, queue: usize, is_noted: bool) {
-        if let Some(note) = self.notes.get(queue)
-            && note.load(Ordering::SeqCst) != is_noted
+    /// Leaves a hint of a queue, or takes it away. It writes only what changes, since loops read it all the time.
+    pub(crate) fn hint(&self, queue: usize, is_hinted: bool) {
+        if let Some(hint) = self.hints.get(queue)
+            && hint.load(Ordering::SeqCst) != is_hinted
         {
-            note.store(is_noted, Ordering::SeqCst);
+            hint.store(is_hinted, Ordering::SeqCst);
         }
     }
 
-    /// The queues that are noted.
-    pub(crate) fn noted(&self) -> Noted {
-        let mut noted = Noted::NONE;
-        for (queue, note) in self.notes.iter().enumerate() {
-            if note.load(Ordering::SeqCst) {
-                noted.add(queue);
+    /// The queues with a hint.
+    pub(crate) fn hinted(&self) -> QueueSet {
+        let mut hinted = QueueSet::NONE;
+        for (queue, hint) in self.hints.iter().enumerate() {
+            if hint.load(Ordering::SeqCst) {
+                hinted.add(queue);
             }
         }
-        noted
+        hinted
     }
 
-    /// The queues that are noted. Their notes are taken away.
-    pub(crate) fn take(&self) -> Noted {
-        let mut noted = Noted::NONE;
-        for (queue, note) in self.notes.iter().enumerate() {
-            if note.load(Ordering::SeqCst) && note.swap(false, Ordering::SeqCst) {
-                noted.add(queue);
+    /// The queues with a hint, which is taken away.
+    pub(crate) fn take(&self) -> QueueSet {
+        let mut hinted = QueueSet::NONE;
+        for (queue, hint) in self.hints.iter().enumerate() {
+            if hint.load(Ordering::SeqCst) && hint.swap(false, Ordering::SeqCst) {
+                hinted.add(queue);
             }
         }
-        noted
+        hinted
     }
 
-    /// The queues that are noted, whose notes are taken away. It looks for some time, since threads are woken slowly.
-    pub(crate) fn watch(&self) -> Noted {
+    /// The queues with a hint, which is taken away. It looks for some time, since threads are woken slowly.
+    pub(crate) fn watch(&self) -> QueueSet {
         for _ in 0..MOST_GLANCES {
-            let noted = self.take();
-            if !noted.is_empty() {
-                return noted;
+            let hinted = self.take();
+            if !hinted.is_empty() {
+                return hinted;
             }
             thread::yield_now();
         }
-        Noted::NONE
+        QueueSet::NONE
     }
 
-    /// Whether a queue is noted. It looks for some time, as [`watch`](Desk::watch) does.
+    /// Whether there is a hint. It looks for some time, as [`watch`](Desk::watch) does.
     pub(crate) fn has_news(&self) -> bool {
         for _ in 0..MOST_GLANCES {
-            if !self.noted().is_empty() {
+            if !self.hinted().is_empty() {
                 return true;
             }
             thread::yield_now();
@@ -144,9 +144,9 @@ impl Desk {
         self.rung.notify_all();
     }
 
-    /// Notes a queue, and then counts one more and wakes all that wait here.
+    /// Leaves a hint of a queue, and then counts one more and wakes all that wait here.
     pub(crate) fn tell<R: Wait>(&self, rt: &R, queue: usize) {
-        self.note(queue, true);
+        self.hint(queue, true);
         self.ring(rt);
     }
 
@@ -200,13 +200,13 @@ impl Desk {
         Some(self.handled.load(Ordering::SeqCst))
     }
 
-    /// A ready grain was found at the queue whose permit is out. For the first one the queue is noted once more, since the
+    /// A ready grain was found at the queue whose permit is out. For the first one there is a hint once more, since the
     /// permit may have been given back meanwhile.
     pub(crate) fn busy(&self, queue: usize) {
         if let Some(busy) = self.busy.get(queue)
             && !busy.swap(true, Ordering::SeqCst)
         {
-            self.note(queue, true);
+            self.hint(queue, true);
         }
     }
 
@@ -215,7 +215,7 @@ impl Desk {
         let mut is_told = false;
         for (queue, busy) in self.busy.iter().enumerate() {
             if busy.load(Ordering::SeqCst) && busy.swap(false, Ordering::SeqCst) {
-                self.note(queue, true);
+                self.hint(queue, true);
                 is_told = true;
             }
         }

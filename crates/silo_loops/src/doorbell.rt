@@ -1,10 +1,10 @@
-//! The doorbell that loops wait at, and what it notes for them.
+//! The doorbell that loops wait at, and the hints that it has for them.
 ghost use Rattle.std.specs.Prelude.{◌≡◌};
 ghost use Rattle.step_core.specs.Replied.{reply_of};
 ghost use Rattle.silo_loops.specs.Answers.{directory_rings, rings};
 
 use crate::advance::LoopEnd;
-use crate::desk::{Desk, Noted};
+use crate::desk::{Desk, QueueSet};
 use activation_directory::DirectoryReply;
 use std::alloc::{AllocError, Global};
 use std::sync::atomic::{AtomicBool, AtomicU64, Ordering};
@@ -17,10 +17,10 @@ use turnstile::Refusal;
 ///
 /// It is rung after each answer for which [`rings`] or [`directory_rings`] holds, by [`end`](Doorbell::end), and by
 /// whoever tells a loop to stop. Beside it each silo has a desk for its agent and one for its workers, each with a count
-/// of its own, which rises after the answers that concern these loops, and with notes that say at which queues to look
+/// of its own, which rises after the answers that concern these loops, and with hints that say at which queues to look
 /// first.
 ///
-/// A note that is wrong or late costs time and never an event: a loop looks at all its queues before it waits. No
+/// A hint that is wrong or late costs time and never an event: a loop looks at all its queues before it waits. No
 /// contract says that the doorbell wakes anybody.
 #[derive(Drop)]
 pub struct Doorbell {
@@ -212,8 +212,8 @@ impl Doorbell {
         if let Some(place) = self.places.get(queue) {
             place.holder.store(u64::from(silo), Ordering::SeqCst);
         }
-        self.note_for_agent(silo, queue, true);
-        self.note_for_workers(silo, queue, true);
+        self.hint_agent(silo, queue, true);
+        self.hint_workers(silo, queue, true);
         self.ring(rt);
     }
 
@@ -231,19 +231,19 @@ impl Doorbell {
         }
     }
 
-    /// Notes that a queue may have something for a silo's agent, or that it has nothing. Nobody is woken. A note may be
+    /// Leaves a hint that a queue may have something for a silo's agent, or takes it away. Nobody is woken. A hint may be
     /// wrong, so this changes what a loop looks at first, and nothing else.
-    pub fn note_for_agent(&self, silo: u8, queue: usize, is_noted: bool) {
+    pub fn hint_agent(&self, silo: u8, queue: usize, is_hinted: bool) {
         if let Some(desk) = self.agents.get(usize::from(silo)) {
-            desk.note(queue, is_noted);
+            desk.hint(queue, is_hinted);
         }
     }
 
-    /// Notes that a queue may have something for a silo's workers, or that it has nothing, as
-    /// [`note_for_agent`](Doorbell::note_for_agent) does.
-    pub fn note_for_workers(&self, silo: u8, queue: usize, is_noted: bool) {
+    /// Hints that a queue may have something for a silo's workers, or that it has nothing, as
+    /// [`hint_agent`](Doorbell::hint_agent) does.
+    pub fn hint_workers(&self, silo: u8, queue: usize, is_hinted: bool) {
         if let Some(desk) = self.workers.get(usize::from(silo)) {
-            desk.note(queue, is_noted);
+            desk.hint(queue, is_hinted);
         }
     }
 
@@ -256,7 +256,7 @@ impl Doorbell {
         self.workers.get(usize::from(silo))
     }
 
-    // Notes are left before a count rises, and that before anybody is woken: whoever waits has seen the note or the count.
+    // Hints are left before a count rises, and that before anybody is woken: whoever waits has seen the hint or the count.
     fn spread<R: Wait>(&self, rt: &R, queue: usize, news: News) {
         if let Some(place) = self.places.get(queue) {
             self.tell_loops(rt, queue, place, news);
@@ -326,28 +326,28 @@ impl Doorbell {
         }
     }
 
-    // The notes for a silo's agent, which are taken away. Where there are none it looks for some time.
-    pub(crate) fn watch_for_agent(&self, silo: u8) -> Noted {
+    // The hints for a silo's agent, which are taken away. Where there are none it looks for some time.
+    pub(crate) fn watch_for_agent(&self, silo: u8) -> QueueSet {
         match self.agent(silo) {
             Some(desk) => desk.watch(),
-            None => Noted::NONE,
+            None => QueueSet::NONE,
         }
     }
 
-    // The notes for a silo's workers, where there are some. Where there are none it looks for some time.
-    pub(crate) fn watch_for_workers(&self, silo: u8) -> Option<Noted> {
+    // The hints for a silo's workers, where there are some. Where there are none it looks for some time.
+    pub(crate) fn watch_for_workers(&self, silo: u8) -> Option<QueueSet> {
         let desk = self.workers(silo)?;
         if desk.has_news() {
-            Some(desk.noted())
+            Some(desk.hinted())
         } else {
             None
         }
     }
 
-    // Whether there is a note for a silo's workers.
+    // Whether there is a hint for a silo's workers.
     pub(crate) fn has_work(&self, silo: u8) -> bool {
         match self.workers(silo) {
-            Some(desk) => !desk.noted().is_empty(),
+            Some(desk) => !desk.hinted().is_empty(),
             None => false,
         }
     }

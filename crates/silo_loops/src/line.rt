@@ -59,7 +59,7 @@ impl<G: Gate, H: QueueHistory> Model for Line<G, H> {
 
 impl<G: Gate, H: QueueHistory> Line<G, H> {
     /// A line of a pass at this queue that has made no producer's call, nor any pass that was joined to it. Its mark is
-    /// what the pass has seen. The doorbell's notes name the queue by this number, and no contract does.
+    /// what the pass has seen. The doorbell's hints name the queue by this number, and no contract does.
     pub fn new(
         queue: usize,
         turnstile: Arc<Turnstile<SharedPartition<G, H>>, Global>,

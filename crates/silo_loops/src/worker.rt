@@ -104,7 +104,7 @@ enum Start {
     RanOut,
 }
 
-// Begins another round, where the last one found something to do or wasn't for all queues, or where a queue is noted.
+// Begins another round, where the last one found something to do or wasn't for all queues, or where there is a hint.
 // Where a round over all queues found nothing, each line begins anew instead.
 fn start_round<G: Gate, H: QueueHistory>(
     lines: &mut Vec<Line<G, H>>,
@@ -115,7 +115,7 @@ fn start_round<G: Gate, H: QueueHistory>(
     ensures starts { Starts result lines.old.items lines.new.items rounds.old rounds.new }
     ensures walk { walk.new ≡ record walk.old { changed = walk.new.changed } }
 {
-    let is_over = !walk.changed && !is_told && walk.noted.is_none();
+    let is_over = !walk.changed && !is_told && walk.hinted.is_none();
     if is_over && all_looked(lines) {
         rest_all(lines);
         walk.changed = true;
@@ -129,16 +129,16 @@ fn start_round<G: Gate, H: QueueHistory>(
     Start::Begun
 }
 
-// At the first queue of a round: of those that are noted, where it goes by notes and there are some, or else of all.
+// At the first queue of a round: of those with a hint, where it goes by hints and there are some, or else of all.
 fn begin_at<R: Wait>(rt: &R, doorbell: &Doorbell, silo: u8, queues: usize, walk: &mut Walk)
     requires { 0 < queues }
     ensures at { walk.new.at < queues }
     ensures step { walk.new.step ≡ walk.old.step }
 {
-    if walk.by_notes
-        && let Some(noted) = doorbell.watch_for_workers(silo)
+    if walk.by_hints
+        && let Some(hinted) = doorbell.watch_for_workers(silo)
     {
-        walk.begin(queues, Some(noted));
+        walk.begin(queues, Some(hinted));
     } else {
         walk.seen = doorbell.worker_count(rt, silo);
         walk.begin(queues, None);
@@ -261,7 +261,7 @@ fn begin_round<G: Gate, H: QueueHistory, D: DirectoryHistory, R: Wait>(
     ensures room { vec_capacity events.new ≡ vec_capacity events.old }
     ensures advances { (silo : ℕ) → WorkerAdvancesFrom G.follows None result (worker_at silo lines.old.items directory.now walk.old events.old.items rounds.old over.old) (worker_at silo lines.new.items directory.now walk.new events.new.items rounds.new over.new) }
 {
-    let is_told = walk.by_notes && doorbell.has_work(own_silo);
+    let is_told = walk.by_hints && doorbell.has_work(own_silo);
     match start_round(lines, walk, rounds, is_told) {
         Start::Begun => {
             begin_at(rt, doorbell, own_silo, lines.len(), walk);
@@ -515,21 +515,21 @@ impl<G: Gate, H: QueueHistory, D: DirectoryHistory> WorkerLoop<G, H, D> {
         }
     }
 
-    // Goes by notes from now on.
-    fn go_by_notes(&mut self)
+    // Goes by hints from now on.
+    fn go_by_hints(&mut self)
         ensures { self.new ≡ self.old }
     {
-        self.walk.by_notes = true;
+        self.walk.by_hints = true;
     }
 
     /// Makes visits until `stop` is set or the loop has ended, and waits at the doorbell where a round over all queues
-    /// found nothing to do. Before such a round it goes to the queues that are noted for its silo's workers, as long as
+    /// found nothing to do. Before such a round it goes to the queues that have a hint for its silo's workers, as long as
     /// there are some. It comes back with its passes.
     pub fn run<R: Wait>(self, rt: &R, alloc: Global, stop: &AtomicBool) -> WorkerLoop<G, H, D>
         ensures { WorkerRuns G.follows self result }
     {
         let mut worker = self;
-        worker.go_by_notes();
+        worker.go_by_hints();
         for _ in rt.forever() {
             if !worker.go(rt, alloc, stop) {
                 break;

@@ -5,7 +5,7 @@ ghost use Rattle.silo_loops.specs.declared.worker_walk.Step.TheVariants as step;
 ghost use Rattle.silo_loops.specs.Walks.{IsFree, step_after_begin, step_after_commit, step_after_enter};
 
 use crate::advance::{Over, end_by};
-use crate::desk::Noted;
+use crate::desk::QueueSet;
 use crate::heard::Heard;
 use activation_directory::DirectoryReply;
 use stream_ident::{GrainId, SubName, Token};
@@ -76,7 +76,7 @@ pub(crate) struct Commit {
 /// The queue at which a worker is, the ready grain that it found there last, whether the round changed
 /// anything, and what it does next; how many more turns of that grain it may add, the ready grain that it found while it
 /// had the permit of that, and a commit of which the gate is still to be told, where no turn is kept; whether it goes by
-/// notes, which queues the round is for where it isn't for all, and the count of its desk before the round.
+/// hints, which queues the round is for where it isn't for all, and the count of its desk before the round.
 #[derive(Drop)]
 pub(crate) struct Walk {
     pub(crate) at: usize,
@@ -86,15 +86,15 @@ pub(crate) struct Walk {
     pub(crate) again: u8,
     pub(crate) found: Option<GrainId>,
     pub(crate) untold: Option<Commit>,
-    pub(crate) by_notes: bool,
-    pub(crate) noted: Option<Noted>,
+    pub(crate) by_hints: bool,
+    pub(crate) hinted: Option<QueueSet>,
     pub(crate) seen: u64,
 }
 
 impl Walk {
     // Before the first round.
     pub(crate) fn new() -> Walk
-        ensures { result ≡ record { at = 0; last = None; changed = true; step = step.Rest; again = 0; found = None; untold = None; by_notes = false; noted = None; seen = 0 } }
+        ensures { result ≡ record { at = 0; last = None; changed = true; step = step.Rest; again = 0; found = None; untold = None; by_hints = false; hinted = None; seen = 0 } }
     {
         Walk {
             at: 0,
@@ -104,8 +104,8 @@ impl Walk {
             again: 0,
             found: None,
             untold: None,
-            by_notes: false,
-            noted: None,
+            by_hints: false,
+            hinted: None,
             seen: 0,
         }
     }
@@ -157,20 +157,20 @@ impl Walk {
 
     // Whether the round is for this queue.
     fn is_for(&self, queue: usize) -> bool {
-        match self.noted {
-            Some(ref noted) => noted.has(queue),
+        match self.hinted {
+            Some(ref hinted) => hinted.has(queue),
             None => true,
         }
     }
 
-    /// At the first queue of a round at the queues that are noted.
-    pub(crate) fn begin(&mut self, queues: usize, noted: Option<Noted>)
+    /// At the first queue of a round at these queues, or at all.
+    pub(crate) fn begin(&mut self, queues: usize, hinted: Option<QueueSet>)
         requires { 0 < queues }
         ensures at { self.new.at < queues }
-        ensures walk { self.new ≡ record self.old { at = self.new.at; changed = false; noted = self.new.noted } }
+        ensures walk { self.new ≡ record self.old { at = self.new.at; changed = false; hinted = self.new.hinted } }
     {
         self.changed = false;
-        self.noted = noted;
+        self.hinted = hinted;
         match self.next(0, queues) {
             Some(first) => self.at = first,
             None => self.at = 0,

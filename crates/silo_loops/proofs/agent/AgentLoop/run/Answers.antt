@@ -6,7 +6,7 @@ use Rattle.silo_loops.proofs.agent.AgentLoop.run.Goals as goal
 use Rattle.silo_loops.proofs.agent.AgentLoop.run.Goals.{in-None, in-Some+then-not-go}
 
 pub loop-init : goal.loop-init
-loop-init g c = subst (λ (x : AgentView). AgentRuns c.args.self x) (sym c.go_by_notes.ensures) Stays
+loop-init g c = subst (λ (x : AgentView). AgentRuns c.args.self x) (sym c.go_by_hints.ensures) Stays
 
 pub loop-preserved : goal.loop-preserved
 loop-preserved g c = chain-on _ _ _ _ c.loop.invariant c.go.ensures
