@@ -33,6 +33,13 @@ none_tagged stream start events tag from to same absent place reached before wit
     unowed stream start (get_or events place no_event)
     (λ other. absent place reached before within (get_or-map (λ event. tag_of event.stream) events place no_event 0 within ∙ other ∙ sym same))
 
+-- the last event is of another tag
+pub none_at_last : (stream : StreamId) (start : Token) (events : List Event) (last : ℕ) → last + 1 ≡ length events
+    → tag_of (get_or events last no_event).stream ≢ tag_of stream → NoneBetween (λ event. is_owed stream start event) events last (length events)
+none_at_last stream start events last end other place reached before within =
+    let same : place ≡ last = omega arith in
+    ap (λ k. is_owed stream start (get_or events k no_event)) same ∙ unowed stream start (get_or events last no_event) other
+
 module _ (passes : Event → Bool) (events : List Event) where
   pub none_then : (from middle to : ℕ) → NoneBetween passes events from middle → NoneBetween passes events middle to → NoneBetween passes events from to
   none_then from middle to front back place reached before within =

@@ -35,7 +35,12 @@ pub fn next(
     ensures from { IfSome result (λ position. from ≤ position) }
 {
     let low = cache.low();
-    if cache.high() <= from {
+    let high = cache.high();
+    if high <= from {
+        return None;
+    }
+    // In a walk over those that are due, mostly one event is left, of another stream.
+    if high - from == 1 && cache.get(from).tag() != tag {
         return None;
     }
     let place = seek(cache, from - low, stream, tag, start)?;
