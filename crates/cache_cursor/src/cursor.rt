@@ -103,6 +103,18 @@ fn next_from(block: &Block, from: usize, stream: &StreamId, tag: u8, start: &Tok
     ensures found { IfSome result (IsFirst (λ event. is_owed stream.now start.now event) block.now from) }
     ensures none { IfNone result (NoneBetween (λ event. is_owed stream.now start.now event) block.now from (length block.now)) }
 {
+    // A block has at most 64 events, and mostly none is of the stream, which one look at all its tags shows.
+    let _few = block.headers().len();
+    next_mark(mask(block.tags(), tag), from)?;
+    find_from(block, from, stream, tag, start)
+}
+
+/// The same, one event of the tag after another.
+fn find_from(block: &Block, from: usize, stream: &StreamId, tag: u8, start: &Token) -> Option<usize>
+    requires { tag ≡ tag_of stream.now }
+    ensures found { IfSome result (IsFirst (λ event. is_owed stream.now start.now event) block.now from) }
+    ensures none { IfNone result (NoneBetween (λ event. is_owed stream.now start.now event) block.now from (length block.now)) }
+{
     let headers = block.headers();
     let tags = block.tags().as_slice();
     let tags = &tags[..headers.len()];
