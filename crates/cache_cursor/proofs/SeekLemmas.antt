@@ -145,6 +145,20 @@ first_at-drop_none passes n events from none =
     let within : from + other < length events = omega (arith, length-drop from events) in
     ap passes (get_or-drop from events other no_event) ∙ none (from + other) (omega arith) within within)
 
+-- the positions of a cache that begins at `low`
+pub next_none : (passes : Event → Bool) (events : List Event) (from first low : ℕ) → first ≡ low → NoneBetween passes events (from - first) (length events)
+    → None ≡ first_at passes from (drop (from - low) events)
+next_none passes events from first low same none =
+    sym (first_at-drop_none passes from events (from - low) (subst (λ n. NoneBetween passes events (from - n) (length events)) same none))
+
+pub next_found : (passes : Event → Bool) (events : List Event) (from first low place : ℕ) → first ≡ low → low ≤ from → IsFirst passes events (from - first) place
+    → Some (first + place) ≡ first_at passes from (drop (from - low) events)
+next_found passes events from first low place same reached found =
+    let there : low + (from - low) ≡ from = omega arith in
+    ap (λ n. Some (n + place)) same
+    ∙ sym (first_at-drop_found passes low events (from - low) place (subst (λ n. IsFirst passes events (from - n) place) same found))
+    ∙ ap (λ n. first_at passes n (drop (from - low) events)) there
+
 -- behind blocks without it, a block has the first place
 pub first_there : (passes : Event → Bool) (events block : List Event) (from index place : ℕ) → from ≤ BLOCK_EVENTS * index → block ≡ take BLOCK_EVENTS (drop (BLOCK_EVENTS * index) events)
     → NoneBetween passes events from (BLOCK_EVENTS * index) → IsFirst passes block 0 place → IsFirst passes events from (BLOCK_EVENTS * index + place)

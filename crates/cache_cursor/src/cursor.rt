@@ -34,7 +34,6 @@ pub fn next(
     ensures within { IfSome result (λ position. position < high cache.now) }
     ensures from { IfSome result (λ position. from ≤ position) }
 {
-    let low = cache.low();
     let high = cache.high();
     if high <= from {
         return None;
@@ -43,6 +42,28 @@ pub fn next(
     if high - from == 1 && cache.get(from).tag() != tag {
         return None;
     }
+    next_cached(cache, from, stream, tag, start)
+}
+
+/// The same where the cache has an event at `from`. It is no part of `next`, so that the cases that end there save no
+/// registers.
+#[inline(never)]
+fn next_cached(
+    cache: &QueueCache,
+    from: usize,
+    stream: &StreamId,
+    tag: u8,
+    start: &Token,
+) -> Option<usize>
+    requires low { cache.now.low ≤ from }
+    requires high { from < high cache.now }
+    requires places { high cache.now < 2 ^ 64 }
+    requires tag { tag ≡ tag_of stream.now }
+    ensures next { result ≡ next_in cache.now from stream.now start.now }
+    ensures within { IfSome result (λ position. position < high cache.now) }
+    ensures from { IfSome result (λ position. from ≤ position) }
+{
+    let low = cache.low();
     let place = seek(cache, from - low, stream, tag, start)?;
     Some(low + place)
 }
