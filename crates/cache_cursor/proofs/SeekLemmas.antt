@@ -33,6 +33,13 @@ none_tagged stream start events tag from to same absent place reached before wit
     unowed stream start (get_or events place no_event)
     (λ other. absent place reached before within (get_or-map (λ event. tag_of event.stream) events place no_event 0 within ∙ other ∙ sym same))
 
+-- the last event is of another tag
+pub none_at_last : (stream : StreamId) (start : Token) (events : List Event) (last : ℕ) → last + 1 ≡ length events
+    → tag_of (get_or events last no_event).stream ≢ tag_of stream → NoneBetween (λ event. is_owed stream start event) events last (length events)
+none_at_last stream start events last end other place reached before within =
+    let same : place ≡ last = omega arith in
+    ap (λ k. is_owed stream start (get_or events k no_event)) same ∙ unowed stream start (get_or events last no_event) other
+
 module _ (passes : Event → Bool) (events : List Event) where
   pub none_then : (from middle to : ℕ) → NoneBetween passes events from middle → NoneBetween passes events middle to → NoneBetween passes events from to
   none_then from middle to front back place reached before within =
@@ -137,6 +144,20 @@ first_at-drop_none passes n events from none =
     (λ other low.
     let within : from + other < length events = omega (arith, length-drop from events) in
     ap passes (get_or-drop from events other no_event) ∙ none (from + other) (omega arith) within within)
+
+-- the positions of a cache that begins at `low`
+pub next_none : (passes : Event → Bool) (events : List Event) (from first low : ℕ) → first ≡ low → NoneBetween passes events (from - first) (length events)
+    → None ≡ first_at passes from (drop (from - low) events)
+next_none passes events from first low same none =
+    sym (first_at-drop_none passes from events (from - low) (subst (λ n. NoneBetween passes events (from - n) (length events)) same none))
+
+pub next_found : (passes : Event → Bool) (events : List Event) (from first low place : ℕ) → first ≡ low → low ≤ from → IsFirst passes events (from - first) place
+    → Some (first + place) ≡ first_at passes from (drop (from - low) events)
+next_found passes events from first low place same reached found =
+    let there : low + (from - low) ≡ from = omega arith in
+    ap (λ n. Some (n + place)) same
+    ∙ sym (first_at-drop_found passes low events (from - low) place (subst (λ n. IsFirst passes events (from - n) place) same found))
+    ∙ ap (λ n. first_at passes n (drop (from - low) events)) there
 
 -- behind blocks without it, a block has the first place
 pub first_there : (passes : Event → Bool) (events block : List Event) (from index place : ℕ) → from ≤ BLOCK_EVENTS * index → block ≡ take BLOCK_EVENTS (drop (BLOCK_EVENTS * index) events)

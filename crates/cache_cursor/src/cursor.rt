@@ -34,10 +34,36 @@ pub fn next(
     ensures within { IfSome result (λ position. position < high cache.now) }
     ensures from { IfSome result (λ position. from ≤ position) }
 {
-    let low = cache.low();
-    if cache.high() <= from {
+    let high = cache.high();
+    if high <= from {
         return None;
     }
+    // In a walk over those that are due, mostly one event is left, of another stream.
+    if high - from == 1 && cache.get(from).tag() != tag {
+        return None;
+    }
+    next_cached(cache, from, stream, tag, start)
+}
+
+/// The same where the cache has an event at `from`. It is no part of `next`, so that the cases that end there save no
+/// registers.
+#[inline(never)]
+fn next_cached(
+    cache: &QueueCache,
+    from: usize,
+    stream: &StreamId,
+    tag: u8,
+    start: &Token,
+) -> Option<usize>
+    requires low { cache.now.low ≤ from }
+    requires high { from < high cache.now }
+    requires places { high cache.now < 2 ^ 64 }
+    requires tag { tag ≡ tag_of stream.now }
+    ensures next { result ≡ next_in cache.now from stream.now start.now }
+    ensures within { IfSome result (λ position. position < high cache.now) }
+    ensures from { IfSome result (λ position. from ≤ position) }
+{
+    let low = cache.low();
     let place = seek(cache, from - low, stream, tag, start)?;
     Some(low + place)
 }
@@ -94,6 +120,18 @@ fn next_in_block(block: &Block, stream: &StreamId, tag: u8, start: &Token) -> Op
 
 /// The least place of a block, at or past `from`, whose event is owed.
 fn next_from(block: &Block, from: usize, stream: &StreamId, tag: u8, start: &Token) -> Option<usize>
+    requires { tag ≡ tag_of stream.now }
+    ensures found { IfSome result (IsFirst (λ event. is_owed stream.now start.now event) block.now from) }
+    ensures none { IfNone result (NoneBetween (λ event. is_owed stream.now start.now event) block.now from (length block.now)) }
+{
+    // A block has at most 64 events, and mostly none is of the stream, which one look at all its tags shows.
+    let _few = block.headers().len();
+    next_mark(mask(block.tags(), tag), from)?;
+    find_from(block, from, stream, tag, start)
+}
+
+/// The same, one event of the tag after another.
+fn find_from(block: &Block, from: usize, stream: &StreamId, tag: u8, start: &Token) -> Option<usize>
     requires { tag ≡ tag_of stream.now }
     ensures found { IfSome result (IsFirst (λ event. is_owed stream.now start.now event) block.now from) }
     ensures none { IfNone result (NoneBetween (λ event. is_owed stream.now start.now event) block.now from (length block.now)) }

@@ -13,7 +13,7 @@ use Rattle.stream_ident.specs.Name.{same_name}
 use Rattle.stream_ident.specs.Token.{token_lt}
 use Rattle.stream_ident.specs.Implying.{added}
 use Rattle.stream_ident.specs.declared.limits.TheConstants.{MOST_RULES}
-use Rattle.stream_ident.proofs.NewNames.{added-more, fold-front, has, length-fold}
+use Rattle.stream_ident.proofs.NewNames.{added-more, has, length-fold}
 use Rattle.pubsub_registry.specs.Implying.{all_implied, implied, imply, made, names_with, rule_count}
 use Rattle.pubsub_registry.specs.Registry.{PlainRegistry}
 use Rattle.pubsub_registry.specs.declared.told.Implied.{Implied}

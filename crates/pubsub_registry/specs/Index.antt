@@ -30,6 +30,10 @@ AreNumbersOf names = IsRowOf (keys_of names) (map (λ entry. entry.1.stream) nam
 abbrev pub IsIndexed : List (SubName × Registration) → (StreamId → List ℕ) → Type 0
 IsIndexed names row = (stream : StreamId) → AreNumbersOf names stream (row stream)
 
+-- the subscription with a number is of the stream
+abbrev pub IsOn : List (SubName × Registration) → StreamId → ℕ → Type 0
+IsOn names stream number = slice_get (map (λ entry. entry.1.stream) names) number ≡ Some stream
+
 -- no name stands at two places
 abbrev pub AreUnique : List (SubName × Registration) → Type 0
 AreUnique names = (i j : ℕ) (a b : SubName × Registration) → slice_get names i ≡ Some a → slice_get names j ≡ Some b → same_sub a.0 b.0 ≡ true → i ≡ j

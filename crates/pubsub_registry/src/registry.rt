@@ -1,10 +1,10 @@
 //! The registry.
-ghost use Rattle.std.specs.Prelude.{◌≡◌, ℕ, ◌+◌, ◌^◌, ◌<◌, ◌≤◌, ◌↔◌, false, None, Some, IsTrue, IfSome, OnErr, is_some, length, slice_get};
+ghost use Rattle.std.specs.Prelude.{◌≡◌, ℕ, ◌+◌, ◌^◌, ◌<◌, ◌≤◌, ◌↔◌, false, None, Some, IsTrue, IfNone, IfSome, OnErr, is_some, length, slice_get};
 ghost use Rattle.stream_ident.specs.declared.limits.TheConstants.{MOST_RULES, MOST_SUBS};
 ghost use Rattle.stream_ident.specs.SubName.{same_sub};
 ghost use Rattle.stream_ident.specs.Words.{first_at, Performs};
 ghost use Rattle.stream_ident.specs.declared.ident.SubName.TheVariants.{Explicit, Implicit};
-ghost use Rattle.pubsub_registry.specs.Index.{AreNumbersOf, AreUnique};
+ghost use Rattle.pubsub_registry.specs.Index.{AreNumbersOf, AreUnique, IsOn};
 ghost use Rattle.pubsub_registry.specs.Registry.{add, add_implied, add_rule, close, empty, is_full, registered, registration_of, rules_on, truncated, AreSubsOf};
 
 use crate::indexed::{Rules, Subscriptions};
@@ -243,6 +243,15 @@ impl Registry {
             self.subscriptions.names(),
             self.subscriptions.numbers_of(stream),
         )
+    }
+
+    /// The number of a subscription of a stream, that with the least name. It costs a look-up.
+    pub fn number_on(&self, stream: &StreamId) -> Option<usize>
+        ensures number { IfSome result (IsOn self.now.names stream.now) }
+        ensures none { IfNone result ((number : ℕ) → IsOn self.now.names stream.now number → ⊥) }
+    {
+        let number = self.subscriptions.numbers_of(stream).first()?;
+        Some(*number as usize)
     }
 
     /// The rules on a stream's namespace, in the order in which they were added. The cost is a look-up.

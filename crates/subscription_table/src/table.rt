@@ -24,7 +24,7 @@ use queue_mapper::tag;
 use ranked_index::Resumes;
 use std::alloc::{AllocError, Global};
 use std::marker::Model;
-use stream_ident::SubName;
+use stream_ident::{StreamId, SubName};
 
 /// The subscriptions of a partition.
 ///
@@ -247,6 +247,17 @@ fn add_rows(
         tags.push_reserved(tag(&registration.stream));
     }
     Ok(())
+}
+
+/// The tag of a stream. It costs a digest only where the stream has no subscription yet.
+fn stream_tag(registry: &Registry, tags: &[u8], stream: &StreamId) -> u8
+    requires { tags.now ≡ tags_of registry.now.names }
+    ensures { result ≡ tag_of stream.now }
+{
+    match registry.number_on(stream) {
+        Some(number) => tags[number],
+        None => tag(stream),
+    }
 }
 
 /// Pushes the leaves of those names of a registry that have none yet, each with this resume and at the rank of its name.

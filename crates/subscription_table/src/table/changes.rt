@@ -12,14 +12,15 @@ ghost use Rattle.partition_queue.specs.Queue.{TokensRise};
 ghost use Rattle.queue_mapper.specs.Place.{tag_of};
 ghost use Rattle.subscription_table.specs.Handled.{first_of, IsBound};
 
-use super::{SubscriptionTable, add_rows, first_past, refresh, rewind_each, rewind_these};
+use super::{
+    SubscriptionTable, add_rows, first_past, refresh, rewind_each, rewind_these, stream_tag,
+};
 use crate::told::{Acked, Retried, Sought};
 use cache_cursor::next;
 use consumer_grain::SubState;
 use partition_queue::{PartitionQueue, Span};
 use pubsub_registry::{Added, Closing, Implied, RuleAdded};
 use queue_cache::QueueCache;
-use queue_mapper::tag;
 use std::alloc::{AllocError, Global};
 use stream_ident::{GrainId, Name, Row, StreamId, SubName, Token};
 
@@ -50,6 +51,7 @@ impl SubscriptionTable {
         self.states.reserve(1)?;
         self.tags.reserve(1)?;
         let len = self.resumes.len();
+        let tag = stream_tag(&self.registry, &self.tags, &stream);
         let sub = SubName::Explicit(self.registry.explicit() + 1);
         let rank = first_past(&self.registry, self.resumes.numbers(), Some(&sub));
         self.resumes.push(alloc, rank, position)?;
@@ -57,7 +59,7 @@ impl SubscriptionTable {
             Ok(added) => {
                 self.states
                     .push_reserved(SubState::new(alloc, start, position));
-                self.tags.push_reserved(tag(&stream));
+                self.tags.push_reserved(tag);
                 Ok(added)
             }
             Err(error) => {

@@ -24,7 +24,7 @@ invariant_of-self-in-Ok c =
     let stated : c.push_reserved.new.self.items ≡ t.states ++ new_state c.args.start c.args.position ∷ [] =
     c.push_reserved.ensures.items ∙ ap (λ (states : List PlainState). states ++ c.new.result ∷ []) c.reserve.ensures.items ∙ ap (λ (s : PlainState). t.states ++ s ∷ []) c.new.ensures in
     let tagged : c.push_reserved-in-Ok.new.self.items ≡ c.self.inside.tags.items ++ tag_of c.args.stream ∷ [] =
-    c.push_reserved-in-Ok.ensures.items ∙ ap (λ (tags : List ℕ). tags ++ c.tag.result ∷ []) c.reserve-2.ensures.items ∙ ap (λ (n : ℕ). c.self.inside.tags.items ++ n ∷ []) c.tag.ensures in
+    c.push_reserved-in-Ok.ensures.items ∙ ap (λ (tags : List ℕ). tags ++ c.stream_tag-tag.result ∷ []) c.reserve-2.ensures.items ∙ ap (λ (n : ℕ). c.self.inside.tags.items ++ n ∷ []) c.stream_tag-tag.ensures in
     table-subscribed t c.self.inside.tags.items c.self.inside.resumes c.self.invariant c.args.position c.requires.position
     c.add.new.self c.args.stream c.args.grain c.args.start c.in-Ok.added not_full (c.in-Ok.ensures).performs c.explicit.result rank c.explicit.ensures.last
     (c.explicit.ensures.new number greater) first c.push_reserved.new.self.items c.push_reserved-in-Ok.new.self.items c.push.new.self stated tagged c.in_ok-push.ensures

@@ -1,7 +1,7 @@
 use Rattle.std.proofs.Common.{◌-◌, ◌≤◌, length}
 use Rattle.stream_ident.specs.Event.{is_owed}
 use Rattle.cache_cursor.specs.Seek.{NoneBetween}
-use Rattle.cache_cursor.proofs.cursor.next_from.Given as goal
+use Rattle.cache_cursor.proofs.cursor.find_from.Given as goal
 
 abbrev pub invariant-loop-place : goal.invariant-loop-place
 invariant-loop-place l = record {
