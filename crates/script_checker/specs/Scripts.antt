@@ -1,6 +1,6 @@
 -- What a check of a whole script finds.
-use Rattle.std.specs.Prelude.{◌≡◌, ℕ, ◌+◌, List, [], ◌∷◌, ◌++◌, codes, map}
-use Rattle.std.specs.List.{flat_map}
+use Rattle.std.specs.Prelude.{◌≡◌, ℕ, ◌+◌, ◌-◌, ◌≤◌, List, [], ◌∷◌, ◌++◌, codes, get_or, length, map}
+use Rattle.std.specs.List.{All, flat_map}
 use Rattle.script_parser.specs.declared.command.Fault.{Fault}
 use Rattle.script_parser.specs.declared.command.Mode.{Mode}
 use Rattle.script_parser.specs.declared.command.Parsed.{Parsed}
@@ -8,6 +8,7 @@ use Rattle.script_parser.specs.declared.command.Parsed.TheVariants as parsed
 use Rattle.script_parser.specs.Reading.{reading}
 use Rattle.script_checker.specs.declared.line.LineFault.{LineFault}
 use Rattle.script_checker.specs.declared.script.Findings.{Findings}
+use Rattle.script_checker.specs.Checks.{IsPlacedFault}
 use Rattle.script_checker.specs.FaultTexts.{fault_text}
 use Rattle.script_checker.specs.PlainSummary.{PlainSummary}
 use Rattle.script_checker.specs.Summaries.{empty, noted, summary_text}
@@ -37,9 +38,16 @@ noted_after queues mode last summary (line ∷ lines) =
 abbrev pub told_of : List LineFault → List Fault
 told_of faults = map (λ (fault : LineFault). fault.fault) faults
 
--- the faults are those that the parser tells of the lines, and the summary has all commands
+-- the fault names one of the lines, which are counted from 1, and is placed there
+pub record IsPlacedIn (lines : List (List ℕ)) (fault : LineFault) : Type 0 where
+  pub first : 1 ≤ fault.fault.line
+  pub within : fault.fault.line ≤ length lines
+  pub placed : IsPlacedFault (get_or lines (fault.fault.line - 1) []) fault
+
+-- the faults are those that the parser tells of the lines, each in its place, and the summary has all commands
 pub record HasFound (queues : ℕ) (mode : Mode) (lines : List (List ℕ)) (findings : Findings) : Type 0 where
   pub faults : told_of findings.faults.items ≡ faults_after queues mode 0 lines
+  pub placed : All (IsPlacedIn lines) findings.faults.items
   pub summary : findings.summary ≡ noted_after queues mode 0 (empty queues) lines
 
 -- the lines of faults

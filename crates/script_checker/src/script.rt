@@ -1,6 +1,7 @@
 //! What a check of a whole script finds.
 ghost use Rattle.std.specs.Prelude.{◌≡◌, ◌≤◌, ◌++◌, length, IfOk, OnOk};
 ghost use Rattle.std.specs.String.{string_bytes};
+ghost use Rattle.script_parser.specs.declared.limits.TheConstants.{MOST_SCRIPT_BYTES};
 ghost use Rattle.script_parser.specs.Lines.{lines_of};
 ghost use Rattle.script_checker.specs.Scripts.{HasFound, fault_line, fault_lines, findings_text};
 
@@ -65,7 +66,7 @@ pub fn check_script<'a>(
     mode: Mode,
 ) -> Result<Findings<'a>, AllocError>
     requires queues { 1 ≤ queues }
-    requires short { length script.now ≤ 4194304 }
+    requires short { length script.now ≤ MOST_SCRIPT_BYTES }
     ensures { IfOk result (HasFound queues mode (lines_of script.now)) }
 {
     let mut faults = Vec::new(alloc);

@@ -17,6 +17,7 @@ pub(crate) fn pull(words: &[&[u8]], queues: usize) -> Result<Command, FaultKind>
 }
 
 #[tactic(auto, unfolding(crate::specs::Forms::pull_fields))]
+#[inline(never)]
 fn pull_fields(
     queue: &[u8],
     generation: &[u8],
@@ -42,6 +43,7 @@ pub(crate) fn deliver(words: &[&[u8]], queues: usize) -> Result<Command, FaultKi
 }
 
 #[tactic(auto, unfolding(crate::specs::Forms::deliver_fields))]
+#[inline(never)]
 fn deliver_fields(generation: &[u8], sub: &[u8], queues: usize) -> Result<Command, FaultKind>
     ensures { result ≡ deliver_fields queues generation.now sub.now }
 {
@@ -61,6 +63,7 @@ pub(crate) fn retry(words: &[&[u8]], queues: usize) -> Result<Command, FaultKind
 }
 
 #[tactic(auto, unfolding(crate::specs::Forms::retry_fields))]
+#[inline(never)]
 fn retry_fields(generation: &[u8], sub: &[u8], queues: usize) -> Result<Command, FaultKind>
     ensures { result ≡ retry_fields queues generation.now sub.now }
 {
@@ -80,6 +83,7 @@ pub(crate) fn ack(words: &[&[u8]], queues: usize) -> Result<Command, FaultKind>
 }
 
 #[tactic(auto, unfolding(crate::specs::Forms::ack_fields))]
+#[inline(never)]
 fn ack_fields(
     generation: &[u8],
     sub: &[u8],
@@ -112,6 +116,7 @@ pub(crate) fn purge(words: &[&[u8]], queues: usize) -> Result<Command, FaultKind
 }
 
 #[tactic(auto, unfolding(crate::specs::Forms::purge_fields))]
+#[inline(never)]
 fn purge_fields(
     queue: &[u8],
     generation: &[u8],
@@ -137,6 +142,7 @@ pub(crate) fn move_queue(words: &[&[u8]], queues: usize) -> Result<Command, Faul
 }
 
 #[tactic(auto, unfolding(crate::specs::Forms::move_fields))]
+#[inline(never)]
 fn move_fields(queue: &[u8], silo: &[u8], queues: usize) -> Result<Command, FaultKind>
     ensures { result ≡ move_fields queues queue.now silo.now }
 {
@@ -157,6 +163,7 @@ pub(crate) fn begin(words: &[&[u8]], queues: usize) -> Result<Command, FaultKind
 }
 
 #[tactic(auto, unfolding(crate::specs::Forms::begin_one))]
+#[inline(never)]
 fn begin_one(queue: &[u8], grain: &[u8], queues: usize) -> Result<Command, FaultKind>
     ensures { result ≡ begin_one queues queue.now grain.now }
 {
@@ -166,6 +173,7 @@ fn begin_one(queue: &[u8], grain: &[u8], queues: usize) -> Result<Command, Fault
 }
 
 #[tactic(auto, unfolding(crate::specs::Forms::begin_most))]
+#[inline(never)]
 fn begin_most(queue: &[u8], grain: &[u8], max: &[u8], queues: usize) -> Result<Command, FaultKind>
     ensures { result ≡ begin_most queues queue.now grain.now max.now }
 {
@@ -188,6 +196,7 @@ pub(crate) fn commit(words: &[&[u8]], queues: usize) -> Result<Command, FaultKin
 }
 
 #[tactic(auto, unfolding(crate::specs::Forms::commit_fields))]
+#[inline(never)]
 fn commit_fields(
     queue: &[u8],
     grain: &[u8],
@@ -225,6 +234,7 @@ pub(crate) fn deactivate(words: &[&[u8]], queues: usize) -> Result<Command, Faul
 }
 
 #[tactic(auto, unfolding(crate::specs::Forms::deactivate_fields))]
+#[inline(never)]
 fn deactivate_fields(queue: &[u8], grain: &[u8], queues: usize) -> Result<Command, FaultKind>
     ensures { result ≡ deactivate_fields queues queue.now grain.now }
 {
@@ -245,6 +255,7 @@ pub(crate) fn ready(words: &[&[u8]], queues: usize) -> Result<Command, FaultKind
 }
 
 #[tactic(auto, unfolding(crate::specs::Forms::ready_first))]
+#[inline(never)]
 fn ready_first(queue: &[u8], queues: usize) -> Result<Command, FaultKind>
     ensures { result ≡ ready_first queues queue.now }
 {
@@ -253,6 +264,7 @@ fn ready_first(queue: &[u8], queues: usize) -> Result<Command, FaultKind>
 }
 
 #[tactic(auto, unfolding(crate::specs::Forms::ready_after))]
+#[inline(never)]
 fn ready_after(queue: &[u8], grain: &[u8], queues: usize) -> Result<Command, FaultKind>
     ensures { result ≡ ready_after queues queue.now grain.now }
 {
@@ -273,6 +285,7 @@ pub(crate) fn due(words: &[&[u8]], queues: usize) -> Result<Command, FaultKind>
 }
 
 #[tactic(auto, unfolding(crate::specs::Forms::due_first))]
+#[inline(never)]
 fn due_first(queue: &[u8], queues: usize) -> Result<Command, FaultKind>
     ensures { result ≡ due_first queues queue.now }
 {
@@ -281,6 +294,7 @@ fn due_first(queue: &[u8], queues: usize) -> Result<Command, FaultKind>
 }
 
 #[tactic(auto, unfolding(crate::specs::Forms::due_after))]
+#[inline(never)]
 fn due_after(queue: &[u8], sub: &[u8], queues: usize) -> Result<Command, FaultKind>
     ensures { result ≡ due_after queues queue.now sub.now }
 {

@@ -88,7 +88,7 @@ pub enum FaultKind {
     BadToken,
     /// A queue number isn't below the number of queues.
     NoQueue,
-    /// The script is longer than 4,194,304 bytes.
+    /// The script has more bytes than [`MOST_SCRIPT_BYTES`](crate::MOST_SCRIPT_BYTES).
     TooLong,
 }
 

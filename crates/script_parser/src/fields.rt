@@ -57,6 +57,7 @@ pub(crate) fn texts<'a>(alloc: Global, pieces: &'a [Piece]) -> Result<Vec<&'a [u
 }
 
 /// Each text as a payload.
+#[inline(never)]
 pub(crate) fn payloads(alloc: Global, texts: &[&[u8]]) -> Result<Vec<Payload>, LineError>
     ensures { Gives (λ v. v.items) result (payloads_of (map (λ text. text.now) texts.now)) }
 {
@@ -153,6 +154,7 @@ pub(crate) fn token(bytes: &[u8]) -> Result<Token, FaultKind>
 
 /// What a text carries.
 #[tactic(auto, unfolding(crate::specs::Fields::payload_field))]
+#[inline(never)]
 pub(crate) fn payload(bytes: &[u8]) -> Result<Payload, FaultKind>
     ensures { result ≡ payload_field bytes.now }
 {

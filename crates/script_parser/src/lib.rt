@@ -5,11 +5,13 @@ mod agent_forms;
 mod command;
 mod fields;
 pub mod laws;
+mod limits;
 mod lines;
 mod parse;
 mod publish;
 
 pub use command::{Command, EachOp, Fault, FaultKind, Mode, Parsed};
+pub use limits::MOST_SCRIPT_BYTES;
 pub use lines::Lines;
 pub use parse::parse_line;
 pub use publish::{Publish, read_publish};

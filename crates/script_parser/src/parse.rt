@@ -1,4 +1,7 @@
 //! From a line's bytes to its command: its verb, and for the verbs of producers and operators what stands behind them.
+//!
+//! A command takes some 300 bytes, and a payload 258. What hands one on isn't inlined, since a function that inlined all
+//! of them would have the room of each in its frame, and would clear it for every line.
 ghost use Rattle.std.specs.Prelude.{◌≡◌, ◌≤◌, map, IfOk, Ok, Err};
 ghost use Rattle.std.specs.List.{list_all};
 ghost use Rattle.stream_ident.specs.Alphabet.{is_printable};
@@ -13,13 +16,14 @@ use crate::command::{Command, EachOp, Fault, FaultKind, LineError, Mode, Parsed,
 use crate::lines::{Piece, pieces};
 use crate::{agent_forms, fields};
 use std::alloc::{AllocError, Global};
-use stream_ident::{Batch, GrainId, StreamId};
+use stream_ident::{Batch, GrainId, Payload, StreamId};
 use stream_model::{Op, Start};
 
 /// What a line is, its line feed and carriage return taken off: a command, a line to pass over, or its
 /// first fault.
 ///
 /// `line` is the number that a fault gets. Queue numbers have to be below `queues`.
+#[inline(never)]
 pub fn parse_line(
     alloc: Global,
     bytes: &[u8],
@@ -44,6 +48,7 @@ pub fn parse_line(
 
 /// What a line is.
 #[tactic(auto, unfolding(crate::specs::Reading::reading))]
+#[inline(never)]
 fn read_line(
     alloc: Global,
     bytes: &[u8],
@@ -96,6 +101,7 @@ pub(crate) fn are_printable(bytes: &[u8]) -> bool
 }
 
 /// The command of a line that isn't skipped.
+#[inline(never)]
 fn line_command(
     alloc: Global,
     bytes: &[u8],
@@ -115,6 +121,7 @@ fn line_command(
 }
 
 /// The command of a line's pieces.
+#[inline(never)]
 fn command(alloc: Global, pieces: &[Piece], queues: usize, mode: Mode) -> Result<Command, LineError>
     requires { 1 ≤ queues }
     ensures { Gives (λ command. command) result (command_of mode queues (pieces_in pieces.now)) }
@@ -130,6 +137,7 @@ fn command(alloc: Global, pieces: &[Piece], queues: usize, mode: Mode) -> Result
 }
 
 /// The command of a verb and the pieces behind it.
+#[inline(never)]
 fn of_verb(alloc: Global, verb: Verb, pieces: &[Piece], queues: usize) -> Result<Command, LineError>
     requires { 1 ≤ queues }
     ensures { Gives (λ command. command) result (verb_command verb queues (pieces_in pieces.now)) }
@@ -142,6 +150,7 @@ fn of_verb(alloc: Global, verb: Verb, pieces: &[Piece], queues: usize) -> Result
 }
 
 /// The command of a verb and the words behind it.
+#[inline(never)]
 fn of_words(verb: Verb, words: &[&[u8]], queues: usize) -> Result<Command, FaultKind>
     requires { 1 ≤ queues }
     ensures { result ≡ words_command verb queues (map (λ word. word.now) words.now) }
@@ -163,12 +172,36 @@ fn of_words(verb: Verb, words: &[&[u8]], queues: usize) -> Result<Command, Fault
         Verb::Deactivate => agent_forms::deactivate(words, queues),
         Verb::Ready => agent_forms::ready(words, queues),
         Verb::Due => agent_forms::due(words, queues),
-        Verb::Report => alone(Command::Report, words),
-        Verb::Quiet => alone(Command::Each(EachOp::Quiet), words),
-        Verb::Drain => alone(Command::Drain, words),
+        Verb::Report => report(words),
+        Verb::Quiet => quiet(words),
+        Verb::Drain => drain(words),
         Verb::Up => up(words),
         Verb::Down => down(words),
     }
+}
+
+/// `report`
+#[inline(never)]
+fn report(words: &[&[u8]]) -> Result<Command, FaultKind>
+    ensures { result ≡ alone Command.Report (map (λ word. word.now) words.now) }
+{
+    alone(Command::Report, words)
+}
+
+/// `quiet`
+#[inline(never)]
+fn quiet(words: &[&[u8]]) -> Result<Command, FaultKind>
+    ensures { result ≡ alone (Command.Each EachOp.Quiet) (map (λ word. word.now) words.now) }
+{
+    alone(Command::Each(EachOp::Quiet), words)
+}
+
+/// `drain`
+#[inline(never)]
+fn drain(words: &[&[u8]]) -> Result<Command, FaultKind>
+    ensures { result ≡ alone Command.Drain (map (λ word. word.now) words.now) }
+{
+    alone(Command::Drain, words)
 }
 
 /// A command whose word stands alone.
@@ -182,6 +215,7 @@ fn alone(command: Command, words: &[&[u8]]) -> Result<Command, FaultKind>
 }
 
 /// `pub STREAM TEXT ..`
+#[inline(never)]
 fn publish(alloc: Global, pieces: &[Piece], queues: usize) -> Result<Command, LineError>
     requires { 1 ≤ queues }
     ensures { Gives (λ command. command) result (pub_command queues (pieces_in pieces.now)) }
@@ -195,6 +229,7 @@ fn publish(alloc: Global, pieces: &[Piece], queues: usize) -> Result<Command, Li
 }
 
 #[tactic(auto, unfolding(crate::specs::Forms::pub_fields))]
+#[inline(never)]
 fn publish_fields(
     alloc: Global,
     stream: &[u8],
@@ -206,13 +241,23 @@ fn publish_fields(
 {
     let stream = fields::stream(stream)?;
     let payloads = fields::payloads(alloc, texts)?;
-    Ok(Command::on_queue(
-        fields::queue_of(&stream, queues),
+    Ok(publication(stream, payloads, queues))
+}
+
+/// A batch for the stream's queue.
+#[inline(never)]
+fn publication(stream: StreamId, payloads: Vec<Payload>, queues: usize) -> Command
+    requires { 1 ≤ queues }
+    ensures { result ≡ Command.Step (queue_of stream queues) (Op.Publish stream payloads.items) }
+{
+    let queue = fields::queue_of(&stream, queues);
+    Command::on_queue(
+        queue,
         Op::Publish {
             stream,
             payloads: Batch::of(payloads),
         },
-    ))
+    )
 }
 
 /// `sub STREAM GRAIN latest` or `sub STREAM GRAIN from TOKEN`
@@ -228,6 +273,7 @@ fn subscribe(words: &[&[u8]], queues: usize) -> Result<Command, FaultKind>
 }
 
 #[tactic(auto, unfolding(crate::specs::Forms::sub_latest))]
+#[inline(never)]
 fn subscribe_latest(
     stream: &[u8],
     grain: &[u8],
@@ -246,6 +292,7 @@ fn subscribe_latest(
 }
 
 #[tactic(auto, unfolding(crate::specs::Forms::sub_from))]
+#[inline(never)]
 fn subscribe_from(
     stream: &[u8],
     grain: &[u8],
@@ -292,6 +339,7 @@ fn unsubscribe(words: &[&[u8]], queues: usize) -> Result<Command, FaultKind>
 }
 
 #[tactic(auto, unfolding(crate::specs::Forms::unsub_fields))]
+#[inline(never)]
 fn unsubscribe_fields(sub: &[u8], queues: usize) -> Result<Command, FaultKind>
     ensures { result ≡ unsub_fields queues sub.now }
 {
@@ -310,6 +358,7 @@ fn rule(words: &[&[u8]]) -> Result<Command, FaultKind>
 }
 
 #[tactic(auto, unfolding(crate::specs::Forms::rule_fields))]
+#[inline(never)]
 fn rule_fields(kind: &[u8], namespace: &[u8]) -> Result<Command, FaultKind>
     ensures { result ≡ rule_fields kind.now namespace.now }
 {
@@ -329,6 +378,7 @@ fn up(words: &[&[u8]]) -> Result<Command, FaultKind>
 }
 
 #[tactic(auto, unfolding(crate::specs::Forms::up_fields))]
+#[inline(never)]
 fn up_fields(silo: &[u8]) -> Result<Command, FaultKind>
     ensures { result ≡ up_fields silo.now }
 {
@@ -347,6 +397,7 @@ fn down(words: &[&[u8]]) -> Result<Command, FaultKind>
 }
 
 #[tactic(auto, unfolding(crate::specs::Forms::down_fields))]
+#[inline(never)]
 fn down_fields(silo: &[u8]) -> Result<Command, FaultKind>
     ensures { result ≡ down_fields silo.now }
 {

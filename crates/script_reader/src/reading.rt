@@ -1,5 +1,6 @@
 //! The lines of a script that is to be run.
 ghost use Rattle.std.specs.Prelude.{◌≤◌, length, IfOk};
+ghost use Rattle.script_parser.specs.declared.limits.TheConstants.{MOST_SCRIPT_BYTES};
 ghost use Rattle.script_parser.specs.Lines.{lines_of};
 ghost use Rattle.script_reader.specs.Scripts.{IsRead};
 
@@ -17,13 +18,13 @@ pub enum Script {
 }
 
 /// Reads a script that is to be run on so many queues: each line that isn't empty or a comment is a command, and has
-/// the number of its line, counted from 1. A script has 4,194,304 bytes at most.
+/// the number of its line, counted from 1. A script has at most [`MOST_SCRIPT_BYTES`](script_parser::MOST_SCRIPT_BYTES).
 ///
 /// # Errors
 /// The call failed to allocate.
 pub fn read_lines(alloc: Global, script: &[u8], queues: usize) -> Result<Script, AllocError>
     requires queues { 1 ≤ queues }
-    requires short { length script.now ≤ 4194304 }
+    requires short { length script.now ≤ MOST_SCRIPT_BYTES }
     ensures { IfOk result (IsRead queues (lines_of script.now)) }
 {
     let mut found = Vec::new(alloc);
