@@ -56,7 +56,7 @@ fn begin<R: Host>(service: &mut Service<R, Counting>) -> Result<(), Stop> {
 /// do.
 fn close<R: Host>(mut service: Service<R, Counting>, is_halted: bool) -> Result<(), Stop> {
     match service.settle() {
-        Ok(()) | Err(SettleError::NotQuiet) => {}
+        Ok(()) | Err(SettleError::Ended) => {}
         Err(_) => return Err(Stop::Wrong("a service settles otherwise")),
     }
     match service.close() {

@@ -81,6 +81,7 @@ pending_of (Err Memory) = Err call.Memory
 abbrev pub settled : Result Drained AllocError → Result Unit SettleError
 settled (Ok drained.Quiet) = Ok tt
 settled (Ok drained.NotQuiet) = Err settle.NotQuiet
+settled (Ok drained.Ended) = Err settle.Ended
 settled (Ok drained.Limit) = Err settle.Limit
 settled (Err e) = Err settle.Memory
 

@@ -109,10 +109,13 @@ pub enum UnsubscribeError {
 /// Why a service doesn't settle.
 #[derive(Clone, Copy, Debug, PartialEq, Eq, Error)]
 pub enum SettleError {
-    /// Not all queues got quiet: a loop has ended, a silo went and its queues weren't given to others, not all loops of
-    /// one that came could be started, or there were as many looks at the queues as `Config::looks` says.
+    /// There were as many looks at the queues as `Config::looks` says, and in each a queue wasn't quiet.
     #[error("not all queues get quiet")]
     NotQuiet,
+    /// A queue wasn't quiet, and may never be: a loop has ended, a silo went and its queues weren't given to others, or
+    /// not all loops of one that came could be started.
+    #[error("a loop has ended, and not all queues are quiet")]
+    Ended,
     /// The history of a queue is full.
     #[error("a limit of a queue is reached")]
     Limit,
@@ -262,6 +265,7 @@ pub(crate) fn settled(drained: Result<Drained, AllocError>) -> Result<(), Settle
     match drained {
         Ok(Drained::Quiet) => Ok(()),
         Ok(Drained::NotQuiet) => Err(SettleError::NotQuiet),
+        Ok(Drained::Ended) => Err(SettleError::Ended),
         Ok(Drained::Limit) => Err(SettleError::Limit),
         Err(_) => Err(SettleError::Memory),
     }

@@ -202,7 +202,7 @@ impl<R: Host, G: Gate + 'static> Service<R, G> {
     /// # Errors
     /// They are those of [`SiloError`]. After `NoSilo`, `Already` and `Halted` nothing was done. After `Limit` and
     /// `Memory` what was answered by then stands, and no silo comes or goes any more. Where not all of the silo's threads
-    /// could be made, one of them may have stopped with a turn in hand, so [`settle`](Service::settle) answers `NotQuiet`
+    /// could be made, one of them may have stopped with a turn in hand, so [`settle`](Service::settle) answers `Ended`
     /// unless all is quiet; [`close`](Service::close) still ends the service.
     pub fn silo_up(&mut self, silo: u8) -> Result<(), SiloError>
         ensures { ChangesUp self.old silo result self.new }
@@ -219,7 +219,7 @@ impl<R: Host, G: Gate + 'static> Service<R, G> {
     /// # Errors
     /// They are those of [`SiloError`]. After `NoSilo`, `NotLive`, `LastSilo` and `Halted` nothing was done. After
     /// `Limit` and `Memory` the loops of the silo have stopped, what was answered by then stands, and no silo comes or
-    /// goes any more. A queue that was not moved has no agent then, so [`settle`](Service::settle) answers `NotQuiet`
+    /// goes any more. A queue that was not moved has no agent then, so [`settle`](Service::settle) answers `Ended`
     /// unless all is quiet; [`close`](Service::close) still ends the service.
     pub fn silo_down(&mut self, silo: u8) -> Result<(), SiloError>
         ensures { ChangesDown self.old silo result self.new }
