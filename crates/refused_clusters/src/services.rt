@@ -17,6 +17,8 @@ pub(crate) enum Change {
     Up,
     /// A silo goes.
     Down,
+    /// A producer is made, and taken back.
+    Producer,
     /// The service is closed.
     Close,
 }
@@ -108,6 +110,18 @@ fn follow_change<R: Host>(
     }
 }
 
+/// A producer is taken back, and the service goes on. Where it was refused, no pass is missing.
+fn follow_producer<R: Host>(mut service: Service<R, Counting>) -> Result<Came, Stop> {
+    match service.producer() {
+        Ok(producer) => {
+            service.take_back(producer);
+            go_on(service, false)?;
+            Ok(Came::Done)
+        }
+        Err(AllocError) => with_memory(go_on(service, false)),
+    }
+}
+
 /// Goes on to a close, and tells whether memory was refused to it or to a loop.
 fn follow_close<R: Host>(mut service: Service<R, Counting>) -> Result<Came, Stop> {
     publish(&mut service)?;
@@ -136,6 +150,7 @@ fn live<R: Host>(rt: R, gate: &Shared, change: Change) -> Result<Came, Stop> {
             let changed = service.silo_down(0);
             follow_change(service, changed)
         }
+        Change::Producer => follow_producer(service),
         Change::Close => follow_close(service),
     }
 }

@@ -166,8 +166,8 @@ pub enum CloseError {
     /// A loop has come to a limit, or has made as many rounds as it may, or the history of a queue is full.
     #[error("a limit of a queue or of a loop is reached")]
     Limit,
-    /// A pass at a queue is missing, or a turnstile is still in use. A service hands neither out, so no run is known to
-    /// meet this.
+    /// A pass at a queue is missing, or a turnstile is still in use, as where a [`Producer`](crate::Producer) wasn't
+    /// handed back. No other run is known to meet this.
     #[error("a pass at a queue is missing, or its turnstile is in use")]
     NotAll,
     /// The call failed to allocate, or a loop failed to before.
