@@ -5,7 +5,7 @@ use std::alloc::{AllocError, Global};
 use std::sync::Arc;
 use streams::{
     CloseError, Config, Counting, GrainId, Host, Payload, PublishError, Service, SettleError,
-    SiloError, Start, StreamId, SubscribeError,
+    SiloError, StartFrom, StreamId, SubscribeError,
 };
 
 /// The call that is tried.
@@ -47,7 +47,7 @@ fn publish<R: Host>(service: &mut Service<R, Counting>) -> Result<(), Stop> {
 fn begin<R: Host>(service: &mut Service<R, Counting>) -> Result<(), Stop> {
     let stream = StreamId::new(b"o", b"k")?;
     let grain = GrainId::new(b"g", b"x")?;
-    match service.subscribe(stream, grain, Start::Latest) {
+    match service.subscribe(stream, grain, StartFrom::Latest) {
         Ok(_subscription) => publish(service),
         Err(SubscribeError::Memory) => Err(Stop::Memory),
         Err(_) => Err(Stop::Wrong("a grain doesn't subscribe")),

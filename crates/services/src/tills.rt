@@ -2,15 +2,17 @@
 use anyhow::Result;
 use std::sync::Arc;
 use std::thread::join_mut;
-use streams::{Config, Counting, GrainId, Host, Payload, Service, Start, StreamId};
+use streams::{Config, Counting, GrainId, Host, Payload, Service, StartFrom, StreamId};
 
-/// Sells at both tills at the same time, and prints how many sales are handled.
+/// Sells at both tills at the same time, audits that, and prints how many sales are handled.
 pub fn run<R: Host + Print>(rt: R) -> Result<()> {
     let gate = Arc::new(rt.alloc(), Counting)?;
     let mut service = Service::open(rt, &Config::new(4, 2), gate)?;
     let sales = StreamId::new(b"sales", b"shop")?;
+    let refunds = StreamId::new(b"refunds", b"shop")?;
     let ledger = GrainId::new(b"ledger", b"shop")?;
-    let subscription = service.subscribe(sales, ledger, Start::Latest)?;
+    let auditor = GrainId::new(b"auditor", b"shop")?;
+    let all = service.subscribe(sales, ledger, StartFrom::Latest)?;
     let (tea, milk) = ([Payload::new(b"tea")?], [Payload::new(b"milk")?]);
     let (mut left, mut right) = (service.producer()?, service.producer()?);
     let (first, second) = join_mut(
@@ -20,11 +22,20 @@ pub fn run<R: Host + Print>(rt: R) -> Result<()> {
     );
     service.take_back(left);
     service.take_back(right);
-    first?;
-    second?;
+    let (first, second) = (first?, second?);
+    // An auditor looks at the sales from the one that came first on.
+    let from = if first.token.is_before(&second.token) {
+        first
+    } else {
+        second
+    };
+    let audited = service.subscribe(sales, auditor, StartFrom::At(from))?;
+    if let Err(refused) = service.subscribe(refunds, auditor, StartFrom::At(from)) {
+        println!(rt; "refunds aren't audited: {refused}")?;
+    }
     service.settle()?;
-    let handled = service.unsubscribe(&subscription)?;
-    println!(rt; "both tills have sold: {handled} sales are handled")?;
+    let (all, audited) = (service.unsubscribe(&all)?, service.unsubscribe(&audited)?);
+    println!(rt; "both tills have sold: {all} sales are handled, and {audited} audited")?;
     let _closed = service.close()?;
     Ok(())
 }

@@ -1,10 +1,9 @@
 -- What a contract sees of a service, and what each of its calls does.
-use Rattle.std.specs.Prelude.{◌≡◌, ◌⊎◌, ℕ, zero, suc, ◌≤◌, Bool, false, ◌||◌, List, [], ◌∷◌, length, Option, Result, Ok, Err}
+use Rattle.std.specs.Prelude.{◌≡◌, ◌⊎◌, ℕ, zero, suc, ◌≤◌, Bool, false, ◌||◌, List, [], ◌∷◌, length, Option, Some, None, Result, Ok, Err}
 use Rattle.std.specs.List.{AllZip}
 use Rattle.std.specs.declared.alloc.AllocError.{AllocError}
 use Rattle.stream_ident.specs.declared.ident.GrainId.{GrainId}
 use Rattle.stream_ident.specs.declared.ident.StreamId.{StreamId}
-use Rattle.stream_ident.specs.declared.token.Token.{Token}
 use Rattle.stream_ident.specs.declared.limits.TheConstants.{MOST_SILOS}
 use Rattle.stream_model.specs.declared.op.Op.{Op}
 use Rattle.stream_model.specs.declared.op.Op.TheVariants as op
@@ -36,7 +35,10 @@ use Rattle.streams.specs.declared.answers.PublishError.TheVariants as publish
 use Rattle.streams.specs.declared.answers.SettleError.{SettleError}
 use Rattle.streams.specs.declared.answers.SiloError.{SiloError}
 use Rattle.streams.specs.declared.answers.SiloError.TheVariants as silos
+use Rattle.streams.specs.declared.answers.StartFrom.{StartFrom}
+use Rattle.streams.specs.declared.answers.StreamToken.{StreamToken}
 use Rattle.streams.specs.declared.answers.SubscribeError.{SubscribeError}
+use Rattle.streams.specs.declared.answers.SubscribeError.TheVariants as subscribe
 use Rattle.streams.specs.declared.answers.Subscription.{Subscription}
 use Rattle.streams.specs.declared.answers.UnsubscribeError.{UnsubscribeError}
 use Rattle.streams.specs.declared.answers.UnsubscribeError.TheVariants as unsubscribe
@@ -71,13 +73,15 @@ pub record Reads {T : Type 0} (read : Result Reply Refusal → T) (old : List Qu
   pub is : result ≡ read answer
 
 -- A batch was published at its stream's queue, or was refused there. Or nothing was done: there was no memory for it.
-abbrev pub Publishes : List QueuePass → StreamId → List (List ℕ) → Result Token PublishError → List QueuePass → Type 0
+abbrev pub Publishes : List QueuePass → StreamId → List (List ℕ) → Result StreamToken PublishError → List QueuePass → Type 0
 Publishes old stream payloads result new =
-    Reads read.published old (queue_of old stream) (op.Publish stream payloads) result new ⊎ ((result ≡ Err publish.Memory) × (new ≡ old))
+    Reads (read.published stream) old (queue_of old stream) (op.Publish stream payloads) result new ⊎ ((result ≡ Err publish.Memory) × (new ≡ old))
 
-abbrev pub Subscribes : List QueuePass → StreamId → GrainId → Start → Result Subscription SubscribeError → List QueuePass → Type 0
-Subscribes old stream grain start result new =
-    Reads (read.subscribed (queue_of old stream)) old (queue_of old stream) (op.Subscribe stream grain start) result new
+-- a subscription was asked for at its stream's queue, or nothing was done: the start is an event of another stream
+abbrev pub Subscribes : List QueuePass → StreamId → GrainId → StartFrom → Result Subscription SubscribeError → List QueuePass → Type 0
+Subscribes old stream grain from result new =
+    ((start : Start) × (read.start_for stream from ≡ Some start) × Reads (read.subscribed (queue_of old stream)) old (queue_of old stream) (op.Subscribe stream grain start) result new)
+    ⊎ ((read.start_for stream from ≡ None) × (result ≡ Err subscribe.OtherStream) × (new ≡ old))
 
 -- no queue has this number, and nothing was asked
 pub record HasNoQueue {T E : Type 0} (old : List QueuePass) (queue : ℕ) (e : E) (result : Result T E) (new : List QueuePass) : Type 0 where

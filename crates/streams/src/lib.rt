@@ -22,8 +22,8 @@ mod service;
 
 pub use activation_directory::{DirectoryOp, DirectoryReply};
 pub use answers::{
-    CallError, CloseError, Closed, PublishError, SettleError, SiloError, SubscribeError,
-    Subscription, UnsubscribeError,
+    CallError, CloseError, Closed, PublishError, SettleError, SiloError, StartFrom, StreamToken,
+    SubscribeError, Subscription, UnsubscribeError,
 };
 pub use cluster_callers::{Caller, QueueCaller};
 pub use cluster_ending::{Finished, Traces};

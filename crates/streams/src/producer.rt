@@ -4,13 +4,13 @@ ghost use Rattle.cluster_callers.specs.Calls.{CallerCalls, turnstiles};
 ghost use Rattle.streams.specs.Services.{Publishes};
 
 use crate::UntracedCaller;
-use crate::answers::{PublishError, published};
+use crate::answers::{PublishError, StreamToken, published};
 use crate::service::Host;
 use queue_mapper::queue;
 use shared_partition::Gate;
 use std::marker::Model;
 use step_core::Answer;
-use stream_ident::{Batch, Payload, StreamId, Token};
+use stream_ident::{Batch, Payload, StreamId};
 use stream_model::Op;
 use turnstile::Refusal;
 
@@ -61,7 +61,11 @@ impl<R: Host, G: Gate> Producer<R, G> {
     ///
     /// # Errors
     /// They are those of [`PublishError`]. Nothing was published.
-    pub fn publish(&mut self, stream: StreamId, payloads: &[Payload]) -> Result<Token, PublishError>
+    pub fn publish(
+        &mut self,
+        stream: StreamId,
+        payloads: &[Payload],
+    ) -> Result<StreamToken, PublishError>
         ensures publishes { Publishes self.old stream payloads.now result self.new }
         ensures turnstiles { turnstiles self.new ≡ turnstiles self.old }
     {
@@ -75,7 +79,7 @@ pub(crate) fn publish<R: Host, G: Gate>(
     caller: &mut UntracedCaller<G>,
     stream: StreamId,
     payloads: &[Payload],
-) -> Result<Token, PublishError>
+) -> Result<StreamToken, PublishError>
     requires { 1 ≤ length caller.old }
     ensures publishes { Publishes caller.old stream payloads.now result caller.new }
     ensures turnstiles { turnstiles caller.new ≡ turnstiles caller.old }
@@ -85,7 +89,10 @@ pub(crate) fn publish<R: Host, G: Gate>(
     };
     let payloads = Batch::of(payloads);
     let queue = queue(&stream, caller.queues());
-    published(ask(rt, caller, queue, Op::Publish { stream, payloads }))
+    published(
+        stream,
+        ask(rt, caller, queue, Op::Publish { stream, payloads }),
+    )
 }
 
 /// A caller makes one call at a queue.

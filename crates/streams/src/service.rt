@@ -5,9 +5,9 @@ ghost use Rattle.cluster_callers.specs.Calls.{CallerCalls, CallerSplits, JoinsAl
 ghost use Rattle.streams.specs.Services.{AddsRule, AsksPending, ChangesDown, ChangesUp, Closes, IsNewService, IsProducerOf, Publishes, Settles, Subscribes, Unsubscribes, queue_of};
 
 use crate::answers::{
-    CallError, CloseError, Closed, PublishError, SettleError, SiloError, SubscribeError,
-    Subscription, UnsubscribeError, came, closing, pending_of, rule_added, settled, subscribed,
-    unsubscribed, went,
+    CallError, CloseError, Closed, PublishError, SettleError, SiloError, StartFrom, StreamToken,
+    SubscribeError, Subscription, UnsubscribeError, came, closing, pending_of, rule_added, settled,
+    subscribed, unsubscribed, went,
 };
 use crate::producer::{Producer, ask, publish};
 use crate::{UntracedCaller, UntracedCluster};
@@ -21,8 +21,8 @@ use std::sync::{Arc, Wait};
 use std::thread::Threads;
 use step_core::Answer;
 use stream_cluster::Config;
-use stream_ident::{GrainId, MOST_SILOS, Name, Payload, StreamId, Token};
-use stream_model::{Op, Pending, Start};
+use stream_ident::{GrainId, MOST_SILOS, Name, Payload, StreamId};
+use stream_model::{Op, Pending};
 use turnstile::Refusal;
 
 /// A runtime that allocates, starts threads and waits for them in any thread, as the one that `main` has.
@@ -100,12 +100,16 @@ impl<R: Host, G: Gate + 'static> Service<R, G> {
         queue(stream, self.caller.queues())
     }
 
-    /// Publishes a batch of 1 to 64 payloads to a stream, and gives the token of its first event. A subscription to the
-    /// stream that starts at it begins with this batch, unless its first event has left the cache.
+    /// Publishes a batch of 1 to 64 payloads to a stream, and gives the token of its first event. A subscription to
+    /// the stream that starts at it begins with this batch, unless its first event has left the cache.
     ///
     /// # Errors
     /// They are those of [`PublishError`]. Nothing was published.
-    pub fn publish(&mut self, stream: StreamId, payloads: &[Payload]) -> Result<Token, PublishError>
+    pub fn publish(
+        &mut self,
+        stream: StreamId,
+        payloads: &[Payload],
+    ) -> Result<StreamToken, PublishError>
         ensures publishes { Publishes self.old.caller stream payloads.now result self.new.caller }
         ensures cluster { self.new.cluster ≡ self.old.cluster }
         ensures turnstiles { turnstiles self.new.caller ≡ turnstiles self.old.caller }
@@ -151,12 +155,15 @@ impl<R: Host, G: Gate + 'static> Service<R, G> {
         &mut self,
         stream: StreamId,
         grain: GrainId,
-        start: Start,
+        from: StartFrom,
     ) -> Result<Subscription, SubscribeError>
-        ensures subscribes { Subscribes self.old.caller stream grain start result self.new.caller }
+        ensures subscribes { Subscribes self.old.caller stream grain from result self.new.caller }
         ensures cluster { self.new.cluster ≡ self.old.cluster }
         ensures turnstiles { turnstiles self.new.caller ≡ turnstiles self.old.caller }
     {
+        let Some(start) = from.start_for(&stream) else {
+            return Err(SubscribeError::OtherStream);
+        };
         let queue = self.queue_of(&stream);
         let op = Op::Subscribe {
             stream,
