@@ -2,7 +2,7 @@
 use anyhow::Result;
 use std::sync::Arc;
 use std::thread::join_mut;
-use streams::{Config, Counting, GrainId, Host, Payload, Service, StartFrom, StreamId};
+use streams::{Config, Counting, Decode, Encode, GrainId, Host, Service, StartFrom, StreamId};
 
 /// Sells at both tills at the same time, audits that, and prints how many sales are handled.
 pub fn run<R: Host + Print>(rt: R) -> Result<()> {
@@ -13,12 +13,12 @@ pub fn run<R: Host + Print>(rt: R) -> Result<()> {
     let ledger = GrainId::new(b"ledger", b"shop")?;
     let auditor = GrainId::new(b"auditor", b"shop")?;
     let all = service.subscribe(sales, ledger, StartFrom::Latest)?;
-    let (tea, milk) = ([Payload::new(b"tea")?], [Payload::new(b"milk")?]);
+    let (sale, refund) = ([450i64.encode()?], [(-120i64).encode()?]);
     let (mut left, mut right) = (service.producer()?, service.producer()?);
     let (first, second) = join_mut(
         &rt,
-        &mut || left.publish(sales, &tea),
-        &mut || right.publish(sales, &milk),
+        &mut || left.publish(sales, &sale),
+        &mut || right.publish(sales, &refund),
     );
     service.take_back(left);
     service.take_back(right);
@@ -34,8 +34,15 @@ pub fn run<R: Host + Print>(rt: R) -> Result<()> {
         println!(rt; "refunds aren't audited: {refused}")?;
     }
     service.settle()?;
-    let (all, audited) = (service.unsubscribe(&all)?, service.unsubscribe(&audited)?);
-    println!(rt; "both tills have sold: {all} sales are handled, and {audited} audited")?;
-    let _closed = service.close()?;
+    let (handled, audited) = (service.unsubscribe(&all)?, service.unsubscribe(&audited)?);
+    println!(rt; "both tills have sold: {handled} sales are handled, and {audited} audited")?;
+    let closed = service.close()?;
+    if let Some(partition) = closed.partitions.get(all.queue) {
+        let mut cents = 0i64;
+        for event in &partition.handled(rt.alloc(), &all.name())? {
+            cents = cents.saturating_add(i64::decode(&event.payload)?);
+        }
+        println!(rt; "they have taken {cents} cents")?;
+    }
     Ok(())
 }

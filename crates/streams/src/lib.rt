@@ -12,6 +12,8 @@
 //! [`Answer`] stands for the [`Reply`]. [`Caller::join`] takes a caller in again, and [`Cluster::finish`] ends the
 //! cluster with all callers that are left.
 //!
+//! [`Encode`] and [`Decode`] put values into payloads and read them again.
+//!
 //! What a call of a service promises is proved here: what it asks, at which queue, and how its answer is read from the
 //! reply. What the others promise stands in the crate that each comes from, and is proved there.
 #![tactic(auto)]
@@ -19,6 +21,7 @@
 mod answers;
 mod producer;
 mod service;
+mod values;
 
 pub use activation_directory::{DirectoryOp, DirectoryReply};
 pub use answers::{
@@ -42,6 +45,7 @@ pub use stream_ident::{
 };
 pub use stream_model::{DrainEnd, Events, Limits, Op, Pending, Reply, Start};
 pub use turnstile::{Asked, AskedHistory, Entry, ProofHistory, Refusal, Replays, StoredHistory};
+pub use values::{Decode, Encode, NoValue};
 
 /// A cluster whose histories take no memory: only proofs see them. That is the one for a service that stays up; its
 /// limits are those that [`Config::new`] names.

@@ -5,8 +5,8 @@ use anyhow::Result;
 use std::alloc::Global;
 use std::sync::Arc;
 use streams::{
-    BadName, Closed, Config, GrainId, Host, Payload, PublishError, Service, SiloError, StartFrom,
-    StreamId, SubscribeError, Subscription, Token, UnsubscribeError,
+    BadName, Closed, Config, Encode, GrainId, Host, Payload, PublishError, Service, SiloError,
+    StartFrom, StreamId, SubscribeError, Subscription, Token, UnsubscribeError,
 };
 
 // The first order of a stream.
@@ -191,7 +191,7 @@ fn without_price(orders: &[&'static str]) -> Option<&'static str> {
 fn batch_of(alloc: Global, orders: &[&str]) -> Result<Vec<Payload>> {
     let mut batch = Vec::new(alloc);
     for order in orders {
-        batch.push(Payload::new(order.as_bytes())?)?;
+        batch.push(order.encode()?)?;
     }
     Ok(batch)
 }
