@@ -3,6 +3,7 @@ ghost use Rattle.std.specs.Prelude.{◌≡◌};
 ghost use Rattle.silo_loops.specs.Answers.{advance_of, end_by};
 
 use crate::doorbell::Doorbell;
+use std::fmt;
 use std::sync::Wait;
 use turnstile::Refusal;
 
@@ -26,6 +27,17 @@ pub enum Over {
     Limit,
     /// A call failed to allocate.
     Memory,
+}
+
+impl fmt::Display for LoopEnd {
+    fn fmt<W: fmt::Write>(&self, f: &mut fmt::Formatter<W>) -> fmt::Result {
+        match (self.over, self.queue) {
+            (Over::Rounds, _) => write!(f, "a loop of a silo has made all its rounds"),
+            (Over::Limit, Some(queue)) => write!(f, "a limit of queue {queue} has ended a loop"),
+            (Over::Limit, None) => write!(f, "a limit of the directory has ended a loop"),
+            (Over::Memory, _) => write!(f, "a loop of a silo had no memory"),
+        }
+    }
 }
 
 // How a refusal ends a loop.
