@@ -9,7 +9,7 @@ use std::sync::Arc;
 use std::sync::atomic::{AtomicU64, Ordering};
 use std::thread;
 use std::time::{Duration, Instant};
-use streams::{Config, Event, Gate, GrainId, Host, Payload, Service, Start, StreamId, SubName};
+use streams::{Config, Event, Gate, GrainId, Host, Payload, Service, StartFrom, StreamId, SubName};
 
 /// How often a thread looks at a count before it gives up, which is after some minutes.
 const MOST_LOOKS: u32 = 200_000;
@@ -132,7 +132,7 @@ fn subscribe_each<R: Host>(service: &mut Service<R, Tally>, streams: &[StreamId]
             kind: stream.namespace,
             key: stream.key,
         };
-        service.subscribe(*stream, grain, Start::Latest)?;
+        service.subscribe(*stream, grain, StartFrom::Latest)?;
     }
     Ok(())
 }

@@ -1,5 +1,5 @@
 -- What a line does, by what it asks for.
-use Rattle.std.proofs.Common.{◌≡◌, ◌≢◌, inl, inr, ℕ, List, Option, None, Result, Ok, Err, IfErr, IfOk, refl, sym, ap, subst, ◌∙◌}
+use Rattle.std.proofs.Common.{◌≡◌, ◌≢◌, ◌≤◌, ℕ, List, Option, None, Result, Ok, Err, IfErr, IfOk, refl, sym, ap, subst, ◌∙◌}
 use Rattle.std.specs.declared.alloc.AllocError.{AllocError}
 use Rattle.stream_model.specs.declared.op.Op.{Op}
 use Rattle.silo_loops.specs.Lines.{QueuePass}
@@ -12,11 +12,11 @@ use Rattle.script_reader.specs.Told as script
 use Rattle.script_reader.proofs.Growing.{scripts-grow}
 use Rattle.script_producer.specs.declared.answer.Answer.{Answer}
 use Rattle.script_producer.specs.declared.answer.Answer.TheVariants as answer
-use Rattle.script_producer.specs.Telling.{AsksLast, AsksOnce, EndsAsking, HasGoneOn, Tells, TellsUnlessLimit, with_missed}
+use Rattle.script_producer.specs.Telling.{AsksLast, AsksOnce, EndsAsking, HasGoneOn, LooksInVain, Tells, TellsUnlessLimit, with_missed}
 use Rattle.script_producer.proofs.Seen.{gone-refl}
 use Rattle.cluster_scripts.specs.declared.line.Stop.{Stop}
 use Rattle.cluster_scripts.specs.declared.line.Stop.TheVariants as stop
-use Rattle.cluster_scripts.specs.Lines.{ChangesBy, DoesLine, FindsUnquiet, IsUnquiet, MeetsLimit, StopsBy}
+use Rattle.cluster_scripts.specs.Lines.{ChangesBy, DoesLine, IsOfWait, IsUnquiet, MeetsLimit, StopsBy, WaitsInVain}
 
 -- a line that asks for something at the queues
 pub tells-line : (v : ClusterView) (old new : List QueuePass) (command : Command) (a : Answer) → ((live : List ℕ) → live_after live command ≡ live) → Tells old command a new → DoesLine v old command a v new
@@ -58,10 +58,11 @@ changed-line v w passes command (Err e) none changes = tt
 -- ---- why a line was stopped
 
 pub asked-stops : (command : Command) (v : ClusterView) (old new : List QueuePass) (asked : Result Answer AllocError) (result : Result Answer Stop) → (asked ≡ Ok answer.Limit → MeetsLimit command v old v new)
-    → IfErr result (λ why. (why ≢ stop.NotQuiet) × (why ≡ stop.Limit → asked ≡ Ok answer.Limit)) → IfErr result (λ why. StopsBy why command v old v new)
+    → IfErr result (λ why. (¬ IsOfWait why) × (why ≡ stop.Limit → asked ≡ Ok answer.Limit)) → IfErr result (λ why. StopsBy why command v old v new)
 asked-stops command v old new asked (Ok a) last stops = tt
 asked-stops command v old new asked (Err stop.Limit) last stops = last (stops.1 refl)
-asked-stops command v old new asked (Err stop.NotQuiet) last stops = absurd (stops.0 refl)
+asked-stops command v old new asked (Err stop.NotQuiet) last stops = absurd (stops.0 tt)
+asked-stops command v old new asked (Err stop.Ended) last stops = absurd (stops.0 tt)
 asked-stops command v old new asked (Err stop.Memory) last stops = tt
 
 pub once-last : (old : List QueuePass) (queue : ℕ) (op : Op) (asked : Result Answer AllocError) (new : List QueuePass) → AsksOnce old queue op asked new → asked ≡ Ok answer.Limit → AsksLast old op (Ok answer.Limit) new
@@ -72,19 +73,19 @@ pub each-last : (old : List QueuePass) (op : Op) (asked : Result Answer AllocErr
 each-last old op asked new ends is = subst (λ (r : Result Answer AllocError). EndsAsking old op r new) is ends
 
 pub changed-stops : (command : Command) (v w : ClusterView) (passes : List QueuePass) (result : Result Answer Stop) → (HasMetLimit v.operator w.operator → MeetsLimit command v passes w passes)
-    → IfErr result (λ why. (why ≢ stop.NotQuiet) × (why ≡ stop.Limit → HasMetLimit v.operator w.operator)) → IfErr result (λ why. StopsBy why command v passes w passes)
+    → IfErr result (λ why. (¬ IsOfWait why) × (why ≡ stop.Limit → HasMetLimit v.operator w.operator)) → IfErr result (λ why. StopsBy why command v passes w passes)
 changed-stops command v w passes (Ok a) meets stops = tt
 changed-stops command v w passes (Err stop.Limit) meets stops = meets (stops.1 refl)
-changed-stops command v w passes (Err stop.NotQuiet) meets stops = absurd (stops.0 refl)
+changed-stops command v w passes (Err stop.NotQuiet) meets stops = absurd (stops.0 tt)
+changed-stops command v w passes (Err stop.Ended) meets stops = absurd (stops.0 tt)
 changed-stops command v w passes (Err stop.Memory) meets stops = tt
+
+vain-now : (made : ℕ) (old new : List QueuePass) → LooksInVain made old new → WaitsInVain made old new
+vain-now made old new vain = record { before = old; on = zip-refl HasGoneOn gone-refl old; vain = vain }
 
 pub unquiet-stops : (why : Stop) (v w : ClusterView) (looks : ℕ) (old new : List QueuePass) → looks ≡ v.looks → IsUnquiet why looks old new → StopsBy why command.Drain v old w new
 unquiet-stops stop.Limit v w looks old new same unquiet = unquiet
-unquiet-stops stop.NotQuiet v w looks old new same unquiet = (
-  refl,
-  elim unquiet as (λ s. FindsUnquiet v old new) [
-    | inl none ↦ inl (sym same ∙ none.0)
-    | inr found ↦ inr found
-  ],
-)
+unquiet-stops stop.NotQuiet v w looks old new same unquiet = (refl, vain-now v.looks old new (subst (λ n. LooksInVain n old new) same unquiet))
+unquiet-stops stop.Ended v w looks old new same unquiet =
+    (refl, (unquiet.0, unquiet.1, subst (λ n. unquiet.0 ≤ n) same unquiet.2, vain-now unquiet.0 old new unquiet.3))
 unquiet-stops stop.Memory v w looks old new same unquiet = tt

@@ -1,5 +1,5 @@
 -- How far a script is done.
-use Rattle.std.proofs.Common.{◌≡◌, ◌≢◌, inl, inr, ℕ, zero, suc, ◌+◌, ◌<◌, ◌≤◌, true, false, ◌||◌, Contains, List, [], ◌∷◌, ◌++◌, map, Result, Ok, Err, OnErr, OnOk, length, get_or, refl, sym, ap, subst, ◌∙◌, arith, append_assoc, ◌==◌}
+use Rattle.std.proofs.Common.{◌≡◌, ◌≢◌, ℕ, zero, suc, ◌+◌, ◌<◌, ◌≤◌, true, false, ◌||◌, Contains, List, [], ◌∷◌, ◌++◌, map, Result, Ok, Err, OnErr, OnOk, length, get_or, refl, sym, ap, subst, ◌∙◌, arith, append_assoc, ◌==◌}
 use Rattle.std.proofs.lemmas.Bool.{ne_eqb}
 use Rattle.std.proofs.lemmas.List.{append-nil}
 use Rattle.std.proofs.lemmas.List.Kept.{AllPairs-cons}
@@ -16,7 +16,7 @@ use Rattle.silo_loops.specs.Lines.{QueuePass}
 use Rattle.silo_loops.proofs.Owning.{owns-foreign}
 use Rattle.cluster_callers.specs.Calls.{IsUnused, turnstiles}
 use Rattle.cluster_ending.specs.declared.asking.Quiet.{Quiet}
-use Rattle.cluster_ending.specs.declared.asking.Quiet.TheVariants.{All, NotQuiet}
+use Rattle.cluster_ending.specs.declared.asking.Quiet.TheVariants.{All}
 use Rattle.cluster_ending.proofs.Looking.{turnstiles-length}
 use Rattle.stream_ident.proofs.EachOf.{All-push, All-weaken}
 use Rattle.cluster_ending.proofs.Rows.{all-at, zip-refl, zip-trans}
@@ -43,7 +43,7 @@ use Rattle.script_producer.proofs.Seen.{alone-as, alone-front, asks-foreign, gon
 use Rattle.script_reader.specs.Scripts.{IsRunCommand, IsScript, RisesFrom}
 use Rattle.cluster_scripts.specs.declared.line.Stop.{Stop}
 use Rattle.cluster_scripts.specs.declared.line.Stop.TheVariants as stop
-use Rattle.cluster_scripts.specs.Lines.{DoesLine, FindsUnquiet, HasToldFront, MeetsLimit, StaysOpen, StopsBy, TellsInPart, next_command}
+use Rattle.cluster_scripts.specs.Lines.{DoesLine, HasToldFront, MeetsLimit, StaysOpen, StopsBy, TellsInPart, WaitsInVain, next_command}
 use Rattle.cluster_scripts.specs.Runs.{DoesAll, IsPrinted, IsUntouched, StopsFront, missed_in, with_printed}
 use Rattle.cluster_scripts.proofs.Fronts.{drain-part, none-left}
 
@@ -220,6 +220,9 @@ does lines v old done found w now line a more u new far within is line_does prin
 looks-earlier : (result : Result Quiet Refusal) (old now new : List QueuePass) → AllZip HasGoneOn old now → Looks result now new → Looks result old new
 looks-earlier result old now new on look = record { before = look.before; on = on-all old now look.before on look.on; asks = look.asks }
 
+waits-earlier : (made : ℕ) (old now new : List QueuePass) → AllZip HasGoneOn old now → WaitsInVain made now new → WaitsInVain made old new
+waits-earlier made old now new on waits = record { before = waits.before; on = on-all old now waits.before on waits.on; vain = waits.vain }
+
 last-earlier : (op : Op) (result : Result Answer AllocError) (old now new : List QueuePass) → AllZip HasGoneOn old now → AsksLast now op result new → AsksLast old op result new
 last-earlier op result old now new on last = record { before = last.before; on = on-all old now last.before on last.on; queue = last.queue; asks = last.asks }
 
@@ -235,13 +238,10 @@ limit-earlier command.Report v w u old now new goes on meets = absurd meets
 pub stops-later : (why : Stop) (asked : Command) (lines : List Line) (v : ClusterView) (old : List QueuePass) (done : List Line) (found : List ScriptLine) (w : ClusterView) (now : List QueuePass) (u : ClusterView) (new : List QueuePass)
     → is_fixed v ≡ false → Progress lines v old done found w now → StopsBy why asked w now u new → StopsBy why asked v old u new
 stops-later stop.Limit asked lines v old done found w now u new free far stops = limit-earlier asked v w u old now new far.cluster far.on stops
-stops-later stop.NotQuiet asked lines v old done found w now u new free far stops = (
-  stops.0,
-  elim stops.1 as (λ s. FindsUnquiet v old new) [
-    | inl none ↦ inl (sym (far.stays free).1 ∙ none)
-    | inr look ↦ inr (look.0, look.1, looks-earlier (Ok (NotQuiet look.0 look.1)) old now new far.on look.2)
-  ],
-)
+stops-later stop.NotQuiet asked lines v old done found w now u new free far stops =
+    (stops.0, waits-earlier v.looks old now new far.on (subst (λ n. WaitsInVain n now new) (far.stays free).1 stops.1))
+stops-later stop.Ended asked lines v old done found w now u new free far stops =
+    (stops.0, (stops.1.0, stops.1.1, subst (λ n. stops.1.0 ≤ n) (far.stays free).1 stops.1.2, waits-earlier stops.1.0 old now new far.on stops.1.3))
 stops-later stop.Memory asked lines v old done found w now u new free far stops = tt
 
 -- all lines were done, and then all queues were quiet

@@ -1,14 +1,12 @@
 -- What a line of a script does on a cluster.
-use Rattle.std.specs.Prelude.{◌≡◌, ◌⊎◌, ℕ, ◌<◌, false, List, [], ◌∷◌, ◌++◌, Option, Some, None, Ok, Err, slice_get}
-use Rattle.std.specs.List.{AllByRecursion}
+use Rattle.std.specs.Prelude.{◌≡◌, ◌⊎◌, ℕ, ◌<◌, ◌≤◌, false, List, [], ◌∷◌, ◌++◌, Option, Some, None, Ok, Err, slice_get}
+use Rattle.std.specs.List.{AllByRecursion, AllZip}
 use Rattle.queue_balancer.specs.Balance.{HasNoDoubles}
 use Rattle.stream_model.specs.declared.op.Op.{Op}
-use Rattle.stream_model.specs.declared.reply.Pending.{Pending}
 use Rattle.stream_model.specs.Replies.{Reply}
 use Rattle.stream_model.specs.History as told
 use Rattle.turnstile.specs.declared.turnstile.Refusal.TheVariants.{HistoryFull}
 use Rattle.silo_loops.specs.Lines.{QueuePass}
-use Rattle.cluster_ending.specs.declared.asking.Quiet.TheVariants.{NotQuiet}
 use Rattle.cluster_operator.specs.Operators.{OperatorGoesOn}
 use Rattle.stream_cluster.specs.Clusters.{ClusterView, HasMetLimit, is_fixed}
 use Rattle.script_parser.specs.declared.command.Command.{Command}
@@ -19,7 +17,7 @@ use Rattle.script_reader.specs.ScriptReport.{command_printed, live_after, live_s
 use Rattle.script_reader.specs.Told as script
 use Rattle.script_producer.specs.declared.answer.Answer.{Answer}
 use Rattle.script_producer.specs.declared.answer.Answer.TheVariants as answer
-use Rattle.script_producer.specs.Telling.{AloneProduces, AsksLast, BeginsEmpty, HasTold, IsNewNumber, Looks, LooksInVain, printed_lines, told_at, with_missed}
+use Rattle.script_producer.specs.Telling.{AloneProduces, AsksLast, BeginsEmpty, HasGoneOn, HasTold, IsNewNumber, Looks, LooksAWhile, LooksInVain, printed_lines, told_at, with_missed}
 use Rattle.cluster_scripts.specs.declared.line.Stop.{Stop}
 use Rattle.cluster_scripts.specs.declared.line.Stop.TheVariants as stop
 
@@ -100,18 +98,32 @@ MeetsLimit (command.Up silo) v old w new = HasMetLimit v.operator w.operator
 MeetsLimit (command.Down silo) v old w new = HasMetLimit v.operator w.operator
 MeetsLimit command.Report v old w new = ⊥
 
--- a queue wasn't quiet in the last look, or no look may be had
-abbrev pub FindsUnquiet : ClusterView → List QueuePass → List QueuePass → Type 0
-FindsUnquiet v old new = (v.looks ≡ 0) ⊎ ((queue : ℕ) × (why : Pending) × Looks (Ok (NotQuiet queue why)) old new)
+-- since then a wait has begun, in which so many looks were made in vain
+pub record WaitsInVain (made : ℕ) (old new : List QueuePass) : Type 0 where
+  pub before : List QueuePass
+  pub on : AllZip HasGoneOn old before
+  pub vain : LooksInVain made before new
+
+-- in it there were some looks, and no more than so many
+abbrev pub WaitsAWhile : ℕ → List QueuePass → List QueuePass → Type 0
+WaitsAWhile looks old new = (made : ℕ) × (1 ≤ made) × (made ≤ looks) × WaitsInVain made old new
+
+-- it was a wait that stopped a line
+abbrev pub IsOfWait : Stop → Type 0
+IsOfWait stop.NotQuiet = Unit {0}
+IsOfWait stop.Ended = Unit {0}
+IsOfWait _ = ⊥
 
 -- why a wait didn't find all queues quiet
 abbrev pub IsUnquiet : Stop → ℕ → List QueuePass → List QueuePass → Type 0
 IsUnquiet stop.Limit looks old new = Looks (Err HistoryFull) old new
 IsUnquiet stop.NotQuiet looks old new = LooksInVain looks old new
+IsUnquiet stop.Ended looks old new = LooksAWhile looks old new
 IsUnquiet stop.Memory looks old new = Unit {0}
 
 -- why a line was stopped
 abbrev pub StopsBy : Stop → Command → ClusterView → List QueuePass → ClusterView → List QueuePass → Type 0
 StopsBy stop.Limit asked v old w new = MeetsLimit asked v old w new
-StopsBy stop.NotQuiet asked v old w new = (asked ≡ command.Drain) × FindsUnquiet v old new
+StopsBy stop.NotQuiet asked v old w new = (asked ≡ command.Drain) × WaitsInVain v.looks old new
+StopsBy stop.Ended asked v old w new = (asked ≡ command.Drain) × WaitsAWhile v.looks old new
 StopsBy stop.Memory asked v old w new = Unit {0}

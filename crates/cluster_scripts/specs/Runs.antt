@@ -87,6 +87,7 @@ abbrev pub EndsScript : ScriptEnd → List Line → ClusterView → List QueuePa
 EndsScript end.Done lines v old found w new = (is_fixed v ≡ false) × DoesAll lines v old found w new
 EndsScript end.Limit lines v old found w new = (is_fixed v ≡ false) × StopsFront stop.Limit lines v old found w new
 EndsScript end.NotQuiet lines v old found w new = (is_fixed v ≡ false) × StopsFront stop.NotQuiet lines v old found w new
+EndsScript end.Ended lines v old found w new = (is_fixed v ≡ false) × StopsFront stop.Ended lines v old found w new
 EndsScript end.Halted lines v old found w new = (is_fixed v ≡ true) × DoesNothing v old found w new
 
 -- what `run_script` answers

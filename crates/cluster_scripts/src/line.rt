@@ -9,7 +9,7 @@ ghost use Rattle.script_producer.specs.Telling.{HasGoneOn, LooksQuiet, Tells};
 ghost use Rattle.script_reader.specs.Scripts.{IsRunCommand};
 ghost use Rattle.cluster_operator.specs.Operators.{OperatorGoesOn};
 ghost use Rattle.stream_cluster.specs.Clusters.{HasMetLimit, is_fixed};
-ghost use Rattle.cluster_scripts.specs.Lines.{ChangesBy, DoesLine, IsUnquiet, StopsBy, TellsInPart};
+ghost use Rattle.cluster_scripts.specs.Lines.{ChangesBy, DoesLine, IsOfWait, IsUnquiet, StopsBy, TellsInPart};
 
 use cluster_callers::Caller;
 use script_parser::Command;
@@ -25,8 +25,10 @@ use stream_cluster::{Cluster, SiloDown, SiloUp};
 pub(crate) enum Stop {
     /// A limit is reached.
     Limit,
-    /// Not all queues got quiet.
+    /// In as many looks as there may be not all queues were quiet.
     NotQuiet,
+    /// Not all queues were quiet, and they may never be.
+    Ended,
     /// A call failed to allocate.
     Memory,
 }
@@ -40,7 +42,7 @@ fn up<
 >(rt: &R, alloc: Global, cluster: &mut Cluster<G, H, D>, silo: u8) -> Result<Answer, Stop>
     requires { silo < MOST_SILOS }
     ensures changes { IfOk result (λ told. ChangesBy cluster.old (command.Up silo) told cluster.new) }
-    ensures stops { is_fixed cluster.old ≡ false → IfErr result (λ why. why ≢ Stop.NotQuiet × (why ≡ Stop.Limit → HasMetLimit cluster.old.operator cluster.new.operator)) }
+    ensures stops { is_fixed cluster.old ≡ false → IfErr result (λ why. ¬ IsOfWait why × (why ≡ Stop.Limit → HasMetLimit cluster.old.operator cluster.new.operator)) }
     ensures cluster { OperatorGoesOn cluster.old.operator cluster.new.operator }
 {
     match cluster.silo_up(rt, alloc, silo) {
@@ -61,7 +63,7 @@ fn down<G: Gate, H: QueueHistory, D: DirectoryHistory, R: Threads + Wait>(
 ) -> Result<Answer, Stop>
     requires { silo < MOST_SILOS }
     ensures changes { IfOk result (λ told. ChangesBy cluster.old (command.Down silo) told cluster.new) }
-    ensures stops { is_fixed cluster.old ≡ false → IfErr result (λ why. why ≢ Stop.NotQuiet × (why ≡ Stop.Limit → HasMetLimit cluster.old.operator cluster.new.operator)) }
+    ensures stops { is_fixed cluster.old ≡ false → IfErr result (λ why. ¬ IsOfWait why × (why ≡ Stop.Limit → HasMetLimit cluster.old.operator cluster.new.operator)) }
     ensures cluster { OperatorGoesOn cluster.old.operator cluster.new.operator }
 {
     match cluster.silo_down(rt, alloc, silo) {
@@ -112,7 +114,7 @@ pub(crate) fn do_line<
 // An answer that isn't a limit.
 fn unless_limit(asked: Result<Answer, AllocError>) -> Result<Answer, Stop>
     ensures answered { IfOk result (λ taken. (asked ≡ Ok taken) × (taken ≢ answer.Limit)) }
-    ensures stops { IfErr result (λ why. why ≢ Stop.NotQuiet × (why ≡ Stop.Limit → asked ≡ Ok answer.Limit)) }
+    ensures stops { IfErr result (λ why. ¬ IsOfWait why × (why ≡ Stop.Limit → asked ≡ Ok answer.Limit)) }
 {
     match asked {
         Ok(Answer::Limit) => Err(Stop::Limit),
@@ -137,6 +139,7 @@ pub(crate) fn wait_until_quiet<G: Gate, H: QueueHistory, R: Wait>(
     match drain(rt, alloc, caller, looks) {
         Ok(Drained::Quiet) => Ok(()),
         Ok(Drained::NotQuiet) => Err(Stop::NotQuiet),
+        Ok(Drained::Ended) => Err(Stop::Ended),
         Ok(Drained::Limit) => Err(Stop::Limit),
         Err(_) => Err(Stop::Memory),
     }

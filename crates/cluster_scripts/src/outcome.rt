@@ -120,7 +120,7 @@ fn without_report<H>(end: ScriptEnd, why: Unfinished, traces: Traces<H>) -> RunE
 {
     let why = match end {
         ScriptEnd::Limit | ScriptEnd::Halted => Unfinished::Limit,
-        ScriptEnd::Done | ScriptEnd::NotQuiet => why,
+        ScriptEnd::Done | ScriptEnd::NotQuiet | ScriptEnd::Ended => why,
     };
     RunEnd::Unfinished {
         why,

@@ -26,8 +26,10 @@ pub enum ScriptEnd {
     /// A limit is reached: of a partition's events, subscriptions or rules, or of a history. The line that met it may
     /// be done in part.
     Limit,
-    /// Not all queues got quiet: a loop has ended, or the queues were looked at as often as they may be.
+    /// The queues were looked at as often as they may be, and in each look not all were quiet.
     NotQuiet,
+    /// Not all queues were quiet, and they may never be: a loop has ended.
+    Ended,
     /// The cluster's silos don't change any more, or it is parked. Nothing was done.
     Halted,
 }
@@ -75,6 +77,7 @@ pub fn run_script<
         Ok(()) => ScriptEnd::Done,
         Err(Stop::Limit) => ScriptEnd::Limit,
         Err(Stop::NotQuiet) => ScriptEnd::NotQuiet,
+        Err(Stop::Ended) => ScriptEnd::Ended,
         Err(Stop::Memory) => return Err(AllocError),
     };
     Ok(ScriptRun { printed, end })

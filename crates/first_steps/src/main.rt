@@ -4,7 +4,7 @@
 use anyhow::Result;
 use std::sync::Arc;
 use std::sync::atomic::{AtomicU64, Ordering};
-use streams::{Config, Event, Gate, GrainId, Payload, Service, Start, StreamId, SubName};
+use streams::{Config, Event, Gate, GrainId, Payload, Service, StartFrom, StreamId, SubName};
 
 /// The handler of all desks, and the most letters that one of them was ordered.
 #[derive(Drop)]
@@ -28,7 +28,7 @@ fn main(rt: HostRuntime) -> Result<()> {
     let mut service = Service::open(rt, &Config::new(4, 2), Arc::try_clone(&desks)?)?;
     let stream = StreamId::new(b"orders", b"ann")?;
     let desk = GrainId::new(b"desk", b"ann")?;
-    service.subscribe(stream, desk, Start::Latest)?;
+    service.subscribe(stream, desk, StartFrom::Latest)?;
     service.publish(stream, &[Payload::new(b"tea")?, Payload::new(b"milk")?])?;
     service.settle()?;
     println!(rt; "{} letters", desks.letters.load(Ordering::SeqCst))?;

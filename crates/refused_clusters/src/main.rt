@@ -26,10 +26,11 @@ enum Call {
 }
 
 /// The calls, by their names.
-static CALLS: [(&str, Call); 5] = [
+static CALLS: [(&str, Call); 6] = [
     ("open", Call::Service(Change::Open)),
     ("silo_up", Call::Service(Change::Up)),
     ("silo_down", Call::Service(Change::Down)),
+    ("producer", Call::Service(Change::Producer)),
     ("close", Call::Service(Change::Close)),
     ("retire", Call::Retire),
 ];

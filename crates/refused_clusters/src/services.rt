@@ -5,7 +5,7 @@ use std::alloc::{AllocError, Global};
 use std::sync::Arc;
 use streams::{
     CloseError, Config, Counting, GrainId, Host, Payload, PublishError, Service, SettleError,
-    SiloError, Start, StreamId, SubscribeError,
+    SiloError, StartFrom, StreamId, SubscribeError,
 };
 
 /// The call that is tried.
@@ -17,6 +17,8 @@ pub(crate) enum Change {
     Up,
     /// A silo goes.
     Down,
+    /// A producer is made, and taken back.
+    Producer,
     /// The service is closed.
     Close,
 }
@@ -45,7 +47,7 @@ fn publish<R: Host>(service: &mut Service<R, Counting>) -> Result<(), Stop> {
 fn begin<R: Host>(service: &mut Service<R, Counting>) -> Result<(), Stop> {
     let stream = StreamId::new(b"o", b"k")?;
     let grain = GrainId::new(b"g", b"x")?;
-    match service.subscribe(stream, grain, Start::Latest) {
+    match service.subscribe(stream, grain, StartFrom::Latest) {
         Ok(_subscription) => publish(service),
         Err(SubscribeError::Memory) => Err(Stop::Memory),
         Err(_) => Err(Stop::Wrong("a grain doesn't subscribe")),
@@ -56,7 +58,7 @@ fn begin<R: Host>(service: &mut Service<R, Counting>) -> Result<(), Stop> {
 /// do.
 fn close<R: Host>(mut service: Service<R, Counting>, is_halted: bool) -> Result<(), Stop> {
     match service.settle() {
-        Ok(()) | Err(SettleError::NotQuiet) => {}
+        Ok(()) | Err(SettleError::Ended) => {}
         Err(_) => return Err(Stop::Wrong("a service settles otherwise")),
     }
     match service.close() {
@@ -108,6 +110,18 @@ fn follow_change<R: Host>(
     }
 }
 
+/// A producer is taken back, and the service goes on. Where it was refused, no pass is missing.
+fn follow_producer<R: Host>(mut service: Service<R, Counting>) -> Result<Came, Stop> {
+    match service.producer() {
+        Ok(producer) => {
+            service.take_back(producer);
+            go_on(service, false)?;
+            Ok(Came::Done)
+        }
+        Err(AllocError) => with_memory(go_on(service, false)),
+    }
+}
+
 /// Goes on to a close, and tells whether memory was refused to it or to a loop.
 fn follow_close<R: Host>(mut service: Service<R, Counting>) -> Result<Came, Stop> {
     publish(&mut service)?;
@@ -136,6 +150,7 @@ fn live<R: Host>(rt: R, gate: &Shared, change: Change) -> Result<Came, Stop> {
             let changed = service.silo_down(0);
             follow_change(service, changed)
         }
+        Change::Producer => follow_producer(service),
         Change::Close => follow_close(service),
     }
 }

@@ -1,5 +1,5 @@
 -- Looks at all queues, which ask for nothing that producers ask for.
-use Rattle.std.proofs.Common.{◌≡◌, inl, inr, ℕ, zero, suc, List, [], ◌∷◌, Result, Ok, Err, refl, sym, subst}
+use Rattle.std.proofs.Common.{◌≡◌, ℕ, zero, suc, ◌+◌, List, [], ◌∷◌, Result, Ok, Err, refl, sym, subst, arith}
 use Rattle.std.specs.List.{AllZip}
 use Rattle.stream_model.specs.declared.reply.Pending.{Pending}
 use Rattle.stream_model.specs.Replies.{Reply}
@@ -48,17 +48,12 @@ drain-tells old new all =
       printed = λ begins alone missed lines number fresh has silos. refl;
     }
 
--- the last look, and one that found a queue not quiet
+-- the last look
 pub last-look : (result : Result Quiet Refusal) (old now new : List QueuePass) → AllZip ProducesNone old now → AsksQuiet now result new → Looks result old new
 last-look result old now new so_far asks = record { before = now; on = none-on old now so_far; asks = asks }
 
-pub vain-look : (looks : ℕ) (queue : ℕ) (why : Pending) (end : Quiet) (old now new : List QueuePass) → end ≡ NotQuiet queue why → AllZip ProducesNone old now → AsksQuiet now (Ok end) new → LooksInVain looks old new
-vain-look looks queue why end old now new is so_far asks =
-    inr (queue, why, last-look (Ok (NotQuiet queue why)) old now new so_far (subst (λ (e : Quiet). AsksQuiet now (Ok e) new) is asks))
-
-pub vain-looks : (look looks : ℕ) (old new : List QueuePass) → (look ≡ 0 → looks ≡ 0) → LooksInVain look old new → LooksInVain looks old new
-vain-looks look looks old new none vain =
-    elim vain as (λ s. LooksInVain looks old new) [
-      | inl first ↦ inl (none first.0, first.1)
-      | inr found ↦ inr found
-    ]
+-- one look more in vain
+pub vain-more : (looks : ℕ) (queue : ℕ) (why : Pending) (end : Quiet) (old now new : List QueuePass) → end ≡ NotQuiet queue why → LooksInVain looks old now → AsksQuiet now (Ok end) new → LooksInVain (looks + 1) old new
+vain-more looks queue why end old now new is vain asks =
+    let next : suc looks ≡ looks + 1 = omega arith in
+    subst (λ n. LooksInVain n old new) next (now, vain, (queue, why, subst (λ (e : Quiet). AsksQuiet now (Ok e) new) is asks))

@@ -1,5 +1,5 @@
 -- What the one producer of a script asks, line by line, and what it is told.
-use Rattle.std.specs.Prelude.{◌≡◌, ◌≢◌, ◌⊎◌, ℕ, zero, suc, true, false, List, [], ◌∷◌, ◌++◌, Contains, Some, Result, Ok, Err, slice_get, if◌then◌else◌}
+use Rattle.std.specs.Prelude.{◌≡◌, ◌≢◌, ◌⊎◌, ℕ, zero, suc, ◌≤◌, true, false, List, [], ◌∷◌, ◌++◌, Contains, Some, Result, Ok, Err, slice_get, if◌then◌else◌}
 use Rattle.std.specs.List.{AllByRecursion, AllZip}
 use Rattle.std.specs.declared.alloc.AllocError.{AllocError}
 use Rattle.stream_model.specs.declared.op.Op.{Op}
@@ -168,13 +168,19 @@ pub record Looks (result : Result Quiet Refusal) (old new : List QueuePass) : Ty
 abbrev pub LooksQuiet : List QueuePass → List QueuePass → Type 0
 LooksQuiet old new = Looks (Ok All) old new
 
--- one wasn't quiet in it; where none may be had, nothing was asked
+-- so many looks were made, one after another and nothing else, and in each a queue wasn't quiet
 abbrev pub LooksInVain : ℕ → List QueuePass → List QueuePass → Type 0
-LooksInVain looks old new = ((looks ≡ 0) × (new ≡ old)) ⊎ ((queue : ℕ) × (why : Pending) × Looks (Ok (NotQuiet queue why)) old new)
+LooksInVain zero old new = new ≡ old
+LooksInVain (suc looks) old new = (between : List QueuePass) × LooksInVain looks old between × ((queue : ℕ) × (why : Pending) × AsksQuiet between (Ok (NotQuiet queue why)) new)
+
+-- some were, and no more than so many
+abbrev pub LooksAWhile : ℕ → List QueuePass → List QueuePass → Type 0
+LooksAWhile looks old new = (made : ℕ) × (1 ≤ made) × (made ≤ looks) × LooksInVain made old new
 
 -- how a drain ends that may have so many looks
 abbrev pub EndsLooking : ℕ → List QueuePass → Result Drained AllocError → List QueuePass → Type 0
 EndsLooking looks old (Ok drained.Quiet) new = LooksQuiet old new
 EndsLooking looks old (Ok drained.NotQuiet) new = LooksInVain looks old new
+EndsLooking looks old (Ok drained.Ended) new = LooksAWhile looks old new
 EndsLooking looks old (Ok drained.Limit) new = Looks (Err HistoryFull) old new
 EndsLooking looks old (Err e) new = Looks (Err Memory) old new

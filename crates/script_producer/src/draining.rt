@@ -23,9 +23,11 @@ const MOST_YIELDS: u32 = 5_000;
 pub enum Drained {
     /// In one look at all queues each was quiet.
     Quiet,
-    /// Not all queues got quiet: a loop has ended, a silo went and its queues weren't given to others, not all loops of
-    /// one that came could be started, or there were as many looks as there may be.
+    /// There were as many looks as there may be, and in each a queue wasn't quiet.
     NotQuiet,
+    /// A queue wasn't quiet, and may never be: a loop has ended, a silo went and its queues weren't given to others, or
+    /// not all loops of one that came could be started.
+    Ended,
     /// The history of a queue is full.
     Limit,
 }
@@ -58,7 +60,7 @@ pub fn drain<G: Gate, H: QueueHistory, R: Wait>(
             Err(Refusal::Memory) => return Err(AllocError),
         }
         if caller.doorbell().has_ended() {
-            return Ok(Drained::NotQuiet);
+            return Ok(Drained::Ended);
         }
         caller.doorbell().wait_past(rt, rung, &never);
     }

@@ -1,8 +1,10 @@
-//! Two services over streams, one after the other: orders with a desk for each customer, and the readings of 2,000 devices.
+//! Three services over streams, one after the other: orders with a desk for each customer, the readings of 2,000
+//! devices, and a shop with two tills.
 #![tactic(auto)]
 
 mod devices;
 mod orders;
+mod tills;
 
 use anyhow::Result;
 
@@ -10,5 +12,7 @@ fn main(rt: HostRuntime) -> Result<()> {
     println!(rt; "== Orders")?;
     orders::run(rt)?;
     println!(rt; "\n== Devices")?;
-    devices::run(rt)
+    devices::run(rt)?;
+    println!(rt; "\n== Tills")?;
+    tills::run(rt)
 }

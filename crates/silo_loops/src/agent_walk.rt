@@ -1,5 +1,5 @@
 //! Where an agent is, and what it does next.
-ghost use Rattle.std.specs.Prelude.{◌≡◌, false, true, None};
+ghost use Rattle.std.specs.Prelude.{◌≡◌, ◌≤◌, false, true, None};
 ghost use Rattle.silo_loops.specs.Answers.{end_in};
 ghost use Rattle.silo_loops.specs.Visiting.{GoesOnTo, op_of};
 ghost use Rattle.silo_loops.specs.declared.agent_walk.AgentStep.TheVariants as step;
@@ -80,7 +80,7 @@ impl Visit {
     {
         self.at = at;
         self.last = None;
-        self.laps = LAPS;
+        self.laps = self.most_laps();
         self.pulls = MOST_AGAIN;
         self.step = AgentStep::Pull;
     }
@@ -165,12 +165,20 @@ impl Visit {
         }
     }
 
+    // How often each due subscription is named with nothing changed: once where the round isn't for all queues, since the
+    // agent isn't idle then, whatever it finds.
+    fn most_laps(&self) -> u8
+        ensures { result ≤ 2 }
+    {
+        if self.hinted.is_some() { 1 } else { LAPS }
+    }
+
     // What is left of a lap in which something changed doesn't count.
     fn note_change(&mut self, answer: &Heard)
         ensures { self.new ≡ record self.old { laps = self.new.laps } }
     {
         if answer.is_change() {
-            self.laps = LAPS + 1;
+            self.laps = self.most_laps() + 1;
         }
     }
 

@@ -380,6 +380,14 @@ impl Doorbell {
         }
     }
 
+    // A worker of the silo has looked for a ready grain at the queue. Where it has found one there may be more, so the
+    // silo's other worker is to look there too.
+    pub(crate) fn looked(&self, silo: u8, queue: usize, has_found: bool) {
+        if has_found {
+            self.hint_workers(silo, queue, true);
+        }
+    }
+
     // A worker of the silo has given a permit back.
     pub(crate) fn left<R: Wait>(&self, rt: &R, silo: u8) {
         if let Some(desk) = self.workers(silo) {

@@ -61,8 +61,7 @@ pub(crate) fn look<G: Gate, H: QueueHistory, D: DirectoryHistory, R: Wait>(
     doorbell.hint_workers(own_silo, at, false);
     let answer = hear_at(rt, alloc, doorbell, lines, at, op, events);
     let over = walk.after_look(lines.len(), &answer);
-    // There may be more than one that is ready, so that the silo's other worker looks there too.
-    doorbell.hint_workers(own_silo, at, walk.has_found());
+    doorbell.looked(own_silo, at, walk.has_found());
     over
 }
 
@@ -232,7 +231,7 @@ pub(crate) fn again<G: Gate, H: QueueHistory, D: DirectoryHistory, R: Wait>(
     let op = Op::Ready { after: walk.last };
     let at = walk.at;
     let answer = hear_at(rt, alloc, doorbell, lines, at, op, events);
-    doorbell.hint_workers(own_silo, at, matches!(answer, Heard::Next(_)));
+    doorbell.looked(own_silo, at, matches!(answer, Heard::Next(_)));
     walk.after_again(grain, permit, &answer)
 }
 

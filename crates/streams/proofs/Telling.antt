@@ -5,31 +5,32 @@ use Rattle.stream_model.specs.declared.op.Op.{Op}
 use Rattle.stream_model.specs.Replies.{Reply}
 use Rattle.turnstile.specs.declared.turnstile.Refusal.{Refusal}
 use Rattle.silo_loops.specs.Lines.{QueuePass}
+use Rattle.cluster_callers.specs.Calls.{CallerCalls}
 use Rattle.streams.specs.declared.answers.CallError.{CallError}
 use Rattle.streams.specs.Answers as read
-use Rattle.streams.specs.Services.{Calls, Reads, ServiceView, TellsRule}
+use Rattle.streams.specs.Services.{Reads, TellsRule}
 
 -- a queue took the rule, and those behind it were told it
-pub tells-next : (n queue : ℕ) (op : Op) (new added : Bool) (s mid : ServiceView) (result : Result Bool CallError) (t : ServiceView) → queue < n → Reads read.rule_added s queue op (Ok added) mid → TellsRule (n - (queue + 1)) (queue + 1) op (new || added) mid result t → TellsRule (n - queue) queue op new s result t
-tells-next n queue op new added s mid result t within reads rest =
+pub tells-next : (n queue : ℕ) (op : Op) (so_far added : Bool) (old mid : List QueuePass) (result : Result Bool CallError) (new : List QueuePass) → queue < n → Reads read.rule_added old queue op (Ok added) mid → TellsRule (n - (queue + 1)) (queue + 1) op (so_far || added) mid result new → TellsRule (n - queue) queue op so_far old result new
+tells-next n queue op so_far added old mid result new within reads rest =
     let more : n - queue ≡ suc (n - (queue + 1)) = omega arith in
     let next : queue + 1 ≡ suc queue = omega arith in
-    let told = subst (λ (k : ℕ). TellsRule (n - (queue + 1)) k op (new || added) mid result t) next rest in
-    subst (λ (k : ℕ). TellsRule k queue op new s result t) (sym more) (inr (added, mid, reads, told))
+    let told = subst (λ (k : ℕ). TellsRule (n - (queue + 1)) k op (so_far || added) mid result new) next rest in
+    subst (λ (k : ℕ). TellsRule k queue op so_far old result new) (sym more) (inr (added, mid, reads, told))
 
 -- a queue refused the rule
-pub tells-refused : (n queue : ℕ) (op : Op) (new : Bool) (s : ServiceView) (e : CallError) (t : ServiceView) → queue < n → Reads read.rule_added s queue op (Err e) t → TellsRule (n - queue) queue op new s (Err e) t
-tells-refused n queue op new s e t within reads =
+pub tells-refused : (n queue : ℕ) (op : Op) (so_far : Bool) (old : List QueuePass) (e : CallError) (new : List QueuePass) → queue < n → Reads read.rule_added old queue op (Err e) new → TellsRule (n - queue) queue op so_far old (Err e) new
+tells-refused n queue op so_far old e new within reads =
     let more : n - queue ≡ suc (n - suc queue) = omega arith in
-    subst (λ (k : ℕ). TellsRule k queue op new s (Err e) t) (sym more) (inl (e, reads, refl))
+    subst (λ (k : ℕ). TellsRule k queue op so_far old (Err e) new) (sym more) (inl (e, reads, refl))
 
 -- no queue is left
-pub tells-none : (n queue : ℕ) (op : Op) (new : Bool) (s : ServiceView) → n ≤ queue → TellsRule (n - queue) queue op new s (Ok new) s
-tells-none n queue op new s past =
+pub tells-none : (n queue : ℕ) (op : Op) (so_far : Bool) (old : List QueuePass) → n ≤ queue → TellsRule (n - queue) queue op so_far old (Ok so_far) old
+tells-none n queue op so_far old past =
     let none : n - queue ≡ zero = omega arith in
-    subst (λ (k : ℕ). TellsRule k queue op new s (Ok new) s) (sym none) (refl, refl)
+    subst (λ (k : ℕ). TellsRule k queue op so_far old (Ok so_far) old) (sym none) (refl, refl)
 
 -- a call changes no number of queues
-pub calls-long : (s : ServiceView) (queue : ℕ) (op : Op) (answer : Result Reply Refusal) (t : ServiceView) → Calls s queue op answer t → length t.caller ≡ length s.caller
-calls-long s queue op answer t calls =
-    ap (λ (ps : List QueuePass). length ps) calls.calls.whole ∙ length-set s.caller queue calls.calls.is
+pub calls-long : (old : List QueuePass) (queue : ℕ) (op : Op) (answer : Result Reply Refusal) (new : List QueuePass) → CallerCalls old queue op answer new → length new ≡ length old
+calls-long old queue op answer new calls =
+    ap (λ (ps : List QueuePass). length ps) calls.whole ∙ length-set old queue calls.is

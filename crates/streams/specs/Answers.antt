@@ -1,9 +1,12 @@
 -- How what the calls of a service answer is read from the replies of a queue and of a cluster.
-use Rattle.std.specs.Prelude.{ℕ, Bool, true, false, Option, Some, None, Result, Ok, Err}
+use Rattle.std.specs.Prelude.{ℕ, Bool, true, false, Option, Some, None, Result, Ok, Err, if◌then◌else◌}
 use Rattle.std.specs.declared.alloc.AllocError.{AllocError}
 use Rattle.stream_ident.specs.declared.ident.SubName.{SubName}
 use Rattle.stream_ident.specs.declared.ident.SubName.TheVariants.{Explicit}
-use Rattle.stream_ident.specs.declared.token.Token.{Token}
+use Rattle.stream_ident.specs.declared.ident.StreamId.{StreamId}
+use Rattle.stream_ident.specs.Name.{same_stream}
+use Rattle.stream_model.specs.declared.op.Start.{Start}
+use Rattle.stream_model.specs.declared.op.Start.TheVariants as start
 use Rattle.stream_model.specs.declared.reply.Pending.{Pending}
 use Rattle.stream_model.specs.Replies.{Reply}
 use Rattle.stream_model.specs.declared.reply.Reply.TheVariants as reply
@@ -28,6 +31,9 @@ use Rattle.streams.specs.declared.answers.SettleError.{SettleError}
 use Rattle.streams.specs.declared.answers.SettleError.TheVariants as settle
 use Rattle.streams.specs.declared.answers.SiloError.{SiloError}
 use Rattle.streams.specs.declared.answers.SiloError.TheVariants as silo
+use Rattle.streams.specs.declared.answers.StartFrom.{StartFrom}
+use Rattle.streams.specs.declared.answers.StartFrom.TheVariants as from
+use Rattle.streams.specs.declared.answers.StreamToken.{StreamToken}
 use Rattle.streams.specs.declared.answers.SubscribeError.{SubscribeError}
 use Rattle.streams.specs.declared.answers.SubscribeError.TheVariants as subscribe
 use Rattle.streams.specs.declared.answers.Subscription.{Subscription}
@@ -38,13 +44,19 @@ use Rattle.streams.specs.declared.answers.UnsubscribeError.TheVariants as unsubs
 abbrev pub name_of : Subscription → SubName
 name_of s = Explicit s.number
 
--- the token of the first event of a batch; the other reply to a publish says that the queue is full
-abbrev pub published : Result Reply Refusal → Result Token PublishError
-published (Ok (reply.Published seq)) = Ok (record { seq = seq; idx = 0 })
-published (Ok reply.BadBatch) = Err publish.BadBatch
-published (Ok other) = Err publish.Limit
-published (Err HistoryFull) = Err publish.Limit
-published (Err Memory) = Err publish.Memory
+-- the start that the queue of a stream is asked for; none at an event of another stream
+abbrev pub start_for : StreamId → StartFrom → Option Start
+start_for stream from.Latest = Some start.Latest
+start_for stream (from.At first) = if same_stream first.stream stream then Some (start.At first.token) else None
+start_for stream (from.Token token) = Some (start.At token)
+
+-- the first event of a batch; the other reply to a publish says that the queue is full
+abbrev pub published : StreamId → Result Reply Refusal → Result StreamToken PublishError
+published stream (Ok (reply.Published seq)) = Ok (record { stream = stream; token = record { seq = seq; idx = 0 } })
+published stream (Ok reply.BadBatch) = Err publish.BadBatch
+published stream (Ok other) = Err publish.Limit
+published stream (Err HistoryFull) = Err publish.Limit
+published stream (Err Memory) = Err publish.Memory
 
 -- a subscription at a queue; the other reply to a subscribe says that there are too many
 abbrev pub subscribed : ℕ → Result Reply Refusal → Result Subscription SubscribeError
@@ -81,6 +93,7 @@ pending_of (Err Memory) = Err call.Memory
 abbrev pub settled : Result Drained AllocError → Result Unit SettleError
 settled (Ok drained.Quiet) = Ok tt
 settled (Ok drained.NotQuiet) = Err settle.NotQuiet
+settled (Ok drained.Ended) = Err settle.Ended
 settled (Ok drained.Limit) = Err settle.Limit
 settled (Err e) = Err settle.Memory
 

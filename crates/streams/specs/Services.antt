@@ -1,10 +1,9 @@
 -- What a contract sees of a service, and what each of its calls does.
-use Rattle.std.specs.Prelude.{◌≡◌, ◌⊎◌, ℕ, zero, suc, ◌≤◌, Bool, false, ◌||◌, List, [], ◌∷◌, length, Option, Result, Ok, Err}
+use Rattle.std.specs.Prelude.{◌≡◌, ◌⊎◌, ℕ, zero, suc, ◌≤◌, Bool, false, ◌||◌, List, [], ◌∷◌, length, Option, Some, None, Result, Ok, Err}
 use Rattle.std.specs.List.{AllZip}
 use Rattle.std.specs.declared.alloc.AllocError.{AllocError}
 use Rattle.stream_ident.specs.declared.ident.GrainId.{GrainId}
 use Rattle.stream_ident.specs.declared.ident.StreamId.{StreamId}
-use Rattle.stream_ident.specs.declared.token.Token.{Token}
 use Rattle.stream_ident.specs.declared.limits.TheConstants.{MOST_SILOS}
 use Rattle.stream_model.specs.declared.op.Op.{Op}
 use Rattle.stream_model.specs.declared.op.Op.TheVariants as op
@@ -36,7 +35,10 @@ use Rattle.streams.specs.declared.answers.PublishError.TheVariants as publish
 use Rattle.streams.specs.declared.answers.SettleError.{SettleError}
 use Rattle.streams.specs.declared.answers.SiloError.{SiloError}
 use Rattle.streams.specs.declared.answers.SiloError.TheVariants as silos
+use Rattle.streams.specs.declared.answers.StartFrom.{StartFrom}
+use Rattle.streams.specs.declared.answers.StreamToken.{StreamToken}
 use Rattle.streams.specs.declared.answers.SubscribeError.{SubscribeError}
+use Rattle.streams.specs.declared.answers.SubscribeError.TheVariants as subscribe
 use Rattle.streams.specs.declared.answers.Subscription.{Subscription}
 use Rattle.streams.specs.declared.answers.UnsubscribeError.{UnsubscribeError}
 use Rattle.streams.specs.declared.answers.UnsubscribeError.TheVariants as unsubscribe
@@ -56,64 +58,64 @@ pub record IsService (s : ServiceView) : Type 0 where
 abbrev pub IsNewService : Config → ServiceView → Type 0
 IsNewService config s = IsNew config s.cluster s.caller
 
--- the queue of a stream
-abbrev pub queue_of : ServiceView → StreamId → ℕ
-queue_of s stream = (place_of stream (length s.caller)).queue
+-- a producer's passes are at the turnstiles of the service's queues
+abbrev pub IsProducerOf : ServiceView → List QueuePass → Type 0
+IsProducerOf s passes = turnstiles passes ≡ turnstiles s.caller
 
--- one call at a queue, which was answered so; the cluster itself is as before
-pub record Calls (s : ServiceView) (queue : ℕ) (op : Op) (answer : Result Reply Refusal) (t : ServiceView) : Type 0 where
-  pub cluster : t.cluster ≡ s.cluster
-  pub calls : CallerCalls s.caller queue op answer t.caller
+-- the queue of a stream, for a caller that has these passes
+abbrev pub queue_of : List QueuePass → StreamId → ℕ
+queue_of passes stream = (place_of stream (length passes)).queue
 
 -- one call at a queue, from whose answer the result is read
-pub record Reads {T : Type 0} (read : Result Reply Refusal → T) (s : ServiceView) (queue : ℕ) (op : Op) (result : T) (t : ServiceView) : Type 0 where
+pub record Reads {T : Type 0} (read : Result Reply Refusal → T) (old : List QueuePass) (queue : ℕ) (op : Op) (result : T) (new : List QueuePass) : Type 0 where
   pub answer : Result Reply Refusal
-  pub calls : Calls s queue op answer t
+  pub calls : CallerCalls old queue op answer new
   pub is : result ≡ read answer
 
 -- A batch was published at its stream's queue, or was refused there. Or nothing was done: there was no memory for it.
-abbrev pub Publishes : ServiceView → StreamId → List (List ℕ) → Result Token PublishError → ServiceView → Type 0
-Publishes s stream payloads result t =
-    Reads read.published s (queue_of s stream) (op.Publish stream payloads) result t ⊎ ((result ≡ Err publish.Memory) × (t ≡ s))
+abbrev pub Publishes : List QueuePass → StreamId → List (List ℕ) → Result StreamToken PublishError → List QueuePass → Type 0
+Publishes old stream payloads result new =
+    Reads (read.published stream) old (queue_of old stream) (op.Publish stream payloads) result new ⊎ ((result ≡ Err publish.Memory) × (new ≡ old))
 
-abbrev pub Subscribes : ServiceView → StreamId → GrainId → Start → Result Subscription SubscribeError → ServiceView → Type 0
-Subscribes s stream grain start result t =
-    Reads (read.subscribed (queue_of s stream)) s (queue_of s stream) (op.Subscribe stream grain start) result t
+-- a subscription was asked for at its stream's queue, or nothing was done: the start is an event of another stream
+abbrev pub Subscribes : List QueuePass → StreamId → GrainId → StartFrom → Result Subscription SubscribeError → List QueuePass → Type 0
+Subscribes old stream grain from result new =
+    ((start : Start) × (read.start_for stream from ≡ Some start) × Reads (read.subscribed (queue_of old stream)) old (queue_of old stream) (op.Subscribe stream grain start) result new)
+    ⊎ ((read.start_for stream from ≡ None) × (result ≡ Err subscribe.OtherStream) × (new ≡ old))
 
--- no queue has this number, and nothing was done
-pub record HasNoQueue {T E : Type 0} (s : ServiceView) (queue : ℕ) (e : E) (result : Result T E) (t : ServiceView) : Type 0 where
-  pub past : length s.caller ≤ queue
+-- no queue has this number, and nothing was asked
+pub record HasNoQueue {T E : Type 0} (old : List QueuePass) (queue : ℕ) (e : E) (result : Result T E) (new : List QueuePass) : Type 0 where
+  pub past : length old ≤ queue
   pub refused : result ≡ Err e
-  pub same : t ≡ s
+  pub same : new ≡ old
 
-abbrev pub Unsubscribes : ServiceView → Subscription → Result ℕ UnsubscribeError → ServiceView → Type 0
-Unsubscribes s sub result t =
-    Reads read.unsubscribed s sub.queue (op.Unsubscribe (read.name_of sub)) result t ⊎ HasNoQueue s sub.queue unsubscribe.NoSuch result t
+abbrev pub Unsubscribes : List QueuePass → Subscription → Result ℕ UnsubscribeError → List QueuePass → Type 0
+Unsubscribes old sub result new =
+    Reads read.unsubscribed old sub.queue (op.Unsubscribe (read.name_of sub)) result new ⊎ HasNoQueue old sub.queue unsubscribe.NoSuch result new
 
 -- what is left to do at a queue was asked there
-abbrev pub AsksPending : ServiceView → ℕ → Result (Option Pending) CallError → ServiceView → Type 0
-AsksPending s queue result t = Reads read.pending_of s queue op.Quiet result t ⊎ HasNoQueue s queue call.NoQueue result t
+abbrev pub AsksPending : List QueuePass → ℕ → Result (Option Pending) CallError → List QueuePass → Type 0
+AsksPending old queue result new = Reads read.pending_of old queue op.Quiet result new ⊎ HasNoQueue old queue call.NoQueue result new
 
 -- From this queue on so many were told the rule, or as many until one refused it: then the result is that refusal, and
 -- else it says whether it was new so far or at one of these.
-abbrev pub TellsRule : ℕ → ℕ → Op → Bool → ServiceView → Result Bool CallError → ServiceView → Type 0
-TellsRule zero queue op new s result t = (result ≡ Ok new) × (t ≡ s)
-TellsRule (suc more) queue op new s result t =
-    ((e : CallError) × Reads read.rule_added s queue op (Err e) t × (result ≡ Err e))
-    ⊎ ((added : Bool) × (mid : ServiceView) × Reads read.rule_added s queue op (Ok added) mid × TellsRule more (suc queue) op (new || added) mid result t)
+abbrev pub TellsRule : ℕ → ℕ → Op → Bool → List QueuePass → Result Bool CallError → List QueuePass → Type 0
+TellsRule zero queue op so_far old result new = (result ≡ Ok so_far) × (new ≡ old)
+TellsRule (suc more) queue op so_far old result new =
+    ((e : CallError) × Reads read.rule_added old queue op (Err e) new × (result ≡ Err e))
+    ⊎ ((added : Bool) × (mid : List QueuePass) × Reads read.rule_added old queue op (Ok added) mid × TellsRule more (suc queue) op (so_far || added) mid result new)
 
 -- each queue was told the rule, or as many until one refused it
-abbrev pub AddsRule : ServiceView → List ℕ → List ℕ → Result Bool CallError → ServiceView → Type 0
-AddsRule s kind namespace result t = TellsRule (length s.caller) 0 (op.AddRule kind namespace) false s result t
+abbrev pub AddsRule : List QueuePass → List ℕ → List ℕ → Result Bool CallError → List QueuePass → Type 0
+AddsRule old kind namespace result new = TellsRule (length old) 0 (op.AddRule kind namespace) false old result new
 
--- The queues were looked at until all were quiet in one look, or until that was given up. Each pass has seen as much as
--- before, and more.
-pub record Settles (s : ServiceView) (result : Result Unit SettleError) (t : ServiceView) : Type 0 where
+-- The queues were looked at until all were quiet in one look, or until that was given up after so many looks at most.
+-- Each pass has seen as much as before, and more.
+pub record Settles (looks : ℕ) (old : List QueuePass) (result : Result Unit SettleError) (new : List QueuePass) : Type 0 where
   pub end : Result Drained AllocError
   pub is : result ≡ read.settled end
-  pub ends : EndsLooking s.cluster.looks s.caller end t.caller
-  pub on : AllZip HasGoneOn s.caller t.caller
-  pub cluster : t.cluster ≡ s.cluster
+  pub ends : EndsLooking looks old end new
+  pub on : AllZip HasGoneOn old new
 
 -- no silo has this number, and nothing was done
 pub record HasNoSilo (s : ServiceView) (silo : ℕ) (result : Result Unit SiloError) (t : ServiceView) : Type 0 where

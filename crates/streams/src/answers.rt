@@ -7,8 +7,8 @@ use script_producer::Drained;
 use std::alloc::AllocError;
 use step_core::{Answer, Partition, Reply};
 use stream_cluster::{SiloDown, SiloUp};
-use stream_ident::{SubName, Token};
-use stream_model::Pending;
+use stream_ident::{StreamId, SubName, Token};
+use stream_model::{Pending, Start};
 use thiserror::Error;
 use turnstile::Refusal;
 
@@ -27,6 +27,41 @@ impl Subscription {
         ensures { result ≡ read.name_of self.now }
     {
         SubName::Explicit(self.number)
+    }
+}
+
+/// The token of an event with the stream of that event.
+#[derive(Clone, Copy, Debug, PartialEq, Eq)]
+pub struct StreamToken {
+    /// The stream.
+    pub stream: StreamId,
+    /// The token of the event at the queue of the stream.
+    pub token: Token,
+}
+
+/// Where a subscription to a stream starts.
+#[derive(Clone, Copy, Debug, PartialEq, Eq)]
+pub enum StartFrom {
+    /// With the first batch that is accepted after it.
+    Latest,
+    /// With the first event whose token isn't less than that of an event of the same stream.
+    At(StreamToken),
+    /// With the first event whose token isn't less than this one, which may be that of an event of another stream at
+    /// the same queue.
+    Token(Token),
+}
+
+impl StartFrom {
+    /// The start that the queue of a stream is asked for. There is none at an event of another stream.
+    pub(crate) fn start_for(&self, stream: &StreamId) -> Option<Start>
+        ensures { result ≡ read.start_for stream.now self.now }
+    {
+        match self {
+            StartFrom::Latest => Some(Start::Latest),
+            StartFrom::At(first) if first.stream == *stream => Some(Start::At(first.token)),
+            StartFrom::At(_) => None,
+            StartFrom::Token(token) => Some(Start::At(*token)),
+        }
     }
 }
 
@@ -72,8 +107,8 @@ pub enum PublishError {
 /// Why a subscription isn't made.
 #[derive(Clone, Copy, Debug, PartialEq, Eq, Error)]
 pub enum SubscribeError {
-    /// The start token is below that of the first event that the cache keeps. A subscribe from `low` or from
-    /// `Start::Latest` may be tried instead; the low token may have risen by then.
+    /// The start token is below that of the first event that the cache keeps. A subscribe from the token `low` or from
+    /// `StartFrom::Latest` may be tried instead; the low token may have risen by then.
     #[error("the cache keeps no event before {}.{}", low.seq, low.idx)]
     Miss {
         /// The token of the first event that the cache keeps.
@@ -81,6 +116,9 @@ pub enum SubscribeError {
         /// The token after the last event that the cache has.
         high: Token,
     },
+    /// The subscription was to start at an event of another stream. Nothing was asked.
+    #[error("the start is an event of another stream")]
+    OtherStream,
     /// The queue has as many subscriptions as it may have, closed and implicit ones counted, or its history is full.
     #[error("a limit of the queue is reached")]
     Limit,
@@ -109,10 +147,13 @@ pub enum UnsubscribeError {
 /// Why a service doesn't settle.
 #[derive(Clone, Copy, Debug, PartialEq, Eq, Error)]
 pub enum SettleError {
-    /// Not all queues got quiet: a loop has ended, a silo went and its queues weren't given to others, not all loops of
-    /// one that came could be started, or there were as many looks at the queues as `Config::looks` says.
+    /// There were as many looks at the queues as `Config::looks` says, and in each a queue wasn't quiet.
     #[error("not all queues get quiet")]
     NotQuiet,
+    /// A queue wasn't quiet, and may never be: a loop has ended, a silo went and its queues weren't given to others, or
+    /// not all loops of one that came could be started.
+    #[error("a loop has ended, and not all queues are quiet")]
+    Ended,
     /// The history of a queue is full.
     #[error("a limit of a queue is reached")]
     Limit,
@@ -163,8 +204,8 @@ pub enum CloseError {
     /// A loop has come to a limit, or has made as many rounds as it may, or the history of a queue is full.
     #[error("a limit of a queue or of a loop is reached")]
     Limit,
-    /// A pass at a queue is missing, or a turnstile is still in use. A service hands neither out, so no run is known to
-    /// meet this.
+    /// A pass at a queue is missing, or a turnstile is still in use, as where a [`Producer`](crate::Producer) wasn't
+    /// handed back. No other run is known to meet this.
     #[error("a pass at a queue is missing, or its turnstile is in use")]
     NotAll,
     /// The call failed to allocate, or a loop failed to before.
@@ -172,13 +213,19 @@ pub enum CloseError {
     Memory,
 }
 
-// The token of the first event of a batch, by the reply to its publish.
-pub(crate) fn published(reply: Result<Answer, Refusal>) -> Result<Token, PublishError>
-    ensures { result ≡ read.published reply }
+// The first event of a batch, by the reply to its publish.
+pub(crate) fn published(
+    stream: StreamId,
+    reply: Result<Answer, Refusal>,
+) -> Result<StreamToken, PublishError>
+    ensures { result ≡ read.published stream reply }
 {
     match reply {
         Ok(answer) => match answer.outcome() {
-            Reply::Published { seq } => Ok(Token { seq: *seq, idx: 0 }),
+            Reply::Published { seq } => Ok(StreamToken {
+                stream,
+                token: Token { seq: *seq, idx: 0 },
+            }),
             Reply::BadBatch => Err(PublishError::BadBatch),
             _ => Err(PublishError::Limit),
         },
@@ -262,6 +309,7 @@ pub(crate) fn settled(drained: Result<Drained, AllocError>) -> Result<(), Settle
     match drained {
         Ok(Drained::Quiet) => Ok(()),
         Ok(Drained::NotQuiet) => Err(SettleError::NotQuiet),
+        Ok(Drained::Ended) => Err(SettleError::Ended),
         Ok(Drained::Limit) => Err(SettleError::Limit),
         Err(_) => Err(SettleError::Memory),
     }

@@ -3,26 +3,34 @@
 //! A [`Service`] has queues, and silos that are threads: it publishes to streams, subscribes grains, and is closed with
 //! a report and what is left of each partition. A [`Gate`] has the handler, which is called for each event of a turn.
 //!
-//! A service is a [`Cluster`] with its first [`Caller`]. Whoever publishes from several threads makes these two by
-//! [`UntracedCluster::new`](Cluster::new): [`Caller::split`] gives a caller for another thread, which publishes by
+//! A service is a [`Cluster`] with its first [`Caller`]. [`Service::producer`] gives a [`Producer`], which publishes in
+//! another thread, and [`Service::take_back`] takes it in again.
+//!
+//! Whoever does more than publish from several threads makes a cluster and its caller by
+//! [`UntracedCluster::new`](Cluster::new): [`Caller::split`] gives a caller for another thread, which asks by
 //! [`Caller::call`] at the queue that [`queue`]`(&stream, caller.queues())` gives, or by [`Caller::ask`], whose small
 //! [`Answer`] stands for the [`Reply`]. [`Caller::join`] takes a caller in again, and [`Cluster::finish`] ends the
 //! cluster with all callers that are left.
+//!
+//! [`Encode`] and [`Decode`] put values into payloads and read them again.
 //!
 //! What a call of a service promises is proved here: what it asks, at which queue, and how its answer is read from the
 //! reply. What the others promise stands in the crate that each comes from, and is proved there.
 #![tactic(auto)]
 
 mod answers;
+mod producer;
 mod service;
+mod values;
 
 pub use activation_directory::{DirectoryOp, DirectoryReply};
 pub use answers::{
-    CallError, CloseError, Closed, PublishError, SettleError, SiloError, SubscribeError,
-    Subscription, UnsubscribeError,
+    CallError, CloseError, Closed, PublishError, SettleError, SiloError, StartFrom, StreamToken,
+    SubscribeError, Subscription, UnsubscribeError,
 };
 pub use cluster_callers::{Caller, QueueCaller};
 pub use cluster_ending::{Finished, Traces};
+pub use producer::Producer;
 pub use queue_mapper::queue;
 pub use script_producer::{Drained, drain};
 pub use service::{Host, Service};
@@ -37,6 +45,7 @@ pub use stream_ident::{
 };
 pub use stream_model::{DrainEnd, Events, Limits, Op, Pending, Reply, Start};
 pub use turnstile::{Asked, AskedHistory, Entry, ProofHistory, Refusal, Replays, StoredHistory};
+pub use values::{Decode, Encode, NoValue};
 
 /// A cluster whose histories take no memory: only proofs see them. That is the one for a service that stays up; its
 /// limits are those that [`Config::new`] names.

@@ -1,13 +1,15 @@
 //! A cluster with its first caller, as a service uses it.
 ghost use Rattle.std.specs.Prelude.{◌≡◌, ◌<◌, ◌≤◌, length, IfOk};
 ghost use Rattle.stream_cluster.specs.Clusters.{IsConfig};
-ghost use Rattle.streams.specs.Services.{AddsRule, AsksPending, Calls, ChangesDown, ChangesUp, Closes, IsNewService, Publishes, Settles, Subscribes, Unsubscribes, queue_of};
+ghost use Rattle.cluster_callers.specs.Calls.{CallerCalls, CallerSplits, JoinsAll, joined_passes, turnstiles};
+ghost use Rattle.streams.specs.Services.{AddsRule, AsksPending, ChangesDown, ChangesUp, Closes, IsNewService, IsProducerOf, Publishes, Settles, Subscribes, Unsubscribes, queue_of};
 
 use crate::answers::{
-    CallError, CloseError, Closed, PublishError, SettleError, SiloError, SubscribeError,
-    Subscription, UnsubscribeError, came, closing, pending_of, published, rule_added, settled,
+    CallError, CloseError, Closed, PublishError, SettleError, SiloError, StartFrom, StreamToken,
+    SubscribeError, Subscription, UnsubscribeError, came, closing, pending_of, rule_added, settled,
     subscribed, unsubscribed, went,
 };
+use crate::producer::{Producer, ask, publish};
 use crate::{UntracedCaller, UntracedCluster};
 use queue_mapper::queue;
 use script_producer::drain;
@@ -19,8 +21,8 @@ use std::sync::{Arc, Wait};
 use std::thread::Threads;
 use step_core::Answer;
 use stream_cluster::Config;
-use stream_ident::{Batch, GrainId, MOST_SILOS, Name, Payload, StreamId, Token};
-use stream_model::{Op, Pending, Start};
+use stream_ident::{GrainId, MOST_SILOS, Name, Payload, StreamId};
+use stream_model::{Op, Pending};
 use turnstile::Refusal;
 
 /// A runtime that allocates, starts threads and waits for them in any thread, as the one that `main` has.
@@ -92,25 +94,57 @@ impl<R: Host, G: Gate + 'static> Service<R, G> {
 
     /// The queue of a stream.
     pub fn queue_of(&self, stream: &StreamId) -> usize
-        ensures place { result ≡ queue_of self.now stream.now }
+        ensures place { result ≡ queue_of self.now.caller stream.now }
         ensures queue { result < length self.now.caller }
     {
         queue(stream, self.caller.queues())
     }
 
-    /// Publishes a batch of 1 to 64 payloads to a stream, and gives the token of its first event. A subscription to the
-    /// stream that starts at it begins with this batch, unless its first event has left the cache.
+    /// Publishes a batch of 1 to 64 payloads to a stream, and gives the token of its first event. A subscription to
+    /// the stream that starts at it begins with this batch, unless its first event has left the cache.
     ///
     /// # Errors
     /// They are those of [`PublishError`]. Nothing was published.
-    pub fn publish(&mut self, stream: StreamId, payloads: &[Payload]) -> Result<Token, PublishError>
-        ensures { Publishes self.old stream payloads.now result self.new }
+    pub fn publish(
+        &mut self,
+        stream: StreamId,
+        payloads: &[Payload],
+    ) -> Result<StreamToken, PublishError>
+        ensures publishes { Publishes self.old.caller stream payloads.now result self.new.caller }
+        ensures cluster { self.new.cluster ≡ self.old.cluster }
+        ensures turnstiles { turnstiles self.new.caller ≡ turnstiles self.old.caller }
     {
-        let Ok(payloads) = Vec::from_slice(self.rt.alloc(), payloads) else {
-            return Err(PublishError::Memory);
-        };
-        let payloads = Batch::of(payloads);
-        published(self.ask(self.queue_of(&stream), Op::Publish { stream, payloads }))
+        publish(&self.rt, &mut self.caller, stream, payloads)
+    }
+
+    /// What publishes to this service from another thread. It has seen as much as the service has, and has published
+    /// nothing.
+    ///
+    /// Hand it back by [`take_back`](Service::take_back) before [`close`](Service::close), which answers `NotAll` while
+    /// one is out.
+    ///
+    /// # Errors
+    /// The call failed to allocate, or 2^32 passes of a queue were made. The service is as before: what was split off
+    /// is joined again.
+    pub fn producer(&mut self) -> Result<Producer<R, G>, AllocError>
+        ensures splits { CallerSplits self.old.caller result self.new.caller }
+        ensures producer { IfOk result (IsProducerOf self.new) }
+        ensures cluster { self.new.cluster ≡ self.old.cluster }
+        ensures turnstiles { turnstiles self.new.caller ≡ turnstiles self.old.caller }
+    {
+        let caller = self.caller.split(self.rt.alloc())?;
+        Ok(Producer::new(self.rt, caller))
+    }
+
+    /// Takes a producer in again, with all that it has seen. It takes no memory.
+    pub fn take_back(&mut self, producer: Producer<R, G>)
+        requires { IsProducerOf self.old producer }
+        ensures joined { self.new.caller ≡ joined_passes self.old.caller producer }
+        ensures agree { JoinsAll self.old.caller producer self.new.caller }
+        ensures cluster { self.new.cluster ≡ self.old.cluster }
+        ensures turnstiles { turnstiles self.new.caller ≡ turnstiles self.old.caller }
+    {
+        self.caller.join(producer.into_caller());
     }
 
     /// Subscribes a grain to a stream.
@@ -121,10 +155,15 @@ impl<R: Host, G: Gate + 'static> Service<R, G> {
         &mut self,
         stream: StreamId,
         grain: GrainId,
-        start: Start,
+        from: StartFrom,
     ) -> Result<Subscription, SubscribeError>
-        ensures { Subscribes self.old stream grain start result self.new }
+        ensures subscribes { Subscribes self.old.caller stream grain from result self.new.caller }
+        ensures cluster { self.new.cluster ≡ self.old.cluster }
+        ensures turnstiles { turnstiles self.new.caller ≡ turnstiles self.old.caller }
     {
+        let Some(start) = from.start_for(&stream) else {
+            return Err(SubscribeError::OtherStream);
+        };
         let queue = self.queue_of(&stream);
         let op = Op::Subscribe {
             stream,
@@ -140,7 +179,9 @@ impl<R: Host, G: Gate + 'static> Service<R, G> {
     /// # Errors
     /// They are those of [`UnsubscribeError`]. Nothing has changed.
     pub fn unsubscribe(&mut self, subscription: &Subscription) -> Result<usize, UnsubscribeError>
-        ensures { Unsubscribes self.old subscription.now result self.new }
+        ensures unsubscribes { Unsubscribes self.old.caller subscription.now result self.new.caller }
+        ensures cluster { self.new.cluster ≡ self.old.cluster }
+        ensures turnstiles { turnstiles self.new.caller ≡ turnstiles self.old.caller }
     {
         let queue = subscription.queue;
         if queue >= self.queues() {
@@ -158,7 +199,9 @@ impl<R: Host, G: Gate + 'static> Service<R, G> {
     /// to allocate there. The queues before it have the rule, and nothing has changed at the others. The call may be
     /// made again.
     pub fn add_rule(&mut self, kind: Name, namespace: Name) -> Result<bool, CallError>
-        ensures { AddsRule self.old kind namespace result self.new }
+        ensures adds { AddsRule self.old.caller kind namespace result self.new.caller }
+        ensures cluster { self.new.cluster ≡ self.old.cluster }
+        ensures turnstiles { turnstiles self.new.caller ≡ turnstiles self.old.caller }
     {
         let mut is_new = false;
         for queue in 0..self.queues() {
@@ -173,7 +216,9 @@ impl<R: Host, G: Gate + 'static> Service<R, G> {
     /// `NoQueue` where there is no such queue, `Limit` where its history is full, and `Memory` where the call failed to
     /// allocate. Nothing has changed.
     pub fn pending(&mut self, queue: usize) -> Result<Option<Pending>, CallError>
-        ensures { AsksPending self.old queue result self.new }
+        ensures asks { AsksPending self.old.caller queue result self.new.caller }
+        ensures cluster { self.new.cluster ≡ self.old.cluster }
+        ensures turnstiles { turnstiles self.new.caller ≡ turnstiles self.old.caller }
     {
         if queue >= self.queues() {
             return Err(CallError::NoQueue);
@@ -191,7 +236,9 @@ impl<R: Host, G: Gate + 'static> Service<R, G> {
     /// They are those of [`SettleError`]. What was published stays, and the silos go on with it. The call may be made
     /// again, save that a loop that has ended stays so.
     pub fn settle(&mut self) -> Result<(), SettleError>
-        ensures { Settles self.old result self.new }
+        ensures settles { Settles self.old.cluster.looks self.old.caller result self.new.caller }
+        ensures cluster { self.new.cluster ≡ self.old.cluster }
+        ensures turnstiles { turnstiles self.new.caller ≡ turnstiles self.old.caller }
     {
         let looks = self.cluster.looks();
         settled(drain(&self.rt, self.rt.alloc(), &mut self.caller, looks))
@@ -202,10 +249,11 @@ impl<R: Host, G: Gate + 'static> Service<R, G> {
     /// # Errors
     /// They are those of [`SiloError`]. After `NoSilo`, `Already` and `Halted` nothing was done. After `Limit` and
     /// `Memory` what was answered by then stands, and no silo comes or goes any more. Where not all of the silo's threads
-    /// could be made, one of them may have stopped with a turn in hand, so [`settle`](Service::settle) answers `NotQuiet`
+    /// could be made, one of them may have stopped with a turn in hand, so [`settle`](Service::settle) answers `Ended`
     /// unless all is quiet; [`close`](Service::close) still ends the service.
     pub fn silo_up(&mut self, silo: u8) -> Result<(), SiloError>
-        ensures { ChangesUp self.old silo result self.new }
+        ensures changes { ChangesUp self.old silo result self.new }
+        ensures caller { self.new.caller ≡ self.old.caller }
     {
         if silo >= MOST_SILOS {
             return Err(SiloError::NoSilo);
@@ -219,10 +267,11 @@ impl<R: Host, G: Gate + 'static> Service<R, G> {
     /// # Errors
     /// They are those of [`SiloError`]. After `NoSilo`, `NotLive`, `LastSilo` and `Halted` nothing was done. After
     /// `Limit` and `Memory` the loops of the silo have stopped, what was answered by then stands, and no silo comes or
-    /// goes any more. A queue that was not moved has no agent then, so [`settle`](Service::settle) answers `NotQuiet`
+    /// goes any more. A queue that was not moved has no agent then, so [`settle`](Service::settle) answers `Ended`
     /// unless all is quiet; [`close`](Service::close) still ends the service.
     pub fn silo_down(&mut self, silo: u8) -> Result<(), SiloError>
-        ensures { ChangesDown self.old silo result self.new }
+        ensures changes { ChangesDown self.old silo result self.new }
+        ensures caller { self.new.caller ≡ self.old.caller }
     {
         if silo >= MOST_SILOS {
             return Err(SiloError::NoSilo);
@@ -256,10 +305,10 @@ impl<R: Host, G: Gate + 'static> Service<R, G> {
     // One call at a queue.
     fn ask(&mut self, queue: usize, op: Op) -> Result<Answer, Refusal>
         requires { queue < length self.old.caller }
-        ensures { Calls self.old queue op result self.new }
+        ensures calls { CallerCalls self.old.caller queue op result self.new.caller }
+        ensures cluster { self.new.cluster ≡ self.old.cluster }
+        ensures turnstiles { turnstiles self.new.caller ≡ turnstiles self.old.caller }
     {
-        let alloc = self.rt.alloc();
-        self.caller
-            .ask(&self.rt, alloc, queue, op, &mut Vec::new(alloc))
+        ask(&self.rt, &mut self.caller, queue, op)
     }
 }

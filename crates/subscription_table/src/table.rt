@@ -19,6 +19,7 @@ ghost use Rattle.subscription_table.specs.Rows.{AreAllNamed, AreNamed, AreRewoun
 mod changes;
 
 use consumer_grain::SubState;
+use partition_queue::Span;
 use pubsub_registry::{Registration, Registry};
 use queue_mapper::tag;
 use ranked_index::Resumes;
@@ -214,13 +215,14 @@ impl SubscriptionTable {
 }
 
 /// Adds the states, tags and leaves of those names of a registry that have none yet. Each has handled
-/// nothing, and is sought from a position on.
+/// nothing, and is sought from a position on. The events are those that the names were made of.
 ///
 /// # Errors
 /// The call failed to allocate, and nothing has changed. That can happen only where a name has none yet.
 fn add_rows(
     alloc: Global,
     registry: &Registry,
+    events: &Span,
     position: usize,
     states: &mut Vec<SubState>,
     tags: &mut Vec<u8>,
@@ -244,7 +246,7 @@ fn add_rows(
     for number in len..registry.len() {
         let registration = registry.at(number).1;
         states.push_reserved(SubState::new(alloc, registration.start, position));
-        tags.push_reserved(tag(&registration.stream));
+        tags.push_reserved(event_tag(events, &registration.stream));
     }
     Ok(())
 }
@@ -258,6 +260,19 @@ fn stream_tag(registry: &Registry, tags: &[u8], stream: &StreamId) -> u8
         Some(number) => tags[number],
         None => tag(stream),
     }
+}
+
+/// The tag of a stream. It costs a digest only where none of the events is of the stream.
+fn event_tag(events: &Span, stream: &StreamId) -> u8
+    ensures { result ≡ tag_of stream.now }
+{
+    for place in 0..events.len() {
+        let header = events.at(place);
+        if *stream == *header.stream() {
+            return header.tag();
+        }
+    }
+    tag(stream)
 }
 
 /// Pushes the leaves of those names of a registry that have none yet, each with this resume and at the rank of its name.

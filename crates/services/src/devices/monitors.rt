@@ -5,7 +5,7 @@ use std::rt::Clock;
 use std::sync::atomic::{AtomicBool, AtomicU64, Ordering};
 use std::thread;
 use std::time::Duration;
-use streams::{Event, Gate, GrainId, SubName};
+use streams::{Decode, Event, Gate, GrainId, SubName};
 
 // How often the archive looks at most whether it may go on, once in a millisecond.
 const MOST_LOOKS: u32 = 60_000;
@@ -80,5 +80,5 @@ impl<C: Clock + Copy + Send + Sync> Gate for Monitors<C> {
 
 /// The reading of an event, in tenths of a degree.
 pub fn tenths_of(event: &Event) -> Option<u64> {
-    event.payload.as_str().parse().ok()
+    u64::decode(&event.payload).ok()
 }

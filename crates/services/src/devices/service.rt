@@ -6,7 +6,7 @@ use std::alloc::Global;
 use std::sync::Arc;
 use std::thread;
 use std::time::Duration;
-use streams::{Closed, Config, GrainId, Host, Name, Payload, Service, Start, StreamId};
+use streams::{Closed, Config, Encode, GrainId, Host, Name, Payload, Service, StartFrom, StreamId};
 
 // How often a queue is looked at before it is given up, once in a millisecond.
 const MOST_LOOKS: u32 = 60_000;
@@ -65,7 +65,7 @@ impl<R: Host> DeviceService<R> {
     fn archive(&mut self, device: &str) -> Result<()> {
         let stream = StreamId::new(b"readings", device.as_bytes())?;
         let grain = GrainId::new(b"archive", device.as_bytes())?;
-        let archive = self.service.subscribe(stream, grain, Start::Latest)?;
+        let archive = self.service.subscribe(stream, grain, StartFrom::Latest)?;
         self.slow = archive.queue;
         Ok(())
     }
@@ -107,7 +107,6 @@ impl<R: Host> DeviceService<R> {
 fn reading_of(alloc: Global, device: usize, round: usize) -> Result<(StreamId, Payload)> {
     let name = format!(in alloc; "d{device:04}")?;
     let tenths = device.wrapping_mul(37).wrapping_add(round.wrapping_mul(11)) % 700 + 200;
-    let text = format!(in alloc; "{tenths}")?;
     let stream = StreamId::new(b"readings", name.as_bytes())?;
-    Ok((stream, Payload::new(text.as_bytes())?))
+    Ok((stream, (tenths as u64).encode()?))
 }

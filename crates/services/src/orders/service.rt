@@ -5,8 +5,8 @@ use anyhow::Result;
 use std::alloc::Global;
 use std::sync::Arc;
 use streams::{
-    BadName, Closed, Config, GrainId, Host, Payload, PublishError, Service, SiloError, Start,
-    StreamId, SubscribeError, Subscription, Token, UnsubscribeError,
+    BadName, Closed, Config, Encode, GrainId, Host, Payload, PublishError, Service, SiloError,
+    StartFrom, StreamId, SubscribeError, Subscription, Token, UnsubscribeError,
 };
 
 // The first order of a stream.
@@ -84,7 +84,7 @@ impl<R: Host> OrderService<R> {
 
     // A customer gets a desk, which handles what is ordered from now on.
     fn open_desk(&mut self, customer: &'static str) -> Result<Answer> {
-        let subscription = self.subscribe(b"desk", customer, Start::Latest)??;
+        let subscription = self.subscribe(b"desk", customer, StartFrom::Latest)??;
         self.desks.push(Desk {
             customer,
             subscription,
@@ -111,7 +111,7 @@ impl<R: Host> OrderService<R> {
         }
         let batch = batch_of(self.alloc, orders)?;
         match self.service.publish(orders_of(customer)?, &batch) {
-            Ok(first) => Ok(Answer::Ordered(first)),
+            Ok(first) => Ok(Answer::Ordered(first.token)),
             Err(PublishError::BadBatch) => Ok(Answer::Refused(" orders nothing")),
             Err(error) => Err(error.into()),
         }
@@ -119,10 +119,10 @@ impl<R: Host> OrderService<R> {
 
     // An auditor looks at the orders of a customer from the first one on, or else from the first that is kept.
     fn audit(&mut self, customer: &str) -> Result<Answer> {
-        match self.subscribe(b"audit", customer, Start::At(FIRST))? {
+        match self.subscribe(b"audit", customer, StartFrom::Token(FIRST))? {
             Ok(_) => Ok(Answer::Done(" is audited")),
             Err(SubscribeError::Miss { low, .. }) => {
-                self.subscribe(b"audit", customer, Start::At(low))??;
+                self.subscribe(b"audit", customer, StartFrom::Token(low))??;
                 Ok(Answer::Missed(low))
             }
             Err(error) => Err(error.into()),
@@ -134,10 +134,10 @@ impl<R: Host> OrderService<R> {
         &mut self,
         kind: &[u8],
         customer: &str,
-        start: Start,
+        from: StartFrom,
     ) -> Result<Result<Subscription, SubscribeError>, BadName> {
         let grain = GrainId::new(kind, customer.as_bytes())?;
-        Ok(self.service.subscribe(orders_of(customer)?, grain, start))
+        Ok(self.service.subscribe(orders_of(customer)?, grain, from))
     }
 
     // Waits until all orders are handled.
@@ -191,7 +191,7 @@ fn without_price(orders: &[&'static str]) -> Option<&'static str> {
 fn batch_of(alloc: Global, orders: &[&str]) -> Result<Vec<Payload>> {
     let mut batch = Vec::new(alloc);
     for order in orders {
-        batch.push(Payload::new(order.as_bytes())?)?;
+        batch.push(order.encode()?)?;
     }
     Ok(batch)
 }

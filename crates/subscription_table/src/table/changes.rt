@@ -94,6 +94,7 @@ impl SubscriptionTable {
         let added = add_rows(
             alloc,
             &self.registry,
+            events,
             position,
             &mut self.states,
             &mut self.tags,

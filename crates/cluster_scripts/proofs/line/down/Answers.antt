@@ -26,7 +26,7 @@ returns-in-Ok-Limit-clause-cluster g c = down-on c.args.cluster.now c.silo_down.
 
 pub returns-in-Ok-Limit-clause-stops : goal.returns-in-Ok-Limit-clause-stops
 returns-in-Ok-Limit-clause-stops g c = λ free. (
-  λ same. absurd (cc (same)),
+  λ waited. waited,
   λ _. (down-stops c.args.cluster.now c.silo_down.new.self c.args.silo c.silo_down.result c.silo_down.ensures free).1 (c.in-Ok-Limit.is ∙ ap (λ (u : SiloDown). Ok u) c.in-Ok-Limit.field-0-is),
 )
 

@@ -19,7 +19,7 @@ returns-in-Ok-Limit-clause-cluster g c = up-on c.args.cluster.now c.silo_up.new.
 
 pub returns-in-Ok-Limit-clause-stops : goal.returns-in-Ok-Limit-clause-stops
 returns-in-Ok-Limit-clause-stops g c = λ free. (
-  λ same. absurd (cc (same)),
+  λ waited. waited,
   λ _. (up-stops c.args.cluster.now c.silo_up.new.self c.args.silo c.silo_up.result c.silo_up.ensures free).1 (c.in-Ok-Limit.is ∙ ap (λ (u : SiloUp). Ok u) c.in-Ok-Limit.field-0-is),
 )
 

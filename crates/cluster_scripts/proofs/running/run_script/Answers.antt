@@ -8,7 +8,7 @@ use Rattle.cluster_scripts.specs.declared.line.Stop.{Stop}
 use Rattle.cluster_scripts.specs.declared.running.ScriptEnd.{ScriptEnd}
 use Rattle.cluster_scripts.specs.Runs.{EndsScript, StopsFront}
 use Rattle.cluster_scripts.proofs.running.run_script.Goals as goal
-use Rattle.cluster_scripts.proofs.running.run_script.Goals.{in-Err-Limit, in-Err-NotQuiet, in-Ok}
+use Rattle.cluster_scripts.proofs.running.run_script.Goals.{in-Err-Ended, in-Err-Limit, in-Err-NotQuiet, in-Ok}
 
 pub returns-then-is_fixed-clause-on : goal.returns-then-is_fixed-clause-on
 returns-then-is_fixed-clause-on g c = zip-refl HasGoneOn gone-refl _
@@ -29,4 +29,5 @@ returns-clause-script g c =
       | in-Ok b ↦ subst ends (sym b.end-is) (free, b.in-Ok.ensures.all)
       | in-Err-Limit b ↦ subst ends (sym b.end-is) (free, subst (λ (why : Stop). StopsFront why c.args.lines.items v old found w new) b.in-Err-Limit.field-0-is b.in-Err-Limit.ensures.front)
       | in-Err-NotQuiet b ↦ subst ends (sym b.end-is) (free, subst (λ (why : Stop). StopsFront why c.args.lines.items v old found w new) b.in-Err-NotQuiet.field-0-is b.in-Err-NotQuiet.ensures.front)
+      | in-Err-Ended b ↦ subst ends (sym b.end-is) (free, subst (λ (why : Stop). StopsFront why c.args.lines.items v old found w new) b.in-Err-Ended.field-0-is b.in-Err-Ended.ensures.front)
     ]

@@ -1,16 +1,18 @@
-use Rattle.std.proofs.Common.{◌+◌, ◌∙◌, Err, Ok, arith, inl, refl, subst}
+use Rattle.std.proofs.Common.{◌≡◌, ◌+◌, ◌∙◌, ℕ, Err, Ok, arith, refl, rules, subst}
+use Rattle.std.proofs.lemmas.Grind.{common_steps}
 use Rattle.turnstile.specs.declared.turnstile.Refusal.{Refusal}
 use Rattle.turnstile.specs.declared.turnstile.Refusal.TheVariants.{HistoryFull, Memory}
 use Rattle.cluster_ending.specs.declared.asking.Quiet.{Quiet}
 use Rattle.cluster_ending.specs.declared.asking.Quiet.TheVariants.{All}
 use Rattle.cluster_ending.specs.Asking.{AsksQuiet}
 use Rattle.cluster_ending.proofs.Rows.{zip-refl}
-use Rattle.script_producer.proofs.Looked.{drain-tells, last-look, looks-none, none-on, vain-look, vain-looks}
+use Rattle.script_producer.specs.Telling.{LooksInVain}
+use Rattle.script_producer.proofs.Looked.{drain-tells, last-look, looks-none, none-on, vain-more}
 use Rattle.script_producer.proofs.Seen.{ProducesNone, none-refl}
 use Rattle.script_producer.proofs.draining.drain.Goals as goal
 
 pub loop-look-init : goal.loop-look-init
-loop-look-init g c = record { none = zip-refl ProducesNone none-refl c.args.caller.now; at = refl; last = inl (refl, refl) }
+loop-look-init g c = record { none = zip-refl ProducesNone none-refl c.args.caller.now; at = refl; vain = refl }
 
 pub returns-in-Ok-All-clause-told : goal.returns-in-Ok-All-clause-told
 returns-in-Ok-All-clause-told g c = drain-tells c.args.caller.now c.ask_quiet.new.caller (looks-none c.args.caller.now c.loop-look.caller c.ask_quiet.new.caller c.ask_quiet.result c.loop-look.invariant.none c.ask_quiet.ensures.asks)
@@ -46,7 +48,7 @@ loop-look-preserved g c =
     record {
       none = looks-none c.args.caller.now c.loop-look.caller c.ask_quiet.new.caller c.ask_quiet.result c.loop-look.invariant.none c.ask_quiet.ensures.asks;
       at = c.ask_quiet.ensures.turnstiles ∙ c.loop-look.invariant.at;
-      last = vain-look (c.loop-look.look + 1) c.in-Ok-NotQuiet.field-0-0 c.in-Ok-NotQuiet.field-0-1 c.in-Ok-NotQuiet.field-0 c.args.caller.now c.loop-look.caller c.ask_quiet.new.caller c.in-Ok-NotQuiet.field-0-is c.loop-look.invariant.none c.in-Ok-NotQuiet.ensures.asks;
+      vain = vain-more c.loop-look.look c.in-Ok-NotQuiet.field-0-0 c.in-Ok-NotQuiet.field-0-1 c.in-Ok-NotQuiet.field-0 c.args.caller.now c.loop-look.caller c.ask_quiet.new.caller c.in-Ok-NotQuiet.field-0-is c.loop-look.invariant.vain c.in-Ok-NotQuiet.ensures.asks;
     }
 
 pub returns-clause-told : goal.returns-clause-told
@@ -67,9 +69,16 @@ returns-in-Err-Memory-clause-ends g c =
 
 pub returns-then-has_ended-clause-ends : goal.returns-then-has_ended-clause-ends
 returns-then-has_ended-clause-ends g c =
-    vain-look c.args.looks c.in-Ok-NotQuiet.field-0-0 c.in-Ok-NotQuiet.field-0-1 c.in-Ok-NotQuiet.field-0 c.args.caller.now c.loop-look.caller c.ask_quiet.new.caller c.in-Ok-NotQuiet.field-0-is c.loop-look.invariant.none c.in-Ok-NotQuiet.ensures.asks
+    let below = c.loop-look-test.true in (
+      c.loop-look.look + 1,
+      omega arith,
+      omega (arith, below),
+      vain-more c.loop-look.look c.in-Ok-NotQuiet.field-0-0 c.in-Ok-NotQuiet.field-0-1 c.in-Ok-NotQuiet.field-0 c.args.caller.now c.loop-look.caller c.ask_quiet.new.caller c.in-Ok-NotQuiet.field-0-is c.loop-look.invariant.vain c.in-Ok-NotQuiet.ensures.asks,
+    )
 
 pub returns-clause-ends : goal.returns-clause-ends
 returns-clause-ends g c =
     let past = c.loop-look-test.false in
-    vain-looks c.loop-look.look c.args.looks c.args.caller.now c.loop-look.caller (λ first. omega (arith, past, first)) c.loop-look.invariant.last
+    let end = c.loop-look.auto.look-end in
+    let same : c.loop-look.look ≡ c.args.looks = first_of (omega (arith, past, end), search rules, grind (arith, common_steps)) in
+    subst (λ (looks : ℕ). LooksInVain looks c.args.caller.now c.loop-look.caller) same c.loop-look.invariant.vain

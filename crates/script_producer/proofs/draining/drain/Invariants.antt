@@ -10,5 +10,5 @@ invariant-loop-look g l =
     record {
       none : AllZip ProducesNone l.fn.caller l.caller;
       at : turnstiles l.caller ≡ turnstiles l.fn.caller;
-      last : LooksInVain l.look l.fn.caller l.caller;
+      vain : LooksInVain l.look l.fn.caller l.caller;
     }

@@ -15,7 +15,7 @@ loop-number-preserved c =
     let stated : c.push_reserved.new.self.items ≡ c.loop-number.states.items ++ new_state entry.1.start c.args.position ∷ [] =
     state.items ∙ ap (λ (s : PlainState). c.loop-number.states.items ++ s ∷ []) c.new.ensures in
     let tagged : c.push_reserved-in-loop-number.new.self.items ≡ c.loop-number.tags.items ++ tag_of entry.1.stream ∷ [] =
-    tag.items ∙ ap (λ (n : ℕ). c.loop-number.tags.items ++ n ∷ []) c.tag.ensures in
+    tag.items ∙ ap (λ (n : ℕ). c.loop-number.tags.items ++ n ∷ []) c.event_tag.ensures in
     record {
       states = row-more (λ (entry : Entry). new_state entry.1.start c.args.position) c.reserve.new.self.items c.loop-number.states.items c.push_reserved.new.self.items
           names c.len-len.result c.loop-number.number entry c.loop-number.auto.number c.at.ensures before.states stated;

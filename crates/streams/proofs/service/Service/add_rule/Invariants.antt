@@ -1,7 +1,9 @@
-use Rattle.std.proofs.Common.{◌≡◌, ◌-◌, Bool, Result, length}
+use Rattle.std.proofs.Common.{◌≡◌, ◌-◌, Bool, List, Result, length}
 use Rattle.stream_model.specs.declared.op.Op.TheVariants.{AddRule}
+use Rattle.silo_loops.specs.Lines.{QueuePass}
+use Rattle.cluster_callers.specs.Calls.{turnstiles}
 use Rattle.streams.specs.declared.answers.CallError.{CallError}
-use Rattle.streams.specs.Services.{AddsRule, ServiceView, TellsRule}
+use Rattle.streams.specs.Services.{AddsRule, TellsRule}
 use Rattle.streams.proofs.service.Service.add_rule.Given as goal
 
 -- what the queues from here on are told is told to all
@@ -9,5 +11,7 @@ abbrev pub invariant-loop-queue : goal.invariant-loop-queue
 invariant-loop-queue g l =
     record {
       long : length l.self.caller ≡ length l.fn.self.caller;
-      rest : (result : Result Bool CallError) (t : ServiceView) → TellsRule (length l.fn.self.caller - l.queue) l.queue (AddRule l.fn.kind l.fn.namespace) l.is_new l.self result t → AddsRule l.fn.self l.fn.kind l.fn.namespace result t;
+      cluster : l.self.cluster ≡ l.fn.self.cluster;
+      at : turnstiles l.self.caller ≡ turnstiles l.fn.self.caller;
+      rest : (result : Result Bool CallError) (new : List QueuePass) → TellsRule (length l.fn.self.caller - l.queue) l.queue (AddRule l.fn.kind l.fn.namespace) l.is_new l.self.caller result new → AddsRule l.fn.self.caller l.fn.kind l.fn.namespace result new;
     }

@@ -1,0 +1,111 @@
+//! What publishes to the streams of a service, in any thread.
+ghost use Rattle.std.specs.Prelude.{◌≡◌, ◌<◌, ◌≤◌, length};
+ghost use Rattle.cluster_callers.specs.Calls.{CallerCalls, turnstiles};
+ghost use Rattle.streams.specs.Services.{Publishes};
+
+use crate::UntracedCaller;
+use crate::answers::{PublishError, StreamToken, published};
+use crate::service::Host;
+use queue_mapper::queue;
+use shared_partition::Gate;
+use std::marker::Model;
+use step_core::Answer;
+use stream_ident::{Batch, Payload, StreamId};
+use stream_model::Op;
+use turnstile::Refusal;
+
+/// Publishes to the streams of a service from a thread of its own.
+///
+/// [`Service::producer`](crate::Service::producer) makes it, and [`Service::take_back`](crate::Service::take_back) takes
+/// it in again. A contract sees it as its passes, in the order of the queues.
+pub struct Producer<R: Host, G: Gate> {
+    rt: R,
+    caller: UntracedCaller<G>,
+}
+
+impl<R: Host, G: Gate> Drop for Producer<R, G> {
+    fn drop(self) {
+        let Self { rt: _, caller: _ } = self;
+    }
+}
+
+impl<R: Host, G: Gate> Model for Producer<R, G> {
+    ghost use Rattle.std.specs.Prelude.{◌≤◌, List, length};
+    ghost use Rattle.silo_loops.specs.Lines.{QueuePass};
+
+    ghost Value = { List QueuePass };
+
+    ghost view = { λ p. p.caller };
+
+    ghost invariant = { λ p. 1 ≤ length p.caller };
+}
+
+impl<R: Host, G: Gate> Producer<R, G> {
+    /// What publishes by this caller.
+    pub(crate) fn new(rt: R, caller: UntracedCaller<G>) -> Producer<R, G>
+        requires { 1 ≤ length caller }
+        ensures { result ≡ caller }
+    {
+        Producer { rt, caller }
+    }
+
+    /// The caller that it published by.
+    pub(crate) fn into_caller(self) -> UntracedCaller<G>
+        ensures { result ≡ self }
+    {
+        let Producer { rt: _, caller } = self;
+        caller
+    }
+
+    /// Publishes a batch of 1 to 64 payloads to a stream, as [`Service::publish`](crate::Service::publish) does.
+    ///
+    /// # Errors
+    /// They are those of [`PublishError`]. Nothing was published.
+    pub fn publish(
+        &mut self,
+        stream: StreamId,
+        payloads: &[Payload],
+    ) -> Result<StreamToken, PublishError>
+        ensures publishes { Publishes self.old stream payloads.now result self.new }
+        ensures turnstiles { turnstiles self.new ≡ turnstiles self.old }
+    {
+        publish(&self.rt, &mut self.caller, stream, payloads)
+    }
+}
+
+/// A caller publishes a batch.
+pub(crate) fn publish<R: Host, G: Gate>(
+    rt: &R,
+    caller: &mut UntracedCaller<G>,
+    stream: StreamId,
+    payloads: &[Payload],
+) -> Result<StreamToken, PublishError>
+    requires { 1 ≤ length caller.old }
+    ensures publishes { Publishes caller.old stream payloads.now result caller.new }
+    ensures turnstiles { turnstiles caller.new ≡ turnstiles caller.old }
+{
+    let Ok(payloads) = Vec::from_slice(rt.alloc(), payloads) else {
+        return Err(PublishError::Memory);
+    };
+    let payloads = Batch::of(payloads);
+    let queue = queue(&stream, caller.queues());
+    published(
+        stream,
+        ask(rt, caller, queue, Op::Publish { stream, payloads }),
+    )
+}
+
+/// A caller makes one call at a queue.
+pub(crate) fn ask<R: Host, G: Gate>(
+    rt: &R,
+    caller: &mut UntracedCaller<G>,
+    queue: usize,
+    op: Op,
+) -> Result<Answer, Refusal>
+    requires { queue < length caller.old }
+    ensures calls { CallerCalls caller.old queue op result caller.new }
+    ensures turnstiles { turnstiles caller.new ≡ turnstiles caller.old }
+{
+    let alloc = rt.alloc();
+    caller.ask(rt, alloc, queue, op, &mut Vec::new(alloc))
+}
