@@ -18,8 +18,8 @@ pub struct Config {
     pub limits: Limits,
     /// How many calls the history of each queue may have, and that of the directory: at least 1.
     pub history: u64,
-    /// How many rounds each loop of a silo may begin before it ends for good. A loop that found nothing to do begins one
-    /// after the doorbell was rung, which is so several times for each event.
+    /// How many rounds each loop of a silo may begin before it ends for good. Where something comes a loop begins one or
+    /// more, so several for each event where events come singly.
     pub rounds: u64,
     /// How often a drain looks at the queues before it gives up; with 0 it gives up at once.
     pub looks: u32,
