@@ -4,6 +4,7 @@ use Rattle.std.proofs.KnownBytes.{Keeps-refl}
 use Rattle.std.specs.Io.KnownBytes.{Appends, Consumes, IsAtEnd}
 use Rattle.std.specs.Prelude.{IfSome}
 use Rattle.script_parser.specs.Lines.{lines_of}
+use Rattle.script_parser.specs.declared.limits.TheConstants.{MOST_SCRIPT_BYTES}
 use Rattle.script_checker.specs.declared.line.LineFault.{LineFault}
 use Rattle.script_checker.specs.declared.script.Findings.{Findings}
 use Rattle.script_checker.specs.Scripts.{HasFound, findings_text}
@@ -44,7 +45,7 @@ ends-as config script old new (first ∷ others) result ends =
 
 -- what was found was written
 pub check-written : (config : CheckConfig) (remaining left old new : Option (List ℕ)) (script : List ℕ) (findings : Findings) (result : Result Unit ProgramFault)
-    → Consumes remaining left script × IsAtEnd left × (length script ≤ 4194304) → HasFound config.queues config.mode (lines_of script) findings
+    → Consumes remaining left script × IsAtEnd left × (length script ≤ MOST_SCRIPT_BYTES) → HasFound config.queues config.mode (lines_of script) findings
     → Appends old new (findings_text findings.faults.items findings.summary) → EndsCheck findings.faults.items result
     → IfSome remaining (λ input. PrintsCheck config input old new result)
 check-written config None left old new script findings result read found writes ends = tt

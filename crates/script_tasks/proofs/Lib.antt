@@ -1,3 +1,4 @@
 mod Checks
 pub mod Running
+mod Summaries
 pub mod Tracing

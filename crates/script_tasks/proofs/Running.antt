@@ -9,6 +9,7 @@ use Rattle.turnstile.specs.declared.history.Entry.{Entry}
 use Rattle.stream_model.specs.declared.op.Op.{Op}
 use Rattle.stream_model.specs.Replies.{Reply}
 use Rattle.script_parser.specs.Lines.{lines_of}
+use Rattle.script_parser.specs.declared.limits.TheConstants.{MOST_SCRIPT_BYTES}
 use Rattle.script_reader.specs.declared.line.Line.{Line}
 use Rattle.script_reader.specs.declared.script_line.ScriptLine.{ScriptLine}
 use Rattle.script_reader.specs.ScriptReport.{line_text, script_text}
@@ -22,7 +23,8 @@ use Rattle.cluster_scripts.specs.declared.outcome.RunEnd.TheVariants as ends
 use Rattle.cluster_scripts.specs.Runs.{EndsRun, LeavesLegalTraces, RunsScript, missed_in, report_in, text_of}
 use Rattle.script_tasks.specs.declared.fault.ProgramFault.{ProgramFault}
 use Rattle.script_tasks.specs.declared.fault.ProgramFault.TheVariants as fault
-use Rattle.script_tasks.specs.Printing.{PrintsRun, RunsSource, WritesRun, commands_of}
+use Rattle.script_tasks.specs.Printing.{PrintsRun, RunsSource, WritesRun, commands_of, printed_text}
+use Rattle.script_tasks.specs.declared.summary.Detail.{Detail}
 use Rattle.script_tasks.proofs.Tracing.{each-legal}
 
 -- what was read is all that there was
@@ -31,20 +33,20 @@ whole-input input script None read end = absurd read
 whole-input input script (Some rest) read end = read ∙ ap (λ (bytes : List ℕ). script ++ bytes) end ∙ append-nil script
 
 pub run-known : {H : Type 0} (entries : H → List (Entry Op Reply)) (config : Config) (remaining left : Option (List ℕ)) (script : List ℕ) (lines : List Line) (ran : Ran H)
-    → Consumes remaining left script × IsAtEnd left × (length script ≤ 4194304) → lines_after config.queues 0 (lines_of script) ≡ Ok lines → RunsScript entries config lines ran
+    → Consumes remaining left script × IsAtEnd left × (length script ≤ MOST_SCRIPT_BYTES) → lines_after config.queues 0 (lines_of script) ≡ Ok lines → RunsScript entries config lines ran
     → IfSome remaining (λ input. RunsSource entries config input (Ok ran))
 run-known entries config None left script lines ran read is runs = tt
 run-known entries config (Some input) left script lines ran read is runs =
     let all = whole-input input script left read.0 read.1 in
-    let short = ap (λ b. if b then Err too_long else lines_after config.queues 0 (lines_of script)) (le-ltb 4194304 (length script) read.2) in
+    let short = ap (λ b. if b then Err too_long else lines_after config.queues 0 (lines_of script)) (le-ltb MOST_SCRIPT_BYTES (length script) read.2) in
     (lines, ap (λ (bytes : List ℕ). commands_of config.queues bytes) all ∙ short ∙ is, runs)
 
 -- ---- what was written of a run
 
 module _ {H : Type 0} (entries : H → List (Entry Op Reply)) where
-  run-printed : (config : Config) (script : List ℕ) (old new : Option (List ℕ)) (lines : List Line) (found : List ScriptLine) (end : RunEnd H) (result : Result Unit ProgramFault) → commands_of config.queues script ≡ Ok lines
-      → EndsRun entries config lines found end → LeavesLegalTraces entries config end → WritesRun old new (flat_map line_text found ++ report_in end) result end → PrintsRun config script old new result
-  run-printed config script old new lines found (ends.Report text traces) (Ok done) read runs legal writes =
+  run-printed : (config : Config) (much : Detail) (script : List ℕ) (old new : Option (List ℕ)) (lines : List Line) (found : List ScriptLine) (end : RunEnd H) (result : Result Unit ProgramFault) → commands_of config.queues script ≡ Ok lines
+      → EndsRun entries config lines found end → LeavesLegalTraces entries config end → WritesRun old new (printed_text much (flat_map line_text found ++ report_in end)) result end → PrintsRun config much script old new result
+  run-printed config much script old new lines found (ends.Report text traces) (Ok done) read runs legal writes =
       let histories = map entries traces.histories.items in
       let whole : flat_map line_text found ++ text.items ≡ script_text config.queues (missed_in found) config.silos lines = λ i. flat_map line_text (runs.0 i) ++ runs.1 i in (
         lines,
@@ -54,9 +56,9 @@ module _ {H : Type 0} (entries : H → List (Entry Op Reply)) where
         length-map traces.histories.items entries ∙ legal.count,
         each-legal config histories traces.partitions.items legal.each,
         runs.2,
-        subst (Appends old new) whole writes,
+        subst (λ (text : List ℕ). Appends old new (printed_text much text)) whole writes,
       )
-  run-printed config script old new lines found (ends.Unfinished why (Some traces)) (Err (fault.Unfinished told)) read runs legal writes =
+  run-printed config much script old new lines found (ends.Unfinished why (Some traces)) (Err (fault.Unfinished told)) read runs legal writes =
       let histories = map entries traces.histories.items in (
         lines,
         read,
@@ -69,27 +71,27 @@ module _ {H : Type 0} (entries : H → List (Entry Op Reply)) where
           length-map traces.histories.items entries ∙ legal.count,
           each-legal config histories traces.partitions.items legal.each,
           runs.4,
-          subst (Appends old new) (append-nil (flat_map line_text found) ∙ ap (λ (printed : List ScriptLine). flat_map line_text printed) runs.3) writes.1,
+          subst (λ (text : List ℕ). Appends old new (printed_text much text)) (append-nil (flat_map line_text found) ∙ ap (λ (printed : List ScriptLine). flat_map line_text printed) runs.3) writes.1,
         ),
       )
-  run-printed config script old new lines found (ends.Unfinished why None) (Err (fault.Unfinished told)) read runs legal writes =
-      (lines, read, inr (writes.0 ∙ runs, found, subst (Appends old new) (append-nil (flat_map line_text found)) writes.1))
-  run-printed config script old new lines found (ends.Report text traces) (Err (fault.Script error.WriteFault)) read runs legal writes = tt
-  run-printed config script old new lines found (ends.Report text traces) (Err (fault.Script error.Memory)) read runs legal writes = writes
-  run-printed config script old new lines found (ends.Report text traces) (Err (fault.Script error.ReadFault)) read runs legal writes = absurd writes
-  run-printed config script old new lines found (ends.Report text traces) (Err (fault.Script (error.ScriptFault wrong))) read runs legal writes = absurd writes
-  run-printed config script old new lines found (ends.Report text traces) (Err (fault.CommandLine wrong)) read runs legal writes = absurd writes
-  run-printed config script old new lines found (ends.Report text traces) (Err (fault.Unfinished told)) read runs legal writes = absurd writes
-  run-printed config script old new lines found (ends.Unfinished why left) (Err (fault.Script error.WriteFault)) read runs legal writes = tt
-  run-printed config script old new lines found (ends.Unfinished why left) (Err (fault.Script error.Memory)) read runs legal writes = writes
-  run-printed config script old new lines found (ends.Unfinished why left) (Err (fault.Script error.ReadFault)) read runs legal writes = absurd writes
-  run-printed config script old new lines found (ends.Unfinished why left) (Err (fault.Script (error.ScriptFault wrong))) read runs legal writes = absurd writes
-  run-printed config script old new lines found (ends.Unfinished why left) (Err (fault.CommandLine wrong)) read runs legal writes = absurd writes
-  run-printed config script old new lines found (ends.Unfinished why left) (Ok done) read runs legal writes = absurd writes
+  run-printed config much script old new lines found (ends.Unfinished why None) (Err (fault.Unfinished told)) read runs legal writes =
+      (lines, read, inr (writes.0 ∙ runs, found, subst (λ (text : List ℕ). Appends old new (printed_text much text)) (append-nil (flat_map line_text found)) writes.1))
+  run-printed config much script old new lines found (ends.Report text traces) (Err (fault.Script error.WriteFault)) read runs legal writes = tt
+  run-printed config much script old new lines found (ends.Report text traces) (Err (fault.Script error.Memory)) read runs legal writes = writes
+  run-printed config much script old new lines found (ends.Report text traces) (Err (fault.Script error.ReadFault)) read runs legal writes = absurd writes
+  run-printed config much script old new lines found (ends.Report text traces) (Err (fault.Script (error.ScriptFault wrong))) read runs legal writes = absurd writes
+  run-printed config much script old new lines found (ends.Report text traces) (Err (fault.CommandLine wrong)) read runs legal writes = absurd writes
+  run-printed config much script old new lines found (ends.Report text traces) (Err (fault.Unfinished told)) read runs legal writes = absurd writes
+  run-printed config much script old new lines found (ends.Unfinished why left) (Err (fault.Script error.WriteFault)) read runs legal writes = tt
+  run-printed config much script old new lines found (ends.Unfinished why left) (Err (fault.Script error.Memory)) read runs legal writes = writes
+  run-printed config much script old new lines found (ends.Unfinished why left) (Err (fault.Script error.ReadFault)) read runs legal writes = absurd writes
+  run-printed config much script old new lines found (ends.Unfinished why left) (Err (fault.Script (error.ScriptFault wrong))) read runs legal writes = absurd writes
+  run-printed config much script old new lines found (ends.Unfinished why left) (Err (fault.CommandLine wrong)) read runs legal writes = absurd writes
+  run-printed config much script old new lines found (ends.Unfinished why left) (Ok done) read runs legal writes = absurd writes
 
   -- the same, where the bytes of the script may not be known
-  pub run-written : (config : Config) (source old new : Option (List ℕ)) (ran : Ran H) (result : Result Unit ProgramFault) → IfSome source (λ input. RunsSource entries config input (Ok ran)) → LeavesLegalTraces entries config ran.end
-      → WritesRun old new (text_of ran) result ran.end → IfSome source (λ input. PrintsRun config input old new result)
-  run-written config None old new ran result runs legal writes = tt
-  run-written config (Some input) old new ran result runs legal writes =
-      run-printed config input old new runs.0 ran.printed.items ran.end result runs.1 runs.2 legal writes
+  pub run-written : (config : Config) (much : Detail) (source old new : Option (List ℕ)) (ran : Ran H) (result : Result Unit ProgramFault) → IfSome source (λ input. RunsSource entries config input (Ok ran)) → LeavesLegalTraces entries config ran.end
+      → WritesRun old new (printed_text much (text_of ran)) result ran.end → IfSome source (λ input. PrintsRun config much input old new result)
+  run-written config much None old new ran result runs legal writes = tt
+  run-written config much (Some input) old new ran result runs legal writes =
+      run-printed config much input old new runs.0 ran.printed.items ran.end result runs.1 runs.2 legal writes

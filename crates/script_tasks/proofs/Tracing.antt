@@ -14,7 +14,7 @@ use Rattle.turnstile.specs.declared.history.Entry.{Entry}
 use Rattle.turnstile.specs.Asked.{asked_entries}
 use Rattle.stream_script.specs.declared.simulate.SimError.{SimError}
 use Rattle.stream_script.specs.declared.simulate.SimError.TheVariants as error
-use Rattle.trace_printer.specs.Traces.{trace_text, traces_from}
+use Rattle.trace_printer.specs.Traces.{traces_from}
 use Rattle.trace_printer.proofs.Printing.{traces-next}
 use Rattle.cluster_ending.specs.declared.closing.Traces.{Traces}
 use Rattle.stream_cluster.specs.declared.config.Config.{Config}
@@ -27,7 +27,8 @@ use Rattle.cluster_scripts.specs.declared.outcome.Unfinished.{Unfinished}
 use Rattle.cluster_scripts.specs.Runs.{AreLegal, EndsRun, IsLegalHistory, LeavesLegalTraces, TellFront, missed_in}
 use Rattle.script_tasks.specs.declared.fault.ProgramFault.{ProgramFault}
 use Rattle.script_tasks.specs.declared.fault.ProgramFault.TheVariants as fault
-use Rattle.script_tasks.specs.Printing.{AreLegalAt, PrintsTrace, RunsSource, WritesEnd, WritesText, WritesTraces, commands_of, text_left}
+use Rattle.script_tasks.specs.Printing.{AreLegalAt, PrintsTrace, RunsSource, WritesEnd, WritesText, WritesTraces, commands_of, seen, text_left}
+use Rattle.script_tasks.specs.declared.shown.Shown.{Shown}
 
 -- a text that was made before it was written
 pub made-first : (old new : Option (List ℕ)) (text wanted : List ℕ) (result : Result Unit SimError) → text ≡ wanted → WritesText old new text result → WritesTraces old new wanted result
@@ -56,23 +57,23 @@ all-at P f (x ∷ xs) zero d less all is = subst (λ y. P (f y)) (sym is) all.0
 all-at P f (x ∷ xs) (suc k) d less all is = all-at P f xs k d (omega (arith, less)) all.1 is
 
 -- one history more was written
-pub written-more : {A : Type 0} (f : A → List (Entry Op Reply)) (old now new : Option (List ℕ)) (xs : List A) (k : ℕ) (d : A) → k < length xs → d ≡ get_or xs k d
-    → Appends old now (traces_from 0 (take k (map f xs))) → Appends now new (trace_text k (f d)) → Appends old new (traces_from 0 (take (k + 1) (map f xs)))
-written-more f old now new xs k d less is before more =
+pub written-more : {A : Type 0} (text : ℕ → List (Entry Op Reply) → List ℕ) (f : A → List (Entry Op Reply)) (old now new : Option (List ℕ)) (xs : List A) (k : ℕ) (d : A) → k < length xs → d ≡ get_or xs k d
+    → Appends old now (traces_from text 0 (take k (map f xs))) → Appends now new (text k (f d)) → Appends old new (traces_from text 0 (take (k + 1) (map f xs)))
+written-more text f old now new xs k d less is before more =
     let many : k < length (map f xs) = omega (arith, less, length-map xs f) in
-    let next : traces_from 0 (take (suc k) (map f xs)) ≡ traces_from 0 (take k (map f xs)) ++ trace_text k (f d) =
-    traces-next 0 (map f xs) k (f d) many
-    ∙ ap (λ (q : ℕ). traces_from 0 (take k (map f xs)) ++ trace_text q (get_or (map f xs) k (f d))) (omega arith)
-    ∙ ap (λ (h : List (Entry Op Reply)). traces_from 0 (take k (map f xs)) ++ trace_text k h) (map-at f xs k d ∙ ap f (sym is)) in
-    subst (λ (n : ℕ). Appends old new (traces_from 0 (take n (map f xs)))) (sym (add-one k))
-    (subst (Appends old new) (sym next) (Appends-trans old now new (traces_from 0 (take k (map f xs))) (trace_text k (f d)) before more))
+    let next : traces_from text 0 (take (suc k) (map f xs)) ≡ traces_from text 0 (take k (map f xs)) ++ text k (f d) =
+    traces-next text 0 (map f xs) k (f d) many
+    ∙ ap (λ (q : ℕ). traces_from text 0 (take k (map f xs)) ++ text q (get_or (map f xs) k (f d))) (omega arith)
+    ∙ ap (λ (h : List (Entry Op Reply)). traces_from text 0 (take k (map f xs)) ++ text k h) (map-at f xs k d ∙ ap f (sym is)) in
+    subst (λ (n : ℕ). Appends old new (traces_from text 0 (take n (map f xs)))) (sym (add-one k))
+    (subst (Appends old new) (sym next) (Appends-trans old now new (traces_from text 0 (take k (map f xs))) (text k (f d)) before more))
 
 -- all histories were written
-pub written-all : {A : Type 0} (f : A → List (Entry Op Reply)) (old now : Option (List ℕ)) (xs : List A) (k : ℕ) → length xs ≤ k → k ≤ length xs
-    → Appends old now (traces_from 0 (take k (map f xs))) → Appends old now (traces_from 0 (map f xs))
-written-all f old now xs k least most written =
+pub written-all : {A : Type 0} (text : ℕ → List (Entry Op Reply) → List ℕ) (f : A → List (Entry Op Reply)) (old now : Option (List ℕ)) (xs : List A) (k : ℕ) → length xs ≤ k → k ≤ length xs
+    → Appends old now (traces_from text 0 (take k (map f xs))) → Appends old now (traces_from text 0 (map f xs))
+written-all text f old now xs k least most written =
     let whole : k ≡ length (map f xs) = omega (arith, least, most, length-map xs f) in
-    subst (λ (hs : List (List (Entry Op Reply))). Appends old now (traces_from 0 hs)) (ap (λ (n : ℕ). take n (map f xs)) whole ∙ take-length (map f xs)) written
+    subst (λ (hs : List (List (Entry Op Reply))). Appends old now (traces_from text 0 hs)) (ap (λ (n : ℕ). take n (map f xs)) whole ∙ take-length (map f xs)) written
 
 -- ---- a whole trace
 
@@ -89,39 +90,39 @@ left-legal config end why None is legal = tt
 left-legal config end why (Some traces) is legal = subst (LeavesLegalTraces asked_entries config) is legal
 
 -- so the histories that it left are legal and tell a front of the script, and their text is known
-left-tells : (config : Config) (old new : Option (List ℕ)) (lines : List Line) (found : List ScriptLine) (why : Unfinished) (left : Option (Traces (AskedHistory Op Reply))) → EndsRun asked_entries config lines found (ends.Unfinished why left)
-    → LeavesLegalTraces asked_entries config (ends.Unfinished why left) → Appends old new (text_left left)
-    → (done ahead : List Line) × (missed : List ℕ) × (histories : List (List (Entry Op Reply))) × (lines ≡ done ++ ahead) × AreLegalAt config histories × TellFront missed done ahead histories × Appends old new (traces_from 0 histories)
-left-tells config old new lines found why (Some traces) runs legal written =
+left-tells : (shown : Shown) (config : Config) (old new : Option (List ℕ)) (lines : List Line) (found : List ScriptLine) (why : Unfinished) (left : Option (Traces (AskedHistory Op Reply))) → EndsRun asked_entries config lines found (ends.Unfinished why left)
+    → LeavesLegalTraces asked_entries config (ends.Unfinished why left) → Appends old new (text_left shown left)
+    → (done ahead : List Line) × (missed : List ℕ) × (histories : List (List (Entry Op Reply))) × (lines ≡ done ++ ahead) × AreLegalAt config histories × TellFront missed done ahead histories × Appends old new (traces_from (seen shown) 0 histories)
+left-tells shown config old new lines found why (Some traces) runs legal written =
     let histories = map asked_entries traces.histories.items in
     (runs.0, runs.1, missed_in found, histories, runs.2, each-legal config histories traces.partitions.items legal.each, runs.4, written)
-left-tells config old new lines found why None runs legal written = ([], lines, [], [], refl, tt, (0, λ queue history at. absurd (cc)), written)
+left-tells shown config old new lines found why None runs legal written = ([], lines, [], [], refl, tt, (0, λ queue history at. absurd (cc)), written)
 
 -- what was written of a run that read the script so
-pub trace-printed : (config : Config) (script : List ℕ) (old new : Option (List ℕ)) (lines : List Line) (found : List ScriptLine) (end : RunEnd (AskedHistory Op Reply)) (result : Result Unit ProgramFault) → commands_of config.queues script ≡ Ok lines
-    → EndsRun asked_entries config lines found end → LeavesLegalTraces asked_entries config end → WritesEnd old new end result → PrintsTrace config script old new result
-trace-printed config script old new lines found (ends.Report text traces) (Ok done) read runs legal writes =
+pub trace-printed : (config : Config) (shown : Shown) (script : List ℕ) (old new : Option (List ℕ)) (lines : List Line) (found : List ScriptLine) (end : RunEnd (AskedHistory Op Reply)) (result : Result Unit ProgramFault) → commands_of config.queues script ≡ Ok lines
+    → EndsRun asked_entries config lines found end → LeavesLegalTraces asked_entries config end → WritesEnd shown old new end result → PrintsTrace config shown script old new result
+trace-printed config shown script old new lines found (ends.Report text traces) (Ok done) read runs legal writes =
     let histories = map asked_entries traces.histories.items in
     (lines, missed_in found, histories, read, length-map traces.histories.items asked_entries ∙ legal.count, each-legal config histories traces.partitions.items legal.each, runs.2, writes)
-trace-printed config script old new lines found (ends.Unfinished why left) (Err (fault.Unfinished told)) read runs legal writes =
-    let known = left-tells config old new lines found why left runs legal writes.1 in
+trace-printed config shown script old new lines found (ends.Unfinished why left) (Err (fault.Unfinished told)) read runs legal writes =
+    let known = left-tells shown config old new lines found why left runs legal writes.1 in
     (lines, known.0, known.1, known.2, known.3, read, known.4, known.5, known.6, known.7)
-trace-printed config script old new lines found (ends.Report text traces) (Err (fault.Script error.WriteFault)) read runs legal writes = tt
-trace-printed config script old new lines found (ends.Report text traces) (Err (fault.Script error.Memory)) read runs legal writes = tt
-trace-printed config script old new lines found (ends.Report text traces) (Err (fault.Script error.ReadFault)) read runs legal writes = absurd writes
-trace-printed config script old new lines found (ends.Report text traces) (Err (fault.Script (error.ScriptFault wrong))) read runs legal writes = absurd writes
-trace-printed config script old new lines found (ends.Report text traces) (Err (fault.CommandLine wrong)) read runs legal writes = absurd writes
-trace-printed config script old new lines found (ends.Report text traces) (Err (fault.Unfinished told)) read runs legal writes = absurd writes
-trace-printed config script old new lines found (ends.Unfinished why left) (Err (fault.Script error.WriteFault)) read runs legal writes = tt
-trace-printed config script old new lines found (ends.Unfinished why left) (Err (fault.Script error.Memory)) read runs legal writes = tt
-trace-printed config script old new lines found (ends.Unfinished why left) (Err (fault.Script error.ReadFault)) read runs legal writes = absurd writes
-trace-printed config script old new lines found (ends.Unfinished why left) (Err (fault.Script (error.ScriptFault wrong))) read runs legal writes = absurd writes
-trace-printed config script old new lines found (ends.Unfinished why left) (Err (fault.CommandLine wrong)) read runs legal writes = absurd writes
-trace-printed config script old new lines found (ends.Unfinished why left) (Ok done) read runs legal writes = absurd writes
+trace-printed config shown script old new lines found (ends.Report text traces) (Err (fault.Script error.WriteFault)) read runs legal writes = tt
+trace-printed config shown script old new lines found (ends.Report text traces) (Err (fault.Script error.Memory)) read runs legal writes = tt
+trace-printed config shown script old new lines found (ends.Report text traces) (Err (fault.Script error.ReadFault)) read runs legal writes = absurd writes
+trace-printed config shown script old new lines found (ends.Report text traces) (Err (fault.Script (error.ScriptFault wrong))) read runs legal writes = absurd writes
+trace-printed config shown script old new lines found (ends.Report text traces) (Err (fault.CommandLine wrong)) read runs legal writes = absurd writes
+trace-printed config shown script old new lines found (ends.Report text traces) (Err (fault.Unfinished told)) read runs legal writes = absurd writes
+trace-printed config shown script old new lines found (ends.Unfinished why left) (Err (fault.Script error.WriteFault)) read runs legal writes = tt
+trace-printed config shown script old new lines found (ends.Unfinished why left) (Err (fault.Script error.Memory)) read runs legal writes = tt
+trace-printed config shown script old new lines found (ends.Unfinished why left) (Err (fault.Script error.ReadFault)) read runs legal writes = absurd writes
+trace-printed config shown script old new lines found (ends.Unfinished why left) (Err (fault.Script (error.ScriptFault wrong))) read runs legal writes = absurd writes
+trace-printed config shown script old new lines found (ends.Unfinished why left) (Err (fault.CommandLine wrong)) read runs legal writes = absurd writes
+trace-printed config shown script old new lines found (ends.Unfinished why left) (Ok done) read runs legal writes = absurd writes
 
 -- the same, where the bytes of the script may not be known
-pub trace-known : (config : Config) (source old new : Option (List ℕ)) (ran : Ran (AskedHistory Op Reply)) (result : Result Unit ProgramFault) → IfSome source (λ input. RunsSource asked_entries config input (Ok ran)) → LeavesLegalTraces asked_entries config ran.end
-    → WritesEnd old new ran.end result → IfSome source (λ input. PrintsTrace config input old new result)
-trace-known config None old new ran result runs legal writes = tt
-trace-known config (Some input) old new ran result runs legal writes =
-    trace-printed config input old new runs.0 ran.printed.items ran.end result runs.1 runs.2 legal writes
+pub trace-known : (config : Config) (shown : Shown) (source old new : Option (List ℕ)) (ran : Ran (AskedHistory Op Reply)) (result : Result Unit ProgramFault) → IfSome source (λ input. RunsSource asked_entries config input (Ok ran)) → LeavesLegalTraces asked_entries config ran.end
+    → WritesEnd shown old new ran.end result → IfSome source (λ input. PrintsTrace config shown input old new result)
+trace-known config shown None old new ran result runs legal writes = tt
+trace-known config shown (Some input) old new ran result runs legal writes =
+    trace-printed config shown input old new runs.0 ran.printed.items ran.end result runs.1 runs.2 legal writes

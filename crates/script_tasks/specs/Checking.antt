@@ -2,6 +2,7 @@
 use Rattle.std.specs.Prelude.{◌≡◌, ◌⊎◌, ◌<◌, ℕ, List, [], ◌∷◌, length, Option, Result, Ok, Err, ⊤}
 use Rattle.std.specs.Io.KnownBytes.{Appends, Keeps}
 use Rattle.script_parser.specs.Lines.{lines_of}
+use Rattle.script_parser.specs.declared.limits.TheConstants.{MOST_SCRIPT_BYTES}
 use Rattle.script_parser.specs.declared.command.Fault.{Fault}
 use Rattle.script_checker.specs.declared.line.LineFault.{LineFault}
 use Rattle.script_checker.specs.declared.script.Findings.{Findings}
@@ -28,7 +29,7 @@ WritesCheck config script old new result =
 abbrev pub PrintsCheck : CheckConfig → List ℕ → Option (List ℕ) → Option (List ℕ) → Result Unit ProgramFault → Type 0
 PrintsCheck config script old new (Ok done) = WritesCheck config script old new (Ok done)
 PrintsCheck config script old new (Err (fault.Script (error.ScriptFault found))) =
-    ((found ≡ too_long) × (4194304 < length script) × Keeps old new) ⊎ WritesCheck config script old new (Err (fault.Script (error.ScriptFault found)))
+    ((found ≡ too_long) × (MOST_SCRIPT_BYTES < length script) × Keeps old new) ⊎ WritesCheck config script old new (Err (fault.Script (error.ScriptFault found)))
 PrintsCheck config script old new (Err (fault.Script error.ReadFault)) = Keeps old new
 PrintsCheck config script old new (Err (fault.Script error.Memory)) = Keeps old new
 PrintsCheck config script old new (Err (fault.Script error.WriteFault)) = ⊤

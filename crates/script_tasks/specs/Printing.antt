@@ -1,5 +1,5 @@
 -- What a run of a script on silos writes, from the bytes of the script alone.
-use Rattle.std.specs.Prelude.{◌≡◌, ◌⊎◌, ℕ, List, [], ◌++◌, map, Option, Some, None, Result, Ok, Err, length, nat_lt, ⊤, if◌then◌else◌}
+use Rattle.std.specs.Prelude.{◌≡◌, ◌⊎◌, ℕ, Bool, true, false, ◌==◌, List, [], ◌∷◌, ◌++◌, map, Option, Some, None, Result, Ok, Err, length, nat_lt, ⊤, if◌then◌else◌}
 use Rattle.std.specs.Io.KnownBytes.{Appends, Keeps}
 use Rattle.std.specs.List.{AllByRecursion, flat_map}
 use Rattle.stream_model.specs.declared.op.Op.{Op}
@@ -15,8 +15,12 @@ use Rattle.script_reader.specs.declared.script_line.ScriptLine.{ScriptLine}
 use Rattle.script_reader.specs.ScriptReport.{line_text, script_lines, script_text}
 use Rattle.script_parser.specs.declared.command.Fault.{Fault}
 use Rattle.script_parser.specs.Lines.{lines_of}
+use Rattle.script_parser.specs.declared.limits.TheConstants.{MOST_SCRIPT_BYTES}
 use Rattle.script_reader.specs.Scripts.{lines_after}
-use Rattle.trace_printer.specs.Traces.{traces_from}
+use Rattle.trace_printer.specs.Traces.{trace_text, traces_from}
+use Rattle.script_tasks.specs.declared.shown.Shown.{Shown}
+use Rattle.script_tasks.specs.declared.summary.Detail.{Detail}
+use Rattle.script_tasks.specs.declared.summary.Detail.TheVariants as detail
 use Rattle.cluster_ending.specs.declared.closing.Traces.{Traces}
 use Rattle.stream_cluster.specs.declared.config.Config.{Config}
 use Rattle.cluster_scripts.specs.declared.outcome.Ran.{Ran}
@@ -34,7 +38,7 @@ use Rattle.stream_script.specs.Simulation.{too_long}
 -- the commands of a script that is to be run on so many queues, with the numbers of their lines, or its fault
 abbrev pub commands_of : ℕ → List ℕ → Result (List Line) Fault
 commands_of queues script =
-    if nat_lt 4194304 (length script) then Err too_long else lines_after queues 0 (lines_of script)
+    if nat_lt MOST_SCRIPT_BYTES (length script) then Err too_long else lines_after queues 0 (lines_of script)
 
 -- the history is legal from the empty partition of the configuration, and so is each of these
 abbrev pub IsLegalAt : Config → List (Entry Op Reply) → Type 0
@@ -43,54 +47,82 @@ IsLegalAt config history = IsLegal replied after (empty config.blocks config.lim
 abbrev pub AreLegalAt : Config → List (List (Entry Op Reply)) → Type 0
 AreLegalAt config histories = AllByRecursion (IsLegalAt config) histories
 
+-- the line of an event in a report: it alone begins with a space
+abbrev pub is_event_line : List ℕ → Bool
+is_event_line [] = false
+is_event_line (byte ∷ bytes) = byte == 32
+
+abbrev pub kept_line : List ℕ → List ℕ
+kept_line line = if is_event_line line then [] else line ++ 10 ∷ []
+
+-- the text without the lines of events
+abbrev pub without_events : List ℕ → List ℕ
+without_events text = flat_map kept_line (lines_of text)
+
+-- what is printed of the text of a run
+abbrev pub printed_text : Detail → List ℕ → List ℕ
+printed_text detail.Events text = text
+printed_text detail.Counts text = without_events text
+
+-- whether a queue is the one that is shown, or all are
+abbrev pub is_seen : Option ℕ → ℕ → Bool
+is_seen None queue = true
+is_seen (Some one) queue = one == queue
+
+-- what is shown of the history of a queue
+abbrev pub seen : Shown → ℕ → List (Entry Op Reply) → List ℕ
+seen shown queue history = if is_seen shown.queue queue then trace_text shown.calls queue history else []
+
 -- What was written of a run without a report: what the lines print that are done. There are legal histories of all queues
 -- in which producers asked and were told what the script tells of these lines, and past that no more than the line behind
 -- them may have told until it was stopped.
-abbrev pub PrintsFront : Config → List Line → Option (List ℕ) → Option (List ℕ) → Type 0
-PrintsFront config lines old new =
+abbrev pub PrintsFront : Config → Detail → List Line → Option (List ℕ) → Option (List ℕ) → Type 0
+PrintsFront config much lines old new =
     (done left : List Line) × (missed : List ℕ) × (histories : List (List (Entry Op Reply))) × (lines ≡ done ++ left)
     × (length histories ≡ config.queues) × AreLegalAt config histories × TellFront missed done left histories
-    × Appends old new (flat_map line_text (script_lines missed config.silos done))
+    × Appends old new (printed_text much (flat_map line_text (script_lines missed config.silos done)))
 
 -- Where passes are missing in the end, which is called a limit, lines were written of which nothing is said.
-abbrev pub PrintsSome : Unfinished → Option (List ℕ) → Option (List ℕ) → Type 0
-PrintsSome why old new = (why ≡ unfinished.Limit) × (found : List ScriptLine) × Appends old new (flat_map line_text found)
+abbrev pub PrintsSome : Detail → Unfinished → Option (List ℕ) → Option (List ℕ) → Type 0
+PrintsSome much why old new = (why ≡ unfinished.Limit) × (found : List ScriptLine) × Appends old new (printed_text much (flat_map line_text found))
 
--- What was written, by how the run ended. Where it ended well, it is the text of the script, whatever the silos did: that
+-- What was written, by how the run ended, whole or without the lines of events. Where it ended well, it is the text of the
+-- script, whatever the silos did: that
 -- leaves open only which lines were refused because their start token was gone, and these are so in legal histories of all
 -- queues, in which producers asked and were told what the script tells. Where the script can't be read or is faulty, or
 -- memory ran out, nothing was written.
-abbrev pub PrintsRun : Config → List ℕ → Option (List ℕ) → Option (List ℕ) → Result Unit ProgramFault → Type 0
-PrintsRun config script old new (Ok done) =
+abbrev pub PrintsRun : Config → Detail → List ℕ → Option (List ℕ) → Option (List ℕ) → Result Unit ProgramFault → Type 0
+PrintsRun config much script old new (Ok done) =
     (lines : List Line) × (missed : List ℕ) × (histories : List (List (Entry Op Reply))) × (commands_of config.queues script ≡ Ok lines)
     × (length histories ≡ config.queues) × AreLegalAt config histories × TellScript missed lines histories
-    × Appends old new (script_text config.queues missed config.silos lines)
-PrintsRun config script old new (Err (fault.Script (error.ScriptFault found))) =
+    × Appends old new (printed_text much (script_text config.queues missed config.silos lines))
+PrintsRun config much script old new (Err (fault.Script (error.ScriptFault found))) =
     (commands_of config.queues script ≡ Err found) × Keeps old new
-PrintsRun config script old new (Err (fault.Script error.ReadFault)) = Keeps old new
-PrintsRun config script old new (Err (fault.Script error.Memory)) = Keeps old new
-PrintsRun config script old new (Err (fault.Script error.WriteFault)) = ⊤
-PrintsRun config script old new (Err (fault.Unfinished why)) =
-    (lines : List Line) × (commands_of config.queues script ≡ Ok lines) × (PrintsFront config lines old new ⊎ PrintsSome why old new)
-PrintsRun config script old new (Err (fault.CommandLine error)) = ⊥
+PrintsRun config much script old new (Err (fault.Script error.ReadFault)) = Keeps old new
+PrintsRun config much script old new (Err (fault.Script error.Memory)) = Keeps old new
+PrintsRun config much script old new (Err (fault.Script error.WriteFault)) = ⊤
+PrintsRun config much script old new (Err (fault.Unfinished why)) =
+    (lines : List Line) × (commands_of config.queues script ≡ Ok lines) × (PrintsFront config much lines old new ⊎ PrintsSome much why old new)
+PrintsRun config much script old new (Err (fault.CommandLine error)) = ⊥
 
--- What a trace has written, by how the run ended: the histories of all queues, in which producers asked and were told
+-- What a trace has written, by how the run ended: what is shown of the histories of all queues, in which producers asked and were told
 -- what the script tells. Where the run has no report, it wrote the histories as far as they went, which tell a front of the
 -- script and at most a part of the line behind it, or nothing.
-abbrev pub PrintsTrace : Config → List ℕ → Option (List ℕ) → Option (List ℕ) → Result Unit ProgramFault → Type 0
-PrintsTrace config script old new (Ok done) =
+abbrev pub PrintsTrace : Config → Shown → List ℕ → Option (List ℕ) → Option (List ℕ) → Result Unit ProgramFault → Type 0
+PrintsTrace config shown script old new (Ok done) =
     (lines : List Line) × (missed : List ℕ) × (histories : List (List (Entry Op Reply))) × (commands_of config.queues script ≡ Ok lines)
     × (length histories ≡ config.queues) × AreLegalAt config histories × TellScript missed lines histories
-    × Appends old new (traces_from 0 histories)
-PrintsTrace config script old new (Err (fault.Script (error.ScriptFault found))) =
+    × Appends old new (traces_from (seen shown) 0 histories)
+PrintsTrace config shown script old new (Err (fault.Script (error.ScriptFault found))) =
     (commands_of config.queues script ≡ Err found) × Keeps old new
-PrintsTrace config script old new (Err (fault.Script error.ReadFault)) = Keeps old new
-PrintsTrace config script old new (Err (fault.Script error.Memory)) = ⊤
-PrintsTrace config script old new (Err (fault.Script error.WriteFault)) = ⊤
-PrintsTrace config script old new (Err (fault.Unfinished why)) =
+PrintsTrace config shown script old new (Err (fault.Script error.ReadFault)) = Keeps old new
+PrintsTrace config shown script old new (Err (fault.Script error.Memory)) = ⊤
+PrintsTrace config shown script old new (Err (fault.Script error.WriteFault)) = ⊤
+PrintsTrace config shown script old new (Err (fault.Unfinished why)) =
     (lines done left : List Line) × (missed : List ℕ) × (histories : List (List (Entry Op Reply))) × (commands_of config.queues script ≡ Ok lines)
-    × (lines ≡ done ++ left) × AreLegalAt config histories × TellFront missed done left histories × Appends old new (traces_from 0 histories)
-PrintsTrace config script old new (Err (fault.CommandLine error)) = ⊥
+    × (lines ≡ done ++ left) × AreLegalAt config histories × TellFront missed done left histories
+    × Appends old new (traces_from (seen shown) 0 histories)
+PrintsTrace config shown script old new (Err (fault.CommandLine error)) = ⊥
 
 module _ {H : Type 0} (entries : H → List (Entry Op Reply)) where
   -- What came of a script that was to be run: its run, or why there is none.
@@ -124,18 +156,18 @@ WritesRun old new text (Err (fault.Script error.Memory)) end = Keeps old new
 WritesRun old new text _ end = ⊥
 
 -- the histories of all queues as they are written
-abbrev pub traces_text : Traces (AskedHistory Op Reply) → List ℕ
-traces_text traces = traces_from 0 (map asked_entries traces.histories.items)
+abbrev pub traces_text : Shown → Traces (AskedHistory Op Reply) → List ℕ
+traces_text shown traces = traces_from (seen shown) 0 (map asked_entries traces.histories.items)
 
 -- so are those of a run without a report, of which nothing is written where passes are missing
-abbrev pub text_left : Option (Traces (AskedHistory Op Reply)) → List ℕ
-text_left (Some traces) = traces_text traces
-text_left None = []
+abbrev pub text_left : Shown → Option (Traces (AskedHistory Op Reply)) → List ℕ
+text_left shown (Some traces) = traces_text shown traces
+text_left shown None = []
 
 -- What a run has left was written. It ended as the run did.
-abbrev pub WritesEnd : Option (List ℕ) → Option (List ℕ) → RunEnd (AskedHistory Op Reply) → Result Unit ProgramFault → Type 0
-WritesEnd old new (ends.Report text traces) (Ok done) = Appends old new (traces_text traces)
-WritesEnd old new (ends.Unfinished why left) (Err (fault.Unfinished told)) = (told ≡ why) × Appends old new (text_left left)
-WritesEnd old new end (Err (fault.Script error.WriteFault)) = ⊤
-WritesEnd old new end (Err (fault.Script error.Memory)) = ⊤
-WritesEnd old new end _ = ⊥
+abbrev pub WritesEnd : Shown → Option (List ℕ) → Option (List ℕ) → RunEnd (AskedHistory Op Reply) → Result Unit ProgramFault → Type 0
+WritesEnd shown old new (ends.Report text traces) (Ok done) = Appends old new (traces_text shown traces)
+WritesEnd shown old new (ends.Unfinished why left) (Err (fault.Unfinished told)) = (told ≡ why) × Appends old new (text_left shown left)
+WritesEnd shown old new end (Err (fault.Script error.WriteFault)) = ⊤
+WritesEnd shown old new end (Err (fault.Script error.Memory)) = ⊤
+WritesEnd shown old new end _ = ⊥

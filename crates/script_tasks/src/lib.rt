@@ -6,7 +6,9 @@ mod checking;
 mod fault;
 mod options;
 mod performing;
+mod shown;
 mod silos;
+mod summary;
 
 pub use checking::check_source;
 pub use fault::ProgramFault;
@@ -15,4 +17,7 @@ pub use options::{
     sim_config, trace_config, unread_words,
 };
 pub use performing::{end, perform, perform_task, perform_words};
+pub use shown::Shown;
 pub use silos::{run_on_silos, trace_on_silos};
+pub use summary::Detail;
+pub use trace_printer::Calls;

@@ -4,10 +4,12 @@ ghost use Rattle.std.specs.IoError.{error_kind};
 ghost use Rattle.std.specs.declared.io.ErrorKind.TheVariants.{InvalidData};
 ghost use Rattle.clap.specs.Values.{kind_of};
 ghost use Rattle.stream_cluster.specs.Clusters.{IsConfig};
-ghost use Rattle.script_tasks.specs.Tasks.{IsTask, check_with, cluster_with, simulation_with};
+ghost use Rattle.script_tasks.specs.Tasks.{IsShown, IsTask, check_with, cluster_with, simulation_with};
 ghost use Rattle.script_tasks.specs.declared.options.Task.TheVariants.{Simulate};
 ghost use Rattle.stream_script.specs.Simulation.{IsSimConfig};
 
+use crate::shown::Shown;
+use crate::summary::Detail;
 use clap::error::ErrorKind;
 use clap::{Arg, ArgAction, ArgMatches, Command, value_parser};
 use script_parser::Mode;
@@ -17,6 +19,7 @@ use stream_cluster::Config;
 use stream_ident::{MOST_BLOCKS, MOST_ENTRIES, MOST_QUEUES, MOST_SILOS};
 use stream_model::Limits;
 use stream_script::SimConfig;
+use trace_printer::Calls;
 
 /// What `streams --version` says behind the name.
 const VERSION: &str = "0.1.0";
@@ -24,6 +27,7 @@ const VERSION: &str = "0.1.0";
 /// What help says below the subcommands.
 const STATUSES: &str =
     r#"Without a subcommand a script is simulated. `streams sim --help` and `streams run --help` show an example.
+Each of sim, run, trace and check reads its script from FILE, or else from standard input.
 
 Exit status: 0 done; 1 a line is faulty; 2 the command line is faulty; 3 reading or writing failed, or
 memory ran out; 4 a run met a limit, or not all of it was handled."#;
@@ -76,6 +80,8 @@ numbers, and the report tells what each subscription has handled:
       0.0 "paid"
       1.0 "shipped"
 
+With --summary the two lines of events are missing, and the 2 in front of them tells how many there are.
+
 This needs --silos 2, since the last silo can't leave. Lines that are empty or begin with # are passed
 over, but counted. More of this stands in docs/SCRIPT.md, and another script in examples/auctions.script.
 
@@ -101,6 +107,8 @@ the trace may begin so:
     # 0 dry
     pub orders/17 "paid"
     # 0 published 0
+
+With --busy the pull that was answered `dry` is missing, and so is each look that found nothing.
 
 The lines of a queue stand together, behind a comment that names it, and are a script of their own: as
 `rule` and `quiet` act on each queue of a simulation, it is simulated with the same number of queues, and
@@ -149,9 +157,9 @@ pub enum Task {
     /// It is simulated, on one thread.
     Simulate(SimConfig),
     /// It is run, on silos in threads.
-    Run(Config),
+    Run(Config, Detail),
     /// It is run, and what was done at each queue is printed.
-    Trace(Config),
+    Trace(Config, Shown),
     /// Its lines are checked, and nothing is done.
     Check(CheckConfig),
 }
@@ -182,7 +190,7 @@ pub fn parse_options<'a>(alloc: Global, words: &'a [String]) -> Result<Request<'
     };
     Ok(Request {
         file: given.get_str("file"),
-        task: task_of(name, given),
+        task: task_of(alloc, name, given)?,
     })
 }
 
@@ -223,19 +231,92 @@ fn usual<'a>() -> Request<'a>
 }
 
 /// What the words of a subcommand ask for.
-fn task_of(name: &str, given: &ArgMatches<'_>) -> Task
-    ensures { IsTask result }
+fn task_of(alloc: Global, name: &str, given: &ArgMatches<'_>) -> Result<Task, clap::Error>
+    ensures { IfOk result (λ task. IsTask task) }
 {
-    let queues = number(given, "queues", 1);
-    if name == "check" {
-        return Task::Check(check_config(queues, given.get_flag("run")));
-    }
-    let blocks = number(given, "blocks", 4);
     match name {
-        "run" => Task::Run(run_config(queues, blocks, number(given, "silos", 1))),
-        "trace" => Task::Trace(trace_config(queues, blocks, number(given, "silos", 1))),
-        _ => Task::Simulate(sim_config(queues, blocks)),
+        "run" => Ok(Task::Run(
+            run_config(queues_of(given), blocks_of(given), silos_of(given)),
+            detail_of(given),
+        )),
+        "trace" => trace_of(alloc, given),
+        "check" => Ok(Task::Check(check_config(queues_of(given), mode_of(given)))),
+        _ => Ok(Task::Simulate(sim_config(queues_of(given), blocks_of(given)))),
     }
+}
+
+/// The trace that the words ask for.
+fn trace_of(alloc: Global, given: &ArgMatches<'_>) -> Result<Task, clap::Error>
+    ensures { IfOk result (λ task. IsTask task) }
+{
+    let config = trace_config(queues_of(given), blocks_of(given), silos_of(given));
+    let shown = shown_of(alloc, given, config.queues)?;
+    Ok(Task::Trace(config, shown))
+}
+
+/// What a trace shows.
+fn shown_of(alloc: Global, given: &ArgMatches<'_>, queues: usize) -> Result<Shown, clap::Error>
+    ensures { IfOk result (λ shown. IsShown queues shown) }
+{
+    let calls = calls_of(given);
+    match given.get_one::<u32>("queue") {
+        None => Ok(Shown { calls, queue: None }),
+        Some(queue) if (queue as usize) < queues => Ok(Shown {
+            calls,
+            queue: Some(queue as usize),
+        }),
+        Some(_) => Err(no_queue(alloc)?),
+    }
+}
+
+/// The mistake of a queue that there isn't.
+fn no_queue(alloc: Global) -> Result<clap::Error, AllocError> {
+    command(alloc)?.error(
+        ErrorKind::ValueValidation,
+        "the queue of --queue isn't below the number of --queues",
+    )
+}
+
+/// Which calls a trace shows.
+fn calls_of(given: &ArgMatches<'_>) -> Calls {
+    if given.get_flag("busy") {
+        Calls::Busy
+    } else {
+        Calls::All
+    }
+}
+
+/// How much is printed of a run.
+fn detail_of(given: &ArgMatches<'_>) -> Detail {
+    if given.get_flag("summary") {
+        Detail::Counts
+    } else {
+        Detail::Events
+    }
+}
+
+/// What a script that is checked is for.
+fn mode_of(given: &ArgMatches<'_>) -> Mode {
+    if given.get_flag("run") {
+        Mode::Run
+    } else {
+        Mode::Sim
+    }
+}
+
+/// How many queues.
+fn queues_of(given: &ArgMatches<'_>) -> u32 {
+    number(given, "queues", 1)
+}
+
+/// How many blocks.
+fn blocks_of(given: &ArgMatches<'_>) -> u32 {
+    number(given, "blocks", 4)
+}
+
+/// How many silos.
+fn silos_of(given: &ArgMatches<'_>) -> u32 {
+    number(given, "silos", 1)
 }
 
 /// The command with its four subcommands.
@@ -252,6 +333,7 @@ fn command<'a>(alloc: Global) -> Result<Command<'a>, AllocError> {
         .arg(silos(alloc))?
         .arg(queues(alloc))?
         .arg(blocks(alloc))?
+        .arg(summary_flag(alloc))?
         .after_help(RUN_EXAMPLE);
     let trace = Command::new(alloc, "trace")
         .about(
@@ -261,6 +343,8 @@ fn command<'a>(alloc: Global) -> Result<Command<'a>, AllocError> {
         .arg(silos(alloc))?
         .arg(queues(alloc))?
         .arg(blocks(alloc))?
+        .arg(busy_flag(alloc))?
+        .arg(queue(alloc))?
         .after_help(TRACE_EXAMPLE);
     let check = Command::new(alloc, "check")
         .about("Tells all faults of a script, or what stands in one without a fault")
@@ -317,6 +401,31 @@ fn blocks<'a>(alloc: Global) -> Arg<'a> {
         .default_value("4")
 }
 
+/// Whether the events are left out of a report.
+fn summary_flag<'a>(alloc: Global) -> Arg<'a> {
+    Arg::new(alloc, "summary")
+        .long("summary")
+        .help("Prints how many events each subscription has handled, without the events")
+        .action(ArgAction::SetTrue)
+}
+
+/// Whether the calls that found nothing are left out of a trace.
+fn busy_flag<'a>(alloc: Global) -> Arg<'a> {
+    Arg::new(alloc, "busy")
+        .long("busy")
+        .help("Leaves out the looks that found nothing to do")
+        .action(ArgAction::SetTrue)
+}
+
+/// The one queue that a trace shows.
+fn queue<'a>(alloc: Global) -> Arg<'a> {
+    Arg::new(alloc, "queue")
+        .long("queue")
+        .value_name("Q")
+        .help("Prints the history of this queue alone, the first of which is 0")
+        .value_parser(value_parser!(u32).range(0..MOST_QUEUES as i64))
+}
+
 /// Whether the script is one to run.
 fn run_flag<'a>(alloc: Global) -> Arg<'a> {
     Arg::new(alloc, "run")
@@ -343,12 +452,12 @@ pub fn sim_config(queues: u32, blocks: u32) -> SimConfig
 }
 
 /// The check of a script on this many queues, taken as 1 to 64.
-pub fn check_config(queues: u32, is_run: bool) -> CheckConfig
-    ensures { result ≡ check_with queues is_run }
+pub fn check_config(queues: u32, mode: Mode) -> CheckConfig
+    ensures { result ≡ check_with queues mode }
 {
     CheckConfig {
         queues: (queues as usize).clamp(1, MOST_QUEUES),
-        mode: if is_run { Mode::Run } else { Mode::Sim },
+        mode,
     }
 }
 

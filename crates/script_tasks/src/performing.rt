@@ -117,8 +117,8 @@ fn write_task<T: Threads + Wait + Copy + Send + 'static, R: Source, W: Write>(
 {
     let ended = match task {
         Task::Simulate(config) => return simulate(alloc, config, source, sink),
-        Task::Run(config) => run_on_silos(rt, alloc, &config, source, &mut sink),
-        Task::Trace(config) => trace_on_silos(rt, alloc, &config, source, &mut sink),
+        Task::Run(config, detail) => run_on_silos(rt, alloc, &config, detail, source, &mut sink),
+        Task::Trace(config, shown) => trace_on_silos(rt, alloc, &config, shown, source, &mut sink),
         Task::Check(config) => check_source(alloc, config, source, &mut sink),
     };
     (sink, ended)

@@ -4,9 +4,11 @@ ghost use Rattle.turnstile.specs.Asked.{asked_entries};
 ghost use Rattle.trace_printer.specs.Traces.{trace_text};
 ghost use Rattle.stream_cluster.specs.Clusters.{IsConfig};
 ghost use Rattle.cluster_scripts.specs.Runs.{AreLegal, LeavesLegalTraces, text_of};
-ghost use Rattle.script_tasks.specs.Printing.{IsLegalAt, PrintsRun, PrintsTrace, RunsSource, WritesEnd, WritesRun, WritesText, WritesTraces, text_left, traces_text};
+ghost use Rattle.script_tasks.specs.Printing.{IsLegalAt, PrintsRun, PrintsTrace, RunsSource, WritesEnd, WritesRun, WritesText, WritesTraces, printed_text, seen, text_left, traces_text};
 
 use crate::fault::ProgramFault;
+use crate::shown::Shown;
+use crate::summary::{Detail, printed};
 use activation_directory::{DirectoryOp, DirectoryReply};
 use cluster_ending::Traces;
 use cluster_scripts::{Ran, RunEnd, run, run_text};
@@ -20,10 +22,10 @@ use step_core::{Answer, Partition};
 use stream_cluster::Config;
 use stream_model::Op;
 use stream_script::{SimError, Source, read_script};
-use trace_printer::queue_trace;
+use trace_printer::{Calls, queue_trace};
 use turnstile::{AskedHistory, ProofHistory};
 
-/// Runs a script on silos, and writes what the run prints. All of the script is read before a thread is started, and
+/// Runs a script on silos, and writes what the run prints, whole or without the lines of events. All of the script is read before a thread is started, and
 /// no thread is left when the text is written.
 ///
 /// # Errors
@@ -33,6 +35,7 @@ pub fn run_on_silos<T: Threads + Wait + Copy + Send + 'static, R: Source, W: Wri
     rt: &T,
     alloc: Global,
     config: &Config,
+    detail: Detail,
     source: &mut R,
     sink: &mut W,
 ) -> Result<(), ProgramFault>
@@ -40,14 +43,14 @@ pub fn run_on_silos<T: Threads + Wait + Copy + Send + 'static, R: Source, W: Wri
     requires count { R.failures source.old < 2 ^ 64 - 1 }
     // What was written, where the source's bytes are known.
     ensures { IfSome (R.remaining source.old) (λ input.
-        PrintsRun config.now input (W.contents sink.old) (W.contents sink.new) result) }
+        PrintsRun config.now detail input (W.contents sink.old) (W.contents sink.new) result) }
 {
     let ran = run_source::<ProofHistory<Op, Answer>, T, R>(rt, alloc, config, source)?;
-    write_run(alloc, &ran, sink)
+    write_run(alloc, detail, &ran, sink)
 }
 
-/// Runs a script on silos, and writes what was done at each queue as a script that can be simulated, queue by queue.
-/// The rest is as for [`run_on_silos`]. A run without a report is written too, as far as it went.
+/// Runs a script on silos, and writes what was done at each queue that is shown as a script that can be simulated, queue by
+/// queue. The rest is as for [`run_on_silos`]. A run without a report is written too, as far as it went.
 ///
 /// # Errors
 /// They are those of [`run_on_silos`].
@@ -55,6 +58,7 @@ pub fn trace_on_silos<T: Threads + Wait + Copy + Send + 'static, R: Source, W: W
     rt: &T,
     alloc: Global,
     config: &Config,
+    shown: Shown,
     source: &mut R,
     sink: &mut W,
 ) -> Result<(), ProgramFault>
@@ -62,10 +66,10 @@ pub fn trace_on_silos<T: Threads + Wait + Copy + Send + 'static, R: Source, W: W
     requires count { R.failures source.old < 2 ^ 64 - 1 }
     // What was written, where the source's bytes are known.
     ensures { IfSome (R.remaining source.old) (λ input.
-        PrintsTrace config.now input (W.contents sink.old) (W.contents sink.new) result) }
+        PrintsTrace config.now shown input (W.contents sink.old) (W.contents sink.new) result) }
 {
     let ran = run_source::<AskedHistory<Op, Answer>, T, R>(rt, alloc, config, source)?;
-    write_end(alloc, config, &ran.end, sink)
+    write_end(alloc, config, shown, &ran.end, sink)
 }
 
 /// Reads a script and runs it on silos.
@@ -91,10 +95,15 @@ fn run_source<
 }
 
 /// Writes what a run prints.
-fn write_run<H, W: Write>(alloc: Global, ran: &Ran<H>, sink: &mut W) -> Result<(), ProgramFault>
-    ensures { WritesRun (W.contents sink.old) (W.contents sink.new) (text_of ran.now) result ran.now.end }
+fn write_run<H, W: Write>(
+    alloc: Global,
+    detail: Detail,
+    ran: &Ran<H>,
+    sink: &mut W,
+) -> Result<(), ProgramFault>
+    ensures { WritesRun (W.contents sink.old) (W.contents sink.new) (printed_text detail (text_of ran.now)) result ran.now.end }
 {
-    write_text(&run_text(alloc, ran)?, sink)?;
+    write_text(&printed(alloc, detail, run_text(alloc, ran)?)?, sink)?;
     match ran.end {
         RunEnd::Report { .. } => Ok(()),
         RunEnd::Unfinished { why, .. } => Err(ProgramFault::Unfinished(why)),
@@ -105,17 +114,18 @@ fn write_run<H, W: Write>(alloc: Global, ran: &Ran<H>, sink: &mut W) -> Result<(
 fn write_end<W: Write>(
     alloc: Global,
     config: &Config,
+    shown: Shown,
     end: &RunEnd<AskedHistory<Op, Answer>>,
     sink: &mut W,
 ) -> Result<(), ProgramFault>
     requires config { IsConfig config.now }
     requires legal { LeavesLegalTraces asked_entries config.now end.now }
-    ensures { WritesEnd (W.contents sink.old) (W.contents sink.new) end.now result }
+    ensures { WritesEnd shown (W.contents sink.old) (W.contents sink.new) end.now result }
 {
     match end {
-        RunEnd::Report { text: _, traces } => Ok(write_traces(alloc, config, traces, sink)?),
+        RunEnd::Report { text: _, traces } => Ok(write_traces(alloc, config, shown, traces, sink)?),
         RunEnd::Unfinished { why, traces } => {
-            write_left(alloc, config, traces, sink)?;
+            write_left(alloc, config, shown, traces, sink)?;
             Err(ProgramFault::Unfinished(*why))
         }
     }
@@ -125,50 +135,73 @@ fn write_end<W: Write>(
 fn write_left<W: Write>(
     alloc: Global,
     config: &Config,
+    shown: Shown,
     left: &Option<Traces<AskedHistory<Op, Answer>>>,
     sink: &mut W,
 ) -> Result<(), SimError>
     requires config { IsConfig config.now }
     requires legal { IfSome left.now (λ traces. AreLegal asked_entries config.now traces) }
-    ensures { WritesTraces (W.contents sink.old) (W.contents sink.new) (text_left left.now) result }
+    ensures { WritesTraces (W.contents sink.old) (W.contents sink.new) (text_left shown left.now) result }
 {
     match left {
-        Some(traces) => write_traces(alloc, config, traces, sink),
+        Some(traces) => write_traces(alloc, config, shown, traces, sink),
         None => Ok(()),
     }
 }
 
-/// Writes the histories of all queues, one behind another.
+/// Writes the histories of all queues that are shown, one behind another.
 fn write_traces<W: Write>(
     alloc: Global,
     config: &Config,
+    shown: Shown,
     traces: &Traces<AskedHistory<Op, Answer>>,
     sink: &mut W,
 ) -> Result<(), SimError>
     requires config { IsConfig config.now }
     requires legal { AreLegal asked_entries config.now traces.now }
-    ensures { WritesTraces (W.contents sink.old) (W.contents sink.new) (traces_text traces.now) result }
+    ensures { WritesTraces (W.contents sink.old) (W.contents sink.new) (traces_text shown traces.now) result }
 {
     for queue in 0..traces.histories.len() {
-        write_trace(alloc, config, queue, &traces.histories[queue], sink)?;
+        write_seen(alloc, config, shown, queue, &traces.histories[queue], sink)?;
     }
     Ok(())
 }
 
-/// Writes the history of a queue.
-fn write_trace<W: Write>(
+/// Writes the history of a queue, where it is shown.
+fn write_seen<W: Write>(
     alloc: Global,
     config: &Config,
+    shown: Shown,
     queue: usize,
     history: &AskedHistory<Op, Answer>,
     sink: &mut W,
 ) -> Result<(), SimError>
     requires config { IsConfig config.now }
     requires legal { IsLegalAt config.now (asked_entries history.now) }
-    ensures { WritesTraces (W.contents sink.old) (W.contents sink.new) (trace_text queue (asked_entries history.now)) result }
+    ensures { WritesTraces (W.contents sink.old) (W.contents sink.new) (seen shown queue (asked_entries history.now)) result }
+{
+    if shown.sees(queue) {
+        write_trace(alloc, config, shown.calls, queue, history, sink)
+    } else {
+        Ok(())
+    }
+}
+
+/// Writes the history of a queue.
+fn write_trace<W: Write>(
+    alloc: Global,
+    config: &Config,
+    calls: Calls,
+    queue: usize,
+    history: &AskedHistory<Op, Answer>,
+    sink: &mut W,
+) -> Result<(), SimError>
+    requires config { IsConfig config.now }
+    requires legal { IsLegalAt config.now (asked_entries history.now) }
+    ensures { WritesTraces (W.contents sink.old) (W.contents sink.new) (trace_text calls queue (asked_entries history.now)) result }
 {
     let mut partition = Partition::new(alloc, config.blocks, config.limits)?;
-    let text = queue_trace(alloc, queue, &mut partition, history)?;
+    let text = queue_trace(alloc, calls, queue, &mut partition, history)?;
     write_text(&text, sink)
 }
 

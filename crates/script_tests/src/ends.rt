@@ -2,7 +2,7 @@
 ghost use Rattle.stream_cluster.specs.Clusters.{IsConfig};
 
 use cluster_scripts::Unfinished;
-use script_tasks::{ProgramFault, run_config, run_on_silos};
+use script_tasks::{Detail, ProgramFault, run_config, run_on_silos};
 use stream_cluster::Config;
 use stream_script::Counted;
 
@@ -125,7 +125,14 @@ fn a_run_that_meets_a_limit_ends_with_status_four(rt: HostRuntime) {
         let mut source = Counted::new(end.script);
         let mut written = Vec::new(rt.alloc());
         let config = lessened(run_config(1, 4, end.silos), end.small);
-        let ended = run_on_silos(&rt, rt.alloc(), &config, &mut source, &mut written);
+        let ended = run_on_silos(
+            &rt,
+            rt.alloc(),
+            &config,
+            Detail::Events,
+            &mut source,
+            &mut written,
+        );
         assert!(rt; is_unfinished(&ended, end.why));
         assert!(rt; written.as_slice() == b"refused 1\n".as_slice());
     }

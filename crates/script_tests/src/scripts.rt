@@ -42,6 +42,20 @@ report
   1.0 \"c\"
 ";
 
+const COUNTED: &[u8] = b"refused 3
+refused 6
+refused 9
+refused 10
+refused 11
+refused 15
+refused 16
+report
+0:1 closed
+0:2 o/k g/y 2.0 1
+0:log@o/k o/k log/k 0.0 3
+0:log@o/m o/m log/m 0.0 1
+";
+
 /// Where all silos live none can come, and all but one can go.
 const SIXTEEN: &[u8] =
     b"sub o/k g/x latest\nup 15\ndown 9\npub o/k \"a\"\ndown 0\nup 9\npub o/k \"b\"";
@@ -173,10 +187,46 @@ static STORIES: [Story; 10] = [
     },
 ];
 
+/// What is printed of stories without the lines of events.
+static SUMMARIES: [Story; 3] = [
+    Story {
+        queues: 1,
+        blocks: 4,
+        silos: 2,
+        script: STORY,
+        printed: COUNTED,
+    },
+    Story {
+        queues: 1,
+        blocks: 4,
+        silos: 1,
+        script: b"sub o/k g/x latest\npub o/k \"  a\" \"\"\nunsub 0:2\n",
+        printed: b"refused 3\nreport\n0:1 o/k g/x 0.0 2\n",
+    },
+    Story {
+        queues: 2,
+        blocks: 4,
+        silos: 2,
+        script: b"",
+        printed: b"report\n",
+    },
+];
+
 #[test]
 fn a_run_prints_what_its_script_says(rt: HostRuntime) {
     for story in &STORIES {
         let task = task_of(Doing::Running, story.queues, story.blocks, story.silos);
+        let mut printed = Vec::new(rt.alloc());
+        let ended = perform_task(&rt, rt.alloc(), task, story.script, &mut printed);
+        assert!(rt; ended.is_ok());
+        assert!(rt; printed.as_slice() == story.printed);
+    }
+}
+
+#[test]
+fn a_summary_has_no_events(rt: HostRuntime) {
+    for story in &SUMMARIES {
+        let task = task_of(Doing::Summarizing, story.queues, story.blocks, story.silos);
         let mut printed = Vec::new(rt.alloc());
         let ended = perform_task(&rt, rt.alloc(), task, story.script, &mut printed);
         assert!(rt; ended.is_ok());

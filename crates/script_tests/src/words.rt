@@ -7,7 +7,7 @@ use std::test::Fail;
 /// What a command line asks for: what is done, the file or a dash, and how many queues, blocks and silos.
 type Asked = (Doing, &'static str, u32, u32, u32);
 
-static ASKED: [(&[&str], Asked); 15] = [
+static ASKED: [(&[&str], Asked); 18] = [
     (&["streams"], (Doing::Simulating, "-", 1, 4, 1)),
     (&["streams", "sim"], (Doing::Simulating, "-", 1, 4, 1)),
     (
@@ -52,6 +52,18 @@ static ASKED: [(&[&str], Asked); 15] = [
         ],
         (Doing::Tracing, "f", 2, 1, 3),
     ),
+    (
+        &["streams", "run", "--summary", "f"],
+        (Doing::Summarizing, "f", 1, 4, 1),
+    ),
+    (
+        &["streams", "trace", "--busy"],
+        (Doing::TracingBusy, "-", 1, 4, 1),
+    ),
+    (
+        &["streams", "trace", "--queue=0", "--queues", "2"],
+        (Doing::TracingQueue0, "-", 2, 4, 1),
+    ),
     (&["streams", "check"], (Doing::Checking, "-", 1, 4, 1)),
     (
         &["streams", "check", "--run", "f", "--queues", "64"],
@@ -60,7 +72,7 @@ static ASKED: [(&[&str], Asked); 15] = [
 ];
 
 /// Command lines that ask for no task, and the status that they end with.
-static REFUSED: [(&[&str], i32); 24] = [
+static REFUSED: [(&[&str], i32); 31] = [
     (&["streams", "sim", "--queues", "0"], 2),
     (&["streams", "sim", "--queues", "65"], 2),
     (&["streams", "sim", "--blocks", "0"], 2),
@@ -81,6 +93,13 @@ static REFUSED: [(&[&str], i32); 24] = [
     (&["streams", "run", "--help"], 0),
     (&["streams", "trace", "--silos", "17"], 2),
     (&["streams", "trace", "--help"], 0),
+    (&["streams", "trace", "--queue", "1"], 2),
+    (&["streams", "trace", "--queue=2", "--queues=2"], 2),
+    (&["streams", "trace", "--queue=64", "--queues=64"], 2),
+    (&["streams", "trace", "--summary"], 2),
+    (&["streams", "run", "--busy"], 2),
+    (&["streams", "run", "--queue", "0"], 2),
+    (&["streams", "sim", "--summary"], 2),
     (&["streams", "check", "--queues", "0"], 2),
     (&["streams", "check", "--silos", "2"], 2),
     (&["streams", "check", "--run", "f", "g"], 2),

@@ -32,7 +32,7 @@ use step_core::{Answer, Partition};
 use stream_cluster::Config;
 use stream_model::{Limits, Op};
 use stream_script::{Counted, SimConfig, read_script, sim};
-use trace_printer::queue_trace;
+use trace_printer::{Calls, queue_trace};
 use turnstile::{AskedHistory, ProofHistory};
 
 /// Files of worked examples, how many queues they have and how many blocks the cache of each, and how many of the examples
@@ -273,7 +273,7 @@ fn trace_of(
     requires legal { IsLegal replied after (empty config.now.blocks config.now.limits) (asked_entries history.now) }
 {
     let mut partition = Partition::new(alloc, config.blocks, config.limits)?;
-    Ok(queue_trace(alloc, queue, &mut partition, history)?)
+    Ok(queue_trace(alloc, Calls::All, queue, &mut partition, history)?)
 }
 
 /// Whether the trace of a queue, simulated, gives the replies that its comments tell, and doesn't where a comment is added.

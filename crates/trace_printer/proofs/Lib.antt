@@ -1,4 +1,5 @@
 pub mod Again
+pub mod Busy
 pub mod Joining
 pub mod OpPieces
 pub mod Printable

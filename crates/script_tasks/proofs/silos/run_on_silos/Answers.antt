@@ -7,5 +7,5 @@ use Rattle.script_tasks.proofs.silos.run_on_silos.Goals as goal
 
 pub returns : goal.returns
 returns g c =
-    run-written (λ (h : ProofHistory Op Reply). answered (recorded h.asked) (recorded h.replies)) c.args.config.now (g.R.Source.remaining c.args.source.now) (g.W.Write.contents c.args.sink.now) (g.W.Write.contents c.write_run.new.sink) c.in_ok-ran.ran c.write_run.result
+    run-written (λ (h : ProofHistory Op Reply). answered (recorded h.asked) (recorded h.replies)) c.args.config.now c.args.detail (g.R.Source.remaining c.args.source.now) (g.W.Write.contents c.args.sink.now) (g.W.Write.contents c.write_run.new.sink) c.in_ok-ran.ran c.write_run.result
     c.in_ok-ran.ensures.source c.in_ok-ran.ensures.legal c.write_run.ensures

@@ -21,12 +21,12 @@ loop-asked-preserved c =
     let asked = c.asked-item.result in
     let same = c.as_slice-asked-items.ensures in
     let is : asked ≡ get_or history.asked.items k asked = c.asked-item.is ∙ ap (λ l. get_or l k asked) same in
-    printed-next c.args.queue (heading c.args.queue) history.asked.items (recorded history.replies) k asked c.loop-asked.text.items c.push_call.new.text.items c.loop-asked.partition c.apply.new.self c.in_ok-reply.reply
-    history.counted (omega (arith, c.loop-asked-test.true, ap length same)) is c.loop-asked.invariant (ap (λ (x : PlainPartition × Reply). x.0) c.in_ok-reply.ensures.performs) (ap (λ (x : PlainPartition × Reply). x.1) c.in_ok-reply.ensures.performs) c.in_ok-push_call.ensures
+    printed-next c.args.calls c.args.queue (heading c.args.queue) history.asked.items (recorded history.replies) k asked c.loop-asked.text.items c.push_shown.new.text.items c.loop-asked.partition c.apply.new.self c.in_ok-reply.reply
+    history.counted (omega (arith, c.loop-asked-test.true, ap length same)) is c.loop-asked.invariant (ap (λ (x : PlainPartition × Reply). x.0) c.in_ok-reply.ensures.performs) (ap (λ (x : PlainPartition × Reply). x.1) c.in_ok-reply.ensures.performs) c.in_ok-push_shown.ensures
 
 pub returns : goal.returns
 returns c =
     let history = c.args.history.now in
     let k = c.loop-asked.asked-index in
     let all : k ≡ length history.asked.items = omega (arith, c.loop-asked-test.false, c.loop-asked.auto.asked-index-end, ap length c.as_slice-asked-items.ensures) in
-    printed-all c.args.queue (heading c.args.queue) history.asked.items (recorded history.replies) k c.loop-asked.text.items c.loop-asked.partition history.counted all c.loop-asked.invariant
+    printed-all c.args.calls c.args.queue (heading c.args.queue) history.asked.items (recorded history.replies) k c.loop-asked.text.items c.loop-asked.partition history.counted all c.loop-asked.invariant
