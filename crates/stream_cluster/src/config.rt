@@ -31,7 +31,7 @@ impl Config {
     ///
     /// Each queue still has room for 1,000,000 events and 4,000,000 rises in all, and the directory for 4,000,000
     /// permits, of which a worker takes one each time it finds a grain ready. After the last rise or permit the loops
-    /// that ask for one end: what is published is then no more handled, a drain answers `NotQuiet`, and the cluster ends
+    /// that ask for one end: what is published is then no more handled, a drain answers `Ended`, and the cluster ends
     /// with `Limit`.
     pub fn new(queues: usize, silos: u8) -> Config
         requires queues { (1 ≤ queues) × (queues ≤ MOST_QUEUES) }
