@@ -1,48 +1,61 @@
-//! A shop with two tills, each of which publishes what it sells from a thread of its own.
+//! A shop with two tills, each of which publishes what it sells by a producer of its own.
 use anyhow::Result;
+use std::alloc::Global;
 use std::sync::Arc;
-use std::thread::join_mut;
-use streams::{Config, Counting, Decode, Encode, GrainId, Host, Service, StartFrom, StreamId};
+use streams::{
+    Closed, Config, Counting, Decode, Encode, GrainId, Host, Service, StartFrom, StreamId,
+    StreamToken, Subscription,
+};
 
-/// Sells at both tills at the same time, audits that, and prints how many sales are handled.
+/// Sells at both tills, audits that, and prints what they have taken.
 pub fn run<R: Host + Print>(rt: R) -> Result<()> {
     let gate = Arc::new(rt.alloc(), Counting)?;
     let mut service = Service::open(rt, &Config::new(4, 2), gate)?;
     let sales = StreamId::new(b"sales", b"shop")?;
-    let refunds = StreamId::new(b"refunds", b"shop")?;
-    let ledger = GrainId::new(b"ledger", b"shop")?;
-    let auditor = GrainId::new(b"auditor", b"shop")?;
-    let all = service.subscribe(sales, ledger, StartFrom::Latest)?;
-    let (sale, refund) = ([450i64.encode()?], [(-120i64).encode()?]);
-    let (mut left, mut right) = (service.producer()?, service.producer()?);
-    let (first, second) = join_mut(
-        &rt,
-        &mut || left.publish(sales, &sale),
-        &mut || right.publish(sales, &refund),
-    );
+    let all = service.subscribe(sales, GrainId::new(b"ledger", b"shop")?, StartFrom::Latest)?;
+    let first = sell(&mut service, sales)?;
+    audit(&rt, &mut service, sales, first)?;
+    let closed = service.close()?;
+    let cents = taken(rt.alloc(), &closed, &all)?;
+    println!(rt; "they have taken {cents} cents")?;
+    Ok(())
+}
+
+// One till sells, and the other one takes something back. It gives the first of both.
+fn sell<R: Host>(service: &mut Service<R, Counting>, sales: StreamId) -> Result<StreamToken> {
+    let (sale, refund) = (450i64.encode()?, (-120i64).encode()?);
+    let mut left = service.producer()?;
+    let mut right = service.producer()?;
+    let first = left.publish(sales, &[sale]);
+    let second = right.publish(sales, &[refund]);
     service.take_back(left);
     service.take_back(right);
-    let (first, second) = (first?, second?);
-    // An auditor looks at the sales from the one that came first on.
-    let from = if first.token.is_before(&second.token) {
-        first
-    } else {
-        second
-    };
-    let audited = service.subscribe(sales, auditor, StartFrom::At(from))?;
-    if let Err(refused) = service.subscribe(refunds, auditor, StartFrom::At(from)) {
-        println!(rt; "refunds aren't audited: {refused}")?;
-    }
+    second?;
+    Ok(first?)
+}
+
+// An auditor looks at the sales from this one on.
+fn audit<R: Host + Print>(
+    rt: &R,
+    service: &mut Service<R, Counting>,
+    sales: StreamId,
+    first: StreamToken,
+) -> Result<()> {
+    let auditor = GrainId::new(b"auditor", b"shop")?;
+    let audited = service.subscribe(sales, auditor, StartFrom::At(first))?;
     service.settle()?;
-    let (handled, audited) = (service.unsubscribe(&all)?, service.unsubscribe(&audited)?);
-    println!(rt; "both tills have sold: {handled} sales are handled, and {audited} audited")?;
-    let closed = service.close()?;
+    let audited = service.unsubscribe(&audited)?;
+    println!(rt; "both tills have sold: {audited} sales are audited")?;
+    Ok(())
+}
+
+// What a subscription has handled comes to, in cents.
+fn taken(alloc: Global, closed: &Closed, all: &Subscription) -> Result<i64> {
+    let mut cents = 0i64;
     if let Some(partition) = closed.partitions.get(all.queue) {
-        let mut cents = 0i64;
-        for event in &partition.handled(rt.alloc(), &all.name())? {
+        for event in &partition.handled(alloc, &all.name())? {
             cents = cents.saturating_add(i64::decode(&event.payload)?);
         }
-        println!(rt; "they have taken {cents} cents")?;
     }
-    Ok(())
+    Ok(cents)
 }
