@@ -38,7 +38,7 @@ fn publish<R: Host>(service: &mut Service<R, Counting>) -> Result<(), Stop> {
     let stream = StreamId::new(b"o", b"k")?;
     match service.publish(stream, &[Payload::new(b"a")?]) {
         Ok(_token) => Ok(()),
-        Err(PublishError::Memory) => Err(Stop::Memory),
+        Err(PublishError::Memory | PublishError::Ended { .. }) => Err(Stop::Memory),
         Err(_) => Err(Stop::Wrong("an event isn't published")),
     }
 }
@@ -49,7 +49,7 @@ fn begin<R: Host>(service: &mut Service<R, Counting>) -> Result<(), Stop> {
     let grain = GrainId::new(b"g", b"x")?;
     match service.subscribe(stream, grain, StartFrom::Latest) {
         Ok(_subscription) => publish(service),
-        Err(SubscribeError::Memory) => Err(Stop::Memory),
+        Err(SubscribeError::Memory | SubscribeError::Ended { .. }) => Err(Stop::Memory),
         Err(_) => Err(Stop::Wrong("a grain doesn't subscribe")),
     }
 }
@@ -106,6 +106,7 @@ fn follow_change<R: Host>(
             )?;
             with_memory(go_on(service, true))
         }
+        Err(SiloError::Ended { .. }) => Err(Stop::Memory),
         Err(_) => Err(Stop::Wrong("the silos change otherwise")),
     }
 }

@@ -15,6 +15,7 @@ use Rattle.turnstile.specs.declared.history.Entry.{Entry}
 use Rattle.turnstile.specs.declared.recorded.ProofHistory.{ProofHistory}
 use Rattle.turnstile.specs.declared.turnstile.Refusal.{Refusal}
 use Rattle.turnstile.specs.Recorded.{answered, recorded}
+use Rattle.silo_loops.specs.declared.advance.LoopEnd.{LoopEnd}
 use Rattle.silo_loops.specs.Lines.{QueuePass, places}
 use Rattle.cluster_callers.specs.Calls.{CallerCalls, turnstiles}
 use Rattle.cluster_ending.specs.declared.finishing.Finished.{Finished}
@@ -72,16 +73,23 @@ pub record Reads {T : Type 0} (read : Result Reply Refusal → T) (old : List Qu
   pub calls : CallerCalls old queue op answer new
   pub is : result ≡ read answer
 
--- A batch was published at its stream's queue, or was refused there. Or nothing was done: there was no memory for it.
+-- a loop had ended before, and nothing was asked
+abbrev pub IsEnded : {T E S : Type 0} → (LoopEnd → E) → S → Result T E → S → Type 0
+IsEnded {T} {E} {S} ended old result new = (end : LoopEnd) × (result ≡ Err (ended end)) × (new ≡ old)
+
+-- A batch was published at its stream's queue, or was refused there. Or nothing was done: there was no memory for it, or
+-- a loop had ended before.
 abbrev pub Publishes : List QueuePass → StreamId → List (List ℕ) → Result StreamToken PublishError → List QueuePass → Type 0
 Publishes old stream payloads result new =
-    Reads (read.published stream) old (queue_of old stream) (op.Publish stream payloads) result new ⊎ ((result ≡ Err publish.Memory) × (new ≡ old))
+    Reads (read.published stream) old (queue_of old stream) (op.Publish stream payloads) result new
+    ⊎ (((result ≡ Err publish.Memory) × (new ≡ old)) ⊎ IsEnded publish.Ended old result new)
 
--- a subscription was asked for at its stream's queue, or nothing was done: the start is an event of another stream
+-- A subscription was asked for at its stream's queue. Or nothing was done: the start is an event of another stream, or a
+-- loop had ended before.
 abbrev pub Subscribes : List QueuePass → StreamId → GrainId → StartFrom → Result Subscription SubscribeError → List QueuePass → Type 0
 Subscribes old stream grain from result new =
     ((start : Start) × (read.start_for stream from ≡ Some start) × Reads (read.subscribed (queue_of old stream)) old (queue_of old stream) (op.Subscribe stream grain start) result new)
-    ⊎ ((read.start_for stream from ≡ None) × (result ≡ Err subscribe.OtherStream) × (new ≡ old))
+    ⊎ (((read.start_for stream from ≡ None) × (result ≡ Err subscribe.OtherStream) × (new ≡ old)) ⊎ IsEnded subscribe.Ended old result new)
 
 -- no queue has this number, and nothing was asked
 pub record HasNoQueue {T E : Type 0} (old : List QueuePass) (queue : ℕ) (e : E) (result : Result T E) (new : List QueuePass) : Type 0 where
@@ -131,7 +139,7 @@ pub record Comes (s : ServiceView) (silo : ℕ) (result : Result Unit SiloError)
   pub caller : t.caller ≡ s.caller
 
 abbrev pub ChangesUp : ServiceView → ℕ → Result Unit SiloError → ServiceView → Type 0
-ChangesUp s silo result t = Comes s silo result t ⊎ HasNoSilo s silo result t
+ChangesUp s silo result t = Comes s silo result t ⊎ (HasNoSilo s silo result t ⊎ IsEnded silos.Ended s result t)
 
 -- a silo went, or the cluster said why not
 pub record Goes (s : ServiceView) (silo : ℕ) (result : Result Unit SiloError) (t : ServiceView) : Type 0 where

@@ -4,6 +4,7 @@ ghost use Rattle.streams.specs.Answers as read;
 
 use cluster_ending::{Finished, Traces};
 use script_producer::Drained;
+use silo_loops::LoopEnd;
 use std::alloc::AllocError;
 use step_core::{Answer, Partition, Reply};
 use stream_cluster::{SiloDown, SiloUp};
@@ -96,6 +97,12 @@ pub enum PublishError {
     /// The batch has no payload, or more than 64.
     #[error("a batch has 1 to 64 payloads")]
     BadBatch,
+    /// A loop of a silo has ended before. Nothing was asked: what is published from then on may never be handled.
+    #[error("{end}")]
+    Ended {
+        /// What has ended it.
+        end: LoopEnd,
+    },
     /// With this batch the queue would have more events than it may have, or its history is full.
     #[error("a limit of the queue is reached")]
     Limit,
@@ -119,6 +126,12 @@ pub enum SubscribeError {
     /// The subscription was to start at an event of another stream. Nothing was asked.
     #[error("the start is an event of another stream")]
     OtherStream,
+    /// A loop of a silo has ended before. Nothing was asked: what is published from then on may never be handled.
+    #[error("{end}")]
+    Ended {
+        /// What has ended it.
+        end: LoopEnd,
+    },
     /// The queue has as many subscriptions as it may have, closed and implicit ones counted, or its history is full.
     #[error("a limit of the queue is reached")]
     Limit,
@@ -168,6 +181,12 @@ pub enum SiloError {
     /// Silos are numbered from 0 to 15. Nothing was done.
     #[error("silos are numbered from 0 to 15")]
     NoSilo,
+    /// A loop of a silo has ended before. Nothing was done. Only [`Service::silo_up`](crate::Service::silo_up) answers so.
+    #[error("{end}")]
+    Ended {
+        /// What has ended it.
+        end: LoopEnd,
+    },
     /// A silo that was to come lives already. Nothing was done.
     #[error("the silo lives already")]
     Already,

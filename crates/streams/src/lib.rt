@@ -36,7 +36,7 @@ pub use script_producer::{Drained, drain};
 pub use service::{Host, Service};
 pub use shared_partition::{Counting, Gate};
 pub use silo_crew::SiloLoops;
-pub use silo_loops::{Advance, AgentLoop, Doorbell, Over, WorkerLoop};
+pub use silo_loops::{Advance, AgentLoop, Doorbell, LoopEnd, Over, WorkerLoop};
 pub use step_core::{Answer, Outcome, Partition, SubSummary};
 pub use stream_cluster::{Cluster, Config, Retired, SiloDown, SiloUp};
 pub use stream_ident::{

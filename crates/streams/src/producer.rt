@@ -8,6 +8,7 @@ use crate::answers::{PublishError, StreamToken, published};
 use crate::service::Host;
 use queue_mapper::queue;
 use shared_partition::Gate;
+use silo_loops::LoopEnd;
 use std::marker::Model;
 use step_core::Answer;
 use stream_ident::{Batch, Payload, StreamId};
@@ -84,6 +85,9 @@ pub(crate) fn publish<R: Host, G: Gate>(
     ensures publishes { Publishes caller.old stream payloads.now result caller.new }
     ensures turnstiles { turnstiles caller.new ≡ turnstiles caller.old }
 {
+    if let Some(end) = ending(rt, caller) {
+        return Err(PublishError::Ended { end });
+    }
     let Ok(payloads) = Vec::from_slice(rt.alloc(), payloads) else {
         return Err(PublishError::Memory);
     };
@@ -93,6 +97,15 @@ pub(crate) fn publish<R: Host, G: Gate>(
         stream,
         ask(rt, caller, queue, Op::Publish { stream, payloads }),
     )
+}
+
+/// What has ended a loop of a silo by itself, where one has ended.
+pub(crate) fn ending<R: Host, G: Gate>(rt: &R, caller: &UntracedCaller<G>) -> Option<LoopEnd> {
+    let doorbell = caller.doorbell();
+    if !doorbell.has_ended() {
+        return None;
+    }
+    doorbell.loop_end(rt)
 }
 
 /// A caller makes one call at a queue.

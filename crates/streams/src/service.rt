@@ -9,7 +9,7 @@ use crate::answers::{
     SubscribeError, Subscription, UnsubscribeError, came, closing, pending_of, rule_added, settled,
     subscribed, unsubscribed, went,
 };
-use crate::producer::{Producer, ask, publish};
+use crate::producer::{Producer, ask, ending, publish};
 use crate::{UntracedCaller, UntracedCluster};
 use queue_mapper::queue;
 use script_producer::drain;
@@ -164,6 +164,9 @@ impl<R: Host, G: Gate + 'static> Service<R, G> {
         let Some(start) = from.start_for(&stream) else {
             return Err(SubscribeError::OtherStream);
         };
+        if let Some(end) = ending(&self.rt, &self.caller) {
+            return Err(SubscribeError::Ended { end });
+        }
         let queue = self.queue_of(&stream);
         let op = Op::Subscribe {
             stream,
@@ -247,7 +250,7 @@ impl<R: Host, G: Gate + 'static> Service<R, G> {
     /// A silo comes: its loops are started, and the queues are spread over all silos that live.
     ///
     /// # Errors
-    /// They are those of [`SiloError`]. After `NoSilo`, `Already` and `Halted` nothing was done. After `Limit` and
+    /// They are those of [`SiloError`]. After `NoSilo`, `Ended`, `Already` and `Halted` nothing was done. After `Limit` and
     /// `Memory` what was answered by then stands, and no silo comes or goes any more. Where not all of the silo's threads
     /// could be made, one of them may have stopped with a turn in hand, so [`settle`](Service::settle) answers `Ended`
     /// unless all is quiet; [`close`](Service::close) still ends the service.
@@ -257,6 +260,9 @@ impl<R: Host, G: Gate + 'static> Service<R, G> {
     {
         if silo >= MOST_SILOS {
             return Err(SiloError::NoSilo);
+        }
+        if let Some(end) = ending(&self.rt, &self.caller) {
+            return Err(SiloError::Ended { end });
         }
         came(self.cluster.silo_up(&self.rt, self.rt.alloc(), silo))
     }
