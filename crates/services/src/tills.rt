@@ -14,7 +14,7 @@ pub fn run<R: Host + Print>(rt: R) -> Result<()> {
     let sales = StreamId::new(b"sales", b"shop")?;
     let all = service.subscribe(sales, GrainId::new(b"ledger", b"shop")?, StartFrom::Latest)?;
     let first = sell(&mut service, sales)?;
-    audit(&rt, &mut service, first)?;
+    audit(&rt, &mut service, sales, first)?;
     let closed = service.close()?;
     let cents = taken(rt.alloc(), &closed, &all)?;
     println!(rt; "they have taken {cents} cents")?;
@@ -34,18 +34,15 @@ fn sell<R: Host>(service: &mut Service<R, Counting>, sales: StreamId) -> Result<
     Ok(first?)
 }
 
-// An auditor looks at the sales from this one on, and may not look at refunds from there.
+// An auditor looks at the sales from this one on.
 fn audit<R: Host + Print>(
     rt: &R,
     service: &mut Service<R, Counting>,
+    sales: StreamId,
     first: StreamToken,
 ) -> Result<()> {
     let auditor = GrainId::new(b"auditor", b"shop")?;
-    let refunds = StreamId::new(b"refunds", b"shop")?;
-    let audited = service.subscribe(first.stream, auditor, StartFrom::At(first))?;
-    if let Err(refused) = service.subscribe(refunds, auditor, StartFrom::At(first)) {
-        println!(rt; "refunds aren't audited: {refused}")?;
-    }
+    let audited = service.subscribe(sales, auditor, StartFrom::At(first))?;
     service.settle()?;
     let audited = service.unsubscribe(&audited)?;
     println!(rt; "both tills have sold: {audited} sales are audited")?;
