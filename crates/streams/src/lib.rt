@@ -3,10 +3,10 @@
 //! A [`Service`] has queues, and silos that are threads: it publishes to streams, subscribes grains, and is closed with
 //! a report and what is left of each partition. A [`Gate`] has the handler, which is called for each event of a turn.
 //!
-//! A service is a [`Cluster`] with its first [`Caller`]. [`Service::producer`] gives a [`Producer`], which publishes in
-//! another thread, and [`Service::take_back`] takes it in again.
+//! A service is a [`Cluster`] with its first [`Caller`]. [`Service::producer`] gives a [`Producer`], which publishes
+//! beside it, and [`Service::take_back`] takes it in again.
 //!
-//! Whoever does more than publish from several threads makes a cluster and its caller by
+//! Whoever publishes from several threads makes a cluster and its caller by
 //! [`UntracedCluster::new`](Cluster::new): [`Caller::split`] gives a caller for another thread, which asks by
 //! [`Caller::call`] at the queue that [`queue`]`(&stream, caller.queues())` gives, or by [`Caller::ask`], whose small
 //! [`Answer`] stands for the [`Reply`]. [`Caller::join`] takes a caller in again, and [`Cluster::finish`] ends the

@@ -1,4 +1,4 @@
-//! What publishes to the streams of a service, in any thread.
+//! What publishes to the streams of a service beside it.
 ghost use Rattle.std.specs.Prelude.{◌≡◌, ◌<◌, ◌≤◌, length};
 ghost use Rattle.cluster_callers.specs.Calls.{CallerCalls, turnstiles};
 ghost use Rattle.streams.specs.Services.{Publishes};
@@ -15,7 +15,7 @@ use stream_ident::{Batch, Payload, StreamId};
 use stream_model::Op;
 use turnstile::Refusal;
 
-/// Publishes to the streams of a service from a thread of its own.
+/// Publishes to the streams of a service beside it.
 ///
 /// [`Service::producer`](crate::Service::producer) makes it, and [`Service::take_back`](crate::Service::take_back) takes
 /// it in again. A contract sees it as its passes, in the order of the queues.

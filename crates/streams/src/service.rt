@@ -117,7 +117,7 @@ impl<R: Host, G: Gate + 'static> Service<R, G> {
         publish(&self.rt, &mut self.caller, stream, payloads)
     }
 
-    /// What publishes to this service from another thread. It has seen as much as the service has, and has published
+    /// What publishes to this service beside it. It has seen as much as the service has, and has published
     /// nothing.
     ///
     /// Hand it back by [`take_back`](Service::take_back) before [`close`](Service::close), which answers `NotAll` while
