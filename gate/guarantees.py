@@ -96,13 +96,21 @@ def comment_at(lines, at):
     return comment
 
 
+def names_from(module, top):
+    """What the root of a crate hands on of a module."""
+    return set(re.findall(r"\w+", " ".join(re.findall(rf"^pub use {module}::([^;]*);", top, re.M))))
+
+
 def calls_of(source):
     """The public calls of a crate: the name of each, its comment and its clauses."""
     top = (source / "lib.rt").read_text()
     named = set(re.findall(r"\w+", " ".join(re.findall(r"^pub use ([^;]*);", top, re.M))))
     modules = set(re.findall(r"^pub mod (\w+);", top, re.M))
     for file in sorted(source.rglob("*.rt"), key=lambda file: (file.name != "lib.rt", file.as_posix())):
-        module = file.relative_to(source).with_suffix("").parts[0]
+        parts = file.relative_to(source).with_suffix("").parts
+        is_handed_on = len(parts) > 1 and parts[1] in names_from(parts[0], top)
+        module = parts[1] if is_handed_on else parts[0]
+        is_public = is_handed_on or module in modules
         lines, owner = file.read_text().splitlines(), None
         for at, line in enumerate(lines):
             if BLOCK.match(line):
@@ -113,12 +121,12 @@ def calls_of(source):
             if not match or (line[0] == " ") != (owner is not None):
                 continue
             name, of_trait, is_trait = owner or (match[2], None, False)
-            if not (module == "lib" or module in modules or name in named):
+            if not (module == "lib" or is_public or name in named):
                 continue
             clauses = clauses_at(lines, at)
             if match[1] or is_trait or (of_trait and clauses):
                 title = f"`{name}::{match[2]}`" if owner else f"`{name}`"
-                title = f"`{module}::{title[1:]}" if module in modules else title
+                title = f"`{module}::{title[1:]}" if is_public else title
                 title += f", of `{of_trait}`" if of_trait else ""
                 yield title, plain(comment_at(lines, at)), clauses
 

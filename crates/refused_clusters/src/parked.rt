@@ -1,10 +1,10 @@
 //! A parked cluster, whose operator takes back the loops of a silo. It starts no thread.
 ghost use Rattle.std.specs.Prelude.{◌≡◌, ◌<◌, length, map, true};
 ghost use Rattle.std.specs.List.{AllByRecursion};
-ghost use Rattle.cluster_ending.specs.Gathering.{AreAt};
-ghost use Rattle.silo_crew.specs.Silos.{SiloView};
+ghost use Rattle.silo_threads.specs.Gathering.{AreAt};
+ghost use Rattle.silo_loops.specs.Silos.{SiloView};
 ghost use Rattle.silo_loops.specs.Lines.{places};
-ghost use Rattle.stream_cluster.specs.Clusters.{RunsOn};
+ghost use Rattle.silo_threads.specs.Clusters.{RunsOn};
 
 use refused_calls::{Came, Stop, check, with_memory};
 use shared_partition::{DirectoryHistory, QueueHistory};

@@ -3,10 +3,10 @@ use crate::trying::{Tried, try_call};
 use activation_directory::{Directory, DirectoryOp, DirectoryReply};
 use queue_balancer::{Assignment, RebalanceError, rebalance};
 use refused_calls::{Came, Stop};
-use script_parser::{Mode, Parsed, parse_line};
 use std::alloc::{AllocError, Global};
 use std::fmt::Debug;
 use stream_ident::{BadName, GrainId};
+use stream_script::{Mode, Parsed, parse_line};
 
 /// An operation on a directory: on an empty one, or on one in which three grains are placed on silo 0, the first without
 /// its permit.

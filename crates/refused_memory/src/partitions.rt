@@ -1,9 +1,9 @@
 //! The calls of a partition.
 use crate::trying::{Tried, try_call};
 use refused_calls::{Came, Stop, check, with_memory};
-use script_parser::{Command, Mode, Parsed, parse_line};
 use std::alloc::{AllocError, Global};
 use step_core::{DrainEnd, Limits, Op, Partition, Quiet, Reply};
+use stream_script::{Command, Mode, Parsed, parse_line};
 
 /// The way of an event, up to its commit.
 pub(crate) const STORY: [&str; 7] = [

@@ -4,7 +4,7 @@ use Rattle.std.proofs.lemmas.Bool.{cases_Bool, eqb-true, eqb-false}
 use Rattle.std.proofs.lemmas.List.{get_or-set_same, get_or-set_other, get_or-replicate, length-set}
 use Rattle.std.proofs.lemmas.List.Sums.{sum_by-cons}
 use Rattle.stream_ident.specs.declared.ident.StreamId.{StreamId}
-use Rattle.script_parser.specs.declared.command.Command.{Command}
+use Rattle.stream_script.specs.declared.parser.command.Command.{Command}
 use Rattle.script_checker.specs.declared.verb.Verb.{Verb}
 use Rattle.script_checker.specs.declared.verb.Verb.TheVariants.{Pub, Sub, Unsub, Rule, Pull, Deliver, Retry, Ack, Purge, Move, Begin, Commit, Deactivate, Ready, Due, Quiet, Drain, Report, Up, Down}
 use Rattle.script_checker.specs.Counts.{verb_in, number_of}

@@ -5,12 +5,12 @@ use Rattle.std.specs.Prelude.{unwrap_or}
 use Rattle.std.proofs.lemmas.Bool.{eqb-true, eq-eqb, ltb-true, ltb-false, cases_Bool}
 use Rattle.std.proofs.lemmas.List.{get_or-drop, length-drop, take_all}
 use Rattle.std.proofs.lemmas.List.Sums.{fails_before_first, passes_at_first}
-use Rattle.script_parser.specs.declared.command.Fault.{Fault}
-use Rattle.script_parser.specs.declared.command.Mode.{Mode}
-use Rattle.script_parser.specs.declared.command.Parsed.TheVariants as parsed
-use Rattle.script_parser.specs.Pieces.{is_space}
-use Rattle.script_parser.specs.Reading.{reading}
-use Rattle.script_parser.proofs.PieceLemmas.{unwrap_or-position}
+use Rattle.stream_script.specs.declared.parser.command.Fault.{Fault}
+use Rattle.stream_script.specs.declared.parser.command.Mode.{Mode}
+use Rattle.stream_script.specs.declared.parser.command.Parsed.TheVariants as parsed
+use Rattle.stream_script.specs.Pieces.{is_space}
+use Rattle.stream_script.specs.Reading.{reading}
+use Rattle.stream_script.proofs.PieceLemmas.{unwrap_or-position}
 use Rattle.script_checker.specs.Places.{BeginsAt, EndsAt, IsWhole}
 
 -- a place that is the length where there is none

@@ -5,7 +5,7 @@ use Rattle.stream_ident.proofs.SameValues.{same_stream-equal}
 use Rattle.stream_ident.specs.declared.ident.StreamId.{StreamId}
 use Rattle.stream_ident.specs.Name.{same_stream}
 use Rattle.stream_ident.specs.Words.{value_at, or_else}
-use Rattle.script_parser.specs.declared.command.Command.{Command}
+use Rattle.stream_script.specs.declared.parser.command.Command.{Command}
 use Rattle.script_checker.specs.PlainSummary.{PlainSummary}
 use Rattle.script_checker.specs.Summaries.{named, noted, own_queue, queue_in, stream_in}
 use Rattle.script_checker.specs.SummaryLaws.{is_named, is_named_in, noted_all}

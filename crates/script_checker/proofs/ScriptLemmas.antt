@@ -3,13 +3,13 @@ use Rattle.std.proofs.Common.{◌≡◌, ◌∙◌, ℕ, suc, ◌+◌, ◌-◌, 
 use Rattle.std.specs.List.{All}
 use Rattle.std.proofs.lemmas.List.{append_assoc, drop-drop, get_or-drop, length-drop, map-append}
 use Rattle.std.proofs.lemmas.List.Elements.{All-push}
-use Rattle.script_parser.specs.declared.command.Command.{Command}
-use Rattle.script_parser.specs.declared.command.Fault.{Fault}
-use Rattle.script_parser.specs.declared.command.FaultKind.{FaultKind}
-use Rattle.script_parser.specs.declared.command.Mode.{Mode}
-use Rattle.script_parser.specs.declared.command.Parsed.{Parsed}
-use Rattle.script_parser.specs.declared.command.Parsed.TheVariants as parsed
-use Rattle.script_parser.specs.Reading.{is_skipped, line_command, parsed_of, reading}
+use Rattle.stream_script.specs.declared.parser.command.Command.{Command}
+use Rattle.stream_script.specs.declared.parser.command.Fault.{Fault}
+use Rattle.stream_script.specs.declared.parser.command.FaultKind.{FaultKind}
+use Rattle.stream_script.specs.declared.parser.command.Mode.{Mode}
+use Rattle.stream_script.specs.declared.parser.command.Parsed.{Parsed}
+use Rattle.stream_script.specs.declared.parser.command.Parsed.TheVariants as parsed
+use Rattle.stream_script.specs.Reading.{is_skipped, line_command, parsed_of, reading}
 use Rattle.script_checker.specs.declared.line.LineFault.{LineFault}
 use Rattle.script_checker.specs.Checks.{IsPlacedFault}
 use Rattle.script_checker.specs.PlainSummary.{PlainSummary}

@@ -2,12 +2,12 @@
 use Rattle.std.proofs.Common.{◌≡◌, ℕ, List, ◌∷◌, Some, None, inl, inr, subst}
 use Rattle.stream_model.specs.declared.op.Op.{Op}
 use Rattle.stream_model.specs.declared.op.Op.TheVariants as op
-use Rattle.script_parser.specs.declared.command.Command.{Command}
-use Rattle.script_parser.specs.declared.command.Command.TheVariants.{Step, Each, Drain, Report, Up, Down}
-use Rattle.script_parser.specs.declared.command.EachOp.TheVariants as each
-use Rattle.script_parser.specs.declared.command.Mode.{Mode}
-use Rattle.script_parser.specs.Grammar.{IsSpelled, IsWritten, Reads}
-use Rattle.script_parser.specs.Pieces.{Piece, Word, IsLineOf}
+use Rattle.stream_script.specs.declared.parser.command.Command.{Command}
+use Rattle.stream_script.specs.declared.parser.command.Command.TheVariants.{Step, Each, Drain, Report, Up, Down}
+use Rattle.stream_script.specs.declared.parser.command.EachOp.TheVariants as each
+use Rattle.stream_script.specs.declared.parser.command.Mode.{Mode}
+use Rattle.stream_script.specs.Grammar.{IsSpelled, IsWritten, Reads}
+use Rattle.stream_script.specs.Pieces.{Piece, Word, IsLineOf}
 use Rattle.script_checker.specs.Checks.{BeginsWith}
 use Rattle.script_checker.specs.Counts.{verb_in, verb_of_op, word_of}
 

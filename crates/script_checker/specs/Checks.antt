@@ -1,8 +1,8 @@
 -- What a line is to a checker: what the parser reads it as, and the place of a fault.
 use Rattle.std.specs.Prelude.{◌≡◌, ℕ, ◌+◌, ◌-◌, ◌≤◌, List, ◌∷◌, length, slice_range, ⊤}
-use Rattle.script_parser.specs.declared.command.Parsed.{Parsed}
-use Rattle.script_parser.specs.declared.command.Parsed.TheVariants as parsed
-use Rattle.script_parser.specs.Pieces.{Piece, Word, IsLineOf}
+use Rattle.stream_script.specs.declared.parser.command.Parsed.{Parsed}
+use Rattle.stream_script.specs.declared.parser.command.Parsed.TheVariants as parsed
+use Rattle.stream_script.specs.Pieces.{Piece, Word, IsLineOf}
 use Rattle.script_checker.specs.declared.line.Checked.{Checked}
 use Rattle.script_checker.specs.declared.line.Checked.TheVariants as checked
 use Rattle.script_checker.specs.declared.line.LineFault.{LineFault}

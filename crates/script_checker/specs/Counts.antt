@@ -2,9 +2,9 @@
 use Rattle.std.specs.Prelude.{ℕ, List, codes}
 use Rattle.stream_model.specs.declared.op.Op.{Op}
 use Rattle.stream_model.specs.declared.op.Op.TheVariants as op
-use Rattle.script_parser.specs.declared.command.Command.{Command}
-use Rattle.script_parser.specs.declared.command.Command.TheVariants as command
-use Rattle.script_parser.specs.Forms.{op_of}
+use Rattle.stream_script.specs.declared.parser.command.Command.{Command}
+use Rattle.stream_script.specs.declared.parser.command.Command.TheVariants as command
+use Rattle.stream_script.specs.Forms.{op_of}
 use Rattle.script_checker.specs.declared.verb.Verb.{Verb}
 use Rattle.script_checker.specs.declared.verb.Verb.TheVariants.{Pub, Sub, Unsub, Rule, Pull, Deliver, Retry, Ack, Purge, Move, Begin, Commit, Deactivate, Ready, Due, Quiet, Drain, Report, Up, Down}
 

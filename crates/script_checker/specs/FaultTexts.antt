@@ -4,7 +4,7 @@ use Rattle.std.specs.Borrow.{Bor}
 use Rattle.std.specs.Fmt.{decimal, digits}
 use Rattle.std.specs.List.{list_all}
 use Rattle.stream_ident.specs.Alphabet.{is_printable}
-use Rattle.script_parser.specs.FaultTexts.{kind_text}
+use Rattle.stream_script.specs.FaultTexts.{kind_text}
 use Rattle.script_checker.specs.declared.line.LineFault.{LineFault}
 
 -- the text that bytes are, where each is printable

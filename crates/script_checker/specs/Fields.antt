@@ -3,7 +3,7 @@ use Rattle.std.specs.Prelude.{ℕ, ◌^◌, Bool, true, List, codes, if◌then�
 use Rattle.std.specs.Result.{is_ok}
 use Rattle.stream_ident.specs.declared.limits.TheConstants.{MOST_SILOS}
 use Rattle.stream_ident.specs.Name.{same_name}
-use Rattle.script_parser.specs.Fields.{number_field, queue_field, stream_field, grain_field, token_field, bare_name_field, sub_field}
+use Rattle.stream_script.specs.Fields.{number_field, queue_field, stream_field, grain_field, token_field, bare_name_field, sub_field}
 use Rattle.script_checker.specs.declared.field.Field.{Field}
 use Rattle.script_checker.specs.declared.field.Field.TheVariants as field
 

@@ -2,8 +2,8 @@
 use Rattle.std.specs.Prelude.{◌≡◌, ◌≢◌, ℕ, ◌+◌, ◌-◌, ◌<◌, ◌≤◌, ◌⊎◌, not, List, length, min, slice_index}
 use Rattle.std.specs.List.{position_or_len}
 use Rattle.stream_ident.specs.Alphabet.{is_printable}
-use Rattle.script_parser.specs.declared.command.FaultKind.{FaultKind}
-use Rattle.script_parser.specs.declared.command.FaultKind.TheVariants.{BadByte, WordCount}
+use Rattle.stream_script.specs.declared.parser.command.FaultKind.{FaultKind}
+use Rattle.stream_script.specs.declared.parser.command.FaultKind.TheVariants.{BadByte, WordCount}
 use Rattle.script_checker.specs.declared.finding.Finding.{Finding}
 use Rattle.script_checker.specs.declared.piece.Piece.{Piece}
 

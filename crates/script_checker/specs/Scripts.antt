@@ -1,11 +1,11 @@
 -- What a check of a whole script finds.
 use Rattle.std.specs.Prelude.{◌≡◌, ℕ, ◌+◌, ◌-◌, ◌≤◌, List, [], ◌∷◌, ◌++◌, codes, get_or, length, map}
 use Rattle.std.specs.List.{All, flat_map}
-use Rattle.script_parser.specs.declared.command.Fault.{Fault}
-use Rattle.script_parser.specs.declared.command.Mode.{Mode}
-use Rattle.script_parser.specs.declared.command.Parsed.{Parsed}
-use Rattle.script_parser.specs.declared.command.Parsed.TheVariants as parsed
-use Rattle.script_parser.specs.Reading.{reading}
+use Rattle.stream_script.specs.declared.parser.command.Fault.{Fault}
+use Rattle.stream_script.specs.declared.parser.command.Mode.{Mode}
+use Rattle.stream_script.specs.declared.parser.command.Parsed.{Parsed}
+use Rattle.stream_script.specs.declared.parser.command.Parsed.TheVariants as parsed
+use Rattle.stream_script.specs.Reading.{reading}
 use Rattle.script_checker.specs.declared.line.LineFault.{LineFault}
 use Rattle.script_checker.specs.declared.script.Findings.{Findings}
 use Rattle.script_checker.specs.Checks.{IsPlacedFault}

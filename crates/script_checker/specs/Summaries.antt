@@ -10,8 +10,8 @@ use Rattle.stream_ident.specs.Name.{same_stream, stream_text}
 use Rattle.stream_ident.specs.Words.{value_at, with_new}
 use Rattle.stream_model.specs.declared.op.Op.{Op}
 use Rattle.stream_model.specs.declared.op.Op.TheVariants as op
-use Rattle.script_parser.specs.declared.command.Command.{Command}
-use Rattle.script_parser.specs.declared.command.Command.TheVariants as command
+use Rattle.stream_script.specs.declared.parser.command.Command.{Command}
+use Rattle.stream_script.specs.declared.parser.command.Command.TheVariants as command
 use Rattle.script_checker.specs.declared.verb.TheConstants.{ALL, VERBS}
 use Rattle.script_checker.specs.declared.verb.Verb.{Verb}
 use Rattle.script_checker.specs.Counts.{verb_in, word_of, number_of}

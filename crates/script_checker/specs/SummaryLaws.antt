@@ -3,7 +3,7 @@ use Rattle.std.specs.Prelude.{◌≡◌, ℕ, ◌-◌, ◌^◌, ◌==◌, Bool, 
 use Rattle.std.specs.List.{list_any}
 use Rattle.stream_ident.specs.declared.ident.StreamId.{StreamId}
 use Rattle.stream_ident.specs.Name.{same_stream}
-use Rattle.script_parser.specs.declared.command.Command.{Command}
+use Rattle.stream_script.specs.declared.parser.command.Command.{Command}
 use Rattle.script_checker.specs.declared.verb.Verb.{Verb}
 use Rattle.script_checker.specs.Counts.{verb_in, number_of}
 use Rattle.script_checker.specs.PlainSummary.{PlainSummary}

@@ -1,7 +1,7 @@
 //! The fields of a command, and what is right in each.
 ghost use Rattle.std.specs.Prelude.{◌≡◌, ◌^◌, ◌≤◌, length};
 ghost use Rattle.std.specs.Result.{is_ok, result_ok};
-ghost use Rattle.script_parser.specs.Fields.{number_field, queue_field, stream_field, grain_field, token_field, bare_name_field, sub_field, name_field};
+ghost use Rattle.stream_script.specs.Fields.{number_field, queue_field, stream_field, grain_field, token_field, bare_name_field, sub_field, name_field};
 ghost use Rattle.script_checker.specs.Fields.{is_right_word, start_word};
 
 use stream_ident::{
@@ -124,7 +124,7 @@ fn start_hint(piece: &[u8], is_last: bool) -> &'static str {
 }
 
 /// Whether this is a stream.
-#[tactic(auto, unfolding(script_parser::specs::Fields::stream_field))]
+#[tactic(auto, unfolding(stream_script::specs::Fields::stream_field))]
 fn is_stream(word: &[u8]) -> bool
     ensures { result ≡ is_ok (stream_field word.now) }
 {
@@ -135,7 +135,7 @@ fn is_stream(word: &[u8]) -> bool
 }
 
 /// Whether this is a grain.
-#[tactic(auto, unfolding(script_parser::specs::Fields::grain_field))]
+#[tactic(auto, unfolding(stream_script::specs::Fields::grain_field))]
 fn is_grain(word: &[u8]) -> bool
     ensures { result ≡ is_ok (grain_field word.now) }
 {
@@ -146,7 +146,7 @@ fn is_grain(word: &[u8]) -> bool
 }
 
 /// Whether this is a name.
-#[tactic(auto, unfolding(script_parser::specs::Fields::bare_name_field))]
+#[tactic(auto, unfolding(stream_script::specs::Fields::bare_name_field))]
 fn is_name(word: &[u8]) -> bool
     ensures { result ≡ is_ok (bare_name_field word.now) }
 {
@@ -154,7 +154,7 @@ fn is_name(word: &[u8]) -> bool
 }
 
 /// Whether this is a token.
-#[tactic(auto, unfolding(script_parser::specs::Fields::token_field))]
+#[tactic(auto, unfolding(stream_script::specs::Fields::token_field))]
 fn is_token(word: &[u8]) -> bool
     ensures { result ≡ is_ok (token_field word.now) }
 {
@@ -162,7 +162,7 @@ fn is_token(word: &[u8]) -> bool
 }
 
 /// Whether this is a number below 2^64.
-#[tactic(auto, unfolding(script_parser::specs::Fields::number_field))]
+#[tactic(auto, unfolding(stream_script::specs::Fields::number_field))]
 fn is_number(word: &[u8]) -> bool
     ensures { result ≡ is_ok (number_field (2 ^ 64) word.now) }
 {
@@ -170,7 +170,7 @@ fn is_number(word: &[u8]) -> bool
 }
 
 /// The number below 2^32 that this is.
-#[tactic(auto, unfolding(script_parser::specs::Fields::number_field))]
+#[tactic(auto, unfolding(stream_script::specs::Fields::number_field))]
 fn short_number(word: &[u8]) -> Option<u32>
     ensures { result ≡ result_ok (number_field (2 ^ 32) word.now) }
 {
@@ -178,7 +178,7 @@ fn short_number(word: &[u8]) -> Option<u32>
 }
 
 /// Whether this is the number of a silo.
-#[tactic(auto, unfolding(script_parser::specs::Fields::number_field))]
+#[tactic(auto, unfolding(stream_script::specs::Fields::number_field))]
 fn is_silo(word: &[u8]) -> bool
     ensures { result ≡ is_ok (number_field MOST_SILOS word.now) }
 {
@@ -189,7 +189,7 @@ fn is_silo(word: &[u8]) -> bool
 }
 
 /// Whether this is a queue.
-#[tactic(auto, unfolding(script_parser::specs::Fields::queue_field))]
+#[tactic(auto, unfolding(stream_script::specs::Fields::queue_field))]
 fn is_queue(word: &[u8], queues: usize) -> bool
     ensures { result ≡ is_ok (queue_field queues word.now) }
 {
@@ -200,7 +200,7 @@ fn is_queue(word: &[u8], queues: usize) -> bool
 }
 
 /// Whether this is a subscription of a queue that there is.
-#[tactic(auto, unfolding(script_parser::specs::Fields::sub_field, script_parser::specs::Fields::sub_parts))]
+#[tactic(auto, unfolding(stream_script::specs::Fields::sub_field, stream_script::specs::Fields::sub_parts))]
 fn is_sub(word: &[u8], queues: usize) -> bool
     ensures { result ≡ is_ok (sub_field queues word.now) }
 {
@@ -213,7 +213,7 @@ fn is_sub(word: &[u8], queues: usize) -> bool
 }
 
 /// Whether this is the name of a subscription: a number, or `KIND@NS/KEY`.
-#[tactic(auto, unfolding(script_parser::specs::Fields::name_field, script_parser::specs::Fields::explicit_field, script_parser::specs::Fields::implicit_field))]
+#[tactic(auto, unfolding(stream_script::specs::Fields::name_field, stream_script::specs::Fields::explicit_field, stream_script::specs::Fields::implicit_field))]
 fn is_sub_name(name: &[u8]) -> bool
     ensures { result ≡ is_ok (name_field name.now) }
 {

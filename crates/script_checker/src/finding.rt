@@ -1,14 +1,14 @@
 //! Where the fault of a line is.
 ghost use Rattle.std.specs.Prelude.{◌≡◌, ◌⊎◌, ◌≤◌, false, length, IfSome};
 ghost use Rattle.std.specs.List.{list_all};
-ghost use Rattle.script_parser.specs.Pieces.{is_space};
+ghost use Rattle.stream_script.specs.Pieces.{is_space};
 ghost use Rattle.script_checker.specs.Places.{IsBadByte, IsMissing, IsOfPiece, IsSpan, IsSpot, IsWhole};
 
 use crate::field::Field;
 use crate::piece::{Piece, first_piece, piece_from};
 use crate::printable::unprintable;
 use crate::verb::Verb;
-use script_parser::FaultKind;
+use stream_script::FaultKind;
 
 /// Where a fault is, and what is told of it.
 #[derive(Clone, Copy)]

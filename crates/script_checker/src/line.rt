@@ -1,16 +1,16 @@
 //! What a line is to a checker.
 ghost use Rattle.std.specs.Prelude.{◌≡◌, ◌≤◌, false, IfOk, Some};
 ghost use Rattle.std.specs.List.{list_all};
-ghost use Rattle.script_parser.specs.Pieces.{is_space};
-ghost use Rattle.script_parser.specs.Reading.{reading};
+ghost use Rattle.stream_script.specs.Pieces.{is_space};
+ghost use Rattle.stream_script.specs.Reading.{reading};
 ghost use Rattle.script_checker.specs.Checks.{HasVerb, IsPlaced, IsPlacedFault, parsed_of};
 ghost use Rattle.script_checker.specs.FaultTexts.{fault_text, hint_text, word_text};
 
 use crate::finding::find;
 use crate::printable::printable_text;
-use script_parser::{Command, Fault, Mode, Parsed, parse_line};
 use std::alloc::{AllocError, Global};
 use std::fmt;
+use stream_script::{Command, Fault, Mode, Parsed, parse_line};
 
 /// A fault of a line, and where it is.
 #[derive(Clone, Copy, Debug)]

@@ -1,7 +1,7 @@
 //! The pieces of a line, by where they stand in it.
 ghost use Rattle.std.specs.Prelude.{◌≡◌, ◌≢◌, ◌<◌, ◌≤◌, not, ℕ, length, position, slice_index, MatchOption, IfSome, false};
 ghost use Rattle.std.specs.List.{list_all, position_or_len};
-ghost use Rattle.script_parser.specs.Pieces.{is_space};
+ghost use Rattle.stream_script.specs.Pieces.{is_space};
 ghost use Rattle.script_checker.specs.Places.{BeginsAt, EndsAt, IsWhole, IsWholeFrom, AreSpacesFrom};
 
 /// A piece of a line.

@@ -1,14 +1,14 @@
 //! What a check of a whole script finds.
 ghost use Rattle.std.specs.Prelude.{◌≡◌, ◌≤◌, ◌++◌, length, IfOk, OnOk};
 ghost use Rattle.std.specs.String.{string_bytes};
-ghost use Rattle.script_parser.specs.declared.limits.TheConstants.{MOST_SCRIPT_BYTES};
-ghost use Rattle.script_parser.specs.Lines.{lines_of};
+ghost use Rattle.stream_script.specs.declared.parser.limits.TheConstants.{MOST_SCRIPT_BYTES};
+ghost use Rattle.stream_script.specs.Lines.{lines_of};
 ghost use Rattle.script_checker.specs.Scripts.{HasFound, fault_line, fault_lines, findings_text};
 
 use crate::line::{Checked, LineFault, check_line};
 use crate::summary::Summary;
-use script_parser::{Lines, Mode};
 use std::alloc::{AllocError, Global};
+use stream_script::{Lines, Mode};
 
 /// What a check of a script has found.
 #[derive(Debug, Drop)]

@@ -5,11 +5,11 @@ ghost use Rattle.script_checker.specs.Summaries.{count_line, count_lines, count_
 
 use crate::verb::{ALL, VERBS, Verb};
 use indexmap::IndexMap;
-use script_parser::Command;
 use std::alloc::{AllocError, Global};
 use std::marker::Model;
 use stream_ident::{StreamId, SubName};
 use stream_model::Op;
+use stream_script::Command;
 
 /// How many lines of each command a script has, and which queue each stream has that it names.
 ///

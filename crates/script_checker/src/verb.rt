@@ -3,8 +3,8 @@ ghost use Rattle.std.specs.Prelude.{◌≡◌, ◌<◌};
 ghost use Rattle.script_checker.specs.Counts.{verb_in, verb_of_op, word_of, number_of};
 
 use crate::field::Field;
-use script_parser::Command;
 use stream_model::Op;
+use stream_script::Command;
 
 /// A command, without what it is done with.
 #[derive(Clone, Copy, Debug, PartialEq, Eq)]

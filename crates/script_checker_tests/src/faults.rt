@@ -1,9 +1,9 @@
 //! What is told of faulty lines.
 use script_checker::{Checked, check_line};
-use script_parser::Mode;
 use std::alloc::{AllocError, Global};
 use std::process::Abort;
 use std::test::Fail;
+use stream_script::Mode;
 
 /// Lines of a script that is simulated on two queues, and what is told of each as line 7.
 static FAULTS: &[(&str, &str)] = &[

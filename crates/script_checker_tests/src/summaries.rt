@@ -1,8 +1,8 @@
 //! What the summary of a script says.
 use script_checker::{Checked, Summary, check_line};
-use script_parser::{Lines, Mode};
 use std::alloc::{AllocError, Global};
 use std::test::Fail;
+use stream_script::{Lines, Mode};
 
 /// A script without a fault.
 const SCRIPT: &[u8] = br#"# A clerk and two orders.

@@ -3,8 +3,8 @@ use Rattle.std.proofs.Common.{◌≡◌, inl, inr, ℕ, ◌≤◌, List, [], ◌
 use Rattle.std.proofs.KnownBytes.{Keeps-refl}
 use Rattle.std.specs.Io.KnownBytes.{Appends, Consumes, IsAtEnd}
 use Rattle.std.specs.Prelude.{IfSome}
-use Rattle.script_parser.specs.Lines.{lines_of}
-use Rattle.script_parser.specs.declared.limits.TheConstants.{MOST_SCRIPT_BYTES}
+use Rattle.stream_script.specs.Lines.{lines_of}
+use Rattle.stream_script.specs.declared.parser.limits.TheConstants.{MOST_SCRIPT_BYTES}
 use Rattle.script_checker.specs.declared.line.LineFault.{LineFault}
 use Rattle.script_checker.specs.declared.script.Findings.{Findings}
 use Rattle.script_checker.specs.Scripts.{HasFound, findings_text}

@@ -8,19 +8,19 @@ use Rattle.std.proofs.lemmas.List.{append-nil, length-map}
 use Rattle.turnstile.specs.declared.history.Entry.{Entry}
 use Rattle.stream_model.specs.declared.op.Op.{Op}
 use Rattle.stream_model.specs.Replies.{Reply}
-use Rattle.script_parser.specs.Lines.{lines_of}
-use Rattle.script_parser.specs.declared.limits.TheConstants.{MOST_SCRIPT_BYTES}
-use Rattle.script_reader.specs.declared.line.Line.{Line}
-use Rattle.script_reader.specs.declared.script_line.ScriptLine.{ScriptLine}
-use Rattle.script_reader.specs.ScriptReport.{line_text, script_text}
-use Rattle.script_reader.specs.Scripts.{lines_after}
-use Rattle.stream_cluster.specs.declared.config.Config.{Config}
+use Rattle.stream_script.specs.Lines.{lines_of}
+use Rattle.stream_script.specs.declared.parser.limits.TheConstants.{MOST_SCRIPT_BYTES}
+use Rattle.script_runs.specs.declared.reader.line.Line.{Line}
+use Rattle.script_runs.specs.declared.reader.script_line.ScriptLine.{ScriptLine}
+use Rattle.script_runs.specs.ScriptReport.{line_text, script_text}
+use Rattle.script_runs.specs.Scripts.{lines_after}
+use Rattle.silo_threads.specs.declared.clusters.config.Config.{Config}
 use Rattle.stream_script.specs.Simulation.{too_long}
 use Rattle.stream_script.specs.declared.simulate.SimError.TheVariants as error
-use Rattle.cluster_scripts.specs.declared.outcome.Ran.{Ran}
-use Rattle.cluster_scripts.specs.declared.outcome.RunEnd.{RunEnd}
-use Rattle.cluster_scripts.specs.declared.outcome.RunEnd.TheVariants as ends
-use Rattle.cluster_scripts.specs.Runs.{EndsRun, LeavesLegalTraces, RunsScript, missed_in, report_in, text_of}
+use Rattle.script_runs.specs.declared.runs.outcome.Ran.{Ran}
+use Rattle.script_runs.specs.declared.runs.outcome.RunEnd.{RunEnd}
+use Rattle.script_runs.specs.declared.runs.outcome.RunEnd.TheVariants as ends
+use Rattle.script_runs.specs.Runs.{EndsRun, LeavesLegalTraces, RunsScript, missed_in, report_in, text_of}
 use Rattle.script_tasks.specs.declared.fault.ProgramFault.{ProgramFault}
 use Rattle.script_tasks.specs.declared.fault.ProgramFault.TheVariants as fault
 use Rattle.script_tasks.specs.Printing.{PrintsRun, RunsSource, WritesRun, commands_of, printed_text}

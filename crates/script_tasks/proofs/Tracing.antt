@@ -14,17 +14,17 @@ use Rattle.turnstile.specs.declared.history.Entry.{Entry}
 use Rattle.turnstile.specs.Asked.{asked_entries}
 use Rattle.stream_script.specs.declared.simulate.SimError.{SimError}
 use Rattle.stream_script.specs.declared.simulate.SimError.TheVariants as error
-use Rattle.trace_printer.specs.Traces.{traces_from}
-use Rattle.trace_printer.proofs.Printing.{traces-next}
-use Rattle.cluster_ending.specs.declared.closing.Traces.{Traces}
-use Rattle.stream_cluster.specs.declared.config.Config.{Config}
-use Rattle.script_reader.specs.declared.line.Line.{Line}
-use Rattle.script_reader.specs.declared.script_line.ScriptLine.{ScriptLine}
-use Rattle.cluster_scripts.specs.declared.outcome.Ran.{Ran}
-use Rattle.cluster_scripts.specs.declared.outcome.RunEnd.{RunEnd}
-use Rattle.cluster_scripts.specs.declared.outcome.RunEnd.TheVariants as ends
-use Rattle.cluster_scripts.specs.declared.outcome.Unfinished.{Unfinished}
-use Rattle.cluster_scripts.specs.Runs.{AreLegal, EndsRun, IsLegalHistory, LeavesLegalTraces, TellFront, missed_in}
+use Rattle.script_runs.specs.Traces.{traces_from}
+use Rattle.script_runs.proofs.Printing.{traces-next}
+use Rattle.silo_threads.specs.declared.ending.closing.Traces.{Traces}
+use Rattle.silo_threads.specs.declared.clusters.config.Config.{Config}
+use Rattle.script_runs.specs.declared.reader.line.Line.{Line}
+use Rattle.script_runs.specs.declared.reader.script_line.ScriptLine.{ScriptLine}
+use Rattle.script_runs.specs.declared.runs.outcome.Ran.{Ran}
+use Rattle.script_runs.specs.declared.runs.outcome.RunEnd.{RunEnd}
+use Rattle.script_runs.specs.declared.runs.outcome.RunEnd.TheVariants as ends
+use Rattle.script_runs.specs.declared.runs.outcome.Unfinished.{Unfinished}
+use Rattle.script_runs.specs.Runs.{AreLegal, EndsRun, IsLegalHistory, LeavesLegalTraces, TellFront, missed_in}
 use Rattle.script_tasks.specs.declared.fault.ProgramFault.{ProgramFault}
 use Rattle.script_tasks.specs.declared.fault.ProgramFault.TheVariants as fault
 use Rattle.script_tasks.specs.Printing.{AreLegalAt, PrintsTrace, RunsSource, WritesEnd, WritesText, WritesTraces, commands_of, seen, text_left}

@@ -1,9 +1,9 @@
 -- What a check of a script writes, from the bytes of the script alone.
 use Rattle.std.specs.Prelude.{◌≡◌, ◌⊎◌, ◌<◌, ℕ, List, [], ◌∷◌, length, Option, Result, Ok, Err, ⊤}
 use Rattle.std.specs.Io.KnownBytes.{Appends, Keeps}
-use Rattle.script_parser.specs.Lines.{lines_of}
-use Rattle.script_parser.specs.declared.limits.TheConstants.{MOST_SCRIPT_BYTES}
-use Rattle.script_parser.specs.declared.command.Fault.{Fault}
+use Rattle.stream_script.specs.Lines.{lines_of}
+use Rattle.stream_script.specs.declared.parser.limits.TheConstants.{MOST_SCRIPT_BYTES}
+use Rattle.stream_script.specs.declared.parser.command.Fault.{Fault}
 use Rattle.script_checker.specs.declared.line.LineFault.{LineFault}
 use Rattle.script_checker.specs.declared.script.Findings.{Findings}
 use Rattle.script_checker.specs.Scripts.{HasFound, findings_text}

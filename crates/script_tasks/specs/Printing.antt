@@ -10,25 +10,25 @@ use Rattle.turnstile.specs.declared.asked.AskedHistory.{AskedHistory}
 use Rattle.turnstile.specs.Asked.{asked_entries}
 use Rattle.turnstile.specs.History.{IsLegal}
 use Rattle.shared_partition.specs.Partitions.{after, replied}
-use Rattle.script_reader.specs.declared.line.Line.{Line}
-use Rattle.script_reader.specs.declared.script_line.ScriptLine.{ScriptLine}
-use Rattle.script_reader.specs.ScriptReport.{line_text, script_lines, script_text}
-use Rattle.script_parser.specs.declared.command.Fault.{Fault}
-use Rattle.script_parser.specs.Lines.{lines_of}
-use Rattle.script_parser.specs.declared.limits.TheConstants.{MOST_SCRIPT_BYTES}
-use Rattle.script_reader.specs.Scripts.{lines_after}
-use Rattle.trace_printer.specs.Traces.{trace_text, traces_from}
+use Rattle.script_runs.specs.declared.reader.line.Line.{Line}
+use Rattle.script_runs.specs.declared.reader.script_line.ScriptLine.{ScriptLine}
+use Rattle.script_runs.specs.ScriptReport.{line_text, script_lines, script_text}
+use Rattle.stream_script.specs.declared.parser.command.Fault.{Fault}
+use Rattle.stream_script.specs.Lines.{lines_of}
+use Rattle.stream_script.specs.declared.parser.limits.TheConstants.{MOST_SCRIPT_BYTES}
+use Rattle.script_runs.specs.Scripts.{lines_after}
+use Rattle.script_runs.specs.Traces.{trace_text, traces_from}
 use Rattle.script_tasks.specs.declared.shown.Shown.{Shown}
 use Rattle.script_tasks.specs.declared.summary.Detail.{Detail}
 use Rattle.script_tasks.specs.declared.summary.Detail.TheVariants as detail
-use Rattle.cluster_ending.specs.declared.closing.Traces.{Traces}
-use Rattle.stream_cluster.specs.declared.config.Config.{Config}
-use Rattle.cluster_scripts.specs.declared.outcome.Ran.{Ran}
-use Rattle.cluster_scripts.specs.declared.outcome.RunEnd.{RunEnd}
-use Rattle.cluster_scripts.specs.declared.outcome.RunEnd.TheVariants as ends
-use Rattle.cluster_scripts.specs.declared.outcome.Unfinished.{Unfinished}
-use Rattle.cluster_scripts.specs.declared.outcome.Unfinished.TheVariants as unfinished
-use Rattle.cluster_scripts.specs.Runs.{RunsScript, TellFront, TellScript}
+use Rattle.silo_threads.specs.declared.ending.closing.Traces.{Traces}
+use Rattle.silo_threads.specs.declared.clusters.config.Config.{Config}
+use Rattle.script_runs.specs.declared.runs.outcome.Ran.{Ran}
+use Rattle.script_runs.specs.declared.runs.outcome.RunEnd.{RunEnd}
+use Rattle.script_runs.specs.declared.runs.outcome.RunEnd.TheVariants as ends
+use Rattle.script_runs.specs.declared.runs.outcome.Unfinished.{Unfinished}
+use Rattle.script_runs.specs.declared.runs.outcome.Unfinished.TheVariants as unfinished
+use Rattle.script_runs.specs.Runs.{RunsScript, TellFront, TellScript}
 use Rattle.script_tasks.specs.declared.fault.ProgramFault.{ProgramFault}
 use Rattle.script_tasks.specs.declared.fault.ProgramFault.TheVariants as fault
 use Rattle.stream_script.specs.declared.simulate.SimError.{SimError}

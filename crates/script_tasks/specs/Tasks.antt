@@ -1,9 +1,9 @@
 -- What a command line may ask for, and what is written where that is done.
 use Rattle.std.specs.Prelude.{ℕ, ◌<◌, ◌≤◌, min, max, List, Option, Result, Ok, Err, IfSome}
 use Rattle.stream_ident.specs.declared.limits.TheConstants.{MOST_BLOCKS, MOST_QUEUES, MOST_SILOS}
-use Rattle.script_parser.specs.declared.command.Mode.{Mode}
-use Rattle.stream_cluster.specs.declared.config.Config.{Config}
-use Rattle.stream_cluster.specs.Clusters.{IsConfig, greatest_limits}
+use Rattle.stream_script.specs.declared.parser.command.Mode.{Mode}
+use Rattle.silo_threads.specs.declared.clusters.config.Config.{Config}
+use Rattle.silo_threads.specs.Clusters.{IsConfig, greatest_limits}
 use Rattle.script_tasks.specs.declared.options.CheckConfig.{CheckConfig}
 use Rattle.script_tasks.specs.declared.options.Task.{Task}
 use Rattle.script_tasks.specs.declared.options.Task.TheVariants as task

@@ -3,7 +3,7 @@ ghost use Rattle.std.specs.Prelude.{◌≡◌};
 ghost use Rattle.std.specs.Process.{exit_status};
 ghost use Rattle.script_tasks.specs.Statuses.{EndsWith, EndsWords, status_of};
 
-use cluster_scripts::Unfinished;
+use script_runs::Unfinished;
 use std::alloc::{AllocError, AllocFailed};
 use std::io;
 use std::process::ExitCode;

@@ -17,7 +17,7 @@ pub use options::{
     sim_config, trace_config, unread_words,
 };
 pub use performing::{end, perform, perform_task, perform_words};
+pub use script_runs::Calls;
 pub use shown::Shown;
 pub use silos::{run_on_silos, trace_on_silos};
 pub use summary::Detail;
-pub use trace_printer::Calls;

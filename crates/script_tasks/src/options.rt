@@ -3,7 +3,7 @@ ghost use Rattle.std.specs.Prelude.{◌≡◌, ◌≢◌, ◌⊎◌, ◌≤◌, 
 ghost use Rattle.std.specs.IoError.{error_kind};
 ghost use Rattle.std.specs.declared.io.ErrorKind.TheVariants.{InvalidData};
 ghost use Rattle.clap.specs.Values.{kind_of};
-ghost use Rattle.stream_cluster.specs.Clusters.{IsConfig};
+ghost use Rattle.silo_threads.specs.Clusters.{IsConfig};
 ghost use Rattle.script_tasks.specs.Tasks.{IsShown, IsTask, check_with, cluster_with, simulation_with};
 ghost use Rattle.script_tasks.specs.declared.options.Task.TheVariants.{Simulate};
 ghost use Rattle.stream_script.specs.Simulation.{IsSimConfig};
@@ -12,14 +12,13 @@ use crate::shown::Shown;
 use crate::summary::Detail;
 use clap::error::ErrorKind;
 use clap::{Arg, ArgAction, ArgMatches, Command, value_parser};
-use script_parser::Mode;
+use script_runs::Calls;
+use silo_threads::Config;
 use std::alloc::{AllocError, Global};
 use std::io;
-use stream_cluster::Config;
 use stream_ident::{MOST_BLOCKS, MOST_ENTRIES, MOST_QUEUES, MOST_SILOS};
 use stream_model::Limits;
-use stream_script::SimConfig;
-use trace_printer::Calls;
+use stream_script::{Mode, SimConfig};
 
 /// What `streams --version` says behind the name.
 const VERSION: &str = "0.1.0";

@@ -2,7 +2,7 @@
 ghost use Rattle.std.specs.Prelude.{◌≡◌};
 ghost use Rattle.script_tasks.specs.Printing.{is_seen};
 
-use trace_printer::Calls;
+use script_runs::Calls;
 
 /// What a trace shows of what was done.
 #[derive(Clone, Copy, Debug, PartialEq, Eq)]

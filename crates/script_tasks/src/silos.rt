@@ -1,28 +1,25 @@
 //! A script that is run on silos.
 ghost use Rattle.std.specs.Prelude.{◌-◌, ◌^◌, ◌<◌, IfOk, IfSome};
 ghost use Rattle.turnstile.specs.Asked.{asked_entries};
-ghost use Rattle.trace_printer.specs.Traces.{trace_text};
-ghost use Rattle.stream_cluster.specs.Clusters.{IsConfig};
-ghost use Rattle.cluster_scripts.specs.Runs.{AreLegal, LeavesLegalTraces, text_of};
+ghost use Rattle.script_runs.specs.Traces.{trace_text};
+ghost use Rattle.silo_threads.specs.Clusters.{IsConfig};
+ghost use Rattle.script_runs.specs.Runs.{AreLegal, LeavesLegalTraces, text_of};
 ghost use Rattle.script_tasks.specs.Printing.{IsLegalAt, PrintsRun, PrintsTrace, RunsSource, WritesEnd, WritesRun, WritesText, WritesTraces, printed_text, seen, text_left, traces_text};
 
 use crate::fault::ProgramFault;
 use crate::shown::Shown;
 use crate::summary::{Detail, printed};
 use activation_directory::{DirectoryOp, DirectoryReply};
-use cluster_ending::Traces;
-use cluster_scripts::{Ran, RunEnd, run, run_text};
-use script_reader::{Script, read_lines};
+use script_runs::{Calls, Ran, RunEnd, Script, queue_trace, read_lines, run, run_text};
 use shared_partition::{Counting, QueueHistory};
+use silo_threads::{Config, Traces};
 use std::alloc::Global;
 use std::io::Write;
 use std::sync::{Arc, Wait};
 use std::thread::Threads;
 use step_core::{Answer, Partition};
-use stream_cluster::Config;
 use stream_model::Op;
 use stream_script::{SimError, Source, read_script};
-use trace_printer::{Calls, queue_trace};
 use turnstile::{AskedHistory, ProofHistory};
 
 /// Runs a script on silos, and writes what the run prints, whole or without the lines of events. All of the script is read before a thread is started, and

@@ -2,8 +2,8 @@
 ghost use Rattle.std.specs.Prelude.{◌≡◌, ◌++◌, [], ◌∷◌, IfOk, OnOk};
 ghost use Rattle.script_tasks.specs.Printing.{is_event_line, kept_line, printed_text, without_events};
 
-use script_parser::Lines;
 use std::alloc::{AllocError, Global};
+use stream_script::Lines;
 
 /// How much is printed of a run.
 #[derive(Clone, Copy, Debug, PartialEq, Eq)]

@@ -1,9 +1,9 @@
 //! Runs that meet a limit.
-ghost use Rattle.stream_cluster.specs.Clusters.{IsConfig};
+ghost use Rattle.silo_threads.specs.Clusters.{IsConfig};
 
-use cluster_scripts::Unfinished;
+use script_runs::Unfinished;
 use script_tasks::{Detail, ProgramFault, run_config, run_on_silos};
-use stream_cluster::Config;
+use silo_threads::Config;
 use stream_script::Counted;
 
 /// What a run has too little of. A run of the usual size has too few rules for a script with 65 of them.

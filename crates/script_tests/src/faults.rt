@@ -1,6 +1,6 @@
 //! What is told of each fault, and the status that the program ends with.
 use crate::words::owned;
-use cluster_scripts::Unfinished;
+use script_runs::Unfinished;
 use script_tasks::{ProgramFault, end, parse_options};
 use std::alloc::Global;
 use std::cell::Cell;

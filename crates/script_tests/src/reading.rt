@@ -1,6 +1,6 @@
 //! Whole scripts that are to be run: their lines, or their first fault.
 use crate::rows::assert_at;
-use script_reader::{Script, read_lines};
+use script_runs::{Script, read_lines};
 use std::alloc::Global;
 use std::test::Fail;
 use stream_script::{Command, Fault, FaultKind};

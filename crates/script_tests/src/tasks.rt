@@ -1,10 +1,10 @@
 //! The tasks that the tests do, as their tables name them.
 ghost use Rattle.script_tasks.specs.Tasks.{IsTask};
 
-use script_parser::Mode;
 use script_tasks::{
     Calls, Detail, Shown, Task, check_config, run_config, sim_config, trace_config,
 };
+use stream_script::Mode;
 
 /// What is done with a script.
 #[derive(Clone, Copy)]

@@ -1,6 +1,6 @@
 //! Traces that are simulated again.
 use crate::ends::{STORY, Small, lessened};
-use cluster_scripts::Unfinished;
+use script_runs::Unfinished;
 use script_tasks::{Calls, ProgramFault, Shown, sim_config, trace_config, trace_on_silos};
 use std::alloc::{AllocError, Global};
 use std::str;

@@ -5,9 +5,9 @@ ghost use Rattle.shared_partition.specs.Directories as directories;
 ghost use Rattle.shared_partition.specs.Partitions as partitions;
 
 use activation_directory::{DirectoryOp, DirectoryReply};
-use cluster_callers::QueueCaller;
 use shared_partition::{DirectoryHistory, Gate, QueueHistory, SharedDirectory, SharedPartition};
 use silo_loops::{DirectoryLine, Line};
+use silo_threads::QueueCaller;
 use std::alloc::{AllocError, Global};
 use std::process::Abort;
 use std::sync::Arc;

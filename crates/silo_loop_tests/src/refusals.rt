@@ -1,9 +1,9 @@
 //! Calls of a shared partition of which one allocation is refused, at a history that takes memory.
 use crate::fresh::{History, caller_of, line};
 use crate::operations::{Call, FIRST, operation};
-use cluster_callers::QueueCaller;
 use shared_partition::{Counting, QueueHistory};
 use silo_loops::Doorbell;
+use silo_threads::QueueCaller;
 use std::alloc::{AllocError, Global};
 use std::process::Abort;
 use std::sync::{Arc, Wait};

@@ -2,8 +2,8 @@
 use crate::operations::Call;
 use crate::silo::{Silo, ask, publish};
 use crate::tally::Tally;
-use cluster_callers::Caller;
 use shared_partition::{DirectoryHistory, QueueHistory};
+use silo_threads::Caller;
 use std::alloc::Global;
 use std::process::Abort;
 use std::sync::Wait;

@@ -1,9 +1,9 @@
 //! Two threads that call one queue.
 use crate::fresh::{History, caller_of, line};
 use crate::operations::{Call, operation};
-use cluster_callers::QueueCaller;
 use shared_partition::{Gate, QueueHistory};
 use silo_loops::Doorbell;
+use silo_threads::QueueCaller;
 use std::alloc::Global;
 use std::process::Abort;
 use std::sync::atomic::{AtomicU64, Ordering};

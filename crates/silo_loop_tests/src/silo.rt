@@ -2,11 +2,11 @@
 use crate::fresh::{caller_of, directory_line, line};
 use crate::operations::{Call, operation};
 use crate::passes::{alone, push};
-use cluster_callers::{Caller, QueueCaller};
 use shared_partition::{DirectoryHistory, Gate, QueueHistory};
 use silo_loops::{
     Advance, AgentLoop, Assigned, DirectoryLine, Doorbell, Line, TurnRoom, WorkerLoop,
 };
+use silo_threads::{Caller, QueueCaller};
 use std::alloc::Global;
 use std::process::Abort;
 use std::sync::{Arc, Wait};

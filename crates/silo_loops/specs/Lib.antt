@@ -1,8 +1,10 @@
 pub mod Agents
 pub mod Answers
 pub mod Chains
+pub mod Fronts
 pub mod Lines
 pub mod Passes
+pub mod Silos
 pub mod Visiting
 pub mod Walks
 pub mod Workers

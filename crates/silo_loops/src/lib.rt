@@ -6,6 +6,8 @@
 //! [`Doorbell`] tells that there may be more. A visit makes steps at one queue, one after another, and keeps the turn
 //! of that queue meanwhile. Whoever keeps a queue's turn may wait for the directory's, and nobody the other way round.
 //!
+//! [`SiloLoops`] are the loops of one silo, and a [`RunningSilo`] has them in threads.
+//!
 //! Not claimed: that a loop gets on, and that a doorbell wakes who waits at it.
 #![tactic(auto)]
 
@@ -13,6 +15,7 @@ mod advance;
 mod agent;
 mod agent_walk;
 mod assigned;
+mod crew;
 mod desk;
 mod directory_line;
 mod doorbell;
@@ -25,6 +28,9 @@ mod worker_walk;
 pub use advance::{Advance, LoopEnd, Over};
 pub use agent::AgentLoop;
 pub use assigned::Assigned;
+pub use crew::{
+    AgentPromise, RunningSilo, SiloLoops, SiloTools, WorkerPromise, join_lines, split_lines,
+};
 pub use directory_line::DirectoryLine;
 pub use doorbell::{Doorbell, directory_rings, rings};
 pub use line::Line;

@@ -5,7 +5,7 @@ use Rattle.std.proofs.lemmas.Option.{get_or_from_slice_get, slice_get_within}
 use Rattle.std.specs.List.{AllByRecursion, insert, range_with_len, slice_get}
 use Rattle.std.specs.Option.{unwrap_or}
 use Rattle.queue_balancer.specs.Balance.{HasNoDoubles}
-use Rattle.silo_crew.specs.Silos.{SiloView}
+use Rattle.silo_loops.specs.Silos.{SiloView}
 use Rattle.stream_cluster_tests.specs.Parked.{silos_of}
 
 -- what stands once stands at one place

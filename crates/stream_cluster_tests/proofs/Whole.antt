@@ -8,16 +8,16 @@ use Rattle.std.specs.declared.alloc.AllocError.{AllocError}
 use Rattle.stream_ident.proofs.WordLemmas.{All-at}
 use Rattle.queue_balancer.specs.Balance.{HasNoDoubles}
 use Rattle.silo_loops.specs.Lines.{QueuePass}
-use Rattle.silo_crew.specs.Silos.{HasRun, IsSiloAt, SiloView}
-use Rattle.silo_crew.proofs.Going.{goes-places}
-use Rattle.cluster_operator.specs.Operators.{OperatorGoesOn}
-use Rattle.stream_cluster.specs.Clusters.{AnswersRetire, AnswersUp, ClusterView, HasHalted, IsDown, IsNewParked, RunsOn, is_fixed}
-use Rattle.stream_cluster.specs.declared.config.Config.{Config}
-use Rattle.stream_cluster.specs.declared.cluster.Retired.{Retired}
-use Rattle.stream_cluster.specs.declared.cluster.Retired.TheVariants as retired
-use Rattle.stream_cluster.specs.declared.cluster.SiloUp.{SiloUp}
-use Rattle.stream_cluster.specs.declared.cluster.SiloUp.TheVariants as up
-use Rattle.stream_cluster.proofs.Standing.{all-remove, lives-at, map-remove, same-at, silo-place, sits-on}
+use Rattle.silo_loops.specs.Silos.{HasRun, IsSiloAt, SiloView}
+use Rattle.silo_loops.proofs.Going.{goes-places}
+use Rattle.silo_threads.specs.Operators.{OperatorGoesOn}
+use Rattle.silo_threads.specs.Clusters.{AnswersRetire, AnswersUp, ClusterView, HasHalted, IsDown, IsNewParked, RunsOn, is_fixed}
+use Rattle.silo_threads.specs.declared.clusters.config.Config.{Config}
+use Rattle.silo_threads.specs.declared.clusters.cluster.Retired.{Retired}
+use Rattle.silo_threads.specs.declared.clusters.cluster.Retired.TheVariants as retired
+use Rattle.silo_threads.specs.declared.clusters.cluster.SiloUp.{SiloUp}
+use Rattle.silo_threads.specs.declared.clusters.cluster.SiloUp.TheVariants as up
+use Rattle.silo_threads.proofs.Standing.{all-remove, lives-at, map-remove, same-at, silo-place, sits-on}
 use Rattle.stream_cluster_tests.specs.Parked.{IsLeft, IsWhole, silos_of}
 use Rattle.stream_cluster_tests.proofs.Standing.{all-set, insert-remove, one-place, range-once, silos-set}
 

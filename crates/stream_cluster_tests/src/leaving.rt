@@ -5,11 +5,11 @@ use crate::producer::Producer;
 use crate::running::{Calls, Places, Running, Size, is_reported, start};
 use crate::told::{report_of, subscribe_all};
 use shared_partition::{Counting, DirectoryHistory, QueueHistory};
+use silo_threads::SiloDown;
 use std::alloc::Global;
 use std::process::Abort;
 use std::sync::{Arc, Wait};
 use std::thread::Threads;
-use stream_cluster::SiloDown;
 
 const SILOS: u8 = 16;
 

@@ -1,23 +1,20 @@
 //! A parked cluster, and all that was handed out with it.
 ghost use Rattle.std.specs.Prelude.{◌≡◌};
-ghost use Rattle.silo_crew.specs.Silos.{HasRun};
+ghost use Rattle.silo_loops.specs.Silos.{HasRun};
 ghost use Rattle.stream_cluster_tests.specs.Parked.{IsLeft};
 
 use crate::asking::{Produced, production};
 use crate::running::Ended;
-use cluster_callers::Caller;
-use cluster_ending::{Quiet, ask_quiet};
-use script_producer::Answer as Answered;
+use script_runs::Answer as Answered;
 use shared_partition::{Counting, DirectoryHistory, QueueHistory};
-use silo_crew::SiloLoops;
-use silo_loops::{Advance, DirectoryLine};
+use silo_loops::{Advance, DirectoryLine, SiloLoops};
+use silo_threads::{Caller, Cluster, Config, Quiet, Retired, SiloUp, ask_quiet};
 use std::alloc::{AllocError, Global};
 use std::marker::Model;
 use std::process::Abort;
 use std::sync::{Arc, Wait};
 use std::thread::Threads;
 use step_core::{Answer, Limits, Op};
-use stream_cluster::{Cluster, Config, Retired, SiloUp};
 use turnstile::Refusal;
 
 /// The loops of a silo.
@@ -182,7 +179,7 @@ impl<H: QueueHistory, D: DirectoryHistory> Parked<H, D> {
     ) -> Result<Answered, AllocError> {
         assert!(rt; queue < self.caller.queues());
         let op = production(rt, alloc, asked)?;
-        script_producer::ask(rt, alloc, &mut self.caller, queue, op)
+        script_runs::ask(rt, alloc, &mut self.caller, queue, op)
     }
 
     /// One call at a queue, by the caller of the cluster.

@@ -3,15 +3,14 @@ use crate::asking::{Produced, holds, production};
 use crate::parked::{Astray, Parked, Went};
 use crate::running::{Calls, End, Ended, Places, is_so};
 use crate::story::{QUEUES, REPORT, begin, tell_the_rest};
-use cluster_ending::Finished;
-use script_producer::Answer as Answered;
+use script_runs::Answer as Answered;
 use shared_partition::{DirectoryHistory, QueueHistory};
+use silo_threads::{Finished, SiloUp};
 use std::alloc::Global;
 use std::process::Abort;
 use std::sync::Wait;
 use std::thread::Threads;
 use step_core::{Answer, Limits, Op, Partition, Reply};
-use stream_cluster::SiloUp;
 use turnstile::Refusal;
 
 static WENT: [Went; 3] = [Went::Down, Went::Down, Went::LastSilo];

@@ -2,8 +2,8 @@
 use crate::parked::{Parked, Went};
 use crate::running::{Calls, Ended, Places, is_reported};
 use crate::story::{Order, QUEUES, REPORT, advance, begin, tell_the_rest};
-use cluster_ending::Finished;
 use shared_partition::{DirectoryHistory, QueueHistory};
+use silo_threads::Finished;
 use std::alloc::{AllocError, Global};
 use std::process::Abort;
 use std::sync::Wait;

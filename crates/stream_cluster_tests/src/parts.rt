@@ -7,15 +7,13 @@ ghost use Rattle.shared_partition.specs.Partitions as partitions;
 use crate::asking::{Produced, production};
 use crate::running::{Calls, Places};
 use activation_directory::{DirectoryOp, DirectoryReply};
-use cluster_callers::Caller;
-use cluster_ending::{
-    Closing, Finished, LoopEnds, Quiet, Traces, ask_quiet, close, finish, gather,
-};
-use cluster_operator::Operator;
 use shared_partition::{
     Counting, DirectoryHistory, QueueHistory, SharedDirectory, SharedPartition,
 };
 use silo_loops::{DirectoryLine, Doorbell, Line};
+use silo_threads::{
+    Caller, Closing, Finished, LoopEnds, Operator, Quiet, Traces, ask_quiet, close, finish, gather,
+};
 use std::alloc::{AllocError, Global};
 use std::process::Abort;
 use std::sync::{Arc, Wait};

@@ -1,6 +1,6 @@
 //! What the calls of parked clusters came to.
 use crate::running::Calls;
-use cluster_ending::Traces;
+use silo_threads::Traces;
 use std::alloc::Global;
 use std::process::Abort;
 use step_core::{Limits, Op, Outcome, Partition, Reply};

@@ -4,16 +4,14 @@ ghost use Rattle.std.specs.Prelude.{◌≡◌, ◌≤◌, [], IfOk, vec_capacity
 use crate::producer::Producer;
 use crate::told::Told;
 use activation_directory::{DirectoryOp, DirectoryReply};
-use cluster_callers::Caller;
-use cluster_ending::{Finished, Traces};
 use shared_partition::{DirectoryHistory, Gate, QueueHistory};
+use silo_threads::{Caller, Cluster, Config, Finished, SiloDown, SiloUp, Traces};
 use std::alloc::{AllocError, Global};
 use std::marker::Model;
 use std::process::Abort;
 use std::sync::{Arc, Wait};
 use std::thread::Threads;
 use step_core::{Answer, Limits, Op};
-use stream_cluster::{Cluster, Config, SiloDown, SiloUp};
 use turnstile::{AskedHistory, PlainHistory};
 
 /// How the calls of a queue are stored.
@@ -213,7 +211,7 @@ impl<G: Gate, H: QueueHistory, D: DirectoryHistory> Running<G, H, D> {
 
 // How a cluster has ended, without the loops that came back.
 fn without_loops<G: Gate, H: QueueHistory, D: DirectoryHistory>(
-    ended: Result<stream_cluster::Ended<G, H, D>, AllocError>,
+    ended: Result<silo_threads::Ended<G, H, D>, AllocError>,
 ) -> Ended<H> {
     Ok(ended?.finished)
 }

@@ -2,8 +2,8 @@
 use crate::asking::holds;
 use crate::cases::{Case, ONE, Second, Step, prepare};
 use crate::running::{Calls, End, Ended, Places, Size, is_so};
-use cluster_ending::Finished;
 use shared_partition::{Counting, DirectoryHistory, QueueHistory};
+use silo_threads::Finished;
 use std::alloc::Global;
 use std::process::Abort;
 use std::sync::{Arc, Wait};

@@ -2,7 +2,7 @@
 use crate::asking::Produced;
 use crate::parked::{LOOPS, Loop, Parked};
 use crate::running::Ended;
-use script_producer::Answer as Answered;
+use script_runs::Answer as Answered;
 use shared_partition::{DirectoryHistory, QueueHistory};
 use silo_loops::Advance;
 use std::alloc::{AllocError, Global};

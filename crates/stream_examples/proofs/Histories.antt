@@ -9,8 +9,8 @@ use Rattle.turnstile.specs.declared.asked.AskedHistory.{AskedHistory}
 use Rattle.turnstile.specs.Asked.{asked_entries}
 use Rattle.turnstile.specs.History.{IsLegal}
 use Rattle.shared_partition.specs.Partitions.{after, replied}
-use Rattle.stream_cluster.specs.declared.config.Config.{Config}
-use Rattle.cluster_scripts.specs.Runs.{IsLegalHistory}
+use Rattle.silo_threads.specs.declared.clusters.config.Config.{Config}
+use Rattle.script_runs.specs.Runs.{IsLegalHistory}
 
 -- the history at a place is legal where each is
 pub legal-at : (config : Config) (xs : List (AskedHistory Op Reply)) (ps : List PlainPartition) (k : ℕ) (x : AskedHistory Op Reply) → k < length xs → x ≡ get_or xs k x → AllZip (IsLegalHistory config) (map asked_entries xs) ps

@@ -10,18 +10,17 @@ ghost use Rattle.stream_model.specs.Positions.{empty};
 ghost use Rattle.turnstile.specs.Asked.{asked_entries};
 ghost use Rattle.turnstile.specs.History.{IsLegal};
 ghost use Rattle.shared_partition.specs.Partitions.{after, replied};
-ghost use Rattle.cluster_scripts.specs.Runs.{AreLegal, LeavesLegalTraces};
-ghost use Rattle.stream_cluster.specs.Clusters.{IsConfig};
+ghost use Rattle.script_runs.specs.Runs.{AreLegal, LeavesLegalTraces};
+ghost use Rattle.silo_threads.specs.Clusters.{IsConfig};
 ghost use Rattle.stream_script.specs.Simulation.{IsSimConfig};
 
 mod balancing;
 mod limits;
 
 use activation_directory::{DirectoryOp, DirectoryReply};
-use cluster_ending::Traces;
-use cluster_scripts::{Ran, RunEnd, run, run_text};
-use script_reader::{Script, read_lines};
+use script_runs::{Calls, Ran, RunEnd, Script, queue_trace, read_lines, run, run_text};
 use shared_partition::{Counting, QueueHistory};
+use silo_threads::{Config, Traces};
 use std::alloc::{AllocError, Global};
 use std::fs::{self, Files};
 use std::process::ExitCode;
@@ -29,10 +28,8 @@ use std::rt::Runtime;
 use std::sync::{Arc, Wait};
 use std::thread::Threads;
 use step_core::{Answer, Partition};
-use stream_cluster::Config;
 use stream_model::{Limits, Op};
 use stream_script::{Counted, SimConfig, read_script, sim};
-use trace_printer::{Calls, queue_trace};
 use turnstile::{AskedHistory, ProofHistory};
 
 /// Files of worked examples, how many queues they have and how many blocks the cache of each, and how many of the examples

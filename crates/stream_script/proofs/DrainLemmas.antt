@@ -5,9 +5,9 @@ use Rattle.std.proofs.lemmas.List.{get_or_read}
 use Rattle.stream_model.specs.declared.drain_end.DrainEnd.{DrainEnd}
 use Rattle.stream_model.specs.declared.plain.PlainPartition.{PlainPartition}
 use Rattle.stream_model.specs.Draining.{drain}
-use Rattle.script_printer.specs.Replies.{drain_line}
+use Rattle.stream_script.specs.Replies.{drain_line}
 use Rattle.stream_script.specs.Simulation.{behind, end_line, drained, drained_each}
-use Rattle.script_printer.specs.Writing.{Writes}
+use Rattle.stream_script.specs.Writing.{Writes}
 use Rattle.stream_script.proofs.EachLemmas.{next_done, all_done}
 
 -- the partition of the queue was drained, and the line of how that ended was appended

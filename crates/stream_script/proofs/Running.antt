@@ -3,7 +3,7 @@ use Rattle.std.proofs.Common.{◌≡◌, ℕ, suc, ◌+◌, List, [], ◌∷◌,
 use Rattle.std.specs.Io.KnownBytes.{Appends}
 use Rattle.std.proofs.KnownBytes.{Appends-nil, Appends-trans}
 use Rattle.stream_model.specs.declared.plain.PlainPartition.{PlainPartition}
-use Rattle.script_parser.specs.declared.command.Fault.{Fault}
+use Rattle.stream_script.specs.declared.parser.command.Fault.{Fault}
 use Rattle.stream_script.specs.declared.simulate.SimConfig.{SimConfig}
 use Rattle.stream_script.specs.Simulation.{Outcome, with_text, and_then, run_line, run_lines, RunsLine}
 use Rattle.stream_script.specs.Transfers.{AppendsFront}

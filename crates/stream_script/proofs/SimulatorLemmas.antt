@@ -6,9 +6,9 @@ use Rattle.stream_model.specs.declared.op.Op.{Op}
 use Rattle.stream_model.specs.declared.plain.PlainPartition.{PlainPartition}
 use Rattle.stream_model.specs.Replies.{Reply}
 use Rattle.stream_model.specs.Step.{step}
-use Rattle.script_printer.specs.Replies.{reply_line}
+use Rattle.stream_script.specs.Replies.{reply_line}
 use Rattle.stream_script.specs.Simulation.{behind, stepped, stepped_each}
-use Rattle.script_printer.specs.Writing.{Writes}
+use Rattle.stream_script.specs.Writing.{Writes}
 use Rattle.stream_script.proofs.EachLemmas.{next_done, all_done}
 
 -- the partition of the queue was stepped, and the line of its reply was appended

@@ -13,21 +13,21 @@ use Rattle.stream_model.specs.Replies.{Reply}
 use Rattle.stream_model.specs.Draining.{Progress, drain}
 use Rattle.stream_model.specs.Positions.{empty}
 use Rattle.stream_model.specs.Step.{step}
-use Rattle.script_parser.specs.declared.command.Command.TheVariants as command
-use Rattle.script_parser.specs.declared.command.Fault.{Fault}
-use Rattle.script_parser.specs.declared.command.FaultKind.TheVariants as kind
-use Rattle.script_parser.specs.declared.command.Mode.TheVariants as mode
-use Rattle.script_parser.specs.declared.command.Parsed.{Parsed}
-use Rattle.script_parser.specs.declared.command.Parsed.TheVariants as parsed
+use Rattle.stream_script.specs.declared.parser.command.Command.TheVariants as command
+use Rattle.stream_script.specs.declared.parser.command.Fault.{Fault}
+use Rattle.stream_script.specs.declared.parser.command.FaultKind.TheVariants as kind
+use Rattle.stream_script.specs.declared.parser.command.Mode.TheVariants as mode
+use Rattle.stream_script.specs.declared.parser.command.Parsed.{Parsed}
+use Rattle.stream_script.specs.declared.parser.command.Parsed.TheVariants as parsed
 use Rattle.stream_script.specs.declared.simulate.SimConfig.{SimConfig}
 use Rattle.stream_script.specs.declared.simulate.SimError.{SimError}
 use Rattle.stream_script.specs.declared.simulate.SimError.TheVariants as error
 use Rattle.stream_script.specs.Transfers.{AppendsFront}
-use Rattle.script_parser.specs.Forms.{op_of}
-use Rattle.script_parser.specs.Lines.{lines_of}
-use Rattle.script_parser.specs.Reading.{reading}
-use Rattle.script_printer.specs.Replies.{reply_line, drain_line}
-use Rattle.script_printer.specs.Report.{report_of}
+use Rattle.stream_script.specs.Forms.{op_of}
+use Rattle.stream_script.specs.Lines.{lines_of}
+use Rattle.stream_script.specs.Reading.{reading}
+use Rattle.stream_script.specs.Replies.{reply_line, drain_line}
+use Rattle.stream_script.specs.Report.{report_of}
 
 -- what the simulation may be asked for
 pub record IsSimConfig (config : SimConfig) : Type 0 where

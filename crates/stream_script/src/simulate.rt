@@ -6,15 +6,15 @@ ghost use Rattle.stream_ident.specs.Alphabet.{IsPayload};
 ghost use Rattle.stream_model.specs.Draining.{drain};
 ghost use Rattle.stream_model.specs.Positions.{empty};
 ghost use Rattle.stream_model.specs.Step.{step};
-ghost use Rattle.script_parser.specs.Lines.{lines_of};
-ghost use Rattle.script_parser.specs.Forms.{op_of};
+ghost use Rattle.stream_script.specs.Lines.{lines_of};
+ghost use Rattle.stream_script.specs.Forms.{op_of};
 ghost use Rattle.stream_script.specs.Simulation.{IsSimConfig, Simulates, SimulatesSome, RunsLines, Finishes, ReadsScript, ReadsSome, simulation, run_script, is_read_fault, is_write_fault, behind, stepped, stepped_each, drained, drained_each, run_line, RunsLine};
 
-use crate::source_sink::{Failed, Sink, Source, write_all};
-use script_parser::{
+use crate::parser::{
     Command, EachOp, Fault, FaultKind, Lines, Mode, Parsed, Publish, parse_line, read_publish,
 };
-use script_printer::{appended_line, drain_line, outcome_line, report_text};
+use crate::printer::{appended_line, drain_line, outcome_line, report_text};
+use crate::source_sink::{Failed, Sink, Source, write_all};
 use std::alloc::{AllocError, Global};
 use step_core::Partition;
 use stream_model::{Limits, Op};

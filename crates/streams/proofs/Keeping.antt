@@ -2,13 +2,13 @@
 use Rattle.std.proofs.Common.{◌≡◌, ℕ, Result, Ok, Err, ap}
 use Rattle.std.specs.declared.alloc.AllocError.{AllocError}
 use Rattle.silo_loops.specs.Lines.{places}
-use Rattle.silo_crew.proofs.Going.{goes-places}
-use Rattle.stream_cluster.specs.declared.cluster.SiloDown.{SiloDown}
-use Rattle.stream_cluster.specs.declared.cluster.SiloDown.TheVariants as down
-use Rattle.stream_cluster.specs.declared.cluster.SiloUp.{SiloUp}
-use Rattle.stream_cluster.specs.declared.cluster.SiloUp.TheVariants as up
-use Rattle.stream_cluster.specs.Clusters.{AnswersDown, AnswersUp, ClusterView}
-use Rattle.cluster_operator.specs.Operators.{OperatorGoesOn}
+use Rattle.silo_loops.proofs.Going.{goes-places}
+use Rattle.silo_threads.specs.declared.clusters.cluster.SiloDown.{SiloDown}
+use Rattle.silo_threads.specs.declared.clusters.cluster.SiloDown.TheVariants as down
+use Rattle.silo_threads.specs.declared.clusters.cluster.SiloUp.{SiloUp}
+use Rattle.silo_threads.specs.declared.clusters.cluster.SiloUp.TheVariants as up
+use Rattle.silo_threads.specs.Clusters.{AnswersDown, AnswersUp, ClusterView}
+use Rattle.silo_threads.specs.Operators.{OperatorGoesOn}
 
 -- a cluster has its passes at the same turnstiles as before
 abbrev pub Stays : ClusterView → ClusterView → Type 0

@@ -5,7 +5,7 @@ use Rattle.stream_model.specs.declared.op.Op.{Op}
 use Rattle.stream_model.specs.Replies.{Reply}
 use Rattle.turnstile.specs.declared.turnstile.Refusal.{Refusal}
 use Rattle.silo_loops.specs.Lines.{QueuePass}
-use Rattle.cluster_callers.specs.Calls.{CallerCalls}
+use Rattle.silo_threads.specs.Calls.{CallerCalls}
 use Rattle.streams.specs.declared.answers.CallError.{CallError}
 use Rattle.streams.specs.Answers as read
 use Rattle.streams.specs.Services.{Reads, TellsRule}

@@ -12,14 +12,14 @@ use Rattle.stream_model.specs.Replies.{Reply}
 use Rattle.stream_model.specs.declared.reply.Reply.TheVariants as reply
 use Rattle.turnstile.specs.declared.turnstile.Refusal.{Refusal}
 use Rattle.turnstile.specs.declared.turnstile.Refusal.TheVariants.{HistoryFull, Memory}
-use Rattle.cluster_ending.specs.declared.finishing.Finished.{Finished}
-use Rattle.cluster_ending.specs.declared.finishing.Finished.TheVariants as finished
-use Rattle.script_producer.specs.declared.draining.Drained.{Drained}
-use Rattle.script_producer.specs.declared.draining.Drained.TheVariants as drained
-use Rattle.stream_cluster.specs.declared.cluster.SiloDown.{SiloDown}
-use Rattle.stream_cluster.specs.declared.cluster.SiloDown.TheVariants as down
-use Rattle.stream_cluster.specs.declared.cluster.SiloUp.{SiloUp}
-use Rattle.stream_cluster.specs.declared.cluster.SiloUp.TheVariants as up
+use Rattle.silo_threads.specs.declared.ending.finishing.Finished.{Finished}
+use Rattle.silo_threads.specs.declared.ending.finishing.Finished.TheVariants as finished
+use Rattle.silo_threads.specs.declared.ending.draining.Drained.{Drained}
+use Rattle.silo_threads.specs.declared.ending.draining.Drained.TheVariants as drained
+use Rattle.silo_threads.specs.declared.clusters.cluster.SiloDown.{SiloDown}
+use Rattle.silo_threads.specs.declared.clusters.cluster.SiloDown.TheVariants as down
+use Rattle.silo_threads.specs.declared.clusters.cluster.SiloUp.{SiloUp}
+use Rattle.silo_threads.specs.declared.clusters.cluster.SiloUp.TheVariants as up
 use Rattle.streams.specs.declared.answers.CallError.{CallError}
 use Rattle.streams.specs.declared.answers.CallError.TheVariants as call
 use Rattle.streams.specs.declared.answers.CloseError.{CloseError}

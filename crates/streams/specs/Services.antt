@@ -17,15 +17,15 @@ use Rattle.turnstile.specs.declared.turnstile.Refusal.{Refusal}
 use Rattle.turnstile.specs.Recorded.{answered, recorded}
 use Rattle.silo_loops.specs.declared.advance.LoopEnd.{LoopEnd}
 use Rattle.silo_loops.specs.Lines.{QueuePass, places}
-use Rattle.cluster_callers.specs.Calls.{CallerCalls, turnstiles}
-use Rattle.cluster_ending.specs.declared.finishing.Finished.{Finished}
-use Rattle.script_producer.specs.declared.draining.Drained.{Drained}
-use Rattle.script_producer.specs.Telling.{EndsLooking, HasGoneOn}
-use Rattle.stream_cluster.specs.declared.cluster.SiloDown.{SiloDown}
-use Rattle.stream_cluster.specs.declared.cluster.SiloUp.{SiloUp}
-use Rattle.stream_cluster.specs.declared.config.Config.{Config}
-use Rattle.silo_crew.specs.Silos.{SiloView}
-use Rattle.stream_cluster.specs.Clusters.{AnswersDown, AnswersUp, ClusterView, HasFinished, IsNew}
+use Rattle.silo_threads.specs.Calls.{CallerCalls, turnstiles}
+use Rattle.silo_threads.specs.declared.ending.finishing.Finished.{Finished}
+use Rattle.silo_threads.specs.declared.ending.draining.Drained.{Drained}
+use Rattle.silo_threads.specs.Draining.{EndsLooking, HasGoneOn}
+use Rattle.silo_threads.specs.declared.clusters.cluster.SiloDown.{SiloDown}
+use Rattle.silo_threads.specs.declared.clusters.cluster.SiloUp.{SiloUp}
+use Rattle.silo_threads.specs.declared.clusters.config.Config.{Config}
+use Rattle.silo_loops.specs.Silos.{SiloView}
+use Rattle.silo_threads.specs.Clusters.{AnswersDown, AnswersUp, ClusterView, HasFinished, IsNew}
 use Rattle.streams.specs.declared.answers.CallError.{CallError}
 use Rattle.streams.specs.declared.answers.CallError.TheVariants as call
 use Rattle.streams.specs.declared.answers.CloseError.{CloseError}

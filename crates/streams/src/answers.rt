@@ -2,12 +2,10 @@
 ghost use Rattle.std.specs.Prelude.{◌≡◌};
 ghost use Rattle.streams.specs.Answers as read;
 
-use cluster_ending::{Finished, Traces};
-use script_producer::Drained;
 use silo_loops::LoopEnd;
+use silo_threads::{Drained, Finished, SiloDown, SiloUp, Traces};
 use std::alloc::AllocError;
 use step_core::{Answer, Partition, Reply};
-use stream_cluster::{SiloDown, SiloUp};
 use stream_ident::{StreamId, SubName, Token};
 use stream_model::{Pending, Start};
 use thiserror::Error;

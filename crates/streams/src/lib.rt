@@ -28,17 +28,16 @@ pub use answers::{
     CallError, CloseError, Closed, PublishError, SettleError, SiloError, StartFrom, StreamToken,
     SubscribeError, Subscription, UnsubscribeError,
 };
-pub use cluster_callers::{Caller, QueueCaller};
-pub use cluster_ending::{Finished, Traces};
 pub use producer::Producer;
 pub use queue_mapper::queue;
-pub use script_producer::{Drained, drain};
 pub use service::{Host, Service};
 pub use shared_partition::{Counting, Gate};
-pub use silo_crew::SiloLoops;
-pub use silo_loops::{Advance, AgentLoop, Doorbell, LoopEnd, Over, WorkerLoop};
+pub use silo_loops::{Advance, AgentLoop, Doorbell, LoopEnd, Over, SiloLoops, WorkerLoop};
+pub use silo_threads::{
+    Caller, Cluster, Config, Drained, Finished, QueueCaller, Retired, SiloDown, SiloUp, Traces,
+    drain,
+};
 pub use step_core::{Answer, Outcome, Partition, SubSummary};
-pub use stream_cluster::{Cluster, Config, Retired, SiloDown, SiloUp};
 pub use stream_ident::{
     BadName, BadPayload, BadToken, Batch, Event, GrainId, Name, Payload, Row, StreamId, SubName,
     Token, WrongByte,

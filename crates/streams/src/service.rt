@@ -1,7 +1,7 @@
 //! A cluster with its first caller, as a service uses it.
 ghost use Rattle.std.specs.Prelude.{◌≡◌, ◌<◌, ◌≤◌, length, IfOk};
-ghost use Rattle.stream_cluster.specs.Clusters.{IsConfig};
-ghost use Rattle.cluster_callers.specs.Calls.{CallerCalls, CallerSplits, JoinsAll, joined_passes, turnstiles};
+ghost use Rattle.silo_threads.specs.Clusters.{IsConfig};
+ghost use Rattle.silo_threads.specs.Calls.{CallerCalls, CallerSplits, JoinsAll, joined_passes, turnstiles};
 ghost use Rattle.streams.specs.Services.{AddsRule, AsksPending, ChangesDown, ChangesUp, Closes, IsNewService, IsProducerOf, Publishes, Settles, Subscribes, Unsubscribes, queue_of};
 
 use crate::answers::{
@@ -12,15 +12,14 @@ use crate::answers::{
 use crate::producer::{Producer, ask, ending, publish};
 use crate::{UntracedCaller, UntracedCluster};
 use queue_mapper::queue;
-use script_producer::drain;
 use shared_partition::Gate;
+use silo_threads::{Config, drain};
 use std::alloc::{AllocError, Global};
 use std::marker::Model;
 use std::rt::Runtime;
 use std::sync::{Arc, Wait};
 use std::thread::Threads;
 use step_core::Answer;
-use stream_cluster::Config;
 use stream_ident::{GrainId, MOST_SILOS, Name, Payload, StreamId};
 use stream_model::{Op, Pending};
 use turnstile::Refusal;

@@ -1,5 +1,5 @@
 use Rattle.std.proofs.Common.{not}
-use Rattle.script_parser.specs.Pieces.{is_space}
+use Rattle.stream_script.specs.Pieces.{is_space}
 use Rattle.script_checker.proofs.PlaceLemmas.{place_or_end, space_before, no_space_at}
 use Rattle.script_checker.proofs.piece.spaces_len.Goals as goal
 

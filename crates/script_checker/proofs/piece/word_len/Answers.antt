@@ -1,4 +1,4 @@
-use Rattle.script_parser.specs.Pieces.{is_space}
+use Rattle.stream_script.specs.Pieces.{is_space}
 use Rattle.script_checker.proofs.PlaceLemmas.{place_or_end, space_at}
 use Rattle.script_checker.proofs.piece.word_len.Goals as goal
 

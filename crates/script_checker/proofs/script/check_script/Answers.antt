@@ -1,6 +1,6 @@
 use Rattle.std.proofs.Common.{List, ℕ, ◌∙◌, ap, arith, length, subst, sym}
-use Rattle.script_parser.proofs.CutLemmas.{length-lines_of}
-use Rattle.script_parser.specs.Lines.{lines_of}
+use Rattle.stream_script.proofs.CutLemmas.{length-lines_of}
+use Rattle.stream_script.specs.Lines.{lines_of}
 use Rattle.script_checker.specs.Checks.{IsPlaced, parsed_of}
 use Rattle.script_checker.proofs.ScriptLemmas.{Found, finds, notes, passes}
 use Rattle.script_checker.proofs.script.check_script.Goals as goal

@@ -1,5 +1,5 @@
 use Rattle.std.proofs.Common.{◌≡◌, ◌+◌, length}
-use Rattle.script_parser.specs.Lines.{lines_of}
+use Rattle.stream_script.specs.Lines.{lines_of}
 use Rattle.script_checker.proofs.ScriptLemmas.{Found}
 use Rattle.script_checker.proofs.script.check_script.Given as goal
 

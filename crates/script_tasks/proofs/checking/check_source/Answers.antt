@@ -1,6 +1,6 @@
 use Rattle.std.proofs.Common.{List, ℕ, ◌∙◌, ap, subst, sym}
 use Rattle.std.specs.Io.KnownBytes.{Appends}
-use Rattle.script_parser.specs.Lines.{lines_of}
+use Rattle.stream_script.specs.Lines.{lines_of}
 use Rattle.script_checker.specs.declared.line.LineFault.{LineFault}
 use Rattle.script_checker.specs.Scripts.{HasFound}
 use Rattle.script_tasks.specs.Checking.{EndsCheck}

@@ -1,7 +1,7 @@
 use Rattle.std.proofs.Common.{List, Ok, subst, ℕ, ◌≡◌}
-use Rattle.script_parser.specs.Lines.{lines_of}
-use Rattle.script_reader.specs.declared.reading.Script.{Script}
-use Rattle.script_reader.specs.Scripts.{IsRead, lines_after}
+use Rattle.stream_script.specs.Lines.{lines_of}
+use Rattle.script_runs.specs.declared.reader.reading.Script.{Script}
+use Rattle.script_runs.specs.Scripts.{IsRead, lines_after}
 use Rattle.script_tasks.proofs.Running.{run-known}
 use Rattle.script_tasks.proofs.silos.run_source.Goals as goal
 

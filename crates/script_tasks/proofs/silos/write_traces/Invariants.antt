@@ -1,7 +1,7 @@
 use Rattle.std.proofs.Common.{map, take}
 use Rattle.std.specs.Io.KnownBytes.{Appends}
 use Rattle.turnstile.specs.Asked.{asked_entries}
-use Rattle.trace_printer.specs.Traces.{traces_from}
+use Rattle.script_runs.specs.Traces.{traces_from}
 use Rattle.script_tasks.specs.Printing.{seen}
 use Rattle.script_tasks.proofs.silos.write_traces.Given as goal
 

@@ -1,6 +1,6 @@
 use Rattle.std.proofs.Common.{true, refl, subst}
 use Rattle.silo_loops.specs.Chains.{Stays, Steps}
-use Rattle.silo_crew.specs.Silos.{HasRun, SiloView}
+use Rattle.silo_loops.specs.Silos.{HasRun, SiloView}
 use Rattle.stream_cluster_tests.proofs.parked.step.Goals as goal
 
 pub returns-in-Agent : goal.returns-in-Agent

@@ -1,5 +1,5 @@
 use Rattle.std.proofs.Common.{◌≡◌, ◌+◌, length}
-use Rattle.script_parser.specs.Lines.{lines_of}
+use Rattle.stream_script.specs.Lines.{lines_of}
 use Rattle.stream_script.specs.Simulation.{run_lines, run_script}
 use Rattle.stream_script.proofs.Running.{Reaches}
 use Rattle.stream_script.proofs.simulate.run_lines.Given as goal

@@ -1,7 +1,7 @@
 use Rattle.std.proofs.Common.{List, subst, sym}
-use Rattle.silo_crew.specs.Silos.{IsSiloAt, SiloView}
-use Rattle.stream_cluster.specs.Clusters.{RunsOn}
-use Rattle.stream_cluster.proofs.Standing.{all-remove}
+use Rattle.silo_loops.specs.Silos.{IsSiloAt, SiloView}
+use Rattle.silo_threads.specs.Clusters.{RunsOn}
+use Rattle.silo_threads.proofs.Standing.{all-remove}
 use Rattle.stream_cluster_tests.proofs.parked.Parked.finish_without.Goals as goal
 
 pub finish_parked-requires-clause-loops : goal.finish_parked-requires-clause-loops

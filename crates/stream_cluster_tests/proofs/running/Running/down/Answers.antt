@@ -1,5 +1,5 @@
 use Rattle.std.proofs.Common.{◌∙◌}
-use Rattle.stream_cluster.proofs.Places.{down-places}
+use Rattle.silo_threads.proofs.Places.{down-places}
 use Rattle.stream_cluster_tests.proofs.running.Running.down.Goals as goal
 
 pub returns : goal.returns

@@ -1,5 +1,5 @@
 use Rattle.std.proofs.Common.{◌≡◌}
-use Rattle.script_parser.specs.Forms.{op_of}
+use Rattle.stream_script.specs.Forms.{op_of}
 use Rattle.stream_script.proofs.SimulatorLemmas.{EachSoFar}
 use Rattle.stream_script.proofs.simulate.Simulator.step_each.Given as goal
 

@@ -1,9 +1,0 @@
-use Rattle.std.proofs.Common.{◌∙◌, List, ap}
-use Rattle.silo_loops.specs.Lines.{QueuePass}
-use Rattle.cluster_callers.specs.Calls.{turnstiles}
-use Rattle.cluster_callers.proofs.Splitting.{turnstiles-called}
-use Rattle.cluster_callers.proofs.caller.Caller.ask.Goals as goal
-
-pub returns-clause-turnstiles : goal.returns-clause-turnstiles
-returns-clause-turnstiles g c =
-    turnstiles-called _ _ _ _ _ c.ask_at.ensures.calls ∙ ap (λ (ps : List QueuePass). turnstiles ps) c.self.view_is

@@ -1,6 +1,0 @@
-pub mod Begun
-pub mod Ended
-pub mod Looking
-pub mod Rows
-pub mod Taking
-pub mod Tracing

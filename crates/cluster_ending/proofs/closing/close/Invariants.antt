@@ -1,5 +1,0 @@
-use Rattle.cluster_ending.specs.Closing.{IsClosing}
-use Rattle.cluster_ending.proofs.closing.close.Given as goal
-
-abbrev pub invariant-loop-queue : goal.invariant-loop-queue
-invariant-loop-queue g l = IsClosing g.H.StoredHistory.entries l.yielded l.closing

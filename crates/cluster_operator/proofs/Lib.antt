@@ -1,4 +1,0 @@
-pub mod Changing
-pub mod Making
-pub mod Replies
-pub mod Spreading

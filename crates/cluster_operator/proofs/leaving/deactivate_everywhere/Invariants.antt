@@ -1,8 +1,0 @@
-use Rattle.std.proofs.Common.{ℕ}
-use Rattle.silo_loops.specs.Lines.{LineView}
-use Rattle.cluster_operator.specs.Changes.{HasMovedNowhere, HasSince, IsDeactivation}
-use Rattle.cluster_operator.proofs.Changing.{Since}
-use Rattle.cluster_operator.proofs.leaving.deactivate_everywhere.Given as goal
-
-abbrev pub invariant-loop-queue : goal.invariant-loop-queue
-invariant-loop-queue g l = Since (λ (k : ℕ) (was is : LineView). HasMovedNowhere was is × HasSince was is (IsDeactivation l.fn.grain)) l.queue l.fn.lines.items l.lines.items

@@ -1,6 +1,0 @@
-pub mod Changing
-pub mod Doing
-pub mod Fronts
-pub mod Histories
-pub mod Progress
-pub mod Reporting

@@ -1,6 +1,0 @@
-use Rattle.script_parser.specs.Fields.{payload_field}
-use Rattle.script_parser.proofs.ReadLemmas.{read_done}
-use Rattle.script_parser.proofs.fields.payloads.Goals as goal
-
-pub returns : goal.returns
-returns c = read_done payload_field (λ text. text.now) _ c.args.texts.now c.loop-text.text-index _ c.loop-text-test.false c.loop-text.invariant

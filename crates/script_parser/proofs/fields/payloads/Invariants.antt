@@ -1,8 +1,0 @@
-use Rattle.std.proofs.Common.{◌≡◌, map, drop}
-use Rattle.script_parser.specs.Fields.{payload_field}
-use Rattle.script_parser.specs.Forms.{read_all}
-use Rattle.script_parser.proofs.ReadLemmas.{with_read}
-use Rattle.script_parser.proofs.fields.payloads.Given as goal
-
-abbrev pub invariant-loop-text : goal.invariant-loop-text
-invariant-loop-text l = with_read l.payloads.items (read_all payload_field (map (λ text. text.now) (drop l.text-index l.texts))) ≡ read_all payload_field (map (λ text. text.now) l.texts)

@@ -1,8 +1,0 @@
-use Rattle.std.proofs.Common.{◌≡◌, map, drop}
-use Rattle.script_parser.specs.Lexer.{piece_of}
-use Rattle.script_parser.specs.Forms.{read_all, text_of}
-use Rattle.script_parser.proofs.ReadLemmas.{with_read}
-use Rattle.script_parser.proofs.fields.texts.Given as goal
-
-abbrev pub invariant-loop-piece : goal.invariant-loop-piece
-invariant-loop-piece l = with_read (map (λ text. text.now) l.texts.items) (read_all text_of (map piece_of (drop l.piece-index l.pieces))) ≡ read_all text_of (map piece_of l.pieces)

@@ -1,9 +1,0 @@
-use Rattle.std.proofs.Common.{sym, ap, ◌∙◌}
-use Rattle.script_parser.proofs.CutLemmas.{cut-parts, from_parts}
-use Rattle.script_parser.proofs.lines.split_line.Goals as goal
-
-pub returns-in-Some : goal.returns-in-Some
-returns-in-Some c = cut-parts c.args.script.now c.requires ∙ ap (from_parts c.args.script.now) (sym c.in-Some.ensures)
-
-pub returns-in-None : goal.returns-in-None
-returns-in-None c = cut-parts c.args.script.now c.requires ∙ ap (from_parts c.args.script.now) (sym c.in-None.ensures)

@@ -1,9 +1,0 @@
-use Rattle.std.proofs.Common.{◌≡◌, ◌++◌, take}
-use Rattle.std.specs.List.{flat_map}
-use Rattle.stream_ident.specs.Event.{events_at}
-use Rattle.script_printer.specs.Report.{handled_line}
-use Rattle.script_printer.proofs.report.push_handled_lines.Given as goal
-
--- the events so far
-abbrev pub invariant-loop-position : goal.invariant-loop-position
-invariant-loop-position l = l.out.items ≡ l.fn.out.items ++ flat_map handled_line (events_at l.partition.log (take l.position-index l.positions))

@@ -1,6 +1,0 @@
-use Rattle.script_printer.proofs.ReportLemmas.{ReportsSoFar}
-use Rattle.script_printer.proofs.report.push_report.Given as goal
-
--- the queues so far
-abbrev pub invariant-loop-queue : goal.invariant-loop-queue
-invariant-loop-queue l = ReportsSoFar l.fn.out.items l.out.items l.queue l.partitions

@@ -1,8 +1,0 @@
-use Rattle.std.proofs.Common.{codes}
-use Rattle.script_printer.specs.Replies.{ack_text}
-use Rattle.script_parser.specs.Spelling.{name_text}
-use Rattle.script_printer.proofs.Texts.{writes_then, two_texts}
-use Rattle.script_printer.proofs.text.push_due.Goals as goal
-
-pub returns : goal.returns
-returns c = writes_then c.args.out.now.items _ _ _ _ _ _ c.in_ok-push_named.ensures c.push_ack.ensures (two_texts (codes "due ") (name_text c.args.sub.now) (codes " ack ") (ack_text c.args.ack))

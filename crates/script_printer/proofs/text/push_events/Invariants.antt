@@ -1,8 +1,0 @@
-use Rattle.std.proofs.Common.{◌≡◌, ◌++◌, take}
-use Rattle.std.specs.List.{flat_map}
-use Rattle.script_printer.specs.Replies.{event_text}
-use Rattle.script_printer.proofs.text.push_events.Given as goal
-
--- the events so far
-abbrev pub invariant-loop-event : goal.invariant-loop-event
-invariant-loop-event l = l.out.items ≡ l.fn.out.items ++ flat_map event_text (take l.event-index l.events)

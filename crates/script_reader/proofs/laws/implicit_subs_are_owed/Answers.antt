@@ -1,5 +1,0 @@
-use Rattle.script_reader.proofs.QuietReports.{implicit-where-owed}
-use Rattle.script_reader.proofs.laws.implicit_subs_are_owed.Goals as goal
-
-pub returns : goal.returns
-returns c = implicit-where-owed

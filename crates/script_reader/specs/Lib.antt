@@ -1,4 +1,0 @@
-pub mod ScriptLaws
-pub mod ScriptReport
-pub mod Scripts
-pub mod Told

@@ -1,0 +1,99 @@
+-- Calls that found nothing leave a partition as it was, and the others are legal without them.
+use Rattle.std.proofs.Common.{◌≡◌, ◌∙◌, ℕ, Bool, true, false, not, List, [], ◌∷◌, ◌++◌, length, nat_lt, ◌==◌, refl, sym, ap, subst, if◌then◌else◌}
+use Rattle.std.specs.List.{flat_map}
+use Rattle.stream_ident.specs.declared.ident.SubName.{SubName}
+use Rattle.stream_model.specs.declared.op.Op.{Op}
+use Rattle.stream_model.specs.declared.op.Op.TheVariants as op
+use Rattle.stream_model.specs.declared.plain.PlainPartition.{PlainPartition}
+use Rattle.stream_model.specs.declared.plain.Subscription.{Subscription}
+use Rattle.stream_model.specs.Replies.{Reply}
+use Rattle.stream_model.specs.declared.reply.Reply.TheVariants as reply
+use Rattle.stream_model.specs.Pulling.{is_stale, pull, pull_count, pull_events, pull_want}
+use Rattle.stream_model.specs.Step.{step}
+use Rattle.turnstile.specs.declared.history.Entry.{Entry}
+use Rattle.turnstile.specs.History.{IsLegal, replay}
+use Rattle.shared_partition.specs.Partitions.{after, replied}
+use Rattle.script_runs.specs.declared.traces.trace.Calls.TheVariants as calls
+use Rattle.script_runs.specs.Traces.{BusyCallsAreLegal, busy, call_text, entry_text, found_nothing, heading, is_dry}
+
+-- where the cache had all events, nothing has changed
+abbrev KeepsDry : PlainPartition → PlainPartition × Reply → Type 0
+KeepsDry p done = is_dry done.1 ≡ true → done.0 ≡ p
+
+either : (p : PlainPartition) (b : Bool) (x y : PlainPartition × Reply) → KeepsDry p x → KeepsDry p y → KeepsDry p (if b then x else y)
+either p true x y keeps others = keeps
+either p false x y keeps others = others
+
+events-keep : (p : PlainPartition) (low high : ℕ) (subs : List (SubName × Subscription)) → KeepsDry p (pull_events p low high subs)
+unfolding pull_events
+events-keep p low high subs = either p (nat_lt p.limits.subs (length subs)) (p, reply.TooMany) _ (λ e. refl) (λ e. cc)
+
+count-keeps : (p : PlainPartition) (blocks count : ℕ) → KeepsDry p (pull_count p blocks count)
+unfolding pull_count
+count-keeps p blocks count = either p (count == 0) (p, _) _ (λ e. refl) (events-keep p _ _ _)
+
+want-keeps : (p : PlainPartition) (want : ℕ) → KeepsDry p (pull_want p want)
+unfolding pull_want
+want-keeps p want = count-keeps p _ _
+
+pull-keeps : (p : PlainPartition) (generation most : ℕ) → KeepsDry p (pull p generation most)
+unfolding pull
+pull-keeps p generation most = either p (is_stale p generation) (p, _) _ (λ e. refl) (either p (p.high == length p.log) (p, reply.Dry) _ (λ e. refl) (want-keeps p _))
+
+-- a call that found nothing has changed nothing
+keeps : (p : PlainPartition) (o : Op) → found_nothing o (replied p o) ≡ true → after p o ≡ p
+unfolding step
+keeps p (op.Pull generation most) e = pull-keeps p generation most e
+keeps p (op.Ready grain) e = refl
+keeps p (op.Due sub) e = refl
+keeps p op.Quiet e = refl
+keeps p (op.Publish stream payloads) e = cc
+keeps p (op.Subscribe stream grain start) e = cc
+keeps p (op.Unsubscribe sub) e = cc
+keeps p (op.AddRule kind namespace) e = cc
+keeps p (op.Deliver generation sub) e = cc
+keeps p (op.Retry generation sub) e = cc
+keeps p (op.Ack generation sub token) e = cc
+keeps p (op.Purge generation keep) e = cc
+keeps p (op.Begin grain most) e = cc
+keeps p (op.Commit grain activation turn note) e = cc
+keeps p (op.Deactivate grain) e = cc
+keeps p (op.Move silo) e = cc
+
+-- so the calls behind it are legal where it wasn't made
+module _ (p : PlainPartition) (e : Entry Op Reply) (es : List (Entry Op Reply)) (told : e.reply ≡ replied p e.op) where
+  same : true ≡ found_nothing e.op e.reply → after p e.op ≡ p
+  same idle = keeps p e.op (ap (found_nothing e.op) (sym told) ∙ sym idle)
+
+  legal-with : (idle : Bool) → idle ≡ found_nothing e.op e.reply → IsLegal replied after (after p e.op) (busy es) → IsLegal replied after p (if not idle then e ∷ busy es else busy es)
+  legal-with true is legal = subst (λ (s : PlainPartition). IsLegal replied after s (busy es)) (same is) legal
+  legal-with false is legal = (told, legal)
+
+  leaves-with : (idle : Bool) → idle ≡ found_nothing e.op e.reply → (left : PlainPartition) → replay replied after (after p e.op) (busy es) ≡ left → replay replied after p (if not idle then e ∷ busy es else busy es) ≡ left
+  leaves-with true is left leaves = subst (λ (s : PlainPartition). replay replied after s (busy es) ≡ left) (same is) leaves
+  leaves-with false is left leaves = leaves
+
+legal-busy : (p : PlainPartition) (history : List (Entry Op Reply)) → IsLegal replied after p history → IsLegal replied after p (busy history)
+legal-busy p [] legal = tt
+legal-busy p (e ∷ es) legal = legal-with p e es legal.0 (found_nothing e.op e.reply) refl (legal-busy (after p e.op) es legal.1)
+
+leaves-busy : (p : PlainPartition) (history : List (Entry Op Reply)) → IsLegal replied after p history → replay replied after p (busy history) ≡ replay replied after p history
+leaves-busy p [] legal = refl
+leaves-busy p (e ∷ es) legal = leaves-with p e es legal.0 (found_nothing e.op e.reply) refl (replay replied after (after p e.op) es) (leaves-busy (after p e.op) es legal.1)
+
+-- the texts of the others stand one behind another
+texts-with : (queue : ℕ) (e : Entry Op Reply) (es : List (Entry Op Reply)) (idle : Bool) → (text : List ℕ) → text ≡ flat_map (entry_text calls.All queue) (busy es)
+    → (if not idle then call_text queue e.op e.reply else []) ++ text ≡ flat_map (entry_text calls.All queue) (if not idle then e ∷ busy es else busy es)
+texts-with queue e es true text is = is
+texts-with queue e es false text is = ap (λ (t : List ℕ). call_text queue e.op e.reply ++ t) is
+
+texts-busy : (queue : ℕ) (history : List (Entry Op Reply)) → flat_map (entry_text calls.Busy queue) history ≡ flat_map (entry_text calls.All queue) (busy history)
+texts-busy queue [] = refl
+texts-busy queue (e ∷ es) = texts-with queue e es (found_nothing e.op e.reply) (flat_map (entry_text calls.Busy queue) es) (texts-busy queue es)
+
+pub busy_calls_are_legal : BusyCallsAreLegal
+busy_calls_are_legal p history legal = record {
+  legal = legal-busy p history legal;
+  leaves = leaves-busy p history legal;
+  text = λ queue. ap (λ (t : List ℕ). heading queue ++ t) (texts-busy queue history);
+}

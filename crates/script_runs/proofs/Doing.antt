@@ -1,0 +1,92 @@
+-- What a line does, by what it asks for.
+use Rattle.std.proofs.Common.{◌≡◌, ◌≢◌, ◌≤◌, ℕ, List, Option, None, Result, Ok, Err, IfErr, IfOk, refl, sym, ap, subst, ◌∙◌}
+use Rattle.std.specs.declared.alloc.AllocError.{AllocError}
+use Rattle.stream_model.specs.declared.op.Op.{Op}
+use Rattle.silo_loops.specs.Lines.{QueuePass}
+use Rattle.silo_threads.proofs.Rows.{zip-refl}
+use Rattle.silo_threads.specs.Clusters.{ClusterView, HasMetLimit}
+use Rattle.silo_threads.specs.Draining.{HasGoneOn, LooksInVain}
+use Rattle.stream_script.specs.declared.parser.command.Command.{Command}
+use Rattle.stream_script.specs.declared.parser.command.Command.TheVariants as command
+use Rattle.script_runs.specs.ScriptReport.{live_after}
+use Rattle.script_runs.specs.Told as script
+use Rattle.script_runs.proofs.Growing.{scripts-grow}
+use Rattle.script_runs.specs.declared.producer.answer.Answer.{Answer}
+use Rattle.script_runs.specs.declared.producer.answer.Answer.TheVariants as answer
+use Rattle.silo_threads.proofs.GoneOn.{gone-refl}
+use Rattle.script_runs.specs.Telling.{AsksLast, AsksOnce, EndsAsking, Tells, TellsUnlessLimit, with_missed}
+use Rattle.script_runs.specs.declared.runs.line.Stop.{Stop}
+use Rattle.script_runs.specs.declared.runs.line.Stop.TheVariants as stop
+use Rattle.script_runs.specs.Lines.{ChangesBy, DoesLine, IsOfWait, IsUnquiet, MeetsLimit, StopsBy, WaitsInVain}
+
+-- a line that asks for something at the queues
+pub tells-line : (v : ClusterView) (old new : List QueuePass) (command : Command) (a : Answer) → ((live : List ℕ) → live_after live command ≡ live) → Tells old command a new → DoesLine v old command a v new
+tells-line v old new command a same tells =
+    record {
+      live = λ once. (sym (same v.operator.live), once);
+      told = tells.told;
+      printed = λ begins alone missed lines number fresh has silos is. tells.printed begins alone missed lines number fresh has silos;
+      stays = λ free. (free, refl);
+    }
+
+-- a line by which a silo comes or goes
+pub changes-line : (v w : ClusterView) (passes : List QueuePass) (command : Command) (a : Answer) → ((queue : ℕ) → script.op_at queue command ≡ None) → ChangesBy v command a w → DoesLine v passes command a w passes
+changes-line v w passes command a none changes =
+    record {
+      live = changes.live;
+      told = λ begins alone missed lines number fresh has queue p at.
+          let now = with_missed a number missed in
+          has queue p at
+          ∙ ap (λ (numbers : List ℕ). script.told numbers queue lines) (sym (changes.found number missed))
+          ∙ ap (λ (asked : Option Op). script.with_told now (script.told now queue lines) number asked) (sym (none queue))
+          ∙ sym (scripts-grow.told now queue lines (record { number = number; command = command }));
+      printed = λ begins alone missed lines number fresh has silos is. changes.prints (with_missed a number missed) silos lines number is;
+      stays = changes.stays;
+    }
+
+-- ---- the same by what came of it
+
+pub asked-line : (v : ClusterView) (old new : List QueuePass) (command : Command) (asked : Result Answer AllocError) (result : Result Answer Stop) → ((live : List ℕ) → live_after live command ≡ live)
+    → IfOk asked (λ a. TellsUnlessLimit old command a new) → IfOk result (λ taken. (asked ≡ Ok taken) × (taken ≢ answer.Limit)) → IfOk result (λ told. DoesLine v old command told v new)
+asked-line v old new command asked (Ok a) same tells taken = tells-line v old new command a same (subst (λ (r : Result Answer AllocError). IfOk r (λ b. TellsUnlessLimit old command b new)) taken.0 tells taken.1)
+asked-line v old new command asked (Err e) same tells taken = tt
+
+pub changed-line : (v w : ClusterView) (passes : List QueuePass) (command : Command) (result : Result Answer Stop) → ((queue : ℕ) → script.op_at queue command ≡ None)
+    → IfOk result (λ told. ChangesBy v command told w) → IfOk result (λ told. DoesLine v passes command told w passes)
+changed-line v w passes command (Ok a) none changes = changes-line v w passes command a none changes
+changed-line v w passes command (Err e) none changes = tt
+
+-- ---- why a line was stopped
+
+pub asked-stops : (command : Command) (v : ClusterView) (old new : List QueuePass) (asked : Result Answer AllocError) (result : Result Answer Stop) → (asked ≡ Ok answer.Limit → MeetsLimit command v old v new)
+    → IfErr result (λ why. (¬ IsOfWait why) × (why ≡ stop.Limit → asked ≡ Ok answer.Limit)) → IfErr result (λ why. StopsBy why command v old v new)
+asked-stops command v old new asked (Ok a) last stops = tt
+asked-stops command v old new asked (Err stop.Limit) last stops = last (stops.1 refl)
+asked-stops command v old new asked (Err stop.NotQuiet) last stops = absurd (stops.0 tt)
+asked-stops command v old new asked (Err stop.Ended) last stops = absurd (stops.0 tt)
+asked-stops command v old new asked (Err stop.Memory) last stops = tt
+
+pub once-last : (old : List QueuePass) (queue : ℕ) (op : Op) (asked : Result Answer AllocError) (new : List QueuePass) → AsksOnce old queue op asked new → asked ≡ Ok answer.Limit → AsksLast old op (Ok answer.Limit) new
+once-last old queue op asked new once is =
+    record { before = old; on = zip-refl HasGoneOn gone-refl old; queue = queue; asks = subst (λ (r : Result Answer AllocError). AsksOnce old queue op r new) is once }
+
+pub each-last : (old : List QueuePass) (op : Op) (asked : Result Answer AllocError) (new : List QueuePass) → EndsAsking old op asked new → asked ≡ Ok answer.Limit → AsksLast old op (Ok answer.Limit) new
+each-last old op asked new ends is = subst (λ (r : Result Answer AllocError). EndsAsking old op r new) is ends
+
+pub changed-stops : (command : Command) (v w : ClusterView) (passes : List QueuePass) (result : Result Answer Stop) → (HasMetLimit v.operator w.operator → MeetsLimit command v passes w passes)
+    → IfErr result (λ why. (¬ IsOfWait why) × (why ≡ stop.Limit → HasMetLimit v.operator w.operator)) → IfErr result (λ why. StopsBy why command v passes w passes)
+changed-stops command v w passes (Ok a) meets stops = tt
+changed-stops command v w passes (Err stop.Limit) meets stops = meets (stops.1 refl)
+changed-stops command v w passes (Err stop.NotQuiet) meets stops = absurd (stops.0 tt)
+changed-stops command v w passes (Err stop.Ended) meets stops = absurd (stops.0 tt)
+changed-stops command v w passes (Err stop.Memory) meets stops = tt
+
+vain-now : (made : ℕ) (old new : List QueuePass) → LooksInVain made old new → WaitsInVain made old new
+vain-now made old new vain = record { before = old; on = zip-refl HasGoneOn gone-refl old; vain = vain }
+
+pub unquiet-stops : (why : Stop) (v w : ClusterView) (looks : ℕ) (old new : List QueuePass) → looks ≡ v.looks → IsUnquiet why looks old new → StopsBy why command.Drain v old w new
+unquiet-stops stop.Limit v w looks old new same unquiet = unquiet
+unquiet-stops stop.NotQuiet v w looks old new same unquiet = (refl, vain-now v.looks old new (subst (λ n. LooksInVain n old new) same unquiet))
+unquiet-stops stop.Ended v w looks old new same unquiet =
+    (refl, (unquiet.0, unquiet.1, subst (λ n. unquiet.0 ≤ n) same unquiet.2, vain-now unquiet.0 old new unquiet.3))
+unquiet-stops stop.Memory v w looks old new same unquiet = tt

@@ -1,0 +1,134 @@
+-- The histories of a run are legal, from the empty partition of its configuration.
+use Rattle.std.proofs.Common.{◌≡◌, ℕ, zero, suc, List, [], ◌∷◌, length, map, Option, Some, None, Result, Ok, Err, refl, sym, ap, subst, ◌∙◌}
+use Rattle.std.proofs.lemmas.List.{length-map}
+use Rattle.std.specs.List.{AllByRecursion, AllZip}
+use Rattle.stream_model.specs.declared.op.Op.{Op}
+use Rattle.stream_model.specs.declared.op.Op.TheVariants as op
+use Rattle.stream_model.specs.declared.plain.PlainPartition.{PlainPartition}
+use Rattle.stream_model.specs.Replies.{Reply}
+use Rattle.stream_model.specs.declared.reply.Reply.TheVariants as reply
+use Rattle.stream_model.specs.Positions.{empty}
+use Rattle.turnstile.specs.declared.history.Entry.{Entry}
+use Rattle.turnstile.specs.declared.turnstile.Refusal.{Refusal}
+use Rattle.turnstile.specs.declared.turnstile.Refusal.TheVariants.{HistoryFull}
+use Rattle.turnstile.specs.History.{IsLegal, replay}
+use Rattle.turnstile.specs.Passes.{Origin}
+use Rattle.shared_partition.specs.Partitions.{after, replied}
+use Rattle.silo_loops.specs.Lines.{LineView, QueuePass, places}
+use Rattle.silo_threads.specs.Calls.{QueueCalls, joined_passes, turnstiles}
+use Rattle.silo_loops.specs.Silos.{GoOn, SiloView}
+use Rattle.silo_loops.proofs.Going.{goes-places}
+use Rattle.silo_threads.specs.declared.ending.asking.Quiet.{Quiet}
+use Rattle.silo_threads.specs.declared.ending.asking.Quiet.TheVariants.{All, NotQuiet}
+use Rattle.silo_threads.specs.declared.ending.closing.Traces.{Traces}
+use Rattle.silo_threads.specs.declared.ending.finishing.Finished.{Finished}
+use Rattle.silo_threads.specs.declared.ending.finishing.Finished.TheVariants as finished
+use Rattle.silo_threads.specs.Asking.{AsksUpTo, IsQuiet}
+use Rattle.silo_threads.specs.Closing.{AreTraces, IsTraceOf}
+use Rattle.silo_threads.specs.Finishing.{CameTo}
+use Rattle.silo_threads.specs.Gathering.{gathered, passes_of}
+use Rattle.silo_threads.specs.declared.clusters.config.Config.{Config}
+use Rattle.silo_threads.specs.Clusters.{AreAtQueues, ClusterView, HasFinished, IsAtQueue, IsNew}
+use Rattle.silo_threads.proofs.Standing.{line-turnstiles}
+use Rattle.script_runs.specs.declared.runs.running.ScriptEnd.{ScriptEnd}
+use Rattle.script_runs.specs.declared.runs.running.ScriptEnd.TheVariants as end
+use Rattle.script_runs.specs.Runs.{AreLegal, IsLegalHistory, LeavesLegalTraces, run_end}
+
+-- ---- which turnstiles the passes of the end are of
+
+asked-at : (result : Result Reply Refusal) (p q : QueuePass) → QueueCalls p op.Quiet result q → q.turnstile ≡ p.turnstile
+asked-at result p q calls = ap (λ (x : QueuePass). x.turnstile) calls.calls.only
+
+quiet-at : (old new : List QueuePass) → AllZip IsQuiet old new → turnstiles new ≡ turnstiles old
+quiet-at [] [] all = refl
+quiet-at [] (q ∷ qs) all = absurd all
+quiet-at (p ∷ ps) [] all = absurd all
+quiet-at (p ∷ ps) (q ∷ qs) all = λ i. asked-at (Ok reply.IsQuiet) p q all.0 i ∷ quiet-at ps qs all.1 i
+
+up-to-at : (queue : ℕ) (result : Result Reply Refusal) (old new : List QueuePass) → AsksUpTo queue result old new → turnstiles new ≡ turnstiles old
+up-to-at queue result [] new asks = absurd asks
+up-to-at queue result (p ∷ ps) [] asks = absurd asks
+up-to-at zero result (p ∷ ps) (q ∷ qs) asks = λ i. asked-at result p q asks.0 i ∷ turnstiles (asks.1 i)
+up-to-at (suc queue) result (p ∷ ps) (q ∷ qs) asks = λ i. asked-at (Ok reply.IsQuiet) p q asks.0 i ∷ up-to-at queue result ps qs asks.1 i
+
+came-at : (asked : Option Quiet) (old new : List QueuePass) → CameTo asked old new → turnstiles new ≡ turnstiles old
+came-at (Some All) old new came = quiet-at old new came
+came-at (Some (NotQuiet queue why)) old new came = up-to-at queue (Ok (reply.NotQuiet why)) old new came
+came-at None old new came = up-to-at came.0 (Err HistoryFull) old new came.1
+
+joined-at : (ps qs : List QueuePass) → turnstiles (joined_passes ps qs) ≡ turnstiles ps
+joined-at ps [] = refl
+joined-at [] (q ∷ qs) = refl
+joined-at (p ∷ ps) (q ∷ qs) = ap (λ ts. p.turnstile ∷ ts) (joined-at ps qs)
+
+gathered-at : (ps : List QueuePass) (callers : List (List QueuePass)) → turnstiles (gathered ps callers) ≡ turnstiles ps
+gathered-at ps [] = refl
+gathered-at ps (caller ∷ callers) = gathered-at (joined_passes ps caller) callers ∙ joined-at ps caller
+
+at-queues : (config : Config) (lines : List LineView) (ps : List QueuePass) → AreAtQueues config lines → turnstiles ps ≡ places lines → AllByRecursion (IsAtQueue config) ps
+at-queues config lines [] at beside = tt
+at-queues config [] (p ∷ ps) at beside = absurd (cc)
+at-queues config (l ∷ lines) (p ∷ ps) at beside =
+    let first : p.turnstile ≡ l.pass.turnstile = cc in
+    let rest : turnstiles ps ≡ places lines = cc in
+    ((at.0.0, first ∙ at.0.1, at.0.2), at-queues config lines ps at.1 rest)
+
+-- ---- the histories
+
+legal-history : (config : Config) (p : QueuePass) (history : List (Entry Op Reply)) (partition : PlainPartition) → IsAtQueue config p → IsTraceOf p history partition → IsLegalHistory config history partition
+legal-history config p history partition at trace =
+    let both : Some trace.origin ≡ Some at.0 = sym trace.of ∙ at.1 in
+    let same : trace.origin ≡ at.0 = cc in
+    let start : trace.origin.start.state ≡ empty config.blocks config.limits = ap (λ (o : Origin PlainPartition). o.start.state) same ∙ ap (λ s. s.state) at.2 in
+    record {
+      legal = subst (λ (s : PlainPartition). IsLegal replied after s history) start trace.legal;
+      leaves = trace.partition_is ∙ ap (λ (s : PlainPartition). replay replied after s history) start;
+      headline = trace.headline;
+    }
+
+all-legal : (config : Config) (last : List QueuePass) (histories : List (List (Entry Op Reply))) (partitions : List PlainPartition) → AllByRecursion (IsAtQueue config) last → AreTraces last histories partitions
+    → (length histories ≡ length last) × AllZip (IsLegalHistory config) histories partitions
+all-legal config [] [] [] at traces = (refl, tt)
+all-legal config [] [] (q ∷ qs) at traces = absurd traces
+all-legal config [] (h ∷ hs) partitions at traces = absurd traces
+all-legal config (p ∷ ps) [] partitions at traces = absurd traces
+all-legal config (p ∷ ps) (h ∷ hs) [] at traces = absurd traces
+all-legal config (p ∷ ps) (h ∷ hs) (q ∷ qs) at traces =
+    let rest = all-legal config ps hs qs at.1 traces.1 in
+    (ap suc rest.0, (legal-history config p h q at.0 traces.0, rest.1))
+
+module _ {H : Type 0} (entries : H → List (Entry Op Reply)) where
+  -- the traces of a cluster that was new, and has gone on to its end
+  traces-legal : (config : Config) (c w : ClusterView) (caller now : List QueuePass) (lines : List LineView) (asked : Option Quiet) (last : List QueuePass) (traces : Traces H) → IsNew config c caller → GoOn c.operator.lines w.operator.lines → GoOn w.operator.lines lines
+      → CameTo asked (gathered (passes_of lines) (now ∷ [])) last → AreTraces last (map entries traces.histories.items) traces.partitions.items → AreLegal entries config traces
+  traces-legal config c w caller now lines asked last traces new first on came are =
+      let same : turnstiles last ≡ places c.operator.lines =
+      came-at asked (gathered (passes_of lines) (now ∷ [])) last came ∙ gathered-at (passes_of lines) (now ∷ []) ∙ line-turnstiles lines
+      ∙ goes-places w.operator.lines lines on ∙ goes-places c.operator.lines w.operator.lines first in
+      let all = all-legal config last (map entries traces.histories.items) traces.partitions.items (at-queues config c.operator.lines last new.opened.at same) are in
+      let many : length last ≡ length c.operator.lines =
+      sym (length-map last (λ (p : QueuePass). p.turnstile)) ∙ ap (λ ts. length ts) same ∙ length-map c.operator.lines (λ (l : LineView). l.pass.turnstile) in
+      record {
+        count = sym (length-map traces.histories.items entries) ∙ all.0 ∙ many ∙ new.opened.queues;
+        each = all.1;
+      }
+
+  pub run-legal : (back : List SiloView) (config : Config) (c w : ClusterView) (caller now : List QueuePass) (answer : Finished H) (how : ScriptEnd) → IsNew config c caller → GoOn c.operator.lines w.operator.lines → HasFinished entries w (now ∷ []) back answer → LeavesLegalTraces entries config (run_end answer how)
+  run-legal back config c w caller now (finished.Report text traces) end.Done new first fin =
+      traces-legal config c w caller now fin.lines fin.finished.asked fin.finished.last traces new first fin.on fin.finished.came_to fin.finished.answers.2
+  run-legal back config c w caller now (finished.Report text traces) end.Limit new first fin =
+      traces-legal config c w caller now fin.lines fin.finished.asked fin.finished.last traces new first fin.on fin.finished.came_to fin.finished.answers.2
+  run-legal back config c w caller now (finished.Report text traces) end.NotQuiet new first fin =
+      traces-legal config c w caller now fin.lines fin.finished.asked fin.finished.last traces new first fin.on fin.finished.came_to fin.finished.answers.2
+  run-legal back config c w caller now (finished.Report text traces) end.Ended new first fin =
+      traces-legal config c w caller now fin.lines fin.finished.asked fin.finished.last traces new first fin.on fin.finished.came_to fin.finished.answers.2
+  run-legal back config c w caller now (finished.Report text traces) end.Halted new first fin =
+      traces-legal config c w caller now fin.lines fin.finished.asked fin.finished.last traces new first fin.on fin.finished.came_to fin.finished.answers.2
+  run-legal back config c w caller now (finished.NotQuiet queue why traces) how new first fin =
+      traces-legal config c w caller now fin.lines fin.finished.asked fin.finished.last traces new first fin.on fin.finished.came_to fin.finished.answers.2
+  run-legal back config c w caller now (finished.RoundLimit traces) how new first fin =
+      traces-legal config c w caller now fin.lines fin.finished.asked fin.finished.last traces new first fin.on fin.finished.came_to fin.finished.answers.3
+  run-legal back config c w caller now (finished.Limit traces) how new first fin =
+      traces-legal config c w caller now fin.lines fin.finished.asked fin.finished.last traces new first fin.on fin.finished.came_to fin.finished.answers.1
+  run-legal back config c w caller now (finished.NotAll queue missing) how new first fin = tt
+  run-legal back config c w caller now finished.InUse how new first fin = tt

@@ -1,0 +1,5 @@
+use Rattle.script_runs.proofs.QuietReports.{implicit-where-owed}
+use Rattle.script_runs.proofs.reader.laws.implicit_subs_are_owed.Goals as goal
+
+pub returns : goal.returns
+returns c = implicit-where-owed

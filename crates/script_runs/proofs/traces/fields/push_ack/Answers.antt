@@ -1,0 +1,6 @@
+use Rattle.std.proofs.Common.{append_assoc}
+use Rattle.stream_script.proofs.Texts.{writes_then}
+use Rattle.script_runs.proofs.traces.fields.push_ack.Goals as goal
+
+pub returns : goal.returns
+returns c = writes_then c.args.out.now.items _ _ _ _ _ _ c.in_ok-push_count_sub.ensures c.push_placed.ensures (simp append_assoc)

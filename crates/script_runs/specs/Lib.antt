@@ -1,0 +1,12 @@
+pub mod Lines
+pub mod OpLine
+pub mod Runs
+pub mod ScriptLaws
+pub mod ScriptReport
+pub mod Scripts
+pub mod Telling
+pub mod Told
+pub mod Traces
+pub use Rattle.stream_script.specs.Pieces
+pub use Rattle.stream_script.specs.Spelling
+pub use Rattle.stream_script.specs.Writing

@@ -1,0 +1,147 @@
+//! One line of a script.
+ghost use Rattle.std.specs.Prelude.{◌≡◌, ◌≢◌, ◌<◌, ◌≤◌, false, length, Ok, IfErr, IfOk, OnErr, OnOk};
+ghost use Rattle.stream_ident.specs.declared.limits.TheConstants.{MOST_SILOS};
+ghost use Rattle.std.specs.List.{AllZip};
+ghost use Rattle.silo_threads.specs.Calls.{turnstiles};
+ghost use Rattle.silo_threads.specs.Draining.{HasGoneOn, LooksQuiet};
+ghost use Rattle.stream_script.specs.declared.parser.command.Command.TheVariants as command;
+ghost use Rattle.script_runs.specs.declared.producer.answer.Answer.TheVariants as answer;
+ghost use Rattle.script_runs.specs.Telling.{Tells};
+ghost use Rattle.script_runs.specs.Scripts.{IsRunCommand};
+ghost use Rattle.silo_threads.specs.Operators.{OperatorGoesOn};
+ghost use Rattle.silo_threads.specs.Clusters.{HasMetLimit, is_fixed};
+ghost use Rattle.script_runs.specs.Lines.{ChangesBy, DoesLine, IsOfWait, IsUnquiet, StopsBy, TellsInPart};
+
+use crate::producer::{Answer, ask, ask_each};
+use shared_partition::{DirectoryHistory, Gate, QueueHistory};
+use silo_threads::{Caller, Cluster, Drained, SiloDown, SiloUp, drain};
+use std::alloc::{AllocError, Global};
+use std::sync::Wait;
+use std::thread::Threads;
+use stream_script::Command;
+
+/// Why a script isn't done to its end.
+#[derive(Clone, Copy, Debug, PartialEq, Eq)]
+pub(crate) enum Stop {
+    /// A limit is reached.
+    Limit,
+    /// In as many looks as there may be not all queues were quiet.
+    NotQuiet,
+    /// Not all queues were quiet, and they may never be.
+    Ended,
+    /// A call failed to allocate.
+    Memory,
+}
+
+// A silo comes by a line.
+fn up<
+    G: Gate + 'static,
+    H: QueueHistory + Send + 'static,
+    D: DirectoryHistory + Send + 'static,
+    R: Threads + Wait + Copy + Send + 'static,
+>(rt: &R, alloc: Global, cluster: &mut Cluster<G, H, D>, silo: u8) -> Result<Answer, Stop>
+    requires { silo < MOST_SILOS }
+    ensures changes { IfOk result (λ told. ChangesBy cluster.old (command.Up silo) told cluster.new) }
+    ensures stops { is_fixed cluster.old ≡ false → IfErr result (λ why. ¬ IsOfWait why × (why ≡ Stop.Limit → HasMetLimit cluster.old.operator cluster.new.operator)) }
+    ensures cluster { OperatorGoesOn cluster.old.operator cluster.new.operator }
+{
+    match cluster.silo_up(rt, alloc, silo) {
+        Ok(SiloUp::Up) => Ok(Answer::Taken),
+        Ok(SiloUp::Already) => Ok(Answer::Refused),
+        Ok(SiloUp::Limit) => Err(Stop::Limit),
+        Ok(SiloUp::Halted) => Err(Stop::Limit),
+        Err(_) => Err(Stop::Memory),
+    }
+}
+
+// A silo goes by a line.
+fn down<G: Gate, H: QueueHistory, D: DirectoryHistory, R: Threads + Wait>(
+    rt: &R,
+    alloc: Global,
+    cluster: &mut Cluster<G, H, D>,
+    silo: u8,
+) -> Result<Answer, Stop>
+    requires { silo < MOST_SILOS }
+    ensures changes { IfOk result (λ told. ChangesBy cluster.old (command.Down silo) told cluster.new) }
+    ensures stops { is_fixed cluster.old ≡ false → IfErr result (λ why. ¬ IsOfWait why × (why ≡ Stop.Limit → HasMetLimit cluster.old.operator cluster.new.operator)) }
+    ensures cluster { OperatorGoesOn cluster.old.operator cluster.new.operator }
+{
+    match cluster.silo_down(rt, alloc, silo) {
+        Ok(SiloDown::Down) => Ok(Answer::Taken),
+        Ok(SiloDown::NotLive) => Ok(Answer::Refused),
+        Ok(SiloDown::LastSilo) => Ok(Answer::Refused),
+        Ok(SiloDown::Limit) => Err(Stop::Limit),
+        Ok(SiloDown::Halted) => Err(Stop::Limit),
+        Err(_) => Err(Stop::Memory),
+    }
+}
+
+/// Does one line of a script. A line that is stopped may be done in part.
+pub(crate) fn do_line<
+    G: Gate + 'static,
+    H: QueueHistory + Send + 'static,
+    D: DirectoryHistory + Send + 'static,
+    R: Threads + Wait + Copy + Send + 'static,
+>(
+    rt: &R,
+    alloc: Global,
+    cluster: &mut Cluster<G, H, D>,
+    caller: &mut Caller<G, H>,
+    command: Command,
+) -> Result<Answer, Stop>
+    requires some { 1 ≤ length caller.old }
+    requires command { IsRunCommand (length caller.old) command }
+    ensures line { IfOk result (λ told. DoesLine cluster.old caller.old command told cluster.new caller.new) }
+    ensures part { OnErr result (TellsInPart caller.old command caller.new) }
+    ensures stops { is_fixed cluster.old ≡ false → IfErr result (λ why. StopsBy why command cluster.old caller.old cluster.new caller.new) }
+    ensures on { AllZip HasGoneOn caller.old caller.new }
+    ensures turnstiles { turnstiles caller.new ≡ turnstiles caller.old }
+    ensures cluster { OperatorGoesOn cluster.old.operator cluster.new.operator }
+{
+    match command {
+        Command::Step { queue, op } => unless_limit(ask(rt, alloc, caller, queue, op)),
+        Command::Each(each) => unless_limit(ask_each(rt, alloc, caller, &each)),
+        Command::Drain => {
+            wait_until_quiet(rt, alloc, caller, cluster.looks())?;
+            Ok(Answer::Taken)
+        }
+        Command::Up { silo } => up(rt, alloc, cluster, silo),
+        Command::Down { silo } => down(rt, alloc, cluster, silo),
+        Command::Report => Ok(Answer::Taken),
+    }
+}
+
+// An answer that isn't a limit.
+fn unless_limit(asked: Result<Answer, AllocError>) -> Result<Answer, Stop>
+    ensures answered { IfOk result (λ taken. (asked ≡ Ok taken) × (taken ≢ answer.Limit)) }
+    ensures stops { IfErr result (λ why. ¬ IsOfWait why × (why ≡ Stop.Limit → asked ≡ Ok answer.Limit)) }
+{
+    match asked {
+        Ok(Answer::Limit) => Err(Stop::Limit),
+        Ok(taken) => Ok(taken),
+        Err(_) => Err(Stop::Memory),
+    }
+}
+
+/// Waits until all queues are quiet.
+#[tactic(auto, using(crate::proofs::Drains::drain_tells))]
+pub(crate) fn wait_until_quiet<G: Gate, H: QueueHistory, R: Wait>(
+    rt: &R,
+    alloc: Global,
+    caller: &mut Caller<G, H>,
+    looks: u32,
+) -> Result<(), Stop>
+    ensures told { Tells caller.old command.Drain answer.Taken caller.new }
+    ensures quiet { OnOk result (LooksQuiet caller.old caller.new) }
+    ensures unquiet { IfErr result (λ why. IsUnquiet why looks caller.old caller.new) }
+    ensures on { AllZip HasGoneOn caller.old caller.new }
+    ensures turnstiles { turnstiles caller.new ≡ turnstiles caller.old }
+{
+    match drain(rt, alloc, caller, looks) {
+        Ok(Drained::Quiet) => Ok(()),
+        Ok(Drained::NotQuiet) => Err(Stop::NotQuiet),
+        Ok(Drained::Ended) => Err(Stop::Ended),
+        Ok(Drained::Limit) => Err(Stop::Limit),
+        Err(_) => Err(Stop::Memory),
+    }
+}

@@ -1,5 +1,0 @@
-use Rattle.silo_loops.specs.Chains.{Stays}
-use Rattle.silo_crew.proofs.running.start_agent.Goals as goal
-
-pub returns-in_default : goal.returns-in_default
-returns-in_default g c = Stays

@@ -1,0 +1,279 @@
+-- What the given passes have to do with the traces at the end.
+use Rattle.std.proofs.Common.{◌≡◌, ◌⊎◌, ℕ, zero, suc, inl, inr, Bool, false, List, [], ◌∷◌, ◌++◌, Contains, Option, Some, None, Result, Ok, Err, refl, sym, ap, subst, ◌∙◌, append_assoc, arith}
+use Rattle.std.proofs.lemmas.Bool.{true≢false}
+use Rattle.std.proofs.lemmas.List.{append-nil}
+use Rattle.std.proofs.lemmas.List.Elements.{Contains-append_cases}
+use Rattle.std.specs.List.{AllByRecursion, AllZip}
+use Rattle.std.specs.Prelude.{slice_get}
+use Rattle.stream_laws.specs.Laws.{QuietIsDone}
+use Rattle.stream_model.specs.declared.op.Op.{Op}
+use Rattle.stream_model.specs.declared.op.Op.TheVariants as op
+use Rattle.stream_model.specs.declared.plain.PlainPartition.{PlainPartition}
+use Rattle.stream_model.specs.Replies.{Reply}
+use Rattle.stream_model.specs.declared.reply.Reply.TheVariants as reply
+use Rattle.stream_model.specs.Looks.{quiet}
+use Rattle.turnstile.proofs.Histories.{foreign-append, legal_last, replay_snoc}
+use Rattle.turnstile.specs.declared.history.Entry.{Entry}
+use Rattle.turnstile.specs.declared.turnstile.Refusal.{Refusal}
+use Rattle.turnstile.specs.declared.turnstile.Refusal.TheVariants.{HistoryFull}
+use Rattle.turnstile.specs.Calls.{HasOnlySeen, joined_pass, numbers_of}
+use Rattle.turnstile.specs.Closing.{HasSome}
+use Rattle.turnstile.specs.History.{Foreign, IsLegal, Own, entry, replay}
+use Rattle.shared_partition.specs.Partitions.{after, replied, told_of}
+use Rattle.stream_model.specs.Producers.{is_producer}
+use Rattle.silo_loops.specs.Lines.{NeverProduces, QueuePass}
+use Rattle.silo_loops.specs.Passes.{CallsAlone, IsOtherIn, OwnsNone}
+use Rattle.silo_loops.proofs.Owning.{owns-append, owns-claimed}
+use Rattle.silo_loops.proofs.Taking.{alone-append, alone-foreign}
+use Rattle.silo_threads.specs.Calls.{joined_passes}
+use Rattle.silo_threads.specs.declared.ending.asking.Quiet.{Quiet}
+use Rattle.silo_threads.specs.declared.ending.asking.Quiet.TheVariants.{All, NotQuiet}
+use Rattle.silo_threads.specs.Asking.{Asks, AsksUpTo, IsQuiet}
+use Rattle.silo_threads.specs.Closing.{AreTraces, IsTraceOf}
+use Rattle.silo_threads.specs.Finishing.{CallersAloneProduce, CameTo, HasBegun, HasSeenFront, HaveBegun, IsDone}
+use Rattle.silo_threads.specs.Gathering.{Gathers, IsFirstOf, gathered}
+use Rattle.silo_threads.proofs.Looking.{look-keeps, look-replies}
+use Rattle.silo_threads.proofs.Rows.{all-at, zip-at, zip-refl, zip-trans}
+use Rattle.stream_ident.proofs.EachOf.{All-weaken}
+
+-- an entry of others, or a look for quiet by the pass itself
+abbrev IsLookOr : QueuePass → Entry Op Reply → Type 0
+IsLookOr p e = (¬ Contains (numbers_of p) e.number) ⊎ ((e.number ≡ p.number) × (e.op ≡ op.Quiet))
+
+-- the pass later: it has seen calls of others and looks of its own
+record OnlyLooks (p q : QueuePass) : Type 0 where
+  only : HasOnlySeen p q
+  more : List (Entry Op Reply)
+  seen : q.seen ≡ p.seen ++ more
+  looks : AllByRecursion (λ e. IsLookOr p e) more
+
+others-look : (p : QueuePass) (es : List (Entry Op Reply)) → Foreign (numbers_of p) es → AllByRecursion (λ e. IsLookOr p e) es
+others-look p [] foreign = tt
+others-look p (e ∷ es) foreign = (inl foreign.0, others-look p es foreign.1)
+
+looks-push : (p : QueuePass) (es : List (Entry Op Reply)) (e : Entry Op Reply) → AllByRecursion (λ x. IsLookOr p x) es → IsLookOr p e → AllByRecursion (λ x. IsLookOr p x) (es ++ e ∷ [])
+looks-push p [] e all look = (look, tt)
+looks-push p (x ∷ es) e all look = (all.0, looks-push p es e all.1 look)
+
+asks-looks : (result : Result Reply Refusal) (p q : QueuePass) → Asks result p q → OnlyLooks p q
+asks-looks (Ok r) p q asks =
+    let called = asks.calls.call in
+    let e = entry p.number op.Quiet r in
+    record {
+      only = asks.calls.only;
+      more = called.0 ++ e ∷ [];
+      seen = called.1 ∙ append_assoc p.seen called.0 (e ∷ []);
+      looks = looks-push p called.0 e (others-look p called.0 called.2) (inr (refl, refl));
+    }
+asks-looks (Err refusal) p q asks =
+    let found = asks.calls.call in
+    record { only = asks.calls.only; more = found.0; seen = found.1; looks = others-look p found.0 found.2 }
+
+still-looks : (p : QueuePass) → OnlyLooks p p
+still-looks p = record { only = refl; more = []; seen = sym (append-nil p.seen); looks = tt }
+
+quiet-looks : (ps qs : List QueuePass) → AllZip IsQuiet ps qs → AllZip OnlyLooks ps qs
+quiet-looks [] [] all = tt
+quiet-looks [] (q ∷ qs) all = absurd all
+quiet-looks (p ∷ ps) [] all = absurd all
+quiet-looks (p ∷ ps) (q ∷ qs) all = (asks-looks (Ok reply.IsQuiet) p q all.0, quiet-looks ps qs all.1)
+
+up-to-looks : (queue : ℕ) (result : Result Reply Refusal) (ps qs : List QueuePass) → AsksUpTo queue result ps qs → AllZip OnlyLooks ps qs
+up-to-looks queue result [] qs asks = absurd asks
+up-to-looks queue result (p ∷ ps) [] asks = absurd asks
+up-to-looks zero result (p ∷ ps) (q ∷ qs) asks =
+    (asks-looks result p q asks.0, subst (λ (es : List QueuePass). AllZip OnlyLooks ps es) (sym asks.1) (zip-refl OnlyLooks still-looks ps))
+up-to-looks (suc queue) result (p ∷ ps) (q ∷ qs) asks = (asks-looks (Ok reply.IsQuiet) p q asks.0, up-to-looks queue result ps qs asks.1)
+
+came-looks : (asked : Option Quiet) (ps qs : List QueuePass) → CameTo asked ps qs → AllZip OnlyLooks ps qs
+came-looks None ps qs came = up-to-looks came.0 (Err HistoryFull) ps qs came.1
+came-looks (Some All) ps qs came = quiet-looks ps qs came
+came-looks (Some (NotQuiet queue why)) ps qs came = up-to-looks queue (Ok (reply.NotQuiet why)) ps qs came
+
+-- the history is what the pass has seen, and each entry has a number of the pass
+abbrev IsAllOf : QueuePass → List (Entry Op Reply) → Type 0
+IsAllOf q history = (history ≡ q.seen) × Own (numbers_of q) history
+
+traces-all : (ps : List QueuePass) (histories : List (List (Entry Op Reply))) (partitions : List PlainPartition) → AreTraces ps histories partitions → AllZip IsAllOf ps histories
+traces-all [] [] [] traces = tt
+traces-all [] [] (t ∷ ts) traces = absurd traces
+traces-all [] (h ∷ hs) ts traces = absurd traces
+traces-all (p ∷ ps) [] ts traces = absurd traces
+traces-all (p ∷ ps) (h ∷ hs) [] traces = absurd traces
+traces-all (p ∷ ps) (h ∷ hs) (t ∷ ts) traces = ((traces.0.whole, traces.0.own), traces-all ps hs ts traces.1)
+
+-- a pass after which only looks were added, and the history that it then had seen
+abbrev EndsAs : QueuePass → List (Entry Op Reply) → Type 0
+EndsAs p history = (q : QueuePass) × OnlyLooks p q × IsAllOf q history
+
+ends-as : (asked : Option Quiet) (ps last : List QueuePass) (histories : List (List (Entry Op Reply))) (partitions : List PlainPartition) → CameTo asked ps last → AreTraces last histories partitions → AllZip EndsAs ps histories
+ends-as asked ps last histories partitions came traces =
+    zip-trans OnlyLooks IsAllOf EndsAs (λ p q h looks all. (q, looks, all)) ps last histories (came-looks asked ps last came) (traces-all last histories partitions traces)
+
+-- a pass that was taken in has no number of these looks
+looks-foreign : (c p : QueuePass) (es : List (Entry Op Reply)) → IsOtherIn c p → AllByRecursion (λ e. IsLookOr p e) es → Foreign (numbers_of c) es
+looks-foreign c p [] taken all = tt
+looks-foreign c p (e ∷ es) taken all = (
+  elim all.0 as (λ w. ¬ Contains (numbers_of c) e.number) [
+    | inl foreign ↦ λ here. foreign (taken.part.numbers e.number here)
+    | inr own ↦ λ here. taken.other (subst (λ k. Contains (numbers_of c) k) own.0 here)
+  ],
+  looks-foreign c p es taken all.1,
+)
+
+begun-place : (c p : QueuePass) (history : List (Entry Op Reply)) → IsOtherIn c p → EndsAs p history → HasBegun c history
+begun-place c p history taken ends =
+    let claims = taken.part.claims in
+    let looks = ends.1 in
+    record {
+      rest = claims.rest ++ looks.more;
+      is =
+          ends.2.0 ∙ looks.seen ∙ ap (λ (es : List (Entry Op Reply)). es ++ looks.more) claims.is ∙ append_assoc c.seen claims.rest looks.more;
+      foreign = foreign-append (numbers_of c) claims.rest looks.more claims.foreign (looks-foreign c p looks.more taken looks.looks);
+    }
+
+-- the looks of a pass are its calls alone
+looks-alone : (l p : QueuePass) (es : List (Entry Op Reply)) → IsFirstOf l p → AllByRecursion (λ e. IsLookOr p e) es → CallsAlone l es
+looks-alone l p [] first all = tt
+looks-alone l p (e ∷ es) first all = (
+  elim all.0 as (λ w. Contains (numbers_of l) e.number → e.number ≡ l.number) [
+    | inl foreign ↦ λ here. absurd (foreign (first.part.numbers e.number here))
+    | inr own ↦ λ here. own.0 ∙ first.number
+  ],
+  looks-alone l p es first all.1,
+)
+
+line-front : (l p : QueuePass) (history : List (Entry Op Reply)) → IsFirstOf l p → EndsAs p history → HasSeenFront l history
+line-front l p history first ends =
+    let claims = first.part.claims in
+    let looks = ends.1 in (
+      claims.rest ++ looks.more,
+      ends.2.0 ∙ looks.seen ∙ ap (λ (es : List (Entry Op Reply)). es ++ looks.more) claims.is ∙ append_assoc l.seen claims.rest looks.more,
+      alone-append l claims.rest looks.more (alone-foreign l claims.rest claims.foreign) (looks-alone l p looks.more first looks.looks),
+    )
+
+pub have-begun : (ls : List QueuePass) (cs : List (List QueuePass)) (ps last : List QueuePass) (asked : Option Quiet) (histories : List (List (Entry Op Reply))) (partitions : List PlainPartition) → Gathers ls cs ps → CameTo asked ps last
+    → AreTraces last histories partitions → HaveBegun ls cs histories
+have-begun ls cs ps last asked histories partitions gathers came traces =
+    let ends = ends-as asked ps last histories partitions came traces in
+    record {
+      of_lines = zip-trans IsFirstOf EndsAs HasSeenFront line-front ls ps histories gathers.first ends;
+      of_callers =
+          All-weaken (λ (c : List QueuePass). AllZip IsOtherIn c ps) (λ (c : List QueuePass). AllZip HasBegun c histories)
+          (λ c taken. zip-trans IsOtherIn EndsAs HasBegun begun-place c ps histories taken ends) cs gathers.others;
+    }
+
+-- the numbers of a pass at a queue
+abbrev HasNumber : ℕ → ℕ → List QueuePass → Type 0
+HasNumber queue k caller = (p : QueuePass) × (slice_get caller queue ≡ Some p) × Contains (numbers_of p) k
+
+joined-at : (ps qs : List QueuePass) (queue : ℕ) (p : QueuePass) → slice_get ps queue ≡ Some p
+    → (r : QueuePass) × (slice_get (joined_passes ps qs) queue ≡ Some r) × ((k : ℕ) → Contains (numbers_of r) k → Contains (numbers_of p) k ⊎ HasNumber queue k qs)
+joined-at ps [] queue p had = (p, had, λ k here. inl here)
+joined-at [] (q ∷ qs) queue p had = absurd (cc)
+joined-at (x ∷ ps) (q ∷ qs) zero p had =
+    let same : x ≡ p = cc in (
+      joined_pass x q,
+      refl,
+      λ k here.
+          elim (Contains-append_cases (numbers_of x) (numbers_of q) k here) as (λ w. Contains (numbers_of p) k ⊎ HasNumber zero k (q ∷ qs)) [
+            | inl own ↦ inl (subst (λ (e : QueuePass). Contains (numbers_of e) k) same own)
+            | inr theirs ↦ inr (q, refl, theirs)
+          ],
+    )
+joined-at (x ∷ ps) (q ∷ qs) (suc queue) p had = joined-at ps qs queue p had
+
+numbers-gathered : (cs : List (List QueuePass)) (ps : List QueuePass) (queue k : ℕ) (p g : QueuePass) → slice_get ps queue ≡ Some p → slice_get (gathered ps cs) queue ≡ Some g → Contains (numbers_of g) k
+    → Contains (numbers_of p) k ⊎ HasSome (λ c. HasNumber queue k c) cs
+numbers-gathered [] ps queue k p g had has here =
+    let same : g ≡ p = cc in
+    inl (subst (λ (e : QueuePass). Contains (numbers_of e) k) same here)
+numbers-gathered (c ∷ cs) ps queue k p g had has here =
+    let there = joined-at ps c queue p had in
+    elim (numbers-gathered cs (joined_passes ps c) queue k there.0 g there.1 has here) as (λ w. Contains (numbers_of p) k ⊎ HasSome (λ e. HasNumber queue k e) (c ∷ cs)) [
+      | inl joined ↦ elim (there.2 k joined) as (λ w. Contains (numbers_of p) k ⊎ HasSome (λ e. HasNumber queue k e) (c ∷ cs)) [
+        | inl own ↦ inl own
+        | inr theirs ↦ inr (inl theirs)
+      ]
+      | inr some ↦ inr (inr some)
+    ]
+
+own-at : (numbers : List ℕ) (es : List (Entry Op Reply)) (e : Entry Op Reply) → Own numbers es → Contains es e → Contains numbers e.number
+own-at numbers [] e own here = absurd (omega (arith, here.1))
+own-at numbers (x ∷ es) e own (zero, less, same) = subst (λ (w : Entry Op Reply). Contains numbers w.number) same own.0
+own-at numbers (x ∷ es) e own (suc k, less, same) = own-at numbers es e own.1 (k, omega arith, same)
+
+none-at : (test : Op → Bool) (numbers : List ℕ) (es : List (Entry Op Reply)) (e : Entry Op Reply) → OwnsNone test numbers es → Contains es e → Contains numbers e.number → test e.op ≡ false
+none-at test numbers [] e none here own = absurd (omega (arith, here.1))
+none-at test numbers (x ∷ es) e none (zero, less, same) own = subst (λ (w : Entry Op Reply). Contains numbers w.number → test w.op ≡ false) same none.0 own
+none-at test numbers (x ∷ es) e none (suc k, less, same) own = none-at test numbers es e none.1 (k, omega arith, same) own
+
+-- looks are no producer's calls
+looks-none : (l p : QueuePass) (es : List (Entry Op Reply)) → IsFirstOf l p → AllByRecursion (λ e. IsLookOr p e) es → OwnsNone is_producer (numbers_of l) es
+looks-none l p [] first all = tt
+looks-none l p (e ∷ es) first all = (
+  elim all.0 as (λ w. Contains (numbers_of l) e.number → is_producer e.op ≡ false) [
+    | inl foreign ↦ λ here. absurd (foreign (first.part.numbers e.number here))
+    | inr own ↦ λ here. ap (λ o. is_producer o) own.1
+  ],
+  looks-none l p es first all.1,
+)
+
+line-none : (l p : QueuePass) (history : List (Entry Op Reply)) → NeverProduces l → IsFirstOf l p → EndsAs p history → OwnsNone is_producer (numbers_of l) history
+line-none l p history never first ends =
+    let looks = ends.1 in
+    subst (λ (es : List (Entry Op Reply)). OwnsNone is_producer (numbers_of l) es) (sym (ends.2.0 ∙ looks.seen))
+    (owns-append is_producer (numbers_of l) p.seen looks.more (owns-claimed is_producer (numbers_of l) l.seen p.seen first.part.claims never) (looks-none l p looks.more first looks.looks))
+
+pub callers-alone : (ls : List QueuePass) (cs : List (List QueuePass)) (ps last : List QueuePass) (asked : Option Quiet) (histories : List (List (Entry Op Reply))) (partitions : List PlainPartition) → Gathers ls cs ps → CameTo asked ps last
+    → AreTraces last histories partitions → CallersAloneProduce cs histories
+callers-alone ls cs ps last asked histories partitions gathers came traces queue history e had inside produces =
+    let at = zip-at EndsAs ps histories queue history (ends-as asked ps last histories partitions came traces) had in
+    let p = at.0 in
+    let ends = at.2 in
+    let beside = zip-at IsFirstOf ls ps queue p gathers.first at.1 in
+    let l = beside.0 in
+    let never = all-at NeverProduces ls queue l gathers.never beside.1 in
+    let numbers : numbers_of ends.0 ≡ numbers_of p = ap (λ (w : QueuePass). numbers_of w) ends.1.only in
+    let own : Contains (numbers_of p) e.number = subst (λ ks. Contains ks e.number) numbers (own-at (numbers_of ends.0) history e ends.2.1 inside) in
+    let has : slice_get (gathered ls cs) queue ≡ Some p = ap (λ (es : List QueuePass). slice_get es queue) (sym gathers.whole) ∙ at.1 in
+    elim (numbers-gathered cs ls queue e.number l p beside.1 has own) as (λ w. HasSome (λ c. HasNumber queue e.number c) cs) [
+      | inl mine ↦ absurd (true≢false (sym produces ∙ none-at is_producer (numbers_of l) history e (line-none l p history never beside.2 ends) inside mine))
+      | inr some ↦ some
+    ]
+
+-- after a look that was answered so, the partition is quiet
+trace-quiet : (p q : QueuePass) (history : List (Entry Op Reply)) (partition : PlainPartition) → IsQuiet p q → IsTraceOf q history partition → quiet partition ≡ reply.IsQuiet
+trace-quiet p q history partition asks trace =
+    let called = asks.calls.call in
+    let e = entry p.number op.Quiet reply.IsQuiet in
+    let s = trace.origin.start.state in
+    let front = p.seen ++ called.0 in
+    let whole : history ≡ front ++ e ∷ [] = trace.whole ∙ called.1 in
+    let before = replay replied after s front in
+    let answered : reply.IsQuiet ≡ quiet before = legal_last replied after s front e (subst (λ (es : List (Entry Op Reply)). IsLegal replied after s es) whole trace.legal) ∙ look-replies before in
+    let same : partition ≡ before =
+    trace.partition_is ∙ ap (λ (es : List (Entry Op Reply)). replay replied after s es) whole ∙ replay_snoc replied after s front e ∙ look-keeps before in
+    ap (λ (w : PlainPartition). quiet w) same ∙ sym answered
+
+trace-done : (p q : QueuePass) (history : List (Entry Op Reply)) (partition : PlainPartition) → QuietIsDone → IsQuiet p q → IsTraceOf q history partition → IsDone history partition
+trace-done p q history partition law asks trace =
+    let calm = trace-quiet p q history partition asks trace in
+    let start = trace.origin.start in
+    let began = trace.empty in
+    record {
+      is_quiet = calm;
+      handled =
+          law began.0 began.1 (told_of history) (replay replied after start.state history) (trace.stands began.0 began.1 began.3)
+          (ap (λ (w : PlainPartition). quiet w) (sym trace.partition_is) ∙ calm);
+    }
+
+pub traces-done : (ps last : List QueuePass) (histories : List (List (Entry Op Reply))) (partitions : List PlainPartition) → QuietIsDone → AllZip IsQuiet ps last → AreTraces last histories partitions → AllZip IsDone histories partitions
+traces-done [] [] [] [] law all traces = tt
+traces-done [] [] [] (t ∷ ts) law all traces = absurd traces
+traces-done [] [] (h ∷ hs) ts law all traces = absurd traces
+traces-done [] (q ∷ qs) hs ts law all traces = absurd all
+traces-done (p ∷ ps) [] hs ts law all traces = absurd all
+traces-done (p ∷ ps) (q ∷ qs) [] ts law all traces = absurd traces
+traces-done (p ∷ ps) (q ∷ qs) (h ∷ hs) [] law all traces = absurd traces
+traces-done (p ∷ ps) (q ∷ qs) (h ∷ hs) (t ∷ ts) law all traces = (trace-done p q h t law all.0 traces.0, traces-done ps qs hs ts law all.1 traces.1)

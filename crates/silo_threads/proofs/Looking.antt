@@ -1,0 +1,118 @@
+-- Queues that are asked one after another whether they are quiet.
+use Rattle.std.proofs.Common.{◌≡◌, ◌⊎◌, ℕ, zero, suc, ◌+◌, ◌≤◌, inl, inr, List, [], ◌∷◌, ◌++◌, length, Option, Some, None, Result, Ok, refl, sym, ap, subst, ◌∙◌, arith, add-one}
+use Rattle.std.proofs.lemmas.List.{length-map}
+use Rattle.std.specs.List.{AllZip}
+use Rattle.std.specs.Option.{unwrap_or}
+use Rattle.std.proofs.lemmas.Option.{none-some}
+use Rattle.std.specs.Prelude.{slice_get, slice_set}
+use Rattle.stream_model.specs.declared.op.Op.{Op}
+use Rattle.stream_model.specs.declared.op.Op.TheVariants as op
+use Rattle.stream_model.specs.declared.plain.PlainPartition.{PlainPartition}
+use Rattle.stream_model.specs.declared.reply.Pending.{Pending}
+use Rattle.stream_model.specs.Replies.{Reply}
+use Rattle.stream_model.specs.declared.reply.Reply.TheVariants as reply
+use Rattle.stream_model.specs.Looks.{pending_in, quiet, quiet_reply}
+use Rattle.stream_model.specs.Step.{step}
+use Rattle.turnstile.specs.declared.history.Entry.{Entry}
+use Rattle.turnstile.specs.declared.turnstile.Refusal.{Refusal}
+use Rattle.turnstile.specs.History.{IsLegal, entry, replay}
+use Rattle.turnstile.proofs.Histories.{legal_last}
+use Rattle.shared_partition.specs.Partitions.{after, replied}
+use Rattle.silo_loops.specs.Lines.{QueuePass}
+use Rattle.silo_threads.specs.Calls.{CallerCalls, turnstiles}
+use Rattle.silo_threads.specs.Asking.{Asks, AsksUpTo, IsQuiet, pending_of}
+
+-- a look for quiet is answered by that, and changes nothing
+pub look-replies : (p : PlainPartition) → replied p op.Quiet ≡ quiet p
+unfolding step
+look-replies p = refl
+
+pub look-keeps : (p : PlainPartition) → after p op.Quiet ≡ p
+unfolding step
+look-keeps p = refl
+
+-- it is quiet, or says why not
+abbrev pub IsLook : Reply → Type 0
+IsLook r = (r ≡ reply.IsQuiet) ⊎ ((why : Pending) × (r ≡ reply.NotQuiet why))
+
+pending-look : (o : Option Pending) → IsLook (quiet_reply o)
+pending-look None = inl refl
+pending-look (Some why) = inr (why, refl)
+
+quiet-look : (p : PlainPartition) → IsLook (quiet p)
+unfolding quiet
+quiet-look p = pending-look (pending_in p)
+
+pub asks-look : (r : Reply) (p q : QueuePass) → Asks (Ok r) p q → IsLook r
+asks-look r p q asks =
+    let called = asks.calls.call in
+    let s = asks.calls.origin.start.state in
+    let front = p.seen ++ called.0 in
+    let legal : IsLegal replied after s (front ++ entry p.number op.Quiet r ∷ []) = subst (λ (es : List (Entry Op Reply)). IsLegal replied after s es) called.1 called.3 in
+    let answered : r ≡ quiet (replay replied after s front) = legal_last replied after s front (entry p.number op.Quiet r) legal ∙ look-replies (replay replied after s front) in
+    subst (λ (e : Reply). IsLook e) (sym answered) (quiet-look (replay replied after s front))
+
+-- the reply from which what is left to do is taken, and the one from which nothing is
+pub pending-reply : (r : Reply) (why : Pending) → pending_of r ≡ Some why → r ≡ reply.NotQuiet why
+pending-reply (reply.NotQuiet w) why is = ap (λ (w : Pending). reply.NotQuiet w) (ap (λ o. unwrap_or o w) is)
+pending-reply _ why is = absurd (none-some why is)
+
+pub quiet-told : (r : Reply) (p q : QueuePass) → Asks (Ok r) p q → pending_of r ≡ None → r ≡ reply.IsQuiet
+quiet-told r p q asks is =
+    elim (asks-look r p q asks) as (λ w. r ≡ reply.IsQuiet) [
+      | inl same ↦ same
+      | inr same ↦ absurd (none-some same.0 (sym is ∙ ap (λ (x : Reply). pending_of x) same.1))
+    ]
+
+-- each queue below this one was quiet, and those from it on weren't asked
+abbrev pub QuietUpTo : ℕ → List QueuePass → List QueuePass → Type 0
+QuietUpTo zero old now = now ≡ old
+QuietUpTo (suc queue) [] now = ⊥
+QuietUpTo (suc queue) (p ∷ ps) [] = ⊥
+QuietUpTo (suc queue) (p ∷ ps) (q ∷ qs) = IsQuiet p q × QuietUpTo queue ps qs
+
+asked-at : (queue : ℕ) (result : Result Reply Refusal) (old now new : List QueuePass) (was is : QueuePass) → QuietUpTo queue old now → slice_get now queue ≡ Some was → new ≡ slice_set now queue is → Asks result was is
+    → AsksUpTo queue result old new
+asked-at zero result [] now new was is front had put asks =
+    let none : slice_get [] 0 ≡ Some was = ap (λ (es : List QueuePass). slice_get es 0) (sym front) ∙ had in
+    absurd (cc)
+asked-at zero result (p ∷ ps) now new was is front had put asks =
+    let some : Some p ≡ Some was = ap (λ (es : List QueuePass). slice_get es 0) (sym front) ∙ had in
+    let same : was ≡ p = cc in
+    subst (λ (es : List QueuePass). AsksUpTo zero result (p ∷ ps) es) (sym (put ∙ ap (λ (es : List QueuePass). slice_set es 0 is) front))
+    (subst (λ (w : QueuePass). Asks result w is) same asks, refl)
+asked-at (suc queue) result [] now new was is front had put asks = absurd front
+asked-at (suc queue) result (p ∷ ps) [] new was is front had put asks = absurd front
+asked-at (suc queue) result (p ∷ ps) (q ∷ qs) new was is front had put asks =
+    subst (λ (es : List QueuePass). AsksUpTo (suc queue) result (p ∷ ps) es) (sym put)
+    (front.0, asked-at queue result ps qs (slice_set qs queue is) was is front.1 had refl asks)
+
+-- what a call at the next queue makes of it
+pub asked-next : (queue : ℕ) (result : Result Reply Refusal) (old now new : List QueuePass) → QuietUpTo queue old now → CallerCalls now queue op.Quiet result new → AsksUpTo queue result old new
+asked-next queue result old now new front calls = asked-at queue result old now new calls.was calls.is front calls.had calls.whole calls.calls
+
+quiet-on : (queue : ℕ) (old new : List QueuePass) → AsksUpTo queue (Ok reply.IsQuiet) old new → QuietUpTo (suc queue) old new
+quiet-on queue [] new asks = absurd asks
+quiet-on queue (p ∷ ps) [] asks = absurd asks
+quiet-on zero (p ∷ ps) (q ∷ qs) asks = (asks.0, asks.1)
+quiet-on (suc queue) (p ∷ ps) (q ∷ qs) asks = (asks.0, quiet-on queue ps qs asks.1)
+
+pub quiet-next : (queue : ℕ) (r : Reply) (old now new : List QueuePass) → QuietUpTo queue old now → CallerCalls now queue op.Quiet (Ok r) new → r ≡ reply.IsQuiet → QuietUpTo (queue + 1) old new
+quiet-next queue r old now new front calls is =
+    let asks : AsksUpTo queue (Ok reply.IsQuiet) old new = subst (λ (e : Reply). AsksUpTo queue (Ok e) old new) is (asked-next queue (Ok r) old now new front calls) in
+    subst (λ n. QuietUpTo n old new) (sym (add-one queue)) (quiet-on queue old new asks)
+
+quiet-through : (queue : ℕ) (old now : List QueuePass) → queue ≡ length old → QuietUpTo queue old now → AllZip IsQuiet old now
+quiet-through zero [] now here same = subst (λ (es : List QueuePass). AllZip IsQuiet [] es) (sym same) tt
+quiet-through zero (p ∷ ps) now here same = absurd (omega arith)
+quiet-through (suc queue) [] now here front = absurd front
+quiet-through (suc queue) (p ∷ ps) [] here front = absurd front
+quiet-through (suc queue) (p ∷ ps) (q ∷ qs) here front = (front.0, quiet-through queue ps qs (omega arith) front.1)
+
+pub quiet-all : (queue : ℕ) (old now : List QueuePass) → queue ≤ length old → length old ≤ queue → QuietUpTo queue old now → AllZip IsQuiet old now
+quiet-all queue old now low high front = quiet-through queue old now (omega arith) front
+
+-- as many passes stand at as many turnstiles
+pub turnstiles-length : (old now : List QueuePass) → turnstiles now ≡ turnstiles old → length now ≡ length old
+turnstiles-length old now same =
+    sym (length-map now (λ (p : QueuePass). p.turnstile)) ∙ ap (λ ts. length ts) same ∙ length-map old (λ (p : QueuePass). p.turnstile)

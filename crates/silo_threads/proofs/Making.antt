@@ -1,0 +1,187 @@
+-- Calls that a pass has made past a mark.
+use Rattle.std.proofs.Common.{◌≡◌, ℕ, zero, suc, ◌≤◌, Bool, ◌⊎◌, inl, inr, List, [], ◌∷◌, ◌++◌, length, drop, Contains, Result, Ok, Err, refl, sym, ap, subst, ◌∙◌, append_assoc, arith}
+use Rattle.std.specs.Result.{IfErr, IsErrAnd}
+use Rattle.std.proofs.Math.Seq.{drop-append_seam, drop-length}
+use Rattle.std.proofs.lemmas.List.{append-nil, drop-append-le, length-append}
+use Rattle.turnstile.specs.declared.history.Entry.{Entry}
+use Rattle.turnstile.specs.Calls.{numbers_of}
+use Rattle.turnstile.specs.Closing.{HasSome}
+use Rattle.turnstile.specs.History.{Foreign, IsLegal, entry, replay}
+use Rattle.turnstile.specs.Passes.{PassView}
+use Rattle.turnstile.specs.declared.turnstile.Refusal.{Refusal}
+use Rattle.turnstile.proofs.Histories.{legal_last}
+use Rattle.silo_loops.specs.Passes.{CallsBy}
+use Rattle.silo_loops.proofs.Owning.{calls-number}
+use Rattle.silo_loops.proofs.Taking.{called-alone}
+use Rattle.silo_loops.specs.Silos.{GoesOn, IsSilent}
+use Rattle.silo_threads.specs.Changes.{HasFound, HasMade, HasMadeLast, halt_of}
+
+-- what holds of the error that `?` passes on
+pub passed-on : {A E : Type 0} (P : E → Type 0) (result : Result A E) (e : E) → IsErrAnd result (λ y. y ≡ e) → P e → IfErr result P
+passed-on P (Ok x) e is p = absurd is
+passed-on P (Err y) e is p = subst P (sym is) p
+
+module _ {A : Type 0} (P : A → Type 0) where
+  some-left : (xs ys : List A) → HasSome P xs → HasSome P (xs ++ ys)
+  some-left [] ys some = absurd some
+  some-left (x ∷ xs) ys some = elim some as (λ s. P x ⊎ HasSome P (xs ++ ys)) [ inl here ↦ inl here | inr there ↦ inr (some-left xs ys there) ]
+
+  some-right : (xs ys : List A) → HasSome P ys → HasSome P (xs ++ ys)
+  some-right [] ys some = some
+  some-right (x ∷ xs) ys some = inr (some-right xs ys some)
+
+  some-cases : (xs ys : List A) → HasSome P (xs ++ ys) → HasSome P xs ⊎ HasSome P ys
+  some-cases [] ys some = inr some
+  some-cases (x ∷ xs) ys some =
+      elim some as (λ s. (P x ⊎ HasSome P xs) ⊎ HasSome P ys) [
+        | inl here ↦ inl (inl here)
+        | inr there ↦ elim (some-cases xs ys there) as (λ s. (P x ⊎ HasSome P xs) ⊎ HasSome P ys) [ inl left ↦ inl (inr left) | inr right ↦ inr right ]
+      ]
+
+  some-within : (n : ℕ) (xs : List A) → HasSome P (drop n xs) → HasSome P xs
+  some-within zero xs some = some
+  some-within (suc n) [] some = absurd some
+  some-within (suc n) (x ∷ xs) some = inr (some-within n xs some)
+
+  some-drop : (m n : ℕ) (xs : List A) → m ≤ n → HasSome P (drop n xs) → HasSome P (drop m xs)
+  some-drop zero n xs less some = some-within n xs some
+  some-drop (suc m) zero xs less some = absurd (omega arith)
+  some-drop (suc m) (suc n) [] less some = absurd some
+  some-drop (suc m) (suc n) (x ∷ xs) less some = some-drop m n xs (omega arith) some
+
+some-map : {A : Type 0} (P Q : A → Type 0) → ((x : A) → P x → Q x) → (xs : List A) → HasSome P xs → HasSome Q xs
+some-map P Q f [] some = absurd some
+some-map P Q f (x ∷ xs) some = elim some as (λ s. Q x ⊎ HasSome Q xs) [ inl here ↦ inl (f x here) | inr there ↦ inr (some-map P Q f xs there) ]
+
+module _ {O R : Type 0} where
+  -- the pass of this number made such a call
+  Makes : ℕ → (O → R → Type 0) → Entry O R → Type 0
+  Makes number IsSuch e = (e.number ≡ number) × IsSuch e.op e.reply
+
+  -- none of these is a call of the number
+  none-foreign : (number : ℕ) (joined : List ℕ) (IsSuch : O → R → Type 0) (es : List (Entry O R)) → Foreign (number ∷ joined) es → HasSome (λ (e : Entry O R). (e.number ≡ number) × IsSuch e.op e.reply) es → ⊥
+  none-foreign number joined IsSuch [] foreign some = some
+  none-foreign number joined IsSuch (e ∷ es) foreign some =
+      elim some as (λ s. ⊥) [
+        | inl here ↦ foreign.0 (0, omega arith, sym here.0)
+        | inr there ↦ none-foreign number joined IsSuch es foreign.1 there
+      ]
+
+module _ {O R S : Type 0} (IsSuch : O → R → Type 0) where
+  pub made-none : (p : PassView O R S) → HasMade (length p.seen) p IsSuch → ⊥
+  made-none p made = subst (λ (es : List (Entry O R)). HasSome (λ (e : Entry O R). (e.number ≡ p.number) × IsSuch e.op e.reply) es) (drop-length p.seen) made
+
+  pub made-earlier : (m n : ℕ) (p : PassView O R S) → m ≤ n → HasMade n p IsSuch → HasMade m p IsSuch
+  made-earlier m n p less made = some-drop (λ (e : Entry O R). (e.number ≡ p.number) × IsSuch e.op e.reply) m n p.seen less made
+
+  pub made-later : (mark : ℕ) (p q : PassView O R S) → GoesOn p q → mark ≤ length p.seen → HasMade mark p IsSuch → HasMade mark q IsSuch
+  made-later mark p q on less made =
+      let renamed = some-map (λ (e : Entry O R). (e.number ≡ p.number) × IsSuch e.op e.reply) (λ (e : Entry O R). (e.number ≡ q.number) × IsSuch e.op e.reply) (λ e own. (own.0 ∙ sym on.number, own.1)) (drop mark p.seen) made in
+      subst (λ (es : List (Entry O R)). HasSome (λ (e : Entry O R). (e.number ≡ q.number) × IsSuch e.op e.reply) es)
+      (sym (ap (λ (es : List (Entry O R)). drop mark es) on.seen ∙ drop-append-le mark p.seen on.more less))
+      (some-left (λ (e : Entry O R). (e.number ≡ q.number) × IsSuch e.op e.reply) (drop mark p.seen) on.more renamed)
+
+-- the last call past a mark is so past an earlier one
+pub last-earlier : {O R S : Type 0} (test : O → Bool) (IsSuch : O → R → Type 0) (m n : ℕ) (p : PassView O R S) → m ≤ n → HasMadeLast test n p IsSuch → HasMadeLast test m p IsSuch
+last-earlier test IsSuch m n p less made =
+    let past = made.past in
+    record { before = made.before; asked = made.asked; answered = made.answered; later = made.later; whole = made.whole; past = omega (arith, less, past); such = made.such; none = made.none }
+
+pub goes-longer : {O R S : Type 0} (p q : PassView O R S) → GoesOn p q → length p.seen ≤ length q.seen
+goes-longer {O} {R} p q on = let long = ap (λ (es : List (Entry O R)). length es) on.seen ∙ length-append p.seen on.more in omega (arith, long)
+
+module _ {S O R : Type 0} (reply : S → O → R) (after : S → O → S) where
+  pub goes-called : (p : PassView O R S) (op : O) (result : Result R Refusal) (q : PassView O R S) → CallsBy reply after p op result q → GoesOn p q
+  goes-called p op result q calls =
+      let more = called-alone reply after p op result q calls in
+      record {
+        turnstile = ap (λ (w : PassView O R S). w.turnstile) calls.only;
+        number = calls-number reply after p op result q calls;
+        numbers = λ k here. subst (λ (ks : List ℕ). Contains ks k) (sym (ap (λ (w : PassView O R S). numbers_of w) calls.only)) here;
+        more = more.0;
+        seen = more.1;
+        alone = more.2;
+      }
+
+  pub made-called : (IsSuch : O → R → Type 0) (p : PassView O R S) (op : O) (r : R) (q : PassView O R S) → CallsBy reply after p op (Ok r) q → IsSuch op r → HasMade (length p.seen) q IsSuch
+  made-called IsSuch p op r q calls such =
+      let between = calls.call.0 in
+      let number = calls-number reply after p op (Ok r) q calls in
+      subst (λ (es : List (Entry O R)). HasSome (λ (e : Entry O R). (e.number ≡ q.number) × IsSuch e.op e.reply) es)
+      (sym (ap (λ (es : List (Entry O R)). drop (length p.seen) es) (calls.call.1 ∙ append_assoc p.seen between (entry p.number op r ∷ [])) ∙ drop-append_seam p.seen (between ++ entry p.number op r ∷ [])))
+      (some-right (λ (e : Entry O R). (e.number ≡ q.number) × IsSuch e.op e.reply) between (entry p.number op r ∷ []) (inl (sym number, such)))
+
+  -- a call that was just made is the last one
+  pub called-last : (test : O → Bool) (IsSuch : O → R → Type 0) (p : PassView O R S) (op : O) (r : R) (q : PassView O R S) → CallsBy reply after p op (Ok r) q → IsSuch op r → HasMadeLast test (length p.seen) q IsSuch
+  called-last test IsSuch p op r q calls such =
+      let front = p.seen ++ calls.call.0 in
+      let number = calls-number reply after p op (Ok r) q calls in
+      let long = length-append p.seen calls.call.0 in
+      record {
+        before = front;
+        asked = op;
+        answered = r;
+        later = [];
+        whole = calls.call.1 ∙ ap (λ n. front ++ entry n op r ∷ []) (sym number) ∙ sym (append-nil (front ++ entry q.number op r ∷ []));
+        past = omega (arith, long);
+        such = such;
+        none = tt;
+      }
+
+  -- a call past the mark is one from before, or the last one
+  pub made-cases : (IsSuch : O → R → Type 0) (mark : ℕ) (p : PassView O R S) (op : O) (r : R) (q : PassView O R S) → CallsBy reply after p op (Ok r) q → mark ≤ length p.seen → HasMade mark q IsSuch → HasMade mark p IsSuch ⊎ IsSuch op r
+  made-cases IsSuch mark p op r q calls less made =
+      let between = calls.call.0 in
+      let last = entry p.number op r in
+      let number = calls-number reply after p op (Ok r) q calls in
+      let whole = ap (λ (es : List (Entry O R)). drop mark es) (calls.call.1 ∙ append_assoc p.seen between (last ∷ [])) ∙ drop-append-le mark p.seen (between ++ last ∷ []) less in
+      let own = some-map (λ (e : Entry O R). (e.number ≡ q.number) × IsSuch e.op e.reply) (λ (e : Entry O R). (e.number ≡ p.number) × IsSuch e.op e.reply) (λ e is. (is.0 ∙ number, is.1)) (drop mark q.seen) made in
+      let parts = some-cases (λ (e : Entry O R). (e.number ≡ p.number) × IsSuch e.op e.reply) (drop mark p.seen) (between ++ last ∷ [])
+      (subst (λ (es : List (Entry O R)). HasSome (λ (e : Entry O R). (e.number ≡ p.number) × IsSuch e.op e.reply) es) whole own) in
+      elim parts as (λ s. HasMade mark p IsSuch ⊎ IsSuch op r) [
+        | inl before ↦ inl before
+        | inr since ↦
+            elim (some-cases (λ (e : Entry O R). (e.number ≡ p.number) × IsSuch e.op e.reply) between (last ∷ []) since) as (λ s. HasMade mark p IsSuch ⊎ IsSuch op r) [
+              | inl foreign ↦ absurd (none-foreign p.number p.joined IsSuch between calls.call.2 foreign)
+              | inr here ↦ elim here as (λ s. HasMade mark p IsSuch ⊎ IsSuch op r) [ inl is ↦ inr is.1 | inr none ↦ absurd none ]
+            ]
+      ]
+
+  -- the reply is one that the operation gets
+  pub called-reply : (p : PassView O R S) (op : O) (r : R) (q : PassView O R S) → CallsBy reply after p op (Ok r) q → (s : S) × (r ≡ reply s op)
+  called-reply p op r q calls =
+      let front = p.seen ++ calls.call.0 in (
+        replay reply after calls.origin.start.state front,
+        legal_last reply after calls.origin.start.state front (entry p.number op r) (subst (λ (es : List (Entry O R)). IsLegal reply after calls.origin.start.state es) calls.call.1 calls.call.3),
+      )
+
+  -- a refused call has found its history full, or has found room
+  pub found-refused : (p : PassView O R S) (op : O) (e : Refusal) (q : PassView O R S) → CallsBy reply after p op (Err e) q → HasFound (halt_of e) q
+  found-refused p op e q calls = (e, refl, (calls.origin, ap (λ (w : PassView O R S). w.turnstile) calls.only ∙ calls.of, calls.call.4))
+
+  -- a refused call adds none to those that the pass has made
+  pub made-refused : (IsSuch : O → R → Type 0) (mark : ℕ) (p : PassView O R S) (op : O) (e : Refusal) (q : PassView O R S) → CallsBy reply after p op (Err e) q → mark ≤ length p.seen → HasMade mark q IsSuch → HasMade mark p IsSuch
+  made-refused IsSuch mark p op e q calls less made =
+      let between = calls.call.0 in
+      let number = calls-number reply after p op (Err e) q calls in
+      let whole = ap (λ (es : List (Entry O R)). drop mark es) calls.call.1 ∙ drop-append-le mark p.seen between less in
+      let own = some-map (λ (e : Entry O R). (e.number ≡ q.number) × IsSuch e.op e.reply) (λ (e : Entry O R). (e.number ≡ p.number) × IsSuch e.op e.reply) (λ e is. (is.0 ∙ number, is.1)) (drop mark q.seen) made in
+      let parts = some-cases (λ (e : Entry O R). (e.number ≡ p.number) × IsSuch e.op e.reply) (drop mark p.seen) between
+      (subst (λ (es : List (Entry O R)). HasSome (λ (e : Entry O R). (e.number ≡ p.number) × IsSuch e.op e.reply) es) whole own) in
+      elim parts as (λ s. HasMade mark p IsSuch) [
+        | inl before ↦ before
+        | inr foreign ↦ absurd (none-foreign p.number p.joined IsSuch between calls.call.2 foreign)
+      ]
+
+-- what was made since a pass that has made no call on its way to a later one is made since that one
+pub made-since-silent : {O R S : Type 0} (IsSuch : O → R → Type 0) (p q r : PassView O R S) → IsSilent p q → GoesOn q r → HasMade (length p.seen) r IsSuch → HasMade (length q.seen) r IsSuch
+made-since-silent {O} {R} {S} IsSuch p q r silent on made =
+    let whole = ap (λ (es : List (Entry O R)). drop (length p.seen) es) (on.seen ∙ ap (λ (es : List (Entry O R)). es ++ on.more) silent.on.seen ∙ append_assoc p.seen silent.on.more on.more) ∙ drop-append_seam p.seen (silent.on.more ++ on.more) in
+    let rest = ap (λ (es : List (Entry O R)). drop (length q.seen) es) on.seen ∙ drop-append_seam q.seen on.more in
+    let renumber = some-map (λ (e : Entry O R). (e.number ≡ r.number) × IsSuch e.op e.reply) (λ (e : Entry O R). (e.number ≡ p.number) × IsSuch e.op e.reply) (λ e is. (is.0 ∙ on.number ∙ silent.on.number, is.1)) silent.on.more in
+    let parts = some-cases (λ (e : Entry O R). (e.number ≡ r.number) × IsSuch e.op e.reply) silent.on.more on.more
+    (subst (λ (es : List (Entry O R)). HasSome (λ (e : Entry O R). (e.number ≡ r.number) × IsSuch e.op e.reply) es) whole made) in
+    elim parts as (λ s. HasMade (length q.seen) r IsSuch) [
+      | inl before ↦ absurd (none-foreign p.number [] IsSuch silent.on.more silent.foreign (renumber before))
+      | inr since ↦ subst (λ (es : List (Entry O R)). HasSome (λ (e : Entry O R). (e.number ≡ r.number) × IsSuch e.op e.reply) es) (sym rest) since
+    ]

@@ -1,0 +1,485 @@
+-- What a change of silos leaves.
+use Rattle.std.proofs.Common.{◌≡◌, ◌⊎◌, inl, inr, ℕ, zero, suc, ◌<◌, ◌+◌, Bool, true, false, List, [], ◌∷◌, ◌++◌, length, get_or, map, remove, Contains, Some, Result, Ok, Err, refl, sym, ap, subst, ◌∙◌, arith}
+use Rattle.std.proofs.lemmas.List.{get_or-map, length-map, map-append}
+use Rattle.std.proofs.lemmas.Option.{slice_get-get_or, slice_get_within}
+use Rattle.std.proofs.lemmas.List.Edits.{length-remove}
+use Rattle.std.proofs.lemmas.List.FromFn.{get_or-range_with_len, length-range_with_len}
+use Rattle.std.specs.List.{AllByRecursion, AllZip, range_with_len, slice_get, slice_index}
+use Rattle.std.specs.Option.{unwrap_or}
+use Rattle.std.specs.Prelude.{replicate, IfOk, OnOk, ◌||◌}
+use Rattle.std.specs.declared.alloc.AllocError.{AllocError}
+use Rattle.turnstile.specs.Calls.{IsSplitOff}
+use Rattle.turnstile.specs.History.{Foreign}
+use Rattle.silo_threads.specs.Calls.{IsUnused, turnstiles}
+use Rattle.queue_balancer.specs.Balance.{IsBalanced}
+use Rattle.silo_threads.specs.declared.ending.ends.LoopEnds.{LoopEnds}
+use Rattle.silo_threads.specs.declared.ending.finishing.Finished.{Finished}
+use Rattle.silo_threads.specs.Finishing.{CallersAloneProduce, HaveBegun, IsFinished, OnHistories}
+use Rattle.silo_threads.specs.Gathering.{AreAt, gathered, passes_of}
+use Rattle.stream_ident.proofs.EachOf.{All-push}
+use Rattle.stream_ident.proofs.WordLemmas.{All-at}
+use Rattle.stream_model.specs.declared.op.Op.{Op}
+use Rattle.stream_model.specs.Replies.{Reply}
+use Rattle.turnstile.specs.declared.history.Entry.{Entry}
+use Rattle.silo_loops.specs.Lines.{DirectoryPass, LineView, QueuePass, places}
+use Rattle.silo_loops.proofs.Running.{agent-stays, worker-stays}
+use Rattle.silo_loops.specs.Silos.{AreSilent, AreSplitOff, AreTakenIn, GoOn, GoesOn, HasRun, IsFresh, IsSilent, IsSiloAt, IsSplitLine, SiloView}
+use Rattle.silo_loops.proofs.Going.{goes-length, goes-places, goes-refl, goes-trans, on-refl, still-at, taken-silo}
+use Rattle.silo_threads.specs.declared.operators.halt.Halt.{Halt}
+use Rattle.silo_threads.specs.declared.operators.halt.Halt.TheVariants as halt
+use Rattle.silo_threads.specs.Changes.{AreDeactivated, HasFound, HasMade, HasSince, HaveMoved, HaveMovedNowhere, HaveOnlySeen, HaveStayed, HoldsGrains, IsDeactivation, IsMove, IsNoneLeft, IsRelease, IsSpentMove, StaysBehind, is_move}
+use Rattle.silo_threads.specs.Operators.{HasOnlyGoneOn, HasSpread, IsUnspread, OperatorGoesOn, OperatorView}
+use Rattle.silo_threads.proofs.Changing.{each-earlier, each-later, goes-at, goes-back, nowhere-silents, nowhere-trans, op-trans, stayed-earlier}
+use Rattle.silo_threads.proofs.Making.{goes-longer, last-earlier, made-earlier, made-since-silent}
+use Rattle.silo_threads.specs.Clusters.{AnswersDown, AnswersRetire, AnswersUp, AreAtQueues, AreFresh, AreNoted, AreStarted, ClusterView, HasEnded, HasHalted, HasLeft, HasMetLimit, HasNoted, HaveComeBack, HaveEnded, IsAtDirectory, IsBrokenOff, IsCluster, IsDownBy, IsLimitedAt, IsOpened, IsRetired, IsRetiredBy, IsUpBy, MayGo, RunsOn, WereMoved, all_noted, is_fixed, none_ended, noted}
+use Rattle.silo_threads.specs.declared.clusters.config.Config.{Config}
+use Rattle.silo_threads.specs.declared.clusters.cluster.Retired.{Retired}
+use Rattle.silo_threads.specs.declared.clusters.cluster.SiloDown.{SiloDown}
+use Rattle.silo_threads.specs.declared.clusters.cluster.SiloDown.TheVariants as down
+use Rattle.silo_threads.specs.declared.clusters.cluster.SiloUp.{SiloUp}
+use Rattle.silo_threads.specs.declared.clusters.cluster.SiloUp.TheVariants as up
+
+pub on_ok_both : {A E P Q R : Type 0} → (r : Result A E) → (P → Q → R) → OnOk r P → OnOk r Q → OnOk r R
+on_ok_both (Ok x) f p q = f p q
+on_ok_both (Err e) f p q = tt
+
+pub op-refl : (v : OperatorView) → OperatorGoesOn v v
+op-refl v = record { lines = goes-refl v.lines; directory = on-refl v.directory }
+
+-- an operator of which only the silos that live are others
+pub op-same : (u v : OperatorView) → v.lines ≡ u.lines → v.directory ≡ u.directory → OperatorGoesOn u v
+op-same u v lines directory =
+    record {
+      lines = subst (λ (ls : List LineView). GoOn u.lines ls) (sym lines) (goes-refl u.lines);
+      directory = subst (λ (d : DirectoryPass). GoesOn u.directory d) (sym directory) (on-refl u.directory);
+    }
+
+sits-one : (v w : OperatorView) (s : SiloView) → OperatorGoesOn v w → IsSiloAt v.lines v.directory s → IsSiloAt w.lines w.directory s
+sits-one v w s on at =
+    record {
+      agent = still-at s.agent.lines v.lines w.lines at.agent on.lines;
+      first = (still-at s.first.lines v.lines w.lines at.first.0 on.lines, at.first.1 ∙ sym on.directory.turnstile);
+      second = (still-at s.second.lines v.lines w.lines at.second.0 on.lines, at.second.1 ∙ sym on.directory.turnstile);
+    }
+
+pub only-trans : (u v w : OperatorView) → HasOnlyGoneOn u v → HasOnlyGoneOn v w → HasOnlyGoneOn u w
+only-trans u v w a b = record { on = op-trans u v w a.on b.on; live = b.live ∙ a.live; assignment = b.assignment ∙ a.assignment }
+
+pub sits-on : (v w : OperatorView) (ss : List SiloView) → OperatorGoesOn v w → AllByRecursion (IsSiloAt v.lines v.directory) ss → AllByRecursion (IsSiloAt w.lines w.directory) ss
+sits-on v w [] on all = tt
+sits-on v w (s ∷ ss) on all = (sits-one v w s on all.0, sits-on v w ss on all.1)
+
+module _ {A : Type 0} (P : A → Type 0) where
+  pub all-remove : (xs : List A) (at : ℕ) → AllByRecursion P xs → AllByRecursion P (remove xs at)
+  all-remove [] zero all = all
+  all-remove [] (suc at) all = all
+  all-remove (x ∷ xs) zero all = all.1
+  all-remove (x ∷ xs) (suc at) all = (all.0, all-remove xs at all.1)
+
+-- a silo whose loops came back is at the same turnstiles
+pub same-at : (lines : List LineView) (d : DirectoryPass) (s t : SiloView) → IsSiloAt lines d s → HasRun s t → IsSiloAt lines d t
+same-at lines d s t at ran =
+    let first = worker-stays s.first t.first ran.first in
+    let second = worker-stays s.second t.second ran.second in
+    record {
+      agent = agent-stays s.agent t.agent ran.agent ∙ at.agent;
+      first = (first.lines ∙ at.first.0, first.directory ∙ at.first.1);
+      second = (second.lines ∙ at.second.0, second.directory ∙ at.second.1);
+    }
+
+-- what was moved since is moved since what was before
+moved-earlier : (old new fresh : List LineView) (before now : List ℕ) → GoOn old new → GoOn new fresh → HaveMoved new fresh before now → HaveMoved old fresh before now
+moved-earlier old new fresh before now on on2 moved =
+    λ k was is a b differs.
+    let middle = goes-back new fresh k is on2 b in
+    let goes = goes-at old new k was middle.0 on a middle.1 in
+    last-earlier is_move (IsMove (slice_index now k)) (length was.pass.seen) (length middle.0.pass.seen) is.pass (goes-longer was.pass middle.0.pass goes) (moved k middle.0 is middle.1 b differs)
+
+pub spread-from : (u v w : OperatorView) → OperatorGoesOn u v → OperatorGoesOn v w → v.assignment ≡ u.assignment → HasSpread v w → HasSpread u w
+spread-from u v w on on2 same spread =
+    record {
+      balanced = subst (λ (xs : List ℕ). IsBalanced xs w.live w.assignment) same spread.balanced;
+      moved = subst (λ (xs : List ℕ). HaveMoved u.lines w.lines xs w.assignment) same (moved-earlier u.lines v.lines w.lines v.assignment w.assignment on.lines on2.lines spread.moved);
+    }
+
+-- a limit that was met since is met since what was before
+limited-earlier : (u v w : OperatorView) (queue : ℕ) → OperatorGoesOn u v → IsLimitedAt v w queue → IsLimitedAt u w queue
+limited-earlier u v w queue on limited =
+    let first = goes-back u.lines v.lines queue limited.was on.lines limited.had in
+    let goes = goes-at u.lines v.lines queue first.0 limited.was on.lines first.1 limited.had in
+    record {
+      was = first.0;
+      is = limited.is;
+      had = first.1;
+      has = limited.has;
+      cause =
+          elim limited.cause as (λ s. HasFound halt.Limit limited.is.pass ⊎ ((silo : ℕ) × HasSince first.0 limited.is (IsSpentMove silo))) [
+            | inl found ↦ inl found
+            | inr spent ↦ inr (spent.0, made-earlier (IsSpentMove spent.0) (length first.0.pass.seen) (length limited.was.pass.seen) limited.is.pass (goes-longer first.0.pass limited.was.pass goes) spent.1)
+          ];
+    }
+
+pub met-earlier : (u v w : OperatorView) → OperatorGoesOn u v → HasMetLimit v w → HasMetLimit u w
+met-earlier u v w on met =
+    elim met as (λ s. HasMetLimit u w) [
+      | inl found ↦ inl found
+      | inr limited ↦ inr (limited.0, limited-earlier u v w limited.0 on limited.1)
+    ]
+
+-- a spread or an eviction that was broken off at a limit has met one
+behind-limited : (v w : OperatorView) (fresh : List ℕ) (behind : StaysBehind halt.Limit v.lines w.lines v.assignment fresh) → IsLimitedAt v w behind.queue
+behind-limited v w fresh behind =
+    record {
+      was = behind.was;
+      is = behind.is;
+      had = behind.had;
+      has = behind.has;
+      cause =
+          elim behind.unmoved.1 as (λ s. HasFound halt.Limit behind.is.pass ⊎ ((silo : ℕ) × HasSince behind.was behind.is (IsSpentMove silo))) [
+            | inl found ↦ inl found
+            | inr spent ↦ inr (slice_index fresh behind.queue, spent.1)
+          ];
+    }
+
+pub spread-met : (u v w : OperatorView) → OperatorGoesOn u v → (v.live ≡ [] → ⊥) → (why : Halt) → why ≡ halt.Limit → IsUnspread why v.assignment v.live v.lines w.lines → HasMetLimit u w
+spread-met u v w on some why is unspread =
+    elim (subst (λ (h : Halt). IsUnspread h v.assignment v.live v.lines w.lines) is unspread) as (λ s. HasMetLimit u w) [
+      | inl nothing ↦ absurd (some (nothing.1 refl))
+      | inr left ↦ inr (left.2.queue, limited-earlier u v w left.2.queue on (behind-limited v w left.0 left.2))
+    ]
+
+pub evict-met : (u w : OperatorView) (silo : ℕ) (d : DirectoryPass) → OperatorGoesOn u w → (why : Halt) → why ≡ halt.Limit → HoldsGrains why silo d w.directory w.lines → HasMetLimit u w
+evict-met u w silo d on why is holds =
+    elim (subst (λ (h : Halt). HoldsGrains h silo d w.directory w.lines) is holds).1 as (λ s. HasMetLimit u w) [
+      | inl found ↦ inl found
+      | inr at ↦
+          let first = goes-back u.lines w.lines at.0 at.1 on.lines at.2 in
+          inr (at.0, record { was = first.0; is = at.1; had = first.1; has = at.2; cause = inl at.3 })
+    ]
+
+-- some silo lives where one came, and where one of two or more went
+pub came-some : (live : List ℕ) (silo : ℕ) → live ++ silo ∷ [] ≡ [] → ⊥
+came-some [] silo none = absurd (cc (none))
+came-some (x ∷ xs) silo none = absurd (cc (none))
+
+pub left-some : (live : List ℕ) (place : ℕ) → place < length live → 1 < length live → remove live place ≡ [] → ⊥
+left-some live place within others none =
+    let shorter = length-remove live place within in
+    let empty = ap (λ (xs : List ℕ). length xs) none in
+    omega (arith, others, shorter, empty)
+
+-- how a change that was broken off is answered
+pub halted-up : (v w : ClusterView) (silo : ℕ) (h : Halt) (r : Result SiloUp AllocError) → IsUpBy h r → is_fixed v ≡ false → (Contains v.operator.live silo → ⊥) → HasHalted v w → (h ≡ halt.Limit → HasMetLimit v.operator w.operator) → w.ends ≡ v.ends → AnswersUp v silo r w
+halted-up v w silo halt.Limit r is goes absent halted met ends = subst (λ (x : Result SiloUp AllocError). AnswersUp v silo x w) (sym is) (goes, absent, halted, met refl, ends)
+halted-up v w silo halt.Memory (Ok x) is goes absent halted met ends = absurd (cc (is))
+halted-up v w silo halt.Memory (Err e) is goes absent halted met ends = (goes, absent, halted, ends)
+
+pub halted-down : (v w : ClusterView) (silo : ℕ) (h : Halt) (r : Result SiloDown AllocError) → IsDownBy h r → is_fixed v ≡ false → MayGo v silo → HasHalted v w → HasNoted v silo w → (h ≡ halt.Limit → HasMetLimit v.operator w.operator) → AnswersDown v silo r w
+halted-down v w silo halt.Limit r is goes may halted noted met = subst (λ (x : Result SiloDown AllocError). AnswersDown v silo x w) (sym is) (goes, may, halted, noted, met refl)
+halted-down v w silo halt.Memory (Ok x) is goes may halted noted met = absurd (cc (is))
+halted-down v w silo halt.Memory (Err e) is goes may halted noted met = (goes, may, halted, noted)
+
+-- Each grain that left since the first pass was deactivated: the passes in between made no call, and the lines went on.
+deactivated-from : (silo : ℕ) (d e f : DirectoryPass) (old new last later : List LineView) → IsSilent d e → GoesOn e f → GoOn old new → GoOn new last → GoOn last later → AreDeactivated silo e f new last → AreDeactivated silo d f old later
+deactivated-from silo d e f old new last later silent on lines lines2 lines3 gone =
+    λ grain made.
+    each-later (IsDeactivation grain) old last later (goes-trans old new last lines lines2) lines3
+    (each-earlier (IsDeactivation grain) old new last lines lines2 (gone grain (made-since-silent (IsRelease silo grain) d e f silent on made)))
+
+-- What is left once a silo went: its passes were joined, its grains taken, it lives no more, and the queues are spread.
+pub left-whole : (silo place : ℕ) (v u t s w : OperatorView) → HasOnlyGoneOn v u → IsSilent v.directory u.directory → AreSilent v.lines u.lines → HasOnlyGoneOn u t → HaveMovedNowhere u.lines t.lines → AreDeactivated silo u.directory t.directory u.lines t.lines
+    → HasMade (length u.directory.seen) t.directory (IsNoneLeft silo) → s ≡ record t { live = remove t.live place } → OperatorGoesOn s w → w.directory ≡ s.directory → w.live ≡ s.live → HasSpread s w → HaveStayed s.lines w.lines s.assignment w.assignment → HasLeft silo place v w
+left-whole silo place v u t s w back silent silents taken nowhere gone none_left dismissed on kept live spread stayed =
+    let directory : w.directory ≡ t.directory = kept ∙ ap (λ (o : OperatorView). o.directory) dismissed in
+    let lines : s.lines ≡ t.lines = ap (λ (o : OperatorView). o.lines) dismissed in
+    let later : GoOn t.lines w.lines = subst (λ (ls : List LineView). GoOn ls w.lines) lines on.lines in
+    let away = op-trans v u t back.on taken.on in
+    record {
+      live = live ∙ ap (λ (o : OperatorView). o.live) dismissed ∙ ap (λ (xs : List ℕ). remove xs place) (taken.live ∙ back.live);
+      none_left = subst (λ (d : DirectoryPass). HasMade (length v.directory.seen) d (IsNoneLeft silo)) (sym directory)
+          (made-earlier (IsNoneLeft silo) (length v.directory.seen) (length u.directory.seen) t.directory (goes-longer v.directory u.directory back.on.directory) none_left);
+      deactivated = subst (λ (d : DirectoryPass). AreDeactivated silo v.directory d v.lines w.lines) (sym directory)
+          (deactivated-from silo v.directory u.directory t.directory v.lines u.lines t.lines w.lines silent taken.on.directory back.on.lines taken.on.lines later gone);
+      stayed =
+          stayed-earlier v.lines t.lines w.lines v.assignment w.assignment away.lines later
+          (nowhere-trans v.lines u.lines t.lines back.on.lines taken.on.lines (nowhere-silents v.lines u.lines silents) nowhere)
+          (subst (λ (xs : List ℕ). HaveStayed t.lines w.lines xs w.assignment) (ap (λ (o : OperatorView). o.assignment) dismissed ∙ taken.assignment ∙ back.assignment)
+          (subst (λ (ls : List LineView). HaveStayed ls w.lines s.assignment w.assignment) lines stayed));
+      spread = spread-from v s w (op-trans v t s away (op-same t s lines (ap (λ (o : OperatorView). o.directory) dismissed))) on (ap (λ (o : OperatorView). o.assignment) dismissed ∙ taken.assignment ∙ back.assignment) spread;
+    }
+
+at-goes : (config : Config) (ls ms : List LineView) → GoOn ls ms → AreAtQueues config ls → AreAtQueues config ms
+at-goes config [] [] on at = tt
+at-goes config [] (m ∷ ms) on at = absurd on
+at-goes config (l ∷ ls) [] on at = absurd on
+at-goes config (l ∷ ls) (m ∷ ms) on at = ((at.0.0, on.0.turnstile ∙ at.0.1, at.0.2), at-goes config ls ms on.1 at.1)
+
+-- there are as many passes as lines at the same turnstiles
+as-many : (caller : List QueuePass) (lines : List LineView) → turnstiles caller ≡ places lines → length caller ≡ length lines
+as-many caller lines beside =
+    sym (length-map caller (λ (p : QueuePass). p.turnstile)) ∙ ap (λ ts. length ts) beside ∙ length-map lines (λ (l : LineView). l.pass.turnstile)
+
+-- a pass stays at its turnstile
+directory-goes : (config : Config) (d e : DirectoryPass) → GoesOn d e → IsAtDirectory config d → IsAtDirectory config e
+directory-goes config d e on at = (at.0, on.turnstile ∙ at.1, at.2)
+
+first-silo : (n queue : ℕ) → slice_index (replicate n 0) queue ≡ 0
+first-silo zero queue = refl
+first-silo (suc n) zero = refl
+first-silo (suc n) (suc queue) = first-silo n queue
+
+-- the queues were spread from the first silo
+moved-first : (ls ms : List LineView) (n : ℕ) (assignment : List ℕ) → GoOn ls ms → HaveMoved ls ms (replicate n 0) assignment → WereMoved ms assignment
+moved-first ls ms n assignment on moved queue l had other =
+    let was = goes-back ls ms queue l on had in
+    last-earlier is_move (IsMove (slice_index assignment queue)) 0 (length was.0.pass.seen) l.pass (omega arith) (moved queue was.0 l was.1 had (λ same. other (same ∙ first-silo n queue)))
+
+-- one number more at the end
+pub range-more : (a n : ℕ) → range_with_len a (suc n) ≡ range_with_len a n ++ (a + n) ∷ []
+range-more a zero = ap (λ k. k ∷ []) (omega arith)
+range-more a (suc n) = ap (λ xs. a ∷ xs) (range-more (a + 1) n ∙ ap (λ k. range_with_len (a + 1) n ++ k ∷ []) (omega arith))
+
+pub range-next : (n : ℕ) → range_with_len 0 n ++ n ∷ [] ≡ range_with_len 0 (n + 1)
+range-next n =
+    let same : n ≡ 0 + n = omega arith in
+    let more : suc n ≡ n + 1 = omega arith in
+    ap (λ k. range_with_len 0 n ++ k ∷ []) same ∙ sym (range-more 0 n) ∙ ap (λ k. range_with_len 0 k) more
+
+pub range-absent : (n : ℕ) → Contains (range_with_len 0 n) n → ⊥
+range-absent n (at, within, here) =
+    let long = length-range_with_len 0 n in
+    let less : at < n = omega (arith, long, within) in
+    let value = get_or-range_with_len 0 n at n less in
+    absurd (omega (arith, less, value, here))
+
+-- a pass that was split off has made no call
+split-unused : (p q : QueuePass) → IsSplitOff p q → IsUnused q
+split-unused p q split =
+    record {
+      alone = ap (λ (w : QueuePass). w.joined) split.0;
+      silent = subst (λ (ns : List ℕ). Foreign ns q.seen) (sym (ap (λ (w : QueuePass). w.number ∷ w.joined) split.0))
+          (subst (λ es. Foreign (q.number ∷ []) es) (sym (ap (λ (w : QueuePass). w.seen) split.0)) split.2);
+    }
+
+pub all-unused : (ls ms : List LineView) → AllZip IsSplitLine ls ms → AllByRecursion IsUnused (map (λ (l : LineView). l.pass) ms)
+all-unused [] [] all = tt
+all-unused [] (m ∷ ms) all = absurd all
+all-unused (l ∷ ls) [] all = absurd all
+all-unused (l ∷ ls) (m ∷ ms) all = (split-unused l.pass m.pass all.0.0, all-unused ls ms all.1)
+
+pub line-turnstiles : (ls : List LineView) → turnstiles (map (λ (l : LineView). l.pass) ls) ≡ places ls
+line-turnstiles [] = refl
+line-turnstiles (l ∷ ls) = ap (λ ts. l.pass.turnstile ∷ ts) (line-turnstiles ls)
+
+-- a silo more that was started
+pub started-more : (v w : OperatorView) (ss : List SiloView) (s : SiloView) (n : ℕ) → HasOnlyGoneOn v w → AreStarted n ss → RunsOn v ss → s.silo ≡ n → IsSiloAt w.lines w.directory s
+    → AreStarted (n + 1) (ss ++ s ∷ []) × RunsOn w (ss ++ s ∷ [])
+started-more v w ss s n only started runs silo at = (
+  map-append (λ (x : SiloView). x.silo) ss (s ∷ []) ∙ ap (λ (xs : List ℕ). xs ++ s.silo ∷ []) started ∙ ap (λ k. range_with_len 0 n ++ k ∷ []) silo ∙ range-next n,
+  All-push (IsSiloAt w.lines w.directory) ss s (sits-on v w ss only.on runs) at,
+)
+
+-- the loops of the silo at a place come back where they were
+pub back-at : (v : OperatorView) (ss : List SiloView) (place : ℕ) (s t : SiloView) → place < length ss → s ≡ get_or ss place s → RunsOn v ss → HasRun s t → IsSiloAt v.lines v.directory t
+back-at v ss place s t within read runs same = same-at v.lines v.directory s t (subst (λ (x : SiloView). IsSiloAt v.lines v.directory x) (sym read) (All-at (IsSiloAt v.lines v.directory) ss place s runs within)) same
+
+-- the first of the silos that run comes back, and the others go on running
+pub stop-first : (v w : OperatorView) (s : SiloView) (ss : List SiloView) → HasOnlyGoneOn v w → RunsOn v (s ∷ ss) → RunsOn w ss
+stop-first v w s ss only runs = sits-on v w ss only.on runs.1
+
+-- the silo at a place lives there
+pub silo-place : (ss : List SiloView) (live : List ℕ) (place : ℕ) (s : SiloView) → map (λ (x : SiloView). x.silo) ss ≡ live → place < length ss → s ≡ get_or ss place s → slice_get live place ≡ Some s.silo
+silo-place ss live place s loops within read =
+    let long = length-map ss (λ (x : SiloView). x.silo) in
+    let same = ap (λ (xs : List ℕ). length xs) loops in
+    slice_get-get_or live place s.silo (omega (arith, within, long, same))
+    ∙ ap (λ k. Some k) (ap (λ (xs : List ℕ). get_or xs place s.silo) (sym loops) ∙ get_or-map (λ (x : SiloView). x.silo) ss place s s.silo within ∙ ap (λ (x : SiloView). x.silo) (sym read))
+
+pub map-remove : (ss : List SiloView) (place : ℕ) → map (λ (x : SiloView). x.silo) (remove ss place) ≡ remove (map (λ (x : SiloView). x.silo) ss) place
+map-remove [] zero = refl
+map-remove [] (suc place) = refl
+map-remove (s ∷ ss) zero = refl
+map-remove (s ∷ ss) (suc place) = ap (λ (xs : List ℕ). s.silo ∷ xs) (map-remove ss place)
+
+pub not-fixed : (v : ClusterView) → v.is_parked ≡ false → v.is_halted ≡ false → is_fixed v ≡ false
+not-fixed v parked halted = ap (λ b. b || v.is_halted) parked ∙ halted
+
+-- a cluster whose silos don't change any more
+pub cluster-halted : (v : ClusterView) (ends : LoopEnds) (o : OperatorView) (ss : List SiloView) → v.is_parked ≡ false → RunsOn o ss → AreFresh v.rounds ss → IsCluster (record { operator = o; silos = ss; ends = ends; is_parked = v.is_parked; is_halted = true; rounds = v.rounds; looks = v.looks })
+cluster-halted v ends o ss free runs fresh =
+    record {
+      at = runs;
+      fresh = fresh;
+      loops = λ goes. let differ : true ≡ false = sym (ap (λ b. b || true) free) ∙ goes in absurd (cc (differ));
+      parked = λ parked. let differ : true ≡ false = sym parked ∙ free in absurd (cc (differ));
+    }
+
+-- a cluster of which a silo went
+pub cluster-gone : (v : ClusterView) (ends : LoopEnds) (o : OperatorView) (ss : List SiloView) (place : ℕ) → v.is_parked ≡ false → v.is_halted ≡ false → IsCluster v → ss ≡ remove v.silos place → OperatorGoesOn v.operator o → o.live ≡ remove v.operator.live place
+    → IsCluster (record { operator = o; silos = ss; ends = ends; is_parked = v.is_parked; is_halted = v.is_halted; rounds = v.rounds; looks = v.looks })
+cluster-gone v ends o ss place free goes kept left on live =
+    record {
+      at = subst (λ (xs : List SiloView). RunsOn o xs) (sym left) (sits-on v.operator o (remove v.silos place) on (all-remove (IsSiloAt v.operator.lines v.operator.directory) v.silos place kept.at));
+      fresh = subst (λ (xs : List SiloView). AreFresh v.rounds xs) (sym left) (all-remove (λ s. IsFresh v.rounds s.silo s) v.silos place kept.fresh);
+      loops = λ fixed. ap (λ (xs : List SiloView). map (λ (x : SiloView). x.silo) xs) left ∙ map-remove v.silos place ∙ ap (λ (xs : List ℕ). remove xs place) (kept.loops (not-fixed v free goes)) ∙ sym live;
+      parked = λ parked. let differ : true ≡ false = sym parked ∙ free in absurd (cc (differ));
+    }
+
+-- a cluster to which a silo came
+pub cluster-came : (v : ClusterView) (ends : LoopEnds) (o : OperatorView) (ss : List SiloView) (silo : ℕ) (s : SiloView) → v.is_parked ≡ false → v.is_halted ≡ false → IsCluster v → ss ≡ v.silos ++ s ∷ [] → s.silo ≡ silo → RunsOn o ss → AreFresh v.rounds ss → o.live ≡ v.operator.live ++ silo ∷ []
+    → IsCluster (record { operator = o; silos = ss; ends = ends; is_parked = v.is_parked; is_halted = v.is_halted; rounds = v.rounds; looks = v.looks })
+cluster-came v ends o ss silo s free goes kept more named runs fresh live =
+    record {
+      at = runs;
+      fresh = fresh;
+      loops = λ fixed. ap (λ (xs : List SiloView). map (λ (x : SiloView). x.silo) xs) more ∙ map-append (λ (x : SiloView). x.silo) v.silos (s ∷ []) ∙ ap (λ (xs : List ℕ). xs ++ s.silo ∷ []) (kept.loops (not-fixed v free goes))
+          ∙ ap (λ k. v.operator.live ++ k ∷ []) named ∙ sym live;
+      parked = λ parked. let differ : true ≡ false = sym parked ∙ free in absurd (cc (differ));
+    }
+
+pub lives-at : (live : List ℕ) (place silo : ℕ) → slice_get live place ≡ Some silo → Contains live silo
+lives-at live place silo stood =
+    let within = slice_get_within live place silo stood in
+    (place, within, ap (λ o. unwrap_or o silo) (sym (slice_get-get_or live place silo within) ∙ stood))
+
+-- where one silo lives, and not one alone, another does
+pub may-go : (v : ClusterView) (place silo : ℕ) → slice_get v.operator.live place ≡ Some silo → (length v.operator.live ≡ 1 → ⊥) → MayGo v silo
+may-go v place silo stood other = let within = slice_get_within v.operator.live place silo stood in (lives-at v.operator.live place silo stood, omega (arith, within, other))
+
+pub one-name : (live : List ℕ) (place one other : ℕ) → slice_get live place ≡ Some one → slice_get live place ≡ Some other → one ≡ other
+one-name live place one other a b = ap (λ o. unwrap_or o one) (sym a ∙ b)
+
+-- what a new operator comes to, once its first silos live and the queues are spread over them
+pub opened-whole : (config : Config) (first lines : List LineView) (d : DirectoryPass) (v e w : OperatorView) (caller : List QueuePass) → lines ≡ first → length first ≡ config.queues → AreAtQueues config first → turnstiles caller ≡ places first → AllByRecursion IsUnused caller → IsAtDirectory config d
+    → v ≡ record { lines = lines; directory = d; live = []; assignment = replicate (length lines) 0 } → e ≡ record v { live = range_with_len 0 config.silos } → OperatorGoesOn e w → w.live ≡ e.live → HasSpread e w → IsOpened config w caller
+opened-whole config first lines d v e w caller same many at beside unused placed made enlisted on live spread =
+    let kept : e.lines ≡ first = ap (λ (o : OperatorView). o.lines) enlisted ∙ ap (λ (o : OperatorView). o.lines) made ∙ same in
+    let all : e.assignment ≡ replicate config.queues 0 =
+    ap (λ (o : OperatorView). o.assignment) enlisted ∙ ap (λ (o : OperatorView). o.assignment) made ∙ ap (λ n. replicate n 0) (ap (λ (ls : List LineView). length ls) same ∙ many) in
+    record {
+      live = live ∙ ap (λ (o : OperatorView). o.live) enlisted;
+      queues = goes-length e.lines w.lines on.lines ∙ ap (λ (ls : List LineView). length ls) kept ∙ many;
+      at = at-goes config e.lines w.lines on.lines (subst (λ (ls : List LineView). AreAtQueues config ls) (sym kept) at);
+      directory = directory-goes config e.directory w.directory on.directory
+          (subst (λ (x : DirectoryPass). IsAtDirectory config x) (sym (ap (λ (o : OperatorView). o.directory) enlisted ∙ ap (λ (o : OperatorView). o.directory) made)) placed);
+      balanced = subst (λ (xs : List ℕ). IsBalanced xs w.live w.assignment) all spread.balanced;
+      moved = moved-first e.lines w.lines config.queues w.assignment on.lines (subst (λ (xs : List ℕ). HaveMoved e.lines w.lines xs w.assignment) all spread.moved);
+      beside = beside ∙ ap (λ (ls : List LineView). places ls) (sym kept) ∙ sym (goes-places e.lines w.lines on.lines);
+      each = as-many caller first beside ∙ many;
+      unused = unused;
+    }
+
+-- where the silos that run are those that live, one that lives at a place runs there
+pub place-within : (ss : List SiloView) (live : List ℕ) (place silo : ℕ) → map (λ (x : SiloView). x.silo) ss ≡ live → slice_get live place ≡ Some silo → place < length ss
+place-within ss live place silo loops stood =
+    let within = slice_get_within live place silo stood in
+    let long = length-map ss (λ (x : SiloView). x.silo) in
+    let same = ap (λ (xs : List ℕ). length xs) loops in
+    omega (arith, within, long, same)
+
+pub down-done : (v w : ClusterView) (place silo gone : ℕ) → is_fixed v ≡ false → MayGo v silo → slice_get v.operator.live place ≡ Some silo → gone ≡ silo → OperatorGoesOn v.operator w.operator → HasLeft gone place v.operator w.operator → (w.is_parked ≡ v.is_parked) × (w.rounds ≡ v.rounds) × (w.looks ≡ v.looks) → w.is_halted ≡ false → HasNoted v silo w
+    → AnswersDown v silo (Ok down.Down) w
+down-done v w place silo gone fixed may stood named on left same goes noted =
+    (fixed, may, record { on = on; place = place; stood = stood; left = subst (λ k. HasLeft k place v.operator w.operator) named left; same = same; goes_on = goes }, noted)
+
+pub up-done : (v w : ClusterView) (silo : ℕ) (s : SiloView) → is_fixed v ≡ false → (Contains v.operator.live silo → ⊥) → OperatorGoesOn v.operator w.operator → HaveOnlySeen v.operator.lines w.operator.lines → w.operator.directory ≡ v.operator.directory → w.operator.live ≡ v.operator.live ++ silo ∷ [] → w.silos ≡ v.silos ++ s ∷ [] → IsFresh v.rounds silo s
+    → AreSplitOff v.operator.lines v.operator.directory s → HasSpread v.operator w.operator → HaveStayed v.operator.lines w.operator.lines v.operator.assignment w.operator.assignment → w.ends ≡ v.ends → (w.is_parked ≡ v.is_parked) × (w.rounds ≡ v.rounds) × (w.looks ≡ v.looks) → w.is_halted ≡ false
+    → AnswersUp v silo (Ok up.Up) w
+up-done v w silo s fixed absent on seen directory live more fresh split spread stayed ends same goes =
+    (fixed, absent, record { on = on; seen = seen; directory = directory; live = live; started = (s, more, fresh, split); spread = spread; stayed = stayed; ends = ends; same = same; goes_on = goes })
+
+-- a silo that ran came back, and how its loops have ended was noted
+pub has-noted : (v w : ClusterView) (place silo : ℕ) (s back : SiloView) → AreFresh v.rounds v.silos → place < length v.silos → s ≡ get_or v.silos place s → back.silo ≡ silo → HasRun s back → HaveComeBack w.operator.lines w.operator.directory back → w.ends ≡ noted v.ends back → HasNoted v silo w
+has-noted v w place silo s back fresh within read named ran came ends =
+    let IsNew : SiloView → Type 0 = λ s. IsFresh v.rounds s.silo s in
+    let new : IsFresh v.rounds s.silo s = subst IsNew (sym read) (All-at IsNew v.silos place s fresh within) in (
+      place,
+      s,
+      slice_get-get_or v.silos place s within ∙ ap (λ (x : SiloView). Some x) (sym read),
+      subst (λ k. IsFresh v.rounds k s) (sym ran.silo ∙ named) new,
+      (back, ran, came, ends),
+    )
+
+-- what came back stays so
+pub taken-op : (v w : OperatorView) (s : SiloView) → OperatorGoesOn v w → AreTakenIn v.lines v.directory s → AreTakenIn w.lines w.directory s
+taken-op v w s on taken = taken-silo v.lines w.lines v.directory w.directory s on.lines on.directory taken
+
+back-op : (v w : OperatorView) (s : SiloView) → OperatorGoesOn v w → HaveComeBack v.lines v.directory s → HaveComeBack w.lines w.directory s
+back-op v w s on came = record { taken = taken-op v w s on came.taken; causes = came.causes }
+
+pub all-back : (v w : OperatorView) (ss : List SiloView) → OperatorGoesOn v w → AllByRecursion (HaveComeBack v.lines v.directory) ss → AllByRecursion (HaveComeBack w.lines w.directory) ss
+all-back v w [] on all = tt
+all-back v w (s ∷ ss) on all = (back-op v w s on all.0, all-back v w ss on all.1)
+
+-- callers of lines are at them while those go on
+pub callers-on : (ls ms : List LineView) (callers : List (List QueuePass)) → GoOn ls ms → AllByRecursion (AreAt (places ls)) callers → AllByRecursion (AreAt (places ms)) callers
+callers-on ls ms callers on at = subst (λ ts. AllByRecursion (AreAt ts) callers) (sym (goes-places ls ms on)) at
+
+-- what is said of each end of a cluster, taken together
+pub finished-whole : {H : Type 0} (entries : H → List (Entry Op Reply)) (c : ClusterView) (Ended : List LineView → DirectoryPass → LoopEnds → Type 0) (callers : List (List QueuePass)) (lines : List LineView) (d : DirectoryPass) (ends : LoopEnds) (result : Result (Finished H) AllocError) → GoOn c.operator.lines lines → GoesOn c.operator.directory d → Ended lines d ends
+    → IfOk result (IsFinished entries ends (gathered (passes_of lines) callers)) → IfOk result (OnHistories entries (HaveBegun (passes_of lines) callers)) → IfOk result (OnHistories entries (CallersAloneProduce callers)) → IfOk result (HasEnded entries c Ended callers)
+finished-whole entries c Ended callers lines d ends (Ok answer) on asks ended finished begun producers = record { lines = lines; on = on; directory = d; asks = asks; ends = ends; ended = ended; finished = finished; begun = begun; producers = producers }
+finished-whole entries c Ended callers lines d ends (Err e) on asks ended finished begun producers = tt
+
+-- one silo more whose loops have done nothing
+pub fresh-push : (rounds silo : ℕ) (ss : List SiloView) (s : SiloView) → AreFresh rounds ss → IsFresh rounds silo s → AreFresh rounds (ss ++ s ∷ [])
+fresh-push rounds silo ss s fresh new = All-push (λ (x : SiloView). IsFresh rounds x.silo x) ss s fresh (subst (λ k. IsFresh rounds k s) (sym new.0) new)
+
+-- one silo more whose loops were made, and have done nothing
+pub made-more : (rounds : ℕ) (v w : OperatorView) (ss : List SiloView) (s : SiloView) (n : ℕ) → HasOnlyGoneOn v w → AreStarted n ss → AreFresh rounds ss → RunsOn v ss → IsFresh rounds n s → IsSiloAt w.lines w.directory s
+    → AreStarted (n + 1) (ss ++ s ∷ []) × AreFresh rounds (ss ++ s ∷ []) × RunsOn w (ss ++ s ∷ [])
+made-more rounds v w ss s n only started fresh runs new at =
+    let more = started-more v w ss s n only started runs new.0 at in
+    (more.0, fresh-push rounds n ss s fresh new, more.1)
+
+-- one silo more of which it was noted how its loops have ended
+pub noted-push : (ends : LoopEnds) (ss : List SiloView) (s : SiloView) → all_noted ends (ss ++ s ∷ []) ≡ noted (all_noted ends ss) s
+noted-push ends [] s = refl
+noted-push ends (x ∷ ss) s = noted-push (noted ends x) ss s
+
+-- one silo more whose loops came back
+pub ended-push : (v w : OperatorView) (ends mid new : LoopEnds) (back : List SiloView) (s : SiloView) → OperatorGoesOn v w → HaveEnded ends back v.lines v.directory mid → new ≡ noted mid s → HaveComeBack w.lines w.directory s
+    → HaveEnded ends (back ++ s ∷ []) w.lines w.directory new
+ended-push v w ends mid new back s on had is came =
+    (is ∙ ap (λ (e : LoopEnds). noted e s) had.0 ∙ sym (noted-push ends back s), All-push (HaveComeBack w.lines w.directory) back s (all-back v w back on had.1) came)
+
+-- a parked cluster stays one, whose loops are elsewhere
+pub parked-stays : (v : ClusterView) (ends : LoopEnds) (o : OperatorView) (halted : Bool) → v.is_parked ≡ true → IsCluster v → IsCluster (record { operator = o; silos = v.silos; ends = ends; is_parked = v.is_parked; is_halted = halted; rounds = v.rounds; looks = v.looks })
+parked-stays v ends o halted parked kept =
+    record {
+      at = subst (λ (ss : List SiloView). RunsOn o ss) (sym (kept.parked parked)) tt;
+      fresh = kept.fresh;
+      loops = λ fixed. let differ : true ≡ false = sym (ap (λ b. b || halted) parked) ∙ fixed in absurd (cc (differ));
+      parked = λ same. kept.parked parked;
+    }
+
+-- where one silo lives alone, it is this one
+pub only-one : (live : List ℕ) (silo : ℕ) → Contains live silo → length live ≡ 1 → live ≡ silo ∷ []
+only-one [] silo lives one = absurd (omega (arith, one))
+only-one (x ∷ []) silo (zero, within, here) one = ap (λ k. k ∷ []) here
+only-one (x ∷ []) silo (suc at, within, here) one = absurd (omega (arith, within))
+only-one (x ∷ y ∷ ys) silo lives one = absurd (omega (arith, one))
+
+-- what `retire` answers where the silo is the last
+pub last-stays : (v : ClusterView) (loops : SiloView) (many : ℕ) → v.is_halted ≡ false → (v.is_halted ≡ false → Contains v.operator.live loops.silo) → many ≡ length v.operator.live → many ≡ 1 → v.operator.live ≡ loops.silo ∷ []
+last-stays v loops many free lives count one = only-one v.operator.live loops.silo (lives free) (sym count ∙ one)
+
+pub retire-done : (v w : ClusterView) (loops : SiloView) (place silo gone : ℕ) → v.is_halted ≡ false → (length v.operator.live ≡ 1 → ⊥) → slice_get v.operator.live place ≡ Some silo → silo ≡ loops.silo → gone ≡ loops.silo → OperatorGoesOn v.operator w.operator
+    → HasLeft gone place v.operator w.operator → (w.is_parked ≡ v.is_parked) × (w.rounds ≡ v.rounds) × (w.looks ≡ v.looks) → w.is_halted ≡ false → AreNoted v loops w → IsRetired v loops w
+retire-done v w loops place silo gone free other stood silo_is named on left same goes ends =
+    let here = subst (λ k. slice_get v.operator.live place ≡ Some k) silo_is stood in (
+      free,
+      may-go v place loops.silo here other,
+      record { on = on; place = place; stood = here; left = subst (λ k. HasLeft k place v.operator w.operator) named left; same = same; goes_on = goes },
+      ends,
+    )
+
+pub halted-retire : {G H D : Type 0} (v w : ClusterView) (loops : SiloView) (h : Halt) (r : Result (Retired G H D) AllocError) → IsRetiredBy h r → IsBrokenOff v loops w → (h ≡ halt.Limit → HasMetLimit v.operator w.operator) → AnswersRetire v loops r w
+halted-retire {G = G} {H = H} {D = D} v w loops halt.Limit r is broken met = subst (λ (x : Result (Retired G H D) AllocError). AnswersRetire v loops x w) (sym is) (broken, met refl)
+halted-retire v w loops halt.Memory (Ok x) is broken met = absurd (cc (is))
+halted-retire v w loops halt.Memory (Err e) is broken met = broken
+
+-- ends of which each is of no loop
+pub ends-none : (e : LoopEnds) → e.memory ≡ false → e.limit ≡ false → e.rounds ≡ false → e ≡ none_ended
+ends-none e memory limit rounds =
+    ap (λ (b : Bool). record e { memory = b }) memory ∙ ap (λ (b : Bool). record none_ended { limit = b; rounds = e.rounds }) limit ∙ ap (λ (b : Bool). record none_ended { rounds = b }) rounds

@@ -1,0 +1,150 @@
+-- Passes that take in others, one after another.
+use Rattle.std.proofs.Common.{◌≡◌, ℕ, ◌<◌, List, [], ◌∷◌, ◌++◌, length, get_or, Contains, refl, sym, ap, subst, ◌∙◌, append_assoc, arith}
+use Rattle.std.proofs.lemmas.List.{append-nil, map-append}
+use Rattle.std.proofs.lemmas.List.Elements.{Contains-append_left, Contains-append_right}
+use Rattle.std.specs.List.{AllByRecursion, AllZip}
+use Rattle.stream_model.specs.declared.op.Op.{Op}
+use Rattle.stream_model.specs.Replies.{Reply}
+use Rattle.turnstile.proofs.Histories.{foreign-append}
+use Rattle.turnstile.specs.declared.history.Entry.{Entry}
+use Rattle.turnstile.specs.Calls.{joined_pass, numbers_of}
+use Rattle.turnstile.specs.History.{Foreign}
+use Rattle.silo_loops.specs.Lines.{LineView, NeverProduces, QueuePass, places}
+use Rattle.silo_loops.specs.Passes.{IsOtherIn, IsPartOf}
+use Rattle.silo_loops.specs.Fronts.{AllZipFront}
+use Rattle.silo_threads.specs.Calls.{AreAlike, Joins, JoinsAll, turnstiles}
+use Rattle.silo_threads.proofs.Splitting.{all-whole, front-alike, turnstiles-joined}
+use Rattle.silo_threads.specs.Gathering.{AreAt, Gathers, IsFirstOf, JoinsEach, gathered, passes_of}
+use Rattle.silo_threads.proofs.Looking.{turnstiles-length}
+use Rattle.silo_threads.proofs.Rows.{zip-refl, zip-trans}
+use Rattle.stream_ident.proofs.EachOf.{All-push}
+use Rattle.stream_ident.proofs.WordLemmas.{All-at}
+
+-- who has none of more numbers has none of fewer
+pub foreign-within : (fewer numbers : List ℕ) (es : List (Entry Op Reply)) → ((k : ℕ) → Contains fewer k → Contains numbers k) → Foreign numbers es → Foreign fewer es
+foreign-within fewer numbers [] within f = tt
+foreign-within fewer numbers (e ∷ es) within f = ((λ here. f.0 (within e.number here)), foreign-within fewer numbers es within f.1)
+
+-- the number under which a pass calls is one of its numbers
+pub has-number : (p : QueuePass) → Contains (numbers_of p) p.number
+has-number p = (0, omega arith, refl)
+
+part-refl : (p : QueuePass) → IsPartOf p p
+part-refl p = record { numbers = λ k here. here; claims = record { rest = []; is = sym (append-nil p.seen); foreign = tt } }
+
+part-trans : (p q r : QueuePass) → IsPartOf p q → IsPartOf q r → IsPartOf p r
+part-trans p q r a b =
+    record {
+      numbers = λ k here. b.numbers k (a.numbers k here);
+      claims =
+          record {
+            rest = a.claims.rest ++ b.claims.rest;
+            is = b.claims.is ∙ ap (λ (es : List (Entry Op Reply)). es ++ b.claims.rest) a.claims.is ∙ append_assoc p.seen a.claims.rest b.claims.rest;
+            foreign = foreign-append (numbers_of p) a.claims.rest b.claims.rest a.claims.foreign (foreign-within (numbers_of p) (numbers_of q) b.claims.rest a.numbers b.claims.foreign);
+          };
+    }
+
+first-refl : (p : QueuePass) → IsFirstOf p p
+first-refl p = record { part = part-refl p; number = refl }
+
+first-trans : (p q r : QueuePass) → IsFirstOf p q → IsFirstOf q r → IsFirstOf p r
+first-trans p q r a b = record { part = part-trans p q r a.part b.part; number = b.number ∙ a.number }
+
+other-trans : (p q r : QueuePass) → IsOtherIn p q → IsFirstOf q r → IsOtherIn p r
+other-trans p q r a b = record { part = part-trans p q r a.part b.part; other = λ here. a.other (subst (λ k. Contains (numbers_of p) k) b.number here) }
+
+numbers-joined : (p q r : QueuePass) → r ≡ joined_pass p q → numbers_of r ≡ numbers_of p ++ numbers_of q
+numbers-joined p q r is = ap (λ (w : QueuePass). numbers_of w) is
+
+joins-first : (p q r : QueuePass) → Joins p q r → IsFirstOf p r
+joins-first p q r j =
+    record {
+      part =
+          record {
+            numbers = λ k here. subst (λ ks. Contains ks k) (sym (numbers-joined p q r j.whole)) (Contains-append_left (numbers_of p) (numbers_of q) k here);
+            claims = j.agree.0;
+          };
+      number = ap (λ (w : QueuePass). w.number) j.whole;
+    }
+
+joins-other : (p q r : QueuePass) → Joins p q r → IsOtherIn q r
+joins-other p q r j =
+    record {
+      part =
+          record {
+            numbers = λ k here. subst (λ ks. Contains ks k) (sym (numbers-joined p q r j.whole)) (Contains-append_right (numbers_of p) (numbers_of q) k here);
+            claims = j.agree.1;
+          };
+      other = λ here. j.agree.2 p.number (has-number p) (subst (λ k. Contains (numbers_of q) k) (ap (λ (w : QueuePass). w.number) j.whole) here);
+    }
+
+all-first : (ps qs rs : List QueuePass) → JoinsAll ps qs rs → AllZip IsFirstOf ps rs
+all-first ps [] rs same = subst (λ (es : List QueuePass). AllZip IsFirstOf ps es) (sym same) (zip-refl IsFirstOf first-refl ps)
+all-first [] (q ∷ qs) rs j = absurd j
+all-first (p ∷ ps) (q ∷ qs) [] j = absurd j
+all-first (p ∷ ps) (q ∷ qs) (r ∷ rs) j = (joins-first p q r j.0, all-first ps qs rs j.1)
+
+all-others : (ps qs rs : List QueuePass) → length qs ≡ length ps → JoinsAll ps qs rs → AllZip IsOtherIn qs rs
+all-others [] [] rs long same = subst (λ (es : List QueuePass). AllZip IsOtherIn [] es) (sym same) tt
+all-others (p ∷ ps) [] rs long same = absurd (omega arith)
+all-others [] (q ∷ qs) rs long j = absurd j
+all-others (p ∷ ps) (q ∷ qs) [] long j = absurd j
+all-others (p ∷ ps) (q ∷ qs) (r ∷ rs) long j = (joins-other p q r j.0, all-others ps qs rs (omega arith) j.1)
+
+pub all-places : (ps qs rs : List QueuePass) → JoinsAll ps qs rs → turnstiles rs ≡ turnstiles ps
+all-places ps qs rs j = ap (λ (es : List QueuePass). turnstiles es) (all-whole ps qs rs j) ∙ turnstiles-joined ps qs
+
+each-whole : (ps : List QueuePass) (cs : List (List QueuePass)) (rs : List QueuePass) → JoinsEach ps cs rs → rs ≡ gathered ps cs
+each-whole ps [] rs same = same
+each-whole ps (c ∷ cs) rs j =
+    each-whole j.0 cs rs j.2 ∙ ap (λ (es : List QueuePass). gathered es cs) (all-whole ps c j.0 j.1)
+
+each-taken : (ps : List QueuePass) (cs : List (List QueuePass)) (rs : List QueuePass) → AllByRecursion (AreAt (turnstiles ps)) cs → JoinsEach ps cs rs
+    → AllZip IsFirstOf ps rs × AllByRecursion (λ (c : List QueuePass). AllZip IsOtherIn c rs) cs
+each-taken ps [] rs at same = (subst (λ (es : List QueuePass). AllZip IsFirstOf ps es) (sym same) (zip-refl IsFirstOf first-refl ps), tt)
+each-taken ps (c ∷ cs) rs at j =
+    let stays : turnstiles j.0 ≡ turnstiles ps = all-places ps c j.0 j.1 in
+    let later = each-taken j.0 cs rs (subst (λ ts. AllByRecursion (AreAt ts) cs) (sym stays) at.1) j.2 in (
+      zip-trans IsFirstOf IsFirstOf IsFirstOf first-trans ps j.0 rs (all-first ps c j.0 j.1) later.0,
+      (zip-trans IsOtherIn IsFirstOf IsOtherIn other-trans c j.0 rs (all-others ps c j.0 (turnstiles-length ps c at.0) j.1) later.0, later.1),
+    )
+
+gathers : (ps : List QueuePass) (cs : List (List QueuePass)) (rs : List QueuePass) → AllByRecursion (AreAt (turnstiles ps)) cs → AllByRecursion NeverProduces ps → JoinsEach ps cs rs → Gathers ps cs rs
+gathers ps cs rs at never j =
+    let taken = each-taken ps cs rs at j in
+    record { whole = each-whole ps cs rs j; first = taken.0; others = taken.1; never = never }
+
+-- one more caller is taken in
+pub each-more : (ps : List QueuePass) (cs : List (List QueuePass)) (c now new : List QueuePass) → JoinsEach ps cs now → JoinsAll now c new → JoinsEach ps (cs ++ c ∷ []) new
+each-more ps [] c now new same j = (new, subst (λ (es : List QueuePass). JoinsAll es c new) same j, refl)
+each-more ps (y ∷ ys) c now new e j = (e.0, e.1, each-more e.0 ys c now new e.2 j)
+
+-- the next caller is at the turnstiles of the passes
+pub next-alike : (old now : List QueuePass) (cs : List (List QueuePass)) (k : ℕ) (c : List QueuePass) → AllByRecursion (AreAt (turnstiles old)) cs → turnstiles now ≡ turnstiles old → k < length cs → c ≡ get_or cs k c → AllZipFront AreAlike now c
+next-alike old now cs k c at stays less is =
+    let there : turnstiles c ≡ turnstiles old = subst (λ (es : List QueuePass). AreAt (turnstiles old) es) (sym is) (All-at (AreAt (turnstiles old)) cs k c at less) in
+    front-alike now c (there ∙ sym stays)
+
+-- the pass of one more line
+pub line-more : (ls : List LineView) (l : LineView) (ps new : List QueuePass) (p : QueuePass) → ps ≡ passes_of ls → AllByRecursion NeverProduces ps → p ≡ l.pass → NeverProduces l.pass → new ≡ ps ++ p ∷ []
+    → (new ≡ passes_of (ls ++ l ∷ [])) × AllByRecursion NeverProduces new
+line-more ls l ps new p is all one never put = (
+  put ∙ ap (λ (es : List QueuePass). es ++ p ∷ []) is ∙ ap (λ (e : QueuePass). passes_of ls ++ e ∷ []) one ∙ sym (map-append (λ (m : LineView). m.pass) ls (l ∷ [])),
+  subst (λ (es : List QueuePass). AllByRecursion NeverProduces es) (sym put) (All-push NeverProduces ps p all (subst (λ (e : QueuePass). NeverProduces e) (sym one) never)),
+)
+
+-- callers at the turnstiles of lines are at those of their passes
+pub lines-at : (ls : List LineView) (ps : List QueuePass) (cs : List (List QueuePass)) → ps ≡ passes_of ls → AllByRecursion (AreAt (places ls)) cs → AllByRecursion (AreAt (turnstiles ps)) cs
+lines-at ls ps cs is at =
+    let same : turnstiles ps ≡ places ls = ap (λ (es : List QueuePass). turnstiles es) is ∙ places-passes ls in
+    subst (λ ts. AllByRecursion (AreAt ts) cs) (sym same) at
+  where
+    places-passes : (ms : List LineView) → turnstiles (passes_of ms) ≡ places ms
+    places-passes [] = refl
+    places-passes (m ∷ ms) = ap (λ ts. m.pass.turnstile ∷ ts) (places-passes ms)
+
+-- so what the lines' passes made of the callers is gathered from them
+pub lines-gather : (ls : List LineView) (ps : List QueuePass) (cs : List (List QueuePass)) (rs : List QueuePass) → ps ≡ passes_of ls → AllByRecursion (AreAt (places ls)) cs → AllByRecursion NeverProduces ps → JoinsEach ps cs rs
+    → Gathers (passes_of ls) cs rs
+lines-gather ls ps cs rs is at never j =
+    subst (λ (es : List QueuePass). Gathers es cs rs) is (gathers ps cs rs (lines-at ls ps cs is at) never j)

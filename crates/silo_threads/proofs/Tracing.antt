@@ -1,0 +1,122 @@
+-- The ends of turnstiles, one after another.
+use Rattle.std.proofs.Common.{◌≡◌, ◌≢◌, ℕ, zero, suc, ◌+◌, ◌<◌, ◌≤◌, inl, inr, List, [], ◌∷◌, ◌++◌, length, map, Result, Ok, IfOk, refl, sym, ap, subst, ◌∙◌, arith}
+use Rattle.std.proofs.lemmas.List.{append-nil, length-map, map-append}
+use Rattle.std.specs.Prelude.{AllPairs}
+use Rattle.std.specs.declared.alloc.AllocError.{AllocError}
+use Rattle.stream_laws.specs.Laws.{OneHistory}
+use Rattle.stream_model.specs.declared.op.Op.{Op}
+use Rattle.stream_model.specs.declared.plain.PlainPartition.{PlainPartition}
+use Rattle.stream_model.specs.Replies.{Reply}
+use Rattle.turnstile.specs.declared.history.Entry.{Entry}
+use Rattle.turnstile.specs.Calls.{IsOf, numbers_of}
+use Rattle.turnstile.specs.Closing.{FirstCounted, FromAll, all_numbers}
+use Rattle.turnstile.specs.History.{Own}
+use Rattle.turnstile.specs.Passes.{Origin}
+use Rattle.shared_partition.specs.Partitions.{BeganEmpty, after, replied}
+use Rattle.shared_partition.proofs.Partitions.{legal-leaves, legal-tells}
+use Rattle.silo_loops.specs.Lines.{QueuePass}
+use Rattle.silo_threads.specs.declared.ending.closing.Closing.{Closing}
+use Rattle.silo_threads.specs.declared.ending.closing.Closing.TheVariants as closing
+use Rattle.silo_threads.specs.declared.ending.closing.End.{End}
+use Rattle.silo_threads.specs.declared.ending.closing.End.TheVariants as end
+use Rattle.silo_threads.specs.Closing.{AreTraces, HasEnd, IsClosing, IsEnd, IsMissing, IsMissingFirst, IsTraceOf}
+use Rattle.stream_ident.proofs.EachOf.{All-push}
+
+-- a turnstile that was closed with one pass
+closed-trace : (t : Origin PlainPartition) (p : QueuePass) (history : List (Entry Op Reply)) (partition : PlainPartition) → OneHistory → IsOf t p → BeganEmpty t.start
+    → FromAll replied after (λ (s : PlainPartition). s) t.start (p ∷ []) history partition → IsTraceOf p history partition
+closed-trace t p history partition law of empty all =
+    let numbers : all_numbers (p ∷ []) ≡ numbers_of p = append-nil (numbers_of p) in
+    let most : p.made ≤ length (all_numbers (p ∷ [])) = all.most.0 in
+    record {
+      origin = t;
+      of = of;
+      empty = empty;
+      whole = elim all.longest as (λ w. history ≡ p.seen) [ inl same ↦ sym same | inr none ↦ absurd none ];
+      bounded = all.bounded;
+      own = subst (λ ks. Own ks history) numbers all.own;
+      differ = subst (λ ks. AllPairs (λ one other. one ≢ other) ks) numbers all.differ;
+      most = subst (λ ks. p.made ≤ length ks) numbers most;
+      legal = all.legal;
+      partition_is = all.object_is;
+      headline = legal-tells t.start history law empty all.legal;
+      stands = legal-leaves t.start history all.legal;
+    }
+
+-- the same, as the parts of it are named where it is closed
+pub queue-trace : (was t : Origin PlainPartition) (p q : QueuePass) (ps : List QueuePass) (history : List (Entry Op Reply)) (object partition : PlainPartition) → OneHistory → p ≡ q → IsOf was p → BeganEmpty was.start → t ≡ was → ps ≡ p ∷ []
+    → FromAll replied after (λ (s : PlainPartition). s) t.start ps history object → partition ≡ object → IsTraceOf q history partition
+queue-trace was t p q ps history object partition law same of empty here alone all is =
+    let at_start = subst (λ (o : Origin PlainPartition). FromAll replied after (λ (s : PlainPartition). s) o.start ps history object) here all in
+    let of_one = subst (λ (es : List QueuePass). FromAll replied after (λ (s : PlainPartition). s) was.start es history object) alone at_start in
+    subst (λ (e : QueuePass). IsTraceOf e history partition) same
+    (subst (λ (e : PlainPartition). IsTraceOf p history e) (sym is) (closed-trace was p history object law of empty of_one))
+
+pub closed-missing : (p : QueuePass) (back : List QueuePass) (missing : ℕ) → 0 < missing → FirstCounted (p ∷ []) back (length (all_numbers (p ∷ [])) + missing) → IsMissing p missing
+closed-missing p [] missing some counted = absurd counted
+closed-missing p (q ∷ qs) missing some counted =
+    let numbers : length (all_numbers (p ∷ [])) ≡ length (numbers_of p) = ap (λ ks. length ks) (append-nil (numbers_of p)) in
+    let more : p.made ≤ q.made = counted.0.1 in
+    let made : q.made ≡ length (all_numbers (p ∷ [])) + missing = counted.1 in
+    record { some = some; most = omega (arith, numbers, more, made) }
+
+-- one more queue behind
+pub missing-more : (queue missing : ℕ) (ps : List QueuePass) (p : QueuePass) → IsMissingFirst queue missing ps → HasEnd p → IsMissingFirst queue missing (ps ++ p ∷ [])
+missing-more queue missing [] p first ends = absurd first
+missing-more zero missing (x ∷ ps) p first ends = (first.0, All-push HasEnd ps p first.1 ends)
+missing-more (suc queue) missing (x ∷ ps) p first ends = (first.0, missing-more queue missing ps p first.1 ends)
+
+pub missing-here : (ps : List QueuePass) (histories : List (List (Entry Op Reply))) (partitions : List PlainPartition) (missing : ℕ) (p : QueuePass) → AreTraces ps histories partitions → IsMissing p missing
+    → IsMissingFirst (length histories) missing (ps ++ p ∷ [])
+missing-here [] [] [] missing p traces lost = (lost, tt)
+missing-here [] [] (t ∷ ts) missing p traces lost = absurd traces
+missing-here [] (h ∷ hs) ts missing p traces lost = absurd traces
+missing-here (x ∷ ps) [] ts missing p traces lost = absurd traces
+missing-here (x ∷ ps) (h ∷ hs) [] missing p traces lost = absurd traces
+missing-here (x ∷ ps) (h ∷ hs) (t ∷ ts) missing p traces lost = (record { history = h; partition = t; trace = traces.0 }, missing-here ps hs ts missing p traces.1 lost)
+
+traced-more : (ps : List QueuePass) (histories : List (List (Entry Op Reply))) (partitions : List PlainPartition) (p : QueuePass) (history : List (Entry Op Reply)) (partition : PlainPartition) → AreTraces ps histories partitions
+    → IsTraceOf p history partition → AreTraces (ps ++ p ∷ []) (histories ++ history ∷ []) (partitions ++ partition ∷ [])
+traced-more [] [] [] p history partition traces trace = (trace, tt)
+traced-more [] [] (t ∷ ts) p history partition traces trace = absurd traces
+traced-more [] (h ∷ hs) ts p history partition traces trace = absurd traces
+traced-more (x ∷ ps) [] ts p history partition traces trace = absurd traces
+traced-more (x ∷ ps) (h ∷ hs) [] p history partition traces trace = absurd traces
+traced-more (x ∷ ps) (h ∷ hs) (t ∷ ts) p history partition traces trace = (traces.0, traced-more ps hs ts p history partition traces.1 trace)
+
+module _ {H : Type 0} (entries : H → List (Entry Op Reply)) where
+  -- the same over histories as they are stored
+  pub stored-more : (ps : List QueuePass) (hs more : List H) (ts rest : List PlainPartition) (p : QueuePass) (h : H) (t : PlainPartition) → more ≡ hs ++ h ∷ [] → rest ≡ ts ++ t ∷ []
+      → AreTraces ps (map entries hs) ts → IsTraceOf p (entries h) t → AreTraces (ps ++ p ∷ []) (map entries more) rest
+  stored-more ps hs more ts rest p h t put_history put_partition traces trace =
+      let histories : map entries more ≡ map entries hs ++ entries h ∷ [] = ap (λ (es : List H). map entries es) put_history ∙ map-append entries hs (h ∷ []) in
+      subst (λ (es : List (List (Entry Op Reply))). AreTraces (ps ++ p ∷ []) es rest) (sym histories)
+      (subst (λ (es : List PlainPartition). AreTraces (ps ++ p ∷ []) (map entries hs ++ entries h ∷ []) es) (sym put_partition)
+      (traced-more ps (map entries hs) ts p (entries h) t traces trace))
+
+  pub stored-missing : (ps : List QueuePass) (hs : List H) (ts : List PlainPartition) (queue missing : ℕ) (p : QueuePass) → queue ≡ length hs → AreTraces ps (map entries hs) ts → IsMissing p missing
+      → IsMissingFirst queue missing (ps ++ p ∷ [])
+  stored-missing ps hs ts queue missing p here traces lost =
+      subst (λ n. IsMissingFirst n missing (ps ++ p ∷ [])) (length-map hs entries ∙ sym here) (missing-here ps (map entries hs) ts missing p traces lost)
+
+module _ {H : Type 0} (entries : H → List (Entry Op Reply)) where
+  -- what came of closing one more queue
+  abbrev pub Extends : Closing H → End H → Result (Closing H) AllocError → Type 0
+  Extends so_far last result =
+      IfOk result (λ new. (passes : List QueuePass) (pass : QueuePass) → IsClosing entries passes so_far → IsEnd entries pass last → IsClosing entries (passes ++ pass ∷ []) new)
+
+  pub extends-in-use : (so_far : Closing H) (last : End H) (result : Result (Closing H) AllocError) → result ≡ Ok closing.InUse → Extends so_far last result
+  extends-in-use so_far last result is =
+      subst (λ (r : Result (Closing H) AllocError). Extends so_far last r) (sym is) (λ passes pass before ends. tt)
+
+  -- a turnstile that is not in use had its end
+  has-end : (p : QueuePass) (last : End H) → (last ≡ end.InUse → ⊥) → IsEnd entries p last → HasEnd p
+  has-end p (end.Traced history partition) free ends = inl (record { history = entries history; partition = partition; trace = ends })
+  has-end p (end.NotAll missing) free ends = inr (missing, ends)
+  has-end p end.InUse free ends = absurd (free refl)
+
+  pub extends-missing : (so_far : Closing H) (last : End H) (result : Result (Closing H) AllocError) (queue missing : ℕ) → so_far ≡ closing.NotAll queue missing → (last ≡ end.InUse → ⊥) → result ≡ Ok (closing.NotAll queue missing) → Extends so_far last result
+  extends-missing so_far last result queue missing was free is =
+      subst (λ (r : Result (Closing H) AllocError). Extends so_far last r) (sym is)
+      (λ passes pass before ends.
+      missing-more queue missing passes pass (subst (λ (e : Closing H). IsClosing entries passes e) was before) (has-end pass last free ends))

@@ -1,0 +1,20 @@
+use Rattle.std.proofs.Common.{◌∙◌, List, ap, subst, sym}
+use Rattle.stream_ident.specs.declared.event.Event.{Event}
+use Rattle.step_core.specs.Replied.{HasEvents}
+use Rattle.silo_loops.specs.Lines.{QueuePass}
+use Rattle.silo_threads.specs.Calls.{turnstiles}
+use Rattle.silo_threads.proofs.Showing.{has-events}
+use Rattle.silo_threads.proofs.Splitting.{turnstiles-called}
+use Rattle.silo_threads.proofs.callers.caller.Caller.call.Goals as goal
+
+pub returns-in_err-answer-clause-turnstiles : goal.returns-in_err-answer-clause-turnstiles
+returns-in_err-answer-clause-turnstiles g c =
+    turnstiles-called _ _ _ _ _ c.ask_at.ensures.calls ∙ ap (λ (ps : List QueuePass). turnstiles ps) c.self.view_is
+
+pub reply-requires : goal.reply-requires
+reply-requires g c =
+    subst (λ (events : List Event). HasEvents c.in_ok-answer.answer events) (sym c.deref-2.ensures.value) (has-events c.self.inside.events c.ask_at.new.events c.in_ok-answer.answer c.in_ok-answer.ensures.shows c.self.invariant)
+
+pub returns-clause-turnstiles : goal.returns-clause-turnstiles
+returns-clause-turnstiles g c =
+    turnstiles-called _ _ _ _ _ c.ask_at.ensures.calls ∙ ap (λ (ps : List QueuePass). turnstiles ps) c.self.view_is

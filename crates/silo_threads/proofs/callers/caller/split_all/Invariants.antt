@@ -1,0 +1,13 @@
+use Rattle.std.proofs.Common.{◌≡◌, length, vec_capacity}
+use Rattle.turnstile.specs.Calls.{IsSplitOff}
+use Rattle.silo_loops.specs.Fronts.{AllZipFront}
+use Rattle.silo_threads.proofs.callers.caller.split_all.Given as goal
+
+abbrev pub invariant-loop-at : goal.invariant-loop-at
+invariant-loop-at g l =
+    record {
+      same : l.queues.items ≡ l.fn.queues.items;
+      made : length l.made.items ≡ l.at;
+      off : AllZipFront IsSplitOff l.fn.queues.items l.made.items;
+      room : vec_capacity l.made ≡ length l.fn.queues.items;
+    }

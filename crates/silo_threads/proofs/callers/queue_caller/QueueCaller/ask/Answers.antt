@@ -1,0 +1,10 @@
+use Rattle.std.proofs.Common.{subst}
+use Rattle.silo_loops.specs.Lines.{QueuePass}
+use Rattle.silo_threads.specs.Calls.{QueueCalls}
+use Rattle.silo_threads.proofs.callers.queue_caller.QueueCaller.ask.Goals as goal
+
+pub returns-clause-calls : goal.returns-clause-calls
+returns-clause-calls g c =
+    let calls = c.call_by-answer.ensures.calls in
+    subst (λ (p : QueuePass). QueueCalls p c.args.op c.call_by-answer.result c.call_by-answer.new.handle) c.self.view_is
+    (record { calls = calls; headline = c.call_by-answer.ensures.headline; stands = c.call_by-answer.ensures.stands calls.origin calls.of })

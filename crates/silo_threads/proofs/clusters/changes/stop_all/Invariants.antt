@@ -1,0 +1,15 @@
+use Rattle.std.specs.List.{AllZip}
+use Rattle.turnstile.specs.Recorded.{recorded}
+use Rattle.silo_loops.specs.Silos.{HasRun}
+use Rattle.silo_threads.specs.Operators.{HasOnlyGoneOn}
+use Rattle.silo_threads.specs.Clusters.{HaveEnded, RunsOn}
+use Rattle.silo_threads.proofs.clusters.changes.stop_all.Given as goal
+
+abbrev pub invariant-loop-silo : goal.invariant-loop-silo
+invariant-loop-silo g l =
+    record {
+      only : HasOnlyGoneOn l.fn.operator l.operator;
+      runs : RunsOn l.operator l.silo-iterator.rest.items;
+      ran : AllZip HasRun l.yielded (recorded l.back);
+      ends : HaveEnded l.fn.ends (recorded l.back) l.operator.lines l.operator.directory l.ends;
+    }

@@ -1,0 +1,30 @@
+use Rattle.std.proofs.Common.{Ok, refl, subst, true}
+use Rattle.silo_loops.specs.Silos.{IsFresh}
+use Rattle.silo_threads.specs.Clusters.{AnswersUp, ClusterView}
+use Rattle.silo_threads.specs.declared.clusters.cluster.SiloUp.TheVariants as up
+use Rattle.silo_threads.proofs.Standing.{cluster-came, halted-up, not-fixed, up-done}
+use Rattle.silo_threads.proofs.clusters.cluster.Cluster.silo_up.Goals as goal
+
+pub invariant_of-self : goal.invariant_of-self
+invariant_of-self g c =
+    let v : ClusterView = record { operator = c.self.inside.operator; silos = c.self.inside.silos.items; ends = c.self.inside.ends; is_parked = c.self.inside.parked; is_halted = c.self.inside.halted; rounds = c.self.inside.rounds; looks = c.self.inside.looks } in
+    let started = c.in-Ok.ensures.started in
+    let fresh : IsFresh c.self.inside.rounds c.args.silo started.0 = started.2 in
+    cluster-came v v.ends c.bring_up.new.operator c.bring_up.new.silos.items c.args.silo started.0 c.if-self.false c.if-self-2.false c.self.invariant started.1 fresh.0 c.bring_up.ensures.at c.bring_up.ensures.fresh c.in-Ok.ensures.live
+
+pub returns-in-Ok : goal.returns-in-Ok
+returns-in-Ok g c =
+    let v : ClusterView = record { operator = c.self.inside.operator; silos = c.self.inside.silos.items; ends = c.self.inside.ends; is_parked = c.self.inside.parked; is_halted = c.self.inside.halted; rounds = c.self.inside.rounds; looks = c.self.inside.looks } in
+    let w : ClusterView = record { operator = c.bring_up.new.operator; silos = c.bring_up.new.silos.items; ends = c.self.inside.ends; is_parked = c.self.inside.parked; is_halted = c.self.inside.halted; rounds = c.self.inside.rounds; looks = c.self.inside.looks } in
+    let started = c.in-Ok.ensures.started in
+    let fresh : IsFresh c.self.inside.rounds c.args.silo started.0 = started.2 in
+    subst (λ (u : ClusterView). AnswersUp u c.args.silo (Ok up.Up) w) c.self.view_is
+    (up-done v w c.args.silo started.0 (not-fixed v c.if-self.false c.if-self-2.false) c.in-None.ensures c.bring_up.ensures.on c.in-Ok.ensures.seen c.in-Ok.ensures.directory c.in-Ok.ensures.live started.1 fresh started.3 c.in-Ok.ensures.spread c.in-Ok.ensures.stayed refl (refl, refl, refl) c.if-self-2.false)
+
+pub returns-in-Err : goal.returns-in-Err
+returns-in-Err g c =
+    let v : ClusterView = record { operator = c.self.inside.operator; silos = c.self.inside.silos.items; ends = c.self.inside.ends; is_parked = c.self.inside.parked; is_halted = c.self.inside.halted; rounds = c.self.inside.rounds; looks = c.self.inside.looks } in
+    let w : ClusterView = record { operator = c.bring_up.new.operator; silos = c.bring_up.new.silos.items; ends = c.self.inside.ends; is_parked = c.self.inside.parked; is_halted = true; rounds = c.self.inside.rounds; looks = c.self.inside.looks } in
+    subst (λ (u : ClusterView). AnswersUp u c.args.silo c.up_by.result w) c.self.view_is
+    (halted-up v w c.args.silo c.in-Err.halt c.up_by.result c.up_by.ensures (not-fixed v c.if-self.false c.if-self-2.false) c.in-None.ensures
+    (record { on = c.bring_up.ensures.on; assignment = c.in-Err.ensures.kept; same = (refl, refl, refl); halted = refl }) c.in-Err.ensures.limit refl)

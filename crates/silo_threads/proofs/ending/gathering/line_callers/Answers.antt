@@ -1,0 +1,39 @@
+use Rattle.std.proofs.Common.{◌≡◌, ◌<◌, ◌∷◌, [], ◌++◌, ◌∙◌, List, ap, arith, length, rules, subst, sym}
+use Rattle.std.proofs.lemmas.Grind.{common_steps}
+use Rattle.std.proofs.lemmas.Iterator.Adapters.{YieldsList-from_vec}
+use Rattle.std.proofs.lemmas.Iterator.Consumers.{YieldsList-end, YieldsList-turn}
+use Rattle.std.proofs.lemmas.List.{length-map, map-append, map-id}
+use Rattle.std.specs.List.{AllByRecursion}
+use Rattle.stream_ident.proofs.EachOf.{All-push}
+use Rattle.silo_loops.specs.Lines.{LineView, NeverProduces, QueuePass}
+use Rattle.silo_threads.specs.Gathering.{passes_of}
+use Rattle.silo_threads.proofs.ending.gathering.line_callers.Goals as goal
+
+pub push_reserved-requires : goal.push_reserved-requires
+push_reserved-requires g c =
+    let gives = c.into_iter-line-iterator.ensures.into_iter_gives in
+    let turn = YieldsList-turn (YieldsList-from_vec {s = c.into_iter-line-iterator.result} c.args.lines.items gives.0 (first_of (search rules, grind (arith, common_steps)))) c.loop-line.yielded c.loop-line.line-iterator c.loop-line.yielded_by c.next.result c.next.new.self c.in-Some.line c.in-Some.is c.next.ensures.steps in
+    let more : length c.loop-line.yielded < length c.args.lines.items = turn.0 in
+    let long : length c.loop-line.queues.items ≡ length c.loop-line.yielded = ap (λ (es : List QueuePass). length es) c.loop-line.invariant.passes ∙ length-map c.loop-line.yielded (λ (l : LineView). l.pass) in
+    let room = c.loop-line.invariant.room in
+    first_of (omega (arith, more, long, room), grind (arith, common_steps))
+
+pub loop-line-preserved : goal.loop-line-preserved
+loop-line-preserved g c =
+    let push = c.push_reserved.ensures in
+    record {
+      passes =
+          push.items ∙ (λ i. c.loop-line.invariant.passes i ++ c.line_caller.ensures.pass i ∷ [])
+          ∙ sym (map-append (λ (l : LineView). l.pass) c.loop-line.yielded (c.in-Some.line ∷ []));
+      never =
+          subst (λ (es : List QueuePass). AllByRecursion NeverProduces es) (sym push.items)
+          (All-push NeverProduces c.loop-line.queues.items c.line_caller.result c.loop-line.invariant.never (subst (λ (p : QueuePass). NeverProduces p) (sym c.line_caller.ensures.pass) c.line_caller.ensures.never));
+      room = push.capacity ∙ c.loop-line.invariant.room;
+    }
+
+pub returns-clause-passes : goal.returns-clause-passes
+returns-clause-passes g c =
+    let gives = c.into_iter-line-iterator.ensures.into_iter_gives in
+    let ending = YieldsList-end (YieldsList-from_vec {s = c.into_iter-line-iterator.result} c.args.lines.items gives.0 (first_of (search rules, grind (arith, common_steps)))) c.loop-line.yielded c.loop-line.line-iterator c.loop-line.yielded_by c.next.result c.next.new.self c.in-None.is c.next.ensures.steps in
+    let whole = sym (map-id c.loop-line.yielded) ∙ ending.0 in
+    c.loop-line.invariant.passes ∙ ap (λ (ls : List LineView). passes_of ls) whole

@@ -1,0 +1,18 @@
+use Rattle.std.proofs.Common.{refl}
+use Rattle.shared_partition.specs.Partitions.{after, replied}
+use Rattle.silo_threads.specs.Changes.{IsDeactivation}
+use Rattle.silo_threads.proofs.Changing.{nowhere-called}
+use Rattle.silo_threads.proofs.Making.{goes-called, made-called}
+use Rattle.silo_threads.proofs.operators.leaving.deactivate.Goals as goal
+
+pub returns-clause-done : goal.returns-clause-done
+returns-clause-done g c = made-called replied after (IsDeactivation c.args.grain.now) c.args.line.now.pass _ c.in_ok-call.field-0 c.call.new.self.pass c.in_ok-call.ensures.call refl
+
+pub returns-clause-nowhere : goal.returns-clause-nowhere
+returns-clause-nowhere g c = nowhere-called c.args.line.now _ c.in_ok-call.field-0 c.call.new.self c.in_ok-call.ensures refl
+
+pub returns-in_err-call-clause-on : goal.returns-in_err-call-clause-on
+returns-in_err-call-clause-on g c = goes-called replied after c.args.line.now.pass _ c.call.result c.call.new.self.pass c.call.ensures.call
+
+pub returns-clause-on : goal.returns-clause-on
+returns-clause-on g c = goes-called replied after c.args.line.now.pass _ c.call.result c.call.new.self.pass c.call.ensures.call

@@ -1,0 +1,74 @@
+use Rattle.std.proofs.Common.{Ok, inr, subst}
+use Rattle.silo_loops.proofs.Going.{goes-refl, goes-trans, on-refl, on-trans}
+use Rattle.silo_threads.specs.declared.operators.halt.Halt.{Halt}
+use Rattle.silo_threads.specs.Changes.{HoldsGrains, Releases}
+use Rattle.silo_threads.specs.declared.operators.leaving.Release.{Release}
+use Rattle.silo_threads.proofs.Making.{passed-on}
+use Rattle.silo_threads.proofs.Changing.{all-gone, holds-refused, none-gone, none-none, none-released, nowhere-none, nowhere-trans, one-gone, released-on}
+use Rattle.silo_threads.proofs.operators.leaving.evict.Goals as goal
+
+pub loop-init : goal.loop-init
+loop-init g c = record { on = goes-refl c.args.lines.now.items; directory = on-refl c.args.directory.now; nowhere = nowhere-none c.args.lines.now.items; deactivated = none-gone c.args.silo c.args.directory.now c.args.lines.now.items; none = none-none c.args.silo c.args.directory.now }
+
+pub loop-preserved : goal.loop-preserved
+loop-preserved g c =
+    let e = c.loop.directory in
+    let f = c.take_grain.new.directory in
+    let taken = subst (λ (r : Release). Releases c.args.silo e (Ok r) f) c.in-Grain.is c.in_ok-grain.ensures in
+    let on = c.loop.invariant.on in
+    let lines = c.deactivate_everywhere.ensures.on in
+    record {
+      on = goes-trans c.args.lines.now.items c.loop.lines.items c.deactivate_everywhere.new.lines.items on lines;
+      directory = on-trans c.args.directory.now e f c.loop.invariant.directory (released-on c.args.silo e c.take_grain.result f c.take_grain.ensures);
+      nowhere = nowhere-trans c.args.lines.now.items c.loop.lines.items c.deactivate_everywhere.new.lines.items on lines c.loop.invariant.nowhere c.in_ok-deactivate_everywhere-in-Grain.ensures.nowhere;
+      deactivated =
+          one-gone c.args.silo c.args.directory.now e f c.args.lines.now.items c.loop.lines.items c.deactivate_everywhere.new.lines.items c.in-Grain.grain c.loop.invariant.directory taken on lines
+          c.in_ok-deactivate_everywhere-in-Grain.ensures.done c.loop.invariant.deactivated;
+      none = none-released c.args.silo c.args.directory.now e f c.in-Grain.grain c.loop.invariant.directory taken c.loop.invariant.none;
+    }
+
+pub returns-in_err-deactivate_everywhere-in-Grain-clause-on : goal.returns-in_err-deactivate_everywhere-in-Grain-clause-on
+returns-in_err-deactivate_everywhere-in-Grain-clause-on g c = goes-trans c.args.lines.now.items c.loop.lines.items c.deactivate_everywhere.new.lines.items c.loop.invariant.on c.deactivate_everywhere.ensures.on
+
+pub returns-in_err-deactivate_everywhere-in-Grain-clause-directory : goal.returns-in_err-deactivate_everywhere-in-Grain-clause-directory
+returns-in_err-deactivate_everywhere-in-Grain-clause-directory g c =
+    on-trans c.args.directory.now c.loop.directory c.take_grain.new.directory c.loop.invariant.directory (released-on c.args.silo c.loop.directory c.take_grain.result c.take_grain.new.directory c.take_grain.ensures)
+
+pub returns-in-NoneLeft-clause-deactivated : goal.returns-in-NoneLeft-clause-deactivated
+returns-in-NoneLeft-clause-deactivated g c =
+    let e = c.loop.directory in
+    let f = c.take_grain.new.directory in
+    let taken = subst (λ (r : Release). Releases c.args.silo e (Ok r) f) c.in-NoneLeft.is c.in_ok-grain.ensures in
+    let gone = all-gone c.args.silo c.args.directory.now e f c.args.lines.now.items c.loop.lines.items c.loop.invariant.directory taken c.loop.invariant.deactivated in
+    gone.0
+
+pub returns-in-NoneLeft-clause-none_left : goal.returns-in-NoneLeft-clause-none_left
+returns-in-NoneLeft-clause-none_left g c =
+    let e = c.loop.directory in
+    let f = c.take_grain.new.directory in
+    let taken = subst (λ (r : Release). Releases c.args.silo e (Ok r) f) c.in-NoneLeft.is c.in_ok-grain.ensures in
+    let gone = all-gone c.args.silo c.args.directory.now e f c.args.lines.now.items c.loop.lines.items c.loop.invariant.directory taken c.loop.invariant.deactivated in
+    gone.1
+
+pub returns-in_err-grain-clause-holds : goal.returns-in_err-grain-clause-holds
+returns-in_err-grain-clause-holds g c =
+    let d = c.args.directory.now in
+    let f = c.take_grain.new.directory in
+    passed-on (λ (why : Halt). HoldsGrains why c.args.silo d f c.loop.lines.items) c.from_residual.result c.in_err-grain.field-0.0 c.from_residual.ensures.1
+    (holds-refused c.in_err-grain.field-0.0 c.args.silo d c.loop.directory f c.loop.lines.items c.loop.invariant.directory c.in_err-grain.ensures c.loop.invariant.none)
+
+pub returns-in_err-deactivate_everywhere-in-Grain-clause-holds : goal.returns-in_err-deactivate_everywhere-in-Grain-clause-holds
+returns-in_err-deactivate_everywhere-in-Grain-clause-holds g c =
+    let d = c.args.directory.now in
+    let e = c.loop.directory in
+    let f = c.take_grain.new.directory in
+    let lines = c.deactivate_everywhere.new.lines.items in
+    let taken = subst (λ (r : Release). Releases c.args.silo e (Ok r) f) c.in-Grain.is c.in_ok-grain.ensures in
+    passed-on (λ (why : Halt). HoldsGrains why c.args.silo d f lines) c.from_residual-in_err-deactivate_everywhere-in-Grain.result c.in_err-deactivate_everywhere-in-Grain.field-0.0 c.from_residual-in_err-deactivate_everywhere-in-Grain.ensures.1
+    (none-released c.args.silo d e f c.in-Grain.grain c.loop.invariant.directory taken c.loop.invariant.none, inr c.in_err-deactivate_everywhere-in-Grain.ensures.found)
+
+pub returns-in_err-grain-clause-directory : goal.returns-in_err-grain-clause-directory
+returns-in_err-grain-clause-directory g c = on-trans c.args.directory.now c.loop.directory c.take_grain.new.directory c.loop.invariant.directory (released-on c.args.silo c.loop.directory c.take_grain.result c.take_grain.new.directory c.take_grain.ensures)
+
+pub returns-in-NoneLeft-clause-directory : goal.returns-in-NoneLeft-clause-directory
+returns-in-NoneLeft-clause-directory g c = on-trans c.args.directory.now c.loop.directory c.take_grain.new.directory c.loop.invariant.directory (released-on c.args.silo c.loop.directory c.take_grain.result c.take_grain.new.directory c.take_grain.ensures)

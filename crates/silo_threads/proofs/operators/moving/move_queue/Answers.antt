@@ -1,0 +1,53 @@
+use Rattle.std.proofs.Common.{◌≢◌, ◌∙◌, Ok, refl, subst, sym}
+use Rattle.stream_model.specs.declared.op.Op.TheVariants as op
+use Rattle.stream_model.specs.Replies.{Reply}
+use Rattle.shared_partition.specs.Partitions.{after, replied}
+use Rattle.silo_loops.specs.Lines.{CallsOn}
+use Rattle.silo_threads.specs.declared.operators.halt.Halt.{Halt}
+use Rattle.silo_threads.specs.Changes.{IsUnmoved, halt_of}
+use Rattle.silo_threads.proofs.Changing.{at-other, at-same, unmoved-refused, unmoved-spent}
+use Rattle.silo_threads.proofs.Making.{called-reply, goes-called, passed-on}
+use Rattle.silo_threads.proofs.Replies.{MovesOrSpent, move-replies, moved-reply, spent-reply}
+use Rattle.silo_threads.proofs.operators.moving.move_queue.Goals as goal
+
+pub returns-then-from-to-clause-moved : goal.returns-then-from-to-clause-moved
+returns-then-from-to-clause-moved g c = at-same c.args.from c.args.to c.args.line.now (sym c.if-from-to.true)
+
+pub returns-in-Some-clause-moved : goal.returns-in-Some-clause-moved
+returns-in-Some-clause-moved g c =
+    let moved = moved-reply c.in_ok-answer.answer c.in-Some.generation (sym c.moved_of.ensures ∙ c.in-Some.is) in
+    at-other c.args.from c.args.to c.args.line.now c.in_ok-answer.answer c.call.new.self (λ same. c.if-from-to.false (sym same)) c.in_ok-answer.ensures (c.in-Some.generation, moved.0, moved.1)
+
+pub returns-in_err-answer-clause-unmoved : goal.returns-in_err-answer-clause-unmoved
+returns-in_err-answer-clause-unmoved g c =
+    let e = c.in_err-answer.field-0.0 in
+    passed-on (λ (why : Halt). c.args.to ≢ c.args.from × IsUnmoved why c.args.to c.args.line.now c.call.new.self) c.from_residual.result (halt_of e) c.from_residual.ensures.1
+    ((λ same. c.if-from-to.false (sym same)), unmoved-refused c.args.line.now c.args.to e c.call.new.self c.in_err-answer.ensures)
+
+pub returns-clause-unmoved : goal.returns-clause-unmoved
+returns-clause-unmoved g c =
+    let calls = c.in_ok-answer.ensures in
+    let gets = called-reply replied after c.args.line.now.pass (op.Move c.args.to) c.in_ok-answer.answer c.call.new.self.pass calls.call in
+    let spent = spent-reply c.in_ok-answer.answer (subst MovesOrSpent (sym gets.1) (move-replies gets.0 c.args.to)) (sym c.moved_of.ensures ∙ c.in-None.is) in
+    ((λ same. c.if-from-to.false (sym same)), unmoved-spent c.args.line.now c.args.to c.call.new.self (subst (λ (r : Reply). CallsOn c.args.line.now (op.Move c.args.to) (Ok r) c.call.new.self) spent calls))
+
+pub returns-in_err-answer-clause-on : goal.returns-in_err-answer-clause-on
+returns-in_err-answer-clause-on g c = goes-called replied after c.args.line.now.pass _ c.call.result c.call.new.self.pass c.call.ensures.call
+
+pub returns-in-Some-clause-on : goal.returns-in-Some-clause-on
+returns-in-Some-clause-on g c = goes-called replied after c.args.line.now.pass _ c.call.result c.call.new.self.pass c.call.ensures.call
+
+pub returns-clause-on : goal.returns-clause-on
+returns-clause-on g c = goes-called replied after c.args.line.now.pass _ c.call.result c.call.new.self.pass c.call.ensures.call
+
+pub returns-then-from-to-clause-seen : goal.returns-then-from-to-clause-seen
+returns-then-from-to-clause-seen g c = (refl, refl)
+
+pub returns-in_err-answer-clause-seen : goal.returns-in_err-answer-clause-seen
+returns-in_err-answer-clause-seen g c = (c.call.ensures.mark, c.call.ensures.call.only)
+
+pub returns-in-Some-clause-seen : goal.returns-in-Some-clause-seen
+returns-in-Some-clause-seen g c = (c.call.ensures.mark, c.call.ensures.call.only)
+
+pub returns-clause-seen : goal.returns-clause-seen
+returns-clause-seen g c = (c.call.ensures.mark, c.call.ensures.call.only)

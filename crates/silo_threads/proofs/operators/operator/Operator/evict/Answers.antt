@@ -1,0 +1,26 @@
+use Rattle.std.proofs.Common.{◌∙◌, IfErr, OnOk, subst, sym}
+use Rattle.silo_loops.proofs.Going.{goes-length, goes-some}
+use Rattle.silo_threads.specs.declared.operators.halt.Halt.{Halt}
+use Rattle.silo_threads.specs.Changes.{AreDeactivated, HaveMovedNowhere, HoldsGrains}
+use Rattle.silo_threads.specs.Operators.{OperatorView}
+use Rattle.silo_threads.proofs.operators.operator.Operator.evict.Goals as goal
+
+pub returns-clause-deactivated : goal.returns-clause-deactivated
+returns-clause-deactivated g c =
+    subst (λ (v : OperatorView). OnOk c.evict.result (AreDeactivated c.args.silo v.directory c.evict.new.directory v.lines c.evict.new.lines.items)) c.self.view_is c.evict.ensures.deactivated
+
+pub invariant_of-self : goal.invariant_of-self
+invariant_of-self g c =
+    record {
+      some = goes-some c.self.inside.lines.items c.evict.new.lines.items c.evict.ensures.on c.self.invariant.some;
+      assigned = c.self.invariant.assigned ∙ sym (goes-length c.self.inside.lines.items c.evict.new.lines.items c.evict.ensures.on);
+      once = c.self.invariant.once;
+    }
+
+pub returns-clause-holds : goal.returns-clause-holds
+returns-clause-holds g c =
+    subst (λ (v : OperatorView). IfErr c.evict.result (λ (why : Halt). HoldsGrains why c.args.silo v.directory c.evict.new.directory c.evict.new.lines.items)) c.self.view_is c.evict.ensures.holds
+
+pub returns-clause-nowhere : goal.returns-clause-nowhere
+returns-clause-nowhere g c =
+    subst (λ (v : OperatorView). OnOk c.evict.result (HaveMovedNowhere v.lines c.evict.new.lines.items)) c.self.view_is c.evict.ensures.nowhere

@@ -1,0 +1,12 @@
+-- How the loops of a run have ended.
+use Rattle.std.specs.Prelude.{true, Option, Some, None}
+use Rattle.silo_loops.specs.declared.advance.Over.{Over}
+use Rattle.silo_loops.specs.declared.advance.Over.TheVariants.{Rounds, Limit, Memory}
+use Rattle.silo_threads.specs.declared.ending.ends.LoopEnds.{LoopEnds}
+
+-- the same with one more loop, which ended so, or was told to stop
+abbrev pub ends_with : LoopEnds → Option Over → LoopEnds
+ends_with ends None = ends
+ends_with ends (Some Rounds) = record ends { rounds = true }
+ends_with ends (Some Limit) = record ends { limit = true }
+ends_with ends (Some Memory) = record ends { memory = true }

@@ -1,0 +1,10 @@
+pub mod Asking
+pub mod Calls
+pub mod Changes
+pub mod Closing
+pub mod Clusters
+pub mod Draining
+pub mod Ends
+pub mod Finishing
+pub mod Gathering
+pub mod Operators

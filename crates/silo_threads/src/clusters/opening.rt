@@ -1,0 +1,164 @@
+//! What a new cluster is made of: its turnstiles, its own passes, and its first caller.
+ghost use Rattle.std.specs.Prelude.{◌≡◌, [], length, map, IfOk, OnOk};
+ghost use Rattle.std.specs.List.{AllByRecursion, range_with_len};
+ghost use Rattle.turnstile.specs.Calls.{first_pass};
+ghost use Rattle.silo_threads.specs.Calls.{IsUnused, turnstiles};
+ghost use Rattle.silo_loops.specs.Lines.{LineView, places};
+ghost use Rattle.silo_threads.specs.Clusters.{AreAtQueues, IsAtDirectory, IsAtQueue, IsConfig, IsOpened, opening, opening_directory};
+
+use crate::callers::{Caller, QueueCaller};
+use crate::clusters::config::Config;
+use crate::operators::Operator;
+use shared_partition::{DirectoryHistory, Gate, QueueHistory, SharedDirectory, SharedPartition};
+use silo_loops::{DirectoryLine, Doorbell, Line, TurnRoom, split_lines};
+use std::alloc::{AllocError, Global};
+use std::sync::{Arc, Wait};
+use stream_ident::MOST_PERMITS;
+use turnstile::{PassOf, Turnstile};
+
+// A turnstile over an empty partition, and the first pass of it.
+fn open_turnstile<G: Gate, H: QueueHistory>(
+    alloc: Global,
+    gate: Arc<G, Global>,
+    config: &Config,
+    queue: usize,
+) -> Result<
+    (
+        Turnstile<SharedPartition<G, H>>,
+        PassOf<SharedPartition<G, H>>,
+    ),
+    AllocError,
+>
+    requires { IsConfig config.now }
+    ensures start { IfOk result (λ r. r.0.start ≡ opening config.now) }
+    ensures pass { IfOk result (λ r. r.1 ≡ first_pass r.0) }
+{
+    let shared = SharedPartition::new(alloc, gate, queue, config.blocks, config.limits)?;
+    Turnstile::new(alloc, shared, config.history)
+}
+
+// A line with the first pass of the partition of a queue.
+fn open_queue<G: Gate, H: QueueHistory>(
+    alloc: Global,
+    gate: &Arc<G, Global>,
+    config: &Config,
+    queue: usize,
+) -> Result<Line<G, H>, AllocError>
+    requires { IsConfig config.now }
+    ensures { IfOk result (λ line. IsAtQueue config.now line.pass) }
+{
+    let gate = Arc::try_clone(gate)?;
+    let (turnstile, pass) = open_turnstile(alloc, gate, config, queue)?;
+    let shared = Arc::new(alloc, turnstile)?;
+    Ok(Line::new(queue, shared, pass))
+}
+
+// The partition of each queue behind its turnstile.
+fn open_queues<G: Gate, H: QueueHistory>(
+    alloc: Global,
+    gate: &Arc<G, Global>,
+    config: &Config,
+) -> Result<Vec<Line<G, H>>, AllocError>
+    requires { IsConfig config.now }
+    ensures many { IfOk result (λ lines. length lines.items ≡ config.now.queues) }
+    ensures at { IfOk result (λ lines. AreAtQueues config.now lines.items) }
+{
+    let mut lines = Vec::with_capacity(alloc, config.queues)?;
+    for queue in 0..config.queues {
+        lines.push_reserved(open_queue(alloc, gate, config, queue)?);
+    }
+    Ok(lines)
+}
+
+// A turnstile over a directory without grains, and the first pass of it.
+fn open_places<D: DirectoryHistory>(
+    alloc: Global,
+    config: &Config,
+) -> Result<(Turnstile<SharedDirectory<D>>, PassOf<SharedDirectory<D>>), AllocError>
+    ensures start { IfOk result (λ r. r.0.start ≡ opening_directory config.now) }
+    ensures pass { IfOk result (λ r. r.1 ≡ first_pass r.0) }
+{
+    let shared = SharedDirectory::new(alloc, MOST_PERMITS);
+    let opened = Turnstile::new(alloc, shared, config.history)?;
+    Ok(opened)
+}
+
+// A line with the first pass of the directory.
+fn open_directory<D: DirectoryHistory>(
+    alloc: Global,
+    config: &Config,
+) -> Result<DirectoryLine<D>, AllocError>
+    ensures { IfOk result (λ line. IsAtDirectory config.now line) }
+{
+    let (turnstile, pass) = open_places(alloc, config)?;
+    let shared = Arc::new(alloc, turnstile)?;
+    Ok(DirectoryLine::new(shared, pass))
+}
+
+// A caller with a pass that is split off at each queue.
+fn first_caller<G: Gate, H: QueueHistory>(
+    alloc: Global,
+    doorbell: Arc<Doorbell, Global>,
+    lines: &mut Vec<Line<G, H>>,
+) -> Result<Caller<G, H>, AllocError>
+    ensures same { OnOk result (lines.new.items ≡ lines.old.items) }
+    ensures beside { IfOk result (λ caller. turnstiles caller ≡ places lines.old.items) }
+    ensures unused { IfOk result (λ caller. AllByRecursion IsUnused caller) }
+{
+    let own = split_lines(alloc, lines)?;
+    let queues = queue_callers(alloc, own)?;
+    let room = TurnRoom::new(alloc)?;
+    Ok(Caller::new(doorbell, queues, room))
+}
+
+// A caller of each queue with the pass of its line.
+fn queue_callers<G: Gate, H: QueueHistory>(
+    alloc: Global,
+    lines: Vec<Line<G, H>>,
+) -> Result<Vec<QueueCaller<G, H>>, AllocError>
+    ensures { IfOk result (λ queues. queues.items ≡ map (λ (l : LineView). l.pass) lines.items) }
+{
+    let mut queues = Vec::with_capacity(alloc, lines.len())?;
+    for line in lines {
+        let (turnstile, pass) = line.into_parts();
+        queues.push_reserved(QueueCaller::new(turnstile, pass));
+    }
+    Ok(queues)
+}
+
+// So many silos live from now on, numbered from 0 on.
+fn enlist_first<G: Gate, H: QueueHistory, D: DirectoryHistory>(
+    operator: &mut Operator<G, H, D>,
+    silos: u8,
+) -> Result<(), AllocError>
+    requires { operator.old.live ≡ [] }
+    ensures { OnOk result (operator.new ≡ record operator.old { live = range_with_len 0 silos }) }
+{
+    for silo in 0..silos {
+        operator.enlist(silo)?;
+    }
+    Ok(())
+}
+
+// The operator and the first caller of a cluster whose loops aren't made yet. The queues are spread over its first
+// silos: these moves are the first calls, so that no limit refuses one.
+pub(crate) fn open<G: Gate, H: QueueHistory, D: DirectoryHistory, R: Wait>(
+    rt: &R,
+    alloc: Global,
+    config: &Config,
+    gate: Arc<G, Global>,
+) -> Result<(Operator<G, H, D>, Caller<G, H>), AllocError>
+    requires { IsConfig config.now }
+    ensures { IfOk result (λ made. IsOpened config.now made.0 made.1) }
+{
+    let doorbell = Arc::new(alloc, Doorbell::new(alloc, config.queues, 0)?)?;
+    let mut lines = open_queues(alloc, &gate, config)?;
+    let caller = first_caller(alloc, Arc::try_clone(&doorbell)?, &mut lines)?;
+    let directory = open_directory(alloc, config)?;
+    let mut operator = Operator::new(alloc, gate, doorbell, lines, directory)?;
+    enlist_first(&mut operator, config.silos)?;
+    match operator.spread(rt, alloc) {
+        Ok(()) => Ok((operator, caller)),
+        Err(_) => Err(AllocError),
+    }
+}

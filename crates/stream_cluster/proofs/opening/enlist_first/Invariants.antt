@@ -1,6 +1,0 @@
-use Rattle.std.proofs.Common.{◌≡◌}
-use Rattle.std.specs.List.{range_with_len}
-use Rattle.stream_cluster.proofs.opening.enlist_first.Given as goal
-
-abbrev pub invariant-loop-silo : goal.invariant-loop-silo
-invariant-loop-silo g l = l.operator ≡ record l.fn.operator { live = range_with_len 0 l.silo }

@@ -1,0 +1,198 @@
+-- A field that is read is written so, and what is written so is read.
+use Rattle.std.specs.Prelude.{◌≡◌, ℕ, ◌^◌, ◌<◌, Bool, true, false, not, List, [], ◌∷◌, ◌++◌, Option, Some, None, Result, Ok, Err, nat_lt, ◌==◌, refl}
+use Rattle.std.specs.Fmt.{decimal}
+use Rattle.std.specs.List.{list_all}
+use Rattle.std.proofs.Common.{ap, ◌∙◌, subst, arith}
+use Rattle.std.proofs.lemmas.Bool.{and_parts, and_from, ltb-true, lt-ltb}
+use Rattle.std.proofs.lemmas.Bool.Decides.{nat_tests}
+use Rattle.stream_ident.proofs.NameLemmas.{IsName-from_right, IsPayload-from_right, wrong_in_name-none, wrong_in_payload-none}
+use Rattle.stream_ident.proofs.NumberLemmas.{number_of-decimal, decimal-number_of}
+use Rattle.stream_ident.proofs.SplitLemmas.{split_once-front, split_once-joined}
+use Rattle.stream_ident.proofs.TokenLemmas.{token_of-token_text, token_text-token_of}
+use Rattle.stream_ident.specs.declared.ident.GrainId.{GrainId}
+use Rattle.stream_ident.specs.declared.ident.StreamId.{StreamId}
+use Rattle.stream_ident.specs.declared.token.Token.{Token}
+use Rattle.stream_ident.specs.Name.{name_or, name_of, payload_or, payload_of, field_or, field_of, stream_of, grain_of, ◌>>=◌}
+use Rattle.stream_ident.specs.Number.{number_of}
+use Rattle.stream_ident.specs.Text.{split_once}
+use Rattle.stream_ident.specs.Token.{token_of, token_text, IsToken}
+use Rattle.stream_ident.specs.Alphabet.{is_name_byte, IsName, IsPayload, wrong_in_name, wrong_in_payload}
+use Rattle.stream_script.specs.declared.parser.command.FaultKind.{FaultKind}
+use Rattle.stream_script.specs.declared.parser.command.FaultKind.TheVariants as kind
+use Rattle.stream_script.specs.Fields.{or_fault, as_fault, guard, number_field, queue_field, stream_field, grain_field, token_field, payload_field, bare_name_field}
+use Rattle.stream_script.specs.Grammar.{IsStream, IsGrain, IsQueue}
+use Rattle.stream_script.specs.Spelling.{stream_text, grain_text}
+
+-- ---- steps that didn't fail
+
+pub bind_ok : {A B E : Type 0} (r : Result A E) (f : A → Result B E) (y : B) → (r >>= f) ≡ Ok y → (x : A) × (r ≡ Ok x) × (f x ≡ Ok y)
+bind_ok (Ok x) f y e = (x, refl, e)
+bind_ok (Err fault) f y e = absurd cc
+
+abbrev done : {A : Type 0} → A → Result A FaultKind
+done x = Ok x
+
+pub ok_is : {A : Type 0} (x y : A) → done x ≡ done y → x ≡ y
+ok_is x y e = cc
+
+pub guard_ok : {A : Type 0} (fault : FaultKind) (b : Bool) (x y : A) → guard fault b x ≡ Ok y → (b ≡ true) × (x ≡ y)
+guard_ok fault true x y e = (refl, ok_is x y e)
+guard_ok fault false x y e = absurd cc
+
+pub or_fault_ok : {A : Type 0} (fault : FaultKind) (o : Option A) (x : A) → or_fault fault o ≡ Ok x → o ≡ Some x
+or_fault_ok fault None x e = absurd cc
+or_fault_ok fault (Some y) x e = ap Some (ok_is y x e)
+
+pub as_fault_ok : {A E : Type 0} (fault : FaultKind) (r : Result A E) (x : A) → as_fault fault r ≡ Ok x → r ≡ Ok x
+as_fault_ok fault (Ok y) x e = ap Ok (ok_is y x e)
+as_fault_ok fault (Err other) x e = absurd cc
+
+-- ---- numbers
+
+pub number_found : (bound : ℕ) (bytes : List ℕ) (n : ℕ) → number_field bound bytes ≡ Ok n → (bytes ≡ decimal n) × (n < bound)
+unfolding number_field
+number_found bound bytes n e =
+    let a = bind_ok (or_fault kind.BadNumber (number_of bytes)) (λ m. guard kind.BadNumber (nat_lt m bound) m) n e in
+    let g = guard_ok kind.BadNumber (nat_lt a.0 bound) a.0 n a.2 in
+    let d = decimal-number_of bytes a.0 (or_fault_ok kind.BadNumber (number_of bytes) a.0 a.1) in
+    (d.0 ∙ ap decimal g.1, omega (arith, ltb-true a.0 bound g.0, g.1))
+
+pub number_again : (bound n : ℕ) → n < bound → n < 2 ^ 64 → number_field bound (decimal n) ≡ Ok n
+unfolding number_field
+number_again bound n below small = rw (number_of-decimal n small, lt-ltb n bound below) refl
+
+pub queue_found : (queues : ℕ) (bytes : List ℕ) (n : ℕ) → queue_field queues bytes ≡ Ok n → (bytes ≡ decimal n) × IsQueue queues n
+unfolding queue_field
+queue_found queues bytes n e =
+    let a = bind_ok (number_field (2 ^ 32) bytes) (λ m. guard kind.NoQueue (nat_lt m queues) m) n e in
+    let g = guard_ok kind.NoQueue (nat_lt a.0 queues) a.0 n a.2 in
+    let d = number_found (2 ^ 32) bytes a.0 a.1 in
+    (d.0 ∙ ap decimal g.1, (omega (arith, ltb-true a.0 queues g.0, g.1), omega (arith, d.1, g.1)))
+
+pub queue_again : (queues n : ℕ) → IsQueue queues n → queue_field queues (decimal n) ≡ Ok n
+unfolding queue_field
+queue_again queues n is = rw (number_again (2 ^ 32) n is.1 (omega (arith, is.1)), lt-ltb n queues is.0) refl
+
+-- ---- names
+
+pub list_all-weaker : (p q : ℕ → Bool) → ((x : ℕ) → p x ≡ true → q x ≡ true) → (xs : List ℕ) → list_all p xs ≡ true → list_all q xs ≡ true
+list_all-weaker p q weaker [] all = refl
+list_all-weaker p q weaker (x ∷ xs) all =
+    let parts = and_parts (p x) (list_all p xs) all in
+    and_from (q x) (list_all q xs) (weaker x parts.0) (list_all-weaker p q weaker xs parts.1)
+
+name_or-ok : (bytes : List ℕ) (wrong : Option ℕ) (found : List ℕ) → name_or bytes wrong ≡ Ok found → (wrong ≡ None) × (bytes ≡ found)
+name_or-ok bytes None found e = (refl, cc)
+name_or-ok bytes (Some at_) found e = absurd cc
+
+field_or-ok : (field : ℕ) (bytes : List ℕ) (wrong : Option ℕ) (found : List ℕ) → field_or field bytes wrong ≡ Ok found → (wrong ≡ None) × (bytes ≡ found)
+field_or-ok field bytes None found e = (refl, cc)
+field_or-ok field bytes (Some at_) found e = absurd cc
+
+payload_or-ok : (bytes : List ℕ) (wrong : Option ℕ) (found : List ℕ) → payload_or bytes wrong ≡ Ok found → (wrong ≡ None) × (bytes ≡ found)
+payload_or-ok bytes None found e = (refl, cc)
+payload_or-ok bytes (Some at_) found e = absurd cc
+
+pub name_of-found : (bytes found : List ℕ) → name_of bytes ≡ Ok found → (bytes ≡ found) × IsName found
+name_of-found bytes found e =
+    let parts = name_or-ok bytes (wrong_in_name bytes) found e in
+    (parts.1, subst IsName parts.1 (IsName-from_right bytes parts.0))
+
+pub name_of-again : (bytes : List ℕ) → IsName bytes → name_of bytes ≡ Ok bytes
+name_of-again bytes is = ap (name_or bytes) (wrong_in_name-none bytes is)
+
+field_of-found : (field : ℕ) (bytes found : List ℕ) → field_of field bytes ≡ Ok found → (bytes ≡ found) × IsName found
+field_of-found field bytes found e =
+    let parts = field_or-ok field bytes (wrong_in_name bytes) found e in
+    (parts.1, subst IsName parts.1 (IsName-from_right bytes parts.0))
+
+field_of-again : (field : ℕ) (bytes : List ℕ) → IsName bytes → field_of field bytes ≡ Ok bytes
+field_of-again field bytes is = ap (field_or field bytes) (wrong_in_name-none bytes is)
+
+-- a byte of a name is none of the separators
+no_slash : (byte : ℕ) → is_name_byte byte ≡ true → not (byte == 47) ≡ true
+no_slash byte h = grind (arith, nat_tests)
+
+pub no_at_sign : (byte : ℕ) → is_name_byte byte ≡ true → not (byte == 64) ≡ true
+no_at_sign byte h = grind (arith, nat_tests)
+
+pub no_colon : (byte : ℕ) → is_name_byte byte ≡ true → not (byte == 58) ≡ true
+no_colon byte h = grind (arith, nat_tests)
+
+pub bare_name_found : (bytes name : List ℕ) → bare_name_field bytes ≡ Ok name → (bytes ≡ name) × IsName name
+unfolding bare_name_field
+bare_name_found bytes name e = name_of-found bytes name (as_fault_ok kind.BadName (name_of bytes) name e)
+
+pub bare_name_again : (name : List ℕ) → IsName name → bare_name_field name ≡ Ok name
+unfolding bare_name_field
+bare_name_again name is = ap (as_fault kind.BadName) (name_of-again name is)
+
+-- ---- streams and grains
+
+stream_of-found : (front back : List ℕ) (stream : StreamId) → stream_of front back ≡ Ok stream → (front ≡ stream.namespace) × (back ≡ stream.key) × IsStream stream
+stream_of-found front back stream e =
+    let a = bind_ok (field_of 0 front) (λ namespace. field_of 1 back >>= λ key. Ok (record { namespace = namespace; key = key })) stream e in
+    let b = bind_ok (field_of 1 back) (λ key. Ok (record { namespace = a.0; key = key })) stream a.2 in
+    let namespace : a.0 ≡ stream.namespace = cc in
+    let key : b.0 ≡ stream.key = cc in
+    let first = field_of-found 0 front a.0 a.1 in
+    let second = field_of-found 1 back b.0 b.1 in
+    (first.0 ∙ namespace, second.0 ∙ key, (subst IsName namespace first.1, subst IsName key second.1))
+
+pub stream_found : (bytes : List ℕ) (stream : StreamId) → stream_field bytes ≡ Ok stream → (bytes ≡ stream_text stream) × IsStream stream
+unfolding stream_field
+stream_found bytes stream e =
+    let a = bind_ok (or_fault kind.BadName (split_once 47 bytes)) (λ parts. as_fault kind.BadName (stream_of parts.0 parts.1)) stream e in
+    let joined = split_once-joined 47 bytes a.0 (or_fault_ok kind.BadName (split_once 47 bytes) a.0 a.1) in
+    let found = stream_of-found a.0.0 a.0.1 stream (as_fault_ok kind.BadName (stream_of a.0.0 a.0.1) stream a.2) in
+    (joined ∙ (ap (λ (front : List ℕ). front ++ 47 ∷ a.0.1) found.0 ∙ ap (λ (back : List ℕ). stream.namespace ++ 47 ∷ back) found.1), found.2)
+
+pub stream_again : (stream : StreamId) → IsStream stream → stream_field (stream_text stream) ≡ Ok stream
+unfolding stream_field
+stream_again stream is =
+    let cut = split_once-front 47 stream.namespace stream.key (list_all-weaker is_name_byte (λ byte. not (byte == 47)) no_slash stream.namespace is.0.good) in
+    rw (cut, field_of-again 0 stream.namespace is.0, field_of-again 1 stream.key is.1) refl
+
+grain_of-found : (front back : List ℕ) (grain : GrainId) → grain_of front back ≡ Ok grain → (front ≡ grain.kind) × (back ≡ grain.key) × IsGrain grain
+grain_of-found front back grain e =
+    let a = bind_ok (field_of 0 front) (λ kind. field_of 1 back >>= λ key. Ok (record { kind = kind; key = key })) grain e in
+    let b = bind_ok (field_of 1 back) (λ key. Ok (record { kind = a.0; key = key })) grain a.2 in
+    let kind : a.0 ≡ grain.kind = cc in
+    let key : b.0 ≡ grain.key = cc in
+    let first = field_of-found 0 front a.0 a.1 in
+    let second = field_of-found 1 back b.0 b.1 in
+    (first.0 ∙ kind, second.0 ∙ key, (subst IsName kind first.1, subst IsName key second.1))
+
+pub grain_found : (bytes : List ℕ) (grain : GrainId) → grain_field bytes ≡ Ok grain → (bytes ≡ grain_text grain) × IsGrain grain
+unfolding grain_field
+grain_found bytes grain e =
+    let a = bind_ok (or_fault kind.BadName (split_once 47 bytes)) (λ parts. as_fault kind.BadName (grain_of parts.0 parts.1)) grain e in
+    let joined = split_once-joined 47 bytes a.0 (or_fault_ok kind.BadName (split_once 47 bytes) a.0 a.1) in
+    let found = grain_of-found a.0.0 a.0.1 grain (as_fault_ok kind.BadName (grain_of a.0.0 a.0.1) grain a.2) in
+    (joined ∙ (ap (λ (front : List ℕ). front ++ 47 ∷ a.0.1) found.0 ∙ ap (λ (back : List ℕ). grain.kind ++ 47 ∷ back) found.1), found.2)
+
+pub grain_again : (grain : GrainId) → IsGrain grain → grain_field (grain_text grain) ≡ Ok grain
+unfolding grain_field
+grain_again grain is =
+    let cut = split_once-front 47 grain.kind grain.key (list_all-weaker is_name_byte (λ byte. not (byte == 47)) no_slash grain.kind is.0.good) in
+    rw (cut, field_of-again 0 grain.kind is.0, field_of-again 1 grain.key is.1) refl
+
+-- ---- tokens and payloads
+
+pub token_found : (bytes : List ℕ) (token : Token) → token_field bytes ≡ Ok token → (bytes ≡ token_text token) × IsToken token
+unfolding token_field
+token_found bytes token e = token_text-token_of bytes token (as_fault_ok kind.BadToken (token_of bytes) token e)
+
+pub token_again : (token : Token) → IsToken token → token_field (token_text token) ≡ Ok token
+unfolding token_field
+token_again token is = ap (as_fault kind.BadToken) (token_of-token_text token is)
+
+pub payload_found : (bytes payload : List ℕ) → payload_field bytes ≡ Ok payload → (bytes ≡ payload) × IsPayload payload
+unfolding payload_field
+payload_found bytes payload e =
+    let parts = payload_or-ok bytes (wrong_in_payload bytes) payload (as_fault_ok kind.BadText (payload_of bytes) payload e) in
+    (parts.1, subst IsPayload parts.1 (IsPayload-from_right bytes parts.0))
+
+pub payload_again : (payload : List ℕ) → IsPayload payload → payload_field payload ≡ Ok payload
+unfolding payload_field
+payload_again payload is = ap (λ wrong. as_fault kind.BadText (payload_or payload wrong)) (wrong_in_payload-none payload is)

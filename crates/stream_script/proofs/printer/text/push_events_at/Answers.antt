@@ -1,0 +1,5 @@
+use Rattle.stream_script.proofs.Texts.{writes_failed}
+use Rattle.stream_script.proofs.printer.text.push_events_at.Goals as goal
+
+pub returns-in_err-push_event : goal.returns-in_err-push_event
+returns-in_err-push_event c = writes_failed c.args.out.now.items c.loop-position.out.items _ _ _ _ c.loop-position.invariant c.in_err-push_event.ensures c.from_residual.ensures.0

@@ -1,0 +1,10 @@
+use Rattle.std.proofs.Common.{codes, refl}
+use Rattle.stream_ident.specs.Token.{token_text}
+use Rattle.stream_script.proofs.Texts.{appended, writes_then, three_texts}
+use Rattle.stream_script.proofs.printer.text.push_miss.Goals as goal
+
+pub returns : goal.returns
+returns c =
+    let front = appended c.args.out.now.items _ _ _ _ _ c.in_ok-push_placed.ensures c.in_ok-push_placed-2.ensures refl in
+    let whole = three_texts (codes "miss ") (token_text c.args.requested) (codes " low ") (token_text c.args.low) (codes " high ") (token_text c.args.high) in
+    writes_then c.args.out.now.items _ _ _ _ _ _ front c.push_placed-3.ensures whole

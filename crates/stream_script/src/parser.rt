@@ -1,0 +1,16 @@
+//! The lines of a script, and the command that each of them is, or its first fault.
+
+mod agent_forms;
+mod command;
+mod fields;
+pub mod laws;
+mod limits;
+mod lines;
+mod parse;
+mod publish;
+
+pub use command::{Command, EachOp, Fault, FaultKind, Mode, Parsed};
+pub use limits::MOST_SCRIPT_BYTES;
+pub use lines::Lines;
+pub use parse::parse_line;
+pub use publish::{Publish, read_publish};

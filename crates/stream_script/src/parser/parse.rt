@@ -1,0 +1,408 @@
+//! From a line's bytes to its command: its verb, and for the verbs of producers and operators what stands behind them.
+//!
+//! A command takes some 300 bytes, and a payload 258. What hands one on isn't inlined, since a function that inlined all
+//! of them would have the room of each in its frame, and would clear it for every line.
+ghost use Rattle.std.specs.Prelude.{◌≡◌, ◌≤◌, map, IfOk, Ok, Err};
+ghost use Rattle.std.specs.List.{list_all};
+ghost use Rattle.stream_ident.specs.Alphabet.{is_printable};
+ghost use Rattle.stream_script.specs.declared.parser.command.Command.{Command};
+ghost use Rattle.stream_script.specs.Forms.{queue_of, verb_command, words_command, alone, pub_command, pub_fields, sub_words, sub_latest, sub_from, unsub_words, unsub_fields, rule_words, rule_fields, up_words, up_fields, down_words, down_fields};
+ghost use Rattle.stream_script.specs.Grammar.{Reads};
+ghost use Rattle.stream_script.specs.Lexer.{pieces_in};
+ghost use Rattle.stream_script.specs.Pieces.{is_space};
+ghost use Rattle.stream_script.specs.Reading.{Gives, IsWithin, reading, is_comment, is_skipped, line_command, command_of};
+
+use crate::parser::command::{
+    Command, EachOp, Fault, FaultKind, LineError, Mode, Parsed, Verb, not_here,
+};
+use crate::parser::lines::{Piece, pieces};
+use crate::parser::{agent_forms, fields};
+use std::alloc::{AllocError, Global};
+use stream_ident::{Batch, GrainId, Payload, StreamId};
+use stream_model::{Op, Start};
+
+/// What a line is, its line feed and carriage return taken off: a command, a line to pass over, or its
+/// first fault.
+///
+/// `line` is the number that a fault gets. Queue numbers have to be below `queues`.
+#[inline(never)]
+pub fn parse_line(
+    alloc: Global,
+    bytes: &[u8],
+    line: usize,
+    queues: usize,
+    mode: Mode,
+) -> Result<Parsed, AllocError>
+    requires { 1 ≤ queues }
+    // It is the reading of the line.
+    ensures exact { IfOk result (λ parsed. parsed ≡ reading queues mode line bytes.now) }
+    // A command is of a queue that there is.
+    ensures within { IfOk result (IsWithin queues) }
+    // What is read as a command is written so.
+    ensures found { (command : Command) → result ≡ Ok (Parsed.Command command)
+        → Reads mode queues bytes.now command }
+    // What is written as a command is read as it, unless memory runs out.
+    ensures only { (command : Command) → Reads mode queues bytes.now command
+        → IfOk result (λ parsed. parsed ≡ Parsed.Command command) }
+{
+    read_line(alloc, bytes, line, queues, mode)
+}
+
+/// What a line is.
+#[tactic(auto, unfolding(crate::specs::Reading::reading))]
+#[inline(never)]
+fn read_line(
+    alloc: Global,
+    bytes: &[u8],
+    line: usize,
+    queues: usize,
+    mode: Mode,
+) -> Result<Parsed, AllocError>
+    requires { 1 ≤ queues }
+    ensures { IfOk result (λ parsed. parsed ≡ reading queues mode line bytes.now) }
+{
+    if is_skipped(bytes) {
+        return Ok(Parsed::Skip);
+    }
+    match line_command(alloc, bytes, queues, mode) {
+        Ok(command) => Ok(Parsed::Command(command)),
+        Err(LineError::Fault(kind)) => Ok(Parsed::Fault(Fault { line, kind })),
+        Err(LineError::Memory) => Err(AllocError),
+    }
+}
+
+/// Whether a line is empty, has spaces only, or is a comment.
+fn is_skipped(bytes: &[u8]) -> bool
+    ensures { result ≡ is_skipped bytes.now }
+{
+    are_spaces(bytes) || is_comment(bytes)
+}
+
+/// Whether each byte is a space.
+fn are_spaces(bytes: &[u8]) -> bool
+    ensures { result ≡ list_all is_space bytes.now }
+{
+    bytes.iter().all(|byte| *byte == b' ')
+}
+
+/// Whether a line is a comment.
+fn is_comment(bytes: &[u8]) -> bool
+    ensures { result ≡ is_comment bytes.now }
+{
+    match bytes {
+        [] => false,
+        [first, ..] => *first == b'#',
+    }
+}
+
+/// Whether each byte is printable.
+pub(crate) fn are_printable(bytes: &[u8]) -> bool
+    ensures { result ≡ list_all is_printable bytes.now }
+{
+    bytes.iter().all(|byte| matches!(*byte, b' '..=b'~'))
+}
+
+/// The command of a line that isn't skipped.
+#[inline(never)]
+fn line_command(
+    alloc: Global,
+    bytes: &[u8],
+    queues: usize,
+    mode: Mode,
+) -> Result<Command, LineError>
+    requires { 1 ≤ queues }
+    ensures { Gives (λ command. command) result (line_command mode queues bytes.now) }
+{
+    if !are_printable(bytes) {
+        return Err(LineError::Fault(FaultKind::BadByte));
+    }
+    let Some(pieces) = pieces(alloc, bytes)? else {
+        return Err(LineError::Fault(FaultKind::BadText));
+    };
+    command(alloc, &pieces, queues, mode)
+}
+
+/// The command of a line's pieces.
+#[inline(never)]
+fn command(alloc: Global, pieces: &[Piece], queues: usize, mode: Mode) -> Result<Command, LineError>
+    requires { 1 ≤ queues }
+    ensures { Gives (λ command. command) result (command_of mode queues (pieces_in pieces.now)) }
+{
+    let [first, rest @ ..] = pieces else {
+        return Err(LineError::Fault(FaultKind::BadCommand));
+    };
+    let verb = Verb::in_front(first)?;
+    if !verb.may_stand(mode) {
+        return Err(LineError::Fault(not_here(mode)));
+    }
+    of_verb(alloc, verb, rest, queues)
+}
+
+/// The command of a verb and the pieces behind it.
+#[inline(never)]
+fn of_verb(alloc: Global, verb: Verb, pieces: &[Piece], queues: usize) -> Result<Command, LineError>
+    requires { 1 ≤ queues }
+    ensures { Gives (λ command. command) result (verb_command verb queues (pieces_in pieces.now)) }
+{
+    if verb.takes_texts() {
+        return publish(alloc, pieces, queues);
+    }
+    let words = fields::words(alloc, pieces)?;
+    Ok(of_words(verb, &words, queues)?)
+}
+
+/// The command of a verb and the words behind it.
+#[inline(never)]
+fn of_words(verb: Verb, words: &[&[u8]], queues: usize) -> Result<Command, FaultKind>
+    requires { 1 ≤ queues }
+    ensures { result ≡ words_command verb queues (map (λ word. word.now) words.now) }
+{
+    match verb {
+        // Texts stand behind it.
+        Verb::Pub => Err(FaultKind::WordCount),
+        Verb::Sub => subscribe(words, queues),
+        Verb::Unsub => unsubscribe(words, queues),
+        Verb::Rule => rule(words),
+        Verb::Pull => agent_forms::pull(words, queues),
+        Verb::Deliver => agent_forms::deliver(words, queues),
+        Verb::Retry => agent_forms::retry(words, queues),
+        Verb::Ack => agent_forms::ack(words, queues),
+        Verb::Purge => agent_forms::purge(words, queues),
+        Verb::Move => agent_forms::move_queue(words, queues),
+        Verb::Begin => agent_forms::begin(words, queues),
+        Verb::Commit => agent_forms::commit(words, queues),
+        Verb::Deactivate => agent_forms::deactivate(words, queues),
+        Verb::Ready => agent_forms::ready(words, queues),
+        Verb::Due => agent_forms::due(words, queues),
+        Verb::Report => report(words),
+        Verb::Quiet => quiet(words),
+        Verb::Drain => drain(words),
+        Verb::Up => up(words),
+        Verb::Down => down(words),
+    }
+}
+
+/// `report`
+#[inline(never)]
+fn report(words: &[&[u8]]) -> Result<Command, FaultKind>
+    ensures { result ≡ alone Command.Report (map (λ word. word.now) words.now) }
+{
+    alone(Command::Report, words)
+}
+
+/// `quiet`
+#[inline(never)]
+fn quiet(words: &[&[u8]]) -> Result<Command, FaultKind>
+    ensures { result ≡ alone (Command.Each EachOp.Quiet) (map (λ word. word.now) words.now) }
+{
+    alone(Command::Each(EachOp::Quiet), words)
+}
+
+/// `drain`
+#[inline(never)]
+fn drain(words: &[&[u8]]) -> Result<Command, FaultKind>
+    ensures { result ≡ alone Command.Drain (map (λ word. word.now) words.now) }
+{
+    alone(Command::Drain, words)
+}
+
+/// A command whose word stands alone.
+fn alone(command: Command, words: &[&[u8]]) -> Result<Command, FaultKind>
+    ensures { result ≡ alone command (map (λ word. word.now) words.now) }
+{
+    if !words.is_empty() {
+        return Err(FaultKind::WordCount);
+    }
+    Ok(command)
+}
+
+/// `pub STREAM TEXT ..`
+#[inline(never)]
+fn publish(alloc: Global, pieces: &[Piece], queues: usize) -> Result<Command, LineError>
+    requires { 1 ≤ queues }
+    ensures { Gives (λ command. command) result (pub_command queues (pieces_in pieces.now)) }
+{
+    let [first, rest @ ..] = pieces else {
+        return Err(LineError::Fault(FaultKind::WordCount));
+    };
+    let stream = fields::word(first)?;
+    let texts = fields::texts(alloc, rest)?;
+    publish_fields(alloc, stream, &texts, queues)
+}
+
+#[tactic(auto, unfolding(crate::specs::Forms::pub_fields))]
+#[inline(never)]
+fn publish_fields(
+    alloc: Global,
+    stream: &[u8],
+    texts: &[&[u8]],
+    queues: usize,
+) -> Result<Command, LineError>
+    requires { 1 ≤ queues }
+    ensures { Gives (λ command. command) result (pub_fields queues stream.now (map (λ text. text.now) texts.now)) }
+{
+    let stream = fields::stream(stream)?;
+    let payloads = fields::payloads(alloc, texts)?;
+    Ok(publication(stream, payloads, queues))
+}
+
+/// A batch for the stream's queue.
+#[inline(never)]
+fn publication(stream: StreamId, payloads: Vec<Payload>, queues: usize) -> Command
+    requires { 1 ≤ queues }
+    ensures { result ≡ Command.Step (queue_of stream queues) (Op.Publish stream payloads.items) }
+{
+    let queue = fields::queue_of(&stream, queues);
+    Command::on_queue(
+        queue,
+        Op::Publish {
+            stream,
+            payloads: Batch::of(payloads),
+        },
+    )
+}
+
+/// `sub STREAM GRAIN latest` or `sub STREAM GRAIN from TOKEN`
+fn subscribe(words: &[&[u8]], queues: usize) -> Result<Command, FaultKind>
+    requires { 1 ≤ queues }
+    ensures { result ≡ sub_words queues (map (λ word. word.now) words.now) }
+{
+    match words {
+        [stream, grain, word] => subscribe_latest(stream, grain, word, queues),
+        [stream, grain, word, token] => subscribe_from(stream, grain, word, token, queues),
+        _ => Err(FaultKind::WordCount),
+    }
+}
+
+#[tactic(auto, unfolding(crate::specs::Forms::sub_latest))]
+#[inline(never)]
+fn subscribe_latest(
+    stream: &[u8],
+    grain: &[u8],
+    word: &[u8],
+    queues: usize,
+) -> Result<Command, FaultKind>
+    requires { 1 ≤ queues }
+    ensures { result ≡ sub_latest queues stream.now grain.now word.now }
+{
+    let stream = fields::stream(stream)?;
+    let grain = fields::grain(grain)?;
+    if word != b"latest".as_slice() {
+        return Err(FaultKind::BadCommand);
+    }
+    Ok(subscription(stream, grain, Start::Latest, queues))
+}
+
+#[tactic(auto, unfolding(crate::specs::Forms::sub_from))]
+#[inline(never)]
+fn subscribe_from(
+    stream: &[u8],
+    grain: &[u8],
+    word: &[u8],
+    token: &[u8],
+    queues: usize,
+) -> Result<Command, FaultKind>
+    requires { 1 ≤ queues }
+    ensures { result ≡ sub_from queues stream.now grain.now word.now token.now }
+{
+    let stream = fields::stream(stream)?;
+    let grain = fields::grain(grain)?;
+    if word != b"from".as_slice() {
+        return Err(FaultKind::BadCommand);
+    }
+    let token = fields::token(token)?;
+    Ok(subscription(stream, grain, Start::At(token), queues))
+}
+
+/// A subscription on the stream's queue.
+fn subscription(stream: StreamId, grain: GrainId, start: Start, queues: usize) -> Command
+    requires { 1 ≤ queues }
+    ensures { result ≡ Command.Step (queue_of stream queues) (Op.Subscribe stream grain start) }
+{
+    let queue = fields::queue_of(&stream, queues);
+    Command::on_queue(
+        queue,
+        Op::Subscribe {
+            stream,
+            grain,
+            start,
+        },
+    )
+}
+
+/// `unsub SUB`
+fn unsubscribe(words: &[&[u8]], queues: usize) -> Result<Command, FaultKind>
+    ensures { result ≡ unsub_words queues (map (λ word. word.now) words.now) }
+{
+    match words {
+        [sub] => unsubscribe_fields(sub, queues),
+        _ => Err(FaultKind::WordCount),
+    }
+}
+
+#[tactic(auto, unfolding(crate::specs::Forms::unsub_fields))]
+#[inline(never)]
+fn unsubscribe_fields(sub: &[u8], queues: usize) -> Result<Command, FaultKind>
+    ensures { result ≡ unsub_fields queues sub.now }
+{
+    let (queue, sub) = fields::sub(sub, queues)?;
+    Ok(Command::on_queue(queue, Op::Unsubscribe { sub }))
+}
+
+/// `rule KIND NS`
+fn rule(words: &[&[u8]]) -> Result<Command, FaultKind>
+    ensures { result ≡ rule_words (map (λ word. word.now) words.now) }
+{
+    match words {
+        [kind, namespace] => rule_fields(kind, namespace),
+        _ => Err(FaultKind::WordCount),
+    }
+}
+
+#[tactic(auto, unfolding(crate::specs::Forms::rule_fields))]
+#[inline(never)]
+fn rule_fields(kind: &[u8], namespace: &[u8]) -> Result<Command, FaultKind>
+    ensures { result ≡ rule_fields kind.now namespace.now }
+{
+    let kind = fields::bare_name(kind)?;
+    let namespace = fields::bare_name(namespace)?;
+    Ok(Command::Each(EachOp::Rule { kind, namespace }))
+}
+
+/// `up SILO`
+fn up(words: &[&[u8]]) -> Result<Command, FaultKind>
+    ensures { result ≡ up_words (map (λ word. word.now) words.now) }
+{
+    match words {
+        [silo] => up_fields(silo),
+        _ => Err(FaultKind::WordCount),
+    }
+}
+
+#[tactic(auto, unfolding(crate::specs::Forms::up_fields))]
+#[inline(never)]
+fn up_fields(silo: &[u8]) -> Result<Command, FaultKind>
+    ensures { result ≡ up_fields silo.now }
+{
+    let silo = fields::silo(silo)?;
+    Ok(Command::Up { silo })
+}
+
+/// `down SILO`
+fn down(words: &[&[u8]]) -> Result<Command, FaultKind>
+    ensures { result ≡ down_words (map (λ word. word.now) words.now) }
+{
+    match words {
+        [silo] => down_fields(silo),
+        _ => Err(FaultKind::WordCount),
+    }
+}
+
+#[tactic(auto, unfolding(crate::specs::Forms::down_fields))]
+#[inline(never)]
+fn down_fields(silo: &[u8]) -> Result<Command, FaultKind>
+    ensures { result ≡ down_fields silo.now }
+{
+    let silo = fields::silo(silo)?;
+    Ok(Command::Down { silo })
+}

@@ -1,6 +1,0 @@
-use Rattle.std.proofs.Common.{append_assoc}
-use Rattle.script_printer.proofs.Texts.{writes_then}
-use Rattle.trace_printer.proofs.fields.push_begin.Goals as goal
-
-pub returns : goal.returns
-returns c = writes_then c.args.out.now.items _ _ _ _ _ _ c.in_ok-push_queue_grain.ensures c.push_count.ensures (simp append_assoc)

@@ -1,6 +1,0 @@
-use Rattle.std.proofs.Common.{append_assoc}
-use Rattle.script_printer.proofs.Texts.{writes_then}
-use Rattle.trace_printer.proofs.fields.push_latest.Goals as goal
-
-pub returns : goal.returns
-returns c = writes_then c.args.out.now.items _ _ _ _ _ _ c.in_ok-push_binding.ensures c.push_text.ensures (simp append_assoc)

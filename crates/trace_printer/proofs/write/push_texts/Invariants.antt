@@ -1,8 +1,0 @@
-use Rattle.std.proofs.Common.{◌≡◌, ◌++◌, take}
-use Rattle.std.specs.List.{flat_map}
-use Rattle.trace_printer.specs.OpLine.{text_behind}
-use Rattle.trace_printer.proofs.write.push_texts.Given as goal
-
--- the payloads so far
-abbrev pub invariant-loop-payload : goal.invariant-loop-payload
-invariant-loop-payload l = l.out.items ≡ l.fn.out.items ++ flat_map text_behind (take l.payload-index l.payloads)
