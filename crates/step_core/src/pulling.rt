@@ -53,7 +53,7 @@ pub(crate) fn pull(
 }
 
 /// The open subscription with the least resume, which the cache waits for.
-fn slowest(parts: &Parts) -> SubName
+pub(crate) fn slowest(parts: &Parts) -> SubName
     ensures { result ≡ unwrap_or (slowest_name (plain_of parts.now)) (SubName.Explicit 0) }
 {
     parts.subs.slowest().unwrap_or(SubName::Explicit(0))
