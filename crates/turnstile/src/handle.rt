@@ -5,7 +5,6 @@ ghost use Rattle.std.specs.Fn.{FnOnceReturnsAt};
 ghost use Rattle.turnstile.specs.Calls.{outside, Agree, CallsBy, HasOnlyMade, IsOf, IsSeated, IsSplitOff, IsTurn, LooksBy, Waited, joined_pass};
 
 use crate::pass::PassOf;
-use crate::passes::NoNumberLeft;
 use crate::replays::Replays;
 use crate::turnstile::{Refusal, Turn, Turnstile};
 use std::alloc::{AllocError, Global};
@@ -150,10 +149,8 @@ impl<T: Replays> Handle<T> {
     {
         let turnstile = Arc::try_clone(&self.turnstile)?;
         give_up(&self.turnstile, &mut self.pass, self.turn.take());
-        match turnstile.split(&mut self.pass) {
-            Ok(pass) => Ok(Handle::new(turnstile, pass)),
-            Err(NoNumberLeft) => Err(AllocError),
-        }
+        let pass = turnstile.split(&mut self.pass)?;
+        Ok(Handle::new(turnstile, pass))
     }
 
     /// Takes in another handle of the same turnstile: the numbers of its pass, and what that has seen where it is
