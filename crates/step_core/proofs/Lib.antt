@@ -14,6 +14,7 @@ pub mod DrainReplies
 pub mod DrainRounds
 pub mod DrainSteps
 pub mod DueNames
+pub mod FillOps
 pub mod FinishingLemmas
 pub mod GrainOps
 pub mod HandOps
