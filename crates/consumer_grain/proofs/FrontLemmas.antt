@@ -2,27 +2,14 @@
 use Rattle.std.proofs.Common.{◌≡◌, ℕ, zero, suc, ◌+◌, ◌-◌, ◌<◌, ◌≤◌, true, false, ◌&&◌, List, [], ◌∷◌, ◌++◌, length, get_or, drop, take, refl, sym, ap, ◌∙◌, nat_le, ◌==◌, arith, append-nil, append_assoc}
 use Rattle.std.proofs.lemmas.Bool.{and_from, and_parts, cond_both, eq-eqb, le-leb}
 use Rattle.std.proofs.lemmas.List.{drop_more, length_push, drop_all, take_rest}
-use Rattle.std.specs.List.{All}
-use Rattle.std.proofs.lemmas.List.Elements.{All-head, All-tail}
 use Rattle.consumer_grain.specs.declared.mailbox.Delivery.{Delivery}
 use Rattle.consumer_grain.specs.Activations.{front_of}
 use Rattle.consumer_grain.specs.Subscriptions.{rises_from}
-use Rattle.stream_ident.specs.Words.{past_from}
 use Rattle.stream_ident.proofs.WordLemmas.{drop-read}
 
 -- what a read gives where there is no delivery
 abbrev pub no_delivery : Delivery
 no_delivery = record { sub = 0; position = 0 }
-
--- one past the front is within what one past each delivery is within
-pub past_from-front_of : (bound n s from : ℕ) (ds : List Delivery) → All (λ d. d.position + 1 < bound) ds → from < bound → past_from from (front_of n s from ds) < bound
-past_from-front_of bound zero s from ds room start = start
-past_from-front_of bound (suc n) s from [] room start = start
-past_from-front_of bound (suc n) s from (d ∷ ds) room start =
-    let head : d.position + 1 < bound = All-head (λ (d : Delivery). d.position + 1 < bound) d ds room in
-    cond_both ((s == d.sub) && nat_le from d.position) (d.position ∷ front_of n s (suc d.position) ds) [] (λ front. past_from from front < bound)
-    (λ _. past_from-front_of bound n s (suc d.position) ds (All-tail (λ (d : Delivery). d.position + 1 < bound) d ds room) (omega arith))
-    (λ _. start)
 
 -- the front rises
 pub rises_from-front_of : (n s from : ℕ) (ds : List Delivery) → rises_from from (front_of n s from ds) ≡ true

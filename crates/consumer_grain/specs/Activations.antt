@@ -1,5 +1,5 @@
 -- A grain's mailbox and its turn.
-use Rattle.std.specs.Prelude.{◌≡◌, ℕ, zero, suc, ◌+◌, min, max, Bool, true, false, ◌&&◌, ◌||◌, not, List, [], ◌∷◌, ◌++◌, length, drop, filter, Option, Some, None, is_some, Result, Ok, Err, ◌==◌, nat_lt, nat_le, if◌then◌else◌}
+use Rattle.std.specs.Prelude.{◌≡◌, ℕ, zero, suc, ◌+◌, ◌-◌, ◌^◌, min, max, Bool, true, false, ◌&&◌, ◌||◌, not, List, [], ◌∷◌, ◌++◌, length, drop, filter, Option, Some, None, is_some, Result, Ok, Err, ◌==◌, nat_lt, nat_le, if◌then◌else◌}
 use Rattle.std.specs.List.{list_any}
 use Rattle.std.specs.declared.alloc.AllocError.{AllocError}
 use Rattle.consumer_grain.specs.declared.mailbox.Delivery.{Delivery}
@@ -35,11 +35,15 @@ with_number n (m ∷ ms) = if nat_lt n m then n ∷ m ∷ ms else if n == m then
 abbrev pub without_number : ℕ → List ℕ → List ℕ
 without_number n ms = filter (λ m. not (n == m)) ms
 
--- active, with one more delivery; the activation's number rises where it wasn't active
+-- the number of the next activation: one more, up to the greatest of 64 bits
+abbrev pub next_activation : ℕ → ℕ
+next_activation number = min (suc number) (2 ^ 64 - 1)
+
+-- active, with one more delivery; the activation has the next number where it wasn't active
 abbrev pub woken : PlainActivation → Delivery → PlainActivation
 woken a delivery =
     record {
-      number = if a.active then a.number else suc a.number;
+      number = if a.active then a.number else next_activation a.number;
       active = true;
       mailbox = a.mailbox ++ delivery ∷ [];
       running = a.running;

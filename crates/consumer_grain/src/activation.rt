@@ -55,13 +55,14 @@ impl Drop for Activation {
 
 impl Model for Activation {
     ghost use Rattle.consumer_grain.specs.Activations.{PlainActivation};
-    ghost use Rattle.consumer_grain.specs.Standing.{IsStanding};
+    ghost use Rattle.consumer_grain.specs.Subscriptions.{rises_from};
+    ghost use Rattle.std.specs.Prelude.{◌≡◌, true};
 
     ghost Value = { PlainActivation };
 
     ghost view = { λ a. record { number = a.number; active = a.is_active; mailbox = a.mailbox; running = a.running; subs = a.subs.items } };
 
-    ghost invariant = { λ a. IsStanding a.running a.subs.items };
+    ghost invariant = { λ a. rises_from 0 a.subs.items ≡ true };
 }
 
 impl Activation {
@@ -105,16 +106,14 @@ impl Activation {
 
     /// The oldest delivery that waits.
     pub fn front(&self) -> Option<Delivery>
-        ensures front { result ≡ slice_get self.now.mailbox 0 }
-        ensures room { IfSome result (λ d. d.position + 1 < 2 ^ 64) }
+        ensures { result ≡ slice_get self.now.mailbox 0 }
     {
         self.mailbox.as_slice().first().copied()
     }
 
-    /// The turn that runs. Its positions leave room for the number past the last.
+    /// The turn that runs.
     pub fn running(&self) -> Option<&RunningTurn>
-        ensures running { option_copied result ≡ self.now.running }
-        ensures room { IfSome self.now.running (λ run. past run.positions < 2 ^ 64) }
+        ensures { option_copied result ≡ self.now.running }
     {
         self.running.as_ref()
     }
@@ -146,8 +145,8 @@ impl Activation {
         has_sub(self.mailbox.as_slice(), sub) || runs(&self.running, sub)
     }
 
-    /// Performs a delivery, which wakes the grain where it isn't active: the activation's number rises.
-    /// Sixteen deliveries wait at most, and one more is refused.
+    /// Performs a delivery, which wakes the grain where it isn't active: the activation gets the next number, up to the
+    /// greatest of 64 bits. Sixteen deliveries wait at most, and one more is refused.
     ///
     /// A binary search looks the subscription up. The first delivery of each is inserted among the numbers,
     /// which moves those after it.
@@ -156,8 +155,6 @@ impl Activation {
     /// The call failed to allocate, and nothing has changed. That can happen only at a delivery that would be
     /// taken, and only where its subscription isn't among the numbers.
     pub fn offer(&mut self, _alloc: Global, delivery: Delivery) -> Result<Offered, AllocError>
-        requires number { self.old.number + 1 < 2 ^ 64 }
-        requires position { delivery.position + 1 < 2 ^ 64 }
         ensures performs { Performs self.old self.new result (offered self.old delivery) }
         ensures memory { OnErr result (offer_takes_memory self.old delivery ≡ true) }
     {
@@ -166,7 +163,7 @@ impl Activation {
         }
         add_number(&mut self.subs, delivery.sub)?;
         if !self.is_active {
-            self.number += 1;
+            self.number = self.number.saturating_add(1);
             self.is_active = true;
         }
         self.mailbox.push(delivery);

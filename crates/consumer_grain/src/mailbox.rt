@@ -1,5 +1,5 @@
 //! Mailboxes: the deliveries that wait, and the front of them that a turn takes.
-ghost use Rattle.std.specs.Prelude.{◌≡◌, ◌+◌, ◌^◌, ◌<◌, ◌≤◌, [], ◌∷◌, ◌++◌, ◌==◌, ◌&&◌, not, length, drop, filter, nat_le, vec_capacity, All, IfOk, suc};
+ghost use Rattle.std.specs.Prelude.{◌≡◌, ◌<◌, ◌≤◌, [], ◌∷◌, ◌++◌, ◌==◌, ◌&&◌, not, length, drop, filter, nat_le, vec_capacity, IfOk, suc};
 ghost use Rattle.std.specs.List.{list_any};
 ghost use Rattle.stream_ident.specs.Blocks.{turn_size};
 ghost use Rattle.consumer_grain.specs.declared.mailbox.Delivery.{Delivery};
@@ -29,15 +29,14 @@ pub struct Mailbox {
 
 impl Model for Mailbox {
     ghost use Rattle.stream_ident.specs.declared.limits.TheConstants.{MAILBOX_PLACES};
-    ghost use Rattle.std.specs.Prelude.{List, ◌+◌, ◌^◌, ◌<◌, ◌≤◌, length, vec_capacity, All};
+    ghost use Rattle.std.specs.Prelude.{List, ◌≤◌, length, vec_capacity};
     ghost use Rattle.consumer_grain.specs.declared.mailbox.Delivery.{Delivery};
-    ghost use Rattle.consumer_grain.specs.Mailboxes.{IsMailbox};
 
     ghost Value = { List Delivery };
 
     ghost view = { λ m. m.deliveries.items };
 
-    ghost invariant = { λ m. (MAILBOX_PLACES ≤ vec_capacity m.deliveries) × IsMailbox m.deliveries.items };
+    ghost invariant = { λ m. (MAILBOX_PLACES ≤ vec_capacity m.deliveries) × (length m.deliveries.items ≤ MAILBOX_PLACES) };
 }
 
 impl Mailbox {
@@ -64,15 +63,13 @@ impl Mailbox {
     pub fn as_slice(&self) -> &[Delivery]
         ensures deliveries { result.now ≡ self.now }
         ensures few { length self.now ≤ MAILBOX_PLACES }
-        ensures room { All (λ d. d.position + 1 < 2 ^ 64) self.now }
     {
         self.deliveries.as_slice()
     }
 
     /// Adds a delivery behind the others.
     pub fn push(&mut self, delivery: Delivery)
-        requires place { length self.old < MAILBOX_PLACES }
-        requires room { delivery.position + 1 < 2 ^ 64 }
+        requires { length self.old < MAILBOX_PLACES }
         ensures { self.new ≡ self.old ++ delivery ∷ [] }
     {
         self.deliveries.push_reserved(delivery);

@@ -124,25 +124,21 @@ impl GrainTable {
         *self.entries.get_index(number).unwrap().0
     }
 
-    /// The activation of the grain with a number. At most 16 deliveries wait for it, its subscriptions rise,
-    /// and the positions of its turn leave room for the number past the last.
+    /// The activation of the grain with a number. At most 16 deliveries wait for it, and its subscriptions rise.
     pub fn at(&self, number: usize) -> &Activation
         requires { number < length self.now }
         ensures activation { result.now ≡ activation_at self.now number }
         ensures few { length (activation_at self.now number).mailbox ≤ MAILBOX_PLACES }
         ensures rising { rises_from 0 (activation_at self.now number).subs ≡ true }
-        ensures room { IfSome (activation_at self.now number).running (λ run. past run.positions < 2 ^ 64) }
     {
         let activation = self.entries.get_index(number).unwrap().1;
         // What each of these promises is what is promised here.
         let _waiting = activation.waiting();
         let _subs = activation.subs();
-        let _running = activation.running();
         activation
     }
 
-    /// Adds a grain that was never active: it is active now, with one delivery, whose position leaves room
-    /// for one more. Its number is the length before. It costs a look-up and the ready grains whose names are
+    /// Adds a grain that was never active: it is active now, with one delivery. Its number is the length before. It costs a look-up and the ready grains whose names are
     /// greater; where a row has to grow, once as much as all.
     ///
     /// # Errors
@@ -153,8 +149,7 @@ impl GrainTable {
         grain: GrainId,
         delivery: Delivery,
     ) -> Result<(), AllocError>
-        requires absent { number_of self.old grain ≡ None }
-        requires position { delivery.position + 1 < 2 ^ 64 }
+        requires { number_of self.old grain ≡ None }
         ensures { self.new ≡ (if is_ok result then with_grain self.old grain delivery else self.old) }
     {
         let activation = activated(alloc, delivery)?;
@@ -167,8 +162,7 @@ impl GrainTable {
         Ok(())
     }
 
-    /// Performs a delivery to the grain with a number, as `Activation::offer` says. The position of the
-    /// delivery and the number of the activation leave room for one more. It costs what that does, and where the
+    /// Performs a delivery to the grain with a number, as `Activation::offer` says. It costs what that does, and where the
     /// grain becomes ready the ready grains whose names are greater.
     ///
     /// # Errors
@@ -180,9 +174,7 @@ impl GrainTable {
         number: usize,
         delivery: Delivery,
     ) -> Result<Offered, AllocError>
-        requires number { number < length self.old }
-        requires activation { (activation_at self.old number).number + 1 < 2 ^ 64 }
-        requires position { delivery.position + 1 < 2 ^ 64 }
+        requires { number < length self.old }
         ensures performs { OffersAt number self.old self.new result delivery }
         ensures memory { OnErr result (offer_takes_memory (activation_at self.old number) delivery ≡ true) }
     {
@@ -288,7 +280,6 @@ impl GrainTable {
 /// # Errors
 /// The call failed to allocate.
 fn activated(alloc: Global, delivery: Delivery) -> Result<Activation, AllocError>
-    requires { delivery.position + 1 < 2 ^ 64 }
     ensures { IfOk result (λ a. a ≡ woken new_activation delivery) }
 {
     let mut activation = Activation::new(alloc)?;

@@ -1,5 +1,5 @@
 -- Registries that are sound after a change of the subscriptions.
-use Rattle.std.proofs.Common.{◌≡◌, ◌∙◌, ℕ, ◌+◌, ◌≤◌, ◌<◌, false, [], ◌∷◌, ◌++◌, length, take, drop, Option, Some, None, refl, sym, ap, subst, arith, Contains, length-append}
+use Rattle.std.proofs.Common.{◌≡◌, ◌∙◌, ℕ, suc, ◌+◌, ◌^◌, ◌≤◌, ◌<◌, Bool, true, false, ◌||◌, nat_le, if◌then◌else◌, [], ◌∷◌, ◌++◌, length, take, drop, Option, Some, None, refl, sym, ap, subst, arith, Contains, length-append}
 use Rattle.std.specs.Prelude.{◌⊎◌}
 use Rattle.std.specs.List.{take-map}
 use Rattle.std.specs.Map.{lookup}
@@ -13,7 +13,7 @@ use Rattle.stream_ident.specs.declared.ident.StreamId.{StreamId}
 use Rattle.stream_ident.specs.declared.ident.SubName.{SubName}
 use Rattle.stream_ident.specs.declared.ident.SubName.TheVariants as name
 use Rattle.pubsub_registry.specs.Index.{streams_of}
-use Rattle.pubsub_registry.specs.Registry.{PlainRegistry, is_full, closed_registration}
+use Rattle.pubsub_registry.specs.Registry.{PlainRegistry, is_full, next_number, closed_registration}
 use Rattle.pubsub_registry.specs.Sound.{IsSound}
 use Rattle.pubsub_registry.specs.declared.registration.Registration.{Registration}
 use Rattle.pubsub_registry.proofs.Entries.{Names, streams_of-found, map-closed, length-closed}
@@ -35,6 +35,15 @@ new-number r sound number greater = by (lookup (same_sub (name.Explicit number))
     by (Some registration) is =
         let within : number ≤ r.explicit = sound.numbered number registration.stream (streams_of-found r.names (name.Explicit number) registration is) in
         absurd (omega arith)
+
+-- a number is given where there is room, and is one more than the last
+pub given-number : (r : PlainRegistry) (number : ℕ) → next_number r ≡ Some number → (is_full r ≡ false) × (number ≡ suc r.explicit)
+given-number r number = by (is_full r) (nat_le (2 ^ 32) (suc r.explicit)) refl
+  where
+    by : (full late : Bool) → is_full r ≡ full → (if full || late then None else Some (suc r.explicit)) ≡ Some number → (is_full r ≡ false) × (number ≡ suc r.explicit)
+    by true late is given = absurd (cc)
+    by false true is given = absurd (cc)
+    by false false is given = (is, cc)
 
 numbered-push : (names : Names) (s : SubName) (registration : Registration) (most more : ℕ) → IsNumbered names most → most ≤ more
     → ((number : ℕ) → s ≡ name.Explicit number → number ≤ more) → IsNumbered (names ++ (s, registration) ∷ []) more

@@ -1,5 +1,5 @@
 -- The names of subscriptions and the rules of a partition, as plain data, and what each call does to them.
-use Rattle.std.specs.Prelude.{◌≡◌, ℕ, suc, Bool, true, false, ◌&&◌, List, [], ◌∷◌, ◌++◌, length, take, filter, Contains, Option, Some, None, nat_le, if◌then◌else◌}
+use Rattle.std.specs.Prelude.{◌≡◌, ℕ, suc, ◌^◌, Bool, true, false, ◌&&◌, ◌||◌, List, [], ◌∷◌, ◌++◌, length, take, filter, Contains, Option, Some, None, nat_le, if◌then◌else◌}
 use Rattle.std.specs.List.{list_any}
 use Rattle.stream_ident.specs.declared.ident.GrainId.{GrainId}
 use Rattle.stream_ident.specs.declared.ident.StreamId.{StreamId}
@@ -46,14 +46,18 @@ with_name r s registration = record r { names = r.names ++ (s, registration) ∷
 abbrev pub is_full : PlainRegistry → Bool
 is_full r = nat_le r.most_names (length r.names)
 
--- explicit numbers are 1, 2, 3 and so on
+-- The number of the next explicit subscription: explicit numbers are 1, 2, 3 and so on. There is none where there are as
+-- many subscriptions as there may be, or no number is left that fits into 32 bits.
+abbrev pub next_number : PlainRegistry → Option ℕ
+next_number r = if is_full r || nat_le (2 ^ 32) (suc r.explicit) then None else Some (suc r.explicit)
+
+abbrev pub add_with : PlainRegistry → StreamId → GrainId → Token → Option ℕ → PlainRegistry × Added
+add_with r stream grain start None = (r, add_told.TooMany)
+add_with r stream grain start (Some number) =
+    (record (with_name r (name.Explicit number) (registered stream grain start)) { explicit = number }, add_told.Added number)
+
 abbrev pub add : PlainRegistry → StreamId → GrainId → Token → PlainRegistry × Added
-add r stream grain start =
-    if is_full r then (r, add_told.TooMany)
-    else (
-      record (with_name r (name.Explicit (suc r.explicit)) (registered stream grain start)) { explicit = suc r.explicit },
-      add_told.Added (suc r.explicit),
-    )
+add r stream grain start = add_with r stream grain start (next_number r)
 
 -- the grain of the kind with the stream's key consumes it
 abbrev pub add_implied : PlainRegistry → List ℕ → StreamId → Token → PlainRegistry × Implied

@@ -1,11 +1,11 @@
 //! The registry.
-ghost use Rattle.std.specs.Prelude.{◌≡◌, ℕ, ◌+◌, ◌^◌, ◌<◌, ◌≤◌, ◌↔◌, false, None, Some, IsTrue, IfNone, IfSome, OnErr, is_some, length, slice_get};
+ghost use Rattle.std.specs.Prelude.{◌≡◌, ℕ, ◌<◌, ◌≤◌, ◌↔◌, true, false, None, Some, IsTrue, IfNone, IfSome, OnErr, is_some, length, slice_get};
 ghost use Rattle.stream_ident.specs.declared.limits.TheConstants.{MOST_RULES, MOST_SUBS};
 ghost use Rattle.stream_ident.specs.SubName.{same_sub};
 ghost use Rattle.stream_ident.specs.Words.{first_at, Performs};
 ghost use Rattle.stream_ident.specs.declared.ident.SubName.TheVariants.{Explicit, Implicit};
 ghost use Rattle.pubsub_registry.specs.Index.{AreNumbersOf, AreUnique, IsOn};
-ghost use Rattle.pubsub_registry.specs.Registry.{add, add_implied, add_rule, close, empty, is_full, registered, registration_of, rules_on, truncated, AreSubsOf};
+ghost use Rattle.pubsub_registry.specs.Registry.{add, add_implied, add_rule, close, empty, is_full, next_number, registered, registration_of, rules_on, truncated, AreSubsOf};
 
 use crate::indexed::{Rules, Subscriptions};
 use crate::registration::Registration;
@@ -70,7 +70,8 @@ impl Registry {
     }
 
     /// A grain subscribes to a stream, from a token on. The subscription gets the next explicit number: a
-    /// number is given once, also where the subscription was taken back.
+    /// number is given once, also where the subscription was taken back. There are too many subscriptions where the
+    /// registry is full, and also where no number of 32 bits is left.
     ///
     /// The cost is a look-up, and a walk over the names of the stream's implicit subscriptions.
     ///
@@ -85,14 +86,12 @@ impl Registry {
         grain: GrainId,
         start: Token,
     ) -> Result<Added, AllocError>
-        requires { self.old.explicit + 1 < 2 ^ 32 }
         ensures performs { Performs self.old self.new result (add self.old stream grain start) }
-        ensures memory { OnErr result (is_full self.old ≡ false) }
+        ensures memory { OnErr result (is_some (next_number self.old) ≡ true) }
     {
-        if self.is_full() {
+        let Some(number) = self.next_number() else {
             return Ok(Added::TooMany);
-        }
-        let number = self.explicit + 1;
+        };
         let registration = opened(stream, grain, start);
         let sub = SubName::Explicit(number);
         self.subscriptions.push(alloc, sub, registration)?;
@@ -209,12 +208,16 @@ impl Registry {
         self.len() >= self.most_names
     }
 
-    /// The number of the last explicit subscription, 0 where none was made. No greater one was given.
-    pub fn explicit(&self) -> u32
-        ensures last { result ≡ self.now.explicit }
-        ensures new { (number : ℕ) → self.now.explicit < number → registration_of self.now (Explicit number) ≡ None }
+    /// The number that the next explicit subscription gets, which no subscription has; none where there are too many, as
+    /// `add` says.
+    pub fn next_number(&self) -> Option<u32>
+        ensures number { result ≡ next_number self.now }
+        ensures new { IfSome result (λ number. registration_of self.now (Explicit number) ≡ None) }
     {
-        self.explicit
+        if self.is_full() {
+            return None;
+        }
+        self.explicit.checked_add(1)
     }
 
     /// The place of a subscription in the order in which they were made. The cost is a look-up.

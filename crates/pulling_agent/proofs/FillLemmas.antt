@@ -1,5 +1,5 @@
 -- Events of a log that a cache takes in.
-use Rattle.std.proofs.Common.{◌≡◌, ◌∙◌, ap, sym, ℕ, ◌+◌, ◌-◌, ◌*◌, ◌<◌, ◌≤◌, List, [], ◌∷◌, ◌++◌, length, map, take, drop, append_assoc, length-append, length-drop, arith}
+use Rattle.std.proofs.Common.{◌≡◌, ◌∙◌, ap, sym, ℕ, ◌+◌, ◌-◌, ◌*◌, ◌/◌, ◌<◌, ◌≤◌, min, List, [], ◌∷◌, ◌++◌, length, map, take, drop, append_assoc, length-append, length-drop, arith}
 use Rattle.std.proofs.lemmas.List.{append-nil, get_or-drop, length-map, map-append, take_more}
 use Rattle.stream_ident.specs.declared.event.Event.{Event}
 use Rattle.stream_ident.specs.Event.{no_event}
@@ -7,8 +7,8 @@ use Rattle.stream_ident.specs.declared.limits.TheConstants.{BLOCK_EVENTS}
 use Rattle.partition_queue.specs.Queue.{PlainQueue, between, event_at}
 use Rattle.partition_queue.proofs.EventLemmas.{length-between}
 use Rattle.queue_mapper.specs.Place.{bare}
-use Rattle.queue_cache.specs.Cache.{PlainCache, high, with_events}
-use Rattle.pulling_agent.specs.Agent.{without_blocks}
+use Rattle.queue_cache.specs.Cache.{PlainCache, high, room, with_events}
+use Rattle.pulling_agent.specs.Agent.{CanTake, PlainAgent, fill, fill_up, take_next, take_planned, without_blocks}
 
 -- the cache with so many events more, which are the next of the log
 abbrev pub taken : PlainCache → PlainQueue → ℕ → PlainCache
@@ -34,11 +34,17 @@ pub high-taken : (c now : PlainCache) (q : PlainQueue) (count : ℕ) → now ≡
 high-taken c now q count is there =
     ap high is ∙ omega (arith, length-taken c q count there)
 
--- behind blocks that were dropped
-pub high-pulled : (c kept next : PlainCache) (q : PlainQueue) (drops count : ℕ) → kept ≡ without_blocks drops c → next ≡ taken kept q count → BLOCK_EVENTS * drops ≤ length c.events → high c + count ≤ length q.events → high next ≡ high c + count
-high-pulled c kept next q drops count without is blocks there =
-    let top : high kept ≡ high c = ap high without ∙ omega (arith, blocks, length-drop (BLOCK_EVENTS * drops) c.events) in
-    high-taken kept next q count is (omega (arith, top, there)) ∙ ap (λ n. n + count) top
+-- what was planned is taken whole
+pub planned : (a : PlainAgent) (q : PlainQueue) (drops count : ℕ) → length a.cache.events ≤ BLOCK_EVENTS * a.cache.blocks → CanTake a q drops count → take_next a drops q count ≡ take_planned a drops q count
+planned a q drops count fits can =
+    let whole : min drops (length a.cache.events / BLOCK_EVENTS) ≡ drops = omega (arith, can.blocks) in
+    let left = length-drop (BLOCK_EVENTS * drops) a.cache.events in
+    let kept = without_blocks drops a.cache in
+    let top : high kept ≡ high a.cache = omega (arith, can.blocks, left) in
+    let all : min (min count (room kept)) (length q.events - high kept) ≡ count = omega (arith, can.blocks, can.room, can.there, fits, left, top) in
+    ap {B = PlainAgent × ℕ} (λ n. fill_up a (without_blocks n a.cache) q count) whole
+    ∙ ap {B = PlainAgent × ℕ} (λ n. fill a kept q n) all
+    ∙ ap {B = PlainAgent × ℕ} (λ h. (record a { cache = with_events kept (map bare (between q h (h + count))) }, count)) top
 
 one_more : (q : PlainQueue) (from count : ℕ) → from + count < length q.events → between q from (from + (count + 1)) ≡ between q from (from + count) ++ event_at q (from + count) ∷ []
 one_more q from count within =

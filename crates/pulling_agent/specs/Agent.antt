@@ -1,10 +1,11 @@
 -- A pulling agent as plain data, and what each of its calls does (Orleans, Streaming, implementation
 -- details: pulling agents, queue cache).
-use Rattle.std.specs.Prelude.{ℕ, suc, ◌+◌, ◌-◌, ◌*◌, ◌<◌, ◌≤◌, min, List, length, map, drop, Result, Ok, Err, ◌==◌, if◌then◌else◌}
+use Rattle.std.specs.Prelude.{ℕ, suc, ◌+◌, ◌-◌, ◌*◌, ◌/◌, ◌^◌, ◌<◌, ◌≤◌, min, List, length, map, drop, Result, Ok, Err, ◌==◌, if◌then◌else◌}
 use Rattle.stream_ident.specs.declared.event.Event.{Event}
 use Rattle.stream_ident.specs.Blocks as blocks
 use Rattle.stream_ident.specs.Blocks.{pull_size}
 use Rattle.stream_ident.specs.declared.limits.TheConstants.{BLOCK_EVENTS, PULL_EVENTS}
+use Rattle.partition_queue.specs.Queue.{PlainQueue, between}
 use Rattle.queue_cache.specs.Cache as cache
 use Rattle.queue_mapper.specs.Place.{bare}
 use Rattle.pulling_agent.specs.declared.agent.Plan.{Plan}
@@ -73,6 +74,35 @@ MayTake a len least _ = Unit {0}
 abbrev pub pulled : PlainAgent → ℕ → List Event → PlainAgent
 pulled a drops events = record a { cache = cache.with_events (without_blocks drops a.cache) (map bare events) }
 
+-- a cache of the agent takes so many events of the log, which are the next
+abbrev pub fill : PlainAgent → cache.PlainCache → PlainQueue → ℕ → PlainAgent × ℕ
+fill a c queue count = (record a { cache = cache.with_events c (map bare (between queue (cache.high c) (cache.high c + count))) }, count)
+
+-- so many, or as many as there is room for and as the log has
+abbrev pub fill_up : PlainAgent → cache.PlainCache → PlainQueue → ℕ → PlainAgent × ℕ
+fill_up a c queue count = fill a c queue (min (min count (cache.room c)) (length queue.events - cache.high c))
+
+-- without so many blocks, or all that are whole
+abbrev pub take_next : PlainAgent → ℕ → PlainQueue → ℕ → PlainAgent × ℕ
+take_next a drops queue count = fill_up a (without_blocks (min drops (length a.cache.events / BLOCK_EVENTS)) a.cache) queue count
+
+-- where the caller speaks for an agent that was replaced, nothing changes
+abbrev pub if_current : {T : Type 0} → PlainAgent → ℕ → PlainAgent × T → PlainAgent × Result T StaleAgent
+if_current a generation done = if generation == a.generation then (done.0, Ok done.1) else (a, Err (record { now = a.generation }))
+
+abbrev pub pull : PlainAgent → ℕ → ℕ → PlainQueue → ℕ → PlainAgent × Result ℕ StaleAgent
+pull a generation drops queue count = if_current a generation (take_next a drops queue count)
+
+-- what a plan promises of a pull: the blocks are there, the log has the events, and there is room for them
+pub record CanTake (a : PlainAgent) (queue : PlainQueue) (drops count : ℕ) : Type 0 where
+  pub blocks : BLOCK_EVENTS * drops ≤ length a.cache.events
+  pub room : count ≤ cache.room a.cache + BLOCK_EVENTS * drops
+  pub there : cache.high a.cache + count ≤ length queue.events
+
+-- then all is dropped and taken as it was planned
+abbrev pub take_planned : PlainAgent → ℕ → PlainQueue → ℕ → PlainAgent × ℕ
+take_planned a drops queue count = (pulled a drops (between queue (cache.high a.cache) (cache.high a.cache + count)), count)
+
 -- the free blocks beyond those to keep; a part of a block counts as one
 abbrev pub purges : PlainAgent → ℕ → ℕ → ℕ
 purges a keep least = blocks.blocks_to_purge (cache.block_count a.cache) (free_blocks a least) keep
@@ -84,11 +114,17 @@ purge_blocks a blocks = (record a { cache = without_blocks blocks a.cache }, a.c
 abbrev pub purge_free : PlainAgent → ℕ → ℕ → PlainAgent × ℕ
 purge_free a keep least = purge_blocks a (purges a keep least)
 
--- where the caller speaks for an agent that was replaced, nothing changes
 abbrev pub purge : PlainAgent → ℕ → ℕ → ℕ → PlainAgent × Result ℕ StaleAgent
-purge a generation keep least =
-    if generation == a.generation then ((purge_free a keep least).0, Ok (purge_free a keep least).1) else (a, Err (record { now = a.generation }))
+purge a generation keep least = if_current a generation (purge_free a keep least)
 
--- the next agent of the queue, on a silo, with an empty cache at a position
+-- the next generation: one more, up to the greatest of 64 bits
+abbrev pub next_generation : ℕ → ℕ
+next_generation generation = min (suc generation) (2 ^ 64 - 1)
+
+-- another agent of the queue, on a silo, with an empty cache at a position
+abbrev pub replaced : PlainAgent → ℕ → ℕ → ℕ → PlainAgent × ℕ
+replaced a generation silo at = (record { generation = generation; silo = silo; cache = cache.empty a.cache.blocks at }, generation)
+
+-- the next one
 abbrev pub take_over : PlainAgent → ℕ → ℕ → PlainAgent × ℕ
-take_over a silo at = (record { generation = suc a.generation; silo = silo; cache = cache.empty a.cache.blocks at }, suc a.generation)
+take_over a silo at = replaced a (next_generation a.generation) silo at

@@ -1,10 +1,10 @@
 //! The agent.
-ghost use Rattle.std.specs.Prelude.{◌≡◌, ◌+◌, ◌-◌, ◌*◌, ◌^◌, ◌<◌, ◌≤◌, length, map, max, IfOk};
+ghost use Rattle.std.specs.Prelude.{◌≡◌, ◌+◌, ◌-◌, ◌*◌, ◌<◌, ◌≤◌, length, map, max, IfOk};
 ghost use Rattle.stream_ident.specs.declared.limits.TheConstants.{MOST_BLOCKS};
 ghost use Rattle.partition_queue.specs.Queue.{between};
 ghost use Rattle.queue_mapper.specs.Place.{bare};
 ghost use Rattle.queue_cache.specs.Cache.{high, room, with_events};
-ghost use Rattle.pulling_agent.specs.Agent.{check, drops, empty, free_blocks, plan_of, plan_pull, pulled, purge, purge_free, take_over, without_blocks, MayTake};
+ghost use Rattle.pulling_agent.specs.Agent.{check, drops, empty, free_blocks, if_current, plan_of, plan_pull, pull, purge, purge_free, take_next, take_over, take_planned, without_blocks, CanTake, MayTake};
 ghost use Rattle.stream_ident.specs.Blocks.{pull_size};
 
 use partition_queue::PartitionQueue;
@@ -41,7 +41,7 @@ pub enum Plan {
 /// The pulling agent of a queue.
 ///
 /// A queue has one agent at a time, and each has a generation, counted from 0. A caller names the generation
-/// of the agent that it speaks for: `plan_pull` and `purge` refuse one that speaks for an agent which was
+/// of the agent that it speaks for: `plan_pull`, `pull` and `purge` refuse one that speaks for an agent which was
 /// replaced, and `check` does where a caller asks for something else than the cache.
 ///
 /// A contract sees the agent as its generation, the silo that it runs on, and its cache.
@@ -167,17 +167,37 @@ impl Agent {
         }
     }
 
-    /// Drops blocks and takes the next `count` events of the log in behind those of the cache, as a plan said.
-    /// It takes no memory.
-    pub fn pull(&mut self, drops: usize, queue: &PartitionQueue, count: usize)
-        requires blocks { BLOCK_EVENTS * drops ≤ length self.old.cache.events }
-        requires room { count ≤ room self.old.cache + BLOCK_EVENTS * drops }
-        requires there { high self.old.cache + count ≤ length queue.now.events }
-        ensures pulled { self.new ≡ pulled self.old drops (between queue.now (high self.old.cache) (high self.old.cache + count)) }
-        ensures high { high self.new.cache ≡ high self.old.cache + count }
+    /// Drops `drops` blocks and takes the next `count` events of the log in behind those of the cache, as a plan said, and
+    /// gives how many it has taken. It drops fewer blocks where fewer are whole, and takes fewer events where the log
+    /// or the room ends. It takes no memory.
+    ///
+    /// # Errors
+    /// `StaleAgent` where the caller names another generation than the agent's. Nothing has changed then.
+    pub fn pull(
+        &mut self,
+        generation: u64,
+        drops: usize,
+        queue: &PartitionQueue,
+        count: usize,
+    ) -> Result<usize, StaleAgent>
+        ensures pull { (self.new, result) ≡ pull self.old generation drops queue.now count }
+        ensures planned { CanTake self.old queue.now drops count → (self.new, result) ≡ if_current self.old generation (take_planned self.old drops queue.now count) }
     {
-        drop_blocks(&mut self.cache, drops);
+        self.check(generation)?;
+        Ok(self.take_next(drops, queue, count))
+    }
+
+    /// Drops blocks and takes events, whoever asks.
+    fn take_next(&mut self, drops: usize, queue: &PartitionQueue, count: usize) -> usize
+        ensures taken { (self.new, result) ≡ take_next self.old drops queue.now count }
+        ensures planned { CanTake self.old queue.now drops count → (self.new, result) ≡ take_planned self.old drops queue.now count }
+    {
+        let whole = (self.cache.high() - self.cache.low()) / BLOCK_EVENTS;
+        drop_blocks(&mut self.cache, drops.min(whole));
+        let ahead = queue.len().saturating_sub(self.cache.high());
+        let count = count.min(self.cache.room()).min(ahead);
         fill(&mut self.cache, queue, count);
+        count
     }
 
     /// Drops the blocks beyond the `keep` last ones, a part of a block counted as one, of those that lie
@@ -205,12 +225,11 @@ impl Agent {
     }
 
     /// The next agent of the queue takes over, on a silo, with an empty cache that begins at a position,
-    /// and its generation is given. It takes no memory.
+    /// and its generation is given: the next number, up to the greatest of 64 bits. It takes no memory.
     pub fn take_over(&mut self, silo: u8, at: usize) -> u64
-        requires { self.old.generation + 1 < 2 ^ 64 }
         ensures { (self.new, result) ≡ take_over self.old silo at }
     {
-        self.generation += 1;
+        self.generation = self.generation.saturating_add(1);
         self.silo = silo;
         self.cache.reset(at);
         self.generation
@@ -261,7 +280,7 @@ fn drop_blocks(cache: &mut QueueCache, blocks: usize)
 /// Takes the next `count` events of the log into a cache.
 fn fill(cache: &mut QueueCache, queue: &PartitionQueue, count: usize)
     requires room { count ≤ room cache.old }
-    requires there { high cache.old + count ≤ length queue.now.events }
+    requires there { count ≤ length queue.now.events - high cache.old }
     ensures { cache.new ≡ with_events cache.old (map bare (between queue.now (high cache.old) (high cache.old + count))) }
 {
     for _ in 0..count {

@@ -1,5 +1,5 @@
 -- What is legal at a turnstile is, without the numbers of the passes, a legal history of the partition.
-use Rattle.std.proofs.Common.{List, [], ◌∷◌, Result, refl, sym, subst}
+use Rattle.std.proofs.Common.{◌≡◌, List, [], ◌∷◌, Result, refl, sym, subst}
 use Rattle.stream_laws.specs.Laws.{OneHistory}
 use Rattle.stream_model.specs.declared.op.Op.{Op}
 use Rattle.stream_model.specs.declared.plain.PlainPartition.{PlainPartition}
@@ -8,7 +8,7 @@ use Rattle.stream_model.specs.Step.{Leads}
 use Rattle.turnstile.specs.declared.history.Entry.{Entry}
 use Rattle.turnstile.specs.declared.view.Start.{Start}
 use Rattle.turnstile.specs.declared.turnstile.Refusal.{Refusal}
-use Rattle.turnstile.specs.Calls.{CallsBy, IsOf}
+use Rattle.turnstile.specs.Calls.{CallsBy, IsOf, LooksBy}
 use Rattle.turnstile.specs.History.{IsLegal, replay}
 use Rattle.turnstile.specs.Passes.{Origin, PassView}
 use Rattle.shared_partition.specs.Partitions.{BeganEmpty, IsOfEmpty, LeavesLegal, TellsOneHistory, after, replied, told_of}
@@ -32,3 +32,16 @@ called-tells p q op result law of calls = legal-tells of.0.start q.seen law of.2
 
 pub called-leaves : (p q : PassView Op Reply PlainPartition) (op : Op) (result : Result Reply Refusal) → CallsBy replied after p op result q → (t : Origin PlainPartition) → IsOf t p → LeavesLegal t.start q.seen
 called-leaves p q op result calls t of = legal-leaves t.start q.seen (called-legal replied after t p q op result of calls)
+
+-- what a look by a pass of such a turnstile has seen
+module _ (p q : PassView Op Reply PlainPartition) (Shows : PlainPartition → Type 0) where
+  looked-legal : (t : Origin PlainPartition) → IsOf t p → LooksBy replied after p Shows q → IsLegal replied after t.start.state q.seen
+  looked-legal t of looks =
+      let same : looks.origin ≡ t = cc (looks.of, of) in
+      subst (λ (o : Origin PlainPartition). IsLegal replied after o.start.state q.seen) same looks.legal
+
+  pub looked-tells : OneHistory → IsOfEmpty p → LooksBy replied after p Shows q → TellsOneHistory q.seen
+  looked-tells law of looks = legal-tells of.0.start q.seen law of.2 (looked-legal of.0 of.1 looks)
+
+  pub looked-leaves : LooksBy replied after p Shows q → (t : Origin PlainPartition) → IsOf t p → LeavesLegal t.start q.seen
+  looked-leaves looks t of = legal-leaves t.start q.seen (looked-legal t of looks)

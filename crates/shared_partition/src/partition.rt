@@ -2,9 +2,10 @@
 ghost use Rattle.std.specs.Prelude.{◌≡◌, ◌≤◌, IfOk, MatchResult};
 ghost use Rattle.stream_ident.specs.declared.limits.TheConstants.{MOST_BLOCKS};
 ghost use Rattle.stream_model.specs.Bounds.{AreLimits};
+ghost use Rattle.step_core.specs.Figures.{figures_of, subscription_figures_of};
 ghost use Rattle.step_core.specs.Replied.{Shows};
 ghost use Rattle.stream_model.specs.Positions.{empty};
-ghost use Rattle.turnstile.specs.Calls.{Called, CallsBy, Found, HasOnlySeen, IsOf};
+ghost use Rattle.turnstile.specs.Calls.{Called, CallsBy, Found, HasOnlySeen, IsOf, LooksBy};
 ghost use Rattle.turnstile.specs.Passes.{Origin};
 ghost use Rattle.stream_model.specs.declared.plain.PlainPartition.{PlainPartition};
 ghost use Rattle.shared_partition.specs.Partitions.{BeganEmpty, IsOfEmpty, LeavesLegal, TellsOneHistory, after, replied};
@@ -14,8 +15,8 @@ use crate::history::QueueHistory;
 use std::alloc::{AllocError, Global};
 use std::marker::{Model, PhantomData};
 use std::sync::{Arc, Wait};
-use step_core::{Answer, Partition};
-use stream_ident::Event;
+use step_core::{Answer, Partition, QueueFigures, SubscriptionFigures};
+use stream_ident::{Event, SubName};
 use stream_model::{Limits, Op, PlainPartition};
 use turnstile::{Handle, PassOf, Refusal, Replays, Turnstile};
 
@@ -168,5 +169,33 @@ impl<G: Gate, H: QueueHistory> SharedPartition<G, H> {
         ensures stands { (t : Origin PlainPartition) → IsOf t handle.old → LeavesLegal t.start handle.new.seen }
     {
         handle.call(rt, alloc, op, events)
+    }
+    /// What the queue keeps, read in the turn that a handle keeps or in one that it waits for. The history gets no
+    /// entry, and no memory is taken. The figures are those of the partition that all calls leave which the pass has seen
+    /// then, and of these calls it says what [`call`](SharedPartition::call) says.
+    #[inline(never)]
+    pub fn figures_by<R: Wait>(handle: &mut Handle<SharedPartition<G, H>>, rt: &R) -> QueueFigures
+        requires { IsOfEmpty handle.old }
+        ensures looks { LooksBy replied after handle.old (λ p. result ≡ figures_of p) handle.new }
+        ensures headline { TellsOneHistory handle.new.seen }
+        ensures stands { (t : Origin PlainPartition) → IsOf t handle.old → LeavesLegal t.start handle.new.seen }
+    {
+        handle.look(rt, |shared| shared.partition.figures())
+    }
+
+    /// How far a subscription is, and none where it has no record, read as
+    /// [`figures_by`](SharedPartition::figures_by) reads what the queue keeps.
+    #[inline(never)]
+    pub fn subscription_by<R: Wait>(
+        handle: &mut Handle<SharedPartition<G, H>>,
+        rt: &R,
+        sub: &SubName,
+    ) -> Option<SubscriptionFigures>
+        requires { IsOfEmpty handle.old }
+        ensures looks { LooksBy replied after handle.old (λ p. result ≡ subscription_figures_of p sub.now) handle.new }
+        ensures headline { TellsOneHistory handle.new.seen }
+        ensures stands { (t : Origin PlainPartition) → IsOf t handle.old → LeavesLegal t.start handle.new.seen }
+    {
+        handle.look(rt, |shared| shared.partition.subscription(sub))
     }
 }

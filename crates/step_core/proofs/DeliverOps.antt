@@ -21,7 +21,7 @@ use Rattle.stream_model.specs.Replies.{Reply}
 use Rattle.stream_model.specs.declared.reply.Reply.TheVariants as reply
 use Rattle.stream_model.specs.Positions.{between, grain_at, is_outstanding, lower_bound, next_position, token_at, with_grain, with_sub}
 use Rattle.stream_model.specs.Pulling as plain
-use Rattle.consumer_grain.specs.Activations.{PlainActivation, new_activation, woken}
+use Rattle.consumer_grain.specs.Activations.{PlainActivation, new_activation, next_activation, woken}
 use Rattle.consumer_grain.specs.Subscriptions.{PlainState, advanced, caught_up}
 use Rattle.pubsub_registry.specs.declared.registration.Registration.{Registration}
 use Rattle.cache_cursor.specs.Cursor.{lower_in, next_in}
@@ -112,13 +112,13 @@ handed parts i j position d e =
     }
 
 pub deliver-next : (parts : Parts) (generation : ℕ) (s : SubName) (i j position : ℕ) (c : SubName × Registration) (d : GrainId × PlainActivation) (e : PlainState) → Seeks parts generation s i c e
-    → next_position (plain_of parts) (record_at parts i c e) ≡ Some position → s ≡ name_at parts.subs.registry.names i → place_of same_grain (record_at parts i c e).grain parts.grains ≡ Some j
+    → next_position (plain_of parts) (record_at parts i c e) ≡ Some position → s ≡ name_at parts.subs.registry.names i → place_of same_grain (record_at parts i c e).grain parts.grains ≡ Some j → next_activation (activation_at parts j d).number ≡ suc (activation_at parts j d).number
     → plain.deliver (plain_of parts) generation s
     ≡ (if nat_le MAILBOX_PLACES (length (activation_at parts j d).mailbox) then (plain_of parts, reply.MailboxFull)
     else if not (activation_at parts j d).active && nat_le parts.limits.rises parts.rises then (plain_of parts, reply.Spent)
     else (plain_of (handed parts i j position d e), reply.Delivered (token_at (plain_of parts) position)))
 unfolding plain.deliver_position
-deliver-next parts generation s i j position c d e seeks some is_name found =
+deliver-next parts generation s i j position c d e seeks some is_name found rises_by_one =
     deliver-open parts generation s i c e seeks
     ∙ ap (λ o. plain.deliver_position (plain_of parts) s r (grain_at (plain_of parts) r.grain) o) some
     ∙ ap (λ st. plain.deliver_position (plain_of parts) s r st (Some position)) (grain-found parts r.grain j d found)
@@ -144,7 +144,8 @@ deliver-next parts generation s i j position c d e seeks some is_name found =
 
     woken-is : grain_of parts.subs.registry.names (woken a (record { sub = i; position = position })) ≡ plain.woken (grain_of parts.subs.registry.names a) s position
     woken-is =
-        ap (λ ds. record { activation = if a.active then a.number else suc a.number; active = true; mailbox = ds; running = option_map (turn_of parts.subs.registry.names) a.running }) (map-append (delivery_of parts.subs.registry.names) a.mailbox (record { sub = i; position = position } ∷ []))
+        ap (λ n. record { activation = if a.active then a.number else n; active = true; mailbox = map (delivery_of parts.subs.registry.names) (a.mailbox ++ record { sub = i; position = position } ∷ []); running = option_map (turn_of parts.subs.registry.names) a.running }) rises_by_one
+        ∙ ap (λ ds. record { activation = if a.active then a.number else suc a.number; active = true; mailbox = ds; running = option_map (turn_of parts.subs.registry.names) a.running }) (map-append (delivery_of parts.subs.registry.names) a.mailbox (record { sub = i; position = position } ∷ []))
         ∙ ap (λ name. record { activation = if a.active then a.number else suc a.number; active = true; mailbox = map (delivery_of parts.subs.registry.names) a.mailbox ++ record { sub = name; position = position } ∷ []; running = option_map (turn_of parts.subs.registry.names) a.running }) (sym is_name)
 
     grains : with_grain (plain_of sent) r.grain (plain.woken (grain_of parts.subs.registry.names a) s position) ≡ plain_of (record sent { grains = change_at (λ a. woken a (record { sub = i; position = position })) j parts.grains })

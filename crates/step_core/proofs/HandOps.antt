@@ -28,7 +28,7 @@ use Rattle.consumer_grain.specs.declared.mailbox.Delivery.{Delivery}
 use Rattle.consumer_grain.specs.declared.told.Offered.{Offered}
 use Rattle.consumer_grain.specs.declared.told.Offered.TheVariants as offer
 use Rattle.consumer_grain.specs.declared.activation.RunningTurn.{RunningTurn}
-use Rattle.consumer_grain.specs.Activations.{PlainActivation, holds, runs, is_in, new_activation, offered, offer_takes_memory, with_number, woken}
+use Rattle.consumer_grain.specs.Activations.{PlainActivation, holds, runs, is_in, new_activation, next_activation, offered, offer_takes_memory, with_number, woken}
 use Rattle.consumer_grain.specs.Subscriptions.{PlainState, advanced, caught_up}
 use Rattle.grain_table.specs.Changes.{OffersAt, no_grain}
 use Rattle.grain_table.specs.Grains.{PlainGrains, number_of, with_grain, AreIdle}
@@ -243,6 +243,16 @@ offer-first j old d takes =
 
 -- ---- the event is handed over
 
+-- activations have no greater numbers than there are rises, so that the next one is one more
+activation-rises : (parts : Parts) (j : ℕ) → Agrees parts → j < length parts.grains → next_activation (activation j parts.grains).number ≡ suc (activation j parts.grains).number
+activation-rises parts j agrees within =
+    let few = All-at (λ (g : GrainId × PlainActivation). g.1.number ≤ parts.rises) parts.grains j no_grain (numbers parts.grains agrees.within.activations) within in
+    omega (arith, few, agrees.within.rises, agrees.within.limits.rises)
+  where
+    numbers : (grains : PlainGrains) → AllByRecursion (λ (entry : GrainId × Grain). entry.1.activation ≤ parts.rises) (grains_of parts.subs.registry.names grains) → AllByRecursion (λ (g : GrainId × PlainActivation). g.1.number ≤ parts.rises) grains
+    numbers [] all = tt
+    numbers (g ∷ grains) all = (all.0, numbers grains all.1)
+
 -- what is to be done
 abbrev pub ToDo : Parts → Delivery → PlainPartition × Reply
 ToDo parts d = plain.deliver (plain_of parts) parts.agent.generation (table.name_at parts.subs d.sub)
@@ -267,6 +277,7 @@ to-known : (parts : Parts) (d : Delivery) (j : ℕ) → Stands parts d.sub → I
 unfolding known
 to-known parts d j stands next found =
     deliver-next parts parts.agent.generation (table.name_at parts.subs d.sub) d.sub j d.position no_entry no_grain no_state (seeks parts d stands next) next.next (sym (name-same parts.subs d.sub)) found
+    (activation-rises parts j stands.agrees (place_of-within same_grain (record_of parts d.sub).grain j parts.grains found))
 
 known-full : (parts : Parts) (d : Delivery) (j : ℕ) (full lacks : Bool) → full ≡ true → known parts d j full lacks ≡ (plain_of parts, reply.MailboxFull)
 unfolding known
@@ -432,16 +443,6 @@ position-few parts d agrees next = omega (arith, high-few parts agrees, next.cac
 
 pub position-there : (parts : Parts) (d : Delivery) → Agrees parts → IsNext parts d → d.position < length parts.queue.events
 position-there parts d agrees next = omega (arith, high-end parts agrees, next.cached)
-
--- activations have no greater numbers than there are rises
-pub activation-few : (parts : Parts) (j : ℕ) → Agrees parts → j < length parts.grains → (activation j parts.grains).number + 1 < 2 ^ 64
-activation-few parts j agrees within =
-    let few = All-at (λ (g : GrainId × PlainActivation). g.1.number ≤ parts.rises) parts.grains j no_grain (numbers parts.grains agrees.within.activations) within in
-    omega (arith, few, agrees.within.rises, agrees.within.limits.rises)
-  where
-    numbers : (grains : PlainGrains) → AllByRecursion (λ (entry : GrainId × Grain). entry.1.activation ≤ parts.rises) (grains_of parts.subs.registry.names grains) → AllByRecursion (λ (g : GrainId × PlainActivation). g.1.number ≤ parts.rises) grains
-    numbers [] all = tt
-    numbers (g ∷ grains) all = (all.0, numbers grains all.1)
 
 -- ---- a failure to allocate
 

@@ -67,7 +67,7 @@ AreAllRewound parts new =
     → (sub_of (get_or parts.subs.registry.names i d) (get_or new i e)).1 ≡ plain.rewound_where (record_at parts i d e).is_open (record_at parts i d e)
 
 abbrev pub moved : Parts → ℕ → ℕ → List PlainState → Parts
-moved parts silo at new = record parts { agent = (agent.take_over parts.agent silo at).0; subs = record parts.subs { states = new }; rises = suc parts.rises }
+moved parts silo at new = record parts { agent = (agent.replaced parts.agent (suc parts.agent.generation) silo at).0; subs = record parts.subs { states = new }; rises = suc parts.rises }
 
 pub move-parts : (parts : Parts) (silo at : ℕ) (new : List PlainState) → length parts.subs.registry.names ≡ length parts.subs.states → length new ≡ length parts.subs.states → at ≡ least_with (high parts.agent.cache) (open_resumes (plain_of parts)) → AreAllRewound parts new
     → plain.move (plain_of parts) silo

@@ -18,7 +18,7 @@ use Rattle.queue_cache.specs.Cache.{PlainCache, high}
 use Rattle.subscription_table.specs.Standing.{AreRecords}
 use Rattle.subscription_table.specs.Table.{PlainTable, rewound_all, rewound_open}
 use Rattle.stream_model.proofs.Refusals.{purge-stale}
-use Rattle.step_core.specs.Assembly.{HasEvents, IsAssembled}
+use Rattle.step_core.specs.Assembly.{Agrees, HasEvents, IsAssembled}
 use Rattle.step_core.specs.PlainOf.{plain_of}
 use Rattle.step_core.specs.View.{sub_of}
 use Rattle.step_core.specs.declared.parts.Parts.{Parts}
@@ -143,9 +143,15 @@ all-rewound parts records i d e within =
     ap (λ state. (sub_of (get_or parts.subs.registry.names i d) state).1) (map-at rewound_open parts.subs.states i e (omega (arith, within, long)))
 
 module _ (parts : Parts) (silo position : ℕ) where
+  -- the agent's next generation is the plain partition's, since no more than the rises there may be were made
+  generation-rises : Agrees parts → agent.take_over parts.agent silo position ≡ agent.replaced parts.agent (suc parts.agent.generation) silo position
+  generation-rises agrees =
+      let few : agent.next_generation parts.agent.generation ≡ suc parts.agent.generation = omega (arith, agrees.within.generation, agrees.within.rises, agrees.within.limits.rises) in
+      ap {B = agent.PlainAgent × ℕ} (λ n. agent.replaced parts.agent n silo position) few
+
   -- the parts with another agent, the cursors back at the resumes
   abbrev pub taken_over : Parts
-  taken_over = record parts { agent = (agent.take_over parts.agent silo position).0; subs = rewound_all parts.subs; rises = parts.rises + 1 }
+  taken_over = record parts { agent = (agent.replaced parts.agent (suc parts.agent.generation) silo position).0; subs = rewound_all parts.subs; rises = parts.rises + 1 }
 
   pub taken_over-assembled : AreRecords parts.subs → IsAssembled parts → IsAssembled taken_over
   taken_over-assembled records assembled =
@@ -159,7 +165,7 @@ module _ (parts : Parts) (silo position : ℕ) where
       }
 
   taken_over-moves : AreRecords parts.subs → is_spent (plain_of parts) ≡ false → position ≡ min (high parts.agent.cache) (slowest (plain_of parts))
-      → (plain_of taken_over, reply.Moved (agent.take_over parts.agent silo position).1 (token_at (plain_of parts) position)) ≡ plain.move (plain_of parts) silo
+      → (plain_of taken_over, reply.Moved (suc parts.agent.generation) (token_at (plain_of parts) position)) ≡ plain.move (plain_of parts) silo
   taken_over-moves records left is_least =
       let least : position ≡ least_with (high parts.agent.cache) (open_resumes (plain_of parts)) =
       is_least ∙ ap (min (high parts.agent.cache)) (slowest-is parts) ∙ sym (moved-to parts)
@@ -169,16 +175,19 @@ module _ (parts : Parts) (silo position : ℕ) where
       ∙ ap (λ (spent : Bool). if spent then (plain_of parts, reply.Spent) else (plain_of (moved parts silo position (rewound_all parts.subs).states), reply.Moved (suc parts.agent.generation) (token_at (plain_of parts) position))) (sym left)
       ∙ sym (move-parts parts silo position (rewound_all parts.subs).states (sym records.long) (length-map parts.subs.states rewound_open) least (all-rewound parts records))
 
-  module _ (new : agent.PlainAgent) (generation : ℕ) (subs : PlainTable) (took : (new, generation) ≡ agent.take_over parts.agent silo position) (rewinds : subs ≡ rewound_all parts.subs) where
+  module _ (new : agent.PlainAgent) (generation : ℕ) (subs : PlainTable) (agrees : Agrees parts) (took : (new, generation) ≡ agent.take_over parts.agent silo position) (rewinds : subs ≡ rewound_all parts.subs) where
+    took-next : (new, generation) ≡ agent.replaced parts.agent (suc parts.agent.generation) silo position
+    took-next = took ∙ generation-rises agrees
+
     pub moved-assembled : AreRecords parts.subs → IsAssembled parts → IsAssembled (record parts { agent = new; subs = subs; rises = parts.rises + 1 })
     moved-assembled records assembled =
-        subst (λ (left : agent.PlainAgent × ℕ). IsAssembled (record parts { agent = left.0; subs = subs; rises = parts.rises + 1 })) (sym took)
+        subst (λ (left : agent.PlainAgent × ℕ). IsAssembled (record parts { agent = left.0; subs = subs; rises = parts.rises + 1 })) (sym took-next)
         (subst (λ (t : PlainTable). IsAssembled (record taken_over { subs = t })) (sym rewinds) (taken_over-assembled records assembled))
 
     pub moved-performs : (low : Token) → AreRecords parts.subs → is_spent (plain_of parts) ≡ false → position ≡ min (high parts.agent.cache) (slowest (plain_of parts)) → low ≡ token_at (plain_of parts) position
         → (plain_of (record parts { agent = new; subs = subs; rises = parts.rises + 1 }), reply.Moved generation low) ≡ plain.move (plain_of parts) silo
     moved-performs low records left is_least is_low =
         ap {B = PlainPartition × Reply} (λ token. (plain_of (record parts { agent = new; subs = subs; rises = parts.rises + 1 }), reply.Moved generation token)) is_low
-        ∙ ap {B = PlainPartition × Reply} (λ (made : agent.PlainAgent × ℕ). (plain_of (record parts { agent = made.0; subs = subs; rises = parts.rises + 1 }), reply.Moved made.1 (token_at (plain_of parts) position))) took
+        ∙ ap {B = PlainPartition × Reply} (λ (made : agent.PlainAgent × ℕ). (plain_of (record parts { agent = made.0; subs = subs; rises = parts.rises + 1 }), reply.Moved made.1 (token_at (plain_of parts) position))) took-next
         ∙ ap {B = PlainPartition × Reply} (λ (t : PlainTable). (plain_of (record taken_over { subs = t }), reply.Moved (suc parts.agent.generation) (token_at (plain_of parts) position))) rewinds
         ∙ taken_over-moves records left is_least

@@ -22,7 +22,7 @@ use Rattle.consumer_grain.specs.Subscriptions.{new_state}
 use Rattle.pubsub_registry.specs.declared.registration.Registration.{Registration}
 use Rattle.pubsub_registry.specs.declared.told.Added.{Added}
 use Rattle.pubsub_registry.specs.declared.told.Added.TheVariants as add_told
-use Rattle.pubsub_registry.specs.Registry.{PlainRegistry, add, is_full, registered, with_name}
+use Rattle.pubsub_registry.specs.Registry.{PlainRegistry, add_with, is_full, registered, with_name}
 use Rattle.step_core.specs.Numbers.{IsBelow, TurnIsBelow}
 use Rattle.step_core.specs.declared.parts.Parts.{Parts}
 use Rattle.step_core.specs.PlainOf.{plain_of}
@@ -67,6 +67,10 @@ record-more parts s stream grain start position lengths below =
     ap (λ subs. record (plain_of parts) { subs = subs }) (sym (record-added parts.subs.registry.names parts.subs.states entry (new_state start position) lengths))
     ∙ ap (λ gs. record (plain_of parts) { subs = subs_of (parts.subs.registry.names ++ entry ∷ []) (parts.subs.states ++ new_state start position ∷ []); grains = gs }) (sym (grains-before parts.subs.registry.names entry parts.grains below))
 
+-- the registry as it is, or with one name more
+abbrev pub added_where : PlainRegistry → StreamId → GrainId → Token → Bool → PlainRegistry × Added
+added_where r stream grain start full = add_with r stream grain start (if full then None else Some (suc r.explicit))
+
 abbrev pub added_by : Parts → Token → ℕ → PlainRegistry × Added → PlainPartition × Reply
 added_by parts start position (r, add_told.TooMany) = (plain_of parts, reply.TooMany)
 added_by parts start position (r, add_told.Added number) = (plain_of (record parts { subs = record { registry = r; states = parts.subs.states ++ new_state start position ∷ [] } }), reply.Subscribed number)
@@ -75,7 +79,7 @@ pub subscribe-parts : (parts : Parts) (stream : StreamId) (grain : GrainId) (sta
     → parts.subs.registry.most_names ≡ parts.limits.subs → length parts.subs.registry.names ≡ length parts.subs.states
     → AllByRecursion (λ (g : GrainId × PlainActivation). IsBelow (length parts.subs.registry.names) g.1) parts.grains
     → AreGiven parts.subs.registry.explicit (subs_of parts.subs.registry.names parts.subs.states)
-    → plain.subscribe_at (plain_of parts) stream grain start position ≡ added_by parts start position (add parts.subs.registry stream grain start)
+    → plain.subscribe_at (plain_of parts) stream grain start position ≡ added_by parts start position (added_where parts.subs.registry stream grain start (is_full parts.subs.registry))
 unfolding plain.subscribe_at
 subscribe-parts parts stream grain start position limit lengths below given =
     by (nat_le parts.limits.subs (length (subs_of parts.subs.registry.names parts.subs.states))) (is_full parts.subs.registry) full
@@ -94,10 +98,7 @@ subscribe-parts parts stream grain start position limit lengths below given =
     left : PlainPartition × Reply
     left = (record (with_sub (plain_of parts) s (new_subscription stream grain start position)) { explicit = suc parts.subs.registry.explicit }, reply.Subscribed (suc parts.subs.registry.explicit))
 
-    r : PlainRegistry
-    r = record (with_name parts.subs.registry s (registered stream grain start)) { explicit = suc parts.subs.registry.explicit }
-
-    by : (full full' : Bool) → full' ≡ full → (if full then (plain_of parts, reply.TooMany) else left) ≡ added_by parts start position (if full' then (parts.subs.registry, add_told.TooMany) else (r, add_told.Added (suc parts.subs.registry.explicit)))
+    by : (full full' : Bool) → full' ≡ full → (if full then (plain_of parts, reply.TooMany) else left) ≡ added_by parts start position (added_where parts.subs.registry stream grain start full')
     by true full' same = rw same refl
     by false full' same =
         rw same

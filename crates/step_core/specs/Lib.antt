@@ -1,6 +1,7 @@
 pub mod Assembly
 pub mod Deliverables
 pub mod DrainPhases
+pub mod Figures
 pub mod Finishing
 pub mod Handing
 pub mod Kinds

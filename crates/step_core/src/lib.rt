@@ -9,6 +9,7 @@ mod acknowledging;
 mod answer;
 mod delivering;
 mod draining;
+mod figures;
 mod looking;
 mod moving;
 mod outcome;
@@ -23,6 +24,7 @@ mod stepping;
 mod turns;
 
 pub use answer::Answer;
+pub use figures::{QueueFigures, SubscriptionFigures};
 pub use outcome::Outcome;
 pub use partition::Partition;
 pub use partition_queue::Appended;

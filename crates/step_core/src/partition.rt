@@ -13,6 +13,7 @@ ghost use Rattle.stream_model.specs.Looks.{is_running, pending_in};
 ghost use Rattle.stream_model.specs.Positions.{empty, high_token, low_token, sub_at};
 ghost use Rattle.stream_model.specs.Memory.{may_allocate};
 ghost use Rattle.stream_model.specs.Step.{step, IsReached};
+ghost use Rattle.step_core.specs.Figures.{figures_of, subscription_figures_of};
 ghost use Rattle.step_core.specs.Finishing.{OwesNothing};
 ghost use Rattle.step_core.specs.Quiets.{quiet_by};
 ghost use Rattle.step_core.specs.declared.quiet.Quiet.TheVariants.{Yes};
@@ -25,6 +26,7 @@ ghost use Rattle.step_core.specs.Serving.{cursor_of, grain_of, is_settled_in, na
 mod asking;
 
 use crate::answer::Answer;
+use crate::figures::{QueueFigures, SubscriptionFigures, queue_figures, subscription_figures};
 use crate::looking::{all_waiting, least_running, least_waiting, next_due, pending};
 use crate::outcome::{Outcome, reply_of, show};
 use crate::parts::Parts;
@@ -356,6 +358,21 @@ impl Partition {
     {
         let agent = &self.parts.agent;
         (agent.generation(), agent.silo())
+    }
+
+    /// What the queue keeps, and how much more it takes. It takes no memory and walks over no list, however much there
+    /// is.
+    pub fn figures(&self) -> QueueFigures
+        ensures { result ≡ figures_of self.now }
+    {
+        queue_figures(&self.parts)
+    }
+
+    /// How far a subscription is, and none where it has no record. It takes no memory, and costs a look-up of its name.
+    pub fn subscription(&self, sub: &SubName) -> Option<SubscriptionFigures>
+        ensures { result ≡ subscription_figures_of self.now sub.now }
+    {
+        subscription_figures(&self.parts, sub)
     }
 
     /// The subscriptions that have a record, in the order of their names.

@@ -47,26 +47,33 @@ pub(crate) fn pull(
     match parts.agent.plan_pull(generation, max as usize, len, least) {
         Ok(Plan::Dry) => Ok(Reply::Dry),
         Ok(Plan::Held) => Ok(Reply::Pressed { by: slowest(parts) }),
-        Ok(Plan::Take { drops, count }) => take(parts, alloc, drops, count),
+        Ok(Plan::Take { drops, count }) => take(parts, alloc, generation, drops, count),
         Err(StaleAgent { now }) => Ok(Reply::StaleAgent { now }),
     }
 }
 
 /// The open subscription with the least resume, which the cache waits for.
-fn slowest(parts: &Parts) -> SubName
+pub(crate) fn slowest(parts: &Parts) -> SubName
     ensures { result ≡ unwrap_or (slowest_name (plain_of parts.now)) (SubName.Explicit 0) }
 {
     parts.subs.slowest().unwrap_or(SubName::Explicit(0))
 }
 
-/// Takes events as planned, and makes the subscriptions that the rules make of them.
+/// Takes events as planned for the current agent, and makes the subscriptions that the rules make of them.
 ///
 /// # Errors
 /// The call failed to allocate, and nothing has changed. That can happen only where the events would be
 /// taken and the rules would make a subscription.
 #[inline(never)]
-fn take(parts: &mut Parts, alloc: Global, drops: usize, count: usize) -> Result<Outcome, AllocError>
+fn take(
+    parts: &mut Parts,
+    alloc: Global,
+    generation: u64,
+    drops: usize,
+    count: usize,
+) -> Result<Outcome, AllocError>
     requires agrees { Agrees parts.old }
+    requires current { generation ≡ parts.old.agent.generation }
     requires takeable { IsTakeable parts.old.agent (length parts.old.queue.events) (slowest (plain_of parts.old)) drops count }
     ensures assembled { IsAssembled parts.new }
     ensures performs { Performs (plain_of parts.old) (plain_of parts.new) (replied result) (taken (plain_of parts.old) drops count) }
@@ -81,12 +88,13 @@ fn take(parts: &mut Parts, alloc: Global, drops: usize, count: usize) -> Result<
         .imply(alloc, &parts.queue.between(high, high + count), high)?;
     match implied {
         Implied::TooMany => Ok(Reply::TooMany),
-        Implied::Implied => Ok(fill(parts, drops, count)),
+        Implied::Implied => Ok(fill(parts, generation, drops, count)),
     }
 }
 
 /// Drops blocks of the cache, and takes so many events into it, which are the next of the queue.
-fn fill(parts: &mut Parts, drops: usize, count: usize) -> Outcome
+fn fill(parts: &mut Parts, generation: u64, drops: usize, count: usize) -> Outcome
+    requires current { generation ≡ parts.old.agent.generation }
     requires blocks { BLOCK_EVENTS * drops ≤ length parts.old.agent.cache.events }
     requires room { count ≤ room parts.old.agent.cache + BLOCK_EVENTS * drops }
     requires there { high parts.old.agent.cache + count ≤ length parts.old.queue.events }
@@ -94,11 +102,15 @@ fn fill(parts: &mut Parts, drops: usize, count: usize) -> Outcome
     ensures reply { reply_of result ≡ Pulled count (token_at (plain_of parts.new) parts.new.agent.cache.low) (token_at (plain_of parts.new) (high parts.new.agent.cache)) }
     ensures told { IsNoTurn result }
 {
-    parts.agent.pull(drops, &parts.queue, count);
-    let cache = parts.agent.cache();
-    Reply::Pulled {
-        count,
-        low: parts.queue.token_at(cache.low()),
-        high: parts.queue.token_at(cache.high()),
+    match parts.agent.pull(generation, drops, &parts.queue, count) {
+        Ok(count) => {
+            let cache = parts.agent.cache();
+            Reply::Pulled {
+                count,
+                low: parts.queue.token_at(cache.low()),
+                high: parts.queue.token_at(cache.high()),
+            }
+        }
+        Err(StaleAgent { now }) => Reply::StaleAgent { now },
     }
 }

@@ -21,7 +21,7 @@ use Rattle.stream_ident.specs.declared.rule.Rule.{Rule}
 use Rattle.stream_ident.specs.declared.token.Token.{Token}
 use Rattle.queue_mapper.specs.Place.{tag_of}
 use Rattle.consumer_grain.specs.Subscriptions.{PlainState, new_state}
-use Rattle.pubsub_registry.specs.Registry.{PlainRegistry, add, is_full, registered, truncated, with_name}
+use Rattle.pubsub_registry.specs.Registry.{PlainRegistry, add, add_with, next_number, registered, truncated}
 use Rattle.pubsub_registry.specs.declared.told.Added.{Added}
 use Rattle.pubsub_registry.specs.declared.told.Added.TheVariants as add_told
 use Rattle.pubsub_registry.specs.declared.told.Implied.{Implied}
@@ -191,25 +191,17 @@ module _ (t : PlainTable) (tags : List ℕ) (r : PlainResumes) (is : IsTable t t
       named.ranked)
 
   -- one that a grain made
-  pub table-subscribed : (new : PlainRegistry) (stream : StreamId) (grain : GrainId) (start : Token) (told : Added) → is_full t.registry ≡ false → ◌≡◌ {A = PlainRegistry × Added} (new, told) (add t.registry stream grain start)
-      → (number rank : ℕ) → number ≡ t.registry.explicit → value_at same_sub (name.Explicit (number + 1)) t.registry.names ≡ None → IsFirstPast name_of sub_lt (Some (name.Explicit (number + 1))) t.registry.names r.order rank
+  pub table-subscribed : (new : PlainRegistry) (stream : StreamId) (grain : GrainId) (start : Token) (told : Added) (number rank : ℕ) → next_number t.registry ≡ Some number → ◌≡◌ {A = PlainRegistry × Added} (new, told) (add t.registry stream grain start)
+      → value_at same_sub (name.Explicit number) t.registry.names ≡ None → IsFirstPast name_of sub_lt (Some (name.Explicit number)) t.registry.names r.order rank
       → (states : List PlainState) (new_tags : List ℕ) (new_r : PlainResumes) → states ≡ t.states ++ new_state start position ∷ [] → new_tags ≡ tags ++ tag_of stream ∷ []
       → new_r ≡ pushed rank (open_leaf position) r → IsTable (record { registry = new; states = states }) new_tags new_r
-  table-subscribed new stream grain start told not_full adds number rank numbered none first states new_tags new_r stated tagged pushes =
-      let entry : Entry = (name.Explicit (number + 1), registered stream grain start) in
-      let next : number + 1 ≡ suc t.registry.explicit = omega (arith, numbered) in
+  table-subscribed new stream grain start told number rank given adds none first states new_tags new_r stated tagged pushes =
+      let entry : Entry = (name.Explicit number, registered stream grain start) in
       let names : new.names ≡ t.registry.names ++ entry ∷ [] =
-      by (is_full t.registry) not_full adds ∙ ap (λ (n : ℕ). t.registry.names ++ (name.Explicit n, registered stream grain start) ∷ []) (sym next) in
+      ap (λ (out : PlainRegistry × Added). out.0.names) (adds ∙ ap {B = PlainRegistry × Added} (add_with t.registry stream grain start) given) in
       subst (λ (all : List PlainState). IsTable (record { registry = new; states = all }) new_tags new_r) (sym stated)
       (subst (λ (new_r : PlainResumes). IsTable (record { registry = new; states = t.states ++ new_state start position ∷ [] }) new_tags new_r) (sym pushes)
       (table-grown t new (entry ∷ []) names (All-cons (λ (entry : Entry). entry.1.is_open ≡ true) _ [] refl (All-nil (λ (entry : Entry). entry.1.is_open ≡ true)))
       position room tags new_tags r (pushed rank (open_leaf position) r) is tagged refl
       (subst (λ (all : Names). AreRanked name_of sub_lt all (insert r.order rank (length r.order))) (sym names)
       (ranked-insert t.registry.names r.order rank entry is.ranked.long is.ranked.ranking first.within name_of sub_lt same_sub sub_order is.ranked first (absent t.registry.names entry.0 none)))))
-    where
-      by : (b : Bool) → b ≡ false
-          → ◌≡◌ {A = PlainRegistry × Added} (new, told)
-          (if b then (t.registry, add_told.TooMany) else (record (with_name t.registry (name.Explicit (suc t.registry.explicit)) (registered stream grain start)) { explicit = suc t.registry.explicit }, add_told.Added (suc t.registry.explicit)))
-          → new.names ≡ t.registry.names ++ (name.Explicit (suc t.registry.explicit), registered stream grain start) ∷ []
-      by true not_full is = absurd (true≢false not_full)
-      by false not_full is = ap (λ (r : PlainRegistry × Added). r.0.names) is

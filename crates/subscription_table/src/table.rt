@@ -6,7 +6,6 @@ ghost use Rattle.std.specs.Option.{option_copied};
 ghost use Rattle.stream_ident.specs.SubName.{sub_lt};
 ghost use Rattle.queue_mapper.specs.Place.{tag_of};
 ghost use Rattle.pubsub_registry.specs.Index.{AreUnique};
-ghost use Rattle.pubsub_registry.specs.Registry.{is_full};
 ghost use Rattle.ranked_index.specs.Leaves.{with_leaf};
 ghost use Rattle.ranked_index.specs.Listed.{AreRising};
 ghost use Rattle.ranked_index.specs.Ranked.{is_up_to, IsFirstPast};
@@ -154,13 +153,6 @@ impl SubscriptionTable {
         ensures { result.now ≡ state_at self.now number }
     {
         &self.states[number]
-    }
-
-    /// Whether there are as many subscriptions as there may be, closed and implicit ones counted.
-    pub fn is_full(&self) -> bool
-        ensures { result ≡ is_full self.now.registry }
-    {
-        self.registry.is_full()
     }
 
     /// Whether the name of the subscription with a number is less than that of another. It costs a constant, and compares

@@ -1,7 +1,7 @@
--- A call in a turn that is held.
-use Rattle.std.proofs.Common.{◌≡◌, List, [], ◌∷◌, ◌++◌, Result, Ok, Err, MatchResult, refl, sym, ap, subst, ◌∙◌}
+-- A call, or a look, in a turn that is held.
+use Rattle.std.proofs.Common.{◌≡◌, [], ◌∷◌, ◌++◌, Option, Some, Result, Ok, Err, MatchResult, refl, sym, ap, subst, unwrap_or, ◌∙◌}
 use Rattle.turnstile.specs.declared.turnstile.Refusal.{Refusal}
-use Rattle.turnstile.specs.Calls.{outside, Called, CalledNext, CallsBy, Found, FoundNone, HasOnlySeen, IsTurn, Waited}
+use Rattle.turnstile.specs.Calls.{outside, Called, CalledNext, CallsBy, Found, FoundNone, HasOnlySeen, IsTurn, LooksBy, Waited}
 use Rattle.turnstile.specs.History.{entry}
 use Rattle.turnstile.specs.Passes.{Origin, PassView, TurnView}
 
@@ -30,4 +30,21 @@ module _ {S O R : Type 0} (reply : S → O → R) (after : S → O → S) (t : O
         of = refl;
         only = ap (outside t) only ∙ ap (λ (v : PassView O R S). record v { seen = q.seen }) same;
         call = in-turn result h same waited call turn;
+      })
+
+module _ {S O R : Type 0} (reply : S → O → R) (after : S → O → S) (t : Origin S) (p b w : PassView O R S) where
+  -- the pass waited, if it had no turn, and the object was shown in its turn
+  pub looks-held : (Shows : S → Type 0) (h : TurnView O R S) (state : S) → outside t b ≡ record (outside t p) { seen = b.seen } → Waited (outside t p) b.seen
+      → IsTurn reply after t b h → h.state ≡ Some state → Shows state → outside t w ≡ outside t b
+      → LooksBy reply after (outside t p) Shows (outside t w)
+  looks-held Shows h state same waited turn object shows settled =
+      subst (λ v. LooksBy reply after (outside t p) Shows v) (sym settled)
+      (record {
+        origin = t;
+        of = refl;
+        only = same;
+        waited = waited;
+        legal = turn.legal;
+        bounded = turn.bounded;
+        shows = subst Shows (ap (λ (o : Option S). unwrap_or o state) (sym object ∙ turn.object)) shows;
       })

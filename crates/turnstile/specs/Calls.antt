@@ -95,6 +95,17 @@ module _ {S O R : Type 0} (reply : S → O → R) (after : S → O → S) where
     pub only : HasOnlySeen p q
     pub call : MatchResult result (λ r. Called origin.start p op r q.seen) (λ e. Found origin.start p e q.seen)
 
+  -- The object was shown to a pass, and no call was made: it has seen what it had seen, then calls of others. What it has
+  -- seen is legal, and `Shows` holds of the state that all of it leaves.
+  pub record LooksBy (p : PassView O R S) (Shows : S → Type 0) (q : PassView O R S) : Type 0 where
+    pub origin : Origin S
+    pub of : p.turnstile ≡ Some origin
+    pub only : HasOnlySeen p q
+    pub waited : Waited p q.seen
+    pub legal : IsLegal reply after origin.start.state q.seen
+    pub bounded : length q.seen ≤ origin.start.limit
+    pub shows : Shows (replay reply after origin.start.state q.seen)
+
   -- the pass is of this turnstile, or has this turn in it
   abbrev pub IsSeated : Origin S → Option (TurnView O R S) → PassView O R S → Type 0
   IsSeated t None p = p ≡ outside t p

@@ -1,10 +1,10 @@
 //! A pass with its turnstile, and the turn that it may keep.
 ghost use Rattle.std.specs.Prelude.{◌≡◌, length, IfOk, MatchResult, None, OnErr, OnOk};
 ghost use Rattle.std.specs.Arc.{arc_value};
-ghost use Rattle.turnstile.specs.Calls.{outside, Agree, CallsBy, HasOnlyMade, IsOf, IsSeated, IsSplitOff, IsTurn, Waited, joined_pass};
+ghost use Rattle.std.specs.Fn.{FnOnceReturnsAt};
+ghost use Rattle.turnstile.specs.Calls.{outside, Agree, CallsBy, HasOnlyMade, IsOf, IsSeated, IsSplitOff, IsTurn, LooksBy, Waited, joined_pass};
 
 use crate::pass::PassOf;
-use crate::passes::NoNumberLeft;
 use crate::replays::Replays;
 use crate::turnstile::{Refusal, Turn, Turnstile};
 use std::alloc::{AllocError, Global};
@@ -101,6 +101,25 @@ impl<T: Replays> Handle<T> {
         answer
     }
 
+    /// Shows the object, in the turn that it keeps or in one that it waits for, and gives what is read of it. No entry is
+    /// added, and the pass has then seen the whole history. Nobody else has a turn while `read` runs.
+    #[inline(never)]
+    pub fn look<R: Wait, V, F: FnOnce(&T) -> V>(&mut self, rt: &R, read: F) -> V
+        requires { F.IsAlwaysCallable read }
+        ensures { LooksBy T.replied T.after self.old (λ state. (object : T) × (state ≡ T.state_of object) × FnOnceReturnsAt F.FnOnce read object result) self.new }
+    {
+        let turn = take_turn(&self.turnstile, rt, &mut self.pass, self.turn.take());
+        let seen = read(turn.object());
+        settle(
+            &self.turnstile,
+            &mut self.pass,
+            &mut self.turn,
+            turn,
+            self.keeps,
+        );
+        seen
+    }
+
     /// Keeps its turn from the next call on.
     pub fn keep(&mut self)
         ensures { self.new ≡ self.old }
@@ -130,10 +149,8 @@ impl<T: Replays> Handle<T> {
     {
         let turnstile = Arc::try_clone(&self.turnstile)?;
         give_up(&self.turnstile, &mut self.pass, self.turn.take());
-        match turnstile.split(&mut self.pass) {
-            Ok(pass) => Ok(Handle::new(turnstile, pass)),
-            Err(NoNumberLeft) => Err(AllocError),
-        }
+        let pass = turnstile.split(&mut self.pass)?;
+        Ok(Handle::new(turnstile, pass))
     }
 
     /// Takes in another handle of the same turnstile: the numbers of its pass, and what that has seen where it is

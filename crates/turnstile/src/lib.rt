@@ -28,7 +28,6 @@ pub use closing::{Closed, NotAll, Traced};
 pub use handle::Handle;
 pub use history::{Entry, PlainHistory, StoredHistory};
 pub use pass::{Pass, PassOf};
-pub use passes::NoNumberLeft;
 pub use recorded::{ProofHistory, Recorded};
 pub use replays::Replays;
 pub use turnstile::{Refusal, Turn, Turnstile};

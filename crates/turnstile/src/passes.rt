@@ -6,12 +6,9 @@ use crate::pass::{Pass, PassOf};
 use crate::replays::Replays;
 use crate::rule::{Count, Meet, Number, Tell, Twin};
 use crate::turnstile::Turnstile;
+use std::alloc::AllocError;
 
 const MOST_PASSES: u64 = 1 << 32;
-
-/// As many passes were made as there can be, which is 2^32.
-#[derive(Debug, Clone, Copy, PartialEq, Eq)]
-pub struct NoNumberLeft;
 
 impl<T: Replays> Turnstile<T> {
     ghost use Rattle.turnstile.specs.Calls.{IsOf, HasOnlyMade, IsSplitOff, joined_pass, Agree};
@@ -20,8 +17,8 @@ impl<T: Replays> Turnstile<T> {
     /// It takes no memory.
     ///
     /// # Errors
-    /// `NoNumberLeft` where 2^32 passes were made. The old pass then knows so, and is else as before.
-    pub fn split(&self, pass: &mut PassOf<T>) -> Result<PassOf<T>, NoNumberLeft>
+    /// 2^32 passes were made, and no number is left. The old pass then knows so, and is else as before.
+    pub fn split(&self, pass: &mut PassOf<T>) -> Result<PassOf<T>, AllocError>
         requires { IsOf self.now pass.old }
         ensures same { OnOk result (pass.new ≡ pass.old) }
         ensures new { IfOk result (λ q. IsSplitOff pass.old q) }
@@ -52,7 +49,7 @@ impl<T: Replays> Turnstile<T> {
             .join_seat::<Meet>(&mut pass.seat, seat);
         self.lock.table.shared.load::<Tell>(&mut pass.seat, PASSES);
         pass.made = made;
-        Err(NoNumberLeft)
+        Err(AllocError)
     }
 
     /// Takes in another pass: its numbers, and what it has seen where that is more. It takes no memory.

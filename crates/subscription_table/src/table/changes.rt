@@ -1,10 +1,10 @@
 //! The calls that change subscriptions: they make and close them, commit to them, and move them over the
 //! log.
-ghost use Rattle.std.specs.Prelude.{◌≡◌, ◌+◌, ◌^◌, ◌<◌, ◌≤◌, true, false, length, is_ok, OnErr, All, if◌then◌else◌, IfSome};
+ghost use Rattle.std.specs.Prelude.{◌≡◌, ◌+◌, ◌^◌, ◌<◌, ◌≤◌, true, length, is_ok, is_some, OnErr, All, if◌then◌else◌, IfSome};
 ghost use Rattle.stream_ident.specs.declared.limits.TheConstants.{MOST_EVENTS, PULL_EVENTS};
 ghost use Rattle.stream_ident.specs.Words.{past, Performs};
 ghost use Rattle.queue_cache.specs.Cache.{high};
-ghost use Rattle.pubsub_registry.specs.Registry.{is_full};
+ghost use Rattle.pubsub_registry.specs.Registry.{next_number};
 ghost use Rattle.consumer_grain.specs.Subscriptions.{committed, rises_from, advanced};
 ghost use Rattle.subscription_table.specs.Table.{add_rule, close, imply, state_at, subscribe, with_state, registration_at, rewound_all, stepped, AreRewound};
 ghost use Rattle.subscription_table.specs.Progress.{ack, next_event, retry, IsFound, handled_at};
@@ -26,7 +26,7 @@ use stream_ident::{GrainId, Name, Row, StreamId, SubName, Token};
 
 impl SubscriptionTable {
     /// A grain subscribes to a stream, from a token on, whose first event is sought from a position on. The
-    /// subscription has the next number of the table, and the next explicit number for its name.
+    /// subscription has the next number of the table, and the next explicit number for its name, where one is left.
     ///
     /// # Errors
     /// The call failed to allocate, and nothing has changed. That can happen only where a subscription would
@@ -40,19 +40,18 @@ impl SubscriptionTable {
         start: Token,
         position: usize,
     ) -> Result<Added, AllocError>
-        requires number { self.old.registry.explicit + 1 < 2 ^ 32 }
         requires position { position + 2 < 2 ^ 64 }
         ensures performs { Performs self.old self.new result (subscribe self.old stream grain start position) }
-        ensures memory { OnErr result (is_full self.old.registry ≡ false) }
+        ensures memory { OnErr result (is_some (next_number self.old.registry) ≡ true) }
     {
-        if self.is_full() {
+        let Some(number) = self.registry.next_number() else {
             return Ok(Added::TooMany);
-        }
+        };
         self.states.reserve(1)?;
         self.tags.reserve(1)?;
         let len = self.resumes.len();
         let tag = stream_tag(&self.registry, &self.tags, &stream);
-        let sub = SubName::Explicit(self.registry.explicit() + 1);
+        let sub = SubName::Explicit(number);
         let rank = first_past(&self.registry, self.resumes.numbers(), Some(&sub));
         self.resumes.push(alloc, rank, position)?;
         match self.registry.add(alloc, stream, grain, start) {

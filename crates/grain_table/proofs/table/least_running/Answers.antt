@@ -24,7 +24,7 @@ loop-number-preserved-then-is_some c =
     let seen : Some e ≡ slice_get grains number = sym (ap (option_map deref_pair) c.unwrap.ensures) ∙ c.get_index.ensures.entry in
     let within : number < length grains = omega (arith, c.loop-number.invariant.0, c.loop-number-test.true) in
     let last : c.loop-number.number ≡ suc number = omega (arith, c.loop-number-test.true) in
-    let passes : is_running e.1 ≡ true = ap is_some (sym c.running.ensures.running) ∙ some-copied c.running.result ∙ sym c.if-is_some.ensures in
+    let passes : is_running e.1 ≡ true = ap is_some (sym c.running.ensures) ∙ some-copied c.running.result ∙ sym c.if-is_some.ensures in
     (omega (arith, within), ap (λ (g : GrainId). Some g) c.lesser.ensures ∙ least-there is_running grains number e c.loop-number.least within seen passes (c.loop-number.invariant.1 ∙ ap (λ (n : ℕ). least_from is_running n grains) last))
 
 pub loop-number-preserved : goal.loop-number-preserved
@@ -35,7 +35,7 @@ loop-number-preserved c =
     let seen : Some e ≡ slice_get grains number = sym (ap (option_map deref_pair) c.unwrap.ensures) ∙ c.get_index.ensures.entry in
     let within : number < length grains = omega (arith, c.loop-number.invariant.0, c.loop-number-test.true) in
     let last : c.loop-number.number ≡ suc number = omega (arith, c.loop-number-test.true) in
-    let fails : is_running e.1 ≡ false = ap is_some (sym c.running.ensures.running) ∙ some-copied c.running.result ∙ sym c.if-is_some.ensures in
+    let fails : is_running e.1 ≡ false = ap is_some (sym c.running.ensures) ∙ some-copied c.running.result ∙ sym c.if-is_some.ensures in
     (omega (arith, within), least-not is_running grains number e c.loop-number.least within seen fails (c.loop-number.invariant.1 ∙ ap (λ (n : ℕ). least_from is_running n grains) last))
 
 pub returns : goal.returns

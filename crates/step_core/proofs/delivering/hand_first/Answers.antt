@@ -1,4 +1,4 @@
-use Rattle.std.proofs.Common.{◌∙◌, ap, sym, arith}
+use Rattle.std.proofs.Common.{◌∙◌, ap, sym}
 use Rattle.grain_table.specs.Grains.{with_grain}
 use Rattle.pubsub_registry.specs.declared.registration.Registration.{Registration}
 use Rattle.step_core.specs.Replied.{reply_of}
@@ -10,9 +10,6 @@ returns-then-is_spent-clause-performs c =
     let parts = c.args.parts.now in
     let stands : Stands parts c.args.delivery.sub = record { agrees = c.requires.agrees; within = c.requires.next.numbered } in
     sym (first-spent parts c.args.delivery stands c.requires.next c.requires.first (sym c.is_spent.ensures ∙ c.if-is_spent.true))
-
-pub add-requires-clause-position : goal.add-requires-clause-position
-add-requires-clause-position c = omega (arith, position-few c.args.parts.now c.args.delivery c.requires.agrees c.requires.next)
 
 pub returns-in_err-add-clause-memory : goal.returns-in_err-add-clause-memory
 returns-in_err-add-clause-memory c =

@@ -13,7 +13,7 @@ use Rattle.step_core.specs.declared.parts.Parts.{Parts}
 use Rattle.step_core.specs.PlainOf.{plain_of}
 use Rattle.step_core.specs.Records.{record_of}
 use Rattle.step_core.specs.Replied.{reply_of}
-use Rattle.step_core.proofs.HandOps.{HasRise, OfferIs, Stands, activation, activation-few, handed-assembled, handed-full, handed-memory, handed-performs, handed-spent, handed-untouched, offer-first, offer-is, position-few, position-there}
+use Rattle.step_core.proofs.HandOps.{HasRise, OfferIs, Stands, activation, handed-assembled, handed-full, handed-memory, handed-performs, handed-spent, handed-untouched, offer-first, offer-is, position-few, position-there}
 use Rattle.step_core.proofs.delivering.hand_to.Goals as goal
 use Rattle.step_core.proofs.delivering.hand_to.Goals.{else-wakes-via-then-wakes+else-is_spent, else-wakes-via-else-wakes}
 
@@ -31,16 +31,8 @@ returns-then-is_spent-clause-performs c =
     let active = seen parts c.args.grain c.is_active-wakes.result c.at.result.now c.is_active-wakes.ensures c.at.ensures.activation in
     sym (handed-spent parts c.args.delivery c.args.grain stands c.requires.next c.requires.grain (active ∙ c.if-wakes.true) (sym c.is_spent.ensures ∙ c.if-is_spent.true))
 
-pub offer-requires-clause-number : goal.offer-requires-clause-number
-offer-requires-clause-number c = place_of-within same_grain (record_of c.args.parts.now c.args.delivery.sub).grain c.args.grain c.args.parts.now.grains c.requires.grain
-
-pub offer-requires-clause-activation : goal.offer-requires-clause-activation
-offer-requires-clause-activation c =
-    activation-few c.args.parts.now c.args.grain c.requires.agrees
-    (place_of-within same_grain (record_of c.args.parts.now c.args.delivery.sub).grain c.args.grain c.args.parts.now.grains c.requires.grain)
-
-pub offer-requires-clause-position : goal.offer-requires-clause-position
-offer-requires-clause-position c = omega (arith, position-few c.args.parts.now c.args.delivery c.requires.agrees c.requires.next)
+pub offer-requires : goal.offer-requires
+offer-requires c = place_of-within same_grain (record_of c.args.parts.now c.args.delivery.sub).grain c.args.grain c.args.parts.now.grains c.requires.grain
 
 pub returns-in_err-offer-clause-memory : goal.returns-in_err-offer-clause-memory
 returns-in_err-offer-clause-memory c =

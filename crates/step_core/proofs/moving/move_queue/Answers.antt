@@ -18,7 +18,7 @@ token_at-low-requires c =
 
 pub returns-clause-assembled : goal.returns-clause-assembled
 returns-clause-assembled c =
-    moved-assembled c.args.parts.now c.args.silo c.min-position.result c.take_over-generation.new.self c.take_over-generation.result c.rewind_all.new.self c.take_over-generation.ensures c.rewind_all.ensures c.requires.records c.requires.assembled
+    moved-assembled c.args.parts.now c.args.silo c.min-position.result c.take_over-generation.new.self c.take_over-generation.result c.rewind_all.new.self c.requires c.take_over-generation.ensures c.rewind_all.ensures c.requires.records c.requires.assembled
 
 pub returns-clause-performs : goal.returns-clause-performs
 returns-clause-performs c =
@@ -26,5 +26,5 @@ returns-clause-performs c =
     let least : c.min-position.result ≡ min (high parts.agent.cache) (slowest (plain_of parts)) =
     c.min-position.ensures ∙ ap (λ n. min n c.least_resume.result) (c.high.ensures ∙ ap high c.cache.ensures) ∙ ap (min (high parts.agent.cache)) c.least_resume.ensures
     in
-    moved-performs parts c.args.silo c.min-position.result c.take_over-generation.new.self c.take_over-generation.result c.rewind_all.new.self c.take_over-generation.ensures c.rewind_all.ensures
+    moved-performs parts c.args.silo c.min-position.result c.take_over-generation.new.self c.take_over-generation.result c.rewind_all.new.self c.requires c.take_over-generation.ensures c.rewind_all.ensures
     c.token_at-low.result c.requires.records (sym c.is_spent.ensures ∙ c.if-is_spent.false) least c.token_at-low.ensures

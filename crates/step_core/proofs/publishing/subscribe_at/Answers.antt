@@ -10,8 +10,8 @@ use Rattle.step_core.proofs.AddedOps.{added-assembled, added-memory, added-perfo
 use Rattle.step_core.proofs.Shared.{high-end}
 use Rattle.step_core.proofs.publishing.subscribe_at.Goals as goal
 
-pub subscribe-requires-clause-position : goal.subscribe-requires-clause-position
-subscribe-requires-clause-position c = omega (arith, high-end c.args.parts.now c.requires.agrees, c.requires.agrees.within.events, c.requires.agrees.within.limits.events)
+pub subscribe-requires : goal.subscribe-requires
+subscribe-requires c = omega (arith, high-end c.args.parts.now c.requires.agrees, c.requires.agrees.within.events, c.requires.agrees.within.limits.events)
 
 pub returns-in_err-added-clause-assembled : goal.returns-in_err-added-clause-assembled
 returns-in_err-added-clause-assembled c =
@@ -28,7 +28,7 @@ returns-clause-assembled c =
     let parts = c.args.parts.now in
     let new : c.subscribe.new.self ≡ _ = ap (λ (stepped : PlainTable × Added). stepped.0) c.in_ok-added.ensures.performs in
     subst (λ (subs : PlainTable). IsAssembled (record parts { subs = subs })) (sym new)
-    (added-assembled parts c.args.stream.now c.args.grain.now c.args.start c.args.position c.requires.agrees.records c.requires.agrees.assembled)
+    (added-assembled parts c.args.stream.now c.args.grain.now c.args.start c.args.position c.requires.agrees)
 
 pub returns-clause-performs : goal.returns-clause-performs
 returns-clause-performs c =

@@ -32,7 +32,7 @@ returns c =
     let found : place_of same_grain g parts.grains ≡ Some i = ap (λ r. place_of same_grain r.grain parts.grains) (sym c.registration.ensures) ∙ sym c.find.ensures.number ∙ c.in-Some.is in
     let empty : a.mailbox ≡ [] = none-there a.mailbox (sym (ap (λ (x : PlainActivation). length x.mailbox) at) ∙ sym c.waiting.ensures.count ∙ omega (arith, c.if-waiting-gt0.false)) in
     let idle : a.running ≡ None =
-    none-runs a.running (sym (ap (λ (x : PlainActivation). is_some x.running) at) ∙ sym (ap is_some c.running.ensures.running) ∙ some-copied c.running.result ∙ sym c.is_some.ensures ∙ c.if-is_some.false) in
+    none-runs a.running (sym (ap (λ (x : PlainActivation). is_some x.running) at) ∙ sym (ap is_some c.running.ensures) ∙ some-copied c.running.result ∙ sym c.is_some.ensures ∙ c.if-is_some.false) in
     λ active.
     let is_active : a.active ≡ true = sym (ap (λ (x : PlainActivation). x.active) at) ∙ sym c.is_active.ensures ∙ active in
     let names = parts.subs.registry.names in

@@ -28,8 +28,8 @@ returns-then-is_some-clause-performs c =
     let parts = c.args.parts.now in
     let i = c.in-Some.number in
     let found = sym c.find.ensures.number ∙ c.in-Some.is in
-    let none = ap (λ (a : PlainActivation). slice_get a.mailbox 0) (sym c.at-activation.ensures.activation) ∙ (sym c.front.ensures.front ∙ c.in_default-front.is) in
-    let busy = ap (λ (a : PlainActivation). is_some a.running) (sym c.at-activation.ensures.activation) ∙ (ap is_some (sym c.running.ensures.running) ∙ (some-copied c.running.result ∙ sym c.is_some.ensures)) in
+    let none = ap (λ (a : PlainActivation). slice_get a.mailbox 0) (sym c.at-activation.ensures.activation) ∙ (sym c.front.ensures ∙ c.in_default-front.is) in
+    let busy = ap (λ (a : PlainActivation). is_some a.running) (sym c.at-activation.ensures.activation) ∙ (ap is_some (sym c.running.ensures) ∙ (some-copied c.running.result ∙ sym c.is_some.ensures)) in
     sym (begin-idle parts c.args.grain.now i c.args.max no_grain true found none (busy ∙ c.if-is_some.true))
 
 pub returns-in_default-front-clause-performs : goal.returns-in_default-front-clause-performs
@@ -37,8 +37,8 @@ returns-in_default-front-clause-performs c =
     let parts = c.args.parts.now in
     let i = c.in-Some.number in
     let found = sym c.find.ensures.number ∙ c.in-Some.is in
-    let none = ap (λ (a : PlainActivation). slice_get a.mailbox 0) (sym c.at-activation.ensures.activation) ∙ (sym c.front.ensures.front ∙ c.in_default-front.is) in
-    let busy = ap (λ (a : PlainActivation). is_some a.running) (sym c.at-activation.ensures.activation) ∙ (ap is_some (sym c.running.ensures.running) ∙ (some-copied c.running.result ∙ sym c.is_some.ensures)) in
+    let none = ap (λ (a : PlainActivation). slice_get a.mailbox 0) (sym c.at-activation.ensures.activation) ∙ (sym c.front.ensures ∙ c.in_default-front.is) in
+    let busy = ap (λ (a : PlainActivation). is_some a.running) (sym c.at-activation.ensures.activation) ∙ (ap is_some (sym c.running.ensures) ∙ (some-copied c.running.result ∙ sym c.is_some.ensures)) in
     sym (begin-idle parts c.args.grain.now i c.args.max no_grain false found none (busy ∙ c.if-is_some.false))
 
 pub state-state-requires : goal.state-state-requires
@@ -48,7 +48,7 @@ state-state-requires c =
     let a = activation_at parts.grains i in
     let below = known-at parts i c.requires.assembled c.in-Some.ensures.within in
     let front = c.in-Some-front.front in
-    let is_front = ap (λ (a : PlainActivation). slice_get a.mailbox 0) (sym c.at-activation.ensures.activation) ∙ (sym c.front.ensures.front ∙ c.in-Some-front.is) in
+    let is_front = ap (λ (a : PlainActivation). slice_get a.mailbox 0) (sym c.at-activation.ensures.activation) ∙ (sym c.front.ensures ∙ c.in-Some-front.is) in
     front-numbered (length parts.subs.registry.names) a.mailbox front is_front below.waiting
 
 pub returns-then-wants_rise-clause-performs : goal.returns-then-wants_rise-clause-performs
@@ -59,7 +59,7 @@ returns-then-wants_rise-clause-performs c =
     let found = sym c.find.ensures.number ∙ c.in-Some.is in
     let below = known-at parts i c.requires.assembled c.in-Some.ensures.within in
     let front = c.in-Some-front.front in
-    let is_front = ap (λ (a : PlainActivation). slice_get a.mailbox 0) (sym c.at-activation.ensures.activation) ∙ (sym c.front.ensures.front ∙ c.in-Some-front.is) in
+    let is_front = ap (λ (a : PlainActivation). slice_get a.mailbox 0) (sym c.at-activation.ensures.activation) ∙ (sym c.front.ensures ∙ c.in-Some-front.is) in
     let handled = past c.state-state.result.now.handled in
     let is_past : (f : Delivery) (fs : List Delivery) → a.mailbox ≡ f ∷ fs → handled ≡ past (state_at parts.subs f.sub).handled =
     λ f fs are. ap (λ (s : PlainState). past s.handled) c.state-state.ensures ∙ ap (λ (d : Delivery). past (state_at parts.subs d.sub).handled) (front-same a.mailbox front is_front f fs are) in
@@ -92,7 +92,7 @@ returns-clause-performs c =
     let found = sym c.find.ensures.number ∙ c.in-Some.is in
     let below = known-at parts i c.requires.assembled c.in-Some.ensures.within in
     let front = c.in-Some-front.front in
-    let is_front = ap (λ (a : PlainActivation). slice_get a.mailbox 0) (sym c.at-activation.ensures.activation) ∙ (sym c.front.ensures.front ∙ c.in-Some-front.is) in
+    let is_front = ap (λ (a : PlainActivation). slice_get a.mailbox 0) (sym c.at-activation.ensures.activation) ∙ (sym c.front.ensures ∙ c.in-Some-front.is) in
     let handled = past c.state-state.result.now.handled in
     let is_past : (f : Delivery) (fs : List Delivery) → a.mailbox ≡ f ∷ fs → handled ≡ past (state_at parts.subs f.sub).handled =
     λ f fs are. ap (λ (s : PlainState). past s.handled) c.state-state.ensures ∙ ap (λ (d : Delivery). past (state_at parts.subs d.sub).handled) (front-same a.mailbox front is_front f fs are) in

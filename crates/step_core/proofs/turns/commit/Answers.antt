@@ -1,7 +1,8 @@
-use Rattle.std.proofs.Common.{◌∙◌, ap, sym, subst, length}
+use Rattle.std.proofs.Common.{◌∙◌, ap, sym, subst, length, arith}
 use Rattle.consumer_grain.specs.Activations.{PlainActivation, current_turn}
 use Rattle.grain_table.specs.Changes.{activation_at}
 use Rattle.subscription_table.specs.Table.{PlainTable}
+use Rattle.stream_ident.proofs.WordLemmas.{past_from-within}
 use Rattle.stream_model.proofs.Answering.{on-error}
 use Rattle.step_core.specs.Assembly.{IsAssembled}
 use Rattle.step_core.specs.Replied.{reply_of}
@@ -43,6 +44,17 @@ handle-requires-clause-rising c =
     let is_current = ap (λ (a : PlainActivation). current_turn a c.args.activation c.args.turn) (sym c.at.ensures.activation) ∙ sym c.in-Some-current_turn.ensures in
     let runs = is-running a.running run a.number c.args.activation c.args.turn is_current in
     running-rises parts c.args.grain.now i run c.requires.reached (distinct-of-unique parts.subs.registry.names c.requires.unique) (sym c.requires.records.long) (sym c.find.ensures.number ∙ c.in-Some.is) (running-below (length parts.subs.registry.names) a.running run below.running runs.0) runs.0
+
+pub handle-requires-clause-room : goal.handle-requires-clause-room
+handle-requires-clause-room c =
+    let parts = c.args.parts.now in
+    let i = c.in-Some.number in
+    let a = activation_at parts.grains i in
+    let run = c.in-Some-current_turn.run'.now in
+    let is_current = ap (λ (a : PlainActivation). current_turn a c.args.activation c.args.turn) (sym c.at.ensures.activation) ∙ sym c.in-Some-current_turn.ensures in
+    let runs = is-running a.running run a.number c.args.activation c.args.turn is_current in
+    let within = running-within parts c.args.grain.now i run c.requires.within (sym c.find.ensures.number ∙ c.in-Some.is) runs.0 in
+    omega (arith, past_from-within 0 (length parts.queue.events) run.positions (omega arith) within, c.requires.within.events, c.requires.within.limits.events)
 
 pub returns-in_err-told-clause-assembled : goal.returns-in_err-told-clause-assembled
 returns-in_err-told-clause-assembled c =

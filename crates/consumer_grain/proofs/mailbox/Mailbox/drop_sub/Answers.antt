@@ -1,5 +1,4 @@
-use Rattle.std.proofs.Common.{◌+◌, ◌^◌, ◌<◌, ◌==◌, not, arith}
-use Rattle.std.proofs.lemmas.List.Elements.{All-filter}
+use Rattle.std.proofs.Common.{◌==◌, not, arith}
 use Rattle.std.proofs.lemmas.List.Sums.{count_by-le-length, length-filter}
 use Rattle.consumer_grain.specs.declared.mailbox.Delivery.{Delivery}
 use Rattle.consumer_grain.proofs.mailbox.Mailbox.drop_sub.Goals as goal
@@ -10,8 +9,5 @@ invariant_of-self c =
     let other = λ (d : Delivery). not (c.args.sub == d.sub) in
     rw c.keep_others.ensures.items (
       omega (arith, c.self.invariant.0, c.keep_others.ensures.capacity),
-      record {
-        few = omega (arith, length-filter other waiting, count_by-le-length other waiting, c.self.invariant.1.few);
-        room = All-filter other (λ (d : Delivery). d.position + 1 < 2 ^ 64) waiting c.self.invariant.1.room;
-      },
+      omega (arith, length-filter other waiting, count_by-le-length other waiting, c.self.invariant.1),
     )

@@ -16,7 +16,7 @@ mark-requires-clause-number c =
     let grains = c.self.inside.entries.entries in
     let grain = c.args.grain in
     let activation : PlainActivation = c.in_ok-activation.activation in
-    let more = grown grains c.reserve-2.new.self.entries c.insert.new.self.entries grain activation c.reserve-2.ensures.entries (ap (λ (gs : PlainGrains). number_of gs grain) c.self.view_is ∙ c.requires.absent)
+    let more = grown grains c.reserve-2.new.self.entries c.insert.new.self.entries grain activation c.reserve-2.ensures.entries (ap (λ (gs : PlainGrains). number_of gs grain) c.self.view_is ∙ c.requires)
     (subst (λ told. OnOk told (c.insert.new.self.entries ≡ insert_entry same_grain c.reserve-2.new.self.entries grain activation)) c.unwrap.ensures c.insert.ensures.entries) in
     omega (arith, c.len-number.ensures.len, ap length more, length_push grains (grain, activation))
 
@@ -29,7 +29,7 @@ mark-requires-clause-room c =
     let grains = c.self.inside.entries.entries in
     let grain = c.args.grain in
     let activation : PlainActivation = c.in_ok-activation.activation in
-    let more = grown grains c.reserve-2.new.self.entries c.insert.new.self.entries grain activation c.reserve-2.ensures.entries (ap (λ (gs : PlainGrains). number_of gs grain) c.self.view_is ∙ c.requires.absent)
+    let more = grown grains c.reserve-2.new.self.entries c.insert.new.self.entries grain activation c.reserve-2.ensures.entries (ap (λ (gs : PlainGrains). number_of gs grain) c.self.view_is ∙ c.requires)
     (subst (λ told. OnOk told (c.insert.new.self.entries ≡ insert_entry same_grain c.reserve-2.new.self.entries grain activation)) c.unwrap.ensures c.insert.ensures.entries) in
     omega (arith, c.len-number.ensures.len, c.len.ensures, c.min.ensures, c.in_ok-reserve.ensures.len, c.in_ok-reserve.ensures.ok, ap length more, length_push grains (grain, activation))
 
@@ -38,7 +38,7 @@ mark-requires-clause-ready c =
     let grains = c.self.inside.entries.entries in
     let grain = c.args.grain in
     let activation : PlainActivation = c.in_ok-activation.activation in
-    let more = grown grains c.reserve-2.new.self.entries c.insert.new.self.entries grain activation c.reserve-2.ensures.entries (ap (λ (gs : PlainGrains). number_of gs grain) c.self.view_is ∙ c.requires.absent)
+    let more = grown grains c.reserve-2.new.self.entries c.insert.new.self.entries grain activation c.reserve-2.ensures.entries (ap (λ (gs : PlainGrains). number_of gs grain) c.self.view_is ∙ c.requires)
     (subst (λ told. OnOk told (c.insert.new.self.entries ≡ insert_entry same_grain c.reserve-2.new.self.entries grain activation)) c.unwrap.ensures c.insert.ensures.entries) in
     let but = listed-more name_of grain_lt same_grain grain_order is_entry_ready grains c.self.inside.ready.items (grain, activation) c.self.invariant.are_ready in
     subst (λ (n : ℕ). AreReadyBut n c.insert.new.self.entries c.reserve.new.self.items) (sym c.len-number.ensures.len)
@@ -50,7 +50,7 @@ invariant_of-self-2 c =
     let grains = c.self.inside.entries.entries in
     let grain = c.args.grain in
     let activation : PlainActivation = c.in_ok-activation.activation in
-    let more = grown grains c.reserve-2.new.self.entries c.insert.new.self.entries grain activation c.reserve-2.ensures.entries (ap (λ (gs : PlainGrains). number_of gs grain) c.self.view_is ∙ c.requires.absent)
+    let more = grown grains c.reserve-2.new.self.entries c.insert.new.self.entries grain activation c.reserve-2.ensures.entries (ap (λ (gs : PlainGrains). number_of gs grain) c.self.view_is ∙ c.requires)
     (subst (λ told. OnOk told (c.insert.new.self.entries ≡ insert_entry same_grain c.reserve-2.new.self.entries grain activation)) c.unwrap.ensures c.insert.ensures.entries) in
     record {
       distinct = distinct-of c.insert.new.self.entries c.insert.ensures.unique;
@@ -65,7 +65,7 @@ returns c =
     let grains = c.self.inside.entries.entries in
     let grain = c.args.grain in
     let activation : PlainActivation = c.in_ok-activation.activation in
-    let more = grown grains c.reserve-2.new.self.entries c.insert.new.self.entries grain activation c.reserve-2.ensures.entries (ap (λ (gs : PlainGrains). number_of gs grain) c.self.view_is ∙ c.requires.absent)
+    let more = grown grains c.reserve-2.new.self.entries c.insert.new.self.entries grain activation c.reserve-2.ensures.entries (ap (λ (gs : PlainGrains). number_of gs grain) c.self.view_is ∙ c.requires)
     (subst (λ told. OnOk told (c.insert.new.self.entries ≡ insert_entry same_grain c.reserve-2.new.self.entries grain activation)) c.unwrap.ensures c.insert.ensures.entries) in
     more
     ∙ ap (λ (a : PlainActivation). grains ++ (grain, a) ∷ []) c.in_ok-activation.ensures

@@ -15,7 +15,7 @@ recount-self-inside-requires-clause-some c = λ ran.
     let within : c.args.number < length grains = omega (arith, ap length c.self.view_is) in
     let read = read-value grains c.args.number c.unwrap-entry.result.now within (sym (ap option_copied_mut c.unwrap-entry.ensures) ∙ c.get_index_mut.ensures.value) in
     let did : is_running (activation_at grains c.args.number) ≡ c.is_some-did_run.result =
-    ap is_running (sym read) ∙ ap is_some (sym c.running.ensures.running) ∙ some-copied c.running.result ∙ sym c.is_some-did_run.ensures in
+    ap is_running (sym read) ∙ ap is_some (sym c.running.ensures) ∙ some-copied c.running.result ∙ sym c.is_some-did_run.ensures in
     omega (arith, c.self.invariant.counted, count-some grains c.args.number within (did ∙ ran))
 
 pub recount-self-inside-requires-clause-fits : goal.recount-self-inside-requires-clause-fits
@@ -48,8 +48,8 @@ invariant_of-self c =
     let within : c.args.number < length grains = omega (arith, ap length c.self.view_is) in
     let read = read-value grains c.args.number c.unwrap-entry.result.now within (sym (ap option_copied_mut c.unwrap-entry.ensures) ∙ c.get_index_mut.ensures.value) in
     let did : is_running (activation_at grains c.args.number) ≡ c.is_some-did_run.result =
-    ap is_running (sym read) ∙ ap is_some (sym c.running.ensures.running) ∙ some-copied c.running.result ∙ sym c.is_some-did_run.ensures in
-    let now : is_running c.commit-ended.new.self ≡ c.is_some-runs.result = ap is_some (sym c.running-2.ensures.running) ∙ some-copied c.running-2.result ∙ sym c.is_some-runs.ensures in
+    ap is_running (sym read) ∙ ap is_some (sym c.running.ensures) ∙ some-copied c.running.result ∙ sym c.is_some-did_run.ensures in
+    let now : is_running c.commit-ended.new.self ≡ c.is_some-runs.result = ap is_some (sym c.running-2.ensures) ∙ some-copied c.running-2.result ∙ sym c.is_some-runs.ensures in
     let before = ap {B = ℕ} (λ (b : Bool). if b then 1 else 0) did in
     let after = ap {B = ℕ} (λ (b : Bool). if b then 1 else 0) now in
     record {

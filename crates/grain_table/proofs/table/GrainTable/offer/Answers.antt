@@ -34,7 +34,7 @@ pub invariant_of-self : goal.invariant_of-self
 invariant_of-self c =
     let t = c.self.inside in
     let grains = t.entries.entries in
-    let within : c.args.number < length grains = omega (arith, ap length c.self.view_is, c.requires.number) in
+    let within : c.args.number < length grains = omega (arith, ap length c.self.view_is, c.requires) in
     let read = read-value grains c.args.number c.unwrap.result.now within (sym (ap option_copied_mut c.unwrap.ensures) ∙ c.get_index_mut.ensures.value) in
     subst (λ (gs : PlainGrains). IsTable gs t.ready.items (vec_capacity t.ready) t.running) (sym (written-same grains c.args.number c.offer.new.self (c.in_err-offered.ensures.performs ∙ read))) c.self.invariant
 
@@ -42,7 +42,7 @@ pub returns-in_err-offered-clause-performs : goal.returns-in_err-offered-clause-
 returns-in_err-offered-clause-performs c =
     let t = c.self.inside in
     let grains = t.entries.entries in
-    let within : c.args.number < length grains = omega (arith, ap length c.self.view_is, c.requires.number) in
+    let within : c.args.number < length grains = omega (arith, ap length c.self.view_is, c.requires) in
     let read = read-value grains c.args.number c.unwrap.result.now within (sym (ap option_copied_mut c.unwrap.ensures) ∙ c.get_index_mut.ensures.value) in
     offers-nothing c.args.number c.args.self.now (set_value_at grains c.args.number c.offer.new.self) c.from_residual.result c.args.delivery c.from_residual.ensures.0
     (written-same grains c.args.number c.offer.new.self (c.in_err-offered.ensures.performs ∙ read) ∙ c.self.view_is)
@@ -51,14 +51,14 @@ pub returns-in_err-offered-clause-memory : goal.returns-in_err-offered-clause-me
 returns-in_err-offered-clause-memory c =
     let t = c.self.inside in
     let grains = t.entries.entries in
-    let within : c.args.number < length grains = omega (arith, ap length c.self.view_is, c.requires.number) in
+    let within : c.args.number < length grains = omega (arith, ap length c.self.view_is, c.requires) in
     let read = read-value grains c.args.number c.unwrap.result.now within (sym (ap option_copied_mut c.unwrap.ensures) ∙ c.get_index_mut.ensures.value) in
     on-error (offer_takes_memory (activation_at c.args.self.now c.args.number) c.args.delivery ≡ true) c.from_residual.result
     (ap (λ (a : PlainActivation). offer_takes_memory a c.args.delivery) (sym (read ∙ ap (λ (gs : PlainGrains). activation_at gs c.args.number) c.self.view_is)) ∙ c.in_err-offered.ensures.memory)
 
 pub mark-requires-clause-number : goal.mark-requires-clause-number
 mark-requires-clause-number c =
-    omega (arith, length-written c.self.inside.entries.entries c.args.number c.offer.new.self, ap length c.self.view_is, c.requires.number)
+    omega (arith, length-written c.self.inside.entries.entries c.args.number c.offer.new.self, ap length c.self.view_is, c.requires)
 
 pub mark-requires-clause-distinct : goal.mark-requires-clause-distinct
 mark-requires-clause-distinct c =
@@ -72,14 +72,14 @@ pub mark-requires-clause-ready : goal.mark-requires-clause-ready
 mark-requires-clause-ready c =
     let t = c.self.inside in
     let grains = t.entries.entries in
-    let within : c.args.number < length grains = omega (arith, ap length c.self.view_is, c.requires.number) in
+    let within : c.args.number < length grains = omega (arith, ap length c.self.view_is, c.requires) in
     ready-but grains t.ready.items c.args.number c.offer.new.self within c.self.invariant.are_ready
 
 pub invariant_of-self-2 : goal.invariant_of-self-2
 invariant_of-self-2 c =
     let t = c.self.inside in
     let grains = t.entries.entries in
-    let within : c.args.number < length grains = omega (arith, ap length c.self.view_is, c.requires.number) in
+    let within : c.args.number < length grains = omega (arith, ap length c.self.view_is, c.requires) in
     let read = read-value grains c.args.number c.unwrap.result.now within (sym (ap option_copied_mut c.unwrap.ensures) ∙ c.get_index_mut.ensures.value) in
     let kept : is_running c.offer.new.self ≡ is_running (activation_at grains c.args.number) =
     ap (λ (r : PlainActivation × Offered). is_running r.0) c.in_ok-offered.ensures.performs ∙ offered-running c.unwrap.result.now c.args.delivery ∙ ap is_running read in
@@ -95,7 +95,7 @@ pub returns-clause-performs : goal.returns-clause-performs
 returns-clause-performs c =
     let t = c.self.inside in
     let grains = t.entries.entries in
-    let within : c.args.number < length grains = omega (arith, ap length c.self.view_is, c.requires.number) in
+    let within : c.args.number < length grains = omega (arith, ap length c.self.view_is, c.requires) in
     let read = read-value grains c.args.number c.unwrap.result.now within (sym (ap option_copied_mut c.unwrap.ensures) ∙ c.get_index_mut.ensures.value) in
     let change : PlainActivation → PlainActivation = λ a. (offered a c.args.delivery).0 in (
       written grains change c.args.number c.offer.new.self within (ap (λ (r : PlainActivation × Offered). r.0) c.in_ok-offered.ensures.performs ∙ ap change read)

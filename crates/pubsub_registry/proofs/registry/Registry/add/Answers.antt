@@ -1,17 +1,15 @@
-use Rattle.std.proofs.Common.{◌≡◌, ◌∙◌, ◌+◌, false, sym, subst, arith}
+use Rattle.std.proofs.Common.{◌≡◌, ◌∙◌, ◌+◌, ◌≤◌, Some, false, sym, subst, arith}
 use Rattle.stream_ident.specs.declared.ident.SubName.TheVariants.{Explicit}
-use Rattle.pubsub_registry.specs.Registry.{PlainRegistry, is_full}
-use Rattle.pubsub_registry.proofs.SoundLemmas.{new-number, sound-push}
+use Rattle.pubsub_registry.specs.Registry.{PlainRegistry, is_full, next_number}
+use Rattle.pubsub_registry.proofs.SoundLemmas.{given-number, sound-push}
 use Rattle.pubsub_registry.proofs.registry.Registry.add.Goals as goal
 
 pub push-requires-clause-few : goal.push-requires-clause-few
 push-requires-clause-few c = omega (arith, c.self.invariant.names_fit, c.self.invariant.few_names)
 
-pub push-requires-clause-new : goal.push-requires-clause-new
-push-requires-clause-new c = new-number _ c.self.invariant (c.self.inside.explicit + 1) (omega arith)
-
 pub invariant_of-self-2 : goal.invariant_of-self-2
 invariant_of-self-2 c =
-    let room = subst (λ (r : PlainRegistry). is_full r ≡ false) (sym c.self.view_is) (sym c.is_full.ensures ∙ c.if-is_full.false) in
-    sound-push _ c.self.invariant room c.push.new.self (c.self.inside.explicit + 1) (Explicit (c.self.inside.explicit + 1)) c.opened-registration.result c.in_ok-push.ensures.ok (omega arith)
-    (λ number is. let same : c.self.inside.explicit + 1 ≡ number = cc in omega (arith, same))
+    let r : PlainRegistry = record { names = c.self.inside.subscriptions; explicit = c.self.inside.explicit; rules = c.self.inside.rules; most_names = c.self.inside.most_names; most_rules = c.self.inside.most_rules } in
+    let given = given-number r c.in-Some.number (subst (λ (r : PlainRegistry). next_number r ≡ Some c.in-Some.number) (sym c.self.view_is) (sym c.next_number.ensures.number ∙ c.in-Some.is)) in
+    sound-push r c.self.invariant given.0 c.push.new.self c.in-Some.number (Explicit c.in-Some.number) c.opened-registration.result c.in_ok-push.ensures.ok (omega (arith, given.1))
+    (λ number is. let same : c.in-Some.number ≡ number = cc in omega (arith, same))

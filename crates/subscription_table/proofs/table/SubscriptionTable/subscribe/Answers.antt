@@ -1,9 +1,9 @@
-use Rattle.std.proofs.Common.{◌≡◌, ◌∙◌, ◌+◌, ◌<◌, ◌++◌, ◌∷◌, [], ℕ, List, Some, false, refl, sym, ap, subst, arith}
+use Rattle.std.proofs.Common.{◌≡◌, ◌∙◌, ◌++◌, ◌∷◌, [], ℕ, List, Some, None, IfSome, refl, sym, ap, subst}
 use Rattle.stream_ident.specs.SubName.{sub_lt}
 use Rattle.stream_ident.specs.declared.ident.SubName.TheVariants as name
 use Rattle.queue_mapper.specs.Place.{tag_of}
 use Rattle.consumer_grain.specs.Subscriptions.{PlainState, new_state}
-use Rattle.pubsub_registry.specs.Registry.{is_full}
+use Rattle.pubsub_registry.specs.Registry.{next_number, registration_of}
 use Rattle.ranked_index.specs.Leaves.{open_leaf, pushed, truncated}
 use Rattle.ranked_index.specs.Ranked.{IsFirstPast}
 use Rattle.subscription_table.specs.Standing.{name_of}
@@ -16,9 +16,8 @@ use Rattle.subscription_table.proofs.table.SubscriptionTable.subscribe.Goals as 
 pub invariant_of-self-in-Ok : goal.invariant_of-self-in-Ok
 invariant_of-self-in-Ok c =
     let t : PlainTable = record { registry = c.self.inside.registry; states = c.self.inside.states.items } in
-    let not_full : is_full t.registry ≡ false = ap (λ (t : PlainTable). is_full t.registry) c.self.view_is ∙ (sym c.is_full.ensures ∙ c.if-is_full.false) in
-    let number = c.explicit.result + 1 in
-    let greater : t.registry.explicit < number = omega (arith, c.explicit.ensures.last) in
+    let number = c.in-Some.number in
+    let given : next_number t.registry ≡ Some number = sym c.next_number.ensures.number ∙ c.in-Some.is in
     let rank = c.first_past-rank.result in
     let first = subst (λ (order : List ℕ). IsFirstPast name_of sub_lt (Some (name.Explicit number)) t.registry.names order rank) c.numbers.ensures.numbers c.first_past-rank.ensures in
     let stated : c.push_reserved.new.self.items ≡ t.states ++ new_state c.args.start c.args.position ∷ [] =
@@ -26,8 +25,8 @@ invariant_of-self-in-Ok c =
     let tagged : c.push_reserved-in-Ok.new.self.items ≡ c.self.inside.tags.items ++ tag_of c.args.stream ∷ [] =
     c.push_reserved-in-Ok.ensures.items ∙ ap (λ (tags : List ℕ). tags ++ c.stream_tag-tag.result ∷ []) c.reserve-2.ensures.items ∙ ap (λ (n : ℕ). c.self.inside.tags.items ++ n ∷ []) c.stream_tag-tag.ensures in
     table-subscribed t c.self.inside.tags.items c.self.inside.resumes c.self.invariant c.args.position c.requires.position
-    c.add.new.self c.args.stream c.args.grain c.args.start c.in-Ok.added not_full (c.in-Ok.ensures).performs c.explicit.result rank c.explicit.ensures.last
-    (c.explicit.ensures.new number greater) first c.push_reserved.new.self.items c.push_reserved-in-Ok.new.self.items c.push.new.self stated tagged c.in_ok-push.ensures
+    c.add.new.self c.args.stream c.args.grain c.args.start c.in-Ok.added number rank given (c.in-Ok.ensures).performs
+    (subst (λ next. IfSome next (λ number. registration_of t.registry (name.Explicit number) ≡ None)) c.in-Some.is c.next_number.ensures.new) first c.push_reserved.new.self.items c.push_reserved-in-Ok.new.self.items c.push.new.self stated tagged c.in_ok-push.ensures
 
 pub invariant_of-self-in-Err : goal.invariant_of-self-in-Err
 invariant_of-self-in-Err c =

@@ -1,0 +1,19 @@
+use Rattle.std.proofs.Common.{◌∙◌, ap, sym, refl}
+use Rattle.std.specs.Option.{option_map}
+use Rattle.step_core.specs.Figures.{figures_at}
+use Rattle.step_core.specs.PlainOf.{plain_of}
+use Rattle.step_core.proofs.ReadLemmas.{found-none, found-sub}
+use Rattle.step_core.proofs.figures.subscription_figures.Goals as goal
+
+pub returns-in_err-number : goal.returns-in_err-number
+returns-in_err-number c =
+    let p = plain_of c.args.parts.now in
+    c.from_residual.ensures
+    ∙ sym (ap (option_map (figures_at p)) (found-none c.args.parts.now c.args.sub.now c.requires.records (sym c.find.ensures.number ∙ c.in_err-number.was)))
+
+pub returns : goal.returns
+returns c =
+    let parts = c.args.parts.now in
+    let p = plain_of parts in
+    let found = found-sub parts c.args.sub.now c.in_ok-number.number c.requires.records (sym c.find.ensures.number ∙ c.in_ok-number.was) in
+    rw (c.registration-registration.ensures, c.is_open.ensures, c.handled.ensures.handled, c.behind.ensures, c.len.ensures.count, c.state-state.ensures, c.last_handled.ensures, found) refl
