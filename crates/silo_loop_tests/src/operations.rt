@@ -17,8 +17,6 @@ pub enum Call {
     Rule,
     /// A grain subscribes to a stream, from the next event on: the stream and the grain.
     Subscribe(u8, u8),
-    /// It does so from the first event on.
-    SubscribeFromFirst(u8, u8),
     /// An explicit subscription ends.
     Unsubscribe(u32),
     /// A batch of one event goes to the stream.
@@ -26,8 +24,8 @@ pub enum Call {
     Pull,
     /// The next event goes to the first subscription.
     Deliver,
-    /// The grain begins a turn.
-    Begin(u8),
+    /// The grain begins a turn of up to so many events.
+    Begin(u8, u32),
     /// A turn of an activation of the grain ends, and leaves a note.
     Commit(u8, u64, u64, u64),
     /// The first subscription has handled all up to an event.
@@ -61,11 +59,11 @@ fn publish(rt: &impl Abort, alloc: Global, key: u8) -> Result<Op, AllocError> {
     })
 }
 
-fn subscribe(rt: &impl Abort, from: u8, to: u8, start: Start) -> Op {
+fn subscribe(rt: &impl Abort, from: u8, to: u8) -> Op {
     Op::Subscribe {
         stream: stream(rt, from),
         grain: grain(rt, to),
-        start,
+        start: Start::Latest,
     }
 }
 
@@ -81,8 +79,7 @@ pub fn operation(rt: &impl Abort, alloc: Global, call: Call) -> Result<Op, Alloc
     let generation = 0;
     Ok(match call {
         Call::Rule => add_rule(rt),
-        Call::Subscribe(from, to) => subscribe(rt, from, to, Start::Latest),
-        Call::SubscribeFromFirst(from, to) => subscribe(rt, from, to, Start::At(FIRST)),
+        Call::Subscribe(from, to) => subscribe(rt, from, to),
         Call::Unsubscribe(number) => Op::Unsubscribe {
             sub: SubName::Explicit(number),
         },
@@ -95,9 +92,9 @@ pub fn operation(rt: &impl Abort, alloc: Global, call: Call) -> Result<Op, Alloc
             generation,
             sub: SUB,
         },
-        Call::Begin(key) => Op::Begin {
+        Call::Begin(key, max) => Op::Begin {
             grain: grain(rt, key),
-            max: 16,
+            max,
         },
         Call::Commit(key, activation, turn, note) => Op::Commit {
             grain: grain(rt, key),

@@ -22,7 +22,7 @@ static CALLS: [Call; 20] = [
     Call::Publish(STREAM),
     Call::Pull,
     Call::Deliver,
-    Call::Begin(GRAIN),
+    Call::Begin(GRAIN, 16),
     Call::Commit(GRAIN, 1, 1, 1),
     Call::Acknowledge(FIRST),
     Call::Publish(STREAM),
@@ -31,12 +31,12 @@ static CALLS: [Call; 20] = [
     Call::Pull,
     Call::Deliver,
     Call::Deliver,
-    Call::Begin(GRAIN),
+    Call::Begin(GRAIN, 16),
     Call::Commit(GRAIN, 1, 2, 3),
     Call::Deliver,
     Call::Unsubscribe(1),
     Call::Deliver,
-    Call::Begin(GRAIN),
+    Call::Begin(GRAIN, 16),
 ];
 
 // A caller of an empty queue.

@@ -18,11 +18,11 @@ const GRAIN: u8 = b'x';
 
 // An event on its way from a producer to the grain that has handled it, and what each call on this way is told.
 static CALLS: [(Call, Told); 6] = [
-    (Call::SubscribeFromFirst(STREAM, GRAIN), Told::Subscribed(1)),
+    (Call::Subscribe(STREAM, GRAIN), Told::Subscribed(1)),
     (Call::Publish(STREAM), Told::Published(0)),
     (Call::Pull, Told::PulledFirst),
     (Call::Deliver, Told::DeliveredFirst),
-    (Call::Begin(GRAIN), Told::TurnOfFirst(STREAM)),
+    (Call::Begin(GRAIN, 1), Told::TurnOfFirst(STREAM)),
     (Call::Commit(GRAIN, 1, 1, 1), Told::CommittedFirst),
 ];
 

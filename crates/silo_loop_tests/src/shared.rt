@@ -39,7 +39,7 @@ static CALLS: [Call; 5] = [
     Call::Publish(b'k'),
     Call::Pull,
     Call::Deliver,
-    Call::Begin(b'k'),
+    Call::Begin(b'k', 16),
     Call::Quiet,
 ];
 

@@ -2,7 +2,7 @@
 ghost use Rattle.std.specs.Prelude.{◌≡◌, ◌<◌, All, vec_len};
 ghost use Rattle.turnstile.specs.Calls.{IsOf};
 
-use crate::passes::{finished, push};
+use crate::passes::{alone, finished, push};
 use crate::rows::assert_at;
 use crate::total::{Addition, By, Call, Case, EVERYTHING, Total, opened, played};
 use std::alloc::Global;
@@ -80,6 +80,47 @@ fn calls_in_their_order(rt: HostRuntime) {
     }
 }
 
+// Adds twice in one turn.
+fn add_twice<R: Wait, H: StoredHistory<Addition, u64>>(
+    rt: &R,
+    alloc: Global,
+    turnstile: &Turnstile<Total<H>>,
+    pass: &mut PassOf<Total<H>>,
+    amounts: (u64, u64),
+) -> (Result<u64, Refusal>, Result<u64, Refusal>)
+    requires { IsOf turnstile.now pass.old }
+    ensures { IsOf turnstile.now pass.new }
+{
+    let (first, second) = amounts;
+    let mut turn = turnstile.enter(rt, pass);
+    let first = Addition {
+        amount: first,
+        room: 0,
+    };
+    let first = turnstile.call_in(alloc, pass, &mut turn, first, &mut ());
+    let second = Addition {
+        amount: second,
+        room: 0,
+    };
+    let second = turnstile.call_in(alloc, pass, &mut turn, second, &mut ());
+    turnstile.leave(pass, turn);
+    (first, second)
+}
+
+// Each call of a turn has an entry, until the history is full.
+#[test]
+fn a_turn_has_two_calls(rt: HostRuntime) {
+    let alloc = rt.alloc();
+    let (turnstile, mut pass) = opened::<HostRuntime, Stored>(&rt, alloc, 3);
+    let replies = add_twice(&rt, alloc, &turnstile, &mut pass, (5, 2));
+    assert!(rt; replies == (Ok(5), Ok(7)));
+    let replies = add_twice(&rt, alloc, &turnstile, &mut pass, (1, 4));
+    assert!(rt; replies == (Ok(8), Err(Refusal::HistoryFull)));
+    let done = finished(&rt, turnstile, alone(&rt, alloc, pass));
+    assert!(rt; has_entries(done.history.as_slice(), &[(0, 5, 5), (0, 2, 7), (0, 1, 8)]));
+    assert!(rt; done.object.sum == 8);
+}
+
 // Whether these are the replies of a history.
 fn are_replies(replies: &[u64], history: &[(u64, u64, u64)]) -> bool {
     for (reply, entry) in replies.iter().zip(history) {
@@ -104,7 +145,10 @@ fn a_fresh_object_gives_the_replies_again(rt: HostRuntime) {
     }
 }
 
-// How many passes add, each in a thread of its own.
+// How many passes add, each in a thread of its own, how many entries that makes, and the total.
+static ADDING: [(usize, u64, u64); 2] = [(2, 2_000, 999_000), (10, 10_000, 4_995_000)];
+
+// The most passes.
 const PASSES: usize = 10;
 
 // How often each of them adds.
@@ -126,24 +170,25 @@ fn add_many<H: StoredHistory<Addition, u64>, R: Wait>(
     pass
 }
 
-// A pass, behind all that are split off it.
+// So many passes: one, behind those that are split off it.
 fn split_off<H: StoredHistory<Addition, u64>, R: Abort>(
     rt: &R,
     alloc: Global,
     turnstile: &Turnstile<Total<H>>,
     mut first: PassOf<Total<H>>,
+    passes: usize,
 ) -> Vec<PassOf<Total<H>>>
     requires { IsOf turnstile.now first }
     ensures some { 0 < vec_len result }
     ensures passes { All (IsOf turnstile.now) result.items }
 {
-    let mut passes = Vec::new(alloc);
-    for _ in 1..PASSES {
+    let mut split = Vec::new(alloc);
+    for _ in 1..passes {
         let pass = turnstile.split(&mut first).expect(rt, "a pass");
-        push(rt, &mut passes, pass);
+        push(rt, &mut split, pass);
     }
-    push(rt, &mut passes, first);
-    passes
+    push(rt, &mut split, first);
+    split
 }
 
 // The passes after each has added in a thread of its own.
@@ -165,21 +210,22 @@ fn in_threads<H: StoredHistory<Addition, u64> + Send, R: Threads + Wait + Abort 
     added.expect(rt, "memory")
 }
 
-// The history after all passes have added in threads.
+// The history and the total after so many passes have added in threads.
 fn added<H: StoredHistory<Addition, u64> + Send, R: Threads + Wait + Abort + Sync>(
     rt: &R,
     alloc: Global,
-) -> H {
-    let (turnstile, first) = opened::<R, H>(rt, alloc, 10_000);
-    let passes = split_off(rt, alloc, &turnstile, first);
+    passes: usize,
+    entries: u64,
+) -> (H, u64) {
+    let (turnstile, first) = opened::<R, H>(rt, alloc, entries);
+    let passes = split_off(rt, alloc, &turnstile, first, passes);
     let passes = in_threads(rt, alloc, &turnstile, passes);
     let done = finished(rt, turnstile, passes);
-    assert!(rt; done.object.sum == 4_995_000);
-    done.history
+    (done.history, done.object.sum)
 }
 
-// The calls of each pass stand in their order, a thousand of each, and each reply is the sum so far.
-fn in_order<R: Abort>(rt: &R, history: &[Entry<Addition, u64>]) {
+// The calls of each of so many passes stand in their order, a thousand of each, and each reply is the sum so far.
+fn in_order<R: Abort>(rt: &R, history: &[Entry<Addition, u64>], passes: usize) {
     let mut counts = [0u64; PASSES];
     let mut sum = 0u64;
     for (at, entry) in history.iter().enumerate() {
@@ -191,14 +237,18 @@ fn in_order<R: Abort>(rt: &R, history: &[Entry<Addition, u64>]) {
         *count = count.wrapping_add(1);
     }
     for (pass, count) in counts.iter().enumerate() {
-        assert_at(rt, pass, *count == EACH);
+        let wanted = if pass < passes { EACH } else { 0 };
+        assert_at(rt, pass, *count == wanted);
     }
 }
 
 #[test]
-fn ten_threads(rt: HostRuntime) {
-    let history = added::<Stored, HostRuntime>(&rt, rt.alloc());
-    in_order(&rt, history.as_slice());
-    let asked = added::<Unanswered, HostRuntime>(&rt, rt.alloc());
-    assert!(rt; asked.as_slice().len() == 10_000);
+fn passes_add_in_threads(rt: HostRuntime) {
+    for (passes, entries, total) in &ADDING {
+        let (history, sum) = added::<Stored, HostRuntime>(&rt, rt.alloc(), *passes, *entries);
+        assert!(rt; history.as_slice().len() as u64 == *entries && sum == *total);
+        in_order(&rt, history.as_slice(), *passes);
+        let (asked, sum) = added::<Unanswered, HostRuntime>(&rt, rt.alloc(), *passes, *entries);
+        assert!(rt; asked.as_slice().len() as u64 == *entries && sum == *total);
+    }
 }
