@@ -5,3 +5,4 @@ mod QueueLemmas
 mod ScriptLemmas
 mod SummaryLemmas
 mod VerbLemmas
+mod VerbPlaces

@@ -1,9 +1,10 @@
 -- What the summary of commands says.
-use Rattle.std.specs.Prelude.{◌≡◌, ℕ, ◌-◌, ◌^◌, ◌==◌, Bool, false, List, [], ◌∷◌, Option, Some, None, count_by, min, if◌then◌else◌}
+use Rattle.std.specs.Prelude.{◌≡◌, ◌↔◌, ℕ, ◌-◌, ◌^◌, ◌==◌, Bool, false, List, [], ◌∷◌, Option, Some, None, count_by, min, slice_get, if◌then◌else◌}
 use Rattle.std.specs.List.{list_any}
 use Rattle.stream_ident.specs.declared.ident.StreamId.{StreamId}
 use Rattle.stream_ident.specs.Name.{same_stream}
 use Rattle.stream_script.specs.declared.parser.command.Command.{Command}
+use Rattle.script_checker.specs.declared.verb.TheConstants.{ALL}
 use Rattle.script_checker.specs.declared.verb.Verb.{Verb}
 use Rattle.script_checker.specs.Counts.{verb_in, number_of}
 use Rattle.script_checker.specs.PlainSummary.{PlainSummary}
@@ -41,3 +42,7 @@ abbrev pub QueuesAreTold : Type 0
 QueuesAreTold =
     (queues : ℕ) (commands : List Command) (stream : StreamId) → queue_in (summary_of queues commands) stream
     ≡ (if is_named_in stream commands then Some (own_queue stream queues) else None)
+
+-- Each verb stands in the list of all at its number, and at no other place.
+abbrev pub VerbsStandOnce : Type 0
+VerbsStandOnce = (verb : Verb) (place : ℕ) → (slice_get ALL place ≡ Some verb) ↔ (place ≡ number_of verb)

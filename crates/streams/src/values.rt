@@ -1,5 +1,5 @@
 //! Values that payloads carry.
-ghost use Rattle.std.specs.Prelude.{◌≡◌, ◌<◌, ◌^◌, ℕ, List, Ok, decimal};
+ghost use Rattle.std.specs.Prelude.{◌≡◌, ◌≢◌, ◌<◌, ◌^◌, ℕ, List, Ok, MatchResult, decimal};
 ghost use Rattle.std.specs.Fmt.{signed_decimal};
 ghost use lib.Signed.{mag};
 ghost use Rattle.stream_ident.specs.Name.{payload_of};
@@ -21,17 +21,18 @@ pub trait Encode {
         ensures { result ≡ payload_of (bytes self.now) };
 }
 
-/// A value that can be read from a payload. What [`Encode::encode`] gave is read as the value that it was given.
+/// A value that can be read from a payload: what is read is what [`Encode::encode`] writes, and nothing else.
 pub trait Decode: Encode {
     /// Holds of the values that are read back.
     ghost is_value: { Self → Type 0 };
 
-    /// The value that the payload carries.
+    /// The value that the payload carries, which encodes to this very payload.
     ///
     /// # Errors
-    /// The payload carries no such value.
+    /// The payload carries no such value: none that is read back encodes to it.
     fn decode(payload: &Payload) -> Result<Self, NoValue>
-        ensures { (value : Self) → is_value value → Self.bytes value ≡ payload.now → result ≡ Ok value };
+        ensures found { (value : Self) → is_value value → Self.bytes value ≡ payload.now → result ≡ Ok value }
+        ensures exact { MatchResult result (λ value. Self.bytes value ≡ payload.now) (λ _. (value : Self) → is_value value → Self.bytes value ≢ payload.now) };
 }
 
 /// A payload that carries no value of the type that was asked for.
@@ -51,9 +52,11 @@ impl Decode for u64 {
     ghost is_value = { λ n. n < 2 ^ 64 };
 
     fn decode(payload: &Payload) -> Result<u64, NoValue> {
-        match payload.as_str().parse() {
-            Ok(value) => Ok(value),
-            Err(_) => Err(NoValue),
+        let text = payload.as_str();
+        match text.parse::<u64>() {
+            // a plus and leading zeros are read as well, and encode does not write them
+            Ok(value) if Buffer::new().format(value) == text => Ok(value),
+            _ => Err(NoValue),
         }
     }
 }
@@ -78,9 +81,11 @@ impl Decode for i64 {
     ghost is_value = { λ z. mag z < 2 ^ 63 };
 
     fn decode(payload: &Payload) -> Result<i64, NoValue> {
-        match payload.as_str().parse() {
-            Ok(value) => Ok(value),
-            Err(_) => Err(NoValue),
+        let text = payload.as_str();
+        match text.parse::<i64>() {
+            // a plus and leading zeros are read as well, and encode does not write them
+            Ok(value) if Buffer::new().format(value) == text => Ok(value),
+            _ => Err(NoValue),
         }
     }
 }
