@@ -14,11 +14,8 @@ pub mod DrainReplies
 pub mod DrainRounds
 pub mod DrainSteps
 pub mod DueNames
-<<<<<<< HEAD
 pub mod FigureOps
-=======
 pub mod FillOps
->>>>>>> 47760cd93b29e3547f5e24bd7103465151bba2f2
 pub mod FinishingLemmas
 pub mod GrainOps
 pub mod HandOps

@@ -3,7 +3,7 @@ use Rattle.silo_loops.specs.Lines.{QueuePass}
 use Rattle.silo_threads.specs.Closing.{AreTracesOf}
 use Rattle.silo_threads.specs.Finishing.{CameTo}
 use Rattle.silo_threads.specs.Gathering.{passes_of}
-use Rattle.silo_threads.proofs.Ended.{came-full, came-ok, closed-missing, closed-traces, is-finished, on-begun, on-producers}
+use Rattle.silo_threads.proofs.Answered.{came-full, came-ok, closed-missing, closed-traces, is-finished, on-begun, on-producers}
 use Rattle.silo_threads.proofs.ending.finishing.finish.Given as given
 use Rattle.silo_threads.proofs.ending.finishing.finish.Goals as goal
 use Rattle.silo_threads.proofs.ending.finishing.finish.Goals.{in-Err-HistoryFull, in-Ok}
