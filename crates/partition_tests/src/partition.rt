@@ -35,8 +35,14 @@ pub(crate) enum Call {
     Drain,
     /// Whether it is quiet.
     Quiet,
+    /// The subscription with a number ends.
+    Unsubscribe(u32),
     /// How many events the subscription with a number has handled.
     Handled(u32),
+    /// What the queue keeps.
+    Figures,
+    /// How far the subscription with a number is.
+    Subscription(u32),
     /// The subscriptions.
     Subs,
     /// The tokens of the cache, and the agent.
@@ -74,6 +80,9 @@ fn op<R: Abort>(rt: &R, alloc: Global, call: &Call) -> Result<Op, AllocError> {
         Call::Begin(key, max) | Call::Answer(key, max) => Op::Begin {
             grain: grain(rt, b'g', key),
             max,
+        },
+        Call::Unsubscribe(number) => Op::Unsubscribe {
+            sub: SubName::Explicit(number),
         },
         Call::Move(silo) => Op::Move { silo },
         _ => panic!(rt; "no operation"),
@@ -150,6 +159,11 @@ fn shows(
             let handled = partition.handled(alloc, &SubName::Explicit(number))?;
             reads(alloc, &handled.len(), text)
         }
+        Call::Figures => reads(alloc, &partition.figures(), text),
+        Call::Subscription(number) => {
+            let name = SubName::Explicit(number);
+            reads(alloc, &partition.subscription(&name), text)
+        }
         Call::Subs => reads(alloc, &partition.subs(alloc)?.as_slice(), text),
         Call::Cache => {
             let tokens = (partition.low_token(), partition.high_token());
@@ -174,9 +188,13 @@ impl Asked for Partition {
             Call::Run(key) => runs(alloc, self, subscription(rt, key, Start::Latest), text),
             Call::Drain => reads(alloc, &self.drain(alloc)?, text),
             Call::Answer(..) => answers(rt, alloc, self, call, text),
-            Call::Quiet | Call::Handled(_) | Call::Subs | Call::Cache | Call::Print => {
-                shows(alloc, self, call, text)
-            }
+            Call::Quiet
+            | Call::Handled(_)
+            | Call::Figures
+            | Call::Subscription(_)
+            | Call::Subs
+            | Call::Cache
+            | Call::Print => shows(alloc, self, call, text),
             _ => steps(rt, alloc, self, call, text),
         }
     }
@@ -283,6 +301,61 @@ const ORDERED: [(Call, &str); 5] = [
     (
         Call::Subs,
         "[SubSummary { name: Explicit(1), stream: StreamId { namespace: o, key: k }, grain: GrainId { kind: g, key: x }, start: Token { seq: 1, idx: 0 }, is_open: true }, SubSummary { name: Implicit { kind: g, stream: StreamId { namespace: o, key: k } }, stream: StreamId { namespace: o, key: k }, grain: GrainId { kind: g, key: k }, start: Token { seq: 0, idx: 0 }, is_open: true }]",
+    ),
+];
+
+/// A queue is pressed while its cache is full of what a subscription may still need. What that one is behind counts from
+/// its resume, until it ends.
+const PRESSED: [(Call, &str); 20] = [
+    (
+        Call::Subscribe(b'x', Start::Latest),
+        "Subscribed { number: 1 }",
+    ),
+    (Call::Publish(b'k', 64), "Published { seq: 0 }"),
+    (Call::Publish(b'k', 64), "Published { seq: 1 }"),
+    (Call::Publish(b'k', 64), "Published { seq: 2 }"),
+    (Call::Publish(b'k', 64), "Published { seq: 3 }"),
+    (Call::Publish(b'k', 64), "Published { seq: 4 }"),
+    (
+        Call::Figures,
+        "QueueFigures { events: 320, batches: 5, low: 0, high: 0, places: 256, pressed_by: None, subscriptions: 1, rises: 0, generation: 0, silo: 0, limits: Limits { events: 1000000, subs: 10000, rules: 64, rises: 4000000 } }",
+    ),
+    (
+        Call::Pull(256),
+        "Pulled { count: 256, low: Token { seq: 0, idx: 0 }, high: Token { seq: 4, idx: 0 } }",
+    ),
+    (
+        Call::Deliver(1),
+        "Delivered { token: Token { seq: 0, idx: 0 } }",
+    ),
+    (
+        Call::Figures,
+        "QueueFigures { events: 320, batches: 5, low: 0, high: 256, places: 256, pressed_by: Some(Explicit(1)), subscriptions: 1, rises: 1, generation: 0, silo: 0, limits: Limits { events: 1000000, subs: 10000, rules: 64, rises: 4000000 } }",
+    ),
+    (Call::Pull(1), "Pressed { by: Explicit(1) }"),
+    (
+        Call::Subscription(1),
+        "Some(SubscriptionFigures { stream: StreamId { namespace: o, key: k }, grain: GrainId { kind: g, key: x }, start: Token { seq: 0, idx: 0 }, is_open: true, handled: 0, behind: 320, last: None })",
+    ),
+    (Call::Subscription(2), "None"),
+    (Call::Drain, "Drained { turns: 320 }"),
+    (
+        Call::Figures,
+        "QueueFigures { events: 320, batches: 5, low: 64, high: 320, places: 256, pressed_by: None, subscriptions: 1, rises: 321, generation: 0, silo: 0, limits: Limits { events: 1000000, subs: 10000, rules: 64, rises: 4000000 } }",
+    ),
+    (
+        Call::Subscription(1),
+        "Some(SubscriptionFigures { stream: StreamId { namespace: o, key: k }, grain: GrainId { kind: g, key: x }, start: Token { seq: 0, idx: 0 }, is_open: true, handled: 320, behind: 0, last: Some(Token { seq: 4, idx: 63 }) })",
+    ),
+    (Call::Publish(b'k', 2), "Published { seq: 5 }"),
+    (
+        Call::Subscription(1),
+        "Some(SubscriptionFigures { stream: StreamId { namespace: o, key: k }, grain: GrainId { kind: g, key: x }, start: Token { seq: 0, idx: 0 }, is_open: true, handled: 320, behind: 2, last: Some(Token { seq: 4, idx: 63 }) })",
+    ),
+    (Call::Unsubscribe(1), "Unsubscribed { handled: 320 }"),
+    (
+        Call::Subscription(1),
+        "Some(SubscriptionFigures { stream: StreamId { namespace: o, key: k }, grain: GrainId { kind: g, key: x }, start: Token { seq: 0, idx: 0 }, is_open: false, handled: 320, behind: 0, last: Some(Token { seq: 4, idx: 63 }) })",
     ),
 ];
 
@@ -393,12 +466,13 @@ const MADE: [(Call, &str); 6] = [
 ];
 
 /// The limits of a partition, and what is asked of it.
-static CASES: [(Limits, &[(Call, &str)]); 10] = [
+static CASES: [(Limits, &[(Call, &str)]); 11] = [
     (Limits::GREATEST, &DRAINED),
     (Limits::GREATEST, &STUCK),
     (Limits::GREATEST, &ANSWERED),
     (Limits::GREATEST, &SHOWN),
     (Limits::GREATEST, &ORDERED),
+    (Limits::GREATEST, &PRESSED),
     (Limits::GREATEST, &PRINTED),
     (SMALL, &BATCHES),
     (SMALL, &RECORDS),

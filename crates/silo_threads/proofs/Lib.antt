@@ -1,6 +1,6 @@
+pub mod Answered
 pub mod Begun
 pub mod Changing
-pub mod Answered
 pub mod GoneOn
 pub mod Looked
 pub mod Looking

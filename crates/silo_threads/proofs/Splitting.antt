@@ -6,6 +6,7 @@ use Rattle.std.proofs.lemmas.Option.{get_or_from_slice_get}
 use Rattle.std.specs.List.{AllByRecursion, AllZip}
 use Rattle.std.specs.Prelude.{nat_lt}
 use Rattle.stream_model.specs.declared.op.Op.{Op}
+use Rattle.stream_model.specs.declared.plain.PlainPartition.{PlainPartition}
 use Rattle.stream_model.specs.Replies.{Reply}
 use Rattle.turnstile.specs.declared.history.Entry.{Entry}
 use Rattle.turnstile.specs.declared.turnstile.Refusal.{Refusal}
@@ -15,7 +16,7 @@ use Rattle.turnstile.specs.Passes.{PassView}
 use Rattle.silo_loops.specs.Lines.{QueuePass}
 use Rattle.silo_loops.specs.Fronts.{AllZipFront}
 use Rattle.silo_loops.proofs.Fronts.{front-all, front-fits, front-last, front-push, front-set, front-weaker}
-use Rattle.silo_threads.specs.Calls.{AreAlike, CallerCalls, HasOnlyJoined, HasTakenBack, HaveTakenBack, IsUnused, Joins, JoinsAll, SplitsOff, TakesBack, joined_passes, turnstiles}
+use Rattle.silo_threads.specs.Calls.{AreAlike, CallerCalls, CallerLooks, HasOnlyJoined, HasTakenBack, HaveTakenBack, IsUnused, Joins, JoinsAll, SplitsOff, TakesBack, joined_passes, turnstiles}
 
 longer-same : {O R : Type 0} (xs : List (Entry O R)) → longer xs xs ≡ xs
 longer-same xs = elim (nat_lt (length xs) (length xs)) as (λ b. (if b then xs else xs) ≡ xs) [ true ↦ refl | false ↦ refl ]
@@ -181,3 +182,10 @@ turnstiles-called ps queue op result new c =
     ap (λ (qs : List QueuePass). turnstiles qs) c.whole
     ∙ map-set_same (λ (p : QueuePass). p.turnstile) ps queue c.is c.was
     (ap (λ (p : QueuePass). p.turnstile) c.calls.calls.only ∙ ap (λ (p : QueuePass). p.turnstile) (sym (get_or_from_slice_get ps queue c.was c.was c.had)))
+
+-- and so does a look
+pub turnstiles-looked : (ps : List QueuePass) (queue : ℕ) (Shows : PlainPartition → Type 0) (new : List QueuePass) → CallerLooks ps queue Shows new → turnstiles new ≡ turnstiles ps
+turnstiles-looked ps queue Shows new c =
+    ap (λ (qs : List QueuePass). turnstiles qs) c.whole
+    ∙ map-set_same (λ (p : QueuePass). p.turnstile) ps queue c.is c.was
+    (ap (λ (p : QueuePass). p.turnstile) c.looks.looks.only ∙ ap (λ (p : QueuePass). p.turnstile) (sym (get_or_from_slice_get ps queue c.was c.was c.had)))

@@ -3,9 +3,10 @@ use Rattle.std.specs.Prelude.{◌≡◌, ℕ, ◌≤◌, ◌⊎◌, List, [], �
 use Rattle.std.specs.List.{AllByRecursion, AllZip}
 use Rattle.std.specs.declared.alloc.AllocError.{AllocError}
 use Rattle.stream_model.specs.declared.op.Op.{Op}
+use Rattle.stream_model.specs.declared.plain.PlainPartition.{PlainPartition}
 use Rattle.stream_model.specs.Replies.{Reply}
 use Rattle.turnstile.specs.declared.turnstile.Refusal.{Refusal}
-use Rattle.turnstile.specs.Calls.{Agree, HasOnlyMade, IsSplitOff, joined_pass, numbers_of}
+use Rattle.turnstile.specs.Calls.{Agree, HasOnlyMade, IsSplitOff, LooksBy, joined_pass, numbers_of}
 use Rattle.turnstile.specs.History.{Foreign}
 use Rattle.turnstile.specs.Passes.{Origin, PassView}
 use Rattle.shared_partition.specs.Partitions.{LeavesLegal, TellsOneHistory, after, replied}
@@ -69,6 +70,13 @@ pub record QueueCalls (p : QueuePass) (op : Op) (result : Result Reply Refusal) 
   pub headline : TellsOneHistory q.seen
   pub stands : LeavesLegal calls.origin.start q.seen
 
+-- One look by a pass at a queue: it has seen what it had seen, then calls of others, and made none itself. `Shows` holds
+-- of the partition that all of this leaves, and of the calls the headline, and each law of every legal history.
+pub record QueueLooks (p : QueuePass) (Shows : PlainPartition → Type 0) (q : QueuePass) : Type 0 where
+  pub looks : LooksBy replied after p Shows q
+  pub headline : TellsOneHistory q.seen
+  pub stands : LeavesLegal looks.origin.start q.seen
+
 -- one call by the pass at one queue; the other passes are as before
 pub record CallerCalls (passes : List QueuePass) (queue : ℕ) (op : Op) (result : Result Reply Refusal) (new : List QueuePass) : Type 0 where
   pub was : QueuePass
@@ -76,6 +84,14 @@ pub record CallerCalls (passes : List QueuePass) (queue : ℕ) (op : Op) (result
   pub had : slice_get passes queue ≡ Some was
   pub whole : new ≡ slice_set passes queue is
   pub calls : QueueCalls was op result is
+
+-- one look by the pass at one queue; the other passes are as before
+pub record CallerLooks (passes : List QueuePass) (queue : ℕ) (Shows : PlainPartition → Type 0) (new : List QueuePass) : Type 0 where
+  pub was : QueuePass
+  pub is : QueuePass
+  pub had : slice_get passes queue ≡ Some was
+  pub whole : new ≡ slice_set passes queue is
+  pub looks : QueueLooks was Shows is
 
 -- beside each pass stands one that was split off it, and has made no call; the passes are as before
 pub record SplitsOff (old new kept : List QueuePass) : Type 0 where

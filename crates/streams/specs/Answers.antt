@@ -1,5 +1,6 @@
 -- How what the calls of a service answer is read from the replies of a queue and of a cluster.
-use Rattle.std.specs.Prelude.{ℕ, Bool, true, false, Option, Some, None, Result, Ok, Err, if◌then◌else◌}
+use Rattle.std.specs.Prelude.{ℕ, Bool, true, false, List, Option, Some, None, Result, Ok, Err, if◌then◌else◌, slice_get}
+use Rattle.std.specs.Option.{option_map}
 use Rattle.std.specs.declared.alloc.AllocError.{AllocError}
 use Rattle.stream_ident.specs.declared.ident.SubName.{SubName}
 use Rattle.stream_ident.specs.declared.ident.SubName.TheVariants.{Explicit}
@@ -7,11 +8,15 @@ use Rattle.stream_ident.specs.declared.ident.StreamId.{StreamId}
 use Rattle.stream_ident.specs.Name.{same_stream}
 use Rattle.stream_model.specs.declared.op.Start.{Start}
 use Rattle.stream_model.specs.declared.op.Start.TheVariants as start
+use Rattle.stream_model.specs.declared.plain.PlainPartition.{PlainPartition}
 use Rattle.stream_model.specs.declared.reply.Pending.{Pending}
 use Rattle.stream_model.specs.Replies.{Reply}
 use Rattle.stream_model.specs.declared.reply.Reply.TheVariants as reply
 use Rattle.turnstile.specs.declared.turnstile.Refusal.{Refusal}
 use Rattle.turnstile.specs.declared.turnstile.Refusal.TheVariants.{HistoryFull, Memory}
+use Rattle.step_core.specs.declared.figures.QueueFigures.{QueueFigures}
+use Rattle.step_core.specs.declared.figures.SubscriptionFigures.{SubscriptionFigures}
+use Rattle.step_core.specs.Figures.{figures_of, subscription_figures_of}
 use Rattle.silo_threads.specs.declared.ending.finishing.Finished.{Finished}
 use Rattle.silo_threads.specs.declared.ending.finishing.Finished.TheVariants as finished
 use Rattle.silo_threads.specs.declared.ending.draining.Drained.{Drained}
@@ -74,6 +79,18 @@ unsubscribed (Ok reply.Closed) = Err unsubscribe.Closed
 unsubscribed (Ok other) = Err unsubscribe.NoSuch
 unsubscribed (Err HistoryFull) = Err unsubscribe.Limit
 unsubscribed (Err Memory) = Err unsubscribe.Memory
+
+-- the figures of one of these queues, none where there are fewer
+abbrev pub figures_in : List PlainPartition → ℕ → Option QueueFigures
+figures_in partitions queue = option_map figures_of (slice_get partitions queue)
+
+abbrev pub subscription_at : Option PlainPartition → SubName → Option SubscriptionFigures
+subscription_at None s = None
+subscription_at (Some p) s = subscription_figures_of p s
+
+-- the figures of a subscription at one of these queues, none where there are fewer, or it has no record there
+abbrev pub subscription_in : List PlainPartition → ℕ → SubName → Option SubscriptionFigures
+subscription_in partitions queue s = subscription_at (slice_get partitions queue) s
 
 -- whether a rule is new at a queue; the other reply to a rule says that there are too many
 abbrev pub rule_added : Result Reply Refusal → Result Bool CallError

@@ -4,6 +4,7 @@ use Rattle.std.specs.List.{AllZip}
 use Rattle.std.specs.declared.alloc.AllocError.{AllocError}
 use Rattle.stream_ident.specs.declared.ident.GrainId.{GrainId}
 use Rattle.stream_ident.specs.declared.ident.StreamId.{StreamId}
+use Rattle.stream_ident.specs.declared.ident.SubName.{SubName}
 use Rattle.stream_ident.specs.declared.limits.TheConstants.{MOST_SILOS}
 use Rattle.stream_model.specs.declared.op.Op.{Op}
 use Rattle.stream_model.specs.declared.op.Op.TheVariants as op
@@ -17,7 +18,10 @@ use Rattle.turnstile.specs.declared.turnstile.Refusal.{Refusal}
 use Rattle.turnstile.specs.Recorded.{answered, recorded}
 use Rattle.silo_loops.specs.declared.advance.LoopEnd.{LoopEnd}
 use Rattle.silo_loops.specs.Lines.{QueuePass, places}
-use Rattle.silo_threads.specs.Calls.{CallerCalls, turnstiles}
+use Rattle.step_core.specs.declared.figures.QueueFigures.{QueueFigures}
+use Rattle.step_core.specs.declared.figures.SubscriptionFigures.{SubscriptionFigures}
+use Rattle.step_core.specs.Figures.{figures_of, subscription_figures_of}
+use Rattle.silo_threads.specs.Calls.{CallerCalls, CallerLooks, turnstiles}
 use Rattle.silo_threads.specs.declared.ending.finishing.Finished.{Finished}
 use Rattle.silo_threads.specs.declared.ending.draining.Drained.{Drained}
 use Rattle.silo_threads.specs.Draining.{EndsLooking, HasGoneOn}
@@ -104,6 +108,19 @@ Unsubscribes old sub result new =
 -- what is left to do at a queue was asked there
 abbrev pub AsksPending : List QueuePass → ℕ → Result (Option Pending) CallError → List QueuePass → Type 0
 AsksPending old queue result new = Reads read.pending_of old queue op.Quiet result new ⊎ HasNoQueue old queue call.NoQueue result new
+
+-- no queue has this number, and nothing was read
+abbrev pub IsPast : List QueuePass → ℕ → List QueuePass → Type 0
+IsPast old queue new = (length old ≤ queue) × (new ≡ old)
+
+-- the figures are those of the partition that all calls leave which the pass at the queue has seen then
+abbrev pub ReadsQueue : List QueuePass → ℕ → Option QueueFigures → List QueuePass → Type 0
+ReadsQueue old queue (Some figures) new = CallerLooks old queue (λ p. figures ≡ figures_of p) new
+ReadsQueue old queue None new = IsPast old queue new
+
+-- and so are those of a subscription, none where it has no record there
+abbrev pub ReadsSubscription : List QueuePass → ℕ → SubName → Option SubscriptionFigures → List QueuePass → Type 0
+ReadsSubscription old queue sub result new = CallerLooks old queue (λ p. result ≡ subscription_figures_of p sub) new ⊎ ((result ≡ None) × IsPast old queue new)
 
 -- From this queue on so many were told the rule, or as many until one refused it: then the result is that refusal, and
 -- else it says whether it was new so far or at one of these.

@@ -5,7 +5,7 @@ ghost use Rattle.streams.specs.Answers as read;
 use silo_loops::LoopEnd;
 use silo_threads::{Drained, Finished, SiloDown, SiloUp, Traces};
 use std::alloc::AllocError;
-use step_core::{Answer, Partition, Reply};
+use step_core::{Answer, Partition, QueueFigures, Reply, SubscriptionFigures};
 use stream_ident::{StreamId, SubName, Token};
 use stream_model::{Pending, Start};
 use thiserror::Error;
@@ -73,6 +73,23 @@ pub struct Closed {
     /// The partition of each queue, in order. [`Partition::subs`] and [`Partition::handled`] read what each
     /// subscription has handled.
     pub partitions: Vec<Partition>,
+}
+
+impl Closed {
+    /// What a queue keeps, and none where there is no such queue.
+    pub fn queue(&self, queue: usize) -> Option<QueueFigures>
+        ensures { result ≡ read.figures_in self.now.partitions.items queue }
+    {
+        Some(self.partitions.get(queue)?.figures())
+    }
+
+    /// How far a subscription is, also one that was ended: the report doesn't say how many events that one had handled.
+    /// None where there is no such queue, or no such subscription at it.
+    pub fn subscription(&self, queue: usize, sub: &SubName) -> Option<SubscriptionFigures>
+        ensures { result ≡ read.subscription_in self.now.partitions.items queue sub.now }
+    {
+        self.partitions.get(queue)?.subscription(sub)
+    }
 }
 
 /// Why a queue doesn't answer a call.

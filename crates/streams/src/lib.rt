@@ -2,6 +2,7 @@
 //!
 //! A [`Service`] has queues, and silos that are threads: it publishes to streams, subscribes grains, and is closed with
 //! a report and what is left of each partition. A [`Gate`] has the handler, which is called for each event of a turn.
+//! [`Service::queue`] and [`Service::subscription`] give figures for whoever operates it.
 //!
 //! A service is a [`Cluster`] with its first [`Caller`]. [`Service::producer`] gives a [`Producer`], which publishes
 //! beside it, and [`Service::take_back`] takes it in again.
@@ -37,7 +38,7 @@ pub use silo_threads::{
     Caller, Cluster, Config, Drained, Finished, QueueCaller, Retired, SiloDown, SiloUp, Traces,
     drain,
 };
-pub use step_core::{Answer, Outcome, Partition, SubSummary};
+pub use step_core::{Answer, Outcome, Partition, QueueFigures, SubSummary, SubscriptionFigures};
 pub use stream_ident::{
     BadName, BadPayload, BadToken, Batch, Event, GrainId, Name, Payload, Row, StreamId, SubName,
     Token, WrongByte,

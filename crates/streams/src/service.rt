@@ -2,7 +2,7 @@
 ghost use Rattle.std.specs.Prelude.{◌≡◌, ◌<◌, ◌≤◌, length, IfOk};
 ghost use Rattle.silo_threads.specs.Clusters.{IsConfig};
 ghost use Rattle.silo_threads.specs.Calls.{CallerCalls, CallerSplits, JoinsAll, joined_passes, turnstiles};
-ghost use Rattle.streams.specs.Services.{AddsRule, AsksPending, ChangesDown, ChangesUp, Closes, IsNewService, IsProducerOf, Publishes, Settles, Subscribes, Unsubscribes, queue_of};
+ghost use Rattle.streams.specs.Services.{AddsRule, AsksPending, ChangesDown, ChangesUp, Closes, IsNewService, IsProducerOf, Publishes, ReadsQueue, ReadsSubscription, Settles, Subscribes, Unsubscribes, queue_of};
 
 use crate::answers::{
     CallError, CloseError, Closed, PublishError, SettleError, SiloError, StartFrom, StreamToken,
@@ -19,8 +19,8 @@ use std::marker::Model;
 use std::rt::Runtime;
 use std::sync::{Arc, Wait};
 use std::thread::Threads;
-use step_core::Answer;
-use stream_ident::{GrainId, MOST_SILOS, Name, Payload, StreamId};
+use step_core::{Answer, QueueFigures, SubscriptionFigures};
+use stream_ident::{GrainId, MOST_SILOS, Name, Payload, StreamId, SubName};
 use stream_model::{Op, Pending};
 use turnstile::Refusal;
 
@@ -226,6 +226,32 @@ impl<R: Host, G: Gate + 'static> Service<R, G> {
             return Err(CallError::NoQueue);
         }
         pending_of(self.ask(queue, Op::Quiet))
+    }
+
+    /// What a queue keeps, and none where there is no such queue. It waits for its turn there, asks nothing that the
+    /// history would keep, and takes no memory; what it costs doesn't grow with the queue.
+    pub fn queue(&mut self, queue: usize) -> Option<QueueFigures>
+        ensures reads { ReadsQueue self.old.caller queue result self.new.caller }
+        ensures cluster { self.new.cluster ≡ self.old.cluster }
+        ensures turnstiles { turnstiles self.new.caller ≡ turnstiles self.old.caller }
+    {
+        if queue >= self.queues() {
+            return None;
+        }
+        Some(self.caller.figures(&self.rt, queue))
+    }
+
+    /// How far a subscription is, and none where there is no such queue, or no such subscription at it. It is read as
+    /// [`queue`](Service::queue) reads what a queue keeps, and costs a look-up.
+    pub fn subscription(&mut self, queue: usize, sub: &SubName) -> Option<SubscriptionFigures>
+        ensures reads { ReadsSubscription self.old.caller queue sub.now result self.new.caller }
+        ensures cluster { self.new.cluster ≡ self.old.cluster }
+        ensures turnstiles { turnstiles self.new.caller ≡ turnstiles self.old.caller }
+    {
+        if queue >= self.queues() {
+            return None;
+        }
+        self.caller.subscription(&self.rt, queue, sub)
     }
 
     /// Waits until everything is pulled, delivered and handled at all queues.

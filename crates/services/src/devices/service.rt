@@ -1,12 +1,15 @@
 //! The streams of readings, and what is asked of them.
 use crate::devices::monitors::Monitors;
 use crate::devices::story::Step;
-use anyhow::{Result, bail, ensure};
+use anyhow::{Result, bail};
 use std::alloc::Global;
 use std::sync::Arc;
 use std::thread;
 use std::time::Duration;
-use streams::{Closed, Config, Encode, GrainId, Host, Name, Payload, Service, StartFrom, StreamId};
+use streams::{
+    Closed, Config, Encode, GrainId, Host, Name, Payload, QueueFigures, Service, StartFrom,
+    StreamId, Subscription,
+};
 
 // How often a queue is looked at before it is given up, once in a millisecond.
 const MOST_LOOKS: u32 = 60_000;
@@ -16,8 +19,8 @@ const MOST_LOOKS: u32 = 60_000;
 pub struct DeviceService<R: Host> {
     rt: R,
     service: Service<R, Monitors<R>>,
-    // the queue of the device that is archived
-    slow: usize,
+    // the archive, once it has subscribed
+    archive: Option<Subscription>,
 }
 
 impl<R: Host> DeviceService<R> {
@@ -32,8 +35,11 @@ impl<R: Host> DeviceService<R> {
         let (monitor, readings) = (Name::new(b"monitor")?, Name::new(b"readings")?);
         let mut service = Service::open(rt, &config, monitors)?;
         service.add_rule(monitor, readings)?;
-        let slow = 0;
-        Ok(DeviceService { rt, service, slow })
+        Ok(DeviceService {
+            rt,
+            service,
+            archive: None,
+        })
     }
 
     /// Does a step of the story.
@@ -51,12 +57,23 @@ impl<R: Host> DeviceService<R> {
         }
     }
 
+    /// What each queue keeps.
+    pub fn queues(&mut self) -> Result<Vec<QueueFigures>> {
+        let mut queues = Vec::new(self.rt.alloc());
+        for queue in 0..self.service.queues() {
+            if let Some(kept) = self.service.queue(queue) {
+                queues.push(kept)?;
+            }
+        }
+        Ok(queues)
+    }
+
     /// Ends the service, and gives what is left of it.
     pub fn close(self) -> Result<Closed> {
         let DeviceService {
             rt: _,
             service,
-            slow: _,
+            archive: _,
         } = self;
         Ok(service.close()?)
     }
@@ -65,8 +82,7 @@ impl<R: Host> DeviceService<R> {
     fn archive(&mut self, device: &str) -> Result<()> {
         let stream = StreamId::new(b"readings", device.as_bytes())?;
         let grain = GrainId::new(b"archive", device.as_bytes())?;
-        let archive = self.service.subscribe(stream, grain, StartFrom::Latest)?;
-        self.slow = archive.queue;
+        self.archive = Some(self.service.subscribe(stream, grain, StartFrom::Latest)?);
         Ok(())
     }
 
@@ -79,16 +95,32 @@ impl<R: Host> DeviceService<R> {
         Ok(())
     }
 
-    // Waits until all queues are quiet but that of the archive, and sees that it is behind.
+    // Waits until all queues are quiet but that of the archive, and until that one is pressed by it.
     fn settle_others(&mut self) -> Result<()> {
+        let Some(archive) = self.archive else {
+            bail!("there is no archive");
+        };
         for queue in 0..self.service.queues() {
-            if queue != self.slow {
+            if queue != archive.queue {
                 self.settle_queue(queue)?;
             }
         }
-        let pending = self.service.pending(self.slow)?;
-        ensure!(pending.is_some(), "the archive is faster than it can be");
-        Ok(())
+        self.press(&archive)
+    }
+
+    // Waits until the queue of a subscription is pressed by it.
+    fn press(&mut self, slow: &Subscription) -> Result<()> {
+        for _ in 0..MOST_LOOKS {
+            let pressed_by = self
+                .service
+                .queue(slow.queue)
+                .and_then(|kept| kept.pressed_by);
+            if pressed_by == Some(slow.name()) {
+                return Ok(());
+            }
+            thread::sleep(&self.rt, Duration::from_millis(1));
+        }
+        bail!("queue {} isn't pressed", slow.queue)
     }
 
     // Waits until all readings of a queue are handled.

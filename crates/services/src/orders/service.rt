@@ -1,12 +1,13 @@
 //! The streams of orders, and what is asked of them.
 use crate::orders::accounts::{Accounts, price};
 use crate::orders::day::Request;
-use anyhow::Result;
+use anyhow::{Result, bail};
 use std::alloc::Global;
 use std::sync::Arc;
 use streams::{
-    BadName, Closed, Config, Encode, GrainId, Host, Payload, PublishError, Service, SiloError,
-    StartFrom, StreamId, SubscribeError, Subscription, Token, UnsubscribeError,
+    BadName, Closed, Config, Encode, GrainId, Host, Payload, PublishError, QueueFigures, Service,
+    SiloError, StartFrom, StreamId, SubscribeError, Subscription, SubscriptionFigures, Token,
+    UnsubscribeError,
 };
 
 // The first order of a stream.
@@ -34,6 +35,19 @@ pub enum Answer {
 struct Desk {
     customer: &'static str,
     subscription: Subscription,
+}
+
+/// The figures of a customer's desk, and of its queue.
+#[derive(Clone, Copy)]
+pub struct DeskFigures {
+    /// The customer.
+    pub customer: &'static str,
+    /// The queue of the customer's orders.
+    pub queue: usize,
+    /// What that queue keeps.
+    pub kept: QueueFigures,
+    /// How far the desk is.
+    pub desk: SubscriptionFigures,
 }
 
 /// What customers, auditors and operators may ask.
@@ -70,6 +84,27 @@ impl<R: Host> OrderService<R> {
             Request::StartSilo(silo) => self.start_silo(silo),
             Request::TakeSiloDown(silo) => self.take_silo_down(silo),
         }
+    }
+
+    /// The figures of each desk, in the order in which they were opened.
+    pub fn desks(&mut self) -> Result<Vec<DeskFigures>> {
+        let mut figures = Vec::new(self.alloc);
+        for desk in &self.desks {
+            let (customer, queue) = (desk.customer, desk.subscription.queue);
+            let Some(kept) = self.service.queue(queue) else {
+                bail!("{customer}'s desk has no queue");
+            };
+            let Some(desk) = self.service.subscription(queue, &desk.subscription.name()) else {
+                bail!("queue {queue} doesn't know {customer}'s desk");
+            };
+            figures.push(DeskFigures {
+                customer,
+                queue,
+                kept,
+                desk,
+            })?;
+        }
+        Ok(figures)
     }
 
     /// Ends the service, and gives what is left of it.

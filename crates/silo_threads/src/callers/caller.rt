@@ -1,8 +1,9 @@
 //! A caller of all queues.
 ghost use Rattle.std.specs.Prelude.{◌≡◌, ◌<◌, length, IfOk, MatchResult, OnErr};
+ghost use Rattle.step_core.specs.Figures.{figures_of, subscription_figures_of};
 ghost use Rattle.step_core.specs.Replied.{Shows};
 ghost use Rattle.silo_loops.specs.Fronts.{AllZipFront};
-ghost use Rattle.silo_threads.specs.Calls.{AreAlike, CallerCalls, CallerSplits, JoinsAll, SplitsOff, TakesBack, joined_passes, turnstiles};
+ghost use Rattle.silo_threads.specs.Calls.{AreAlike, CallerCalls, CallerLooks, CallerSplits, JoinsAll, SplitsOff, TakesBack, joined_passes, turnstiles};
 
 use crate::callers::queue_caller::QueueCaller;
 use shared_partition::{Gate, QueueHistory};
@@ -10,8 +11,8 @@ use silo_loops::{Doorbell, TurnRoom};
 use std::alloc::{AllocError, Global};
 use std::marker::Model;
 use std::sync::{Arc, Wait};
-use step_core::Answer;
-use stream_ident::Event;
+use step_core::{Answer, QueueFigures, SubscriptionFigures};
+use stream_ident::{Event, SubName};
 use stream_model::{Op, Reply};
 use turnstile::Refusal;
 
@@ -133,6 +134,30 @@ impl<G: Gate, H: QueueHistory> Caller<G, H> {
         )
     }
 
+    /// Waits for its turn at a queue, and gives what the queue keeps. No call is made there, and nobody rings.
+    pub fn figures<R: Wait>(&mut self, rt: &R, queue: usize) -> QueueFigures
+        requires { queue < length self.old }
+        ensures looks { CallerLooks self.old queue (λ p. result ≡ figures_of p) self.new }
+        ensures turnstiles { turnstiles self.new ≡ turnstiles self.old }
+    {
+        figures_at(rt, &mut self.queues, queue)
+    }
+
+    /// Waits for its turn at a queue, and gives how far a subscription is there, and none where it has no record. No call
+    /// is made, and nobody rings.
+    pub fn subscription<R: Wait>(
+        &mut self,
+        rt: &R,
+        queue: usize,
+        sub: &SubName,
+    ) -> Option<SubscriptionFigures>
+        requires { queue < length self.old }
+        ensures looks { CallerLooks self.old queue (λ p. result ≡ subscription_figures_of p sub.now) self.new }
+        ensures turnstiles { turnstiles self.new ≡ turnstiles self.old }
+    {
+        subscription_at(rt, &mut self.queues, queue, sub)
+    }
+
     /// A caller with a pass of its own at each queue, each of which has seen as much and has made no call.
     ///
     /// # Errors
@@ -187,6 +212,33 @@ fn ask_at<G: Gate, H: QueueHistory, R: Wait>(
 {
     let caller = &mut queues[queue];
     caller.ask(rt, alloc, doorbell, queue, op, events)
+}
+
+// What one queue keeps.
+fn figures_at<G: Gate, H: QueueHistory, R: Wait>(
+    rt: &R,
+    queues: &mut Vec<QueueCaller<G, H>>,
+    queue: usize,
+) -> QueueFigures
+    requires { queue < length queues.old.items }
+    ensures { CallerLooks queues.old.items queue (λ p. result ≡ figures_of p) queues.new.items }
+{
+    let caller = &mut queues[queue];
+    caller.figures(rt)
+}
+
+// How far a subscription is at one queue.
+fn subscription_at<G: Gate, H: QueueHistory, R: Wait>(
+    rt: &R,
+    queues: &mut Vec<QueueCaller<G, H>>,
+    queue: usize,
+    sub: &SubName,
+) -> Option<SubscriptionFigures>
+    requires { queue < length queues.old.items }
+    ensures { CallerLooks queues.old.items queue (λ p. result ≡ subscription_figures_of p sub.now) queues.new.items }
+{
+    let caller = &mut queues[queue];
+    caller.subscription(rt, sub)
 }
 
 // A new caller of each queue, for which there is room before a pass is split.

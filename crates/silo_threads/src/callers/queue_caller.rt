@@ -2,17 +2,18 @@
 ghost use Rattle.std.specs.Prelude.{◌≡◌, IfOk, MatchResult, OnErr, OnOk};
 ghost use Rattle.std.specs.Arc.{arc_value};
 ghost use Rattle.turnstile.specs.Calls.{Agree, HasOnlyMade, IsOf, IsSplitOff, joined_pass};
+ghost use Rattle.step_core.specs.Figures.{figures_of, subscription_figures_of};
 ghost use Rattle.step_core.specs.Replied.{Shows};
 ghost use Rattle.shared_partition.specs.Partitions.{BeganEmpty};
-ghost use Rattle.silo_threads.specs.Calls.{IsUnused, QueueCalls};
+ghost use Rattle.silo_threads.specs.Calls.{IsUnused, QueueCalls, QueueLooks};
 
 use shared_partition::{Gate, QueueHistory, SharedPartition};
 use silo_loops::Doorbell;
 use std::alloc::{AllocError, Global};
 use std::marker::Model;
 use std::sync::{Arc, Wait};
-use step_core::Answer;
-use stream_ident::Event;
+use step_core::{Answer, QueueFigures, SubscriptionFigures};
+use stream_ident::{Event, SubName};
 use stream_model::{Op, PlainPartition};
 use turnstile::{Handle, Pass, Refusal, Turnstile};
 
@@ -76,6 +77,21 @@ impl<G: Gate, H: QueueHistory> QueueCaller<G, H> {
             doorbell.tell(rt, queue, reply);
         }
         answer
+    }
+
+    /// Waits for its turn, and gives what the queue keeps. No call is made, and nobody is told.
+    pub fn figures<R: Wait>(&mut self, rt: &R) -> QueueFigures
+        ensures { QueueLooks self.old (λ p. result ≡ figures_of p) self.new }
+    {
+        SharedPartition::figures_by(&mut self.handle, rt)
+    }
+
+    /// Waits for its turn, and gives how far a subscription is, and none where it has no record. No call is made, and
+    /// nobody is told.
+    pub fn subscription<R: Wait>(&mut self, rt: &R, sub: &SubName) -> Option<SubscriptionFigures>
+        ensures { QueueLooks self.old (λ p. result ≡ subscription_figures_of p sub.now) self.new }
+    {
+        SharedPartition::subscription_by(&mut self.handle, rt, sub)
     }
 
     /// A caller with a pass of its own at the same queue, which has seen as much and has made no call.

@@ -1,0 +1,11 @@
+use Rattle.std.proofs.Common.{◌≡◌, subst}
+use Rattle.silo_loops.specs.Lines.{QueuePass}
+use Rattle.step_core.specs.Figures.{subscription_figures_of}
+use Rattle.silo_threads.specs.Calls.{QueueLooks}
+use Rattle.silo_threads.proofs.callers.queue_caller.QueueCaller.subscription.Goals as goal
+
+pub returns : goal.returns
+returns g c =
+    let looks = c.subscription_by.ensures.looks in
+    subst (λ (p : QueuePass). QueueLooks p (λ s. c.subscription_by.result ≡ subscription_figures_of s c.args.sub.now) c.subscription_by.new.handle) c.self.view_is
+    (record { looks = looks; headline = c.subscription_by.ensures.headline; stands = c.subscription_by.ensures.stands looks.origin looks.of })
