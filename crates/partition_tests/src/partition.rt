@@ -410,29 +410,37 @@ const SMALL: Limits = Limits {
     rises: 1,
 };
 
-/// A batch is taken whole or not at all.
-const BATCHES: [(Call, &str); 5] = [
+/// Each limit is met. A batch is taken whole or not at all, and the grain's first activation is the one rise, so the
+/// second event isn't delivered.
+const LIMITED: [(Call, &str); 15] = [
     (Call::Publish(b'k', 3), "QueueFull"),
     (Call::Publish(b'k', 0), "BadBatch"),
     (Call::Publish(b'k', 2), "Published { seq: 0 }"),
     (Call::Publish(b'k', 1), "QueueFull"),
-    (Call::Publish(b'k', 65), "BadBatch"),
-];
-
-/// There is no subscription or rule past the limit.
-const RECORDS: [(Call, &str); 5] = [
     (
         Call::Subscribe(b'x', Start::At(FIRST)),
         "Subscribed { number: 1 }",
     ),
     (Call::Subscribe(b'x', Start::At(FIRST)), "TooMany"),
-    (Call::AddRule(b'o'), "RuleAdded { from: 0 }"),
+    (Call::AddRule(b'o'), "RuleAdded { from: 1 }"),
     (Call::AddRule(b'o'), "RuleThere"),
     (Call::AddRule(b'p'), "TooMany"),
+    (
+        Call::Pull(32),
+        "Pulled { count: 2, low: Token { seq: 0, idx: 0 }, high: Token { seq: 1, idx: 0 } }",
+    ),
+    (
+        Call::Deliver(1),
+        "Delivered { token: Token { seq: 0, idx: 0 } }",
+    ),
+    (Call::Begin(b'x', 1), "Spent"),
+    (Call::Move(1), "Spent"),
+    (Call::Drain, "Spent"),
+    (Call::Quiet, "No(Deliverable(Explicit(1)))"),
 ];
 
-/// There is no rise past the limit: the grain's first activation is the one rise.
-const RISES: [(Call, &str); 8] = [
+/// An event that was delivered waits for a turn, which would be one rise too many.
+const WAITING: [(Call, &str); 6] = [
     (
         Call::Subscribe(b'x', Start::At(FIRST)),
         "Subscribed { number: 1 }",
@@ -447,8 +455,6 @@ const RISES: [(Call, &str); 8] = [
         "Delivered { token: Token { seq: 0, idx: 0 } }",
     ),
     (Call::Begin(b'x', 16), "Spent"),
-    (Call::Move(1), "Spent"),
-    (Call::Drain, "Spent"),
     (Call::Quiet, "No(Waiting(GrainId { kind: g, key: x }))"),
 ];
 
@@ -466,7 +472,7 @@ const MADE: [(Call, &str); 6] = [
 ];
 
 /// The limits of a partition, and what is asked of it.
-static CASES: [(Limits, &[(Call, &str)]); 11] = [
+static CASES: [(Limits, &[(Call, &str)]); 10] = [
     (Limits::GREATEST, &DRAINED),
     (Limits::GREATEST, &STUCK),
     (Limits::GREATEST, &ANSWERED),
@@ -474,10 +480,9 @@ static CASES: [(Limits, &[(Call, &str)]); 11] = [
     (Limits::GREATEST, &ORDERED),
     (Limits::GREATEST, &PRESSED),
     (Limits::GREATEST, &PRINTED),
-    (SMALL, &BATCHES),
-    (SMALL, &RECORDS),
-    (SMALL, &RISES),
-    (Limits { rises: 9, ..SMALL }, &MADE),
+    (SMALL, &LIMITED),
+    (SMALL, &WAITING),
+    (Limits { events: 9, ..SMALL }, &MADE),
 ];
 
 /// A partition with these limits.
