@@ -67,7 +67,7 @@ fn is_made<R: Abort>(
     match sub {
         Sub::Implicit(kind, key) => is_implied(rt, alloc, registry, kind, key, has_room),
         Sub::Explicit(number) => {
-            assert!(rt; registry.explicit() < 100);
+            assert!(rt; registry.next_number() == Some(number));
             let (stream, grain) = (stream(rt, b'o', b'k'), grain(rt, b'g', b'x'));
             Ok(registry.add(alloc, stream, grain, START)? == Added::Added { number })
         }
