@@ -47,9 +47,9 @@ fn ask_for_more<R: Host + Print>(
 ) -> Result<()> {
     let auditor = GrainId::new(b"auditor", b"ann")?;
     let mut producer = service.producer()?;
-    let first = service.publish(stream, &[payload]);
     let second = producer.publish(stream, &[payload]);
     service.take_back(producer);
+    let first = service.publish(stream, &[payload]);
     if let Err(refused) = first {
         println!(rt; "not published: {refused}")?;
     }

@@ -38,9 +38,9 @@ fn publish<R: Host + Print>(
 ) -> Result<()> {
     let milk = "milk".encode()?;
     let mut producer = service.producer()?;
-    let first = service.publish(stream, &[milk]);
     let second = producer.publish(stream, &[milk]);
     service.take_back(producer);
+    let first = service.publish(stream, &[milk]);
     if let Err(refused) = first {
         println!(rt; "not published: {refused}")?;
     }

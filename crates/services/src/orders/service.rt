@@ -90,19 +90,7 @@ impl<R: Host> OrderService<R> {
     pub fn desks(&mut self) -> Result<Vec<DeskFigures>> {
         let mut figures = Vec::new(self.alloc);
         for desk in &self.desks {
-            let (customer, queue) = (desk.customer, desk.subscription.queue);
-            let Some(kept) = self.service.queue(queue) else {
-                bail!("{customer}'s desk has no queue");
-            };
-            let Some(desk) = self.service.subscription(queue, &desk.subscription.name()) else {
-                bail!("queue {queue} doesn't know {customer}'s desk");
-            };
-            figures.push(DeskFigures {
-                customer,
-                queue,
-                kept,
-                desk,
-            })?;
+            figures.push(figures_of(&mut self.service, desk)?)?;
         }
         Ok(figures)
     }
@@ -229,4 +217,19 @@ fn batch_of(alloc: Global, orders: &[&str]) -> Result<Vec<Payload>> {
         batch.push(order.encode()?)?;
     }
     Ok(batch)
+}
+
+// The figures of a desk.
+fn figures_of<R: Host>(service: &mut Service<R, Accounts>, desk: &Desk) -> Result<DeskFigures> {
+    let queue = desk.subscription.queue;
+    let name = desk.subscription.name();
+    match (service.queue(queue), service.subscription(queue, &name)) {
+        (Some(kept), Some(known)) => Ok(DeskFigures {
+            customer: desk.customer,
+            queue,
+            kept,
+            desk: known,
+        }),
+        _ => bail!("queue {queue} doesn't know a desk"),
+    }
 }
