@@ -4,7 +4,7 @@ use crate::asking::Produced;
 use crate::parked::{LOOPS, Parked, Went};
 use crate::replayed::{Begun, replay};
 use crate::running::{Calls, Ended, Places};
-use activation_directory::{Directory, DirectoryOp, DirectoryReply};
+use activation_directory::{DirectoryOp, DirectoryReply};
 use queue_mapper::place;
 use script_runs::Answer as Answered;
 use shared_partition::{DirectoryHistory, QueueHistory};
@@ -37,18 +37,11 @@ const STAYS: usize = 0;
 
 const GOES: usize = 1;
 
-// The number of the silo that is stopped.
-const GONE_SILO: u8 = 1;
-
 const FIRST_TOKEN: Token = Token { seq: 0, idx: 0 };
 
-fn key_of<R: Abort>(rt: &R, queue: usize) -> &'static str {
-    assert!(rt; queue < QUEUES);
-    KEYS[queue]
-}
-
 fn stream<R: Abort>(rt: &R, queue: usize) -> StreamId {
-    StreamId::new(b"o", key_of(rt, queue).as_bytes()).expect(rt, "a stream")
+    assert!(rt; queue < QUEUES);
+    StreamId::new(b"o", KEYS[queue].as_bytes()).expect(rt, "a stream")
 }
 
 fn grain<R: Abort>(rt: &R, key: &str) -> GrainId {
@@ -303,107 +296,39 @@ fn was_missed<R: Abort>(
     missed
 }
 
-// The permits that the silo was given: the first that it wasn't, and whether the last one is out.
-#[derive(Clone, Copy)]
-struct Permits {
-    next: u64,
-    is_out: bool,
-}
-
-// The permits of a grain's silo, by what its directory answers then.
-fn permits_in<D: DirectoryHistory, R: Wait + Abort>(
+// Each permit that was given before a new one is nobody's any more. How many there were.
+fn void_permits<D: DirectoryHistory, R: Wait + Abort>(
     rt: &R,
     alloc: Global,
     directory: &mut DirectoryLine<D>,
     grain: GrainId,
-) -> Permits {
+) -> u64 {
     let doorbell = Doorbell::new(alloc, 1, 0).expect(rt, "memory");
-    let enter = DirectoryOp::Enter {
-        grain,
-        silo: GONE_SILO,
+    let enter = DirectoryOp::Enter { grain, silo: 0 };
+    let Ok(DirectoryReply::Entered { permit }) = directory.call(rt, alloc, &doorbell, enter) else {
+        panic!(rt; "the grain is nowhere");
     };
-    let mut answer = directory.call(rt, alloc, &doorbell, enter);
-    let is_out = matches!(answer, Ok(DirectoryReply::Busy));
-    if is_out {
-        let down = DirectoryOp::Down { silo: GONE_SILO };
-        let _released = directory.call(rt, alloc, &doorbell, down);
-        answer = directory.call(rt, alloc, &doorbell, enter);
+    for old in 1..permit {
+        let leave = DirectoryOp::Leave { grain, permit: old };
+        let answer = directory.call(rt, alloc, &doorbell, leave);
+        assert!(rt; matches!(answer, Ok(DirectoryReply::NotYours)));
     }
-    let Ok(DirectoryReply::Entered { permit: next }) = answer else {
-        panic!(rt; "it gives a permit");
-    };
-    Permits { next, is_out }
+    permit.wrapping_sub(1)
 }
 
-// The permits that the silo has after so many calls, by a cluster that ends there.
-fn permits_after<H: QueueHistory, D: DirectoryHistory, R: Wait + Abort>(
+// The permits that the silo was given in so many calls are nobody's once it is gone, in a cluster that ends there. How
+// many there were.
+fn void_permits_after<H: QueueHistory, D: DirectoryHistory, R: Wait + Abort>(
     rt: &R,
     alloc: Global,
     calls: usize,
-    grain: GrainId,
-) -> Permits {
-    let parked = stopped::<H, D, R>(rt, alloc, calls);
+    queue: usize,
+) -> u64 {
+    assert!(rt; queue < QUEUES);
+    let mut parked = stopped::<H, D, R>(rt, alloc, calls);
+    assert!(rt; parked.retire(rt, alloc, GOES) == Went::Down);
     let mut directory = parked.into_directory(rt);
-    permits_in(rt, alloc, &mut directory, grain)
-}
-
-// One call of a directory has this reply.
-fn step<R: Abort>(
-    rt: &R,
-    alloc: Global,
-    directory: &mut Directory,
-    op: DirectoryOp,
-    wanted: DirectoryReply,
-) {
-    assert!(rt; directory.step(alloc, op) == Ok(wanted));
-}
-
-// Makes the calls by which the silo was given its permits and gave them back.
-fn enter_and_leave<R: Abort>(
-    rt: &R,
-    alloc: Global,
-    twin: &mut Directory,
-    grain: GrainId,
-    permits: Permits,
-) {
-    for permit in 1..permits.next {
-        let enter = DirectoryOp::Enter {
-            grain,
-            silo: GONE_SILO,
-        };
-        step(rt, alloc, twin, enter, DirectoryReply::Entered { permit });
-        if !permits.is_out || permit.wrapping_add(1) < permits.next {
-            let leave = DirectoryOp::Leave { grain, permit };
-            step(rt, alloc, twin, leave, DirectoryReply::Left);
-        }
-    }
-}
-
-// Makes the calls by which the silo goes: its grain is released, where it was entered there.
-fn go_down<R: Abort>(
-    rt: &R,
-    alloc: Global,
-    twin: &mut Directory,
-    grain: GrainId,
-    permits: Permits,
-) {
-    let down = DirectoryOp::Down { silo: GONE_SILO };
-    if permits.next > 1 {
-        let released = DirectoryReply::Released { grain, left: 0 };
-        step(rt, alloc, twin, down, released);
-    }
-    step(rt, alloc, twin, down, DirectoryReply::NoneLeft);
-}
-
-// The old permits are nobody's at a directory with which all was done that has changed the cluster's own.
-fn leave_again<R: Abort>(rt: &R, alloc: Global, grain: GrainId, permits: Permits) {
-    let mut twin = Directory::new(alloc, 4_000_000);
-    enter_and_leave(rt, alloc, &mut twin, grain, permits);
-    go_down(rt, alloc, &mut twin, grain, permits);
-    for permit in 1..permits.next {
-        let leave = DirectoryOp::Leave { grain, permit };
-        step(rt, alloc, &mut twin, leave, DirectoryReply::NotYours);
-    }
+    void_permits(rt, alloc, &mut directory, grain(rt, KEYS[queue]))
 }
 
 // What is met where the silo is stopped: whether a turn ran, a late subscription was a miss, and a permit was given.
@@ -419,14 +344,12 @@ fn stop_after<R: Wait + Abort>(rt: &R, alloc: Global, calls: usize) -> Met {
     let left = left_after(rt, alloc, calls);
     let (late, ended) = stop::<Calls, Places, R>(rt, alloc, calls, &left);
     let missed = was_missed(rt, alloc, left.queue, late, &ended);
-    let grain = grain(rt, key_of(rt, left.queue));
-    let permits = permits_after::<Calls, Places, R>(rt, alloc, calls, grain);
-    assert!(rt; !left.runs || permits.is_out);
-    leave_again(rt, alloc, grain, permits);
+    let permits = void_permits_after::<Calls, Places, R>(rt, alloc, calls, left.queue);
+    assert!(rt; !left.runs || permits > 0);
     Met {
         runs: left.runs,
         missed,
-        permits: permits.next > 1,
+        permits: permits > 0,
     }
 }
 
