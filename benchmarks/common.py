@@ -1,4 +1,4 @@
-"""What both servers are measured with: a load, a server of its own for each run, and two clients; and a table."""
+"""What both servers are measured with: a load, a server of its own for each run, and two clients; and what is printed."""
 import multiprocessing
 import os
 import shutil
@@ -157,6 +157,10 @@ def measure(server, produce, consume, load):
     clients = consumer.end()
     seconds, spent = time.monotonic() - start, server.processor() - before
     return Run(seconds, spent, clients + producer.end())
+
+
+def counted(number, word):
+    return f"{number} {word}" if number == 1 else f"{number} {word}s"
 
 
 def print_table(head, rows):

@@ -1,5 +1,5 @@
 #!/usr/bin/env python3
-"""compare.py PROGRAM [TURNS]: events a second of the library, beside Redis Streams and NATS JetStream.
+"""compare.py PROGRAM [TURNS]: events a second of the library, beside Redis Streams and NATS JetStream, and its latency.
 
 PROGRAM is the built program benchmarks. All ways are measured in turns, and each as often as TURNS says. What
 is printed are the figures of docs/BENCHMARKS.md, as Markdown; the chart goes to docs/benchmarks.svg. It needs
@@ -18,7 +18,8 @@ from dataclasses import dataclass
 import chart
 import nats_jetstream
 import redis_streams
-from common import Load, Run, print_table
+from common import Load, counted, print_table
+from library import Alone, Library
 
 TURNS = 5
 CHART = os.path.join(os.path.dirname(os.path.abspath(__file__)), "..", "docs", "benchmarks.svg")
@@ -34,32 +35,8 @@ LOADS = [
     (Load(payload=256, consumers=100, rounds=10), [(2, 16)]),
     (Load(payload=256, consumers=1000, rounds=1), [(2, 16)]),
 ]
-# The load at which the servers keep their data in a file, too.
+# The load at which the servers keep their data in a file, too, and at which the library is measured alone.
 KEPT = LOADS[1][0]
-
-
-@dataclass(frozen=True)
-class Library:
-    """The library in the process of the program, on so many silos and queues."""
-
-    program: str
-    silos: int
-    queues: int
-
-    @property
-    def name(self):
-        return f"streams, {counted(self.silos, 'silo')}, {counted(self.queues, 'queue')}"
-
-    def run(self, load):
-        numbers = (self.silos, self.queues, load.payload, load.consumers, load.rounds)
-        words = [self.program, "time", "throughput", *map(str, numbers)]
-        process = subprocess.Popen(words, stdout=subprocess.PIPE, text=True)
-        told = process.stdout.read()
-        _, status, used = os.wait4(process.pid, 0)
-        found = re.fullmatch(r"(\d+) events in ([\d.]+) seconds\n", told)
-        if status or not found or int(found[1]) != load.events:
-            raise RuntimeError(f"{self.name} ended with {status}: {told}")
-        return Run(float(found[2]), used.ru_utime + used.ru_stime, 0)
 
 
 @dataclass(frozen=True)
@@ -77,10 +54,6 @@ class Broker:
         return self.kind.run(load, self.keeps)
 
 
-def counted(number, word):
-    return f"{number} {word}" if number == 1 else f"{number} {word}s"
-
-
 def ways_of(program, load, settings):
     """All ways to do a load."""
     ways = [Library(program, silos, queues) for silos, queues in settings]
@@ -90,14 +63,15 @@ def ways_of(program, load, settings):
 
 
 def measure_all(program, turns):
-    """The runs of each load and way, which take turns."""
-    runs = defaultdict(list)
+    """The runs of each load and way, which take turns, and what is measured of the library alone."""
+    runs, alone = defaultdict(list), Alone(program, KEPT)
     for turn in range(turns):
         for load, settings in LOADS:
             for way in ways_of(program, load, settings):
                 runs[load, way].append(way.run(load))
+        alone.measure()
         print(f"turn {turn + 1} of {turns} is done", file=sys.stderr, flush=True)
-    return runs
+    return runs, alone
 
 
 def speeds(load, runs):
@@ -156,7 +130,7 @@ def main():
     program = os.path.abspath(sys.argv[1])
     turns = int(sys.argv[2]) if len(sys.argv) > 2 else TURNS
     before, start = os.getloadavg()[0], time.time()
-    runs = measure_all(program, turns)
+    runs, alone = measure_all(program, turns)
     after, minutes = os.getloadavg()[0], (time.time() - start) / 60
     about = list(machine())
     about.append(["processes that ran or waited to run", f"{before:.1f} at the start, {after:.1f} at the end"])
@@ -165,6 +139,7 @@ def main():
     for load, _ in LOADS:
         print(f"### {told_load(load)}: {load.events:,} events\n")
         print_table(HEAD, rows_of(load, runs))
+    alone.print()
     groups = []
     for load, _ in LOADS:
         bars = [(way.name, statistics.median(speeds(load, done))) for (own, way), done in runs.items() if own == load]

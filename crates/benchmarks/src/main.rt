@@ -1,16 +1,23 @@
-//! Measures the partition, the tag scan, the calls of a shared partition, and how many events a cluster handles in a
-//! second.
+//! Measures the partition, the tag scan, the calls of a shared partition, how many events a service handles in a second,
+//! and how long one of them takes.
 //!
-//! Without a word on the command line it only sees that the ways that it compares agree, and that a partition is
-//! answered as it has to be. With the word `time` it prints ratios, and for `throughput` seconds: of what the words
-//! `partition`, `tags`, `calls` and `throughput` name, or of all.
+//! Without a word on the command line it only sees that the ways that it compares agree, and that a partition and a
+//! service answer as they have to. With the word `time` it prints figures: of what the words `partition`, `tags`, `calls`,
+//! `throughput` and `latency` name, or of all.
 #![tactic(auto)]
 
 mod calls;
+mod consumers;
+mod latency;
+mod load;
 mod partition;
 mod tags;
+mod tally;
 mod throughput;
+mod words;
+mod work;
 
+use crate::words::has;
 use anyhow::Result;
 use std::alloc::Global;
 use streams::Host;
@@ -30,10 +37,11 @@ fn check<R: Host>(rt: &R, alloc: Global) -> Result<()> {
     partition::check(rt, alloc)?;
     tags::check(rt, alloc)?;
     calls::check(rt, alloc)?;
-    throughput::check(rt, alloc)
+    throughput::check(rt, alloc)?;
+    latency::check(rt, alloc)
 }
 
-/// Prints the ratios and seconds of what is named, or of all where the word `time` stands alone.
+/// Prints the figures of what is named, or of all where the word `time` stands alone.
 fn time<R: Host>(rt: &R, alloc: Global, words: &[String]) -> Result<()> {
     let is_all = words.len() == 1;
     if is_all || has(words, "partition") {
@@ -48,15 +56,8 @@ fn time<R: Host>(rt: &R, alloc: Global, words: &[String]) -> Result<()> {
     if is_all || has(words, "throughput") {
         throughput::time(rt, alloc, words)?;
     }
-    Ok(())
-}
-
-/// Whether a word is among these.
-fn has(words: &[String], word: &str) -> bool {
-    for own in words {
-        if own.as_str() == word {
-            return true;
-        }
+    if is_all || has(words, "latency") {
+        latency::time(rt, alloc, words)?;
     }
-    false
+    Ok(())
 }
