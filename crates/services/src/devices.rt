@@ -9,7 +9,7 @@ use service::DeviceService;
 use std::alloc::{AllocError, Global};
 use std::rt::Clock;
 use std::sync::Arc;
-use story::{DEVICES, STORY, Step};
+use story::{DEVICES, STORY};
 use streams::{Closed, Host, Partition, SubSummary};
 
 // A reading above this is an alarm, in tenths of a degree.
@@ -41,24 +41,8 @@ fn watch<R: Host + Print>(
     for (step, told) in &STORY {
         service.go(step, monitors)?;
         print!(rt; "{told}")?;
-        if let Step::Settle = step {
-            print_kept(rt, &mut service)?;
-        }
     }
     service.close()
-}
-
-// Prints what all queues keep together.
-fn print_kept<R: Host + Print>(rt: &R, service: &mut DeviceService<R>) -> Result<()> {
-    let (mut events, mut subscriptions, mut places) = (0usize, 0usize, 0usize);
-    for queue in service.queues()? {
-        events = events.saturating_add(queue.events);
-        subscriptions = subscriptions.saturating_add(queue.subscriptions);
-        places = places.saturating_add(queue.places);
-    }
-    println!(rt; "events  subscriptions  places in caches")?;
-    println!(rt; "{events:>6} {subscriptions:>14} {places:>17}")?;
-    Ok(())
 }
 
 // Prints the silo of a queue, and what its subscriptions have handled.

@@ -1,12 +1,9 @@
-//! Six services over streams, one after the other: orders with a desk for each customer, the readings of 2,000
-//! devices, a shop with two tills, one with an archive that is stopped, one with a queue that is full, and one that may
-//! hand out no turn.
+//! Four services over streams, one after the other: orders with a desk for each customer, the readings of 2,000
+//! devices, a shop with two tills, and one that may hand out no turn.
 #![tactic(auto)]
 
 mod devices;
-mod full;
 mod orders;
-mod pressed;
 mod tills;
 mod turns;
 
@@ -19,10 +16,6 @@ fn main(rt: HostRuntime) -> Result<()> {
     devices::run(rt)?;
     println!(rt; "\n== Tills")?;
     tills::run(rt)?;
-    println!(rt; "\n== Pressed")?;
-    pressed::run(rt)?;
-    println!(rt; "\n== Full")?;
-    full::run(rt)?;
     println!(rt; "\n== Turns")?;
     turns::run(rt)
 }

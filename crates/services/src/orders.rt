@@ -5,8 +5,8 @@ mod service;
 
 use accounts::{Accounts, CUSTOMERS, price};
 use anyhow::Result;
-use day::{DAY, Request};
-use service::{Answer, DeskFigures, OrderService};
+use day::DAY;
+use service::{Answer, OrderService};
 use std::alloc::Global;
 use std::sync::Arc;
 use streams::{Closed, Event, Host, Partition, SubSummary};
@@ -29,9 +29,6 @@ fn spend_the_day<R: Host + Print>(rt: &R, mut service: OrderService<R>) -> Resul
     for (who, request) in &DAY {
         let answer = service.serve(who, request)?;
         print_answer(rt, who, answer)?;
-        if let Request::Settle = request {
-            print_desks(rt, &service.desks()?)?;
-        }
     }
     service.close()
 }
@@ -47,18 +44,6 @@ fn print_answer(rt: &impl Print, who: &str, answer: Answer) -> Result<()> {
             "refused: {who} orders {order}, which has no price"
         )?,
         Answer::Missed(low) => println!(rt; "missed: {who}'s orders before {low} are gone")?,
-    }
-    Ok(())
-}
-
-/// Prints what the queue of each desk keeps, and how many orders the desk has handled.
-fn print_desks(rt: &impl Print, desks: &[DeskFigures]) -> Result<()> {
-    println!(rt; "desk   queue  events  subscriptions  handled")?;
-    for desk in desks {
-        let (customer, queue) = (desk.customer, desk.queue);
-        let (events, subscriptions) = (desk.kept.events, desk.kept.subscriptions);
-        let handled = desk.desk.handled;
-        println!(rt; "{customer:<5} {queue:>6} {events:>7} {subscriptions:>14} {handled:>8}")?;
     }
     Ok(())
 }

@@ -3,16 +3,16 @@ use anyhow::Result;
 use std::sync::Arc;
 use streams::{Config, Counting, Encode, GrainId, Host, Limits, Service, StartFrom, StreamId};
 
-/// Publishes to it, and prints why nothing is handled and what is refused from then on.
+/// Publishes to it, and prints why nothing is handled.
 pub fn run<R: Host + Print>(rt: R) -> Result<()> {
-    // The one rise is the activation of the grain.
+    // The one rise is for the move of the queue to its silo.
     let limits = Limits {
         rises: 1,
         ..Limits::GREATEST
     };
     let config = Config {
         limits,
-        ..Config::new(2, 1)
+        ..Config::new(1, 1)
     };
     let gate = Arc::new(rt.alloc(), Counting)?;
     let mut service = Service::open(rt, &config, gate)?;
@@ -22,46 +22,11 @@ pub fn run<R: Host + Print>(rt: R) -> Result<()> {
     if let Err(unsettled) = service.settle() {
         println!(rt; "not settled: {unsettled}")?;
     }
-    publish(&rt, &mut service, stream)?;
-    change(&rt, &mut service, stream)?;
-    if let Err(unfinished) = service.close() {
-        println!(rt; "no report: {unfinished}")?;
-    }
-    Ok(())
-}
-
-// The service and a producer publish.
-fn publish<R: Host + Print>(
-    rt: &R,
-    service: &mut Service<R, Counting>,
-    stream: StreamId,
-) -> Result<()> {
-    let milk = "milk".encode()?;
-    let mut producer = service.producer()?;
-    let second = producer.publish(stream, &[milk]);
-    service.take_back(producer);
-    let first = service.publish(stream, &[milk]);
-    if let Err(refused) = first {
+    if let Err(refused) = service.publish(stream, &["milk".encode()?]) {
         println!(rt; "not published: {refused}")?;
     }
-    if let Err(refused) = second {
-        println!(rt; "not published by a producer: {refused}")?;
-    }
-    Ok(())
-}
-
-// A grain is to subscribe, and a silo is to come.
-fn change<R: Host + Print>(
-    rt: &R,
-    service: &mut Service<R, Counting>,
-    stream: StreamId,
-) -> Result<()> {
-    let desk = GrainId::new(b"desk", b"bob")?;
-    if let Err(refused) = service.subscribe(stream, desk, StartFrom::Latest) {
-        println!(rt; "not subscribed: {refused}")?;
-    }
-    if let Err(refused) = service.silo_up(1) {
-        println!(rt; "silo 1 hasn't come: {refused}")?;
+    if let Err(unfinished) = service.close() {
+        println!(rt; "no report: {unfinished}")?;
     }
     Ok(())
 }

@@ -1,15 +1,12 @@
 //! The streams of readings, and what is asked of them.
 use crate::devices::monitors::Monitors;
 use crate::devices::story::Step;
-use anyhow::{Result, bail};
+use anyhow::{Result, bail, ensure};
 use std::alloc::Global;
 use std::sync::Arc;
 use std::thread;
 use std::time::Duration;
-use streams::{
-    Closed, Config, Encode, GrainId, Host, Name, Payload, QueueFigures, Service, StartFrom,
-    StreamId, Subscription,
-};
+use streams::{Closed, Config, Encode, GrainId, Host, Name, Payload, Service, StartFrom, StreamId};
 
 // How often a queue is looked at before it is given up, once in a millisecond.
 const MOST_LOOKS: u32 = 60_000;
@@ -19,8 +16,8 @@ const MOST_LOOKS: u32 = 60_000;
 pub struct DeviceService<R: Host> {
     rt: R,
     service: Service<R, Monitors<R>>,
-    // the archive, once it has subscribed
-    archive: Option<Subscription>,
+    // the queue of the device that is archived
+    slow: usize,
 }
 
 impl<R: Host> DeviceService<R> {
@@ -35,11 +32,8 @@ impl<R: Host> DeviceService<R> {
         let (monitor, readings) = (Name::new(b"monitor")?, Name::new(b"readings")?);
         let mut service = Service::open(rt, &config, monitors)?;
         service.add_rule(monitor, readings)?;
-        Ok(DeviceService {
-            rt,
-            service,
-            archive: None,
-        })
+        let slow = 0;
+        Ok(DeviceService { rt, service, slow })
     }
 
     /// Does a step of the story.
@@ -57,23 +51,12 @@ impl<R: Host> DeviceService<R> {
         }
     }
 
-    /// What each queue keeps.
-    pub fn queues(&mut self) -> Result<Vec<QueueFigures>> {
-        let mut queues = Vec::new(self.rt.alloc());
-        for queue in 0..self.service.queues() {
-            if let Some(kept) = self.service.queue(queue) {
-                queues.push(kept)?;
-            }
-        }
-        Ok(queues)
-    }
-
     /// Ends the service, and gives what is left of it.
     pub fn close(self) -> Result<Closed> {
         let DeviceService {
             rt: _,
             service,
-            archive: _,
+            slow: _,
         } = self;
         Ok(service.close()?)
     }
@@ -82,7 +65,8 @@ impl<R: Host> DeviceService<R> {
     fn archive(&mut self, device: &str) -> Result<()> {
         let stream = StreamId::new(b"readings", device.as_bytes())?;
         let grain = GrainId::new(b"archive", device.as_bytes())?;
-        self.archive = Some(self.service.subscribe(stream, grain, StartFrom::Latest)?);
+        let archive = self.service.subscribe(stream, grain, StartFrom::Latest)?;
+        self.slow = archive.queue;
         Ok(())
     }
 
@@ -95,32 +79,16 @@ impl<R: Host> DeviceService<R> {
         Ok(())
     }
 
-    // Waits until all queues are quiet but that of the archive, and until that one is pressed by it.
+    // Waits until all queues are quiet but that of the archive, and sees that it is behind.
     fn settle_others(&mut self) -> Result<()> {
-        let Some(archive) = self.archive else {
-            bail!("there is no archive");
-        };
         for queue in 0..self.service.queues() {
-            if queue != archive.queue {
+            if queue != self.slow {
                 self.settle_queue(queue)?;
             }
         }
-        self.press(&archive)
-    }
-
-    // Waits until the queue of a subscription is pressed by it.
-    fn press(&mut self, slow: &Subscription) -> Result<()> {
-        for _ in 0..MOST_LOOKS {
-            let pressed_by = self
-                .service
-                .queue(slow.queue)
-                .and_then(|kept| kept.pressed_by);
-            if pressed_by == Some(slow.name()) {
-                return Ok(());
-            }
-            thread::sleep(&self.rt, Duration::from_millis(1));
-        }
-        bail!("queue {} isn't pressed", slow.queue)
+        let pending = self.service.pending(self.slow)?;
+        ensure!(pending.is_some(), "the archive is faster than it can be");
+        Ok(())
     }
 
     // Waits until all readings of a queue are handled.

@@ -13,7 +13,7 @@ pub enum Step {
         from: usize,
         to: usize,
     },
-    /// Somebody waits until all queues are quiet but that of the archive, which is pressed by it.
+    /// Somebody waits until all queues are quiet but that of the archive, which is behind.
     SettleOthers,
     /// The archive goes on with its work.
     LetArchiveGoOn,
@@ -37,7 +37,7 @@ pub static STORY: [(Step, &str); 9] = [
     ),
     (
         Step::SettleOthers,
-        "the archive is slow: its queue is pressed by it, and all others are quiet\n",
+        "the archive is slow: its queue is behind, and all others are quiet\n",
     ),
     (Step::LetArchiveGoOn, ""),
     (

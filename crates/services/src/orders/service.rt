@@ -1,13 +1,12 @@
 //! The streams of orders, and what is asked of them.
 use crate::orders::accounts::{Accounts, price};
 use crate::orders::day::Request;
-use anyhow::{Result, bail};
+use anyhow::Result;
 use std::alloc::Global;
 use std::sync::Arc;
 use streams::{
-    BadName, Closed, Config, Encode, GrainId, Host, Payload, PublishError, QueueFigures, Service,
-    SiloError, StartFrom, StreamId, SubscribeError, Subscription, SubscriptionFigures, Token,
-    UnsubscribeError,
+    BadName, Closed, Config, Encode, GrainId, Host, Payload, PublishError, Service, SiloError,
+    StartFrom, StreamId, SubscribeError, Subscription, Token, UnsubscribeError,
 };
 
 // The first order of a stream.
@@ -35,19 +34,6 @@ pub enum Answer {
 struct Desk {
     customer: &'static str,
     subscription: Subscription,
-}
-
-/// The figures of a customer's desk, and of its queue.
-#[derive(Clone, Copy)]
-pub struct DeskFigures {
-    /// The customer.
-    pub customer: &'static str,
-    /// The queue of the customer's orders.
-    pub queue: usize,
-    /// What that queue keeps.
-    pub kept: QueueFigures,
-    /// How far the desk is.
-    pub desk: SubscriptionFigures,
 }
 
 /// What customers, auditors and operators may ask.
@@ -84,15 +70,6 @@ impl<R: Host> OrderService<R> {
             Request::StartSilo(silo) => self.start_silo(silo),
             Request::TakeSiloDown(silo) => self.take_silo_down(silo),
         }
-    }
-
-    /// The figures of each desk, in the order in which they were opened.
-    pub fn desks(&mut self) -> Result<Vec<DeskFigures>> {
-        let mut figures = Vec::new(self.alloc);
-        for desk in &self.desks {
-            figures.push(figures_of(&mut self.service, desk)?)?;
-        }
-        Ok(figures)
     }
 
     /// Ends the service, and gives what is left of it.
@@ -217,19 +194,4 @@ fn batch_of(alloc: Global, orders: &[&str]) -> Result<Vec<Payload>> {
         batch.push(order.encode()?)?;
     }
     Ok(batch)
-}
-
-// The figures of a desk.
-fn figures_of<R: Host>(service: &mut Service<R, Accounts>, desk: &Desk) -> Result<DeskFigures> {
-    let queue = desk.subscription.queue;
-    let name = desk.subscription.name();
-    match (service.queue(queue), service.subscription(queue, &name)) {
-        (Some(kept), Some(known)) => Ok(DeskFigures {
-            customer: desk.customer,
-            queue,
-            kept,
-            desk: known,
-        }),
-        _ => bail!("queue {queue} doesn't know a desk"),
-    }
 }
