@@ -22,10 +22,10 @@ use std::sync::{Arc, Wait};
 // The most steps of a visit.
 const MOST_STEPS: u32 = 64;
 
-/// The loop of a pulling agent, with its passes. A round is for each queue that is assigned to it: Pull, then
-/// for each due subscription Ack, where there is something to acknowledge, and Deliver, until each was named
-/// twice with nothing changed. It names the generation that it was told; where that is stale, it goes on with
-/// the next queue.
+/// The loop of a pulling agent, with its passes. A round is for each queue that is assigned to it, or for those of
+/// them with a hint: Pull, up to 32 times while there is something to pull, then for each due subscription Ack, where
+/// there is something to acknowledge, and Deliver, until each was named twice with nothing changed, or once in a round
+/// by hints. It names the generation that it was told; where that is stale, it goes on with the next queue.
 ///
 /// A contract sees its lines, the generation under which it holds each queue, as it last looked, how many more
 /// rounds it may begin, and why it has ended.

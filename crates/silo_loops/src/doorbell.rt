@@ -161,8 +161,8 @@ impl Doorbell {
         self.rung.notify_all();
     }
 
-    /// Tells whoever waits that a queue may never get quiet: a loop has ended by itself, or a silo went and its queues
-    /// weren't given to others. That can be seen before those who wait look again.
+    /// Tells whoever waits that a queue may never get quiet: a loop has ended by itself, a silo went and its queues
+    /// weren't given to others, or not all loops of one that came could be started. That can be seen before those who wait look again.
     pub fn end<R: Wait>(&self, rt: &R) {
         self.ended.store(true, Ordering::SeqCst);
         self.ring(rt);
@@ -184,8 +184,8 @@ impl Doorbell {
         *self.end.lock(rt)
     }
 
-    /// Whether a loop has ended by itself, or a silo went and its queues weren't given to others. Then a queue may never
-    /// get quiet.
+    /// Whether a loop has ended by itself, a silo went and its queues weren't given to others, or not all loops of one
+    /// that came could be started. Then a queue may never get quiet.
     pub fn has_ended(&self) -> bool {
         self.ended.load(Ordering::SeqCst)
     }

@@ -49,9 +49,10 @@ impl TurnRoom {
     }
 }
 
-/// The loop of a turn worker, with its passes. A round is for each queue, and there for each ready grain:
-/// Ready, Enter, Begin, the gate's handler for the grain and each event, Commit, the gate's `done`, Leave. A grain whose
-/// permit another has, or that is placed on another silo, is passed over.
+/// The loop of a turn worker, with its passes. A round is for each queue, or for those with a hint, and there for
+/// each ready grain: Ready, Enter, Begin, the gate's handler for each event, Commit, the gate's `done`, and Ready again
+/// with the permit in hand. Where that names the same grain, another turn of it follows, up to 15 times; else Leave. A
+/// grain whose permit another has, or that is placed on another silo, is passed over.
 ///
 /// A contract sees its silo, its lines, its pass at the directory, what it has in hand, how many more rounds it may
 /// begin, and why it has ended.
@@ -538,7 +539,7 @@ impl<G: Gate, H: QueueHistory, D: DirectoryHistory> WorkerLoop<G, H, D> {
         worker
     }
 
-    /// Its lines, its pass at the directory, and its room for events.
+    /// Its lines, and its pass at the directory.
     pub fn into_parts(self) -> (Vec<Line<G, H>>, DirectoryLine<D>)
         ensures lines { result.0.items ≡ self.lines }
         ensures directory { result.1 ≡ self.directory }
