@@ -1,10 +1,10 @@
 -- What a step leaves, put together.
-use Rattle.std.proofs.Common.{◌≡◌, ℕ, zero, suc, ◌+◌, ◌<◌, ◌⊎◌, inl, inr, List, [], ◌∷◌, All, length, map, Option, Some, None, Result, refl, sym, ap, subst, ◌∙◌, arith}
+use Rattle.std.proofs.Common.{◌≡◌, ℕ, ◌+◌, ◌<◌, ◌≤◌, ◌⊎◌, inl, inr, List, [], ◌∷◌, All, length, map, Option, Some, None, Result, refl, sym, ap, subst, ◌∙◌, arith}
 use Rattle.std.proofs.Math.Seq.{map-set_same}
 use Rattle.std.specs.List.{slice_get}
-use Rattle.std.specs.Option.{option_map, unwrap_or}
+use Rattle.std.specs.Option.{unwrap_or}
+use Rattle.std.specs.Prelude.{IfNone}
 use Rattle.std.proofs.lemmas.Option.{get_or_from_slice_get, none-some}
-use Rattle.stream_ident.specs.declared.event.Event.{Event}
 use Rattle.stream_model.specs.declared.op.Op.{Op}
 use Rattle.stream_model.specs.Replies.{Reply}
 use Rattle.turnstile.specs.declared.turnstile.Refusal.{Refusal}
@@ -13,12 +13,11 @@ use Rattle.silo_loops.specs.declared.advance.Advance.TheVariants as advance
 use Rattle.silo_loops.specs.declared.advance.Over.{Over}
 use Rattle.silo_loops.specs.declared.advance.Over.TheVariants as over
 use Rattle.silo_loops.specs.declared.worker_walk.Step.TheVariants as step
-use Rattle.silo_loops.specs.declared.worker_walk.Walk.{Walk}
-use Rattle.silo_loops.specs.Walks.{Fits, IsAt, work_in, Work}
-use Rattle.silo_loops.specs.Agents.{AgentAdvancesFrom, AgentCalls, AgentCounts, AgentView, HasSamePlaces, OnesPulled, agent_at}
-use Rattle.silo_loops.specs.Answers.{advance_of}
+use Rattle.silo_loops.specs.Walks.{Nothing, Work, WorkerState, work_in}
+use Rattle.silo_loops.specs.Agents.{AgentAdvancesFrom, AgentCalls, AgentCounts, AgentState, AgentView, HasSamePlaces, OnesPulled, agent_of}
+use Rattle.silo_loops.specs.Answers.{advance_of, over_of}
 use Rattle.silo_loops.specs.Lines.{CallsAt, DirectoryPass, HasLooked, LineView, QueuePass, places, rested}
-use Rattle.silo_loops.specs.Workers.{Follows, IsBeside, worker_at, WorkerAdvancesFrom, WorkerAsks, WorkerCalls, WorkerCounts, WorkerLooks, WorkerRanOut, WorkerSteps, WorkerView, WorkerWorks}
+use Rattle.silo_loops.specs.Workers.{Follows, IsBeside, worker_of, WorkerAdvancesFrom, WorkerAsks, WorkerCalls, WorkerCounts, WorkerLooks, WorkerRanOut, WorkerSteps, WorkerView, WorkerWorks}
 
 -- a call leaves each line at its turnstile
 places-called : (lines : List LineView) (at : ℕ) (op : Op) (result : Result Reply Refusal) (new : List LineView) → CallsAt lines at op result new → places new ≡ places lines
@@ -66,127 +65,76 @@ agent-beside None (advance.Over end) v w a =
 agent-beside (Some end) did v w a = ap (λ (u : AgentView). places u.lines) a.1
 
 -- what a step is, by the way that it was made
-pub steps-called : (follows : Follows) (v w : WorkerView) (over : Option Over) → WorkerCalls v w → WorkerSteps follows v w over
-steps-called follows v w None c = inl c
-steps-called follows v w (Some end) c = inl c
+pub steps-called : (follows : Follows) {v w : WorkerView} (over : Option Over) → WorkerCalls v w → WorkerSteps follows v w over
+steps-called follows None c = inl c
+steps-called follows (Some end) c = inl c
 
-pub steps-asked : (follows : Follows) (v w : WorkerView) (over : Option Over) → WorkerAsks v w → WorkerSteps follows v w over
-steps-asked follows v w None a = inr (inl a)
-steps-asked follows v w (Some end) a = inr a
+pub steps-asked : (follows : Follows) {v w : WorkerView} (over : Option Over) → WorkerAsks v w → WorkerSteps follows v w over
+steps-asked follows None a = inr (inl a)
+steps-asked follows (Some end) a = inr a
 
-pub goes-on : (follows : Follows) (v w : WorkerView) (over : Option Over) → WorkerSteps follows v w over → w.over ≡ over → WorkerCounts v w → WorkerAdvancesFrom follows None (advance_of over) v w
-goes-on follows v w None s is counted = ((is, s), counted)
-goes-on follows v w (Some end) s is counted =
-    ((is, elim s as (λ s. WorkerCalls v w ⊎ (WorkerAsks v w ⊎ WorkerRanOut v w)) [ inl c ↦ inl c | inr a ↦ inr (inl a) ]), counted)
+module _ (follows : Follows) (v w : WorkerState) {rounds counted : ℕ} where
+  stepped : (over : Option Over) → WorkerSteps follows (worker_of v rounds None) (worker_of w counted over) over → WorkerCounts (worker_of v rounds None) (worker_of w counted over)
+      → WorkerAdvancesFrom follows None (advance_of over) (worker_of v rounds None) (worker_of w counted (over_of (advance_of over)))
+  stepped None s counts = ((refl, s), counts)
+  stepped (Some end) s counts =
+      let from = worker_of v rounds None in
+      let to = worker_of w counted (Some end) in
+      ((refl, elim s as (λ s. WorkerCalls from to ⊎ (WorkerAsks from to ⊎ WorkerRanOut from to)) [ inl c ↦ inl c | inr a ↦ inr (inl a) ]), counts)
 
-pub agent-goes-on : (v w : AgentView) (over : Option Over) → AgentCalls v w → w.over ≡ over → AgentCounts v w → AgentAdvancesFrom None (advance_of over) v w
-agent-goes-on v w None c is counted = ((is, c), counted)
-agent-goes-on v w (Some end) c is counted = ((is, inl c), counted)
+  pub goes-on : {answer : Advance} (over : Option Over) → answer ≡ advance_of over → WorkerSteps follows (worker_of v rounds None) (worker_of w counted over) over → WorkerCounts (worker_of v rounds None) (worker_of w counted over)
+      → WorkerAdvancesFrom follows None answer (worker_of v rounds None) (worker_of w counted (over_of answer))
+  goes-on over says s counts = subst (λ a. WorkerAdvancesFrom follows None a (worker_of v rounds None) (worker_of w counted (over_of a))) (sym says) (stepped over s counts)
 
-get-rested : (lines : List LineView) (k : ℕ) (l : LineView) → slice_get lines k ≡ Some l → slice_get (map rested lines) k ≡ Some (rested l)
-get-rested [] k l had = absurd (none-some l had)
-get-rested (x ∷ xs) zero l had = ap (λ o. option_map rested o) had
-get-rested (x ∷ xs) (suc k) l had = get-rested xs k l had
+-- how a round begins, or doesn't
+module _ (follows : Follows) (v : WorkerState) (rounds : ℕ) (rests : v.step ≡ step.Rest) where
+  nothing : (at : ℕ) → work_in at v.step v.events ≡ Nothing
+  nothing at = ap (λ s. work_in at s v.events) rests
 
--- the same parts between two rounds
-module _ (silo : ℕ) (lines mid : List LineView) (d : DirectoryPass) (walk between : Walk) (events : List Event) (rounds counted : ℕ) (was : Option Over) where
-  resting-at : Work → WorkerView
-  resting-at work = record { silo = silo; lines = lines; directory = d; work = work; rounds = rounds; over = None }
+  pub round-idle : {w : WorkerState} → All HasLooked v.lines → w ≡ record v { lines = map rested v.lines } → WorkerAdvancesFrom follows None advance.Idle (worker_of v rounds None) (worker_of w rounds None)
+  round-idle looked is =
+      subst (λ x. WorkerAdvancesFrom follows None advance.Idle (worker_of v rounds None) (worker_of x rounds None)) (sym is)
+      ((refl, record { looked = looked; lines = refl; work = (nothing v.at, nothing v.at); directory = refl; silo = refl }), inl refl)
 
-  between-at : mid ≡ lines → walk.step ≡ step.Rest → between.step ≡ step.Rest → was ≡ None → worker_at silo mid d between events rounds None ≡ worker_at silo lines d walk events rounds was
-  unfolding resting-at
-  between-at same rest is none =
-      ap (λ ls. worker_at silo ls d between events rounds None) same ∙ ap resting-at (ap (λ s. work_in between.at s events) is ∙ sym (ap (λ s. work_in walk.at s events) rest))
-      ∙ ap (λ o. worker_at silo lines d walk events rounds o) (sym none)
+  resting : Work → WorkerView
+  resting work = record { silo = v.silo; lines = v.lines; directory = v.directory; work = work; rounds = rounds; over = None }
 
-  pub round-begun : (follows : Follows) (u : WorkerView) (over : Option Over) (answer : Advance) → mid ≡ lines → counted + 1 ≡ rounds → walk.step ≡ step.Rest → between.step ≡ step.Rest → was ≡ None
-      → answer ≡ advance_of over → u.over ≡ over → u.rounds ≡ counted → WorkerLooks (worker_at silo mid d between events rounds None) u
-      → WorkerAdvancesFrom follows None answer (worker_at silo lines d walk events rounds was) u
-  round-begun follows u over answer same more rest is none says ended now looks =
-      let v = worker_at silo lines d walk events rounds was in
-      let looked : WorkerLooks v u = subst (λ x. WorkerLooks x u) (between-at same rest is none) looks in
-      subst (λ a. WorkerAdvancesFrom follows None a v u) (sym says) (goes-on follows v u over (steps-called follows v u over looked.0) ended (inr (ap (λ n. n + 1) now ∙ more, looked)))
+  same-at : {u : WorkerState} → u ≡ record v { at = u.at } → worker_of u rounds None ≡ worker_of v rounds None
+  unfolding resting
+  same-at {u} is = ap (λ (x : WorkerState). worker_of x rounds None) is ∙ ap resting (nothing u.at ∙ sym (nothing v.at))
 
-  pub round-idle : (follows : Follows) (fresh : Option Over) → All HasLooked lines → mid ≡ map rested lines → counted ≡ rounds → walk.step ≡ step.Rest → between ≡ record walk { changed = between.changed } → was ≡ None → fresh ≡ was
-      → WorkerAdvancesFrom follows None advance.Idle (worker_at silo lines d walk events rounds was) (worker_at silo mid d between events counted fresh)
-  round-idle follows fresh looked same count rest is none kept = (
-    (
-      kept ∙ none,
-      record {
-        looked = looked;
-        lines = same;
-        work = (ap (λ s. work_in walk.at s events) rest, ap (λ (w : Walk). work_in w.at w.step events) is ∙ ap (λ s. work_in walk.at s events) rest);
-        directory = refl;
-        silo = refl;
-      },
-    ),
-    inl count,
-  )
-
-  pub round-none : (follows : Follows) (answer : Advance) → mid ≡ lines → counted ≡ rounds → rounds ≡ 0 → walk.step ≡ step.Rest → between ≡ record walk { changed = between.changed } → was ≡ None → answer ≡ advance_of (Some over.Rounds)
-      → WorkerAdvancesFrom follows None answer (worker_at silo lines d walk events rounds was) (worker_at silo mid d between events counted (Some over.Rounds))
-  round-none follows answer same count most rest is none says =
-      subst (λ a. WorkerAdvancesFrom follows None a (worker_at silo lines d walk events rounds was) (worker_at silo mid d between events counted (Some over.Rounds))) (sym says) (
-        (
-          refl,
-          inr
-              (inr (
-                ap (λ ls. worker_at silo ls d between events counted (Some over.Rounds)) same ∙ ap (λ (w : Walk). worker_at silo lines d w events counted (Some over.Rounds)) is
-                    ∙ ap (λ n. worker_at silo lines d walk events n (Some over.Rounds)) count,
-                most,
-                ap (λ s. work_in walk.at s events) rest,
-              )),
-        ),
-        inl count,
-      )
-
-  pub between-is-at : mid ≡ lines → between ≡ record walk { changed = between.changed } → IsAt walk lines d → IsAt between mid d
-  between-is-at same is at =
-      subst (λ ls. IsAt between ls d) (sym same) (subst (λ w. IsAt w lines d) (sym is) (record { line = at.line; had = at.had; fits = at.fits }))
-
-  pub idle-at : mid ≡ map rested lines → walk.step ≡ step.Rest → between ≡ record walk { changed = between.changed } → IsAt walk lines d → IsAt between mid d
-  idle-at same rest is at =
-      subst (λ ls. IsAt between ls d) (sym same)
-      (subst (λ w. IsAt w (map rested lines) d) (sym is)
-      (record { line = rested at.line; had = get-rested lines walk.at at.line at.had; fits = subst (λ s. Fits s d (rested at.line).pass) (sym rest) tt }))
+  pub round-begun : {u : WorkerState} (w : WorkerState) {counted : ℕ} {answer : Advance} (over : Option Over) → u ≡ record v { at = u.at } → counted + 1 ≡ rounds → answer ≡ advance_of over
+      → ((rounds counted : ℕ) → WorkerLooks (worker_of u rounds None) (worker_of w counted over)) → WorkerAdvancesFrom follows None answer (worker_of v rounds None) (worker_of w counted (over_of answer))
+  round-begun {u} w {counted} over is more says looks =
+      let looked = subst (λ x. WorkerLooks x (worker_of w counted over)) (same-at is) (looks rounds counted) in
+      goes-on follows v w {rounds = rounds} {counted = counted} over says (steps-called follows over looked.0) (inr (more, looked))
 
 pub beside-after : (u v w : WorkerView) → IsBeside u v → IsBeside v w → IsBeside u w
 beside-after u v w a b = record { lines = b.lines ∙ a.lines; directory = b.directory ∙ a.directory }
 
--- the rounds of an agent
-pub agent-round : (lines new : List LineView) (was held : List (Option ℕ)) (rounds counted : ℕ) (before over : Option Over) (answer : Advance) → before ≡ None → counted + 1 ≡ rounds → answer ≡ advance_of over
-    → AgentCalls (agent_at lines was rounds None) (agent_at new held counted over) → AgentAdvancesFrom None answer (agent_at lines was rounds before) (agent_at new held counted over)
-agent-round lines new was held rounds counted before over answer none more says calls =
-    let called = subst (λ o. AgentCalls (agent_at lines was rounds o) (agent_at new held counted over)) (sym none) calls in
-    subst (λ a. AgentAdvancesFrom None a (agent_at lines was rounds before) (agent_at new held counted over)) (sym says)
-    (agent-goes-on (agent_at lines was rounds before) (agent_at new held counted over) over
-    called refl (inr (more, called)))
+-- the steps of an agent
+module _ {v : AgentView} (a : AgentState) {counted : ℕ} where
+  agent-called : (over : Option Over) → AgentCounts v (agent_of a counted over) → AgentCalls v (agent_of a counted over) → AgentAdvancesFrom None (advance_of over) v (agent_of a counted (over_of (advance_of over)))
+  agent-called None counts c = ((refl, c), counts)
+  agent-called (Some end) counts c = ((refl, inl c), counts)
 
-pub agent-asks : (lines new : List LineView) (was held : List (Option ℕ)) (rounds : ℕ) (before over : Option Over) (answer : Advance) → before ≡ None → answer ≡ advance_of over
-    → AgentCalls (agent_at lines was rounds None) (agent_at new held rounds over) → AgentAdvancesFrom None answer (agent_at lines was rounds before) (agent_at new held rounds over)
-agent-asks lines new was held rounds before over answer none says calls =
-    subst (λ a. AgentAdvancesFrom None a (agent_at lines was rounds before) (agent_at new held rounds over)) (sym says)
-    (agent-goes-on (agent_at lines was rounds before) (agent_at new held rounds over) over
-    (subst (λ o. AgentCalls (agent_at lines was rounds o) (agent_at new held rounds over)) (sym none) calls) refl (inl refl))
+  pub agent-steps : {answer : Advance} (over : Option Over) → answer ≡ advance_of over → (counted ≡ v.rounds) ⊎ (counted + 1 ≡ v.rounds) → AgentCalls v (agent_of a counted over)
+      → AgentAdvancesFrom None answer v (agent_of a counted (over_of answer))
+  agent-steps over says counts c =
+      subst (λ d. AgentAdvancesFrom None d v (agent_of a counted (over_of d))) (sym says)
+      (agent-called over (elim counts as (λ s. AgentCounts v (agent_of a counted over)) [ inl same ↦ inl same | inr more ↦ inr (more, c) ]) c)
 
-pub agent-rests : (lines new : List LineView) (was held : List (Option ℕ)) (rounds : ℕ) (before : Option Over) (answer : Advance) → before ≡ None → answer ≡ advance.Idle → new ≡ map rested lines → OnesPulled lines held
-    → AgentAdvancesFrom None answer (agent_at lines was rounds before) (agent_at new held rounds before)
-agent-rests lines new was held rounds before answer none says same pulled =
-    subst (λ a. AgentAdvancesFrom None a (agent_at lines was rounds before) (agent_at new held rounds before)) (sym says)
-    ((none, record { pulled = pulled; lines = same }), inl refl)
+module _ {lines : List LineView} {was : List (Option ℕ)} {rounds : ℕ} {a : AgentState} (same : a.lines ≡ lines) where
+  pub agent-rests : {b : AgentState} → b ≡ record a { lines = map rested a.lines } → OnesPulled a.lines a.held
+      → AgentAdvancesFrom None advance.Idle (record { lines = lines; held = was; rounds = rounds; over = None }) (agent_of b rounds None)
+  agent-rests {b} is pulled =
+      subst (λ ls. AgentAdvancesFrom None advance.Idle (record { lines = ls; held = was; rounds = rounds; over = None }) (agent_of b rounds None)) same
+      (subst (λ x. AgentAdvancesFrom None advance.Idle (record { lines = a.lines; held = was; rounds = rounds; over = None }) (agent_of x rounds None)) (sym is)
+      ((refl, record { pulled = pulled; lines = refl }), inl refl))
 
-pub agent-ran-out : (lines : List LineView) (was held : List (Option ℕ)) (rounds : ℕ) (before : Option Over) (answer : Advance) → before ≡ None → rounds ≡ 0 → answer ≡ advance_of (Some over.Rounds)
-    → AgentAdvancesFrom None answer (agent_at lines was rounds before) (agent_at lines held rounds (Some over.Rounds))
-agent-ran-out lines was held rounds before answer none left says =
-    subst (λ a. AgentAdvancesFrom None a (agent_at lines was rounds before) (agent_at lines held rounds (Some over.Rounds))) (sym says)
-    ((refl, inr (record { ended = refl; none = left })), inl refl)
-
--- where no queue is held, each that is was pulled
-pub none-pulled : (lines : List LineView) (held : List (Option ℕ)) → length held ≡ length lines → ((at : ℕ) → at < length held → slice_get held at ≡ Some None) → OnesPulled lines held
-none-pulled lines held same none at line generation within holds = absurd (none-some generation (ap (λ o. unwrap_or o None) (sym (none at (omega (arith, same))) ∙ holds)))
-
-pub step-taken : (follows : Follows) (silo : ℕ) (lines : List LineView) (d : DirectoryPass) (walk : Walk) (events : List Event) (rounds : ℕ) (was : Option Over) (u : WorkerView) (over : Option Over) (answer : Advance) → was ≡ None
-    → answer ≡ advance_of over → u.over ≡ over → u.rounds ≡ rounds → WorkerSteps follows (worker_at silo lines d walk events rounds None) u over → WorkerAdvancesFrom follows None answer (worker_at silo lines d walk events rounds was) u
-step-taken follows silo lines d walk events rounds was u over answer none says ended now steps =
-    subst (λ a. WorkerAdvancesFrom follows None a (worker_at silo lines d walk events rounds was) u) (sym says)
-    (goes-on follows (worker_at silo lines d walk events rounds was) u over (subst (λ o. WorkerSteps follows (worker_at silo lines d walk events rounds o) u over) (sym none) steps) ended (inl now))
+-- where no queue is held from the first one on, each that is was pulled
+pub none-pulled : (found : Option ℕ) (lines : List LineView) (held : List (Option ℕ)) {first : ℕ} → first ≡ 0 → length held ≡ length lines → IfNone found ((at : ℕ) → at < length held → first ≤ at → slice_get held at ≡ Some None)
+    → IfNone found (OnesPulled lines held)
+none-pulled None lines held start same none =
+    λ at line generation within holds. absurd (none-some generation (ap (λ o. unwrap_or o None) (sym (none at (omega (arith, same)) (omega (arith, start))) ∙ holds)))
+none-pulled (Some generation) lines held start same none = none

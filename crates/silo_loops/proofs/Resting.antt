@@ -40,7 +40,7 @@ map-at [] k d within = absurd (omega arith)
 map-at (x ∷ xs) zero d within = refl
 map-at (x ∷ xs) (suc k) d within = map-at xs k d (omega arith)
 
-length-map-rested : (xs : List LineView) → length (map rested xs) ≡ length xs
+pub length-map-rested : (xs : List LineView) → length (map rested xs) ≡ length xs
 length-map-rested [] = refl
 length-map-rested (x ∷ xs) = ap (λ n. suc n) (length-map-rested xs)
 

@@ -1,8 +1,9 @@
 -- What a worker's next step is, and what its passes have done by then.
-use Rattle.std.proofs.Common.{◌≡◌, ℕ, ◌<◌, true, List, [], ◌∷◌, length, get_or, Some, None, Result, Ok, Err, refl, sym, ap, subst, ◌∙◌, arith, false}
+use Rattle.std.proofs.Common.{◌≡◌, ℕ, zero, suc, ◌<◌, List, [], ◌∷◌, length, map, get_or, Some, Result, Ok, Err, refl, sym, ap, subst, ◌∙◌, arith}
 use Rattle.std.specs.List.{slice_get, slice_set}
 use Rattle.std.proofs.lemmas.List.{get_or-set_same, length-set}
-use Rattle.std.proofs.lemmas.Option.{slice_get-get_or, slice_get_within}
+use Rattle.std.specs.Option.{option_map}
+use Rattle.std.proofs.lemmas.Option.{none-some, slice_get-get_or, slice_get_within}
 use Rattle.stream_ident.specs.declared.event.Event.{Event}
 use Rattle.stream_ident.specs.declared.ident.GrainId.{GrainId}
 use Rattle.stream_model.specs.declared.op.Op.{Op}
@@ -17,9 +18,8 @@ use Rattle.shared_partition.specs.Partitions.{after, replied}
 use Rattle.turnstile.specs.declared.turnstile.Refusal.{Refusal}
 use Rattle.silo_loops.specs.declared.worker_walk.Step.{Step}
 use Rattle.silo_loops.specs.declared.worker_walk.Step.TheVariants as step
-use Rattle.silo_loops.specs.declared.worker_walk.Walk.{Walk}
 use Rattle.silo_loops.specs.Answers.{heard_of, end_in, end_of, events_after}
-use Rattle.silo_loops.specs.Lines.{DirectoryPass, LineView, QueuePass}
+use Rattle.silo_loops.specs.Lines.{DirectoryPass, LineView, QueuePass, rested}
 use Rattle.silo_loops.specs.Passes.{CallsBy}
 use Rattle.silo_loops.specs.Walks.{Fits, IsAt, IsFree, Keeps, Nothing, step_after_begin, step_after_commit, step_after_enter, work_in}
 use Rattle.silo_loops.specs.Workers.{commit_in, turn_in}
@@ -94,15 +94,22 @@ get-set xs k x y had =
     slice_get-get_or (slice_set xs k y) k y (omega (arith, length-set xs k y)) ∙ ap (λ z. Some z) (get_or-set_same xs k y y within)
 
 -- a worker that is free is at any of its queues
-pub free-at : (walk : Walk) (lines : List LineView) (d : DirectoryPass) → walk.at < length lines → IsFree walk.step → LineView → IsAt walk lines d
-free-at walk lines d within free any =
-    record {
-      line = get_or lines walk.at any;
-      had = slice_get-get_or lines walk.at any within;
-      fits = free-fits walk.step d (get_or lines walk.at any).pass free;
-    }
+pub free-at : (at : ℕ) (lines : List LineView) {s : Step} {d : DirectoryPass} → at < length lines → IsFree s → LineView → IsAt at s lines d
+free-at at lines {s} {d} within free any =
+    record { line = get_or lines at any; had = slice_get-get_or lines at any within; fits = free-fits s d (get_or lines at any).pass free }
 
 -- a worker that has done nothing is at its first queue
-pub fresh-at : (walk : Walk) (lines : List LineView) (d : DirectoryPass) → walk ≡ record { at = 0; last = None; changed = true; step = step.Rest; again = 0; found = None; untold = None; by_hints = false; hinted = None; seen = 0 } → 0 < length lines → IsAt walk lines d
-fresh-at walk [] d is some = absurd (omega arith)
-fresh-at walk (l ∷ lines) d is some = subst (λ w. IsAt w (l ∷ lines) d) (sym is) (record { line = l; had = refl; fits = tt })
+pub fresh-at : (lines : List LineView) {at : ℕ} {s : Step} {d : DirectoryPass} → at ≡ 0 → s ≡ step.Rest → 0 < length lines → IsAt at s lines d
+fresh-at [] first rests some = absurd (omega arith)
+fresh-at (l ∷ lines) {at} {s} {d} first rests some =
+    record { line = l; had = ap (λ k. slice_get (l ∷ lines) k) first; fits = subst (λ t. Fits t d l.pass) (sym rests) tt }
+
+get-rested : (lines : List LineView) (k : ℕ) (l : LineView) → slice_get lines k ≡ Some l → slice_get (map rested lines) k ≡ Some (rested l)
+get-rested [] k l had = absurd (none-some l had)
+get-rested (x ∷ xs) zero l had = ap (λ o. option_map rested o) had
+get-rested (x ∷ xs) (suc k) l had = get-rested xs k l had
+
+-- lines that begin anew leave a worker where it is
+pub rested-at : {at : ℕ} {s : Step} {lines new : List LineView} {d : DirectoryPass} → new ≡ map rested lines → IsAt at s lines d → IsAt at s new d
+rested-at {at} {s} {lines} {d = d} same here =
+    subst (λ ls. IsAt at s ls d) (sym same) (record { line = rested here.line; had = get-rested lines at here.line here.had; fits = here.fits })

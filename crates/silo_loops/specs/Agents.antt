@@ -13,9 +13,15 @@ use Rattle.silo_loops.specs.declared.advance.Over.TheVariants as over
 use Rattle.silo_loops.specs.Answers.{end_of}
 use Rattle.silo_loops.specs.Lines.{CallsAt, HasPulled, LineIsAtLimit, LineView, QueuePass, places, rested}
 use Rattle.silo_loops.specs.Passes.{LastOf}
-use Rattle.silo_loops.specs.Chains.{Chain}
+use Rattle.silo_loops.specs.Chains.{Goes}
 
--- an agent: its lines in queue order, the generation under which it holds each queue, where it does, how many
+-- an agent: its lines in queue order, the generation under which it holds each queue, where it does, and at which queue it is
+pub record AgentState : Type 0 where
+  pub lines : List LineView
+  pub held : List (Option ℕ)
+  pub at : ℕ
+
+-- the loop of an agent: its lines in queue order, the generation under which it holds each queue, where it does, how many
 -- more rounds it may begin, and why it has ended
 pub record AgentView : Type 0 where
   pub lines : List LineView
@@ -23,9 +29,9 @@ pub record AgentView : Type 0 where
   pub rounds : ℕ
   pub over : Option why.Over
 
--- an agent with these parts
-abbrev pub agent_at : List LineView → List (Option ℕ) → ℕ → Option why.Over → AgentView
-agent_at lines held rounds over = record { lines = lines; held = held; rounds = rounds; over = over }
+-- the loop of this agent
+abbrev pub agent_of : AgentState → ℕ → Option why.Over → AgentView
+agent_of a rounds over = record { lines = a.lines; held = a.held; rounds = rounds; over = over }
 
 -- a visit of a queue begins with a Pull, and then asks for one due subscription after another
 abbrev pub is_pull_or_due : Op → Bool
@@ -97,7 +103,7 @@ AgentAdvances did v w = AgentAdvancesFrom v.over did v w
 
 -- some steps, or none
 abbrev pub AgentRuns : AgentView → AgentView → Type 0
-AgentRuns v w = Chain (λ v w. (did : Advance) × AgentAdvances did v w) v w
+AgentRuns v w = Goes AgentAdvances v w
 
 -- Why an agent has ended so: it may begin no more rounds; or a limit was met at one of its queues. Of a call that failed
 -- to allocate nothing is seen.

@@ -83,3 +83,8 @@ end_in _ = None
 abbrev pub advance_of : Option Over → Advance
 advance_of None = advance.Did
 advance_of (Some end) = advance.Over end
+
+-- and why a loop has ended by such an answer, where it has
+abbrev pub over_of : Advance → Option Over
+over_of (advance.Over end) = Some end
+over_of _ = None

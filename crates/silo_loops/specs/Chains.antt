@@ -10,3 +10,7 @@ pub data Chain {A : Type 0} (Step : A → A → Type 0) : A → A → Type 0 whe
 -- calls and pieces of work, or none, and then the step that did this
 abbrev pub Visits : {V : Type 0} → (Advance → V → V → Type 0) → Advance → V → V → Type 0
 Visits {V} advances did v w = (u : V) × Chain (advances Did) v u × advances did u w
+
+-- some steps, or none
+abbrev pub Goes : {V : Type 0} → (Advance → V → V → Type 0) → V → V → Type 0
+Goes {V} advances v w = Chain (λ v w. (did : Advance) × advances did v w) v w

@@ -15,7 +15,6 @@ use Rattle.silo_loops.specs.declared.heard.Heard.{Heard}
 use Rattle.silo_loops.specs.declared.heard.Heard.TheVariants as heard
 use Rattle.silo_loops.specs.declared.worker_walk.Step.{Step}
 use Rattle.silo_loops.specs.declared.worker_walk.Step.TheVariants as step
-use Rattle.silo_loops.specs.declared.worker_walk.Walk.{Walk}
 use Rattle.silo_loops.specs.Lines.{DirectoryPass, LineView, QueuePass}
 use Rattle.silo_loops.specs.Passes.{LastOwn}
 
@@ -61,10 +60,20 @@ Fits (step.Leave grain permit) d p = Keeps d grain permit
 Fits _ d p = Unit {0}
 
 -- the worker is at one of its queues, and what it does next fits what its passes have done there
-pub record IsAt (walk : Walk) (lines : List LineView) (d : DirectoryPass) : Type 0 where
+pub record IsAt (at : ℕ) (step : Step) (lines : List LineView) (d : DirectoryPass) : Type 0 where
   pub line : LineView
-  pub had : slice_get lines walk.at ≡ Some line
-  pub fits : Fits walk.step d line.pass
+  pub had : slice_get lines at ≡ Some line
+  pub fits : Fits step d line.pass
+
+-- a worker: its silo, its lines in queue order, its pass at the directory, at which queue it is, what it does next, and the
+-- events of its turn
+pub record WorkerState : Type 0 where
+  pub silo : ℕ
+  pub lines : List LineView
+  pub directory : DirectoryPass
+  pub at : ℕ
+  pub step : Step
+  pub events : List Event
 
 abbrev pub step_after_enter : GrainId → Result DirectoryReply Refusal → Step
 step_after_enter grain (Ok (directory.Entered permit)) = step.Begin grain permit

@@ -16,16 +16,13 @@ use Rattle.silo_loops.specs.declared.advance.Advance.{Advance}
 use Rattle.silo_loops.specs.declared.advance.Advance.TheVariants as advance
 use Rattle.silo_loops.specs.declared.advance.Over as why
 use Rattle.silo_loops.specs.declared.advance.Over.TheVariants as over
-use Rattle.silo_loops.specs.declared.worker.Start.{Start}
-use Rattle.silo_loops.specs.declared.worker.Start.TheVariants as start
-use Rattle.silo_loops.specs.declared.worker_walk.Walk.{Walk}
 use Rattle.silo_loops.specs.Answers.{end_of, end_of_asking}
 use Rattle.silo_loops.specs.Lines.{CallsAt, DirectoryCalls, DirectoryPass, HasLooked, LineIsAtLimit, LineView, QueuePass, is_ready, places, rested}
 use Rattle.silo_loops.specs.Passes.{IsAtLimit}
-use Rattle.silo_loops.specs.Chains.{Chain}
-use Rattle.silo_loops.specs.Walks.{HasCommitted, Keeps, Nothing, Runs, Telling, Turning, Work, work_in}
+use Rattle.silo_loops.specs.Chains.{Goes}
+use Rattle.silo_loops.specs.Walks.{HasCommitted, Keeps, Nothing, Runs, Telling, Turning, Work, WorkerState, work_in}
 
--- a worker: its silo, its lines in queue order, its pass at the directory, what it has in hand, how many more
+-- the loop of a worker: its silo, its lines in queue order, its pass at the directory, what it has in hand, how many more
 -- rounds it may begin, and why it has ended
 pub record WorkerView : Type 0 where
   pub silo : ℕ
@@ -155,7 +152,7 @@ WorkerAdvances follows did v w = WorkerAdvancesFrom follows v.over did v w
 
 -- some steps, or none
 abbrev pub WorkerRuns : Follows → WorkerView → WorkerView → Type 0
-WorkerRuns follows v w = Chain (λ v w. (did : Advance) × WorkerAdvances follows did v w) v w
+WorkerRuns follows v w = Goes (WorkerAdvances follows) v w
 
 -- Why a worker has ended so: it may begin no more rounds; or a limit was met at one of its queues or at the directory. Of
 -- a call that failed to allocate nothing is seen.
@@ -167,21 +164,15 @@ WorkerEndsBy _ w = Unit {0}
 abbrev pub WorkerHasCause : WorkerView → Type 0
 WorkerHasCause w = WorkerEndsBy w.over w
 
--- a worker with these parts
-abbrev pub worker_at : ℕ → List LineView → DirectoryPass → Walk → List Event → ℕ → Option why.Over → WorkerView
-worker_at silo lines directory walk events rounds over =
-    record { silo = silo; lines = lines; directory = directory; work = work_in walk.at walk.step events; rounds = rounds; over = over }
+-- the loop of this worker
+abbrev pub worker_of : WorkerState → ℕ → Option why.Over → WorkerView
+worker_of w rounds over =
+    record { silo = w.silo; lines = w.lines; directory = w.directory; work = work_in w.at w.step w.events; rounds = rounds; over = over }
 
 -- what a step of a worker that isn't at rest does
 abbrev pub WorkerSteps : Follows → WorkerView → WorkerView → Option why.Over → Type 0
 WorkerSteps follows v w None = WorkerCalls v w ⊎ (WorkerAsks v w ⊎ WorkerWorks follows v w)
 WorkerSteps follows v w (Some end) = WorkerCalls v w ⊎ WorkerAsks v w
-
--- how a round begins, or doesn't
-abbrev pub Starts : Start → List LineView → List LineView → ℕ → ℕ → Type 0
-Starts start.Begun lines new rounds left = (new ≡ lines) × (left + 1 ≡ rounds)
-Starts start.Idle lines new rounds left = All HasLooked lines × (new ≡ map rested lines) × (left ≡ rounds)
-Starts start.RanOut lines new rounds left = (new ≡ lines) × (left ≡ rounds) × (rounds ≡ 0)
 
 -- the same turnstiles
 pub record IsBeside (v w : WorkerView) : Type 0 where

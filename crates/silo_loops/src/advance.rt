@@ -1,6 +1,6 @@
 //! What a step of a loop answers.
 ghost use Rattle.std.specs.Prelude.{◌≡◌};
-ghost use Rattle.silo_loops.specs.Answers.{advance_of, end_by};
+ghost use Rattle.silo_loops.specs.Answers.{advance_of, end_by, over_of};
 
 use crate::doorbell::Doorbell;
 use std::fmt;
@@ -16,6 +16,18 @@ pub enum Advance {
     Idle,
     /// Nothing more: the loop has ended, and answers so from then on.
     Over(Over),
+}
+
+impl Advance {
+    // Why the loop has ended, where it has.
+    pub(crate) fn over(self) -> Option<Over>
+        ensures { result ≡ over_of self }
+    {
+        match self {
+            Advance::Over(end) => Some(end),
+            _ => None,
+        }
+    }
 }
 
 /// Why a loop has ended.

@@ -13,6 +13,7 @@
 
 mod advance;
 mod agent;
+mod agent_steps;
 mod agent_walk;
 mod assigned;
 mod crew;

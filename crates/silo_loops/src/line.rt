@@ -1,11 +1,11 @@
 //! A pass at the turnstile of a queue, as loops hold it.
-ghost use Rattle.std.specs.Prelude.{◌≡◌, ◌↔◌, ◌≤◌, false, true, length, map, IfOk, MatchResult, OnOk, OnErr, vec_capacity};
+ghost use Rattle.std.specs.Prelude.{◌≡◌, ◌↔◌, ◌<◌, ◌≤◌, false, true, length, map, IfOk, MatchResult, OnOk, OnErr, vec_capacity};
 ghost use Rattle.std.specs.Arc.{arc_value};
 ghost use Rattle.turnstile.specs.Calls.{Agree, HasOnlyMade, IsOf, IsSplitOff, joined_pass};
 ghost use Rattle.step_core.specs.Replied.{Shows};
 ghost use Rattle.shared_partition.specs.Partitions.{BeganEmpty, IsOfEmpty};
 ghost use Rattle.stream_model.specs.Producers.{is_producer};
-ghost use Rattle.silo_loops.specs.Lines.{CallsOn, Hears, HasLooked, HasPulled, NeverProduces, is_pull, is_ready, rested};
+ghost use Rattle.silo_loops.specs.Lines.{CallsOn, Hears, HearsAt, HasLooked, HasPulled, NeverProduces, is_pull, is_ready, rested};
 
 use crate::doorbell::{Bell, Doorbell};
 use crate::heard::{Heard, heard_of};
@@ -261,6 +261,25 @@ fn is_pull(op: &Op) -> bool
     ensures { result ≡ is_pull op.now }
 {
     matches!(op, Op::Pull { .. })
+}
+
+/// One call at one queue.
+pub(crate) fn hear_at<G: Gate, H: QueueHistory, R: Wait>(
+    rt: &R,
+    alloc: Global,
+    doorbell: &Doorbell,
+    lines: &mut Vec<Line<G, H>>,
+    at: usize,
+    op: Op,
+    events: &mut Vec<Event>,
+) -> Heard
+    requires here { at < length lines.old.items }
+    requires op { is_producer op ≡ false }
+    ensures heard { HearsAt lines.old.items at op lines.new.items (vec_capacity events.old) events.old.items events.new.items result }
+    ensures room { vec_capacity events.new ≡ vec_capacity events.old }
+{
+    let line = &mut lines[at];
+    line.hear(rt, alloc, doorbell, op, events)
 }
 
 /// Each line begins anew.

@@ -1,19 +1,15 @@
 //! The loop of a turn worker.
-ghost use Rattle.std.specs.Prelude.{◌≡◌, ℕ, ◌<◌, ◌≤◌, length, true, None, All, vec_capacity};
+ghost use Rattle.std.specs.Prelude.{◌≡◌, ◌<◌, ◌≤◌, length, None, vec_capacity};
 ghost use Rattle.stream_ident.specs.declared.limits.TheConstants.{TURN_EVENTS};
-ghost use Rattle.silo_loops.specs.declared.worker_walk.Step.TheVariants as step;
-ghost use Rattle.silo_loops.specs.Answers.{advance_of};
-ghost use Rattle.silo_loops.specs.Lines.{HasLooked};
 ghost use Rattle.silo_loops.specs.Chains.{Visits};
-ghost use Rattle.silo_loops.specs.Walks.{IsAt, Nothing};
-ghost use Rattle.silo_loops.specs.Workers.{IsBeside, Starts, WorkerAdvances, WorkerAdvancesFrom, WorkerHasCause, WorkerRuns, WorkerSteps, worker_at};
+ghost use Rattle.silo_loops.specs.Walks.{Nothing};
+ghost use Rattle.silo_loops.specs.Workers.{IsBeside, WorkerAdvances, WorkerHasCause, WorkerRuns};
 
-use crate::advance::{Advance, Over, told};
+use crate::advance::{Advance, Over};
 use crate::directory_line::DirectoryLine;
 use crate::doorbell::Doorbell;
-use crate::line::{Line, keep_at, leave_at, rest_all};
-use crate::worker_steps::{again, begin, commit, enter, handle, leave, look, tell};
-use crate::worker_walk::{Step, Walk};
+use crate::line::Line;
+use crate::worker_steps::Worker;
 use shared_partition::{DirectoryHistory, Gate, QueueHistory};
 use std::alloc::{AllocError, Global};
 use std::marker::Model;
@@ -57,13 +53,7 @@ impl TurnRoom {
 /// A contract sees its silo, its lines, its pass at the directory, what it has in hand, how many more rounds it may
 /// begin, and why it has ended.
 pub struct WorkerLoop<G: Gate, H: QueueHistory, D: DirectoryHistory> {
-    silo: u8,
-    gate: Arc<G, Global>,
-    doorbell: Arc<Doorbell, Global>,
-    lines: Vec<Line<G, H>>,
-    directory: DirectoryLine<D>,
-    events: Vec<Event>,
-    walk: Walk,
+    worker: Worker<G, H, D>,
     rounds: u64,
     over: Option<Over>,
 }
@@ -72,13 +62,7 @@ impl<G: Gate + Drop, H: QueueHistory + Drop, D: DirectoryHistory + Drop> Drop
     for WorkerLoop<G, H, D> {
     fn drop(self) {
         let Self {
-            silo: _,
-            gate: _,
-            doorbell: _,
-            lines: _,
-            directory: _,
-            events: _,
-            walk: _,
+            worker: _,
             rounds: _,
             over: _,
         } = self;
@@ -86,257 +70,13 @@ impl<G: Gate + Drop, H: QueueHistory + Drop, D: DirectoryHistory + Drop> Drop
 }
 
 impl<G: Gate, H: QueueHistory, D: DirectoryHistory> Model for WorkerLoop<G, H, D> {
-    ghost use Rattle.stream_ident.specs.declared.limits.TheConstants.{TURN_EVENTS};
-    ghost use Rattle.std.specs.Prelude.{◌≤◌, vec_capacity};
-    ghost use Rattle.silo_loops.specs.Walks.{IsAt};
-    ghost use Rattle.silo_loops.specs.Workers.{WorkerHasCause, WorkerView, worker_at};
+    ghost use Rattle.silo_loops.specs.Workers.{WorkerHasCause, WorkerView, worker_of};
 
     ghost Value = { WorkerView };
 
-    ghost view = { λ w. worker_at w.silo w.lines.items w.directory w.walk w.events.items w.rounds w.over };
+    ghost view = { λ l. worker_of l.worker l.rounds l.over };
 
-    ghost invariant = { λ w. IsAt w.walk w.lines.items w.directory × (TURN_EVENTS ≤ vec_capacity w.events) × WorkerHasCause (worker_at w.silo w.lines.items w.directory w.walk w.events.items w.rounds w.over) };
-}
-
-// How a round begins, or doesn't.
-enum Start {
-    Begun,
-    Idle,
-    RanOut,
-}
-
-// Begins another round, where the last one found something to do or wasn't for all queues, or where there is a hint.
-// Where a round over all queues found nothing, each line begins anew instead.
-fn start_round<G: Gate, H: QueueHistory>(
-    lines: &mut Vec<Line<G, H>>,
-    walk: &mut Walk,
-    rounds: &mut u64,
-    is_told: bool,
-) -> Start
-    ensures starts { Starts result lines.old.items lines.new.items rounds.old rounds.new }
-    ensures walk { walk.new ≡ record walk.old { changed = walk.new.changed } }
-{
-    let is_over = !walk.changed && !is_told && walk.hinted.is_none();
-    if is_over && all_looked(lines) {
-        rest_all(lines);
-        walk.changed = true;
-        return Start::Idle;
-    }
-    if *rounds == 0 {
-        return Start::RanOut;
-    }
-    *rounds -= 1;
-    walk.changed = false;
-    Start::Begun
-}
-
-// At the first queue of a round: of those with a hint, where it goes by hints and there are some, or else of all.
-fn begin_at<R: Wait>(rt: &R, doorbell: &Doorbell, silo: u8, queues: usize, walk: &mut Walk)
-    requires { 0 < queues }
-    ensures at { walk.new.at < queues }
-    ensures step { walk.new.step ≡ walk.old.step }
-{
-    if walk.by_hints
-        && let Some(hinted) = doorbell.watch_for_workers(silo)
-    {
-        walk.begin(queues, Some(hinted));
-    } else {
-        walk.seen = doorbell.worker_count(rt, silo);
-        walk.begin(queues, None);
-    }
-}
-
-// Whether each line has asked for a ready grain past its mark.
-fn all_looked<G: Gate, H: QueueHistory>(lines: &Vec<Line<G, H>>) -> bool
-    ensures { result ≡ true → All HasLooked lines.now.items }
-{
-    for line in lines {
-        if !line.has_looked() {
-            return false;
-        }
-    }
-    true
-}
-
-// The next call of the round, or the next piece of work in hand.
-fn step<G: Gate, H: QueueHistory, D: DirectoryHistory, R: Wait>(
-    rt: &R,
-    alloc: Global,
-    gate: &G,
-    doorbell: &Doorbell,
-    silo: u8,
-    lines: &mut Vec<Line<G, H>>,
-    directory: &mut DirectoryLine<D>,
-    walk: &mut Walk,
-    events: &mut Vec<Event>,
-) -> Option<Over>
-    requires at { IsAt walk.old lines.old.items directory.old }
-    requires room { TURN_EVENTS ≤ vec_capacity events.old }
-    ensures at { IsAt walk.new lines.new.items directory.new }
-    ensures room { vec_capacity events.new ≡ vec_capacity events.old }
-    ensures steps { (rounds counted : ℕ) → WorkerSteps G.follows (worker_at silo lines.old.items directory.old walk.old events.old.items rounds None) (worker_at silo lines.new.items directory.new walk.new events.new.items counted result) result }
-{
-    let step = walk.step;
-    match &step {
-        Step::Rest | Step::Look => look(rt, alloc, doorbell, silo, lines, directory, walk, events),
-        Step::Enter { grain } => enter(rt, alloc, doorbell, silo, directory, walk, grain),
-        Step::Begin { grain, permit } => begin(
-            rt, alloc, doorbell, silo, lines, directory, walk, events, grain, *permit,
-        ),
-        Step::Handle {
-            grain,
-            permit,
-            turn,
-        } => {
-            if turn.next < events.len() {
-                handle(gate, walk, events, grain, *permit, turn);
-                return None;
-            }
-            commit(
-                rt, alloc, doorbell, silo, lines, directory, walk, events, grain, *permit, turn,
-            )
-        }
-        Step::Tell {
-            grain,
-            permit,
-            sub,
-            token,
-        } => {
-            tell(walk, grain, *permit, sub, *token);
-            None
-        }
-        Step::Again { grain, permit } => again(
-            rt, alloc, doorbell, silo, lines, directory, walk, events, grain, *permit,
-        ),
-        Step::Leave { grain, permit } => {
-            leave(rt, alloc, doorbell, silo, directory, walk, grain, *permit)
-        }
-    }
-}
-
-// The next call of the round, or the next piece of work in hand, and what it answers.
-fn take_step<G: Gate, H: QueueHistory, D: DirectoryHistory, R: Wait>(
-    rt: &R,
-    alloc: Global,
-    gate: &G,
-    doorbell: &Doorbell,
-    silo: u8,
-    lines: &mut Vec<Line<G, H>>,
-    directory: &mut DirectoryLine<D>,
-    walk: &mut Walk,
-    events: &mut Vec<Event>,
-    over: &mut Option<Over>,
-) -> Advance
-    requires at { IsAt walk.old lines.old.items directory.old }
-    requires room { TURN_EVENTS ≤ vec_capacity events.old }
-    ensures at { IsAt walk.new lines.new.items directory.new }
-    ensures room { vec_capacity events.new ≡ vec_capacity events.old }
-    ensures answer { result ≡ advance_of over.new }
-    ensures steps { (rounds counted : ℕ) → WorkerSteps G.follows (worker_at silo lines.old.items directory.old walk.old events.old.items rounds None) (worker_at silo lines.new.items directory.new walk.new events.new.items counted over.new) over.new }
-{
-    let queue = walk.queue();
-    *over = step(
-        rt, alloc, gate, doorbell, silo, lines, directory, walk, events,
-    );
-    told(rt, doorbell, queue, *over)
-}
-
-// The first step after a round: it begins another, or answers that the last one found nothing to do, or that
-// no more may be made.
-fn begin_round<G: Gate, H: QueueHistory, D: DirectoryHistory, R: Wait>(
-    rt: &R,
-    alloc: Global,
-    doorbell: &Doorbell,
-    own_silo: u8,
-    lines: &mut Vec<Line<G, H>>,
-    directory: &DirectoryLine<D>,
-    walk: &mut Walk,
-    events: &mut Vec<Event>,
-    rounds: &mut u64,
-    over: &mut Option<Over>,
-) -> Advance
-    requires at { IsAt walk.old lines.old.items directory.now }
-    requires rest { walk.old.step ≡ step.Rest }
-    requires goes_on { over.old ≡ None }
-    ensures at { IsAt walk.new lines.new.items directory.now }
-    ensures room { vec_capacity events.new ≡ vec_capacity events.old }
-    ensures advances { (silo : ℕ) → WorkerAdvancesFrom G.follows None result (worker_at silo lines.old.items directory.now walk.old events.old.items rounds.old over.old) (worker_at silo lines.new.items directory.now walk.new events.new.items rounds.new over.new) }
-{
-    let is_told = walk.by_hints && doorbell.has_work(own_silo);
-    match start_round(lines, walk, rounds, is_told) {
-        Start::Begun => {
-            begin_at(rt, doorbell, own_silo, lines.len(), walk);
-            let queue = walk.queue();
-            *over = look(
-                rt, alloc, doorbell, own_silo, lines, directory, walk, events,
-            );
-            told(rt, doorbell, queue, *over)
-        }
-        Start::Idle => Advance::Idle,
-        Start::RanOut => {
-            *over = Some(Over::Rounds);
-            told(rt, doorbell, None, *over)
-        }
-    }
-}
-
-// The next step of a worker that hasn't ended.
-fn go_on<G: Gate, H: QueueHistory, D: DirectoryHistory, R: Wait>(
-    rt: &R,
-    alloc: Global,
-    gate: &G,
-    doorbell: &Doorbell,
-    silo: u8,
-    lines: &mut Vec<Line<G, H>>,
-    directory: &mut DirectoryLine<D>,
-    walk: &mut Walk,
-    events: &mut Vec<Event>,
-    rounds: &mut u64,
-    over: &mut Option<Over>,
-) -> Advance
-    requires at { IsAt walk.old lines.old.items directory.old }
-    requires room { TURN_EVENTS ≤ vec_capacity events.old }
-    requires goes_on { over.old ≡ None }
-    ensures at { IsAt walk.new lines.new.items directory.new }
-    ensures room { vec_capacity events.new ≡ vec_capacity events.old }
-    ensures advances { WorkerAdvancesFrom G.follows None result (worker_at silo lines.old.items directory.old walk.old events.old.items rounds.old over.old) (worker_at silo lines.new.items directory.new walk.new events.new.items rounds.new over.new) }
-{
-    match walk.step {
-        Step::Rest => begin_round(
-            rt, alloc, doorbell, silo, lines, directory, walk, events, rounds, over,
-        ),
-        _ => take_step(
-            rt, alloc, gate, doorbell, silo, lines, directory, walk, events, over,
-        ),
-    }
-}
-
-// The next step of a worker.
-fn advance_parts<G: Gate, H: QueueHistory, D: DirectoryHistory, R: Wait>(
-    rt: &R,
-    alloc: Global,
-    gate: &G,
-    doorbell: &Doorbell,
-    silo: u8,
-    lines: &mut Vec<Line<G, H>>,
-    directory: &mut DirectoryLine<D>,
-    walk: &mut Walk,
-    events: &mut Vec<Event>,
-    rounds: &mut u64,
-    over: &mut Option<Over>,
-) -> Advance
-    requires at { IsAt walk.old lines.old.items directory.old }
-    requires room { TURN_EVENTS ≤ vec_capacity events.old }
-    ensures at { IsAt walk.new lines.new.items directory.new }
-    ensures room { vec_capacity events.new ≡ vec_capacity events.old }
-    ensures advances { WorkerAdvances G.follows result (worker_at silo lines.old.items directory.old walk.old events.old.items rounds.old over.old) (worker_at silo lines.new.items directory.new walk.new events.new.items rounds.new over.new) }
-{
-    match *over {
-        Some(end) => Advance::Over(end),
-        None => go_on(
-            rt, alloc, gate, doorbell, silo, lines, directory, walk, events, rounds, over,
-        ),
-    }
+    ghost invariant = { λ l. WorkerHasCause (worker_of l.worker l.rounds l.over) };
 }
 
 impl<G: Gate, H: QueueHistory, D: DirectoryHistory> WorkerLoop<G, H, D> {
@@ -355,13 +95,7 @@ impl<G: Gate, H: QueueHistory, D: DirectoryHistory> WorkerLoop<G, H, D> {
         ensures { result ≡ record { silo = silo; lines = lines.items; directory = directory; work = Nothing; rounds = rounds; over = None } }
     {
         WorkerLoop {
-            silo,
-            gate,
-            doorbell,
-            lines,
-            directory,
-            events: room.events,
-            walk: Walk::new(),
+            worker: Worker::new(silo, gate, doorbell, lines, directory, room),
             rounds,
             over: None,
         }
@@ -379,7 +113,7 @@ impl<G: Gate, H: QueueHistory, D: DirectoryHistory> WorkerLoop<G, H, D> {
         ensures beside { IsBeside self.old self.new }
     {
         let did = self.take_step(rt, alloc);
-        self.tell();
+        self.worker.tell_done();
         did
     }
 
@@ -391,96 +125,49 @@ impl<G: Gate, H: QueueHistory, D: DirectoryHistory> WorkerLoop<G, H, D> {
         ensures steps { Visits (WorkerAdvances G.follows) result self.old self.new }
         ensures beside { IsBeside self.old self.new }
     {
-        let at = self.walk.at;
-        self.keep(at);
+        let at = self.worker.keep();
         let mut did = self.take_held_step(rt, alloc);
         for _ in 1..MOST_STEPS {
             let Advance::Did = did else {
                 break;
             };
-            if !self.walk.stays(at, self.events.len()) {
+            if !self.worker.stays(at) {
                 break;
             }
             did = self.take_held_step(rt, alloc);
         }
-        self.leave(rt, at);
-        self.tell();
+        self.worker.end_visit(rt, at);
         did
-    }
-
-    // Keeps its turn at a queue from the next call there on.
-    fn keep(&mut self, at: usize)
-        ensures { self.new ≡ self.old }
-    {
-        keep_at(&mut self.lines, at);
-    }
-
-    // Gives up the turns that it may have at a queue and at the directory.
-    fn leave<R: Wait>(&mut self, rt: &R, at: usize)
-        ensures { self.new ≡ self.old }
-    {
-        leave_at(rt, &self.doorbell, &mut self.lines, at);
-        self.directory.leave(rt, &self.doorbell);
     }
 
     // The next step. It keeps its turn at the directory from a permit that it gives back to the next one. No queue is
     // called meanwhile, so whoever has the directory's turn waits for no other.
     fn take_held_step<R: Wait>(&mut self, rt: &R, alloc: Global) -> Advance
-        ensures advances { WorkerAdvances G.follows result self.old self.new }
-        ensures beside { IsBeside self.old self.new }
+        ensures { WorkerAdvances G.follows result self.old self.new }
     {
-        let hands_on = self.walk.hands_on();
-        self.keep_directory(hands_on);
+        let hands_on = self.worker.hands_on();
+        if hands_on {
+            self.worker.keep_directory();
+        }
         let did = self.take_step(rt, alloc);
-        self.leave_directory(rt, !hands_on);
+        if !hands_on {
+            self.worker.leave_directory(rt);
+        }
         did
-    }
-
-    // Keeps its turn at the directory from the next call there on, where it is to.
-    fn keep_directory(&mut self, keeps: bool)
-        ensures { self.new ≡ self.old }
-    {
-        if keeps {
-            self.directory.keep();
-        }
-    }
-
-    // Gives up the turn that it may have at the directory, where it is to.
-    fn leave_directory<R: Wait>(&mut self, rt: &R, leaves: bool)
-        ensures { self.new ≡ self.old }
-    {
-        if leaves {
-            self.directory.leave(rt, &self.doorbell);
-        }
-    }
-
-    // Tells the gate of the commit of which it is still to be told.
-    fn tell(&mut self)
-        ensures { self.new ≡ self.old }
-    {
-        if let Some(commit) = self.walk.untold.take() {
-            self.gate.done(&commit.grain, &commit.sub, commit.token);
-        }
     }
 
     // The next step. The gate isn't told of a commit yet.
     fn take_step<R: Wait>(&mut self, rt: &R, alloc: Global) -> Advance
-        ensures advances { WorkerAdvances G.follows result self.old self.new }
-        ensures beside { IsBeside self.old self.new }
+        ensures { WorkerAdvances G.follows result self.old self.new }
     {
-        advance_parts(
-            rt,
-            alloc,
-            &*self.gate,
-            &self.doorbell,
-            self.silo,
-            &mut self.lines,
-            &mut self.directory,
-            &mut self.walk,
-            &mut self.events,
-            &mut self.rounds,
-            &mut self.over,
-        )
+        match self.over {
+            Some(end) => Advance::Over(end),
+            None => {
+                let did = self.worker.go_on(rt, alloc, &mut self.rounds);
+                self.over = did.over();
+                did
+            }
+        }
     }
 
     /// How many more rounds it may begin.
@@ -508,19 +195,11 @@ impl<G: Gate, H: QueueHistory, D: DirectoryHistory> WorkerLoop<G, H, D> {
         match self.visit(rt, alloc) {
             Advance::Did => true,
             Advance::Idle => {
-                self.doorbell
-                    .wait_for_work(rt, self.silo, self.walk.seen, stop);
+                self.worker.wait(rt, stop);
                 true
             }
             Advance::Over(_) => false,
         }
-    }
-
-    // Goes by hints from now on.
-    fn go_by_hints(&mut self)
-        ensures { self.new ≡ self.old }
-    {
-        self.walk.by_hints = true;
     }
 
     /// Makes visits until `stop` is set or the loop has ended, and waits at the doorbell where a round over all queues
@@ -529,14 +208,14 @@ impl<G: Gate, H: QueueHistory, D: DirectoryHistory> WorkerLoop<G, H, D> {
     pub fn run<R: Wait>(self, rt: &R, alloc: Global, stop: &AtomicBool) -> WorkerLoop<G, H, D>
         ensures { WorkerRuns G.follows self result }
     {
-        let mut worker = self;
-        worker.go_by_hints();
+        let mut this = self;
+        this.worker.go_by_hints();
         for _ in rt.forever() {
-            if !worker.go(rt, alloc, stop) {
+            if !this.go(rt, alloc, stop) {
                 break;
             }
         }
-        worker
+        this
     }
 
     /// Its lines, and its pass at the directory.
@@ -545,16 +224,10 @@ impl<G: Gate, H: QueueHistory, D: DirectoryHistory> WorkerLoop<G, H, D> {
         ensures directory { result.1 ≡ self.directory }
     {
         let WorkerLoop {
-            silo: _,
-            gate: _,
-            doorbell: _,
-            lines,
-            directory,
-            events: _,
-            walk: _,
+            worker,
             rounds: _,
             over: _,
         } = self;
-        (lines, directory)
+        worker.into_parts()
     }
 }

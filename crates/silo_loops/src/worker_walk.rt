@@ -94,7 +94,8 @@ pub(crate) struct Walk {
 impl Walk {
     // Before the first round.
     pub(crate) fn new() -> Walk
-        ensures { result ≡ record { at = 0; last = None; changed = true; step = step.Rest; again = 0; found = None; untold = None; by_hints = false; hinted = None; seen = 0 } }
+        ensures at { result.at ≡ 0 }
+        ensures step { result.step ≡ step.Rest }
     {
         Walk {
             at: 0,
@@ -167,7 +168,7 @@ impl Walk {
     pub(crate) fn begin(&mut self, queues: usize, hinted: Option<QueueSet>)
         requires { 0 < queues }
         ensures at { self.new.at < queues }
-        ensures walk { self.new ≡ record self.old { at = self.new.at; changed = false; hinted = self.new.hinted } }
+        ensures step { self.new.step ≡ self.old.step }
     {
         self.changed = false;
         self.hinted = hinted;
@@ -228,7 +229,8 @@ impl Walk {
         grain: &GrainId,
         answer: &Result<DirectoryReply, Refusal>,
     ) -> Option<Over>
-        ensures walk { self.new ≡ record self.old { step = step_after_enter grain.now answer.now } }
+        ensures at { self.new.at ≡ self.old.at }
+        ensures step { self.new.step ≡ step_after_enter grain.now answer.now }
         ensures over { result ≡ end_of_asking answer.now }
     {
         self.step = match *answer {
@@ -287,7 +289,8 @@ impl Walk {
         permit: u64,
         answer: &Heard,
     ) -> Option<Over>
-        ensures walk { self.new ≡ record self.old { step = step_after_commit grain.now permit answer.now } }
+        ensures at { self.new.at ≡ self.old.at }
+        ensures step { self.new.step ≡ step_after_commit grain.now permit answer.now }
         ensures over { result ≡ end_in answer.now }
     {
         self.step = match *answer {

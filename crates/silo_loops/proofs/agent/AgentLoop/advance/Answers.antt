@@ -1,9 +1,11 @@
+use Rattle.std.proofs.Common.{None}
+use Rattle.silo_loops.specs.Agents.{agent_of}
 use Rattle.silo_loops.proofs.Advancing.{agent-beside}
 use Rattle.silo_loops.proofs.Causes.{agent-cause}
 use Rattle.silo_loops.proofs.agent.AgentLoop.advance.Goals as goal
 
-pub returns-clause-beside : goal.returns-clause-beside
-returns-clause-beside g c = rw (← c.self.view_is) (agent-beside _ _ _ _ c.advance_parts.ensures.advances)
-
 pub invariant_of-self : goal.invariant_of-self
-invariant_of-self g c = (c.advance_parts.ensures.held, c.advance_parts.ensures.visiting, agent-cause _ _ _ _ c.self.invariant.2 c.advance_parts.ensures.advances)
+invariant_of-self g c = rw c.over-self-inside.ensures (agent-cause None _ (agent_of c.self.inside.agent c.self.inside.rounds None) _ tt c.go_on-did.ensures)
+
+pub returns-in-None-clause-beside : goal.returns-in-None-clause-beside
+returns-in-None-clause-beside g c = rw (← c.self.view_is) (agent-beside None _ (agent_of c.self.inside.agent c.self.inside.rounds None) _ c.go_on-did.ensures)

@@ -1,6 +1,0 @@
-use Rattle.std.proofs.Common.{◌≡◌, length}
-use Rattle.silo_loops.proofs.Holding.{HoldsNone}
-use Rattle.silo_loops.proofs.agent.next_held.Given as goal
-
-abbrev pub invariant-loop-at : goal.invariant-loop-at
-invariant-loop-at l = (length l.held.items ≡ length l.fn.held.items) × HoldsNone l.held.items l.fn.visit.at l.at × (l.visit ≡ l.fn.visit)
