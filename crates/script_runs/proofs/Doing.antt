@@ -2,10 +2,11 @@
 use Rattle.std.proofs.Common.{◌≡◌, ◌≢◌, ◌≤◌, ℕ, List, Option, None, Result, Ok, Err, IfErr, IfOk, refl, sym, ap, subst, ◌∙◌}
 use Rattle.std.specs.declared.alloc.AllocError.{AllocError}
 use Rattle.stream_model.specs.declared.op.Op.{Op}
+use Rattle.turnstile.specs.declared.turnstile.Refusal.TheVariants.{HistoryFull}
 use Rattle.silo_loops.specs.Lines.{QueuePass}
 use Rattle.silo_threads.proofs.Rows.{zip-refl}
 use Rattle.silo_threads.specs.Clusters.{ClusterView, HasMetLimit}
-use Rattle.silo_threads.specs.Draining.{HasGoneOn, LooksInVain}
+use Rattle.silo_threads.specs.Draining.{HasGoneOn, Looks, LooksInVain, LooksQuiet}
 use Rattle.stream_script.specs.declared.parser.command.Command.{Command}
 use Rattle.stream_script.specs.declared.parser.command.Command.TheVariants as command
 use Rattle.script_runs.specs.ScriptReport.{live_after}
@@ -20,18 +21,19 @@ use Rattle.script_runs.specs.declared.runs.line.Stop.TheVariants as stop
 use Rattle.script_runs.specs.Lines.{ChangesBy, DoesLine, IsOfWait, IsUnquiet, MeetsLimit, StopsBy, WaitsInVain}
 
 -- a line that asks for something at the queues
-pub tells-line : (v : ClusterView) (old new : List QueuePass) (command : Command) (a : Answer) → ((live : List ℕ) → live_after live command ≡ live) → Tells old command a new → DoesLine v old command a v new
-tells-line v old new command a same tells =
+pub tells-line : (v : ClusterView) (old new : List QueuePass) (said : Command) (a : Answer) → ((live : List ℕ) → live_after live said ≡ live) → Tells old said a new → (said ≡ command.Drain → LooksQuiet v.looks old new) → DoesLine v old said a v new
+tells-line v old new said a same tells quiet =
     record {
       live = λ once. (sym (same v.operator.live), once);
       told = tells.told;
       printed = λ begins alone missed lines number fresh has silos is. tells.printed begins alone missed lines number fresh has silos;
+      quiet = quiet;
       stays = λ free. (free, refl);
     }
 
 -- a line by which a silo comes or goes
-pub changes-line : (v w : ClusterView) (passes : List QueuePass) (command : Command) (a : Answer) → ((queue : ℕ) → script.op_at queue command ≡ None) → ChangesBy v command a w → DoesLine v passes command a w passes
-changes-line v w passes command a none changes =
+pub changes-line : (v w : ClusterView) (passes : List QueuePass) (said : Command) (a : Answer) → ((queue : ℕ) → script.op_at queue said ≡ None) → (said ≡ command.Drain → ⊥) → ChangesBy v said a w → DoesLine v passes said a w passes
+changes-line v w passes said a none other changes =
     record {
       live = changes.live;
       told = λ begins alone missed lines number fresh has queue p at.
@@ -39,22 +41,24 @@ changes-line v w passes command a none changes =
           has queue p at
           ∙ ap (λ (numbers : List ℕ). script.told numbers queue lines) (sym (changes.found number missed))
           ∙ ap (λ (asked : Option Op). script.with_told now (script.told now queue lines) number asked) (sym (none queue))
-          ∙ sym (scripts-grow.told now queue lines (record { number = number; command = command }));
+          ∙ sym (scripts-grow.told now queue lines (record { number = number; command = said }));
       printed = λ begins alone missed lines number fresh has silos is. changes.prints (with_missed a number missed) silos lines number is;
+      quiet = λ drains. absurd (other drains);
       stays = changes.stays;
     }
 
 -- ---- the same by what came of it
 
-pub asked-line : (v : ClusterView) (old new : List QueuePass) (command : Command) (asked : Result Answer AllocError) (result : Result Answer Stop) → ((live : List ℕ) → live_after live command ≡ live)
-    → IfOk asked (λ a. TellsUnlessLimit old command a new) → IfOk result (λ taken. (asked ≡ Ok taken) × (taken ≢ answer.Limit)) → IfOk result (λ told. DoesLine v old command told v new)
-asked-line v old new command asked (Ok a) same tells taken = tells-line v old new command a same (subst (λ (r : Result Answer AllocError). IfOk r (λ b. TellsUnlessLimit old command b new)) taken.0 tells taken.1)
-asked-line v old new command asked (Err e) same tells taken = tt
+pub asked-line : (v : ClusterView) (old new : List QueuePass) (said : Command) (asked : Result Answer AllocError) (result : Result Answer Stop) → ((live : List ℕ) → live_after live said ≡ live) → (said ≡ command.Drain → ⊥)
+    → IfOk asked (λ a. TellsUnlessLimit old said a new) → IfOk result (λ taken. (asked ≡ Ok taken) × (taken ≢ answer.Limit)) → IfOk result (λ told. DoesLine v old said told v new)
+asked-line v old new said asked (Ok a) same other tells taken =
+    tells-line v old new said a same (subst (λ (r : Result Answer AllocError). IfOk r (λ b. TellsUnlessLimit old said b new)) taken.0 tells taken.1) (λ drains. absurd (other drains))
+asked-line v old new said asked (Err e) same other tells taken = tt
 
-pub changed-line : (v w : ClusterView) (passes : List QueuePass) (command : Command) (result : Result Answer Stop) → ((queue : ℕ) → script.op_at queue command ≡ None)
-    → IfOk result (λ told. ChangesBy v command told w) → IfOk result (λ told. DoesLine v passes command told w passes)
-changed-line v w passes command (Ok a) none changes = changes-line v w passes command a none changes
-changed-line v w passes command (Err e) none changes = tt
+pub changed-line : (v w : ClusterView) (passes : List QueuePass) (said : Command) (result : Result Answer Stop) → ((queue : ℕ) → script.op_at queue said ≡ None) → (said ≡ command.Drain → ⊥)
+    → IfOk result (λ told. ChangesBy v said told w) → IfOk result (λ told. DoesLine v passes said told w passes)
+changed-line v w passes said (Ok a) none other changes = changes-line v w passes said a none other changes
+changed-line v w passes said (Err e) none other changes = tt
 
 -- ---- why a line was stopped
 
@@ -85,7 +89,8 @@ vain-now : (made : ℕ) (old new : List QueuePass) → LooksInVain made old new 
 vain-now made old new vain = record { before = old; on = zip-refl HasGoneOn gone-refl old; vain = vain }
 
 pub unquiet-stops : (why : Stop) (v w : ClusterView) (looks : ℕ) (old new : List QueuePass) → looks ≡ v.looks → IsUnquiet why looks old new → StopsBy why command.Drain v old w new
-unquiet-stops stop.Limit v w looks old new same unquiet = unquiet
+unquiet-stops stop.Limit v w looks old new same unquiet =
+    record { before = old; on = zip-refl HasGoneOn gone-refl old; ends = subst (λ n. Looks n (Err HistoryFull) old new) same unquiet }
 unquiet-stops stop.NotQuiet v w looks old new same unquiet = (refl, vain-now v.looks old new (subst (λ n. LooksInVain n old new) same unquiet))
 unquiet-stops stop.Ended v w looks old new same unquiet =
     (refl, (unquiet.0, unquiet.1, subst (λ n. unquiet.0 ≤ n) same unquiet.2, vain-now unquiet.0 old new unquiet.3))

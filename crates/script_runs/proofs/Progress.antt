@@ -16,13 +16,12 @@ use Rattle.silo_loops.specs.Lines.{QueuePass}
 use Rattle.silo_loops.proofs.Owning.{owns-foreign}
 use Rattle.silo_threads.specs.Calls.{IsUnused, turnstiles}
 use Rattle.silo_threads.specs.declared.ending.asking.Quiet.{Quiet}
-use Rattle.silo_threads.specs.declared.ending.asking.Quiet.TheVariants.{All}
 use Rattle.silo_threads.proofs.Looking.{turnstiles-length}
 use Rattle.silo_threads.proofs.Rows.{all-at, zip-refl, zip-trans}
 use Rattle.stream_ident.proofs.EachOf.{All-push, All-weaken}
 use Rattle.silo_threads.specs.Operators.{OperatorGoesOn}
 use Rattle.silo_threads.specs.Clusters.{ClusterView, is_fixed}
-use Rattle.silo_threads.specs.Draining.{HasGoneOn, Looks, LooksQuiet}
+use Rattle.silo_threads.specs.Draining.{HasGoneOn, LooksQuiet}
 use Rattle.silo_threads.proofs.Changing.{op-trans}
 use Rattle.silo_threads.proofs.Standing.{met-earlier, op-refl}
 use Rattle.stream_ident.proofs.WordLemmas.{All-at}
@@ -45,7 +44,7 @@ use Rattle.script_runs.proofs.Seen.{alone-as, alone-front, none-told}
 use Rattle.script_runs.specs.Scripts.{IsRunCommand, IsScript, RisesFrom}
 use Rattle.script_runs.specs.declared.runs.line.Stop.{Stop}
 use Rattle.script_runs.specs.declared.runs.line.Stop.TheVariants as stop
-use Rattle.script_runs.specs.Lines.{DoesLine, HasToldFront, MeetsLimit, StaysOpen, StopsBy, TellsInPart, WaitsInVain, next_command}
+use Rattle.script_runs.specs.Lines.{DoesLine, HasToldFront, MeetsLimit, StaysOpen, StopsBy, TellsInPart, WaitsInVain, WaitsUntil, next_command}
 use Rattle.script_runs.specs.Runs.{DoesAll, IsPrinted, IsUntouched, StopsFront, missed_in, with_printed}
 use Rattle.script_runs.proofs.Fronts.{drain-part, none-left}
 
@@ -218,9 +217,9 @@ does lines v old done found w now line a more u new far within is line_does prin
           ∙ ap (λ (numbers : List ℕ). script_lines numbers silos (done ++ line ∷ [])) (sym same)));
     }
 
--- a look and a call since then are so since what was before
-looks-earlier : (result : Result Quiet Refusal) (old now new : List QueuePass) → AllZip HasGoneOn old now → Looks result now new → Looks result old new
-looks-earlier result old now new on look = record { before = look.before; on = on-all old now look.before on look.on; asks = look.asks }
+-- a wait and a call since then are so since what was before
+until-earlier : (looks : ℕ) (result : Result Quiet Refusal) (old now new : List QueuePass) → AllZip HasGoneOn old now → WaitsUntil looks result now new → WaitsUntil looks result old new
+until-earlier looks result old now new on waits = record { before = waits.before; on = on-all old now waits.before on waits.on; ends = waits.ends }
 
 waits-earlier : (made : ℕ) (old now new : List QueuePass) → AllZip HasGoneOn old now → WaitsInVain made now new → WaitsInVain made old new
 waits-earlier made old now new on waits = record { before = waits.before; on = on-all old now waits.before on waits.on; vain = waits.vain }
@@ -228,18 +227,18 @@ waits-earlier made old now new on waits = record { before = waits.before; on = o
 last-earlier : (op : Op) (result : Result Answer AllocError) (old now new : List QueuePass) → AllZip HasGoneOn old now → AsksLast now op result new → AsksLast old op result new
 last-earlier op result old now new on last = record { before = last.before; on = on-all old now last.before on last.on; queue = last.queue; asks = last.asks }
 
-limit-earlier : (asked : Command) (v w u : ClusterView) (old now new : List QueuePass) → OperatorGoesOn v.operator w.operator → AllZip HasGoneOn old now → MeetsLimit asked w now u new → MeetsLimit asked v old u new
-limit-earlier (command.Step queue op) v w u old now new goes on meets = last-earlier op (Ok answer.Limit) old now new on meets
-limit-earlier (command.Each each) v w u old now new goes on meets = last-earlier (op_of each) (Ok answer.Limit) old now new on meets
-limit-earlier command.Drain v w u old now new goes on meets = looks-earlier (Err HistoryFull) old now new on meets
-limit-earlier (command.Up silo) v w u old now new goes on meets = met-earlier v.operator w.operator u.operator goes meets
-limit-earlier (command.Down silo) v w u old now new goes on meets = met-earlier v.operator w.operator u.operator goes meets
-limit-earlier command.Report v w u old now new goes on meets = absurd meets
+limit-earlier : (asked : Command) (v w u : ClusterView) (old now new : List QueuePass) → OperatorGoesOn v.operator w.operator → w.looks ≡ v.looks → AllZip HasGoneOn old now → MeetsLimit asked w now u new → MeetsLimit asked v old u new
+limit-earlier (command.Step queue op) v w u old now new goes same on meets = last-earlier op (Ok answer.Limit) old now new on meets
+limit-earlier (command.Each each) v w u old now new goes same on meets = last-earlier (op_of each) (Ok answer.Limit) old now new on meets
+limit-earlier command.Drain v w u old now new goes same on meets = until-earlier v.looks (Err HistoryFull) old now new on (subst (λ n. WaitsUntil n (Err HistoryFull) now new) same meets)
+limit-earlier (command.Up silo) v w u old now new goes same on meets = met-earlier v.operator w.operator u.operator goes meets
+limit-earlier (command.Down silo) v w u old now new goes same on meets = met-earlier v.operator w.operator u.operator goes meets
+limit-earlier command.Report v w u old now new goes same on meets = absurd meets
 
 -- why a line was stopped is why the script is
 pub stops-later : (why : Stop) (asked : Command) (lines : List Line) (v : ClusterView) (old : List QueuePass) (done : List Line) (found : List ScriptLine) (w : ClusterView) (now : List QueuePass) (u : ClusterView) (new : List QueuePass)
     → is_fixed v ≡ false → Progress lines v old done found w now → StopsBy why asked w now u new → StopsBy why asked v old u new
-stops-later stop.Limit asked lines v old done found w now u new free far stops = limit-earlier asked v w u old now new far.cluster far.on stops
+stops-later stop.Limit asked lines v old done found w now u new free far stops = limit-earlier asked v w u old now new far.cluster (far.stays free).1 far.on stops
 stops-later stop.NotQuiet asked lines v old done found w now u new free far stops =
     (stops.0, waits-earlier v.looks old now new far.on (subst (λ n. WaitsInVain n now new) (far.stays free).1 stops.1))
 stops-later stop.Ended asked lines v old done found w now u new free far stops =
@@ -248,14 +247,14 @@ stops-later stop.Memory asked lines v old done found w now u new free far stops 
 
 -- all lines were done, and then all queues were quiet
 pub done-all : (lines : List Line) (v : ClusterView) (old : List QueuePass) (done : List Line) (found : List ScriptLine) (w : ClusterView) (now new : List QueuePass)
-    → Progress lines v old done found w now → done ≡ lines → AllZip HasGoneOn now new → Tells now command.Drain answer.Taken new → LooksQuiet now new
+    → is_fixed v ≡ false → Progress lines v old done found w now → done ≡ lines → AllZip HasGoneOn now new → Tells now command.Drain answer.Taken new → LooksQuiet w.looks now new
     → DoesAll lines v old found w new
-done-all lines v old done found w now new far all on tells quiet =
+done-all lines v old done found w now new free far all on tells quiet =
     let missed = missed_in found in
     let number = suc far.last in
     let fresh = fresh-number number far.last missed done (omega arith) far.below far.missed in
     record {
-      quiet = looks-earlier (Ok All) old now new far.on quiet;
+      quiet = record { before = now; on = far.on; ends = subst (λ n. LooksQuiet n now new) (far.stays free).1 quiet };
       printed = λ silos untouched alone. subst (λ (ls : List Line). IsPrinted silos ls found) all (far.printed silos untouched (alone-back now new on alone));
       told = λ silos untouched alone queue p at.
           let before = alone-back now new on alone in

@@ -1,15 +1,17 @@
 -- What a line of a script does on a cluster.
-use Rattle.std.specs.Prelude.{◌≡◌, ◌⊎◌, ℕ, ◌<◌, ◌≤◌, false, List, [], ◌∷◌, ◌++◌, Option, Some, None, Ok, Err, slice_get}
+use Rattle.std.specs.Prelude.{◌≡◌, ◌⊎◌, ℕ, ◌<◌, ◌≤◌, false, List, [], ◌∷◌, ◌++◌, Option, Some, None, Result, Ok, Err, slice_get}
 use Rattle.std.specs.List.{AllByRecursion, AllZip}
 use Rattle.queue_balancer.specs.Balance.{HasNoDoubles}
 use Rattle.stream_model.specs.declared.op.Op.{Op}
 use Rattle.stream_model.specs.Replies.{Reply}
 use Rattle.stream_model.specs.History as told
+use Rattle.turnstile.specs.declared.turnstile.Refusal.{Refusal}
 use Rattle.turnstile.specs.declared.turnstile.Refusal.TheVariants.{HistoryFull}
 use Rattle.silo_loops.specs.Lines.{QueuePass}
 use Rattle.silo_threads.specs.Operators.{OperatorGoesOn}
 use Rattle.silo_threads.specs.Clusters.{ClusterView, HasMetLimit, is_fixed}
-use Rattle.silo_threads.specs.Draining.{HasGoneOn, Looks, LooksAWhile, LooksInVain}
+use Rattle.silo_threads.specs.declared.ending.asking.Quiet.{Quiet}
+use Rattle.silo_threads.specs.Draining.{HasGoneOn, Looks, LooksAWhile, LooksInVain, LooksQuiet}
 use Rattle.stream_script.specs.declared.parser.command.Command.{Command}
 use Rattle.stream_script.specs.declared.parser.command.Command.TheVariants as command
 use Rattle.stream_script.specs.Forms.{op_of}
@@ -46,16 +48,18 @@ pub record ChangesBy (v : ClusterView) (command : Command) (a : Answer) (w : Clu
 
 -- A line was answered so. Where the caller had told the lines of a script before it, the silos that lived were those
 -- that the script says, and nobody else has produced, it has told this line too, the silos that live are those that the
--- script says, and what the line prints is what the script says.
-pub record DoesLine (v : ClusterView) (old : List QueuePass) (command : Command) (a : Answer) (w : ClusterView) (new : List QueuePass) : Type 0 where
-  pub live : ChangesLive v.operator.live command w.operator.live
+-- script says, and what the line prints is what the script says. A drain has looked at the queues, and asked nothing else,
+-- until all were quiet in one look.
+pub record DoesLine (v : ClusterView) (old : List QueuePass) (said : Command) (a : Answer) (w : ClusterView) (new : List QueuePass) : Type 0 where
+  pub live : ChangesLive v.operator.live said w.operator.live
   pub told :
       AllByRecursion BeginsEmpty old → AloneProduces new → (missed : List ℕ) (lines : List Line) (number : ℕ) → IsNewNumber number missed lines
-      → HasTold missed lines old → HasTold (with_missed a number missed) (lines ++ record { number = number; command = command } ∷ []) new
+      → HasTold missed lines old → HasTold (with_missed a number missed) (lines ++ record { number = number; command = said } ∷ []) new
   pub printed :
       AllByRecursion BeginsEmpty old → AloneProduces new → (missed : List ℕ) (lines : List Line) (number : ℕ) → IsNewNumber number missed lines
       → HasTold missed lines old → (silos : ℕ) → v.operator.live ≡ live_silos silos lines
-      → command_printed (with_missed a number missed) silos lines number command ≡ printed_lines a number
+      → command_printed (with_missed a number missed) silos lines number said ≡ printed_lines a number
+  pub quiet : said ≡ command.Drain → LooksQuiet v.looks old new
   pub stays : StaysOpen v w
 
 -- what producers were told at a queue where this was asked once, or nothing was
@@ -90,11 +94,17 @@ TellsInPart old command new =
     AllByRecursion BeginsEmpty old → AloneProduces new → (missed : List ℕ) (lines : List Line) (number : ℕ) → IsNewNumber number missed lines
     → HasTold missed lines old → HasToldFront missed lines (record { number = number; command = command } ∷ []) new
 
+-- since then a wait has begun that may have so many looks, and this came of its last one
+pub record WaitsUntil (looks : ℕ) (result : Result Quiet Refusal) (old new : List QueuePass) : Type 0 where
+  pub before : List QueuePass
+  pub on : AllZip HasGoneOn old before
+  pub ends : Looks looks result before new
+
 -- A line met a limit: its last call did, of a partition or of a history, or a silo couldn't come or go for one.
 abbrev pub MeetsLimit : Command → ClusterView → List QueuePass → ClusterView → List QueuePass → Type 0
 MeetsLimit (command.Step queue op) v old w new = AsksLast old op (Ok answer.Limit) new
 MeetsLimit (command.Each each) v old w new = AsksLast old (op_of each) (Ok answer.Limit) new
-MeetsLimit command.Drain v old w new = Looks (Err HistoryFull) old new
+MeetsLimit command.Drain v old w new = WaitsUntil v.looks (Err HistoryFull) old new
 MeetsLimit (command.Up silo) v old w new = HasMetLimit v.operator w.operator
 MeetsLimit (command.Down silo) v old w new = HasMetLimit v.operator w.operator
 MeetsLimit command.Report v old w new = ⊥
@@ -117,7 +127,7 @@ IsOfWait _ = ⊥
 
 -- why a wait didn't find all queues quiet
 abbrev pub IsUnquiet : Stop → ℕ → List QueuePass → List QueuePass → Type 0
-IsUnquiet stop.Limit looks old new = Looks (Err HistoryFull) old new
+IsUnquiet stop.Limit looks old new = Looks looks (Err HistoryFull) old new
 IsUnquiet stop.NotQuiet looks old new = LooksInVain looks old new
 IsUnquiet stop.Ended looks old new = LooksAWhile looks old new
 IsUnquiet stop.Memory looks old new = Unit {0}

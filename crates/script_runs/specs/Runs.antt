@@ -1,5 +1,5 @@
 -- What a script does on a cluster, and what a run of it prints.
-use Rattle.std.specs.Prelude.{◌≡◌, ℕ, true, false, List, [], ◌∷◌, ◌++◌, length, map, fold, Some, None, slice_get}
+use Rattle.std.specs.Prelude.{◌≡◌, ℕ, true, false, List, [], ◌∷◌, ◌++◌, length, map, fold, Some, None, Ok, slice_get}
 use Rattle.std.specs.List.{AllByRecursion, AllZip, flat_map, range_with_len}
 use Rattle.stream_model.specs.declared.op.Op.{Op}
 use Rattle.stream_model.specs.declared.plain.PlainPartition.{PlainPartition}
@@ -17,14 +17,15 @@ use Rattle.silo_threads.specs.declared.ending.finishing.Finished.TheVariants as 
 use Rattle.silo_threads.specs.declared.clusters.config.Config.{Config}
 use Rattle.silo_loops.specs.Silos.{SiloView}
 use Rattle.silo_threads.specs.Clusters.{ClusterView, HasFinished, IsNew, is_fixed}
-use Rattle.silo_threads.specs.Draining.{HasGoneOn, LooksQuiet}
+use Rattle.silo_threads.specs.Draining.{HasGoneOn}
+use Rattle.silo_threads.specs.declared.ending.asking.Quiet.TheVariants.{All}
 use Rattle.script_runs.specs.declared.reader.line.Line.{Line}
 use Rattle.script_runs.specs.declared.reader.script_line.ScriptLine.{ScriptLine}
 use Rattle.script_runs.specs.declared.reader.script_line.ScriptLine.TheVariants as printed
 use Rattle.script_runs.specs.ScriptReport.{line_text, live_silos, script_lines, script_report}
 use Rattle.script_runs.specs.Told as script
 use Rattle.script_runs.specs.Telling.{AloneProduces, BeginsEmpty, HasTold}
-use Rattle.script_runs.specs.Lines.{HasToldFront, IsToldInPart, StopsBy, next_command}
+use Rattle.script_runs.specs.Lines.{HasToldFront, IsToldInPart, StopsBy, WaitsUntil, next_command}
 use Rattle.script_runs.specs.declared.runs.line.Stop.{Stop}
 use Rattle.script_runs.specs.declared.runs.line.Stop.TheVariants as stop
 use Rattle.script_runs.specs.declared.runs.outcome.Ran.{Ran}
@@ -72,7 +73,7 @@ StopsFront why lines v old found w new = (front : DoesFront lines v old found ne
 -- All lines of a script were done, and in one look after them each queue was quiet. Where nobody else has produced, they
 -- printed what the script says, its producer was told what it says, and the silos live that it says.
 pub record DoesAll (lines : List Line) (v : ClusterView) (old : List QueuePass) (found : List ScriptLine) (w : ClusterView) (new : List QueuePass) : Type 0 where
-  pub quiet : LooksQuiet old new
+  pub quiet : WaitsUntil v.looks (Ok All) old new
   pub printed : (silos : ℕ) → IsUntouched silos v old → AloneProduces new → IsPrinted silos lines found
   pub told : (silos : ℕ) → IsUntouched silos v old → AloneProduces new → HasTold (missed_in found) lines new
   pub live : (silos : ℕ) → IsUntouched silos v old → w.operator.live ≡ live_silos silos lines

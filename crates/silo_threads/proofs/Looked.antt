@@ -1,5 +1,5 @@
 -- Looks at all queues, which ask for nothing that producers ask for.
-use Rattle.std.proofs.Common.{◌≡◌, ℕ, zero, suc, ◌+◌, List, [], ◌∷◌, Result, Ok, Err, sym, subst, arith}
+use Rattle.std.proofs.Common.{◌≡◌, ℕ, zero, suc, ◌+◌, ◌<◌, List, [], ◌∷◌, Result, Ok, Err, sym, subst, arith}
 use Rattle.std.specs.List.{AllZip}
 use Rattle.stream_model.specs.declared.reply.Pending.{Pending}
 use Rattle.stream_model.specs.Replies.{Reply}
@@ -33,8 +33,8 @@ pub none-on : (old new : List QueuePass) → AllZip ProducesNone old new → All
 none-on old new all = zip-weaker ProducesNone HasGoneOn (λ p q none. none.on) old new all
 
 -- the last look
-pub last-look : (result : Result Quiet Refusal) (old now new : List QueuePass) → AllZip ProducesNone old now → AsksQuiet now result new → Looks result old new
-last-look result old now new so_far asks = record { before = now; on = none-on old now so_far; asks = asks }
+pub last-look : (looks made : ℕ) (result : Result Quiet Refusal) (old now new : List QueuePass) → made < looks → LooksInVain made old now → AsksQuiet now result new → Looks looks result old new
+last-look looks made result old now new within vain asks = record { made = made; within = within; before = now; vain = vain; asks = asks }
 
 -- one look more in vain
 pub vain-more : (looks : ℕ) (queue : ℕ) (why : Pending) (end : Quiet) (old now new : List QueuePass) → end ≡ NotQuiet queue why → LooksInVain looks old now → AsksQuiet now (Ok end) new → LooksInVain (looks + 1) old new

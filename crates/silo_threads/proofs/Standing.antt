@@ -1,5 +1,5 @@
 -- What a change of silos leaves.
-use Rattle.std.proofs.Common.{◌≡◌, ◌⊎◌, inl, inr, ℕ, zero, suc, ◌<◌, ◌+◌, Bool, true, false, List, [], ◌∷◌, ◌++◌, length, get_or, map, remove, Contains, Some, Result, Ok, Err, refl, sym, ap, subst, ◌∙◌, arith}
+use Rattle.std.proofs.Common.{◌≡◌, ◌⊎◌, inl, inr, ℕ, zero, suc, ◌<◌, ◌+◌, Bool, true, false, List, [], ◌∷◌, ◌++◌, length, drop, get_or, map, remove, Contains, Some, Result, Ok, Err, refl, sym, ap, subst, ◌∙◌, arith}
 use Rattle.std.proofs.lemmas.List.{get_or-map, length-map, map-append}
 use Rattle.std.proofs.lemmas.Option.{slice_get-get_or, slice_get_within}
 use Rattle.std.proofs.lemmas.List.Edits.{length-remove}
@@ -22,6 +22,7 @@ use Rattle.stream_model.specs.declared.op.Op.{Op}
 use Rattle.stream_model.specs.Replies.{Reply}
 use Rattle.turnstile.specs.declared.history.Entry.{Entry}
 use Rattle.silo_loops.specs.Lines.{DirectoryPass, LineView, QueuePass, places}
+use Rattle.silo_loops.specs.Passes.{OwnsNone}
 use Rattle.silo_loops.proofs.Running.{agent-stays, worker-stays}
 use Rattle.silo_loops.specs.Silos.{AreSilent, AreSplitOff, AreTakenIn, GoOn, GoesOn, HasRun, IsFresh, IsSilent, IsSiloAt, IsSplitLine, SiloView}
 use Rattle.silo_loops.proofs.Going.{goes-length, goes-places, goes-refl, goes-trans, on-refl, still-at, taken-silo}
@@ -30,8 +31,9 @@ use Rattle.silo_threads.specs.declared.operators.halt.Halt.TheVariants as halt
 use Rattle.silo_threads.specs.Changes.{AreDeactivated, HasFound, HasMade, HasSince, HaveMoved, HaveMovedNowhere, HaveOnlySeen, HaveStayed, HoldsGrains, IsDeactivation, IsMove, IsNoneLeft, IsRelease, IsSpentMove, StaysBehind, is_move}
 use Rattle.silo_threads.specs.Operators.{HasOnlyGoneOn, HasSpread, IsUnspread, OperatorGoesOn, OperatorView}
 use Rattle.silo_threads.proofs.Changing.{each-earlier, each-later, goes-at, goes-back, nowhere-silents, nowhere-trans, op-trans, stayed-earlier}
+use Rattle.silo_threads.proofs.Rows.{all-at}
 use Rattle.silo_threads.proofs.Making.{goes-longer, last-earlier, made-earlier, made-since-silent}
-use Rattle.silo_threads.specs.Clusters.{AnswersDown, AnswersRetire, AnswersUp, AreAtQueues, AreFresh, AreNoted, AreStarted, ClusterView, HasEnded, HasHalted, HasLeft, HasMetLimit, HasNoted, HaveComeBack, HaveEnded, IsAtDirectory, IsBrokenOff, IsCluster, IsDownBy, IsLimitedAt, IsOpened, IsRetired, IsRetiredBy, IsUpBy, MayGo, RunsOn, WereMoved, all_noted, is_fixed, none_ended, noted}
+use Rattle.silo_threads.specs.Clusters.{AnswersDown, AnswersRetire, AnswersUp, AreAtQueues, AreFresh, AreNoted, AreStarted, ClusterView, HasEnded, HasHalted, HasLeft, HasMetLimit, HasNoted, HaveComeBack, HaveEnded, HaveSeenNone, IsAtDirectory, IsBrokenOff, IsCluster, IsDownBy, IsLimitedAt, IsOpened, IsRetired, IsRetiredBy, IsUpBy, MayGo, RunsOn, WereLeft, WereMoved, all_noted, is_fixed, none_ended, noted}
 use Rattle.silo_threads.specs.declared.clusters.config.Config.{Config}
 use Rattle.silo_threads.specs.declared.clusters.cluster.Retired.{Retired}
 use Rattle.silo_threads.specs.declared.clusters.cluster.SiloDown.{SiloDown}
@@ -234,6 +236,13 @@ moved-first ls ms n assignment on moved queue l had other =
     let was = goes-back ls ms queue l on had in
     last-earlier is_move (IsMove (slice_index assignment queue)) 0 (length was.0.pass.seen) l.pass (omega arith) (moved queue was.0 l was.1 had (λ same. other (same ∙ first-silo n queue)))
 
+-- those that stay there were moved nowhere, where the passes had seen nothing before
+left-first : (ls ms : List LineView) (n : ℕ) (assignment : List ℕ) → GoOn ls ms → HaveSeenNone ls → HaveStayed ls ms (replicate n 0) assignment → WereLeft ms assignment
+left-first ls ms n assignment on unseen stayed queue l had here =
+    let was = goes-back ls ms queue l on had in
+    let none = all-at (λ (line : LineView). line.pass.seen ≡ []) ls queue was.0 unseen was.1 in
+    subst (λ (es : List (Entry Op Reply)). OwnsNone is_move (l.pass.number ∷ []) (drop (length es) l.pass.seen)) none (stayed queue was.0 l was.1 had (here ∙ sym (first-silo n queue)))
+
 -- one number more at the end
 pub range-more : (a n : ℕ) → range_with_len a (suc n) ≡ range_with_len a n ++ (a + n) ∷ []
 range-more a zero = ap (λ k. k ∷ []) (omega arith)
@@ -350,9 +359,9 @@ pub one-name : (live : List ℕ) (place one other : ℕ) → slice_get live plac
 one-name live place one other a b = ap (λ o. unwrap_or o one) (sym a ∙ b)
 
 -- what a new operator comes to, once its first silos live and the queues are spread over them
-pub opened-whole : (config : Config) (first lines : List LineView) (d : DirectoryPass) (v e w : OperatorView) (caller : List QueuePass) → lines ≡ first → length first ≡ config.queues → AreAtQueues config first → turnstiles caller ≡ places first → AllByRecursion IsUnused caller → IsAtDirectory config d
-    → v ≡ record { lines = lines; directory = d; live = []; assignment = replicate (length lines) 0 } → e ≡ record v { live = range_with_len 0 config.silos } → OperatorGoesOn e w → w.live ≡ e.live → HasSpread e w → IsOpened config w caller
-opened-whole config first lines d v e w caller same many at beside unused placed made enlisted on live spread =
+pub opened-whole : (config : Config) (first lines : List LineView) (d : DirectoryPass) (v e w : OperatorView) (caller : List QueuePass) → lines ≡ first → length first ≡ config.queues → AreAtQueues config first → HaveSeenNone first → turnstiles caller ≡ places first → AllByRecursion IsUnused caller → IsAtDirectory config d
+    → v ≡ record { lines = lines; directory = d; live = []; assignment = replicate (length lines) 0 } → e ≡ record v { live = range_with_len 0 config.silos } → OperatorGoesOn e w → w.live ≡ e.live → HasSpread e w → HaveStayed e.lines w.lines e.assignment w.assignment → IsOpened config w caller
+opened-whole config first lines d v e w caller same many at unseen beside unused placed made enlisted on live spread stayed =
     let kept : e.lines ≡ first = ap (λ (o : OperatorView). o.lines) enlisted ∙ ap (λ (o : OperatorView). o.lines) made ∙ same in
     let all : e.assignment ≡ replicate config.queues 0 =
     ap (λ (o : OperatorView). o.assignment) enlisted ∙ ap (λ (o : OperatorView). o.assignment) made ∙ ap (λ n. replicate n 0) (ap (λ (ls : List LineView). length ls) same ∙ many) in
@@ -364,6 +373,9 @@ opened-whole config first lines d v e w caller same many at beside unused placed
           (subst (λ (x : DirectoryPass). IsAtDirectory config x) (sym (ap (λ (o : OperatorView). o.directory) enlisted ∙ ap (λ (o : OperatorView). o.directory) made)) placed);
       balanced = subst (λ (xs : List ℕ). IsBalanced xs w.live w.assignment) all spread.balanced;
       moved = moved-first e.lines w.lines config.queues w.assignment on.lines (subst (λ (xs : List ℕ). HaveMoved e.lines w.lines xs w.assignment) all spread.moved);
+      stayed =
+          left-first e.lines w.lines config.queues w.assignment on.lines (subst (λ (ls : List LineView). HaveSeenNone ls) (sym kept) unseen)
+          (subst (λ (xs : List ℕ). HaveStayed e.lines w.lines xs w.assignment) all stayed);
       beside = beside ∙ ap (λ (ls : List LineView). places ls) (sym kept) ∙ sym (goes-places e.lines w.lines on.lines);
       each = as-many caller first beside ∙ many;
       unused = unused;

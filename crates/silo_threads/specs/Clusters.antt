@@ -16,6 +16,7 @@ use Rattle.turnstile.specs.Passes.{Origin}
 use Rattle.turnstile.specs.declared.view.Start.{Start}
 use Rattle.queue_balancer.specs.Balance.{IsBalanced}
 use Rattle.silo_loops.specs.Lines.{DirectoryPass, LineView, QueuePass, places}
+use Rattle.silo_loops.specs.Passes.{OwnsNone}
 use Rattle.silo_threads.specs.Calls.{IsUnused, turnstiles}
 use Rattle.silo_loops.specs.Silos.{AreSplitOff, AreTakenIn, GoOn, GoesOn, HasRun, HaveCauses, IsFresh, IsSiloAt, SiloView}
 use Rattle.silo_threads.specs.declared.ending.ends.LoopEnds.{LoopEnds}
@@ -264,8 +265,18 @@ abbrev pub WereMoved : List LineView → List ℕ → Type 0
 WereMoved lines assignment =
     (queue : ℕ) (l : LineView) → slice_get lines queue ≡ Some l → slice_index assignment queue ≢ 0 → HasMadeLast is_move 0 l.pass (IsMove (slice_index assignment queue))
 
+-- each queue that is on the first silo was moved nowhere
+abbrev pub WereLeft : List LineView → List ℕ → Type 0
+WereLeft lines assignment =
+    (queue : ℕ) (l : LineView) → slice_get lines queue ≡ Some l → slice_index assignment queue ≡ 0 → OwnsNone is_move (l.pass.number ∷ []) l.pass.seen
+
+-- the pass of each line has seen nothing
+abbrev pub HaveSeenNone : List LineView → Type 0
+HaveSeenNone lines = AllByRecursion (λ (l : LineView). l.pass.seen ≡ []) lines
+
 -- The operator of a new cluster and its caller: the first silos are to live, all queues are spread from silo 0 over them,
--- the directory has no grain, and the caller has a pass at each queue and has made no call.
+-- and those that stay there were moved nowhere. The directory has no grain, and the caller has a pass at each queue and
+-- has made no call.
 pub record IsOpened (config : Config) (o : OperatorView) (caller : List QueuePass) : Type 0 where
   pub live : o.live ≡ range_with_len 0 config.silos
   pub queues : length o.lines ≡ config.queues
@@ -273,6 +284,7 @@ pub record IsOpened (config : Config) (o : OperatorView) (caller : List QueuePas
   pub directory : IsAtDirectory config o.directory
   pub balanced : IsBalanced (replicate config.queues 0) o.live o.assignment
   pub moved : WereMoved o.lines o.assignment
+  pub stayed : WereLeft o.lines o.assignment
   pub beside : turnstiles caller ≡ places o.lines
   pub each : length caller ≡ config.queues
   pub unused : AllByRecursion IsUnused caller

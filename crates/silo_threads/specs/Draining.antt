@@ -1,6 +1,6 @@
 -- What is asked while it is waited until all queues are quiet, and how that ends.
-use Rattle.std.specs.Prelude.{◌≡◌, ◌⊎◌, ℕ, zero, suc, ◌≤◌, true, List, ◌++◌, Contains, Result, Ok, Err}
-use Rattle.std.specs.List.{AllByRecursion, AllZip}
+use Rattle.std.specs.Prelude.{◌≡◌, ◌⊎◌, ℕ, zero, suc, ◌<◌, ◌≤◌, true, List, ◌++◌, Contains, Result, Ok, Err}
+use Rattle.std.specs.List.{AllByRecursion}
 use Rattle.std.specs.declared.alloc.AllocError.{AllocError}
 use Rattle.stream_model.specs.declared.op.Op.{Op}
 use Rattle.stream_model.specs.declared.op.Op.TheVariants as ops
@@ -40,16 +40,6 @@ pub record ProducesNone (p q : QueuePass) : Type 0 where
   pub on : HasGoneOn p q
   pub none : OwnsNone is_producer (numbers_of p) on.more
 
--- this came of the last look at all queues
-pub record Looks (result : Result Quiet Refusal) (old new : List QueuePass) : Type 0 where
-  pub before : List QueuePass
-  pub on : AllZip HasGoneOn old before
-  pub asks : AsksQuiet before result new
-
--- each queue was quiet in it
-abbrev pub LooksQuiet : List QueuePass → List QueuePass → Type 0
-LooksQuiet old new = Looks (Ok All) old new
-
 -- so many looks were made, one after another and nothing else, and in each a queue wasn't quiet
 abbrev pub LooksInVain : ℕ → List QueuePass → List QueuePass → Type 0
 LooksInVain zero old new = new ≡ old
@@ -59,10 +49,22 @@ LooksInVain (suc looks) old new = (between : List QueuePass) × LooksInVain look
 abbrev pub LooksAWhile : ℕ → List QueuePass → List QueuePass → Type 0
 LooksAWhile looks old new = (made : ℕ) × (1 ≤ made) × (made ≤ looks) × LooksInVain made old new
 
+-- looks in vain, fewer than so many, and then one look more, of which this came
+pub record Looks (looks : ℕ) (result : Result Quiet Refusal) (old new : List QueuePass) : Type 0 where
+  pub made : ℕ
+  pub within : made < looks
+  pub before : List QueuePass
+  pub vain : LooksInVain made old before
+  pub asks : AsksQuiet before result new
+
+-- each queue was quiet in the last look
+abbrev pub LooksQuiet : ℕ → List QueuePass → List QueuePass → Type 0
+LooksQuiet looks old new = Looks looks (Ok All) old new
+
 -- how a drain ends that may have so many looks
 abbrev pub EndsLooking : ℕ → List QueuePass → Result Drained AllocError → List QueuePass → Type 0
-EndsLooking looks old (Ok drained.Quiet) new = LooksQuiet old new
+EndsLooking looks old (Ok drained.Quiet) new = LooksQuiet looks old new
 EndsLooking looks old (Ok drained.NotQuiet) new = LooksInVain looks old new
 EndsLooking looks old (Ok drained.Ended) new = LooksAWhile looks old new
-EndsLooking looks old (Ok drained.Limit) new = Looks (Err HistoryFull) old new
-EndsLooking looks old (Err e) new = Looks (Err Memory) old new
+EndsLooking looks old (Ok drained.Limit) new = Looks looks (Err HistoryFull) old new
+EndsLooking looks old (Err e) new = Looks looks (Err Memory) old new

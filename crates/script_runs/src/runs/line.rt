@@ -76,7 +76,8 @@ fn down<G: Gate, H: QueueHistory, D: DirectoryHistory, R: Threads + Wait>(
     }
 }
 
-/// Does one line of a script. A line that is stopped may be done in part.
+/// Does one line of a script. A drain is done once each queue was quiet in one look. A line that is stopped may be done
+/// in part.
 pub(crate) fn do_line<
     G: Gate + 'static,
     H: QueueHistory + Send + 'static,
@@ -132,7 +133,7 @@ pub(crate) fn wait_until_quiet<G: Gate, H: QueueHistory, R: Wait>(
     looks: u32,
 ) -> Result<(), Stop>
     ensures told { Tells caller.old command.Drain answer.Taken caller.new }
-    ensures quiet { OnOk result (LooksQuiet caller.old caller.new) }
+    ensures quiet { OnOk result (LooksQuiet looks caller.old caller.new) }
     ensures unquiet { IfErr result (λ why. IsUnquiet why looks caller.old caller.new) }
     ensures on { AllZip HasGoneOn caller.old caller.new }
     ensures turnstiles { turnstiles caller.new ≡ turnstiles caller.old }

@@ -171,7 +171,7 @@ impl<
     D: DirectoryHistory + Send + 'static,
 > Cluster<G, H, D> {
     /// A cluster and its first caller. The silos are numbered from 0 on, and their loops run; the queues are spread
-    /// over them, from silo 0 on which all are at first.
+    /// over them, from silo 0 on which all are at first. Those that stay there are moved nowhere.
     ///
     /// # Errors
     /// The call failed to allocate, or a thread can't be made. Loops that ran by then were stopped.
@@ -332,7 +332,7 @@ impl<G: Gate, H: QueueHistory, D: DirectoryHistory> Cluster<G, H, D> {
 
     /// A parked cluster, its first caller, and the loops of its silos, which have done nothing yet. The silos are
     /// numbered from 0 on, and the loops are in their order; the queues are spread over the silos, from silo 0 on which
-    /// all are at first.
+    /// all are at first. Those that stay there are moved nowhere.
     ///
     /// # Errors
     /// The call failed to allocate.

@@ -4,7 +4,7 @@ ghost use Rattle.std.specs.List.{AllByRecursion, range_with_len};
 ghost use Rattle.turnstile.specs.Calls.{first_pass};
 ghost use Rattle.silo_threads.specs.Calls.{IsUnused, turnstiles};
 ghost use Rattle.silo_loops.specs.Lines.{LineView, places};
-ghost use Rattle.silo_threads.specs.Clusters.{AreAtQueues, IsAtDirectory, IsAtQueue, IsConfig, IsOpened, opening, opening_directory};
+ghost use Rattle.silo_threads.specs.Clusters.{AreAtQueues, HaveSeenNone, IsAtDirectory, IsAtQueue, IsConfig, IsOpened, opening, opening_directory};
 
 use crate::callers::{Caller, QueueCaller};
 use crate::clusters::config::Config;
@@ -45,7 +45,8 @@ fn open_queue<G: Gate, H: QueueHistory>(
     queue: usize,
 ) -> Result<Line<G, H>, AllocError>
     requires { IsConfig config.now }
-    ensures { IfOk result (λ line. IsAtQueue config.now line.pass) }
+    ensures at { IfOk result (λ line. IsAtQueue config.now line.pass) }
+    ensures unseen { IfOk result (λ line. line.pass.seen ≡ []) }
 {
     let gate = Arc::try_clone(gate)?;
     let (turnstile, pass) = open_turnstile(alloc, gate, config, queue)?;
@@ -62,6 +63,7 @@ fn open_queues<G: Gate, H: QueueHistory>(
     requires { IsConfig config.now }
     ensures many { IfOk result (λ lines. length lines.items ≡ config.now.queues) }
     ensures at { IfOk result (λ lines. AreAtQueues config.now lines.items) }
+    ensures unseen { IfOk result (λ lines. HaveSeenNone lines.items) }
 {
     let mut lines = Vec::with_capacity(alloc, config.queues)?;
     for queue in 0..config.queues {

@@ -30,9 +30,9 @@ pub enum Drained {
     Limit,
 }
 
-/// Looks at the queues until all are quiet, at most `looks` times, and waits at the doorbell between two looks. The
-/// longer it lasts, the more it leaves the silos to do before it looks again, so that it doesn't give up while they work
-/// off what was published.
+/// Looks at the queues until all are quiet, at most `looks` times, and waits at the doorbell between two looks. It makes
+/// no other call. The longer it lasts, the more it leaves the silos to do before it looks again, so that it doesn't give
+/// up while they work off what was published.
 ///
 /// # Errors
 /// A call failed to allocate. Nothing was done but looks.

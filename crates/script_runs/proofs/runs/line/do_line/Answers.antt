@@ -5,12 +5,13 @@ use Rattle.stream_script.specs.declared.parser.command.Command.{Command}
 use Rattle.stream_script.specs.declared.parser.command.Command.TheVariants as command
 use Rattle.stream_script.specs.Forms.{op_of}
 use Rattle.script_runs.specs.Scripts.{IsRunCommand}
-use Rattle.silo_threads.specs.Draining.{HasGoneOn}
+use Rattle.silo_threads.specs.Draining.{HasGoneOn, LooksQuiet}
 use Rattle.silo_threads.proofs.GoneOn.{gone-refl}
 use Rattle.silo_threads.proofs.Making.{passed-on}
+use Rattle.script_runs.specs.declared.producer.answer.Answer.TheVariants as answer
 use Rattle.script_runs.specs.declared.runs.line.Stop.{Stop}
 use Rattle.script_runs.specs.Lines.{DoesLine, StopsBy, TellsInPart}
-use Rattle.script_runs.proofs.Doing.{asked-line, asked-stops, changed-line, changed-stops, each-last, once-last, unquiet-stops}
+use Rattle.script_runs.proofs.Doing.{asked-line, asked-stops, changed-line, changed-stops, each-last, once-last, tells-line, unquiet-stops}
 use Rattle.script_runs.proofs.Fronts.{down-part, drain-part, each-part, step-part, up-part}
 use Rattle.script_runs.proofs.Progress.{on-err}
 use Rattle.script_runs.proofs.runs.line.do_line.Goals as goal
@@ -21,10 +22,19 @@ returns-in_err-wait_until_quiet-in-Drain-clause-cluster g c = op-refl _
 pub returns-in_ok-wait_until_quiet-in-Drain-clause-cluster : goal.returns-in_ok-wait_until_quiet-in-Drain-clause-cluster
 returns-in_ok-wait_until_quiet-in-Drain-clause-cluster g c = op-refl _
 
+pub returns-in_ok-wait_until_quiet-in-Drain-clause-line : goal.returns-in_ok-wait_until_quiet-in-Drain-clause-line
+returns-in_ok-wait_until_quiet-in-Drain-clause-line g c =
+    let v = c.args.cluster.now in
+    let old = c.args.caller.now in
+    let new = c.wait_until_quiet.new.caller in
+    subst (λ (said : Command). DoesLine v old said answer.Taken v new) (sym c.in-Drain.is)
+    (tells-line v old new command.Drain answer.Taken (λ live. refl) c.wait_until_quiet.ensures.told
+    (λ drains. subst (λ n. LooksQuiet n old new) c.looks.ensures c.in_ok-wait_until_quiet-in-Drain.ensures.quiet))
+
 pub returns-in-Step-clause-line : goal.returns-in-Step-clause-line
 returns-in-Step-clause-line g c =
     subst (λ (said : Command). IfOk c.unless_limit.result (λ told. DoesLine c.args.cluster.now c.args.caller.now said told c.args.cluster.now c.ask.new.caller)) (sym c.in-Step.is)
-    (asked-line c.args.cluster.now c.args.caller.now c.ask.new.caller (command.Step c.in-Step.queue c.in-Step.op) c.ask.result c.unless_limit.result (λ live. refl) c.ask.ensures.told c.unless_limit.ensures.answered)
+    (asked-line c.args.cluster.now c.args.caller.now c.ask.new.caller (command.Step c.in-Step.queue c.in-Step.op) c.ask.result c.unless_limit.result (λ live. refl) (λ drains. absurd (cc drains)) c.ask.ensures.told c.unless_limit.ensures.answered)
 
 pub returns-in-Step-clause-cluster : goal.returns-in-Step-clause-cluster
 returns-in-Step-clause-cluster g c = op-refl _
@@ -32,7 +42,7 @@ returns-in-Step-clause-cluster g c = op-refl _
 pub returns-in-Each-clause-line : goal.returns-in-Each-clause-line
 returns-in-Each-clause-line g c =
     subst (λ (said : Command). IfOk c.unless_limit-in-Each.result (λ told. DoesLine c.args.cluster.now c.args.caller.now said told c.args.cluster.now c.ask_each.new.caller)) (sym c.in-Each.is)
-    (asked-line c.args.cluster.now c.args.caller.now c.ask_each.new.caller (command.Each c.in-Each.each) c.ask_each.result c.unless_limit-in-Each.result (λ live. refl) c.ask_each.ensures.told c.unless_limit-in-Each.ensures.answered)
+    (asked-line c.args.cluster.now c.args.caller.now c.ask_each.new.caller (command.Each c.in-Each.each) c.ask_each.result c.unless_limit-in-Each.result (λ live. refl) (λ drains. absurd (cc drains)) c.ask_each.ensures.told c.unless_limit-in-Each.ensures.answered)
 
 pub returns-in-Each-clause-cluster : goal.returns-in-Each-clause-cluster
 returns-in-Each-clause-cluster g c = op-refl _
@@ -40,7 +50,7 @@ returns-in-Each-clause-cluster g c = op-refl _
 pub returns-in-Up-clause-line : goal.returns-in-Up-clause-line
 returns-in-Up-clause-line g c =
     subst (λ (said : Command). IfOk c.up.result (λ told. DoesLine c.args.cluster.now c.args.caller.now said told c.up.new.cluster c.args.caller.now)) (sym c.in-Up.is)
-    (changed-line c.args.cluster.now c.up.new.cluster c.args.caller.now (command.Up c.in-Up.silo) c.up.result (λ queue. refl) c.up.ensures.changes)
+    (changed-line c.args.cluster.now c.up.new.cluster c.args.caller.now (command.Up c.in-Up.silo) c.up.result (λ queue. refl) (λ drains. absurd (cc drains)) c.up.ensures.changes)
 
 pub returns-in-Up-clause-on : goal.returns-in-Up-clause-on
 returns-in-Up-clause-on g c = zip-refl HasGoneOn gone-refl _
@@ -48,7 +58,7 @@ returns-in-Up-clause-on g c = zip-refl HasGoneOn gone-refl _
 pub returns-in-Down-clause-line : goal.returns-in-Down-clause-line
 returns-in-Down-clause-line g c =
     subst (λ (said : Command). IfOk c.down.result (λ told. DoesLine c.args.cluster.now c.args.caller.now said told c.down.new.cluster c.args.caller.now)) (sym c.in-Down.is)
-    (changed-line c.args.cluster.now c.down.new.cluster c.args.caller.now (command.Down c.in-Down.silo) c.down.result (λ queue. refl) c.down.ensures.changes)
+    (changed-line c.args.cluster.now c.down.new.cluster c.args.caller.now (command.Down c.in-Down.silo) c.down.result (λ queue. refl) (λ drains. absurd (cc drains)) c.down.ensures.changes)
 
 pub returns-in-Down-clause-on : goal.returns-in-Down-clause-on
 returns-in-Down-clause-on g c = zip-refl HasGoneOn gone-refl _

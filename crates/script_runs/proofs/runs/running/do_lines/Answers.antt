@@ -3,6 +3,7 @@ use Rattle.std.proofs.lemmas.Result.{IfErr-weaker}
 use Rattle.std.proofs.lemmas.Grind.{common_steps}
 use Rattle.std.proofs.lemmas.Iterator.Adapters.{YieldsList-from_vec}
 use Rattle.std.proofs.lemmas.Iterator.Consumers.{YieldsList-end, YieldsList-turn}
+use Rattle.silo_threads.specs.Draining.{LooksQuiet}
 use Rattle.silo_threads.proofs.Changing.{op-trans}
 use Rattle.silo_threads.proofs.Making.{passed-on}
 use Rattle.script_runs.specs.declared.runs.line.Stop.{Stop}
@@ -92,7 +93,8 @@ returns g c =
     let ending = YieldsList-end (YieldsList-from_vec {s = c.into_iter-line-iterator.result} c.args.lines.items gives.0 (first_of (search rules, grind (arith, common_steps)))) c.loop-line.yielded c.loop-line.line-iterator c.loop-line.yielded_by c.next.result c.next.new.self c.in-None.is c.next.ensures.steps in
     let whole = sym (map-same c.loop-line.yielded) ∙ ending.0 in
     record {
-      all = on-ok c.wait_until_quiet.result (λ quiet. done-all _ _ _ c.loop-line.yielded c.loop-line.printed.items c.loop-line.cluster c.loop-line.caller c.wait_until_quiet.new.caller far whole waits.on waits.told quiet) waits.quiet;
+      all = on-ok c.wait_until_quiet.result (λ (quiet : LooksQuiet c.looks.result c.loop-line.caller c.wait_until_quiet.new.caller). done-all _ _ _ c.loop-line.yielded c.loop-line.printed.items c.loop-line.cluster c.loop-line.caller c.wait_until_quiet.new.caller c.requires.free far whole waits.on waits.told
+          (subst (λ n. LooksQuiet n c.loop-line.caller c.wait_until_quiet.new.caller) c.looks.ensures quiet)) waits.quiet;
       front =
           IfErr-weaker c.wait_until_quiet.result (λ (h : Stop). IsUnquiet h c.looks.result c.loop-line.caller c.wait_until_quiet.new.caller)
           (λ (h : Stop). StopsFront h c.args.lines.items c.args.cluster.now c.args.caller.now c.loop-line.printed.items c.loop-line.cluster c.wait_until_quiet.new.caller)

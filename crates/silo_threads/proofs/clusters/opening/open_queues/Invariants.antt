@@ -1,5 +1,5 @@
 use Rattle.std.proofs.Common.{◌≡◌, length, vec_capacity}
-use Rattle.silo_threads.specs.Clusters.{AreAtQueues}
+use Rattle.silo_threads.specs.Clusters.{AreAtQueues, HaveSeenNone}
 use Rattle.silo_threads.proofs.clusters.opening.open_queues.Given as goal
 
 abbrev pub invariant-loop-queue : goal.invariant-loop-queue
@@ -7,5 +7,6 @@ invariant-loop-queue g l =
     record {
       many : length l.lines.items ≡ l.queue;
       at : AreAtQueues l.fn.config l.lines.items;
+      unseen : HaveSeenNone l.lines.items;
       room : vec_capacity l.lines ≡ l.fn.config.queues;
     }

@@ -19,7 +19,8 @@ returns-in-Ok-All-clause-none g c = looks-none c.args.caller.now c.loop-look.cal
 
 pub returns-in-Ok-All-clause-ends : goal.returns-in-Ok-All-clause-ends
 returns-in-Ok-All-clause-ends g c =
-    last-look (Ok All) c.args.caller.now c.loop-look.caller c.ask_quiet.new.caller c.loop-look.invariant.none
+    let below = c.loop-look-test.true in
+    last-look c.args.looks c.loop-look.look (Ok All) c.args.caller.now c.loop-look.caller c.ask_quiet.new.caller (omega (arith, below)) c.loop-look.invariant.vain
     (subst (λ (end : Quiet). AsksQuiet c.loop-look.caller (Ok end) c.ask_quiet.new.caller) c.in-Ok-All.field-0-is c.in-Ok-All.ensures.asks)
 
 pub returns-in-Ok-All-clause-on : goal.returns-in-Ok-All-clause-on
@@ -59,12 +60,14 @@ returns-clause-on g c = none-on c.args.caller.now c.loop-look.caller c.loop-look
 
 pub returns-in-Err-HistoryFull-clause-ends : goal.returns-in-Err-HistoryFull-clause-ends
 returns-in-Err-HistoryFull-clause-ends g c =
-    last-look (Err HistoryFull) c.args.caller.now c.loop-look.caller c.ask_quiet.new.caller c.loop-look.invariant.none
+    let below = c.loop-look-test.true in
+    last-look c.args.looks c.loop-look.look (Err HistoryFull) c.args.caller.now c.loop-look.caller c.ask_quiet.new.caller (omega (arith, below)) c.loop-look.invariant.vain
     (subst (λ (e : Refusal). AsksQuiet c.loop-look.caller (Err e) c.ask_quiet.new.caller) c.in-Err-HistoryFull.field-0-is c.in-Err-HistoryFull.ensures.asks)
 
 pub returns-in-Err-Memory-clause-ends : goal.returns-in-Err-Memory-clause-ends
 returns-in-Err-Memory-clause-ends g c =
-    last-look (Err Memory) c.args.caller.now c.loop-look.caller c.ask_quiet.new.caller c.loop-look.invariant.none
+    let below = c.loop-look-test.true in
+    last-look c.args.looks c.loop-look.look (Err Memory) c.args.caller.now c.loop-look.caller c.ask_quiet.new.caller (omega (arith, below)) c.loop-look.invariant.vain
     (subst (λ (e : Refusal). AsksQuiet c.loop-look.caller (Err e) c.ask_quiet.new.caller) c.in-Err-Memory.field-0-is c.in-Err-Memory.ensures.asks)
 
 pub returns-then-has_ended-clause-ends : goal.returns-then-has_ended-clause-ends
