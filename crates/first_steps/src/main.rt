@@ -32,7 +32,7 @@ fn main(rt: HostRuntime) -> Result<()> {
     service.publish(stream, &[Payload::new(b"tea")?, Payload::new(b"milk")?])?;
     service.settle()?;
     println!(rt; "{} letters", desks.letters.load(Ordering::SeqCst))?;
-    let closed = service.close()?;
-    print!(rt; "{}", str::from_utf8(&closed.report)?)?;
+    let report = service.close().report?;
+    print!(rt; "{}", str::from_utf8(&report)?)?;
     Ok(())
 }

@@ -4,8 +4,8 @@ use refused_calls::{Came, Stop, check, with_memory};
 use std::alloc::{AllocError, Global};
 use std::sync::Arc;
 use streams::{
-    CloseError, Config, Counting, GrainId, Host, Payload, PublishError, Service, SettleError,
-    SiloError, StartFrom, StreamId, SubscribeError,
+    CloseError, Closed, Config, Counting, GrainId, Host, Payload, PublishError, Service,
+    SettleError, SiloError, StartFrom, StreamId, SubscribeError,
 };
 
 /// The call that is tried.
@@ -61,11 +61,12 @@ fn close<R: Host>(mut service: Service<R, Counting>, is_halted: bool) -> Result<
         Ok(()) | Err(SettleError::Ended) => {}
         Err(_) => return Err(Stop::Wrong("a service settles otherwise")),
     }
-    match service.close() {
-        Ok(closed) => check(
-            closed.report.as_slice() == REPORT,
-            "the report is another one",
-        ),
+    let Closed {
+        report,
+        partitions: _partitions,
+    } = service.close();
+    match report {
+        Ok(report) => check(report.as_slice() == REPORT, "the report is another one"),
         Err(CloseError::NotQuiet { .. }) => check(is_halted, "something is left to do"),
         Err(CloseError::Memory) => Err(Stop::Memory),
         Err(_) => Err(Stop::Wrong("a service is closed otherwise")),

@@ -1,29 +1,28 @@
-//! A service that watches 2,000 devices, on four silos over sixteen queues.
+//! A service that watches 600 devices, on four silos over sixteen queues.
 mod monitors;
 mod service;
 mod story;
 
 use anyhow::Result;
 use monitors::{Monitors, tenths_of};
-use service::DeviceService;
+use service::{DeviceService, Totals};
 use std::alloc::{AllocError, Global};
-use std::rt::Clock;
 use std::sync::Arc;
-use story::{DEVICES, STORY};
-use streams::{Closed, Host, Partition, SubSummary};
+use story::{DEVICES, STORY, Step};
+use streams::{Host, Partition, SubSummary};
 
 // A reading above this is an alarm, in tenths of a degree.
 const LIMIT: u64 = 895;
 
-/// Has all devices send two readings each while a silo goes, and prints what each queue has handled and which devices
-/// are too hot.
-pub fn run<R: Host + Clock + Print>(rt: R) -> Result<()> {
+/// Has all devices send two readings each while a silo goes, and prints figures where all are handled, what each queue
+/// has handled and which devices are too hot.
+pub fn run<R: Host + Print>(rt: R) -> Result<()> {
     let alloc = rt.alloc();
-    let monitors = Arc::new(alloc, Monitors::new(rt, alloc, DEVICES)?)?;
+    let monitors = Arc::new(alloc, Monitors::new(alloc, DEVICES)?)?;
     let service = DeviceService::open(rt, Arc::try_clone(&monitors)?)?;
-    let closed = watch(&rt, service, &monitors)?;
+    let partitions = watch(&rt, service)?;
     println!(rt; "queue  silo  monitors  readings  highest")?;
-    for (queue, partition) in closed.partitions.iter().enumerate() {
+    for (queue, partition) in partitions.iter().enumerate() {
         print_row(&rt, alloc, queue, partition)?;
     }
     for device in 0..DEVICES {
@@ -32,17 +31,28 @@ pub fn run<R: Host + Clock + Print>(rt: R) -> Result<()> {
     Ok(())
 }
 
-// All devices send two readings each. It gives what is left of the service.
-fn watch<R: Host + Print>(
-    rt: &R,
-    mut service: DeviceService<R>,
-    monitors: &Monitors<R>,
-) -> Result<Closed> {
+// All devices send two readings each. It gives the partition of each queue.
+fn watch<R: Host + Print>(rt: &R, mut service: DeviceService<R>) -> Result<Vec<Partition>> {
     for (step, told) in &STORY {
-        service.go(step, monitors)?;
+        service.go(step)?;
         print!(rt; "{told}")?;
+        if let Step::Settle = step {
+            print_totals(rt, &mut service)?;
+        }
     }
     service.close()
+}
+
+// Prints what all queues keep together.
+fn print_totals<R: Host + Print>(rt: &R, service: &mut DeviceService<R>) -> Result<()> {
+    let Totals {
+        events,
+        subscriptions,
+        moves,
+    } = service.totals();
+    println!(rt; "events  subscriptions  moves")?;
+    println!(rt; "{events:>6} {subscriptions:>14} {moves:>6}")?;
+    Ok(())
 }
 
 // Prints the silo of a queue, and what its subscriptions have handled.

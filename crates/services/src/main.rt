@@ -1,11 +1,16 @@
-//! Four services over streams, one after the other: orders with a desk for each customer, the readings of 2,000
-//! devices, a shop with two tills, and one that may hand out no turn.
+//! Seven services over streams, one after the other: orders with a desk for each customer, the readings of 600
+//! devices, a shop with two tills, one that closes while a till is open, one with an archive that is stopped, one with a
+//! queue that is full, and one that may hand out no turn.
 #![tactic(auto)]
 
 mod devices;
+mod full;
 mod orders;
+mod pressed;
+mod refusals;
 mod tills;
 mod turns;
+mod unfinished;
 
 use anyhow::Result;
 
@@ -16,6 +21,12 @@ fn main(rt: HostRuntime) -> Result<()> {
     devices::run(rt)?;
     println!(rt; "\n== Tills")?;
     tills::run(rt)?;
+    println!(rt; "\n== Unfinished")?;
+    unfinished::run(rt)?;
+    println!(rt; "\n== Pressed")?;
+    pressed::run(rt)?;
+    println!(rt; "\n== Full")?;
+    full::run(rt)?;
     println!(rt; "\n== Turns")?;
     turns::run(rt)
 }

@@ -15,7 +15,7 @@ pub fn run<R: Host + Print>(rt: R) -> Result<()> {
     let all = service.subscribe(sales, GrainId::new(b"ledger", b"shop")?, StartFrom::Latest)?;
     let first = sell(&mut service, sales)?;
     audit(&rt, &mut service, sales, first)?;
-    let closed = service.close()?;
+    let closed = service.close();
     let cents = taken(rt.alloc(), &closed, &all)?;
     println!(rt; "they have taken {cents} cents")?;
     Ok(())

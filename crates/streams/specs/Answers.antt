@@ -1,10 +1,11 @@
 -- How what the calls of a service answer is read from the replies of a queue and of a cluster.
-use Rattle.std.specs.Prelude.{ℕ, Bool, true, false, List, Option, Some, None, Result, Ok, Err, if◌then◌else◌, slice_get}
+use Rattle.std.specs.Prelude.{◌≡◌, ◌⊎◌, ℕ, Bool, true, false, List, [], Option, Some, None, Result, Ok, Err, if◌then◌else◌, slice_get}
 use Rattle.std.specs.Option.{option_map}
 use Rattle.std.specs.declared.alloc.AllocError.{AllocError}
 use Rattle.stream_ident.specs.declared.ident.SubName.{SubName}
 use Rattle.stream_ident.specs.declared.ident.SubName.TheVariants.{Explicit}
 use Rattle.stream_ident.specs.declared.ident.StreamId.{StreamId}
+use Rattle.stream_ident.specs.declared.token.Token.{Token}
 use Rattle.stream_ident.specs.Name.{same_stream}
 use Rattle.stream_model.specs.declared.op.Start.{Start}
 use Rattle.stream_model.specs.declared.op.Start.TheVariants as start
@@ -17,6 +18,8 @@ use Rattle.turnstile.specs.declared.turnstile.Refusal.TheVariants.{HistoryFull, 
 use Rattle.step_core.specs.declared.figures.QueueFigures.{QueueFigures}
 use Rattle.step_core.specs.declared.figures.SubscriptionFigures.{SubscriptionFigures}
 use Rattle.step_core.specs.Figures.{figures_of, subscription_figures_of}
+use Rattle.silo_loops.specs.Lines.{QueuePass}
+use Rattle.silo_threads.specs.Calls.{CallerLooks}
 use Rattle.silo_threads.specs.declared.ending.finishing.Finished.{Finished}
 use Rattle.silo_threads.specs.declared.ending.finishing.Finished.TheVariants as finished
 use Rattle.silo_threads.specs.declared.ending.draining.Drained.{Drained}
@@ -54,22 +57,46 @@ abbrev pub start_for : StreamId → StartFrom → Option Start
 start_for stream from.Latest = Some start.Latest
 start_for stream (from.At first) = if same_stream first.stream stream then Some (start.At first.token) else None
 start_for stream (from.Token token) = Some (start.At token)
+start_for stream (from.Later token) = Some (start.At token)
 
--- the first event of a batch; the other reply to a publish says that the queue is full
-abbrev pub published : StreamId → Result Reply Refusal → Result StreamToken PublishError
-published stream (Ok (reply.Published seq)) = Ok (record { stream = stream; token = record { seq = seq; idx = 0 } })
-published stream (Ok reply.BadBatch) = Err publish.BadBatch
-published stream (Ok other) = Err publish.Limit
-published stream (Err HistoryFull) = Err publish.Limit
-published stream (Err Memory) = Err publish.Memory
+-- the start token, where it may not be above the one that the next batch gets
+abbrev pub checked_token : StartFrom → Option Token
+checked_token from.Latest = None
+checked_token (from.At first) = Some first.token
+checked_token (from.Token token) = Some token
+checked_token (from.Later token) = None
+
+-- What a call comes to by what its answer says. An answer that says nothing is that a limit of the queue was met: behind
+-- the call the queue was looked at, and its figures, of the partition that all calls leave which the pass has seen then,
+-- say how much of the limit there is.
+abbrev pub ComesTo : {T E : Type 0} → Option (Result T E) → (QueueFigures → E) → List QueuePass → ℕ → Result T E → List QueuePass → Type 0
+ComesTo {T} {E} said met old queue result new =
+    ((said ≡ Some result) × (new ≡ old))
+    ⊎ ((said ≡ None) × (kept : QueueFigures) × CallerLooks old queue (λ p. kept ≡ figures_of p) new × (result ≡ Err (met kept)))
+
+-- the first event of a batch; the other reply to a publish says that the log is full
+abbrev pub published : ℕ → StreamId → Result Reply Refusal → Option (Result StreamToken PublishError)
+published queue stream (Ok (reply.Published seq)) = Some (Ok (record { stream = stream; token = record { seq = seq; idx = 0 } }))
+published queue stream (Ok reply.BadBatch) = Some (Err publish.BadBatch)
+published queue stream (Ok other) = None
+published queue stream (Err HistoryFull) = Some (Err (publish.HistoryFull queue))
+published queue stream (Err Memory) = Some (Err publish.Memory)
+
+-- a full log
+abbrev pub full : ℕ → QueueFigures → PublishError
+full queue kept = publish.QueueFull queue kept.events kept.limits.events
 
 -- a subscription at a queue; the other reply to a subscribe says that there are too many
-abbrev pub subscribed : ℕ → Result Reply Refusal → Result Subscription SubscribeError
-subscribed queue (Ok (reply.Subscribed number)) = Ok (record { queue = queue; number = number })
-subscribed queue (Ok (reply.Miss requested low high)) = Err (subscribe.Miss low high)
-subscribed queue (Ok other) = Err subscribe.Limit
-subscribed queue (Err HistoryFull) = Err subscribe.Limit
-subscribed queue (Err Memory) = Err subscribe.Memory
+abbrev pub subscribed : ℕ → Result Reply Refusal → Option (Result Subscription SubscribeError)
+subscribed queue (Ok (reply.Subscribed number)) = Some (Ok (record { queue = queue; number = number }))
+subscribed queue (Ok (reply.Miss requested low high)) = Some (Err (subscribe.Miss low high))
+subscribed queue (Ok other) = None
+subscribed queue (Err HistoryFull) = Some (Err (subscribe.HistoryFull queue))
+subscribed queue (Err Memory) = Some (Err subscribe.Memory)
+
+-- too many subscriptions
+abbrev pub too_many : ℕ → QueueFigures → SubscribeError
+too_many queue kept = subscribe.TooMany queue kept.subscriptions kept.limits.subs
 
 -- how many events a subscription has handled; the other reply to the unsubscribe of an explicit one says that there is
 -- none
@@ -129,11 +156,17 @@ went (Ok down.Limit) = Err silo.Limit
 went (Ok down.Halted) = Err silo.Halted
 went (Err e) = Err silo.Memory
 
--- what is left of a service whose cluster has ended so
-abbrev pub closing : {H : Type 0} → Finished H → Result Closed CloseError
-closing (finished.Report text traces) = Ok (record { report = text; partitions = traces.partitions })
-closing (finished.NotQuiet queue why traces) = Err (close.NotQuiet queue why)
-closing (finished.RoundLimit traces) = Err close.Limit
-closing (finished.Limit traces) = Err close.Limit
-closing (finished.NotAll queue missing) = Err close.NotAll
-closing finished.InUse = Err close.NotAll
+-- there is no report, for this reason, and no partition
+pub record IsGone (why : CloseError) (closed : Closed) : Type 0 where
+  pub report : closed.report ≡ Err why
+  pub none : closed.partitions.items ≡ []
+
+-- What is left of a service whose cluster has ended so: its report, or why there is none, and the partitions wherever the
+-- cluster hands them back.
+abbrev pub IsLeft : {H : Type 0} → Finished H → Closed → Type 0
+IsLeft (finished.Report text traces) closed = closed ≡ record { report = Ok text; partitions = traces.partitions }
+IsLeft (finished.NotQuiet queue why traces) closed = closed ≡ record { report = Err (close.NotQuiet queue why); partitions = traces.partitions }
+IsLeft (finished.RoundLimit traces) closed = closed ≡ record { report = Err close.RoundLimit; partitions = traces.partitions }
+IsLeft (finished.Limit traces) closed = closed ≡ record { report = Err close.Limit; partitions = traces.partitions }
+IsLeft (finished.NotAll queue missing) closed = IsGone (close.NotAll queue missing) closed
+IsLeft finished.InUse closed = IsGone close.InUse closed

@@ -1,11 +1,14 @@
 -- What a contract sees of a service, and what each of its calls does.
-use Rattle.std.specs.Prelude.{◌≡◌, ◌⊎◌, ℕ, zero, suc, ◌≤◌, Bool, false, ◌||◌, List, [], ◌∷◌, length, Option, Some, None, Result, Ok, Err}
+use Rattle.std.specs.Prelude.{◌≡◌, ◌⊎◌, ℕ, zero, suc, ◌≤◌, Bool, false, ◌||◌, List, [], ◌∷◌, length, Option, Some, None, Result, Ok, Err, if◌then◌else◌}
 use Rattle.std.specs.List.{AllZip}
 use Rattle.std.specs.declared.alloc.AllocError.{AllocError}
 use Rattle.stream_ident.specs.declared.ident.GrainId.{GrainId}
 use Rattle.stream_ident.specs.declared.ident.StreamId.{StreamId}
 use Rattle.stream_ident.specs.declared.ident.SubName.{SubName}
 use Rattle.stream_ident.specs.declared.limits.TheConstants.{MOST_SILOS}
+use Rattle.stream_ident.specs.declared.token.Token.{Token}
+use Rattle.stream_ident.specs.Event.{batch_token}
+use Rattle.stream_ident.specs.Token.{token_lt}
 use Rattle.stream_model.specs.declared.op.Op.{Op}
 use Rattle.stream_model.specs.declared.op.Op.TheVariants as op
 use Rattle.stream_model.specs.declared.op.Start.{Start}
@@ -77,6 +80,13 @@ pub record Reads {T : Type 0} (read : Result Reply Refusal → T) (old : List Qu
   pub calls : CallerCalls old queue op answer new
   pub is : result ≡ read answer
 
+-- one call at a queue, behind which its answer is read
+pub record ReadsBehind (IsRead : List QueuePass → Result Reply Refusal → Type 0) (old : List QueuePass) (queue : ℕ) (op : Op) : Type 0 where
+  pub answer : Result Reply Refusal
+  pub mid : List QueuePass
+  pub calls : CallerCalls old queue op answer mid
+  pub is : IsRead mid answer
+
 -- a loop had ended before, and nothing was asked
 abbrev pub IsEnded : {T E S : Type 0} → (LoopEnd → E) → S → Result T E → S → Type 0
 IsEnded {T} {E} {S} ended old result new = (end : LoopEnd) × (result ≡ Err (ended end)) × (new ≡ old)
@@ -85,15 +95,28 @@ IsEnded {T} {E} {S} ended old result new = (end : LoopEnd) × (result ≡ Err (e
 -- a loop had ended before.
 abbrev pub Publishes : List QueuePass → StreamId → List (List ℕ) → Result StreamToken PublishError → List QueuePass → Type 0
 Publishes old stream payloads result new =
-    Reads (read.published stream) old (queue_of old stream) (op.Publish stream payloads) result new
+    ReadsBehind (λ mid answer. read.ComesTo (read.published (queue_of old stream) stream answer) (read.full (queue_of old stream)) mid (queue_of old stream) result new) old (queue_of old stream) (op.Publish stream payloads)
     ⊎ (((result ≡ Err publish.Memory) × (new ≡ old)) ⊎ IsEnded publish.Ended old result new)
 
--- A subscription was asked for at its stream's queue. Or nothing was done: the start is an event of another stream, or a
--- loop had ended before.
+-- the token that the next batch gets behind so many, where a start token is above it
+abbrev pub next_below : ℕ → Token → Option Token
+next_below batches start = if token_lt (batch_token batches) start then Some (batch_token batches) else None
+
+-- A start token that may not be above the one that the next batch gets is compared with that, by the figures of the
+-- partition that all calls leave which the pass at the queue has seen then. Where there is none, nothing is looked at.
+abbrev pub SeesNext : List QueuePass → ℕ → Option Token → Option Token → List QueuePass → Type 0
+SeesNext old queue checked result new =
+    ((checked ≡ None) × (result ≡ None) × (new ≡ old))
+    ⊎ ((start : Token) × (kept : QueueFigures) × (checked ≡ Some start) × CallerLooks old queue (λ p. kept ≡ figures_of p) new × (result ≡ next_below kept.batches start))
+
+-- A subscription was asked for at its stream's queue, whose start isn't above what it may be. Or nothing was asked: the
+-- start is above that, or is an event of another stream, or a loop had ended before.
 abbrev pub Subscribes : List QueuePass → StreamId → GrainId → StartFrom → Result Subscription SubscribeError → List QueuePass → Type 0
-Subscribes old stream grain from result new =
-    ((start : Start) × (read.start_for stream from ≡ Some start) × Reads (read.subscribed (queue_of old stream)) old (queue_of old stream) (op.Subscribe stream grain start) result new)
-    ⊎ (((read.start_for stream from ≡ None) × (result ≡ Err subscribe.OtherStream) × (new ≡ old)) ⊎ IsEnded subscribe.Ended old result new)
+Subscribes old stream grain given result new =
+    ((start : Start) × (seen : List QueuePass) × (read.start_for stream given ≡ Some start) × SeesNext old (queue_of old stream) (read.checked_token given) None seen
+    × ReadsBehind (λ mid answer. read.ComesTo (read.subscribed (queue_of old stream) answer) (read.too_many (queue_of old stream)) mid (queue_of old stream) result new) seen (queue_of old stream) (op.Subscribe stream grain start))
+    ⊎ (((start : Start) × (next : Token) × (read.start_for stream given ≡ Some start) × SeesNext old (queue_of old stream) (read.checked_token given) (Some next) new × (result ≡ Err (subscribe.Ahead next)))
+    ⊎ (((read.start_for stream given ≡ None) × (result ≡ Err subscribe.OtherStream) × (new ≡ old)) ⊎ IsEnded subscribe.Ended old result new))
 
 -- no queue has this number, and nothing was asked
 pub record HasNoQueue {T E : Type 0} (old : List QueuePass) (queue : ℕ) (e : E) (result : Result T E) (new : List QueuePass) : Type 0 where
@@ -134,8 +157,8 @@ TellsRule (suc more) queue op so_far old result new =
 abbrev pub AddsRule : List QueuePass → List ℕ → List ℕ → Result Bool CallError → List QueuePass → Type 0
 AddsRule old kind namespace result new = TellsRule (length old) 0 (op.AddRule kind namespace) false old result new
 
--- The queues were looked at until all were quiet in one look, or until that was given up after so many looks at most.
--- Each pass has seen as much as before, and more.
+-- The queues were looked at, and nothing else was asked, until all were quiet in one look, or until that was given up:
+-- after so many looks at most.
 pub record Settles (looks : ℕ) (old : List QueuePass) (result : Result Unit SettleError) (new : List QueuePass) : Type 0 where
   pub end : Result Drained AllocError
   pub is : result ≡ read.settled end
@@ -172,9 +195,9 @@ ChangesDown s silo result t = Goes s silo result t ⊎ HasNoSilo s silo result t
 abbrev pub calls_of : ProofHistory Op Reply → List (Entry Op Reply)
 calls_of h = answered (recorded h.asked) (recorded h.replies)
 
--- The cluster has ended, and its caller was the one whose passes were taken in, beside those that had joined it. Or there
--- was no memory for its end.
-abbrev pub Closes : ServiceView → Result Closed CloseError → Type 0
-Closes s result =
-    ((back : List SiloView) × (finished : Finished (ProofHistory Op Reply)) × HasFinished calls_of s.cluster (s.caller ∷ []) back finished × (result ≡ read.closing finished))
-    ⊎ (result ≡ Err close.Memory)
+-- The cluster has ended, and its caller was the one whose passes were taken in, beside those that had joined it. What is
+-- left is what it hands back. Or there was no memory for its end, and nothing is left.
+abbrev pub Closes : ServiceView → Closed → Type 0
+Closes s closed =
+    ((back : List SiloView) × (finished : Finished (ProofHistory Op Reply)) × HasFinished calls_of s.cluster (s.caller ∷ []) back finished × read.IsLeft finished closed)
+    ⊎ read.IsGone close.Memory closed

@@ -1,10 +1,15 @@
 //! What the calls of a service answer, and how that is read from the replies of a queue and of a cluster.
-ghost use Rattle.std.specs.Prelude.{◌≡◌};
+ghost use Rattle.std.specs.Prelude.{◌≡◌, ◌<◌, length};
+ghost use Rattle.silo_threads.specs.Calls.{turnstiles};
 ghost use Rattle.streams.specs.Answers as read;
+ghost use Rattle.streams.specs.Answers.{ComesTo, IsGone, IsLeft, full, too_many};
 
+use crate::UntracedCaller;
+use crate::service::Host;
+use shared_partition::Gate;
 use silo_loops::LoopEnd;
 use silo_threads::{Drained, Finished, SiloDown, SiloUp, Traces};
-use std::alloc::AllocError;
+use std::alloc::{AllocError, Global};
 use step_core::{Answer, Partition, QueueFigures, Reply, SubscriptionFigures};
 use stream_ident::{StreamId, SubName, Token};
 use stream_model::{Pending, Start};
@@ -48,6 +53,8 @@ pub enum StartFrom {
     /// With the first event whose token isn't less than this one, which may be that of an event of another stream at
     /// the same queue.
     Token(Token),
+    /// From this token on, even if it is above the one that the next batch gets: events before it are passed over.
+    Later(Token),
 }
 
 impl StartFrom {
@@ -59,7 +66,18 @@ impl StartFrom {
             StartFrom::Latest => Some(Start::Latest),
             StartFrom::At(first) if first.stream == *stream => Some(Start::At(first.token)),
             StartFrom::At(_) => None,
-            StartFrom::Token(token) => Some(Start::At(*token)),
+            StartFrom::Token(token) | StartFrom::Later(token) => Some(Start::At(*token)),
+        }
+    }
+
+    /// The start token, where it may not be above the one that the next batch gets.
+    pub(crate) fn checked_token(&self) -> Option<Token>
+        ensures { result ≡ read.checked_token self.now }
+    {
+        match self {
+            StartFrom::At(first) => Some(first.token),
+            StartFrom::Token(token) => Some(*token),
+            StartFrom::Latest | StartFrom::Later(_) => None,
         }
     }
 }
@@ -68,15 +86,16 @@ impl StartFrom {
 #[derive(Drop)]
 pub struct Closed {
     /// The report: the line `report`, a line for each subscription, and below each open one a line for each event that
-    /// it has handled.
-    pub report: Vec<u8>,
-    /// The partition of each queue, in order. [`Partition::subs`] and [`Partition::handled`] read what each
+    /// it has handled. Or why there is none.
+    pub report: Result<Vec<u8>, CloseError>,
+    /// The partition of each queue, in order, also where there is no report because of `NotQuiet`, `RoundLimit` or
+    /// `Limit`. After the other errors there are none. [`Partition::subs`] and [`Partition::handled`] read what each
     /// subscription has handled.
     pub partitions: Vec<Partition>,
 }
 
 impl Closed {
-    /// What a queue keeps, and none where there is no such queue.
+    /// What a queue keeps, and none where its partition isn't here.
     pub fn queue(&self, queue: usize) -> Option<QueueFigures>
         ensures { result ≡ read.figures_in self.now.partitions.items queue }
     {
@@ -84,7 +103,7 @@ impl Closed {
     }
 
     /// How far a subscription is, also one that was ended: the report doesn't say how many events that one had handled.
-    /// None where there is no such queue, or no such subscription at it.
+    /// None where the partition of its queue isn't here, or has no such subscription.
     pub fn subscription(&self, queue: usize, sub: &SubName) -> Option<SubscriptionFigures>
         ensures { result ≡ read.subscription_in self.now.partitions.items queue sub.now }
     {
@@ -118,9 +137,22 @@ pub enum PublishError {
         /// What has ended it.
         end: LoopEnd,
     },
-    /// With this batch the queue would have more events than it may have, or its history is full.
-    #[error("a limit of the queue is reached")]
-    Limit,
+    /// With this batch the log of the queue would have more events than it may have. It never gets smaller.
+    #[error("the log of queue {queue} has {events} of at most {limit} events, too many for this batch")]
+    QueueFull {
+        /// The queue.
+        queue: usize,
+        /// How many events its log has, looked at after the refusal: other producers may have published meanwhile.
+        events: usize,
+        /// How many events it may have.
+        limit: usize,
+    },
+    /// The history of the queue has as many calls as `Config::history` says.
+    #[error("the history of queue {queue} is full")]
+    HistoryFull {
+        /// The queue.
+        queue: usize,
+    },
     /// The call failed to allocate.
     #[error("no memory")]
     Memory,
@@ -141,15 +173,35 @@ pub enum SubscribeError {
     /// The subscription was to start at an event of another stream. Nothing was asked.
     #[error("the start is an event of another stream")]
     OtherStream,
+    /// The start token is above the one that the next batch gets, and wasn't given as `StartFrom::Later`. Nothing was
+    /// asked. Where others publish, the next batch may get a greater token by now.
+    #[error("the start is above {}.{}, the token of the next batch", next.seq, next.idx)]
+    Ahead {
+        /// The token that the next batch got when the queue was looked at.
+        next: Token,
+    },
     /// A loop of a silo has ended before. Nothing was asked: what is published from then on may never be handled.
     #[error("{end}")]
     Ended {
         /// What has ended it.
         end: LoopEnd,
     },
-    /// The queue has as many subscriptions as it may have, closed and implicit ones counted, or its history is full.
-    #[error("a limit of the queue is reached")]
-    Limit,
+    /// The queue has as many subscriptions as it may have, closed and implicit ones counted.
+    #[error("queue {queue} has {subscriptions} of at most {limit} subscriptions")]
+    TooMany {
+        /// The queue.
+        queue: usize,
+        /// How many subscriptions it has, looked at after the refusal.
+        subscriptions: usize,
+        /// How many it may have.
+        limit: usize,
+    },
+    /// The history of the queue has as many calls as `Config::history` says.
+    #[error("the history of queue {queue} is full")]
+    HistoryFull {
+        /// The queue.
+        queue: usize,
+    },
     /// The call failed to allocate.
     #[error("no memory")]
     Memory,
@@ -224,10 +276,10 @@ pub enum SiloError {
     Memory,
 }
 
-/// Why a service is closed without a report.
+/// Why a service is closed without a report. What it leaves stands in [`Closed::partitions`].
 #[derive(Clone, Copy, Debug, PartialEq, Eq, Error)]
 pub enum CloseError {
-    /// Something is left to do at a queue.
+    /// Something is left to do at a queue. The partitions are handed back.
     #[error("queue {queue} isn't quiet: {why:?}")]
     NotQuiet {
         /// The first such queue.
@@ -235,24 +287,40 @@ pub enum CloseError {
         /// What is left to do there.
         why: Pending,
     },
-    /// A loop has come to a limit, or has made as many rounds as it may, or the history of a queue is full.
+    /// A loop has made as many rounds as `Config::rounds` says. The partitions are handed back.
+    #[error("a loop has made as many rounds as it may")]
+    RoundLimit,
+    /// A loop has come to another limit, or the history of a queue is full. The partitions are handed back.
     #[error("a limit of a queue or of a loop is reached")]
     Limit,
-    /// A pass at a queue is missing, or a turnstile is still in use, as where a [`Producer`](crate::Producer) wasn't
-    /// handed back. No other run is known to meet this.
-    #[error("a pass at a queue is missing, or its turnstile is in use")]
-    NotAll,
-    /// The call failed to allocate, or a loop failed to before.
-    #[error("no memory")]
+    /// Passes of a queue are missing, as where a [`Producer`](crate::Producer) was dropped: no other run is known to meet
+    /// this. The partitions are gone.
+    #[error("at queue {queue} passes are missing ({missing}), and the partitions are gone")]
+    NotAll {
+        /// The first such queue.
+        queue: usize,
+        /// How many of its passes are missing.
+        missing: u64,
+    },
+    /// The turnstile of a queue is still in use, as where a [`Producer`](crate::Producer) is out. The partitions are gone.
+    #[error("a queue is still in use, and the partitions are gone")]
+    InUse,
+    /// The call failed to allocate, or a loop failed to before. The partitions are gone.
+    #[error("no memory, and the partitions are gone")]
     Memory,
 }
 
-// The first event of a batch, by the reply to its publish.
-pub(crate) fn published(
+// The first event of a batch, by the reply to its publish. Where the log is full, it is looked at how much it has.
+pub(crate) fn published<R: Host, G: Gate>(
+    rt: &R,
+    caller: &mut UntracedCaller<G>,
+    queue: usize,
     stream: StreamId,
     reply: Result<Answer, Refusal>,
 ) -> Result<StreamToken, PublishError>
-    ensures { result ≡ read.published stream reply }
+    requires { queue < length caller.old }
+    ensures comes { ComesTo (read.published queue stream reply) (full queue) caller.old queue result caller.new }
+    ensures turnstiles { turnstiles caller.new ≡ turnstiles caller.old }
 {
     match reply {
         Ok(answer) => match answer.outcome() {
@@ -261,19 +329,30 @@ pub(crate) fn published(
                 token: Token { seq: *seq, idx: 0 },
             }),
             Reply::BadBatch => Err(PublishError::BadBatch),
-            _ => Err(PublishError::Limit),
+            _ => {
+                let kept = caller.figures(rt, queue);
+                Err(PublishError::QueueFull {
+                    queue,
+                    events: kept.events,
+                    limit: kept.limits.events,
+                })
+            }
         },
-        Err(Refusal::HistoryFull) => Err(PublishError::Limit),
+        Err(Refusal::HistoryFull) => Err(PublishError::HistoryFull { queue }),
         Err(Refusal::Memory) => Err(PublishError::Memory),
     }
 }
 
-// The subscription at a queue, by the reply to its subscribe.
-pub(crate) fn subscribed(
+// The subscription at a queue, by the reply to its subscribe. Where there are too many, it is looked at how many.
+pub(crate) fn subscribed<R: Host, G: Gate>(
+    rt: &R,
+    caller: &mut UntracedCaller<G>,
     queue: usize,
     reply: Result<Answer, Refusal>,
 ) -> Result<Subscription, SubscribeError>
-    ensures { result ≡ read.subscribed queue reply }
+    requires { queue < length caller.old }
+    ensures comes { ComesTo (read.subscribed queue reply) (too_many queue) caller.old queue result caller.new }
+    ensures turnstiles { turnstiles caller.new ≡ turnstiles caller.old }
 {
     match reply {
         Ok(answer) => match answer.outcome() {
@@ -285,9 +364,16 @@ pub(crate) fn subscribed(
                 low: *low,
                 high: *high,
             }),
-            _ => Err(SubscribeError::Limit),
+            _ => {
+                let kept = caller.figures(rt, queue);
+                Err(SubscribeError::TooMany {
+                    queue,
+                    subscriptions: kept.subscriptions,
+                    limit: kept.limits.subs,
+                })
+            }
         },
-        Err(Refusal::HistoryFull) => Err(SubscribeError::Limit),
+        Err(Refusal::HistoryFull) => Err(SubscribeError::HistoryFull { queue }),
         Err(Refusal::Memory) => Err(SubscribeError::Memory),
     }
 }
@@ -377,23 +463,25 @@ pub(crate) fn went(answer: Result<SiloDown, AllocError>) -> Result<(), SiloError
 }
 
 // What is left of a service, by how its cluster has ended.
-pub(crate) fn closing<H: Drop>(finished: Finished<H>) -> Result<Closed, CloseError>
-    ensures { result ≡ read.closing finished }
+pub(crate) fn closing<H: Drop>(alloc: Global, finished: Finished<H>) -> Closed
+    ensures { IsLeft finished result }
 {
     match finished {
-        Finished::Report { text, traces } => Ok(partitions_with(text, traces)),
-        Finished::NotQuiet {
-            queue,
-            why,
-            traces: _traces,
-        } => Err(CloseError::NotQuiet { queue, why }),
-        Finished::RoundLimit { .. } | Finished::Limit { .. } => Err(CloseError::Limit),
-        Finished::NotAll { .. } | Finished::InUse => Err(CloseError::NotAll),
+        Finished::Report { text, traces } => handed_back(Ok(text), traces),
+        Finished::NotQuiet { queue, why, traces } => {
+            handed_back(Err(CloseError::NotQuiet { queue, why }), traces)
+        }
+        Finished::RoundLimit { traces } => handed_back(Err(CloseError::RoundLimit), traces),
+        Finished::Limit { traces } => handed_back(Err(CloseError::Limit), traces),
+        Finished::NotAll { queue, missing } => {
+            all_gone(alloc, CloseError::NotAll { queue, missing })
+        }
+        Finished::InUse => all_gone(alloc, CloseError::InUse),
     }
 }
 
-// The report and the partitions; the histories are let go.
-fn partitions_with<H: Drop>(report: Vec<u8>, traces: Traces<H>) -> Closed
+// The report, or why there is none, and the partitions; the histories are let go.
+fn handed_back<H: Drop>(report: Result<Vec<u8>, CloseError>, traces: Traces<H>) -> Closed
     ensures { result ≡ record { report = report; partitions = traces.partitions } }
 {
     let Traces {
@@ -401,4 +489,14 @@ fn partitions_with<H: Drop>(report: Vec<u8>, traces: Traces<H>) -> Closed
         partitions,
     } = traces;
     Closed { report, partitions }
+}
+
+// Why there is no report, and no partition.
+pub(crate) fn all_gone(alloc: Global, why: CloseError) -> Closed
+    ensures { IsGone why result }
+{
+    Closed {
+        report: Err(why),
+        partitions: Vec::new(alloc),
+    }
 }

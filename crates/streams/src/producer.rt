@@ -93,10 +93,8 @@ pub(crate) fn publish<R: Host, G: Gate>(
     };
     let payloads = Batch::of(payloads);
     let queue = queue(&stream, caller.queues());
-    published(
-        stream,
-        ask(rt, caller, queue, Op::Publish { stream, payloads }),
-    )
+    let reply = ask(rt, caller, queue, Op::Publish { stream, payloads });
+    published(rt, caller, queue, stream, reply)
 }
 
 /// What has ended a loop of a silo by itself, where one has ended.

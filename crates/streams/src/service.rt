@@ -2,12 +2,13 @@
 ghost use Rattle.std.specs.Prelude.{◌≡◌, ◌<◌, ◌≤◌, length, IfOk};
 ghost use Rattle.silo_threads.specs.Clusters.{IsConfig};
 ghost use Rattle.silo_threads.specs.Calls.{CallerCalls, CallerSplits, JoinsAll, joined_passes, turnstiles};
-ghost use Rattle.streams.specs.Services.{AddsRule, AsksPending, ChangesDown, ChangesUp, Closes, IsNewService, IsProducerOf, Publishes, ReadsQueue, ReadsSubscription, Settles, Subscribes, Unsubscribes, queue_of};
+ghost use Rattle.streams.specs.Answers.{checked_token};
+ghost use Rattle.streams.specs.Services.{AddsRule, AsksPending, ChangesDown, ChangesUp, Closes, IsNewService, IsProducerOf, Publishes, ReadsQueue, ReadsSubscription, SeesNext, Settles, Subscribes, Unsubscribes, queue_of};
 
 use crate::answers::{
     CallError, CloseError, Closed, PublishError, SettleError, SiloError, StartFrom, StreamToken,
-    SubscribeError, Subscription, UnsubscribeError, came, closing, pending_of, rule_added, settled,
-    subscribed, unsubscribed, went,
+    SubscribeError, Subscription, UnsubscribeError, all_gone, came, closing, pending_of,
+    rule_added, settled, subscribed, unsubscribed, went,
 };
 use crate::producer::{Producer, ask, ending, publish};
 use crate::{UntracedCaller, UntracedCluster};
@@ -20,7 +21,7 @@ use std::rt::Runtime;
 use std::sync::{Arc, Wait};
 use std::thread::Threads;
 use step_core::{Answer, QueueFigures, SubscriptionFigures};
-use stream_ident::{GrainId, MOST_SILOS, Name, Payload, StreamId, SubName};
+use stream_ident::{GrainId, MOST_SILOS, Name, Payload, StreamId, SubName, Token};
 use stream_model::{Op, Pending};
 use turnstile::Refusal;
 
@@ -119,8 +120,8 @@ impl<R: Host, G: Gate + 'static> Service<R, G> {
     /// What publishes to this service beside it. It has seen as much as the service has, and has published
     /// nothing.
     ///
-    /// Hand it back by [`take_back`](Service::take_back) before [`close`](Service::close), which answers `NotAll` while
-    /// one is out.
+    /// Hand it back by [`take_back`](Service::take_back) before [`close`](Service::close), which answers `InUse` while one
+    /// is out, and `NotAll` where one was dropped.
     ///
     /// # Errors
     /// The call failed to allocate, or 2^32 passes of a queue were made. The service is as before: what was split off
@@ -146,7 +147,10 @@ impl<R: Host, G: Gate + 'static> Service<R, G> {
         self.caller.join(producer.into_caller());
     }
 
-    /// Subscribes a grain to a stream.
+    /// Subscribes a grain to a stream. A start that was given as `At` or `Token` may not be above the token that the next
+    /// batch of the queue gets, for which the queue is looked at before. That token only rises: where others publish
+    /// between the look and the subscription, a start that wasn't above it isn't then either, and one that was may no
+    /// longer be.
     ///
     /// # Errors
     /// They are those of [`SubscribeError`]. No subscription was made.
@@ -167,12 +171,16 @@ impl<R: Host, G: Gate + 'static> Service<R, G> {
             return Err(SubscribeError::Ended { end });
         }
         let queue = self.queue_of(&stream);
+        if let Some(next) = self.next_below(queue, &from) {
+            return Err(SubscribeError::Ahead { next });
+        }
         let op = Op::Subscribe {
             stream,
             grain,
             start,
         };
-        subscribed(queue, self.ask(queue, op))
+        let reply = self.ask(queue, op);
+        subscribed(&self.rt, &mut self.caller, queue, reply)
     }
 
     /// Ends a subscription, and gives how many events it has handled. It handles none after this. For a turn that runs
@@ -254,7 +262,8 @@ impl<R: Host, G: Gate + 'static> Service<R, G> {
         self.caller.subscription(&self.rt, queue, sub)
     }
 
-    /// Waits until everything is pulled, delivered and handled at all queues.
+    /// Waits until everything is pulled, delivered and handled at all queues. It looks at them as often as
+    /// [`Config`]'s `looks` says at most, and asks nothing else of them.
     ///
     /// So each event that was published before has been handled, and its turn is committed. It doesn't wait for
     /// [`Gate::done`], which a worker calls after the commit: for the last turns it may not have been called yet.
@@ -310,14 +319,12 @@ impl<R: Host, G: Gate + 'static> Service<R, G> {
         went(self.cluster.silo_down(&self.rt, self.rt.alloc(), silo))
     }
 
-    /// Stops all silos, waits until each handler has returned, and gives the report and what is left of each partition.
+    /// Stops all silos, waits until each handler has returned, and gives the report, or why there is none, and what is
+    /// left of each partition.
     ///
     /// The report comes where everything is handled, so call [`settle`](Service::settle) before this. A service that is
     /// dropped without this call leaves its silos running until the program ends.
-    ///
-    /// # Errors
-    /// They are those of [`CloseError`]. All silos have stopped, and what was left of the partitions is lost.
-    pub fn close(self) -> Result<Closed, CloseError>
+    pub fn close(self) -> Closed
         ensures { Closes self result }
     {
         let Service {
@@ -328,9 +335,23 @@ impl<R: Host, G: Gate + 'static> Service<R, G> {
         } = self;
         callers.push_reserved(caller);
         match cluster.finish(&rt, rt.alloc(), callers) {
-            Ok(ended) => closing(ended.finished),
-            Err(_) => Err(CloseError::Memory),
+            Ok(ended) => closing(rt.alloc(), ended.finished),
+            Err(_) => all_gone(rt.alloc(), CloseError::Memory),
         }
+    }
+
+    // The token that the next batch at a queue gets, where the start is above it and may not be.
+    fn next_below(&mut self, queue: usize, from: &StartFrom) -> Option<Token>
+        requires { queue < length self.old.caller }
+        ensures sees { SeesNext self.old.caller queue (checked_token from.now) result self.new.caller }
+        ensures queues { length self.new.caller ≡ length self.old.caller }
+        ensures cluster { self.new.cluster ≡ self.old.cluster }
+        ensures turnstiles { turnstiles self.new.caller ≡ turnstiles self.old.caller }
+    {
+        let start = from.checked_token()?;
+        let seq = self.caller.figures(&self.rt, queue).batches;
+        let next = Token { seq, idx: 0 };
+        next.is_before(&start).then_some(next)
     }
 
     // One call at a queue.

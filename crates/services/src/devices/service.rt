@@ -1,30 +1,34 @@
 //! The streams of readings, and what is asked of them.
 use crate::devices::monitors::Monitors;
 use crate::devices::story::Step;
-use anyhow::{Result, bail, ensure};
+use anyhow::Result;
 use std::alloc::Global;
 use std::sync::Arc;
-use std::thread;
-use std::time::Duration;
-use streams::{Closed, Config, Encode, GrainId, Host, Name, Payload, Service, StartFrom, StreamId};
+use streams::{Closed, Config, Encode, Host, Name, Partition, Payload, Service, StreamId};
 
-// How often a queue is looked at before it is given up, once in a millisecond.
-const MOST_LOOKS: u32 = 60_000;
-
-/// What devices, the archive and operators may ask.
+/// What devices and operators may ask.
 #[derive(Drop)]
 pub struct DeviceService<R: Host> {
     rt: R,
-    service: Service<R, Monitors<R>>,
-    // the queue of the device that is archived
-    slow: usize,
+    service: Service<R, Monitors>,
+}
+
+/// What all queues keep together.
+#[derive(Clone, Copy)]
+pub struct Totals {
+    /// Events.
+    pub events: usize,
+    /// Subscriptions.
+    pub subscriptions: usize,
+    /// How often a queue has moved to another silo.
+    pub moves: u64,
 }
 
 impl<R: Host> DeviceService<R> {
     /// A service on sixteen queues and four silos, whose readings these monitors handle. A rule makes a subscription of
     /// each device that sends a reading: that of the monitor with its name.
-    pub fn open(rt: R, monitors: Arc<Monitors<R>, Global>) -> Result<DeviceService<R>> {
-        // A cache has one block of 64 readings, so that a slow consumer is felt soon.
+    pub fn open(rt: R, monitors: Arc<Monitors, Global>) -> Result<DeviceService<R>> {
+        // A cache has one block of 64 readings, and most queues get more.
         let config = Config {
             blocks: 1,
             ..Config::new(16, 4)
@@ -32,42 +36,41 @@ impl<R: Host> DeviceService<R> {
         let (monitor, readings) = (Name::new(b"monitor")?, Name::new(b"readings")?);
         let mut service = Service::open(rt, &config, monitors)?;
         service.add_rule(monitor, readings)?;
-        let slow = 0;
-        Ok(DeviceService { rt, service, slow })
+        Ok(DeviceService { rt, service })
     }
 
     /// Does a step of the story.
-    pub fn go(&mut self, step: &Step, monitors: &Monitors<R>) -> Result<()> {
+    pub fn go(&mut self, step: &Step) -> Result<()> {
         match *step {
-            Step::Archive(device) => self.archive(device),
             Step::Send { round, from, to } => self.send(round, from, to),
-            Step::SettleOthers => self.settle_others(),
-            Step::LetArchiveGoOn => {
-                monitors.let_archive_go_on();
-                Ok(())
-            }
             Step::Settle => Ok(self.service.settle()?),
             Step::TakeSiloDown(silo) => Ok(self.service.silo_down(silo)?),
         }
     }
 
-    /// Ends the service, and gives what is left of it.
-    pub fn close(self) -> Result<Closed> {
-        let DeviceService {
-            rt: _,
-            service,
-            slow: _,
-        } = self;
-        Ok(service.close()?)
+    /// What all queues keep together.
+    pub fn totals(&mut self) -> Totals {
+        let (mut events, mut subscriptions, mut moves) = (0usize, 0usize, 0u64);
+        for queue in 0..self.service.queues() {
+            if let Some(kept) = self.service.queue(queue) {
+                events = events.saturating_add(kept.events);
+                subscriptions = subscriptions.saturating_add(kept.subscriptions);
+                moves = moves.saturating_add(kept.generation);
+            }
+        }
+        Totals {
+            events,
+            subscriptions,
+            moves,
+        }
     }
 
-    // The archive subscribes to a device. Its queue is slow from now on.
-    fn archive(&mut self, device: &str) -> Result<()> {
-        let stream = StreamId::new(b"readings", device.as_bytes())?;
-        let grain = GrainId::new(b"archive", device.as_bytes())?;
-        let archive = self.service.subscribe(stream, grain, StartFrom::Latest)?;
-        self.slow = archive.queue;
-        Ok(())
+    /// Ends the service, and gives the partition of each queue.
+    pub fn close(self) -> Result<Vec<Partition>> {
+        let DeviceService { rt: _, service } = self;
+        let Closed { report, partitions } = service.close();
+        report?;
+        Ok(partitions)
     }
 
     // Each of these devices sends a reading.
@@ -77,29 +80,6 @@ impl<R: Host> DeviceService<R> {
             self.service.publish(stream, &[reading])?;
         }
         Ok(())
-    }
-
-    // Waits until all queues are quiet but that of the archive, and sees that it is behind.
-    fn settle_others(&mut self) -> Result<()> {
-        for queue in 0..self.service.queues() {
-            if queue != self.slow {
-                self.settle_queue(queue)?;
-            }
-        }
-        let pending = self.service.pending(self.slow)?;
-        ensure!(pending.is_some(), "the archive is faster than it can be");
-        Ok(())
-    }
-
-    // Waits until all readings of a queue are handled.
-    fn settle_queue(&mut self, queue: usize) -> Result<()> {
-        for _ in 0..MOST_LOOKS {
-            if self.service.pending(queue)?.is_none() {
-                return Ok(());
-            }
-            thread::sleep(&self.rt, Duration::from_millis(1));
-        }
-        bail!("queue {queue} doesn't get quiet")
     }
 }
 

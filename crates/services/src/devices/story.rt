@@ -1,22 +1,16 @@
-//! What devices, an archive and an operator do, one after another.
+//! What devices and an operator do, one after another.
 
 /// How many devices there are.
-pub const DEVICES: usize = 2_000;
+pub const DEVICES: usize = 600;
 
 /// What one of them does.
 pub enum Step {
-    /// The archive subscribes to one device by itself.
-    Archive(&'static str),
     /// The devices from one number to another send a reading, which depends on the round.
     Send {
         round: usize,
         from: usize,
         to: usize,
     },
-    /// Somebody waits until all queues are quiet but that of the archive, which is behind.
-    SettleOthers,
-    /// The archive goes on with its work.
-    LetArchiveGoOn,
     /// Somebody waits until all readings are handled.
     Settle,
     /// An operator takes a silo down.
@@ -24,25 +18,18 @@ pub enum Step {
 }
 
 /// The steps, each with what is printed when it is done.
-pub static STORY: [(Step, &str); 9] = [
-    // A slow archive holds up its own queue and no other.
-    (Step::Archive("d0007"), ""),
+pub static STORY: [(Step, &str); 6] = [
     (
         Step::Send {
             round: 0,
             from: 0,
             to: DEVICES,
         },
-        "2000 devices have sent a reading\n",
+        "",
     ),
-    (
-        Step::SettleOthers,
-        "the archive is slow: its queue is behind, and all others are quiet\n",
-    ),
-    (Step::LetArchiveGoOn, ""),
     (
         Step::Settle,
-        "the archive goes on: all readings are handled\n",
+        "600 devices have sent a reading: all readings are handled\n",
     ),
     // A silo goes while readings come in.
     (
@@ -68,6 +55,6 @@ pub static STORY: [(Step, &str); 9] = [
     ),
     (
         Step::Settle,
-        "2000 devices have sent another one: all readings are handled\n",
+        "600 devices have sent another one: all readings are handled\n",
     ),
 ];

@@ -36,7 +36,7 @@ pub static DAY: [(&str, Request); 25] = [
     ("all orders", Request::Settle),
     ("carla", Request::CloseDesk),
     ("ann", Request::Audit),
-    // A silo goes and another one comes, while orders come in. Somebody else takes the first one down too.
+    // A silo goes while orders come in, the last one can't go, and the first comes again.
     ("ann", Request::Order(&["450 sugar"])),
     ("bob", Request::Order(&["1500 gloves", "2200 a hat"])),
     ("silo 0", Request::TakeSiloDown(0)),

@@ -5,8 +5,9 @@ use anyhow::Result;
 use std::alloc::Global;
 use std::sync::Arc;
 use streams::{
-    BadName, Closed, Config, Encode, GrainId, Host, Payload, PublishError, Service, SiloError,
-    StartFrom, StreamId, SubscribeError, Subscription, Token, UnsubscribeError,
+    BadName, Closed, Config, Encode, GrainId, Host, Partition, Payload, PublishError, QueueFigures,
+    Service, SiloError, StartFrom, StreamId, SubscribeError, Subscription, SubscriptionFigures,
+    Token, UnsubscribeError,
 };
 
 // The first order of a stream.
@@ -34,6 +35,17 @@ pub enum Answer {
 struct Desk {
     customer: &'static str,
     subscription: Subscription,
+}
+
+/// The figures of a desk, and of the queue of its orders.
+#[derive(Clone, Copy)]
+pub struct DeskFigures {
+    /// The queue.
+    pub queue: usize,
+    /// What the queue keeps.
+    pub kept: QueueFigures,
+    /// How far the desk is.
+    pub known: SubscriptionFigures,
 }
 
 /// What customers, auditors and operators may ask.
@@ -72,14 +84,25 @@ impl<R: Host> OrderService<R> {
         }
     }
 
-    /// Ends the service, and gives what is left of it.
-    pub fn close(self) -> Result<Closed> {
+    /// The figures of a customer's desk, none where the customer has no desk.
+    pub fn desk(&mut self, customer: &str) -> Option<DeskFigures> {
+        let desk = desk_of(&self.desks, customer)?;
+        let queue = desk.queue;
+        let kept = self.service.queue(queue)?;
+        let known = self.service.subscription(queue, &desk.name())?;
+        Some(DeskFigures { queue, kept, known })
+    }
+
+    /// Ends the service, and gives the partition of each queue.
+    pub fn close(self) -> Result<Vec<Partition>> {
         let OrderService {
             alloc: _,
             service,
             desks: _,
         } = self;
-        Ok(service.close()?)
+        let Closed { report, partitions } = service.close();
+        report?;
+        Ok(partitions)
     }
 
     // A customer gets a desk, which handles what is ordered from now on.
