@@ -4,7 +4,7 @@ use crate::tally::Tally;
 use anyhow::{Result, bail};
 use std::alloc::Global;
 use std::sync::Arc;
-use streams::{Config, GrainId, Host, Partition, Payload, Service, StartFrom, StreamId};
+use streams::{Closed, Config, GrainId, Host, Partition, Payload, Service, StartFrom, StreamId};
 
 /// A service, its streams, to each of which a grain of its own subscribes, and the handler of all.
 #[derive(Drop)]
@@ -56,13 +56,13 @@ impl<R: Host> Consumers<R> {
             streams: _,
             tally,
         } = self;
-        let closed = service.close()?;
+        let Closed { report, partitions } = service.close();
         let mut lines = 0usize;
-        for byte in &closed.report {
+        for byte in &report? {
             lines = lines.saturating_add(usize::from(*byte == b'\n'));
         }
         let mut most = 0;
-        for partition in &closed.partitions {
+        for partition in &partitions {
             most = most.max(most_handled(alloc, partition)?);
         }
         let calls = tally.handled();

@@ -11,7 +11,7 @@ use Rattle.stream_script.specs.declared.parser.command.Parsed.TheVariants as par
 use Rattle.stream_script.specs.Pieces.{is_space}
 use Rattle.stream_script.specs.Reading.{reading}
 use Rattle.stream_script.proofs.PieceLemmas.{unwrap_or-position}
-use Rattle.script_checker.specs.Places.{BeginsAt, EndsAt, IsWhole}
+use Rattle.script_checker.specs.Places.{AreSpaces, BeginsAt, EndsAt, IsWhole}
 
 -- a place that is the length where there is none
 pub place_or_end : (passes : ℕ → Bool) (bytes : List ℕ) (found : Option ℕ) (n : ℕ) → n ≡ unwrap_or found (length bytes) → found ≡ position passes bytes → n ≡ position_or_len passes bytes
@@ -72,11 +72,11 @@ begins_piece bytes from start behind spaces first edge within some =
     ]
 
 -- what stands between a beginning and an end is a whole piece
-pub whole_at : (line : List ℕ) (from start first end : ℕ) → first ≡ start → from ≤ start → start < end → end ≤ length line → (start < length line → slice_index line start ≢ 32)
-    → (start < length line → BeginsAt line start) → EndsAt line end → (from ≤ first) × IsWhole line first end
-whole_at line from start first end same behind some within no_space begins ends =
+pub whole_at : (line : List ℕ) (from start first end : ℕ) → first ≡ start → from ≤ start → AreSpaces line from start → start < end → end ≤ length line → (start < length line → slice_index line start ≢ 32)
+    → (start < length line → BeginsAt line start) → EndsAt line end → (from ≤ first) × AreSpaces line from first × IsWhole line first end
+whole_at line from start first end same behind spaces some within no_space begins ends =
     let whole : IsWhole line start end = record { some = some; within = within; first = no_space (omega arith); begins = begins (omega arith); ends = ends } in
-    subst (λ m. (from ≤ m) × IsWhole line m end) (sym same) (behind, whole)
+    subst (λ m. (from ≤ m) × AreSpaces line from m × IsWhole line m end) (sym same) (behind, spaces, whole)
 
 -- what stops spaces in what stands from a place on is no space of the line
 pub stops_from : (bytes : List ℕ) (from n : ℕ) → (n < length (rest_from bytes from) → get_or (rest_from bytes from) n 0 ≡ 32 → ⊥) → from + n < length bytes → get_or bytes (from + n) 0 ≡ 32 → ⊥

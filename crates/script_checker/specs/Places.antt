@@ -3,7 +3,7 @@ use Rattle.std.specs.Prelude.{◌≡◌, ◌≢◌, ℕ, ◌+◌, ◌-◌, ◌<�
 use Rattle.std.specs.List.{position_or_len}
 use Rattle.stream_ident.specs.Alphabet.{is_printable}
 use Rattle.stream_script.specs.declared.parser.command.FaultKind.{FaultKind}
-use Rattle.stream_script.specs.declared.parser.command.FaultKind.TheVariants.{BadByte, WordCount}
+use Rattle.stream_script.specs.declared.parser.command.FaultKind.TheVariants.{BadByte, NotInRun, NotInSim, WordCount}
 use Rattle.script_checker.specs.declared.finding.Finding.{Finding}
 use Rattle.script_checker.specs.declared.piece.Piece.{Piece}
 
@@ -37,20 +37,21 @@ abbrev pub IsBadByte : List ℕ → ℕ → ℕ → Type 0
 IsBadByte line start end =
     (start ≡ position_or_len (λ byte. not (is_printable byte)) line) × (end ≡ min (start + 1) (length line))
 
+-- only spaces stand from one place of the line up to another
+abbrev pub AreSpaces : List ℕ → ℕ → ℕ → Type 0
+AreSpaces line from to = (k : ℕ) → from ≤ k → k < to → slice_index line k ≡ 32
+
 -- Where a fault of this kind is: at a byte, at a whole piece, or, where the number of pieces is wrong, at the end of the
--- line.
+-- line. A command that may not stand in such a script is the first piece.
 pub record IsSpot (kind : FaultKind) (line : List ℕ) (start end : ℕ) : Type 0 where
   pub byte : kind ≡ BadByte → IsBadByte line start end
   pub count : kind ≡ WordCount → IsWhole line start end ⊎ IsMissing line start end
   pub whole : kind ≢ BadByte → kind ≢ WordCount → IsWhole line start end
+  pub front : (kind ≡ NotInSim) ⊎ (kind ≡ NotInRun) → AreSpaces line 0 start
 
--- a whole piece that doesn't begin in front of this place
-abbrev pub IsWholeFrom : List ℕ → ℕ → Piece → Type 0
-IsWholeFrom line from piece = (from ≤ piece.start) × IsWhole line piece.start piece.end
-
--- what stands from this place on is spaces
-abbrev pub AreSpacesFrom : List ℕ → ℕ → Type 0
-AreSpacesFrom line from = (k : ℕ) → from ≤ k → k < length line → slice_index line k ≡ 32
+-- the first whole piece from this place on
+abbrev pub IsNextFrom : List ℕ → ℕ → Piece → Type 0
+IsNextFrom line from piece = (from ≤ piece.start) × AreSpaces line from piece.start × IsWhole line piece.start piece.end
 
 -- the fault is that of the piece
 abbrev pub IsOfPiece : Piece → Finding → Type 0

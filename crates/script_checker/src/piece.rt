@@ -2,7 +2,7 @@
 ghost use Rattle.std.specs.Prelude.{◌≡◌, ◌≢◌, ◌<◌, ◌≤◌, not, ℕ, length, position, slice_index, MatchOption, IfSome, false};
 ghost use Rattle.std.specs.List.{list_all, position_or_len};
 ghost use Rattle.stream_script.specs.Pieces.{is_space};
-ghost use Rattle.script_checker.specs.Places.{BeginsAt, EndsAt, IsWhole, IsWholeFrom, AreSpacesFrom};
+ghost use Rattle.script_checker.specs.Places.{AreSpaces, BeginsAt, EndsAt, IsNextFrom, IsWhole};
 
 /// A piece of a line.
 #[derive(Clone, Copy)]
@@ -20,7 +20,8 @@ pub(crate) struct Piece {
 /// The first piece of a line that isn't empty.
 pub(crate) fn first_piece(bytes: &[u8]) -> Piece
     requires { list_all is_space bytes.now ≡ false }
-    ensures { IsWhole bytes.now result.start result.end }
+    ensures whole { IsWhole bytes.now result.start result.end }
+    ensures first { AreSpaces bytes.now 0 result.start }
 {
     let Some(piece) = piece_from(bytes, 0) else {
         unreachable!();
@@ -32,7 +33,7 @@ pub(crate) fn first_piece(bytes: &[u8]) -> Piece
 pub(crate) fn piece_from(bytes: &[u8], from: usize) -> Option<Piece>
     requires within { from ≤ length bytes.now }
     requires edge { 0 < from → EndsAt bytes.now from }
-    ensures { MatchOption result (AreSpacesFrom bytes.now from) (IsWholeFrom bytes.now from) }
+    ensures { MatchOption result (AreSpaces bytes.now from (length bytes.now)) (IsNextFrom bytes.now from) }
 {
     let start = piece_start(bytes, from);
     match &bytes[start..] {
@@ -48,7 +49,7 @@ fn piece_start(bytes: &[u8], from: usize) -> usize
     requires edge { 0 < from → EndsAt bytes.now from }
     ensures behind { from ≤ result }
     ensures within { result ≤ length bytes.now }
-    ensures spaces { (k : ℕ) → from ≤ k → k < result → slice_index bytes.now k ≡ 32 }
+    ensures spaces { AreSpaces bytes.now from result }
     ensures first { result < length bytes.now → slice_index bytes.now result ≢ 32 }
     ensures begins { result < length bytes.now → BeginsAt bytes.now result }
 {
