@@ -4,7 +4,7 @@ use crate::asking::Produced;
 use crate::parked::{LOOPS, Parked, Went};
 use crate::replayed::{Begun, replay};
 use crate::running::{Calls, Ended, Places};
-use activation_directory::{DirectoryOp, DirectoryReply};
+use activation_directory::{Directory, DirectoryOp, DirectoryReply};
 use queue_mapper::place;
 use script_runs::Answer as Answered;
 use shared_partition::{DirectoryHistory, QueueHistory};
@@ -14,7 +14,7 @@ use std::alloc::{AllocError, Global};
 use std::process::Abort;
 use std::sync::Wait;
 use step_core::{Op, Reply};
-use stream_ident::{GrainId, StreamId, SubName, Token};
+use stream_ident::{GrainId, MOST_PERMITS, StreamId, SubName, Token};
 use stream_model::Start;
 
 // How many calls the loops of the silo make at most before it is stopped, and those of the other one behind that.
@@ -37,11 +37,18 @@ const STAYS: usize = 0;
 
 const GOES: usize = 1;
 
+// The number of the silo that is stopped.
+const GONE_SILO: u8 = 1;
+
 const FIRST_TOKEN: Token = Token { seq: 0, idx: 0 };
 
-fn stream<R: Abort>(rt: &R, queue: usize) -> StreamId {
+fn key_of<R: Abort>(rt: &R, queue: usize) -> &'static str {
     assert!(rt; queue < QUEUES);
-    StreamId::new(b"o", KEYS[queue].as_bytes()).expect(rt, "a stream")
+    KEYS[queue]
+}
+
+fn stream<R: Abort>(rt: &R, queue: usize) -> StreamId {
+    StreamId::new(b"o", key_of(rt, queue).as_bytes()).expect(rt, "a stream")
 }
 
 fn grain<R: Abort>(rt: &R, key: &str) -> GrainId {
@@ -296,39 +303,119 @@ fn was_missed<R: Abort>(
     missed
 }
 
-// Each permit that was given before a new one is nobody's any more. How many there were.
-fn void_permits<D: DirectoryHistory, R: Wait + Abort>(
+// The permits that the silo was given: the number of the next one, and whether the last one is out.
+#[derive(Clone, Copy)]
+struct Permits {
+    next: u64,
+    is_out: bool,
+}
+
+// The permit that the silo is given for a grain, unless one is out.
+fn entered<D: DirectoryHistory, R: Wait + Abort>(
     rt: &R,
     alloc: Global,
     directory: &mut DirectoryLine<D>,
-    grain: GrainId,
-) -> u64 {
-    let doorbell = Doorbell::new(alloc, 1, 0).expect(rt, "memory");
-    let enter = DirectoryOp::Enter { grain, silo: 0 };
-    let Ok(DirectoryReply::Entered { permit }) = directory.call(rt, alloc, &doorbell, enter) else {
-        panic!(rt; "the grain is nowhere");
+    doorbell: &Doorbell,
+    grain: &GrainId,
+) -> Option<u64> {
+    let enter = DirectoryOp::Enter {
+        grain: *grain,
+        silo: GONE_SILO,
     };
-    for old in 1..permit {
-        let leave = DirectoryOp::Leave { grain, permit: old };
-        let answer = directory.call(rt, alloc, &doorbell, leave);
-        assert!(rt; matches!(answer, Ok(DirectoryReply::NotYours)));
+    match directory.call(rt, alloc, doorbell, enter) {
+        Ok(DirectoryReply::Entered { permit }) => Some(permit),
+        Ok(DirectoryReply::Busy) => None,
+        _ => panic!(rt; "the grain is nowhere else"),
     }
-    permit.wrapping_sub(1)
 }
 
-// The permits that the silo was given in so many calls are nobody's once it is gone, in a cluster that ends there. How
-// many there were.
-fn void_permits_after<H: QueueHistory, D: DirectoryHistory, R: Wait + Abort>(
+// The permits that a directory has given the silo for a grain, by what it answers then.
+fn permits_in<D: DirectoryHistory, R: Wait + Abort>(
+    rt: &R,
+    alloc: Global,
+    directory: &mut DirectoryLine<D>,
+    grain: &GrainId,
+) -> Permits {
+    let doorbell = Doorbell::new(alloc, 1, 0).expect(rt, "memory");
+    if let Some(next) = entered(rt, alloc, directory, &doorbell, grain) {
+        return Permits {
+            next,
+            is_out: false,
+        };
+    }
+    let down = DirectoryOp::Down { silo: GONE_SILO };
+    let released = directory.call(rt, alloc, &doorbell, down);
+    assert!(rt; matches!(released, Ok(DirectoryReply::Released { .. })));
+    let next = entered(rt, alloc, directory, &doorbell, grain);
+    Permits {
+        next: next.expect(rt, "none is out"),
+        is_out: true,
+    }
+}
+
+// The permits that the silo has after so many calls, by a cluster that ends there.
+fn permits_after<H: QueueHistory, D: DirectoryHistory, R: Wait + Abort>(
     rt: &R,
     alloc: Global,
     calls: usize,
-    queue: usize,
-) -> u64 {
-    assert!(rt; queue < QUEUES);
-    let mut parked = stopped::<H, D, R>(rt, alloc, calls);
-    assert!(rt; parked.retire(rt, alloc, GOES) == Went::Down);
+    grain: &GrainId,
+) -> Permits {
+    let parked = stopped::<H, D, R>(rt, alloc, calls);
     let mut directory = parked.into_directory(rt);
-    void_permits(rt, alloc, &mut directory, grain(rt, KEYS[queue]))
+    permits_in(rt, alloc, &mut directory, grain)
+}
+
+// A permit for the grain is given, which is this one.
+fn enter<R: Abort>(rt: &R, alloc: Global, twin: &mut Directory, grain: &GrainId, permit: u64) {
+    let enter = DirectoryOp::Enter {
+        grain: *grain,
+        silo: GONE_SILO,
+    };
+    let given = twin.step(alloc, enter).expect(rt, "memory");
+    assert!(rt; matches!(given, DirectoryReply::Entered { permit: given } if given == permit));
+}
+
+// Whether the permit was out; else it is nobody's.
+fn leaves<R: Abort>(
+    rt: &R,
+    alloc: Global,
+    twin: &mut Directory,
+    grain: &GrainId,
+    permit: u64,
+) -> bool {
+    let leave = DirectoryOp::Leave {
+        grain: *grain,
+        permit,
+    };
+    match twin.step(alloc, leave) {
+        Ok(DirectoryReply::Left) => true,
+        Ok(DirectoryReply::NotYours) => false,
+        _ => panic!(rt; "a Leave has no other reply"),
+    }
+}
+
+// Whether the silo had a grain, its last one, which is released.
+fn releases<R: Abort>(rt: &R, alloc: Global, twin: &mut Directory) -> bool {
+    match twin.step(alloc, DirectoryOp::Down { silo: GONE_SILO }) {
+        Ok(DirectoryReply::Released { left: 0, .. }) => true,
+        Ok(DirectoryReply::NoneLeft) => false,
+        _ => panic!(rt; "it has one grain at most"),
+    }
+}
+
+// The old permits are nobody's at a twin of the cluster's directory, from which the silo has gone.
+fn leave_again<R: Abort>(rt: &R, alloc: Global, grain: &GrainId, permits: Permits) {
+    let mut twin = Directory::new(alloc, MOST_PERMITS);
+    for permit in 1..permits.next {
+        enter(rt, alloc, &mut twin, grain, permit);
+        let is_last = permit == permits.next - 1;
+        assert!(rt; is_last && permits.is_out || leaves(rt, alloc, &mut twin, grain, permit));
+    }
+    assert!(rt; releases(rt, alloc, &mut twin) == (permits.next > 1));
+    assert!(rt; !releases(rt, alloc, &mut twin));
+    for permit in 1..permits.next {
+        assert!(rt; !leaves(rt, alloc, &mut twin, grain, permit));
+    }
 }
 
 // What is met where the silo is stopped: whether a turn ran, a late subscription was a miss, and a permit was given.
@@ -344,12 +431,14 @@ fn stop_after<R: Wait + Abort>(rt: &R, alloc: Global, calls: usize) -> Met {
     let left = left_after(rt, alloc, calls);
     let (late, ended) = stop::<Calls, Places, R>(rt, alloc, calls, &left);
     let missed = was_missed(rt, alloc, left.queue, late, &ended);
-    let permits = void_permits_after::<Calls, Places, R>(rt, alloc, calls, left.queue);
-    assert!(rt; !left.runs || permits > 0);
+    let grain = grain(rt, key_of(rt, left.queue));
+    let permits = permits_after::<Calls, Places, R>(rt, alloc, calls, &grain);
+    assert!(rt; !left.runs || permits.is_out);
+    leave_again(rt, alloc, &grain, permits);
     Met {
         runs: left.runs,
         missed,
-        permits: permits > 0,
+        permits: permits.next > 1,
     }
 }
 
