@@ -10,6 +10,8 @@ mod cases;
 #[cfg(test)]
 mod gates;
 #[cfg(test)]
+mod idle;
+#[cfg(test)]
 mod in_parallel;
 #[cfg(test)]
 mod leaving;
