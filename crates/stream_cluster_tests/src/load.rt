@@ -24,11 +24,11 @@ const ROUNDS: usize = 2;
 // How often a silo goes or comes in a round: all but one go, and come again.
 const CHANGES: usize = 14;
 
-// How many events each of two producers publishes beside that, in a round.
+// How many events each of four producers publishes beside that, in a round.
 const EVENTS: usize = 16;
 
-// How many events both publish.
-const ROOM: usize = 2 * ROUNDS * EVENTS;
+// How many events they publish.
+const ROOM: usize = 4 * ROUNDS * EVENTS;
 
 const QUEUES: usize = 16;
 
@@ -77,7 +77,7 @@ fn publish<H: QueueHistory, R: Wait + Abort>(
         if at % EVENTS == 0 {
             let _ = rounds.wait(rt);
         }
-        let queue = number.wrapping_mul(8).wrapping_add(at.wrapping_mul(5)) % QUEUES;
+        let queue = number.wrapping_mul(4).wrapping_add(at.wrapping_mul(5)) % QUEUES;
         let payload = number.wrapping_mul(1_000_000).wrapping_add(at) as u64;
         let published = producer.publish(rt, alloc, queue, payload);
         published.expect(rt, "memory");
@@ -117,7 +117,7 @@ fn spawn<H: QueueHistory + Send + 'static, R: Threads + Wait + Abort + Copy + Se
     }
 }
 
-// The silos change beside two producers in threads, which are taken in when they come back.
+// The silos change beside four producers in threads, which are taken in when they come back.
 fn publish_beside<
     H: QueueHistory + Send + 'static,
     D: DirectoryHistory + Send + 'static,
@@ -126,12 +126,16 @@ fn publish_beside<
     ensures running { running.new ≡ running.old }
     ensures producer { producer.new ≡ producer.old }
 {
-    let rounds = Arc::new(alloc, Barrier::new(3)).expect(rt, "memory");
+    let rounds = Arc::new(alloc, Barrier::new(5)).expect(rt, "memory");
     let first = spawn(rt, alloc, &rounds, producer, 0);
     let second = spawn(rt, alloc, &rounds, producer, 1);
+    let third = spawn(rt, alloc, &rounds, producer, 2);
+    let fourth = spawn(rt, alloc, &rounds, producer, 3);
     change_silos(rt, alloc, &rounds, running, from);
     producer.join(rt, first.join(rt));
     producer.join(rt, second.join(rt));
+    producer.join(rt, third.join(rt));
+    producer.join(rt, fourth.join(rt));
 }
 
 // Whether all events that were told of are reported of each subscription, in their order.
@@ -158,7 +162,7 @@ fn run<
     is_whole(rt, alloc, &ended, &told)
 }
 
-// Eight silos go and come under two producers in threads, in one cluster after another. In the first round they go
+// Eight silos go and come under four producers in threads, in one cluster after another. In the first round they go
 // from one silo on, which is another one in each cluster, and the one before it stays. Nothing that the producers were
 // told was published is lost, and nothing is left of a cluster.
 fn run_each<
