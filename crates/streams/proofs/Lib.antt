@@ -1,2 +1,3 @@
 mod Keeping
+mod Rounds
 mod Telling

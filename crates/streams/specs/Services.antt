@@ -1,6 +1,5 @@
 -- What a contract sees of a service, and what each of its calls does.
 use Rattle.std.specs.Prelude.{◌≡◌, ◌⊎◌, ℕ, zero, suc, ◌≤◌, Bool, false, ◌||◌, List, [], ◌∷◌, length, Option, Some, None, Result, Ok, Err, if◌then◌else◌}
-use Rattle.std.specs.List.{AllZip}
 use Rattle.std.specs.declared.alloc.AllocError.{AllocError}
 use Rattle.stream_ident.specs.declared.ident.GrainId.{GrainId}
 use Rattle.stream_ident.specs.declared.ident.StreamId.{StreamId}
@@ -26,8 +25,6 @@ use Rattle.step_core.specs.declared.figures.SubscriptionFigures.{SubscriptionFig
 use Rattle.step_core.specs.Figures.{figures_of, subscription_figures_of}
 use Rattle.silo_threads.specs.Calls.{CallerCalls, CallerLooks, turnstiles}
 use Rattle.silo_threads.specs.declared.ending.finishing.Finished.{Finished}
-use Rattle.silo_threads.specs.declared.ending.draining.Drained.{Drained}
-use Rattle.silo_threads.specs.Draining.{EndsLooking, HasGoneOn}
 use Rattle.silo_threads.specs.declared.clusters.cluster.SiloDown.{SiloDown}
 use Rattle.silo_threads.specs.declared.clusters.cluster.SiloUp.{SiloUp}
 use Rattle.silo_threads.specs.declared.clusters.config.Config.{Config}
@@ -40,7 +37,6 @@ use Rattle.streams.specs.declared.answers.CloseError.TheVariants as close
 use Rattle.streams.specs.declared.answers.Closed.{Closed}
 use Rattle.streams.specs.declared.answers.PublishError.{PublishError}
 use Rattle.streams.specs.declared.answers.PublishError.TheVariants as publish
-use Rattle.streams.specs.declared.answers.SettleError.{SettleError}
 use Rattle.streams.specs.declared.answers.SiloError.{SiloError}
 use Rattle.streams.specs.declared.answers.SiloError.TheVariants as silos
 use Rattle.streams.specs.declared.answers.StartFrom.{StartFrom}
@@ -156,14 +152,6 @@ TellsRule (suc more) queue op so_far old result new =
 -- each queue was told the rule, or as many until one refused it
 abbrev pub AddsRule : List QueuePass → List ℕ → List ℕ → Result Bool CallError → List QueuePass → Type 0
 AddsRule old kind namespace result new = TellsRule (length old) 0 (op.AddRule kind namespace) false old result new
-
--- The queues were looked at, and nothing else was asked, until all were quiet in one look, or until that was given up:
--- after so many looks at most.
-pub record Settles (looks : ℕ) (old : List QueuePass) (result : Result Unit SettleError) (new : List QueuePass) : Type 0 where
-  pub end : Result Drained AllocError
-  pub is : result ≡ read.settled end
-  pub ends : EndsLooking looks old end new
-  pub on : AllZip HasGoneOn old new
 
 -- no silo has this number, and nothing was done
 pub record HasNoSilo (s : ServiceView) (silo : ℕ) (result : Result Unit SiloError) (t : ServiceView) : Type 0 where

@@ -5,6 +5,7 @@ ghost use Rattle.streams.specs.Answers as read;
 ghost use Rattle.streams.specs.Answers.{ComesTo, IsGone, IsLeft, full, too_many};
 
 use crate::UntracedCaller;
+use crate::outbox::Unpublished;
 use crate::service::Host;
 use shared_partition::Gate;
 use silo_loops::LoopEnd;
@@ -227,7 +228,8 @@ pub enum UnsubscribeError {
 /// Why a service doesn't settle.
 #[derive(Clone, Copy, Debug, PartialEq, Eq, Error)]
 pub enum SettleError {
-    /// There were as many looks at the queues as `Config::looks` says, and in each a queue wasn't quiet.
+    /// There were as many looks at the queues as `Config::looks` says, and in each a queue wasn't quiet. Or all were
+    /// quiet as often as it says, and each time a batch was accepted meanwhile, or there was a message in the outbox.
     #[error("not all queues get quiet")]
     NotQuiet,
     /// A queue wasn't quiet, and may never be: a loop has ended, a silo went and its queues weren't given to others, or
@@ -237,6 +239,9 @@ pub enum SettleError {
     /// The history of a queue is full.
     #[error("a limit of a queue is reached")]
     Limit,
+    /// A message of an outbox was refused. Only [`Service::settle_with`](crate::Service::settle_with) answers so.
+    #[error("a message isn't published: {0}")]
+    Unpublished(Unpublished),
     /// The call failed to allocate.
     #[error("no memory")]
     Memory,

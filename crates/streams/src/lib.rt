@@ -13,6 +13,9 @@
 //! [`Answer`] stands for the [`Reply`]. [`Caller::join`] takes a caller in again, and [`Cluster::finish`] ends the
 //! cluster with all callers that are left.
 //!
+//! A handler publishes by an [`Outbox`] that its gate holds: [`Service::publish_from`] publishes what it has put in, and
+//! [`Service::settle_with`] waits until that is handled as well.
+//!
 //! [`Encode`] and [`Decode`] put values into payloads and read them again.
 //!
 //! What a call of a service promises is proved here: what it asks, at which queue, and how its answer is read from the
@@ -20,8 +23,10 @@
 #![tactic(auto)]
 
 mod answers;
+mod outbox;
 mod producer;
 mod service;
+mod settling;
 mod values;
 
 pub use activation_directory::{DirectoryOp, DirectoryReply};
@@ -29,6 +34,7 @@ pub use answers::{
     CallError, CloseError, Closed, PublishError, SettleError, SiloError, StartFrom, StreamToken,
     SubscribeError, Subscription, UnsubscribeError,
 };
+pub use outbox::{Message, Outbox, OutboxFull, Unpublished};
 pub use producer::Producer;
 pub use queue_mapper::queue;
 pub use service::{Host, Service};

@@ -3,18 +3,21 @@ ghost use Rattle.std.specs.Prelude.{◌≡◌, ◌<◌, ◌≤◌, length, IfOk}
 ghost use Rattle.silo_threads.specs.Clusters.{IsConfig};
 ghost use Rattle.silo_threads.specs.Calls.{CallerCalls, CallerSplits, JoinsAll, joined_passes, turnstiles};
 ghost use Rattle.streams.specs.Answers.{checked_token};
-ghost use Rattle.streams.specs.Services.{AddsRule, AsksPending, ChangesDown, ChangesUp, Closes, IsNewService, IsProducerOf, Publishes, ReadsQueue, ReadsSubscription, SeesNext, Settles, Subscribes, Unsubscribes, queue_of};
+ghost use Rattle.streams.specs.Services.{AddsRule, AsksPending, ChangesDown, ChangesUp, Closes, IsNewService, IsProducerOf, Publishes, ReadsQueue, ReadsSubscription, SeesNext, Subscribes, Unsubscribes, queue_of};
+ghost use Rattle.streams.specs.Settling.{PublishesFrom, Settles, SettlesWith};
 
 use crate::answers::{
     CallError, CloseError, Closed, PublishError, SettleError, SiloError, StartFrom, StreamToken,
     SubscribeError, Subscription, UnsubscribeError, all_gone, came, closing, pending_of,
-    rule_added, settled, subscribed, unsubscribed, went,
+    rule_added, subscribed, unsubscribed, went,
 };
+use crate::outbox::{Outbox, Unpublished};
 use crate::producer::{Producer, ask, ending, publish};
+use crate::settling::settle;
 use crate::{UntracedCaller, UntracedCluster};
 use queue_mapper::queue;
 use shared_partition::Gate;
-use silo_threads::{Config, drain};
+use silo_threads::Config;
 use std::alloc::{AllocError, Global};
 use std::marker::Model;
 use std::rt::Runtime;
@@ -262,23 +265,70 @@ impl<R: Host, G: Gate + 'static> Service<R, G> {
         self.caller.subscription(&self.rt, queue, sub)
     }
 
-    /// Waits until everything is pulled, delivered and handled at all queues. It looks at them as often as
-    /// [`Config`]'s `looks` says at most, and asks nothing else of them.
+    /// Waits until everything that was published is handled: all queues were quiet in one look, and had accepted as many
+    /// batches behind it as before it. It looks at them as often as [`Config`]'s `looks` says at most until they are quiet.
+    /// Where a batch was accepted meanwhile it waits again, as often at most. It asks nothing else of them.
     ///
-    /// So each event that was published before has been handled, and its turn is committed. It doesn't wait for
-    /// [`Gate::done`], which a worker calls after the commit: for the last turns it may not have been called yet.
-    /// Where a handler doesn't return, this call may wait for ever.
+    /// So the turns of all those events are committed. It doesn't wait for [`Gate::done`], which a worker calls after the
+    /// commit: for the last turns it may not have been called yet. What handlers have put into an outbox is for
+    /// [`settle_with`](Service::settle_with). Where a handler doesn't return, this call may wait for ever.
     ///
     /// # Errors
     /// They are those of [`SettleError`]. What was published stays, and the silos go on with it. The call may be made
     /// again, save that a loop that has ended stays so.
     pub fn settle(&mut self) -> Result<(), SettleError>
-        ensures settles { Settles self.old.cluster.looks self.old.caller result self.new.caller }
+        ensures settles { Settles self.old.cluster.looks self.old.cluster.looks self.old.caller result self.new.caller }
         ensures cluster { self.new.cluster ≡ self.old.cluster }
         ensures turnstiles { turnstiles self.new.caller ≡ turnstiles self.old.caller }
     {
         let looks = self.cluster.looks();
-        settled(drain(&self.rt, self.rt.alloc(), &mut self.caller, looks))
+        settle(&self.rt, &mut self.caller, looks)
+    }
+
+    /// Publishes what waits in an outbox, in the order in which it was put in, and gives how many messages that were: as
+    /// many as the outbox has room for at most.
+    ///
+    /// # Errors
+    /// A message was refused, and comes back. Those before it are published, and those behind it still wait.
+    pub fn publish_from(&mut self, outbox: &Outbox<R>) -> Result<usize, Unpublished>
+        ensures publishes { PublishesFrom self.old.caller result self.new.caller }
+        ensures room { IfOk result (λ published. published ≤ outbox.now) }
+        ensures cluster { self.new.cluster ≡ self.old.cluster }
+        ensures turnstiles { turnstiles self.new.caller ≡ turnstiles self.old.caller }
+    {
+        let room = outbox.room();
+        for published in 0..room {
+            let Some(message) = outbox.take() else {
+                return Ok(published);
+            };
+            if let Err(why) = self.publish(message.stream, &[message.payload]) {
+                return Err(Unpublished { message, why });
+            }
+        }
+        Ok(room)
+    }
+
+    /// Waits until everything that was published is handled, with all that handlers put into an outbox for it: it settles
+    /// and publishes what is in the outbox, until nothing is in it after that, and as often as [`Config`]'s `looks` says at
+    /// most. What [`Gate::done`] puts in may come too late.
+    ///
+    /// # Errors
+    /// They are those of [`settle`](Service::settle), and `Unpublished`: a message was refused, and comes back. Those behind
+    /// it still wait.
+    pub fn settle_with(&mut self, outbox: &Outbox<R>) -> Result<(), SettleError>
+        ensures settles { SettlesWith self.old.cluster.looks self.old.cluster.looks self.old.caller result self.new.caller }
+        ensures cluster { self.new.cluster ≡ self.old.cluster }
+        ensures turnstiles { turnstiles self.new.caller ≡ turnstiles self.old.caller }
+    {
+        for _round in 0..self.cluster.looks() {
+            self.settle()?;
+            match self.publish_from(outbox) {
+                Ok(0) => return Ok(()),
+                Ok(_) => {}
+                Err(unpublished) => return Err(SettleError::Unpublished(unpublished)),
+            }
+        }
+        Err(SettleError::NotQuiet)
     }
 
     /// A silo comes: its loops are started, and the queues are spread over all silos that live.

@@ -1,0 +1,67 @@
+use Rattle.std.proofs.Common.{◌≡◌, ◌≢◌, ◌∙◌, ◌+◌, ◌-◌, ◌<◌, ℕ, suc, Result, Ok, Err, ap, arith, inl, inr, refl, subst, sym}
+use Rattle.std.proofs.lemmas.Result.{err_from_is_err_and}
+use Rattle.std.specs.declared.alloc.AllocError.{AllocError}
+use Rattle.silo_threads.specs.declared.ending.draining.Drained.{Drained}
+use Rattle.silo_threads.specs.Draining.{EndsLooking}
+use Rattle.streams.specs.declared.answers.SettleError.{SettleError}
+use Rattle.streams.specs.Settling.{Settles}
+use Rattle.streams.proofs.Rounds.{one-more, quiet-ended}
+use Rattle.streams.proofs.settling.settle.Goals as goal
+
+pub returns-in_err-settled-clause-settles : goal.returns-in_err-settled-clause-settles
+returns-in_err-settled-clause-settles g c =
+    let looks = c.args.looks in
+    let round = c.loop-round._round in
+    let within : round < looks = omega (arith, c.loop-round-test.true) in
+    let now = c.loop-round.caller in
+    let new = c.drain.new.caller in
+    let e = c.in_err-settled.field-0.0 in
+    let last : Settles (suc (looks - (round + 1))) looks now (Err e) new = (
+      c.count_batches-before.result,
+      c.count_batches-before.new.caller,
+      c.count_batches-before.ensures.counts,
+      inl (c.drain.result, e, c.drain.ensures.ends, sym c.in_err-settled.ensures, refl),
+    ) in
+    let all = c.loop-round.invariant.rest (Err e) new (one-more (λ k. Settles k looks now (Err e) new) looks round within last) in
+    let p = err_from_is_err_and c.from_residual.result c.from_residual.ensures.1 in
+    let same : p.0 ≡ e = p.2 in
+    subst (λ (r : Result Unit SettleError). Settles looks looks c.args.caller.now r new) (sym (p.1 ∙ ap (λ (x : SettleError). Err x) same)) all
+
+pub returns-then-count_batches-before-clause-settles : goal.returns-then-count_batches-before-clause-settles
+returns-then-count_batches-before-clause-settles g c =
+    let looks = c.args.looks in
+    let round = c.loop-round._round in
+    let within : round < looks = omega (arith, c.loop-round-test.true) in
+    let now = c.loop-round.caller in
+    let before = c.count_batches-before.new.caller in
+    let new = c.count_batches.new.caller in
+    let same : c.count_batches.result ≡ c.count_batches-before.result = omega (arith, c.if-count_batches-before.true) in
+    let quiet = subst (λ (end : Result Drained AllocError). EndsLooking looks before end c.drain.new.caller) (quiet-ended c.drain.result c.in_ok-settled.field-0 c.in_ok-settled.ensures) c.drain.ensures.ends in
+    let last : Settles (suc (looks - (round + 1))) looks now (Ok tt) new = (
+      c.count_batches-before.result,
+      before,
+      c.count_batches-before.ensures.counts,
+      inr (c.drain.new.caller, c.count_batches.result, new, quiet, c.count_batches.ensures.counts, inl (same, refl, refl)),
+    ) in
+    c.loop-round.invariant.rest (Ok tt) new (one-more (λ k. Settles k looks now (Ok tt) new) looks round within last)
+
+pub loop-round-preserved : goal.loop-round-preserved
+loop-round-preserved g c =
+    let looks = c.args.looks in
+    let round = c.loop-round._round in
+    let within : round < looks = omega (arith, c.loop-round-test.true) in
+    let now = c.loop-round.caller in
+    let before = c.count_batches-before.new.caller in
+    let others : c.count_batches.result ≢ c.count_batches-before.result = λ is. absurd (omega (arith, is, c.if-count_batches-before.false)) in
+    let quiet = subst (λ (end : Result Drained AllocError). EndsLooking looks before end c.drain.new.caller) (quiet-ended c.drain.result c.in_ok-settled.field-0 c.in_ok-settled.ensures) c.drain.ensures.ends in
+    record {
+      at = c.count_batches.ensures.turnstiles ∙ (c.drain.ensures.turnstiles ∙ (c.count_batches-before.ensures.turnstiles ∙ c.loop-round.invariant.at));
+      rest = λ result new more.
+          let next : Settles (suc (looks - (round + 1))) looks now result new = (
+            c.count_batches-before.result,
+            before,
+            c.count_batches-before.ensures.counts,
+            inr (c.drain.new.caller, c.count_batches.result, c.count_batches.new.caller, quiet, c.count_batches.ensures.counts, inr (others, more)),
+          ) in
+          c.loop-round.invariant.rest result new (one-more (λ k. Settles k looks now result new) looks round within next);
+    }
