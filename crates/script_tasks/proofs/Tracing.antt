@@ -1,5 +1,5 @@
 -- What was written of histories, one behind another.
-use Rattle.std.proofs.Common.{◌≡◌, ℕ, zero, suc, ◌+◌, ◌<◌, ◌≤◌, List, [], ◌∷◌, ◌++◌, length, map, get_or, take, add-one, Option, Some, None, Result, Ok, Err, refl, sym, ap, ◌∙◌, subst, arith}
+use Rattle.std.proofs.Common.{◌≡◌, ℕ, zero, suc, ◌+◌, ◌<◌, ◌≤◌, List, [], ◌∷◌, ◌++◌, length, map, get_or, take, add-one, Option, Some, None, Result, Ok, Err, refl, sym, ap, ◌∙◌, subst, inl, inr, ◌⊎◌, arith}
 use Rattle.std.proofs.KnownBytes.{Appends-trans}
 use Rattle.std.proofs.Math.Seq.{take-length}
 use Rattle.std.proofs.lemmas.List.{length-map}
@@ -24,6 +24,7 @@ use Rattle.script_runs.specs.declared.runs.outcome.Ran.{Ran}
 use Rattle.script_runs.specs.declared.runs.outcome.RunEnd.{RunEnd}
 use Rattle.script_runs.specs.declared.runs.outcome.RunEnd.TheVariants as ends
 use Rattle.script_runs.specs.declared.runs.outcome.Unfinished.{Unfinished}
+use Rattle.script_runs.specs.declared.runs.outcome.Unfinished.TheVariants as unfinished
 use Rattle.script_runs.specs.Runs.{AreLegal, EndsRun, IsLegalHistory, LeavesLegalTraces, TellFront, missed_in}
 use Rattle.script_tasks.specs.declared.fault.ProgramFault.{ProgramFault}
 use Rattle.script_tasks.specs.declared.fault.ProgramFault.TheVariants as fault
@@ -92,11 +93,11 @@ left-legal config end why (Some traces) is legal = subst (LeavesLegalTraces aske
 -- so the histories that it left are legal and tell a front of the script, and their text is known
 left-tells : (shown : Shown) (config : Config) (old new : Option (List ℕ)) (lines : List Line) (found : List ScriptLine) (why : Unfinished) (left : Option (Traces (AskedHistory Op Reply))) → EndsRun asked_entries config lines found (ends.Unfinished why left)
     → LeavesLegalTraces asked_entries config (ends.Unfinished why left) → Appends old new (text_left shown left)
-    → (done ahead : List Line) × (missed : List ℕ) × (histories : List (List (Entry Op Reply))) × (lines ≡ done ++ ahead) × AreLegalAt config histories × TellFront missed done ahead histories × Appends old new (traces_from (seen shown) 0 histories)
+    → (done ahead : List Line) × (missed : List ℕ) × (histories : List (List (Entry Op Reply))) × (lines ≡ done ++ ahead) × ((length histories ≡ config.queues) ⊎ ((why ≡ unfinished.Limit) × (histories ≡ []))) × AreLegalAt config histories × TellFront missed done ahead histories × Appends old new (traces_from (seen shown) 0 histories)
 left-tells shown config old new lines found why (Some traces) runs legal written =
     let histories = map asked_entries traces.histories.items in
-    (runs.0, runs.1, missed_in found, histories, runs.2, each-legal config histories traces.partitions.items legal.each, runs.4, written)
-left-tells shown config old new lines found why None runs legal written = ([], lines, [], [], refl, tt, (0, λ queue history at. absurd (cc)), written)
+    (runs.0, runs.1, missed_in found, histories, runs.2, inl (length-map traces.histories.items asked_entries ∙ legal.count), each-legal config histories traces.partitions.items legal.each, runs.4, written)
+left-tells shown config old new lines found why None runs legal written = ([], lines, [], [], refl, inr (runs, refl), tt, (0, λ queue history at. absurd (cc)), written)
 
 -- what was written of a run that read the script so
 pub trace-printed : (config : Config) (shown : Shown) (script : List ℕ) (old new : Option (List ℕ)) (lines : List Line) (found : List ScriptLine) (end : RunEnd (AskedHistory Op Reply)) (result : Result Unit ProgramFault) → commands_of config.queues script ≡ Ok lines
@@ -106,7 +107,8 @@ trace-printed config shown script old new lines found (ends.Report text traces) 
     (lines, missed_in found, histories, read, length-map traces.histories.items asked_entries ∙ legal.count, each-legal config histories traces.partitions.items legal.each, runs.2, writes)
 trace-printed config shown script old new lines found (ends.Unfinished why left) (Err (fault.Unfinished told)) read runs legal writes =
     let known = left-tells shown config old new lines found why left runs legal writes.1 in
-    (lines, known.0, known.1, known.2, known.3, read, known.4, known.5, known.6, known.7)
+    let whole = subst (λ (w : Unfinished). (length known.3 ≡ config.queues) ⊎ ((w ≡ unfinished.Limit) × (known.3 ≡ []))) (sym writes.0) known.5 in
+    (lines, known.0, known.1, known.2, known.3, read, known.4, whole, known.6, known.7, known.8)
 trace-printed config shown script old new lines found (ends.Report text traces) (Err (fault.Script error.WriteFault)) read runs legal writes = tt
 trace-printed config shown script old new lines found (ends.Report text traces) (Err (fault.Script error.Memory)) read runs legal writes = tt
 trace-printed config shown script old new lines found (ends.Report text traces) (Err (fault.Script error.ReadFault)) read runs legal writes = absurd writes

@@ -107,7 +107,8 @@ PrintsRun config much script old new (Err (fault.CommandLine error)) = ⊥
 
 -- What a trace has written, by how the run ended: what is shown of the histories of all queues, in which producers asked and were told
 -- what the script tells. Where the run has no report, it wrote the histories as far as they went, which tell a front of the
--- script and at most a part of the line behind it, or nothing.
+-- script and at most a part of the line behind it. Where passes are missing in the end, which is called a limit, that is
+-- nothing.
 abbrev pub PrintsTrace : Config → Shown → List ℕ → Option (List ℕ) → Option (List ℕ) → Result Unit ProgramFault → Type 0
 PrintsTrace config shown script old new (Ok done) =
     (lines : List Line) × (missed : List ℕ) × (histories : List (List (Entry Op Reply))) × (commands_of config.queues script ≡ Ok lines)
@@ -120,7 +121,8 @@ PrintsTrace config shown script old new (Err (fault.Script error.Memory)) = ⊤
 PrintsTrace config shown script old new (Err (fault.Script error.WriteFault)) = ⊤
 PrintsTrace config shown script old new (Err (fault.Unfinished why)) =
     (lines done left : List Line) × (missed : List ℕ) × (histories : List (List (Entry Op Reply))) × (commands_of config.queues script ≡ Ok lines)
-    × (lines ≡ done ++ left) × AreLegalAt config histories × TellFront missed done left histories
+    × (lines ≡ done ++ left) × ((length histories ≡ config.queues) ⊎ ((why ≡ unfinished.Limit) × (histories ≡ [])))
+    × AreLegalAt config histories × TellFront missed done left histories
     × Appends old new (traces_from (seen shown) 0 histories)
 PrintsTrace config shown script old new (Err (fault.CommandLine error)) = ⊥
 
@@ -133,6 +135,11 @@ module _ {H : Type 0} (entries : H → List (Entry Op Reply)) where
   RunsSource config script (Err (fault.Script error.ReadFault)) = ⊤
   RunsSource config script (Err (fault.Script error.Memory)) = ⊤
   RunsSource config script (Err _) = ⊥
+
+-- the script couldn't be read
+abbrev pub is_unread : {A : Type 0} → Result A ProgramFault → Bool
+is_unread (Err (fault.Script error.ReadFault)) = true
+is_unread _ = false
 
 -- all of a text was written
 abbrev pub WritesText : Option (List ℕ) → Option (List ℕ) → List ℕ → Result Unit SimError → Type 0

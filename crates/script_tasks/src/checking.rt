@@ -1,6 +1,7 @@
 //! A script that is checked.
-ghost use Rattle.std.specs.Prelude.{◌-◌, ◌^◌, ◌<◌, ◌≤◌, IfSome};
+ghost use Rattle.std.specs.Prelude.{◌≡◌, ◌-◌, ◌^◌, ◌<◌, ◌≤◌, suc, IfSome, if◌then◌else◌};
 ghost use Rattle.script_tasks.specs.Checking.{EndsCheck, PrintsCheck};
+ghost use Rattle.script_tasks.specs.Printing.{is_unread};
 
 use crate::fault::ProgramFault;
 use crate::options::CheckConfig;
@@ -24,8 +25,10 @@ pub fn check_source<R: Source, W: Write>(
     requires config { 1 ≤ config.queues }
     requires count { R.failures source.old < 2 ^ 64 - 1 }
     // What was written, where the source's bytes are known.
-    ensures { IfSome (R.remaining source.old) (λ input.
+    ensures written { IfSome (R.remaining source.old) (λ input.
         PrintsCheck config input (W.contents sink.old) (W.contents sink.new) result) }
+    // A read fault comes only where the source counted a failed call.
+    ensures counted { R.failures source.new ≡ (if is_unread result then suc (R.failures source.old) else R.failures source.old) }
 {
     let script = read_script(alloc, source)?;
     let findings = check_script(alloc, &script, config.queues, config.mode)?;

@@ -6,9 +6,11 @@ mod checking;
 mod fault;
 mod options;
 mod performing;
+mod progress;
 mod shown;
 mod silos;
 mod summary;
+mod terminal;
 
 pub use checking::check_source;
 pub use fault::ProgramFault;
@@ -21,3 +23,4 @@ pub use script_runs::Calls;
 pub use shown::Shown;
 pub use silos::{run_on_silos, trace_on_silos};
 pub use summary::Detail;
+pub use terminal::Terminals;

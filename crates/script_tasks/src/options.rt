@@ -1,10 +1,10 @@
 //! The command line.
-ghost use Rattle.std.specs.Prelude.{◌≡◌, ◌≢◌, ◌⊎◌, ◌≤◌, ◌-◌, ◌^◌, length, IfOk, None, Ok};
+ghost use Rattle.std.specs.Prelude.{◌≡◌, ◌≢◌, ◌⊎◌, ◌≤◌, ◌-◌, ◌^◌, length, IfOk, None, Ok, OnErr};
 ghost use Rattle.std.specs.IoError.{error_kind};
 ghost use Rattle.std.specs.declared.io.ErrorKind.TheVariants.{InvalidData};
 ghost use Rattle.clap.specs.Values.{kind_of};
 ghost use Rattle.silo_threads.specs.Clusters.{IsConfig};
-ghost use Rattle.script_tasks.specs.Tasks.{IsShown, IsTask, check_with, cluster_with, simulation_with};
+ghost use Rattle.script_tasks.specs.Tasks.{IsAsked, IsPast, IsQueueMissing, IsShown, IsTask, calls_with, check_with, cluster_with, detail_with, mode_with, shown_with, simulation_with};
 ghost use Rattle.script_tasks.specs.declared.options.Task.TheVariants.{Simulate};
 ghost use Rattle.stream_script.specs.Simulation.{IsSimConfig};
 
@@ -25,24 +25,24 @@ const VERSION: &str = "0.1.0";
 
 /// What help says below the subcommands.
 const STATUSES: &str =
-    r#"Without a subcommand a script is simulated. `streams sim --help` and `streams run --help` show an example.
-Each of sim, run, trace and check reads its script from FILE, or else from standard input.
+    r#"Called without words, streams simulates a script. `streams sim --help` and `streams run --help` show an example.
+sim, run, trace and check read their script from FILE. Without FILE they read it from standard input, to its end.
 
 Exit status: 0 done; 1 a line is faulty; 2 the command line is faulty; 3 reading or writing failed, or
 memory ran out; 4 a run met a limit, or not all of it was handled."#;
 
 /// What help says below the options of a simulation: an example, and how the program ends.
 pub const SIM_EXAMPLE: &str =
-    r#"A script has one command a line. In this one the grain clerk/17 subscribes to the stream orders/17,
-a batch of two events is published to it, and all that is then left to do is done:
+    r#"A script has one command per line. This one subscribes the grain clerk/17 to the stream orders/17,
+publishes a batch of two events to it, and then does everything that is left to do:
 
     sub orders/17 clerk/17 latest
     pub orders/17 "paid" "shipped"
     drain
     report
 
-Each command is answered by a line that begins with the number of its queue, and the report tells
-what each subscription has handled:
+Each command prints a line that begins with the number of its queue. The report lists what each
+subscription has handled:
 
     0 subscribed 1
     0 published 0
@@ -52,17 +52,17 @@ what each subscription has handled:
       0.0 "paid"
       0.1 "shipped"
 
-Lines that are empty or begin with # are passed over. More commands stand in docs/SCRIPT.md, and more
-scripts in examples/.
+The whole script is read before its first line is done. Empty lines and lines that begin with # are
+skipped. docs/SCRIPT.md lists all commands, and examples/ has more scripts.
 
 Exit status: 0 done; 1 a line is faulty, and the replies to the lines before it are printed; 2 the
 command line is faulty; 3 reading or writing failed, or memory ran out."#;
 
 /// What help says below the options of a run: an example, and how the program ends.
 pub const RUN_EXAMPLE: &str =
-    r#"A script that is run has what producers do and how silos come and go: pub, sub, unsub, rule, drain,
-up and down. What is between, the silos do in threads. In this one silo 0 leaves in the middle, and the
-last line names a subscription that there isn't:
+    r#"A script to run says what producers do, and when silos join or leave: pub, sub, unsub, rule, drain, up
+and down. The silos do everything else, in threads. In this script silo 0 leaves in the middle, and the
+last line names a subscription that doesn't exist:
 
     sub orders/17 clerk/17 latest
     pub orders/17 "paid"
@@ -70,8 +70,8 @@ last line names a subscription that there isn't:
     pub orders/17 "shipped"
     unsub 0:7
 
-At the end it is waited until all is handled. Then the lines that were refused are named by their
-numbers, and the report tells what each subscription has handled:
+The run then waits until every event is handled. It prints the numbers of the lines that were refused,
+and a report of what each subscription has handled:
 
     refused 5
     report
@@ -79,10 +79,10 @@ numbers, and the report tells what each subscription has handled:
       0.0 "paid"
       1.0 "shipped"
 
-With --summary the two lines of events are missing, and the 2 in front of them tells how many there are.
+With --summary the two lines of events are left out. The 2 above them still says how many there are.
 
-This needs --silos 2, since the last silo can't leave. Lines that are empty or begin with # are passed
-over, but counted. More of this stands in docs/SCRIPT.md, and another script in examples/auctions.script.
+This script needs --silos 2, since the last silo can't leave. Empty lines and lines that begin with #
+are skipped, but counted. docs/SCRIPT.md says more, and examples/auctions.script is another script.
 
 Exit status: 0 done; 1 a line is faulty, and nothing is done; 2 the command line is faulty; 3 reading or
 writing failed, or memory ran out; 4 a run met a limit (`limit reached`, `round limit`), or not all of it
@@ -90,14 +90,14 @@ was handled (`not quiet`), and the report is missing."#;
 
 /// What help says below the options of a trace.
 const TRACE_EXAMPLE: &str =
-    r#"The script is run as `streams run` runs it, by the same arguments. What is printed is what was done
-at each queue, by producers and by the silos, as a script that `streams sim` does again on one thread.
-Behind each line stands its reply in a comment. Of the script
+    r#"The script is run as by `streams run`. The trace is what producers and silos did at each queue, as a
+script that `streams sim` can do again on one thread. Each line is followed by its reply, in a comment.
+For the script
 
     sub orders/17 clerk/17 latest
     pub orders/17 "paid"
 
-the trace may begin so:
+the trace may begin like this:
 
     # queue 0
     sub orders/17 clerk/17 latest
@@ -107,30 +107,30 @@ the trace may begin so:
     pub orders/17 "paid"
     # 0 published 0
 
-With --busy the pull that was answered `dry` is missing, and so is each look that found nothing.
+With --busy the pull that was answered `dry` is left out, and so is every other look that found nothing.
 
-The lines of a queue stand together, behind a comment that names it, and are a script of their own: as
-`rule` and `quiet` act on each queue of a simulation, it is simulated with the same number of queues, and
-gives these replies at its queue.
+The lines of each queue stand together, below a comment that names it, and are a script of their own.
+Simulate it with the same number of queues, since `rule` and `quiet` act on every queue of a simulation.
+It then gives these replies at its queue.
 
-Exit status: as for `streams run`. A run that met a limit, or of which not all was handled, is printed too.
-A trace stores what was asked, at most 4,000,000 calls a queue."#;
+Exit status: as for `streams run`. A run that met a limit, or that didn't handle everything, is printed
+as far as it went. A trace stores at most 4,000,000 calls per queue."#;
 
 /// What help says below the options of a check.
-const CHECK_EXAMPLE: &str = r#"Every line is read, and nothing is done. Of the script
+const CHECK_EXAMPLE: &str = r#"Every line is read, and nothing is done. For the script
 
     sub orders/17 clerk/17 latst
     pub orders/17 "paid" shipped
 
-both faults are told, each with its line and column, the word, and what was expected:
+it prints both faults, each with its line and column, the word, and what was expected:
 
     line 1, column 24: bad command: "latst": a subscription starts with `latest`, or with `from` and a token
         hint: write `latest`
     line 2, column 22: word count: "shipped": the line is `pub STREAM TEXT ..`
         hint: a text stands between quotes, as "paid"
 
-Of a script without a fault it is told how many lines of each command there are, and which queue each
-stream has that it names.
+For a script without faults it prints how many lines each command has, and the queue of each stream that
+it names.
 
 Exit status: 0 no line is faulty; 1 a line is faulty; 2 the command line is faulty; 3 reading or writing
 failed, or memory ran out."#;
@@ -189,7 +189,7 @@ pub fn parse_options<'a>(alloc: Global, words: &'a [String]) -> Result<Request<'
     };
     Ok(Request {
         file: given.get_str("file"),
-        task: task_of(alloc, name, given)?,
+        task: task_of(alloc, name, options_of(given))?,
     })
 }
 
@@ -229,36 +229,73 @@ fn usual<'a>() -> Request<'a>
     }
 }
 
-/// What the words of a subcommand ask for.
-fn task_of(alloc: Global, name: &str, given: &ArgMatches<'_>) -> Result<Task, clap::Error>
-    ensures { IfOk result (λ task. IsTask task) }
-{
-    match name {
-        "run" => Ok(Task::Run(
-            run_config(queues_of(given), blocks_of(given), silos_of(given)),
-            detail_of(given),
-        )),
-        "trace" => trace_of(alloc, given),
-        "check" => Ok(Task::Check(check_config(queues_of(given), mode_of(given)))),
-        _ => Ok(Task::Simulate(sim_config(queues_of(given), blocks_of(given)))),
+/// What the options of a subcommand say, or what stands for those that it hasn't.
+#[derive(Clone, Copy)]
+struct Options {
+    /// How many queues.
+    queues: u32,
+    /// How many blocks.
+    blocks: u32,
+    /// How many silos.
+    silos: u32,
+    /// Whether a run is printed without the events.
+    summary: bool,
+    /// Whether a trace leaves out the calls that found nothing.
+    busy: bool,
+    /// The one queue that a trace shows.
+    queue: Option<u32>,
+    /// Whether a script is checked as one to run.
+    run: bool,
+}
+
+/// The options of the words.
+fn options_of(given: &ArgMatches<'_>) -> Options {
+    Options {
+        queues: number(given, "queues", 1),
+        blocks: number(given, "blocks", 4),
+        silos: number(given, "silos", 1),
+        summary: given.get_flag("summary"),
+        busy: given.get_flag("busy"),
+        queue: given.get_one::<u32>("queue"),
+        run: given.get_flag("run"),
     }
 }
 
-/// The trace that the words ask for.
-fn trace_of(alloc: Global, given: &ArgMatches<'_>) -> Result<Task, clap::Error>
-    ensures { IfOk result (λ task. IsTask task) }
+/// What a subcommand with these options asks for.
+fn task_of(alloc: Global, name: &str, options: Options) -> Result<Task, clap::Error>
+    ensures task { IfOk result (λ task. IsTask task) }
+    ensures exact { IfOk result (IsAsked name.now options) }
+    ensures refused { OnErr result (IsQueueMissing name.now options) }
 {
-    let config = trace_config(queues_of(given), blocks_of(given), silos_of(given));
-    let shown = shown_of(alloc, given, config.queues)?;
-    Ok(Task::Trace(config, shown))
+    let Options {
+        queues,
+        blocks,
+        silos,
+        ..
+    } = options;
+    match name {
+        "run" => Ok(Task::Run(
+            run_config(queues, blocks, silos),
+            detail_of(options.summary),
+        )),
+        "trace" => {
+            let config = trace_config(queues, blocks, silos);
+            let shown = shown_of(alloc, options, config.queues)?;
+            Ok(Task::Trace(config, shown))
+        }
+        "check" => Ok(Task::Check(check_config(queues, mode_of(options.run)))),
+        _ => Ok(Task::Simulate(sim_config(queues, blocks))),
+    }
 }
 
-/// What a trace shows.
-fn shown_of(alloc: Global, given: &ArgMatches<'_>, queues: usize) -> Result<Shown, clap::Error>
-    ensures { IfOk result (λ shown. IsShown queues shown) }
+/// What a trace of so many queues shows.
+fn shown_of(alloc: Global, options: Options, queues: usize) -> Result<Shown, clap::Error>
+    ensures shown { IfOk result (λ shown. IsShown queues shown) }
+    ensures exact { IfOk result (λ shown. shown ≡ shown_with options) }
+    ensures refused { OnErr result (IsPast queues options.queue) }
 {
-    let calls = calls_of(given);
-    match given.get_one::<u32>("queue") {
+    let calls = calls_of(options.busy);
+    match options.queue {
         None => Ok(Shown { calls, queue: None }),
         Some(queue) if (queue as usize) < queues => Ok(Shown {
             calls,
@@ -277,17 +314,17 @@ fn no_queue(alloc: Global) -> Result<clap::Error, AllocError> {
 }
 
 /// Which calls a trace shows.
-fn calls_of(given: &ArgMatches<'_>) -> Calls {
-    if given.get_flag("busy") {
-        Calls::Busy
-    } else {
-        Calls::All
-    }
+fn calls_of(busy: bool) -> Calls
+    ensures { result ≡ calls_with busy }
+{
+    if busy { Calls::Busy } else { Calls::All }
 }
 
 /// How much is printed of a run.
-fn detail_of(given: &ArgMatches<'_>) -> Detail {
-    if given.get_flag("summary") {
+fn detail_of(summary: bool) -> Detail
+    ensures { result ≡ detail_with summary }
+{
+    if summary {
         Detail::Counts
     } else {
         Detail::Events
@@ -295,27 +332,10 @@ fn detail_of(given: &ArgMatches<'_>) -> Detail {
 }
 
 /// What a script that is checked is for.
-fn mode_of(given: &ArgMatches<'_>) -> Mode {
-    if given.get_flag("run") {
-        Mode::Run
-    } else {
-        Mode::Sim
-    }
-}
-
-/// How many queues.
-fn queues_of(given: &ArgMatches<'_>) -> u32 {
-    number(given, "queues", 1)
-}
-
-/// How many blocks.
-fn blocks_of(given: &ArgMatches<'_>) -> u32 {
-    number(given, "blocks", 4)
-}
-
-/// How many silos.
-fn silos_of(given: &ArgMatches<'_>) -> u32 {
-    number(given, "silos", 1)
+fn mode_of(run: bool) -> Mode
+    ensures { result ≡ mode_with run }
+{
+    if run { Mode::Run } else { Mode::Sim }
 }
 
 /// The command with its four subcommands.
@@ -365,9 +385,9 @@ fn command<'a>(alloc: Global) -> Result<Command<'a>, AllocError> {
 
 /// The script.
 fn file<'a>(alloc: Global) -> Arg<'a> {
-    Arg::new(alloc, "file")
-        .value_name("FILE")
-        .help("The script; without it standard input is read")
+    Arg::new(alloc, "file").value_name("FILE").help(
+        "The file of the script; without it the script is read from standard input",
+    )
 }
 
 /// How many silos.

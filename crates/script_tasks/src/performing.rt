@@ -8,6 +8,7 @@ use crate::checking::check_source;
 use crate::fault::ProgramFault;
 use crate::options::{Request, Task, parse_options, unread_words};
 use crate::silos::{run_on_silos, trace_on_silos};
+use crate::terminal::{Terminals, perform_on_terminal};
 use std::alloc::Global;
 use std::fs::{self, Files};
 use std::io::{self, Read, Write};
@@ -19,11 +20,17 @@ use stream_script::{Counted, SimConfig, SimError, Source, sim};
 
 /// Does what the command line asks for, and gives the exit status of the program: 0 done, 1 a faulty script, 2 a faulty
 /// command line, 3 a read or write fault or a failure to allocate, 4 a run without a report. What stops the program is
-/// printed on standard error, once.
-pub fn perform<R: Runtime + AllocGlobal + Threads + Wait + Copy + Send + 'static>(
+/// printed on standard error, once. Where that is a terminal, it also says how far a script is, and after a read fault
+/// why the script can't be read.
+pub fn perform<R: Runtime + AllocGlobal + Threads + Wait + Copy + Send + Sync + 'static>(
     rt: &R,
+    terminals: Terminals,
 ) -> ExitCode {
-    end(rt, &perform_command_line(rt))
+    match words_of(rt) {
+        Ok(words) if terminals.error => perform_on_terminal(rt, words.as_slice(), terminals),
+        Ok(words) => end(rt, &perform_words(rt, words.as_slice(), io::writer(rt))),
+        Err(fault) => end(rt, &Err(fault)),
+    }
 }
 
 /// Ends the program, by how that ended which it was asked for: prints what stopped it on standard error, once, or help or
@@ -38,15 +45,13 @@ pub fn end<R: Print + Eprint>(rt: &R, ended: &Result<(), ProgramFault>) -> ExitC
     }
 }
 
-/// Does what the command line asks for, and prints it on standard output.
-fn perform_command_line<R: Runtime + AllocGlobal + Threads + Wait + Copy + Send + 'static>(
-    rt: &R,
-) -> Result<(), ProgramFault> {
+/// The words of the command line.
+fn words_of<R: Runtime + AllocGlobal>(rt: &R) -> Result<Vec<String>, ProgramFault> {
     let alloc = rt.alloc();
     let words = std::env::args(rt)
         .map_err(|error| unread_words(alloc, &error))?
         .collect::<Vec<String>>(alloc)?;
-    perform_words(rt, words.as_slice(), io::writer(rt))
+    Ok(words)
 }
 
 /// Does what these words ask for, of which the first is the name of the program. The script is read from the file that
@@ -70,12 +75,17 @@ pub fn perform_words<
 /// Opens the file of a script.
 ///
 /// # Errors
-/// `ReadFault` where the file can't be opened, and `Memory` where the call failed to allocate.
+/// They are those of [`unread`].
 fn open<R: Files>(rt: &R, path: &str) -> Result<R::File, SimError> {
-    fs::open(rt, path).map_err(|error| match error.kind() {
+    fs::open(rt, path).map_err(|error| unread(&error))
+}
+
+/// The fault of a script that isn't read: `Memory` where the call failed to allocate, and else `ReadFault`.
+pub(crate) fn unread(error: &io::Error) -> SimError {
+    match error.kind() {
         io::ErrorKind::OutOfMemory => SimError::Memory,
         _ => SimError::ReadFault,
-    })
+    }
 }
 
 /// Does a task on a script. The text goes out through a buffer, which is flushed at the end.

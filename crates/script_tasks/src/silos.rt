@@ -1,17 +1,17 @@
 //! A script that is run on silos.
-ghost use Rattle.std.specs.Prelude.{◌-◌, ◌^◌, ◌<◌, IfOk, IfSome};
+ghost use Rattle.std.specs.Prelude.{◌≡◌, ◌-◌, ◌^◌, ◌<◌, false, suc, IfOk, IfSome, if◌then◌else◌};
 ghost use Rattle.turnstile.specs.Asked.{asked_entries};
 ghost use Rattle.script_runs.specs.Traces.{trace_text};
 ghost use Rattle.silo_threads.specs.Clusters.{IsConfig};
 ghost use Rattle.script_runs.specs.Runs.{AreLegal, LeavesLegalTraces, text_of};
-ghost use Rattle.script_tasks.specs.Printing.{IsLegalAt, PrintsRun, PrintsTrace, RunsSource, WritesEnd, WritesRun, WritesText, WritesTraces, printed_text, seen, text_left, traces_text};
+ghost use Rattle.script_tasks.specs.Printing.{IsLegalAt, PrintsRun, PrintsTrace, RunsSource, WritesEnd, WritesRun, WritesText, WritesTraces, is_unread, printed_text, seen, text_left, traces_text};
 
 use crate::fault::ProgramFault;
 use crate::shown::Shown;
 use crate::summary::{Detail, printed};
 use activation_directory::{DirectoryOp, DirectoryReply};
 use script_runs::{Calls, Ran, RunEnd, Script, queue_trace, read_lines, run, run_text};
-use shared_partition::{Counting, QueueHistory};
+use shared_partition::{Counting, Gate, QueueHistory};
 use silo_threads::{Config, Traces};
 use std::alloc::Global;
 use std::io::Write;
@@ -22,8 +22,8 @@ use stream_model::Op;
 use stream_script::{SimError, Source, read_script};
 use turnstile::{AskedHistory, ProofHistory};
 
-/// Runs a script on silos, and writes what the run prints, whole or without the lines of events. All of the script is read before a thread is started, and
-/// no thread is left when the text is written.
+/// Runs a script on silos, and writes what the run prints, whole or without the lines of events. All of the script is read
+/// before a thread is started, and no thread is left when the text is written.
 ///
 /// # Errors
 /// The first of these: a read failed, the script is too long, a line is faulty, the run failed to allocate, a write
@@ -39,10 +39,37 @@ pub fn run_on_silos<T: Threads + Wait + Copy + Send + 'static, R: Source, W: Wri
     requires config { IsConfig config.now }
     requires count { R.failures source.old < 2 ^ 64 - 1 }
     // What was written, where the source's bytes are known.
-    ensures { IfSome (R.remaining source.old) (λ input.
+    ensures written { IfSome (R.remaining source.old) (λ input.
         PrintsRun config.now detail input (W.contents sink.old) (W.contents sink.new) result) }
+    // A read fault comes only where the source counted a failed call.
+    ensures counted { R.failures source.new ≡ (if is_unread result then suc (R.failures source.old) else R.failures source.old) }
 {
-    let ran = run_source::<ProofHistory<Op, Answer>, T, R>(rt, alloc, config, source)?;
+    let gate = Arc::new(alloc, Counting)?;
+    run_with_gate(rt, alloc, config, gate, detail, source, sink)
+}
+
+/// Runs a script as [`run_on_silos`] does, with a gate that handles the events.
+pub(crate) fn run_with_gate<
+    G: Gate + 'static,
+    T: Threads + Wait + Copy + Send + 'static,
+    R: Source,
+    W: Write,
+>(
+    rt: &T,
+    alloc: Global,
+    config: &Config,
+    gate: Arc<G, Global>,
+    detail: Detail,
+    source: &mut R,
+    sink: &mut W,
+) -> Result<(), ProgramFault>
+    requires config { IsConfig config.now }
+    requires count { R.failures source.old < 2 ^ 64 - 1 }
+    ensures written { IfSome (R.remaining source.old) (λ input.
+        PrintsRun config.now detail input (W.contents sink.old) (W.contents sink.new) result) }
+    ensures counted { R.failures source.new ≡ (if is_unread result then suc (R.failures source.old) else R.failures source.old) }
+{
+    let ran = run_source::<G, ProofHistory<Op, Answer>, T, R>(rt, alloc, config, gate, source)?;
     write_run(alloc, detail, &ran, sink)
 }
 
@@ -62,33 +89,43 @@ pub fn trace_on_silos<T: Threads + Wait + Copy + Send + 'static, R: Source, W: W
     requires config { IsConfig config.now }
     requires count { R.failures source.old < 2 ^ 64 - 1 }
     // What was written, where the source's bytes are known.
-    ensures { IfSome (R.remaining source.old) (λ input.
+    ensures written { IfSome (R.remaining source.old) (λ input.
         PrintsTrace config.now shown input (W.contents sink.old) (W.contents sink.new) result) }
+    // A read fault comes only where the source counted a failed call.
+    ensures counted { R.failures source.new ≡ (if is_unread result then suc (R.failures source.old) else R.failures source.old) }
 {
-    let ran = run_source::<AskedHistory<Op, Answer>, T, R>(rt, alloc, config, source)?;
+    let gate = Arc::new(alloc, Counting)?;
+    let ran = run_source::<Counting, AskedHistory<Op, Answer>, T, R>(
+        rt, alloc, config, gate, source,
+    )?;
     write_end(alloc, config, shown, &ran.end, sink)
 }
 
-/// Reads a script and runs it on silos.
+/// Reads a script and runs it on silos, with a gate that handles the events.
 fn run_source<
+    G: Gate + 'static,
     H: QueueHistory + Send + 'static,
     T: Threads + Wait + Copy + Send + 'static,
     R: Source,
->(rt: &T, alloc: Global, config: &Config, source: &mut R) -> Result<Ran<H>, ProgramFault>
+>(
+    rt: &T,
+    alloc: Global,
+    config: &Config,
+    gate: Arc<G, Global>,
+    source: &mut R,
+) -> Result<Ran<H>, ProgramFault>
     requires config { IsConfig config.now }
     requires count { R.failures source.old < 2 ^ 64 - 1 }
     ensures source { IfSome (R.remaining source.old) (λ input. RunsSource H.entries config.now input result) }
     ensures legal { IfOk result (λ ran. LeavesLegalTraces H.entries config.now ran.end) }
+    ensures counted { R.failures source.new ≡ (if is_unread result then suc (R.failures source.old) else R.failures source.old) }
 {
     let script = read_script(alloc, source)?;
     let lines = match read_lines(alloc, &script, config.queues)? {
         Script::Lines(lines) => lines,
         Script::Fault(fault) => return Err(ProgramFault::Script(SimError::ScriptFault(fault))),
     };
-    let gate = Arc::new(alloc, Counting)?;
-    Ok(run::<Counting, H, ProofHistory<DirectoryOp, DirectoryReply>, T>(
-        rt, alloc, config, gate, lines,
-    )?)
+    Ok(run::<G, H, ProofHistory<DirectoryOp, DirectoryReply>, T>(rt, alloc, config, gate, lines)?)
 }
 
 /// Writes what a run prints.
@@ -98,7 +135,8 @@ fn write_run<H, W: Write>(
     ran: &Ran<H>,
     sink: &mut W,
 ) -> Result<(), ProgramFault>
-    ensures { WritesRun (W.contents sink.old) (W.contents sink.new) (printed_text detail (text_of ran.now)) result ran.now.end }
+    ensures written { WritesRun (W.contents sink.old) (W.contents sink.new) (printed_text detail (text_of ran.now)) result ran.now.end }
+    ensures read { is_unread result ≡ false }
 {
     write_text(&printed(alloc, detail, run_text(alloc, ran)?)?, sink)?;
     match ran.end {
@@ -117,7 +155,8 @@ fn write_end<W: Write>(
 ) -> Result<(), ProgramFault>
     requires config { IsConfig config.now }
     requires legal { LeavesLegalTraces asked_entries config.now end.now }
-    ensures { WritesEnd shown (W.contents sink.old) (W.contents sink.new) end.now result }
+    ensures written { WritesEnd shown (W.contents sink.old) (W.contents sink.new) end.now result }
+    ensures read { is_unread result ≡ false }
 {
     match end {
         RunEnd::Report { text: _, traces } => Ok(write_traces(alloc, config, shown, traces, sink)?),

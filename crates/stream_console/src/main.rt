@@ -2,9 +2,14 @@
 //! threads, and prints what comes of it.
 #![tactic(auto)]
 
-use script_tasks::perform;
+use script_tasks::{Terminals, perform};
+use std::io::IsTerminal;
 use std::process::ExitCode;
 
 fn main(rt: HostRuntime) -> ExitCode {
-    perform(&rt)
+    let terminals = Terminals {
+        output: rt.stdout().is_terminal(),
+        error: rt.stderr().is_terminal(),
+    };
+    perform(&rt, terminals)
 }

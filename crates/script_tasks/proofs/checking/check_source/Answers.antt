@@ -7,8 +7,8 @@ use Rattle.script_tasks.specs.Checking.{EndsCheck}
 use Rattle.script_tasks.proofs.Checks.{check-written}
 use Rattle.script_tasks.proofs.checking.check_source.Goals as goal
 
-pub returns : goal.returns
-returns g c =
+pub returns-clause-written : goal.returns-clause-written
+returns-clause-written g c =
     let findings = c.in_ok-findings.findings in
     let old = g.W.Write.contents c.args.sink.now in
     let new = g.W.Write.contents c.write_text.new.sink in
