@@ -1,8 +1,9 @@
-//! Seven services over streams, one after the other: orders with a desk for each customer, the readings of 600
+//! Eight services over streams, one after the other: orders with a desk for each customer, the readings of 600
 //! devices, a shop with two tills, one that closes while a till is open, one with an archive that is stopped, one with a
-//! queue that is full, and one that may hand out no turn.
+//! queue that is full, one whose orders lead to bills, and one that may hand out no turn.
 #![tactic(auto)]
 
+mod bills;
 mod devices;
 mod full;
 mod orders;
@@ -27,6 +28,8 @@ fn main(rt: HostRuntime) -> Result<()> {
     pressed::run(rt)?;
     println!(rt; "\n== Full")?;
     full::run(rt)?;
+    println!(rt; "\n== Bills")?;
+    bills::run(rt)?;
     println!(rt; "\n== Turns")?;
     turns::run(rt)
 }
