@@ -19,7 +19,7 @@ fn indented(alloc: Global, text: &str) -> Result<Vec<u8>, AllocError> {
 /// Examples, the words that stand behind their scripts, and what is done with these on how many silos.
 static EXAMPLES: [(&str, &str, Doing, u32); 2] = [
     (SIM_EXAMPLE, "Each command", Doing::Simulating, 1),
-    (RUN_EXAMPLE, "At the end", Doing::Running, 2),
+    (RUN_EXAMPLE, "The run then", Doing::Running, 2),
 ];
 
 #[test]
