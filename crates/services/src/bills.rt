@@ -1,8 +1,8 @@
 //! A shop whose orders lead to bills: the handler of an order publishes its bill.
 use anyhow::Result;
 use std::alloc::Global;
-use std::sync::Arc;
 use std::sync::atomic::{AtomicU64, Ordering};
+use std::sync::{Arc, Wait};
 use streams::{
     Closed, Config, Decode, Encode, Event, Gate, GrainId, Host, Message, Name, Outbox, Partition,
     Payload, Service, StreamId, SubName, SubSummary,
@@ -81,7 +81,7 @@ fn print_row(rt: &impl Print, sub: &SubSummary, events: &[Event]) -> Result<()> 
 }
 
 // The handler of orders and of bills. An order's bill goes into the outbox.
-struct Billing<R: Host> {
+struct Billing<R: Wait + Copy> {
     outbox: Arc<Outbox<R>, Global>,
     orders: Name,
     bills: Name,
@@ -89,7 +89,7 @@ struct Billing<R: Host> {
     missing: AtomicU64,
 }
 
-impl<R: Host> Drop for Billing<R> {
+impl<R: Wait + Copy> Drop for Billing<R> {
     fn drop(self) {
         let Self {
             outbox: _,
@@ -100,7 +100,7 @@ impl<R: Host> Drop for Billing<R> {
     }
 }
 
-impl<R: Host> Billing<R> {
+impl<R: Wait + Copy> Billing<R> {
     fn new(outbox: Arc<Outbox<R>, Global>) -> Result<Billing<R>> {
         Ok(Billing {
             outbox,
@@ -130,7 +130,7 @@ impl<R: Host> Billing<R> {
     }
 }
 
-impl<R: Host> Gate for Billing<R> {
+impl<R: Wait + Copy + Send + Sync + 'static> Gate for Billing<R> {
     /// The note counts what the subscription has handled.
     fn handle(&self, _grain: &GrainId, _sub: &SubName, event: &Event, note: u64) -> u64 {
         if event.stream.namespace == self.orders && !self.put_bill(event) {

@@ -6,6 +6,7 @@ use crate::service::Host;
 use crossbeam_queue::ArrayQueue;
 use std::alloc::AllocError;
 use std::marker::Model;
+use std::sync::Wait;
 use stream_ident::{Payload, StreamId};
 use thiserror::Error;
 
@@ -47,18 +48,18 @@ pub struct Unpublished {
 /// messages put in again. A consumer knows a repeat where the payload names what it came from.
 ///
 /// A contract sees it as how many messages it has room for. None says which are in it.
-pub struct Outbox<R: Host> {
+pub struct Outbox<R: Wait + Copy> {
     rt: R,
     messages: ArrayQueue<Message>,
 }
 
-impl<R: Host> Drop for Outbox<R> {
+impl<R: Wait + Copy> Drop for Outbox<R> {
     fn drop(self) {
         let Self { rt: _, messages: _ } = self;
     }
 }
 
-impl<R: Host> Model for Outbox<R> {
+impl<R: Wait + Copy> Model for Outbox<R> {
     ghost use Rattle.std.specs.Prelude.{ℕ};
     ghost use Rattle.crossbeam_queue.specs.Passes.{queue_capacity};
 
@@ -79,7 +80,9 @@ impl<R: Host> Outbox<R> {
         let messages = ArrayQueue::new(rt.alloc(), room)?;
         Ok(Outbox { rt, messages })
     }
+}
 
+impl<R: Wait + Copy> Outbox<R> {
     /// Puts a message in. It takes no memory, and waits for no queue.
     ///
     /// # Errors
