@@ -172,11 +172,11 @@ pub enum SubscribeError {
         high: Token,
     },
     /// The subscription was to start at an event of another stream. Nothing was asked.
-    #[error("the start is an event of another stream")]
+    #[error("the start is an event of another stream: start by a token of this one")]
     OtherStream,
     /// The start token is above the one that the next batch gets, and wasn't given as `StartFrom::Later`. Nothing was
     /// asked. Where others publish, the next batch may get a greater token by now.
-    #[error("the start is above {}.{}, the token of the next batch", next.seq, next.idx)]
+    #[error("the start is above {}.{}, the token of the next batch: StartFrom::Later waits for it", next.seq, next.idx)]
     Ahead {
         /// The token that the next batch got when the queue was looked at.
         next: Token,
@@ -285,7 +285,7 @@ pub enum SiloError {
 #[derive(Clone, Copy, Debug, PartialEq, Eq, Error)]
 pub enum CloseError {
     /// Something is left to do at a queue. The partitions are handed back.
-    #[error("queue {queue} isn't quiet: {why:?}")]
+    #[error("queue {queue} isn't quiet: {why:?}: settle before you close")]
     NotQuiet {
         /// The first such queue.
         queue: usize,
@@ -300,7 +300,7 @@ pub enum CloseError {
     Limit,
     /// Passes of a queue are missing, as where a [`Producer`](crate::Producer) was dropped: no other run is known to meet
     /// this. The partitions are gone.
-    #[error("at queue {queue} passes are missing ({missing}), and the partitions are gone")]
+    #[error("{missing} passes of queue {queue} are missing, as where a producer was dropped, and the partitions are gone")]
     NotAll {
         /// The first such queue.
         queue: usize,
@@ -308,7 +308,7 @@ pub enum CloseError {
         missing: u64,
     },
     /// The turnstile of a queue is still in use, as where a [`Producer`](crate::Producer) is out. The partitions are gone.
-    #[error("a queue is still in use, and the partitions are gone")]
+    #[error("a queue is still in use, as where a producer isn't taken back, and the partitions are gone")]
     InUse,
     /// The call failed to allocate, or a loop failed to before. The partitions are gone.
     #[error("no memory, and the partitions are gone")]
