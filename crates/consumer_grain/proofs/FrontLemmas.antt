@@ -1,11 +1,9 @@
 -- The front of a mailbox that a turn takes.
-use Rattle.std.proofs.Common.{◌≡◌, ℕ, zero, suc, ◌+◌, ◌-◌, ◌<◌, ◌≤◌, true, false, ◌&&◌, List, [], ◌∷◌, ◌++◌, length, get_or, drop, take, refl, sym, ap, ◌∙◌, nat_le, ◌==◌, arith, append-nil, append_assoc}
-use Rattle.std.proofs.lemmas.Bool.{and_from, and_parts, cond_both, eq-eqb, le-leb}
-use Rattle.std.proofs.lemmas.List.{drop_more, length_push, drop_all, take_rest}
+use Rattle.std.proofs.Common.{◌≡◌, ℕ, zero, suc, true, ◌&&◌, List, [], ◌∷◌, refl, nat_le, ◌==◌}
+use Rattle.std.proofs.lemmas.Bool.{and_from, and_parts, cond_both}
 use Rattle.consumer_grain.specs.declared.mailbox.Delivery.{Delivery}
 use Rattle.consumer_grain.specs.Activations.{front_of}
 use Rattle.consumer_grain.specs.Subscriptions.{rises_from}
-use Rattle.stream_ident.proofs.WordLemmas.{drop-read}
 
 -- what a read gives where there is no delivery
 abbrev pub no_delivery : Delivery

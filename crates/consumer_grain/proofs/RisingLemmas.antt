@@ -1,7 +1,7 @@
 -- Positions that rise.
-use Rattle.std.proofs.Common.{◌≡◌, ℕ, zero, suc, ◌-◌, ◌<◌, ◌≤◌, true, List, [], ◌∷◌, ◌++◌, length, get_or, refl, nat_le, arith}
+use Rattle.std.proofs.Common.{◌≡◌, ℕ, suc, ◌<◌, ◌≤◌, true, List, [], ◌∷◌, ◌++◌, length, refl, nat_le, arith}
 use Rattle.std.proofs.lemmas.Bool.{and_from, and_parts, le-leb, leb-true}
-use Rattle.stream_ident.specs.Words.{past, past_from}
+use Rattle.stream_ident.specs.Words.{past_from}
 use Rattle.consumer_grain.specs.Subscriptions.{rises_from}
 
 -- where some are there, it doesn't matter what one past is without them

@@ -102,8 +102,10 @@ fn drop_front(deliveries: &mut Vec<Delivery>, count: usize)
     ensures items { deliveries.new.items ≡ drop count deliveries.old.items }
     ensures capacity { vec_capacity deliveries.new ≡ vec_capacity deliveries.old }
 {
-    let count = count.min(deliveries.len());
-    let _ = deliveries.drain(..count);
+    let len = deliveries.len();
+    let count = count.min(len);
+    deliveries.copy_within(count.., 0);
+    deliveries.truncate(len - count);
 }
 
 /// Keeps the deliveries of other subscriptions, in their order.

@@ -11,9 +11,11 @@ ghost use Rattle.stream_ident.specs.declared.event.Event.{Event};
 ghost use Rattle.stream_ident.specs.declared.rule.Rule.{Rule};
 ghost use Rattle.stream_ident.specs.Implying.{added};
 ghost use Rattle.pubsub_registry.specs.Implying.{imply, made, makes_any, names_with, rule_count};
+ghost use Rattle.pubsub_registry.specs.Registry.{registered};
 
 use crate::indexed::{Rules, Subscriptions};
-use crate::registry::{Registry, implied_grain, opened};
+use crate::registration::Registration;
+use crate::registry::{Registry, implied_grain};
 use crate::told::Implied;
 use partition_queue::Span;
 use queue_mapper::HeaderRef;
@@ -253,22 +255,35 @@ fn push_by_rule(
     if !holds_for(rule, event) || subscriptions.find(&sub).is_some() {
         return Ok(());
     }
-    let stream = event.stream();
-    let grain = implied_grain(rule.kind, stream);
-    let start = Token {
-        seq: rule.from,
-        idx: 0,
-    };
-    subscriptions.push(alloc, sub, opened(*stream, grain, start))
+    subscriptions.push(alloc, &sub, &implied_registration(rule, event))
 }
 
 /// The name of the subscription that a rule makes of an event.
+#[inline(never)]
 fn implied_name(rule: &Rule, event: &HeaderRef) -> SubName
     ensures { result ≡ SubName.Implicit rule.now.kind event.now.stream }
 {
     SubName::Implicit {
         kind: rule.kind,
         stream: *event.stream(),
+    }
+}
+
+/// The registration of the subscription that a rule makes of an event.
+#[inline(never)]
+fn implied_registration(rule: &Rule, event: &HeaderRef) -> Registration
+    ensures { result ≡ registered event.now.stream (record { kind = rule.now.kind; key = event.now.stream.key }) (batch_token rule.now.from) }
+{
+    let stream = event.stream();
+    let start = Token {
+        seq: rule.from,
+        idx: 0,
+    };
+    Registration {
+        stream: *stream,
+        grain: implied_grain(rule.kind, stream),
+        start,
+        is_open: true,
     }
 }
 

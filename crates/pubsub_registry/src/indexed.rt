@@ -9,6 +9,7 @@ ghost use Rattle.stream_ident.specs.Words.{changed_value, first_at, value_at};
 ghost use Rattle.stream_ident.specs.declared.ident.StreamId.{StreamId};
 ghost use Rattle.stream_ident.specs.declared.limits.TheConstants.{MOST_SUBS};
 ghost use Rattle.stream_ident.specs.declared.rule.Rule.{Rule};
+ghost use Rattle.indexmap.specs.IndexMap.{spare};
 ghost use Rattle.pubsub_registry.specs.Rows.{row_of};
 ghost use Rattle.pubsub_registry.specs.Ascending.{IsAscending, IsPlaceOf};
 
@@ -113,20 +114,20 @@ impl Subscriptions {
     pub(crate) fn push(
         &mut self,
         alloc: Global,
-        sub: SubName,
-        registration: Registration,
+        sub: &SubName,
+        registration: &Registration,
     ) -> Result<(), AllocError>
         requires few { length self.old ≤ MOST_SUBS }
-        requires new { value_at same_sub sub self.old ≡ None }
-        ensures ok { OnOk result (self.new ≡ self.old ++ (sub, registration) ∷ []) }
+        requires new { value_at same_sub sub.now self.old ≡ None }
+        ensures ok { OnOk result (self.new ≡ self.old ++ (sub.now, registration.now) ∷ []) }
         ensures err { OnErr result (self.new ≡ self.old) }
     {
         self.names.reserve(1)?;
         let number = self.names.len() as u32;
         let numbers = row(&self.by_stream, &registration.stream);
-        let at = place_of(&SubNames::new(&self.names, numbers), &sub);
+        let at = place_of(&SubNames::new(&self.names, numbers), sub);
         put(&mut self.by_stream, alloc, registration.stream, at, number)?;
-        self.names.insert(sub, registration).unwrap();
+        push_name(&mut self.names, sub, registration);
         Ok(())
     }
 
@@ -160,6 +161,22 @@ impl Subscriptions {
         forget(&mut self.by_stream, &registration.stream, len - 1);
         self.names.truncate(len - 1);
     }
+}
+
+/// Puts a new name behind the others, for which there is room.
+///
+/// It isn't inlined: a name with its registration takes some 500 bytes, and is copied on its way.
+#[inline(never)]
+fn push_name(
+    names: &mut IndexMap<SubName, Registration>,
+    sub: &SubName,
+    registration: &Registration,
+)
+    requires room { 0 < spare names.old }
+    requires new { value_at same_sub sub.now names.old.entries ≡ None }
+    ensures { names.new.entries ≡ names.old.entries ++ (sub.now, registration.now) ∷ [] }
+{
+    names.insert(*sub, *registration).unwrap();
 }
 
 /// Takes a number out of the row of its stream.

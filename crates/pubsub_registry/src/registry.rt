@@ -5,7 +5,7 @@ ghost use Rattle.stream_ident.specs.SubName.{same_sub};
 ghost use Rattle.stream_ident.specs.Words.{first_at, Performs};
 ghost use Rattle.stream_ident.specs.declared.ident.SubName.TheVariants.{Explicit, Implicit};
 ghost use Rattle.pubsub_registry.specs.Index.{AreNumbersOf, AreUnique, IsOn};
-ghost use Rattle.pubsub_registry.specs.Registry.{add, add_implied, add_rule, close, empty, is_full, next_number, registered, registration_of, rules_on, truncated, AreSubsOf};
+ghost use Rattle.pubsub_registry.specs.Registry.{add, add_implied, add_rule, close, empty, is_full, next_number, registration_of, rules_on, truncated, AreSubsOf};
 
 use crate::indexed::{Rules, Subscriptions};
 use crate::registration::Registration;
@@ -92,9 +92,14 @@ impl Registry {
         let Some(number) = self.next_number() else {
             return Ok(Added::TooMany);
         };
-        let registration = opened(stream, grain, start);
+        let registration = Registration {
+            stream,
+            grain,
+            start,
+            is_open: true,
+        };
         let sub = SubName::Explicit(number);
-        self.subscriptions.push(alloc, sub, registration)?;
+        self.subscriptions.push(alloc, &sub, &registration)?;
         self.explicit = number;
         Ok(Added::Added { number })
     }
@@ -121,9 +126,14 @@ impl Registry {
         if self.is_full() {
             return Ok(Implied::TooMany);
         }
-        let registration = opened(stream, implied_grain(kind, &stream), start);
+        let registration = Registration {
+            stream,
+            grain: implied_grain(kind, &stream),
+            start,
+            is_open: true,
+        };
         let sub = SubName::Implicit { kind, stream };
-        self.subscriptions.push(alloc, sub, registration)?;
+        self.subscriptions.push(alloc, &sub, &registration)?;
         Ok(Implied::Implied)
     }
 
@@ -281,17 +291,5 @@ pub(crate) fn implied_grain(kind: Name, stream: &StreamId) -> GrainId
     GrainId {
         kind,
         key: stream.key,
-    }
-}
-
-/// An open subscription.
-pub(crate) fn opened(stream: StreamId, grain: GrainId, start: Token) -> Registration
-    ensures { result ≡ registered stream grain start }
-{
-    Registration {
-        stream,
-        grain,
-        start,
-        is_open: true,
     }
 }

@@ -15,7 +15,6 @@ pub mod DrainRounds
 pub mod DrainSteps
 pub mod DueNames
 pub mod FigureOps
-pub mod FillOps
 pub mod FinishingLemmas
 pub mod GrainOps
 pub mod HandOps

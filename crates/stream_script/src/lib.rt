@@ -12,7 +12,7 @@ pub use parser::{
     parse_line, read_publish,
 };
 pub use printer::{
-    appended_line, drain_line, drain_text, outcome_line, parts, reply_line, reply_text, report_text,
+    appended_line, drain_line, drain_text, outcome_line, parts, reply_text, report_text,
 };
 pub use simulate::{SimConfig, SimError, read_script, sim};
 pub use source_sink::{Counted, Failed, Sink, Source};

@@ -5,4 +5,4 @@ mod report;
 mod text;
 
 pub use report::report_text;
-pub use text::{appended_line, drain_line, drain_text, outcome_line, reply_line, reply_text};
+pub use text::{appended_line, drain_line, drain_text, outcome_line, reply_text};

@@ -1,4 +1,7 @@
 //! The simulator: a script done line by line, on one thread, with a partition for each queue.
+//!
+//! What has a partition, a command or an event as a value isn't inlined, so that its room is no part of the frames below
+//! which lines are done.
 ghost use Rattle.std.specs.Prelude.{◌≡◌, ◌+◌, ◌^◌, ◌<◌, ◌≤◌, ◌-◌, [], ◌++◌, suc, length, map, vec_len, false, Ok, Err, IfOk, IfSome, OnOk, replicate, slice_index_or, if◌then◌else◌};
 ghost use Rattle.std.specs.Io.KnownBytes.{Appends, Consumes, IsAtEnd, Keeps};
 ghost use Rattle.std.specs.List.{AllByRecursion};
@@ -225,6 +228,7 @@ struct Simulator {
 
 impl Simulator {
     /// New partitions.
+    #[inline(never)]
     pub fn new(alloc: Global, config: SimConfig) -> Result<Simulator, AllocError>
         requires { IsSimConfig config }
         ensures config { IfOk result (λ s. s.config ≡ config) }
@@ -262,6 +266,7 @@ impl Simulator {
     }
 
     /// Does what a line is read as and leaves its text, or gives its fault.
+    #[inline(never)]
     fn run_command(
         &mut self,
         alloc: Global,
@@ -300,6 +305,7 @@ impl Simulator {
     }
 
     /// Does an operation on each queue, in order, and leaves the lines of their replies.
+    #[inline(never)]
     fn step_each(
         &mut self,
         alloc: Global,
@@ -357,6 +363,7 @@ impl Simulator {
     }
 
     /// Drains each queue, in order, and leaves the lines of how that ended.
+    #[inline(never)]
     fn drain_each(&mut self, alloc: Global, text: &mut Vec<u8>) -> Result<(), AllocError>
         requires { text.old.items ≡ [] }
         ensures config { self.new.config ≡ self.old.config }

@@ -1,5 +1,5 @@
 -- A table with more subscriptions, which have handled nothing.
-use Rattle.std.proofs.Common.{◌≡◌, ◌∙◌, ℕ, suc, ◌+◌, ◌-◌, ◌^◌, ◌<◌, ◌≤◌, ◌⊎◌, inl, inr, Bool, true, false, List, [], ◌∷◌, ◌++◌, length, get_or, map, take, drop, None, Some, if◌then◌else◌, refl, sym, ap, subst, arith, All, length-append, true≢false}
+use Rattle.std.proofs.Common.{◌≡◌, ◌∙◌, ℕ, ◌+◌, ◌-◌, ◌^◌, ◌<◌, ◌≤◌, ◌⊎◌, inl, inr, Bool, true, false, List, [], ◌∷◌, ◌++◌, length, get_or, map, take, drop, None, Some, if◌then◌else◌, refl, sym, ap, subst, arith, All, length-append}
 use Rattle.std.specs.Prelude.{fold, is_some, nat_lt, ◌&&◌, not}
 use Rattle.std.specs.List.{flat_map, insert}
 use Rattle.std.proofs.lemmas.Bool.{cases_lt}
@@ -23,7 +23,6 @@ use Rattle.queue_mapper.specs.Place.{tag_of}
 use Rattle.consumer_grain.specs.Subscriptions.{PlainState, new_state}
 use Rattle.pubsub_registry.specs.Registry.{PlainRegistry, add, add_with, next_number, registered, truncated}
 use Rattle.pubsub_registry.specs.declared.told.Added.{Added}
-use Rattle.pubsub_registry.specs.declared.told.Added.TheVariants as add_told
 use Rattle.pubsub_registry.specs.declared.told.Implied.{Implied}
 use Rattle.pubsub_registry.specs.declared.told.Implied.TheVariants as implied_told
 use Rattle.ranked_index.specs.Leaves.{open_leaf, pushed, PlainResumes}

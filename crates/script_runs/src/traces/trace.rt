@@ -1,5 +1,7 @@
 //! The text of a history.
-ghost use Rattle.std.specs.Prelude.{◌≡◌, ◌++◌, IfOk, OnOk};
+ghost use Rattle.std.specs.Prelude.{◌≡◌, ◌++◌, List, IfOk, OnOk};
+ghost use Rattle.stream_ident.specs.declared.event.Event.{Event};
+ghost use Rattle.step_core.specs.Replied.{reply_with, IsOfLog};
 ghost use Rattle.turnstile.specs.Asked.{asked_entries};
 ghost use Rattle.turnstile.specs.History.{IsLegal};
 ghost use Rattle.shared_partition.specs.Partitions.{after, replied};
@@ -8,9 +10,9 @@ ghost use Rattle.script_runs.specs.Traces.{call_text, found_nothing, heading, sh
 use crate::traces::write::write_op;
 use itoa::Buffer;
 use std::alloc::{AllocError, Global};
-use step_core::{Answer, Partition};
+use step_core::{Answer, Outcome, Partition};
 use stream_model::{Op, Reply};
-use stream_script::reply_line;
+use stream_script::outcome_line;
 use turnstile::AskedHistory;
 
 /// Which calls of a history its trace shows.
@@ -24,26 +26,26 @@ pub enum Calls {
 }
 
 impl Calls {
-    /// Whether a call is shown that got this reply.
-    fn show(self, op: &Op, reply: &Reply) -> bool
-        ensures { result ≡ shows self op.now reply.now }
+    /// Whether a call is shown that came to this.
+    fn show(self, op: &Op, outcome: &Outcome) -> bool
+        ensures { (log : List Event) → result ≡ shows self op.now (reply_with log outcome.now) }
     {
         match self {
             Calls::All => true,
-            Calls::Busy => !found_nothing(op, reply),
+            Calls::Busy => !found_nothing(op, outcome),
         }
     }
 }
 
 /// Whether a call looked for something to do, and there was nothing, or asked whether all was quiet, and it wasn't yet.
-fn found_nothing(op: &Op, reply: &Reply) -> bool
-    ensures { result ≡ found_nothing op.now reply.now }
+fn found_nothing(op: &Op, outcome: &Outcome) -> bool
+    ensures { (log : List Event) → result ≡ found_nothing op.now (reply_with log outcome.now) }
 {
     match op {
-        Op::Pull { .. } => matches!(reply, Reply::Dry),
-        Op::Ready { .. } => matches!(reply, Reply::NoneReady),
-        Op::Due { .. } => matches!(reply, Reply::NoneDue),
-        Op::Quiet => matches!(reply, Reply::NotQuiet(_)),
+        Op::Pull { .. } => matches!(outcome, Reply::Dry),
+        Op::Ready { .. } => matches!(outcome, Reply::NoneReady),
+        Op::Due { .. } => matches!(outcome, Reply::NoneDue),
+        Op::Quiet => matches!(outcome, Reply::NotQuiet(_)),
         _ => false,
     }
 }
@@ -70,8 +72,8 @@ pub fn queue_trace(
     let mut text = Vec::new(alloc);
     push_heading(queue, &mut text)?;
     for asked in history.as_slice() {
-        let reply = partition.apply(alloc, &asked.op)?;
-        push_shown(calls, queue, &asked.op, &reply, &mut text)?;
+        let outcome = partition.advance(alloc, &asked.op)?;
+        push_shown(calls, queue, &asked.op, &outcome, partition, &mut text)?;
     }
     Ok(text)
 }
@@ -91,23 +93,32 @@ fn push_shown(
     calls: Calls,
     queue: usize,
     op: &Op,
-    reply: &Reply,
+    outcome: &Outcome,
+    partition: &Partition,
     text: &mut Vec<u8>,
 ) -> Result<(), AllocError>
-    ensures { OnOk result (text.new.items ≡ text.old.items ++ shown_text calls queue op.now reply.now) }
+    requires { IsOfLog partition.now.log outcome.now }
+    ensures { OnOk result (text.new.items ≡ text.old.items ++ shown_text calls queue op.now (reply_with partition.now.log outcome.now)) }
 {
-    if calls.show(op, reply) {
-        push_call(queue, op, reply, text)
+    if calls.show(op, outcome) {
+        push_call(queue, op, outcome, partition, text)
     } else {
         Ok(())
     }
 }
 
 // The line of a call, and its reply in a comment.
-fn push_call(queue: usize, op: &Op, reply: &Reply, text: &mut Vec<u8>) -> Result<(), AllocError>
-    ensures { OnOk result (text.new.items ≡ text.old.items ++ call_text queue op.now reply.now) }
+fn push_call(
+    queue: usize,
+    op: &Op,
+    outcome: &Outcome,
+    partition: &Partition,
+    text: &mut Vec<u8>,
+) -> Result<(), AllocError>
+    requires { IsOfLog partition.now.log outcome.now }
+    ensures { OnOk result (text.new.items ≡ text.old.items ++ call_text queue op.now (reply_with partition.now.log outcome.now)) }
 {
     write_op(queue, op, text)?;
     text.extend_from_slice(b"\n# ")?;
-    reply_line(queue, reply, text)
+    outcome_line(queue, outcome, partition, text)
 }

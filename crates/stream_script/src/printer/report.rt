@@ -19,6 +19,7 @@ use stream_ident::{Event, SubName};
 ///
 /// # Errors
 /// The call failed to allocate, and nothing of the text stays.
+#[inline(never)]
 pub fn report_text(
     alloc: Global,
     partitions: &[Partition],
@@ -132,6 +133,7 @@ fn push_binding(queue: usize, sub: &SubSummary, out: &mut Vec<u8>) -> Result<(),
 }
 
 /// Appends the lines of the events at these positions, of which one at a time is read from the log.
+#[inline(never)]
 fn push_handled_lines(
     positions: &[usize],
     partition: &Partition,

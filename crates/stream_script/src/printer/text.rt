@@ -36,18 +36,6 @@ pub fn reply_text(reply: &Reply, out: &mut Vec<u8>) -> Result<(), AllocError>
     written
 }
 
-/// Appends the line of a reply: the queue, a space and the text.
-///
-/// # Errors
-/// The call failed to allocate, and a front of the line may stay.
-pub fn reply_line(queue: usize, reply: &Reply, out: &mut Vec<u8>) -> Result<(), AllocError>
-    ensures { Writes out.old.items out.new.items result (reply_line queue reply.now) }
-{
-    push_queue(queue, out)?;
-    push_reply(reply, out)?;
-    push_text(b"\n", out)
-}
-
 /// Appends the line of what an operation on a partition came to: it is the line of its reply, which is never
 /// made.
 ///
@@ -207,6 +195,8 @@ fn push_read(
     push_count(b" note ", note, out)
 }
 
+// Not inlined, since an event that is read takes some 400 bytes.
+#[inline(never)]
 fn push_events_at(
     positions: &[usize],
     partition: &Partition,

@@ -1,16 +1,27 @@
-use Rattle.std.proofs.Common.{◌≡◌, ◌∙◌, ap, sym, arith}
-use Rattle.queue_cache.specs.Cache.{PlainCache, high}
-use Rattle.stream_model.specs.declared.reply.Reply.TheVariants as reply
-use Rattle.stream_model.specs.Replies.{Reply}
-use Rattle.stream_model.specs.Positions.{token_at}
-use Rattle.step_core.specs.PlainOf.{plain_of}
-use Rattle.step_core.proofs.FillOps.{pull-fills, pull-stale}
+use Rattle.std.proofs.Common.{◌≡◌, ◌∙◌, ap, ℕ, Bool, ◌==◌, eq-eqb}
+use Rattle.std.specs.Prelude.{if◌then◌else◌, Result, Ok, Err}
+use Rattle.pulling_agent.specs.Agent.{PlainAgent, if_current, take_next}
+use Rattle.pulling_agent.specs.declared.agent.StaleAgent.{StaleAgent}
 use Rattle.step_core.proofs.pulling.fill.Goals as goal
+
+abbrev Pulled : Type 0
+Pulled = PlainAgent × Result ℕ StaleAgent
+
+abbrev told : ℕ → Result ℕ StaleAgent
+told count = Ok count
+
+-- who names the agent's own generation isn't refused
+not-refused : (a new : PlainAgent) (generation : ℕ) (taken : PlainAgent × ℕ) (stale : StaleAgent) → generation ≡ a.generation → ◌≡◌ {A = Pulled} (new, Err stale) (if_current a generation taken) → ⊥
+not-refused a new generation taken stale current is =
+    let own = ap {B = Pulled} (λ (own : Bool). if own then (taken.0, Ok taken.1) else (a, Err (record { now = a.generation }))) (eq-eqb generation a.generation current) in
+    let same : Err stale ≡ told taken.1 = ap (λ (done : Pulled). done.1) (is ∙ own) in cc
 
 pub returns-in-Err-clause-parts : goal.returns-in-Err-clause-parts
 returns-in-Err-clause-parts c =
-    absurd (pull-stale c.args.parts.now c.args.generation c.args.drops c.args.count c.pull.new.self c.requires.current c.requires.blocks c.requires.room c.requires.there c.in-Err.field-0 c.in-Err.ensures.planned)
+    let a = c.args.parts.now.agent in
+    absurd (not-refused a c.pull.new.self c.args.generation (take_next a c.args.drops c.args.parts.now.queue c.args.count) c.in-Err.field-0 c.requires.current c.in-Err.ensures.pull)
 
 pub returns-in-Err-clause-reply : goal.returns-in-Err-clause-reply
 returns-in-Err-clause-reply c =
-    absurd (pull-stale c.args.parts.now c.args.generation c.args.drops c.args.count c.pull.new.self c.requires.current c.requires.blocks c.requires.room c.requires.there c.in-Err.field-0 c.in-Err.ensures.planned)
+    let a = c.args.parts.now.agent in
+    absurd (not-refused a c.pull.new.self c.args.generation (take_next a c.args.drops c.args.parts.now.queue c.args.count) c.in-Err.field-0 c.requires.current c.in-Err.ensures.pull)

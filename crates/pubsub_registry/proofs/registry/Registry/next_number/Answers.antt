@@ -1,4 +1,4 @@
-use Rattle.std.proofs.Common.{◌≡◌, ◌+◌, ◌^◌, ◌<◌, ℕ, Option, Some, None, IfSome, SomeIff, subst, sym, arith}
+use Rattle.std.proofs.Common.{◌≡◌, ◌+◌, ◌^◌, ◌<◌, ℕ, Option, Some, None, IfSome, SomeIff, subst, arith}
 use Rattle.stream_ident.specs.declared.ident.SubName.TheVariants.{Explicit}
 use Rattle.pubsub_registry.specs.Registry.{PlainRegistry, registration_of}
 use Rattle.pubsub_registry.specs.Sound.{IsSound}

@@ -3,6 +3,7 @@ use Rattle.std.proofs.lemmas.List.{append-nil}
 use Rattle.stream_model.specs.declared.plain.PlainPartition.{PlainPartition}
 use Rattle.stream_model.specs.Replies.{Reply}
 use Rattle.turnstile.specs.Recorded.{recorded}
+use Rattle.step_core.specs.Replied.{reply_with}
 use Rattle.script_runs.specs.Traces.{heading}
 use Rattle.script_runs.proofs.Printing.{printed-all, printed-next}
 use Rattle.script_runs.proofs.traces.trace.queue_trace.Goals as goal
@@ -21,8 +22,8 @@ loop-asked-preserved c =
     let asked = c.asked-item.result in
     let same = c.as_slice-asked-items.ensures in
     let is : asked ≡ get_or history.asked.items k asked = c.asked-item.is ∙ ap (λ l. get_or l k asked) same in
-    printed-next c.args.calls c.args.queue (heading c.args.queue) history.asked.items (recorded history.replies) k asked c.loop-asked.text.items c.push_shown.new.text.items c.loop-asked.partition c.apply.new.self c.in_ok-reply.reply
-    history.counted (omega (arith, c.loop-asked-test.true, ap length same)) is c.loop-asked.invariant (ap (λ (x : PlainPartition × Reply). x.0) c.in_ok-reply.ensures.performs) (ap (λ (x : PlainPartition × Reply). x.1) c.in_ok-reply.ensures.performs) c.in_ok-push_shown.ensures
+    printed-next c.args.calls c.args.queue (heading c.args.queue) history.asked.items (recorded history.replies) k asked c.loop-asked.text.items c.push_shown.new.text.items c.loop-asked.partition c.advance.new.self (reply_with c.advance.new.self.log c.in_ok-outcome.outcome)
+    history.counted (omega (arith, c.loop-asked-test.true, ap length same)) is c.loop-asked.invariant (ap (λ (x : PlainPartition × Reply). x.0) c.in_ok-outcome.ensures.performs) (ap (λ (x : PlainPartition × Reply). x.1) c.in_ok-outcome.ensures.performs) c.in_ok-push_shown.ensures
 
 pub returns : goal.returns
 returns c =
