@@ -88,11 +88,26 @@ const LONGEST_PAYLOAD: &str = concat!(
 const NAMES: [(Read, &str); 7] = [
     (Read::Name(b"Az09_.-"), "Az09_.-"),
     (Read::Name(&[b'k'; 64]), LONGEST_NAME),
-    (Read::Name(b""), "no name: wrong at byte 0"),
-    (Read::Name(b"a/b"), "no name: wrong at byte 1"),
-    (Read::Name(b"a "), "no name: wrong at byte 1"),
-    (Read::Name(b"\xC3\xA9"), "no name: wrong at byte 0"),
-    (Read::Name(&[b'k'; 65]), "no name: wrong at byte 64"),
+    (
+        Read::Name(b""),
+        "no name: wrong at byte 0, a name has 1 to 64 bytes of A-Z a-z 0-9 _ . -",
+    ),
+    (
+        Read::Name(b"a/b"),
+        "no name: wrong at byte 1, a name has 1 to 64 bytes of A-Z a-z 0-9 _ . -",
+    ),
+    (
+        Read::Name(b"a "),
+        "no name: wrong at byte 1, a name has 1 to 64 bytes of A-Z a-z 0-9 _ . -",
+    ),
+    (
+        Read::Name(b"\xC3\xA9"),
+        "no name: wrong at byte 0, a name has 1 to 64 bytes of A-Z a-z 0-9 _ . -",
+    ),
+    (
+        Read::Name(&[b'k'; 65]),
+        "no name: wrong at byte 64, a name has 1 to 64 bytes of A-Z a-z 0-9 _ . -",
+    ),
 ];
 
 /// Two texts make a stream, or it is said which is wrong where.
@@ -107,19 +122,19 @@ const STREAMS: [(Read, &str); 6] = [
     ),
     (
         Read::Stream(b"", b"k"),
-        "bad name: field 0 is wrong at byte 0",
+        "bad name: field 0 is wrong at byte 0, a name has 1 to 64 bytes of A-Z a-z 0-9 _ . -",
     ),
     (
         Read::Stream(b"o", b"a/b"),
-        "bad name: field 1 is wrong at byte 1",
+        "bad name: field 1 is wrong at byte 1, a name has 1 to 64 bytes of A-Z a-z 0-9 _ . -",
     ),
     (
         Read::Stream(b"o", &[b'k'; 65]),
-        "bad name: field 1 is wrong at byte 64",
+        "bad name: field 1 is wrong at byte 64, a name has 1 to 64 bytes of A-Z a-z 0-9 _ . -",
     ),
     (
         Read::Stream(b"o o", b""),
-        "bad name: field 0 is wrong at byte 1",
+        "bad name: field 0 is wrong at byte 1, a name has 1 to 64 bytes of A-Z a-z 0-9 _ . -",
     ),
 ];
 
@@ -132,19 +147,19 @@ const GRAINS: [(Read, &str); 6] = [
     (Read::Grain(b"cart", b"7"), "GrainId { kind: cart, key: 7 }"),
     (
         Read::Grain(b"", b"k"),
-        "bad name: field 0 is wrong at byte 0",
+        "bad name: field 0 is wrong at byte 0, a name has 1 to 64 bytes of A-Z a-z 0-9 _ . -",
     ),
     (
         Read::Grain(b"o", b"a/b"),
-        "bad name: field 1 is wrong at byte 1",
+        "bad name: field 1 is wrong at byte 1, a name has 1 to 64 bytes of A-Z a-z 0-9 _ . -",
     ),
     (
         Read::Grain(b"o", &[b'k'; 65]),
-        "bad name: field 1 is wrong at byte 64",
+        "bad name: field 1 is wrong at byte 64, a name has 1 to 64 bytes of A-Z a-z 0-9 _ . -",
     ),
     (
         Read::Grain(b"o o", b""),
-        "bad name: field 0 is wrong at byte 1",
+        "bad name: field 0 is wrong at byte 1, a name has 1 to 64 bytes of A-Z a-z 0-9 _ . -",
     ),
 ];
 
@@ -191,9 +206,18 @@ const PAYLOADS: [(Read, &str); 6] = [
     (Read::Payload(b""), ""),
     (Read::Payload(b" ~"), " ~"),
     (Read::Payload(&[b'x'; 256]), LONGEST_PAYLOAD),
-    (Read::Payload(&[b'x'; 257]), "no payload: wrong at byte 256"),
-    (Read::Payload(b"ab\x7F"), "no payload: wrong at byte 2"),
-    (Read::Payload(b"\x1F"), "no payload: wrong at byte 0"),
+    (
+        Read::Payload(&[b'x'; 257]),
+        "no payload: wrong at byte 256, a payload has at most 256 bytes of 0x20 to 0x7E",
+    ),
+    (
+        Read::Payload(b"ab\x7F"),
+        "no payload: wrong at byte 2, a payload has at most 256 bytes of 0x20 to 0x7E",
+    ),
+    (
+        Read::Payload(b"\x1F"),
+        "no payload: wrong at byte 0, a payload has at most 256 bytes of 0x20 to 0x7E",
+    ),
 ];
 
 static READS: [&[(Read, &str)]; 6] = [&NAMES, &STREAMS, &GRAINS, &TOKENS, &NUMBERS, &PAYLOADS];

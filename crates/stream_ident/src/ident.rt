@@ -47,7 +47,7 @@ impl Model for Name {
 /// Bytes that are no name, and the least place at which they are wrong: that of the first byte outside
 /// the alphabet, 64 where they are more than 64, and 0 where there are none.
 #[derive(Clone, Copy, Debug, PartialEq, Eq, Error)]
-#[error("no name: wrong at byte {at}")]
+#[error("no name: wrong at byte {at}, a name has 1 to {} bytes of A-Z a-z 0-9 _ . -", NAME_BYTES)]
 pub struct WrongByte {
     /// The place, counted from 0.
     pub at: usize,
@@ -211,7 +211,7 @@ pub struct GrainId {
 
 /// Two texts that make no id, and the least place that is wrong, in the first text if it is in both.
 #[derive(Clone, Copy, Debug, PartialEq, Eq, Error)]
-#[error("bad name: field {field} is wrong at byte {at}")]
+#[error("bad name: field {field} is wrong at byte {at}, a name has 1 to {} bytes of A-Z a-z 0-9 _ . -", NAME_BYTES)]
 pub struct BadName {
     /// 0 for the namespace or kind, 1 for the key.
     pub field: u8,

@@ -47,7 +47,7 @@ impl Model for Payload {
 /// Bytes that are no payload, and the least place at which they are wrong: that of the first byte that
 /// isn't printable, or 256 where they are more than 256.
 #[derive(Clone, Copy, Debug, PartialEq, Eq, Error)]
-#[error("no payload: wrong at byte {at}")]
+#[error("no payload: wrong at byte {at}, a payload has at most {} bytes of 0x20 to 0x7E", PAYLOAD_BYTES)]
 pub struct BadPayload {
     /// The place, counted from 0.
     pub at: usize,
