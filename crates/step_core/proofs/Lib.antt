@@ -33,7 +33,6 @@ pub mod NamesOps
 pub mod NewParts
 pub mod NumberLemmas
 pub mod NumberedOps
-pub mod NumberedReads
 pub mod OnceOps
 pub mod OutcomeLemmas
 pub mod PendingOps
@@ -41,6 +40,7 @@ pub mod PlanOps
 pub mod ProducerOps
 pub mod PublishOps
 pub mod PullOps
+pub mod RankedOnce
 pub mod ReadLemmas
 pub mod RecordOps
 pub mod RetryOps

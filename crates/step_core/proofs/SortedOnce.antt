@@ -1,10 +1,9 @@
 -- What a stable sort gives is one list: the elements from the least to the greatest, with ties as they were.
-use Rattle.std.proofs.Common.{◌≡◌, ◌<◌, ◌≤◌, ℕ, suc, Bool, true, false, ◌&&◌, not, cond, List, [], ◌∷◌, length, get_or, filter, refl, sym, ap, subst, ◌∙◌, arith}
-use Rattle.std.proofs.lemmas.Bool.{and_parts, cond_both, false_from_ne_true, not-true}
-use Rattle.std.proofs.lemmas.List.Sorted.{sorted_far}
+use Rattle.std.proofs.Common.{◌≡◌, ◌<◌, ◌≤◌, ℕ, suc, Bool, true, false, ◌==◌, ◌&&◌, not, cond, List, [], ◌∷◌, length, get_or, filter, refl, sym, ap, subst, ◌∙◌, arith}
+use Rattle.std.proofs.lemmas.Bool.{and_parts, cond_both, eqb-false, eqb-true, false_from_ne_true, not-true}
 use Rattle.std.specs.Cmp.{IsStrictWeakOrder}
 use Rattle.std.specs.List.{AllByRecursion}
-use Rattle.std.specs.List.Sorted.{ties, IsSortedBy, IsStableBy}
+use Rattle.std.specs.List.Sorted.{ties, IsStableBy}
 use Rattle.std.specs.Prelude.{⊤}
 use Rattle.stream_ident.proofs.EachOf.{All-filter}
 use Rattle.stream_model.specs.Draining.{in_order, insert_in_order}
@@ -102,7 +101,7 @@ module _ {X : Type 0} (lt : X → X → Bool) (o : IsStrictWeakOrder lt) where
   stable_under x xs ys same z = ap (λ (l : List X). cond (ties lt z x) (x ∷ l) l) (same z)
 
   -- what ties with one of two elements of which one is less doesn't tie with the other
-  one_ties : (z x y : X) → lt y x ≡ true → ties lt z x && ties lt z y ≡ false
+  pub one_ties : (z x y : X) → lt y x ≡ true → ties lt z x && ties lt z y ≡ false
   one_ties z x y below = false_from_ne_true (ties lt z x && ties lt z y) (λ both.
       let tie = and_parts (ties lt z x) (ties lt z y) both in
       let not_above_y = not-true (lt y z) (and_parts (not (lt z y)) (not (lt y z)) tie.1).1 in
@@ -124,10 +123,16 @@ module _ {X : Type 0} (lt : X → X → Bool) (o : IsStrictWeakOrder lt) where
   stable_in_order [] z = refl
   stable_in_order (x ∷ xs) z = stable_insert x (in_order lt xs) z ∙ stable_under x xs (in_order lt xs) (stable_in_order xs) z
 
-  -- a sorted list whose ties stand as they were is the list in order
-  pub sorted-stable : (xs ys : List X) → IsSortedBy lt ys → IsStableBy lt xs ys → ys ≡ in_order lt xs
-  sorted-stable xs ys up same =
-      rises_once (in_order lt xs) ys (Rises-in_order xs) (Rises-from ys (sorted_far lt o ys up)) (λ z. same z ∙ sym (stable_in_order xs z))
+  -- a list that rises, and whose ties stand as they were, is the list in order
+  pub risen-stable : (xs ys : List X) → ((i j : ℕ) (d : X) → i < j → j < length ys → lt (get_or ys j d) (get_or ys i d) ≡ false) → IsStableBy lt xs ys → ys ≡ in_order lt xs
+  risen-stable xs ys up same = rises_once (in_order lt xs) ys (Rises-in_order xs) (Rises-from ys at) (λ z. same z ∙ sym (stable_in_order xs z))
+    where
+      at : (i j : ℕ) (d : X) → i ≤ j → j < length ys → lt (get_or ys j d) (get_or ys i d) ≡ false
+      at i j d up-to within = by (i == j) refl
+        where
+          by : (b : Bool) → (i == j) ≡ b → lt (get_or ys j d) (get_or ys i d) ≡ false
+          by true is = let same : i ≡ j = eqb-true i j is in subst (λ n. lt (get_or ys n d) (get_or ys i d) ≡ false) same (not_below_itself (get_or ys i d))
+          by false is = up i j d (let other = eqb-false i j is in omega (arith, other)) within
 
   -- lists in which the same elements tie with each, in one order, are the same in order
   pub in_order-stable : (xs ys : List X) → IsStableBy lt xs ys → in_order lt ys ≡ in_order lt xs

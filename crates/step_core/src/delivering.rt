@@ -1,11 +1,10 @@
 //! What the agent hands to a subscription.
-ghost use Rattle.std.specs.Prelude.{◌≡◌, ◌+◌, ◌^◌, ◌<◌, ◌≤◌, None, OnErr, Some, length, not, true, IfOk};
+ghost use Rattle.std.specs.Prelude.{◌≡◌, ◌+◌, ◌^◌, ◌<◌, None, OnErr, Some, length, true, IfOk};
 ghost use Rattle.stream_model.specs.Memory.{is_untouched};
 ghost use Rattle.stream_model.specs.Positions.{is_outstanding, sub_at, token_at};
 ghost use Rattle.stream_model.specs.Pulling.{deliver};
 ghost use Rattle.stream_model.specs.Step.{takes_memory};
 ghost use Rattle.stream_ident.specs.Words.{Performs};
-ghost use Rattle.grain_table.specs.Changes.{activation_at};
 ghost use Rattle.grain_table.specs.Grains.{number_of};
 ghost use Rattle.subscription_table.specs.Table.{name_at};
 ghost use Rattle.stream_model.specs.Replies.{IsNoTurn};

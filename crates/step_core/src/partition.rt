@@ -1,5 +1,5 @@
 //! The partition.
-ghost use Rattle.std.specs.Prelude.{◌≡◌, ◌<◌, ◌≤◌, true, length, map, slice_index_or, Some, IfOk, IfSome, MatchResult, OnErr, OnOk};
+ghost use Rattle.std.specs.Prelude.{◌≡◌, ◌<◌, ◌≤◌, true, length, map, slice_get, slice_index_or, Some, IfOk, IfSome, MatchResult, OnErr, OnOk};
 ghost use Rattle.stream_ident.specs.declared.limits.TheConstants.{MOST_BLOCKS};
 ghost use Rattle.std.specs.List.{AllByRecursion};
 ghost use Rattle.std.specs.Option.{option_map};
@@ -34,7 +34,7 @@ use crate::publishing::publish_slices;
 use crate::quiet::Quiet;
 use crate::reading::{
     SubSummary, handled, handled_positions, high_token, is_settled, last_handled, low_token,
-    summaries,
+    summaries, summary_at,
 };
 use crate::stepping::step;
 use grain_table::GrainTable;
@@ -375,6 +375,21 @@ impl Partition {
         subscription_figures(&self.parts, sub)
     }
 
+    /// How many subscriptions have a record.
+    pub fn sub_count(&self) -> usize
+        ensures { result ≡ length (summaries_in_order self.now) }
+    {
+        self.parts.subs.len()
+    }
+
+    /// The subscription at a place in the order of the names of those that have a record. It takes no memory.
+    pub fn sub_at(&self, place: usize) -> SubSummary
+        requires { place < length (summaries_in_order self.now) }
+        ensures { slice_get (summaries_in_order self.now) place ≡ Some result }
+    {
+        summary_at(&self.parts, place)
+    }
+
     /// The subscriptions that have a record, in the order of their names.
     ///
     /// # Errors
@@ -382,9 +397,7 @@ impl Partition {
     pub fn subs(&self, alloc: Global) -> Result<Vec<SubSummary>, AllocError>
         ensures { IfOk result (λ subs. subs.items ≡ summaries_in_order self.now) }
     {
-        let mut subs = summaries(&self.parts.subs, alloc)?;
-        subs.sort_by_key(|summary| summary.name)?;
-        Ok(subs)
+        summaries(&self.parts, alloc)
     }
 
     /// The positions in the log of the events that a subscription has handled, in the order in which it handled

@@ -1,21 +1,19 @@
 //! What can be read of a partition.
-ghost use Rattle.std.specs.Prelude.{◌≡◌, ◌<◌, length, get_or, map, All, IfOk};
+ghost use Rattle.std.specs.Prelude.{◌≡◌, ◌<◌, Some, length, slice_get, All, IfOk};
 ghost use Rattle.std.specs.List.{AllByRecursion};
 ghost use Rattle.stream_model.specs.Draining.{last_handled};
 ghost use Rattle.stream_model.specs.Positions.{events_at, high_token, is_spent, low_token, slowest, sub_at};
-ghost use Rattle.subscription_table.specs.Table.{name_at, no_entry, state_at};
 ghost use Rattle.step_core.specs.Assembly.{Agrees};
 ghost use Rattle.step_core.specs.PlainOf.{plain_of};
-ghost use Rattle.step_core.specs.Reads.{handled_of, handled_positions, summary_of};
+ghost use Rattle.step_core.specs.Reads.{handled_of, handled_positions, summaries_in_order, summary_of};
+ghost use Rattle.step_core.specs.Records.{record_of};
 ghost use Rattle.step_core.specs.Serving.{is_settled_in, is_settled_state};
-ghost use Rattle.step_core.specs.View.{sub_of, subs_of};
 
 use crate::parts::Parts;
 use consumer_grain::SubState;
 use partition_queue::PartitionQueue;
 use std::alloc::{AllocError, Global};
 use stream_ident::{Event, GrainId, StreamId, SubName, Token};
-use subscription_table::SubscriptionTable;
 
 /// A subscription that has a record.
 ///
@@ -65,33 +63,43 @@ pub(crate) fn is_spent(parts: &Parts) -> bool
     parts.rises >= parts.limits.rises
 }
 
-/// The summary of the subscription with a number, and this name.
-fn summary_of(subs: &SubscriptionTable, number: usize, name: SubName) -> SubSummary
-    requires within { number < length subs.now.registry.names }
-    requires name { name ≡ name_at subs.now number }
-    ensures { result ≡ summary_of (sub_of (get_or subs.now.registry.names number no_entry) (state_at subs.now number)) }
+/// The summary of the subscription with a number, under a name.
+fn summary_of(parts: &Parts, number: usize, name: SubName) -> SubSummary
+    requires agrees { Agrees parts.now }
+    requires within { number < length parts.now.subs.registry.names }
+    ensures { result ≡ summary_of (name, record_of parts.now number) }
 {
-    let registration = subs.registration(number);
+    let registration = parts.subs.registration(number);
     SubSummary {
         name,
         stream: registration.stream,
         grain: registration.grain,
         start: registration.start,
-        is_open: subs.state(number).is_open(),
+        is_open: parts.subs.state(number).is_open(),
     }
 }
 
-/// The summary of each subscription, in the order in which they were made.
-pub(crate) fn summaries(
-    subs: &SubscriptionTable,
-    alloc: Global,
-) -> Result<Vec<SubSummary>, AllocError>
-    ensures { IfOk result (λ summaries. summaries.items ≡ map summary_of (subs_of subs.now.registry.names subs.now.states)) }
+/// The summary of the subscription with a rank, its place in the order of the names.
+pub(crate) fn summary_at(parts: &Parts, rank: usize) -> SubSummary
+    requires agrees { Agrees parts.now }
+    requires within { rank < length (summaries_in_order (plain_of parts.now)) }
+    ensures { slice_get (summaries_in_order (plain_of parts.now)) rank ≡ Some result }
 {
-    let mut summaries = Vec::new(alloc);
-    for number in 0..subs.len() {
-        let name: SubName = *subs.name(number);
-        summaries.push(summary_of(subs, number, name))?;
+    let order = parts.subs.by_name();
+    let number = order[rank];
+    summary_of(parts, number, *parts.subs.name(number))
+}
+
+/// The summaries in the order of the names.
+pub(crate) fn summaries(parts: &Parts, alloc: Global) -> Result<Vec<SubSummary>, AllocError>
+    requires agrees { Agrees parts.now }
+    ensures { IfOk result (λ summaries. summaries.items ≡ summaries_in_order (plain_of parts.now)) }
+{
+    let order = parts.subs.by_name();
+    let mut summaries = Vec::with_capacity(alloc, order.len())?;
+    for number in order {
+        let name = *parts.subs.name(*number);
+        summaries.push(summary_of(parts, *number, name))?;
     }
     Ok(summaries)
 }

@@ -3,7 +3,6 @@ ghost use Rattle.std.specs.Prelude.{◌≡◌, ◌<◌, ℕ, true, max, length, 
 ghost use Rattle.stream_ident.specs.Name.{same_grain};
 ghost use Rattle.stream_ident.specs.Words.{past, value_at};
 ghost use Rattle.stream_model.specs.Draining.{next_note};
-ghost use Rattle.stream_model.specs.Positions.{next_position};
 ghost use Rattle.subscription_table.specs.Table.{name_at, state_at};
 ghost use Rattle.step_core.specs.Assembly.{Agrees, IsAssembled};
 ghost use Rattle.step_core.specs.PlainOf.{plain_of};

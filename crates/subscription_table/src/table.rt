@@ -8,7 +8,7 @@ ghost use Rattle.queue_mapper.specs.Place.{tag_of};
 ghost use Rattle.pubsub_registry.specs.Index.{AreUnique};
 ghost use Rattle.ranked_index.specs.Leaves.{with_leaf};
 ghost use Rattle.ranked_index.specs.Listed.{AreRising};
-ghost use Rattle.ranked_index.specs.Ranked.{is_up_to, IsFirstPast};
+ghost use Rattle.ranked_index.specs.Ranked.{is_up_to, AreRanked, IsFirstPast};
 ghost use Rattle.subscription_table.specs.Leaves.{due_after, least_resume, slowest};
 ghost use Rattle.subscription_table.specs.LeavesOf.{leaves_of, open_resume};
 ghost use Rattle.subscription_table.specs.Standing.{kept_of, name_of, tags_of, AreRecords};
@@ -163,6 +163,13 @@ impl SubscriptionTable {
         ensures { result ≡ sub_lt (name_at self.now number) (name_at self.now other) }
     {
         self.resumes.rank(number) < self.resumes.rank(other)
+    }
+
+    /// The numbers in the order of the names. It costs a constant.
+    pub fn by_name(&self) -> &[usize]
+        ensures { AreRanked name_of sub_lt self.now.registry.names result.now }
+    {
+        self.resumes.numbers()
     }
 
     /// The least resume of an open subscription, where one is open. It costs a constant.

@@ -29,6 +29,7 @@ pub struct Publish {
 ///
 /// # Errors
 /// The call failed to allocate room for the slices.
+#[inline(never)]
 pub fn read_publish<'a>(
     bytes: &'a [u8],
     queues: usize,

@@ -21,7 +21,7 @@ use stream_ident::{Event, SubName};
 /// The call failed to allocate, and nothing of the text stays.
 #[inline(never)]
 pub fn report_text(
-    alloc: Global,
+    _alloc: Global,
     partitions: &[Partition],
     text: &mut Vec<u8>,
 ) -> Result<(), AllocError>
@@ -29,7 +29,7 @@ pub fn report_text(
     ensures err { OnErr result (text.new.items ≡ text.old.items) }
 {
     let start = text.len();
-    let written = push_report(alloc, partitions, text);
+    let written = push_report(partitions, text);
     if written.is_err() {
         text.truncate(start);
     }
@@ -37,39 +37,22 @@ pub fn report_text(
 }
 
 /// Appends the report, or a front of it where memory runs out.
-fn push_report(alloc: Global, partitions: &[Partition], out: &mut Vec<u8>) -> Result<(), AllocError>
+fn push_report(partitions: &[Partition], out: &mut Vec<u8>) -> Result<(), AllocError>
     ensures { Writes out.old.items out.new.items result (report_of partitions.now) }
 {
     push_text(b"report\n", out)?;
     for queue in 0..partitions.len() {
-        push_queue(alloc, queue, &partitions[queue], out)?;
+        push_queue(queue, &partitions[queue], out)?;
     }
     Ok(())
 }
 
 /// Appends the lines of a queue.
-fn push_queue(
-    alloc: Global,
-    queue: usize,
-    partition: &Partition,
-    out: &mut Vec<u8>,
-) -> Result<(), AllocError>
+fn push_queue(queue: usize, partition: &Partition, out: &mut Vec<u8>) -> Result<(), AllocError>
     ensures { Writes out.old.items out.new.items result (queue_report queue partition.now) }
 {
-    let subs = partition.subs(alloc)?;
-    push_subs(queue, partition, &subs, out)
-}
-
-fn push_subs(
-    queue: usize,
-    partition: &Partition,
-    subs: &[SubSummary],
-    out: &mut Vec<u8>,
-) -> Result<(), AllocError>
-    ensures { Writes out.old.items out.new.items result (flat_map (summary_text queue partition.now) subs.now) }
-{
-    for sub in subs {
-        push_sub(queue, partition, sub, out)?;
+    for place in 0..partition.sub_count() {
+        push_sub(queue, partition, &partition.sub_at(place), out)?;
     }
     Ok(())
 }
