@@ -118,7 +118,7 @@ fn start_hint(piece: &[u8], is_last: bool) -> &'static str {
     match piece {
         b"from" => "behind `from` stands a token, as in `from 7.2`",
         b"latest" => "nothing stands behind `latest`",
-        _ if is_last => "write `latest`",
+        _ if is_last => "write `latest`, or `from 0.0` to begin with the first event",
         _ => "write `from`",
     }
 }

@@ -25,7 +25,7 @@ static FAULTS: &[(&str, &str)] = &[
     ),
     (
         "sub orders/17 clerk/17 latst",
-        "line 7, column 24: bad command: \"latst\": a subscription starts with `latest`, or with `from` and a token\n    hint: write `latest`",
+        "line 7, column 24: bad command: \"latst\": a subscription starts with `latest`, or with `from` and a token\n    hint: write `latest`, or `from 0.0` to begin with the first event",
     ),
     (
         "sub orders/17 clerk/17 latest 7.2",

@@ -125,7 +125,7 @@ const CHECK_EXAMPLE: &str = r#"Every line is read, and nothing is done. For the 
 it prints both faults, each with its line and column, the word, and what was expected:
 
     line 1, column 24: bad command: "latst": a subscription starts with `latest`, or with `from` and a token
-        hint: write `latest`
+        hint: write `latest`, or `from 0.0` to begin with the first event
     line 2, column 22: word count: "shipped": the line is `pub STREAM TEXT ..`
         hint: a text stands between quotes, as "paid"
 

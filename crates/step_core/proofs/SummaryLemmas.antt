@@ -32,7 +32,7 @@ named_before : has_lesser_name ≡ is_named_before
 named_before = λ i a b. sub_less_at a.name b.name i
 
 -- names rank summaries
-named_order : IsStrictWeakOrder is_named_before
+pub named_order : IsStrictWeakOrder is_named_before
 named_order =
     let name : SubSummary → SubName = λ summary. summary.name in
     subst IsStrictWeakOrder named_before (ranks_by total-law name)

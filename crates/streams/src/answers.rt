@@ -139,7 +139,7 @@ pub enum PublishError {
         end: LoopEnd,
     },
     /// With this batch the log of the queue would have more events than it may have. It never gets smaller.
-    #[error("the log of queue {queue} has {events} of at most {limit} events, too many for this batch")]
+    #[error("the log of queue {queue} has {events} of at most {limit} events, too many for this batch, and never gets shorter: open a new service")]
     QueueFull {
         /// The queue.
         queue: usize,
@@ -164,7 +164,7 @@ pub enum PublishError {
 pub enum SubscribeError {
     /// The start token is below that of the first event that the cache keeps. A subscribe from the token `low` or from
     /// `StartFrom::Latest` may be tried instead; the low token may have risen by then.
-    #[error("the cache keeps no event before {}.{}", low.seq, low.idx)]
+    #[error("the cache keeps no event before {}.{}: start there, or by StartFrom::Latest", low.seq, low.idx)]
     Miss {
         /// The token of the first event that the cache keeps.
         low: Token,
@@ -266,7 +266,7 @@ pub enum SiloError {
     #[error("the silo doesn't live")]
     NotLive,
     /// No other silo lives than the one that was to go. Nothing was done.
-    #[error("no other silo lives")]
+    #[error("no other silo lives: let one come before this one goes")]
     LastSilo,
     /// The history of a queue or of the directory is full, or a queue has no rise left for a Move. The cluster's silos
     /// don't change any more.
@@ -308,7 +308,7 @@ pub enum CloseError {
         missing: u64,
     },
     /// The turnstile of a queue is still in use, as where a [`Producer`](crate::Producer) is out. The partitions are gone.
-    #[error("a queue is still in use, as where a producer isn't taken back, and the partitions are gone")]
+    #[error("a queue is still in use, as where a producer wasn't given to take_back, and the partitions are gone")]
     InUse,
     /// The call failed to allocate, or a loop failed to before. The partitions are gone.
     #[error("no memory, and the partitions are gone")]
