@@ -81,7 +81,7 @@ fn is_there<R: Abort>(rt: &R, registry: &Registry, kind: u8, key: u8) -> bool {
         return false;
     };
     let (found, registration) = registry.at(place);
-    *found == sub
+    found == sub
         && registration.stream == stream(rt, b'o', key)
         && registration.grain == grain(rt, kind, key)
         && registration.start == START
@@ -107,7 +107,7 @@ static NAMES: [(u8, &[Sub]); 3] = [
 fn are_subs_of<R: Abort>(rt: &R, registry: &Registry, key: u8, wanted: &[Sub]) -> bool {
     let subs = registry.subs_of(&stream(rt, b'o', key));
     for (place, sub) in wanted.iter().enumerate() {
-        if place >= subs.len() || *subs.at(place) != sub_name(rt, *sub) {
+        if place >= subs.len() || subs.at(place) != sub_name(rt, *sub) {
             return false;
         }
     }

@@ -1,18 +1,17 @@
 -- Subscriptions by name: their look-up, and their streams after a change.
-use Rattle.std.proofs.Common.{◌≡◌, ◌∙◌, ℕ, zero, suc, Bool, true, false, List, [], ◌∷◌, ◌++◌, length, map, Some, None, if◌then◌else◌, refl, sym, ap, subst, Contains, true≢false}
+use Rattle.std.proofs.Common.{◌≡◌, ◌∙◌, ◌<◌, ℕ, zero, suc, Bool, true, false, List, [], ◌∷◌, ◌++◌, length, get_or, map, Option, Some, None, is_some, if◌then◌else◌, refl, sym, ap, subst, arith, Contains, true≢false}
 use Rattle.std.specs.Prelude.{◌⊎◌, slice_get}
 use Rattle.std.specs.List.{IsDistinct, AllByRecursion}
-use Rattle.std.specs.Map.{keys_of, lookup, set_value}
+use Rattle.std.specs.Map.{keys_of, lookup}
 use mathlib.Core.Logic.{inl, inr}
-use Rattle.indexmap.specs.IndexMap.{IndexMap, insert_entry}
-use Rattle.indexmap.proofs.CallerLemmas.{insert_entry-new}
 use Rattle.stream_ident.specs.SubName.{same_sub}
-use Rattle.stream_ident.specs.Words.{changed_value}
+use Rattle.stream_ident.specs.Words.{change_at, changed_value, first_at}
 use Rattle.stream_ident.specs.declared.ident.StreamId.{StreamId}
 use Rattle.stream_ident.specs.declared.ident.SubName.{SubName}
-use Rattle.stream_ident.proofs.WordLemmas.{changed_value-none}
+use Rattle.stream_ident.proofs.FirstLemmas.{first_at-Some}
+use Rattle.stream_ident.proofs.WordLemmas.{changed_value-none, none_from_is_some}
 use Rattle.pubsub_registry.specs.Index.{streams_of, AreUnique}
-use Rattle.pubsub_registry.specs.Registry.{closed_registration}
+use Rattle.pubsub_registry.specs.Registry.{closed_registration, no_entry}
 use Rattle.pubsub_registry.specs.declared.registration.Registration.{Registration}
 use Rattle.pubsub_registry.proofs.Elements.{Contains-here, Contains-later, Contains-cases, Contains-none}
 use Rattle.stream_ident.proofs.SameValues.{same_sub-equal, same_sub-refl}
@@ -70,36 +69,56 @@ length-closed (entry ∷ entries) s =
       | false ↦ ap suc (length-closed entries s)
     ]
 
--- a registration that was found, written back closed
-pub changed-found : (names : Names) (s : SubName) (registration : Registration) → lookup (same_sub s) names ≡ Some registration → set_value (same_sub s) names (closed_registration registration) ≡ changed_value same_sub s closed_registration names
-changed-found [] s registration found = refl
-changed-found (entry ∷ entries) s registration found = by (same_sub s entry.0) found (changed-found entries s registration)
+-- ---- the place of a name
+
+-- what stands at the first place of a name
+value-here : (s : SubName) (names : Names) (i : ℕ) (d : SubName × Registration) → i < length names → same_sub s (get_or names i d).0 ≡ true → ((j : ℕ) → j < i → same_sub s (get_or names j d).0 ≡ false)
+    → lookup (same_sub s) names ≡ Some (get_or names i d).1
+value-here s [] i d within is before = absurd (omega arith)
+value-here s (entry ∷ entries) zero d within is before = rw is refl
+value-here s (entry ∷ entries) (suc i) d within is before =
+    rw (before 0 (omega arith)) (value-here s entries i d (omega arith) is (λ j less. before (suc j) (omega arith)))
+
+closed-here : (s : SubName) (names : Names) (i : ℕ) (d : SubName × Registration) → i < length names → same_sub s (get_or names i d).0 ≡ true → ((j : ℕ) → j < i → same_sub s (get_or names j d).0 ≡ false)
+    → change_at closed_registration i names ≡ changed_value same_sub s closed_registration names
+closed-here s [] i d within is before = absurd (omega arith)
+closed-here s (entry ∷ entries) zero d within is before = rw is refl
+closed-here s (entry ∷ entries) (suc i) d within is before =
+    rw (before 0 (omega arith)) (ap (λ (rest : Names). entry ∷ rest) (closed-here s entries i d (omega arith) is (λ j less. before (suc j) (omega arith))))
+
+abbrev pub place_in : SubName → Names → Option ℕ
+place_in s names = first_at (λ (entry : SubName × Registration). same_sub s entry.0) 0 names
+
+pub value-placed : (s : SubName) (names : Names) (i : ℕ) → place_in s names ≡ Some i → lookup (same_sub s) names ≡ Some (get_or names i no_entry).1
+value-placed s names i found =
+    let first = first_at-Some (λ (entry : SubName × Registration). same_sub s entry.0) 0 names no_entry i found in
+    let same : first.place ≡ i = (let at = first.at in omega (arith, at)) in
+    subst (λ n. lookup (same_sub s) names ≡ Some (get_or names n no_entry).1) same (value-here s names first.place no_entry first.within first.is first.before)
+
+pub closed-placed : (s : SubName) (names : Names) (i : ℕ) → place_in s names ≡ Some i → change_at closed_registration i names ≡ changed_value same_sub s closed_registration names
+closed-placed s names i found =
+    let first = first_at-Some (λ (entry : SubName × Registration). same_sub s entry.0) 0 names no_entry i found in
+    let same : first.place ≡ i = (let at = first.at in omega (arith, at)) in
+    subst (λ n. change_at closed_registration n names ≡ changed_value same_sub s closed_registration names) same (closed-here s names first.place no_entry first.within first.is first.before)
+
+-- a name is found where it has a value
+placed-from : (s : SubName) (n : ℕ) (names : Names) → is_some (first_at (λ (entry : SubName × Registration). same_sub s entry.0) n names) ≡ is_some (lookup (same_sub s) names)
+placed-from s n [] = refl
+placed-from s n (entry ∷ entries) = by (same_sub s entry.0) (placed-from s (suc n) entries)
   where
-    by : (b : Bool) → (if b then Some entry.1 else lookup (same_sub s) entries) ≡ Some registration
-        → (lookup (same_sub s) entries ≡ Some registration → set_value (same_sub s) entries (closed_registration registration) ≡ changed_value same_sub s closed_registration entries)
-        → (if b then (entry.0, closed_registration registration) ∷ entries else entry ∷ set_value (same_sub s) entries (closed_registration registration)) ≡ (if b then (entry.0, closed_registration entry.1) ∷ entries else entry ∷ changed_value same_sub s closed_registration entries)
-    by true found rest =
-        let value : registration ≡ entry.1 = cc in ap (λ (r : Registration). (entry.0, closed_registration r) ∷ entries) value
-    by false found rest = ap (λ more. entry ∷ more) (rest found)
+    by : (b : Bool) → is_some (first_at (λ (entry : SubName × Registration). same_sub s entry.0) (suc n) entries) ≡ is_some (lookup (same_sub s) entries)
+        → is_some (if b then Some n else first_at (λ (entry : SubName × Registration). same_sub s entry.0) (suc n) entries) ≡ is_some (if b then Some entry.1 else lookup (same_sub s) entries)
+    by true rest = refl
+    by false rest = rest
 
--- what is left where a registration that a test of the name found is written back closed
-pub closed-written : (test : SubName → Bool) (s : SubName) → test ≡ same_sub s → (names entries : Names) (registration : Registration) → Some registration ≡ lookup test names
-    → entries ≡ set_value test names (closed_registration registration) → entries ≡ changed_value same_sub s closed_registration names
-closed-written test s is names entries registration found written =
-    let there = subst (λ (test : SubName → Bool). lookup test names ≡ Some registration) is (sym found) in
-    written ∙ ap (λ (test : SubName → Bool). set_value test names (closed_registration registration)) is ∙ changed-found names s registration there
+pub placed-valued : (s : SubName) (names : Names) → is_some (place_in s names) ≡ is_some (lookup (same_sub s) names)
+placed-valued s names = placed-from s 0 names
 
-pub closed-unwritten : (test : SubName → Bool) (s : SubName) → test ≡ same_sub s → (names entries : Names) → None ≡ lookup test names → entries ≡ names → entries ≡ changed_value same_sub s closed_registration names
-closed-unwritten test s is names entries none unwritten =
-    unwritten ∙ sym (changed_value-none same_sub s closed_registration names (subst (λ (test : SubName → Bool). lookup test names ≡ None) is (sym none)))
+pub value-unplaced : (s : SubName) (names : Names) → place_in s names ≡ None → lookup (same_sub s) names ≡ None
+value-unplaced s names none = none_from_is_some (lookup (same_sub s) names) (sym (placed-valued s names) ∙ ap is_some none)
 
--- a new name goes last
-pub pushed : {S : Type 0} (same : SubName → SubName → Bool) → same ≡ same_sub → (map : IndexMap SubName Registration S) (now inside entries : Names) (s : SubName) (registration : Registration)
-    → inside ≡ now → map.entries ≡ inside → lookup (same_sub s) now ≡ None → entries ≡ insert_entry same map.entries s registration → entries ≡ inside ++ (s, registration) ∷ []
-pushed same is map now inside entries s registration seen kept none put =
-    let gone = subst (λ (names : Names). lookup (same_sub s) names ≡ None) (sym (kept ∙ seen)) none in
-    let new = subst (λ (same : SubName → SubName → Bool). lookup (same s) map.entries ≡ None) (sym is) gone in
-    put ∙ insert_entry-new same map s registration new ∙ ap (λ (names : Names). names ++ (s, registration) ∷ []) kept
+pub closed-unplaced : (s : SubName) (names : Names) → place_in s names ≡ None → names ≡ changed_value same_sub s closed_registration names
+closed-unplaced s names none = sym (changed_value-none same_sub s closed_registration names (value-unplaced s names none))
 
 -- no name is twice among the keys of a map
 others-apart : (name : SubName) (names : Names) (i : ℕ) (entry : SubName × Registration) → AllByRecursion (λ other. same_sub name other ≡ false) (keys_of names) → slice_get names i ≡ Some entry → same_sub name entry.0 ≡ false

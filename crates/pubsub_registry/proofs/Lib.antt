@@ -6,6 +6,7 @@ pub mod ImpliedNames
 pub mod ImpliedSound
 pub mod ImpliedSteps
 pub mod IndexLemmas
+pub mod PackedLemmas
 pub mod RowLemmas
 pub mod RuleLemmas
 pub mod SoundLemmas

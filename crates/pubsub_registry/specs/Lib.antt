@@ -1,6 +1,7 @@
 pub mod Ascending
 pub mod Implying
 pub mod Index
+pub mod Packed
 pub mod Registry
 pub mod Rows
 pub mod Sound

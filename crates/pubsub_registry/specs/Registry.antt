@@ -7,6 +7,7 @@ use Rattle.stream_ident.specs.declared.ident.SubName.{SubName}
 use Rattle.stream_ident.specs.declared.ident.SubName.TheVariants as name
 use Rattle.stream_ident.specs.declared.rule.Rule.{Rule}
 use Rattle.stream_ident.specs.declared.token.Token.{Token}
+use Rattle.stream_ident.specs.Event.{batch_token}
 use Rattle.stream_ident.specs.Name.{same_name, same_stream}
 use Rattle.stream_ident.specs.SubName.{same_sub, sub_lt}
 use Rattle.stream_ident.specs.Words.{value_at, changed_value}
@@ -38,6 +39,10 @@ registration_of r s = value_at same_sub s r.names
 -- an open one
 abbrev pub registered : StreamId → GrainId → Token → Registration
 registered stream grain start = record { stream = stream; grain = grain; start = start; is_open = true }
+
+-- what stands for a subscription where there is none
+abbrev pub no_entry : SubName × Registration
+no_entry = (name.Explicit 0, registered (record { namespace = []; key = [] }) (record { kind = []; key = [] }) (batch_token 0))
 
 abbrev pub with_name : PlainRegistry → SubName → Registration → PlainRegistry
 with_name r s registration = record r { names = r.names ++ (s, registration) ∷ [] }

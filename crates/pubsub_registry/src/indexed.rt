@@ -1,78 +1,80 @@
 //! The subscriptions and the rules, each with an index: the numbers of each stream's subscriptions, and the
 //! rules on each namespace.
-ghost use Rattle.std.specs.Prelude.{◌≡◌, ◌-◌, ◌<◌, [], ◌∷◌, ◌++◌, ◌&&◌, ◌≤◌, filter, length, take, nat_eq, not, None, Some, slice_get, OnOk, OnErr, IfSome, is_some, Contains, insert, if◌then◌else◌};
-ghost use Rattle.std.specs.Option.{option_copied};
+ghost use Rattle.std.specs.Prelude.{◌≡◌, ◌-◌, ◌<◌, [], ◌∷◌, ◌++◌, ◌&&◌, ◌≤◌, All, filter, get_or, length, take, nat_eq, not, None, Some, OnOk, OnErr, IfSome, is_some, slice_get, Contains, insert, if◌then◌else◌};
 ghost use Rattle.std.specs.List.{list_any};
+ghost use Rattle.std.specs.Map.{keys_of};
 ghost use Rattle.stream_ident.specs.Name.{same_stream, same_name};
 ghost use Rattle.stream_ident.specs.SubName.{same_sub};
 ghost use Rattle.stream_ident.specs.Words.{changed_value, first_at, value_at};
 ghost use Rattle.stream_ident.specs.declared.ident.StreamId.{StreamId};
 ghost use Rattle.stream_ident.specs.declared.limits.TheConstants.{MOST_SUBS};
 ghost use Rattle.stream_ident.specs.declared.rule.Rule.{Rule};
-ghost use Rattle.indexmap.specs.IndexMap.{spare};
-ghost use Rattle.pubsub_registry.specs.Rows.{row_of};
+ghost use Rattle.pubsub_registry.specs.Rows.{row_of, ChangesRow};
 ghost use Rattle.pubsub_registry.specs.Ascending.{IsAscending, IsPlaceOf};
 
+use crate::packed::{Key, Row, key_at, key_of, known_key, name_by, number_of};
 use crate::registration::Registration;
 use crate::sub_names::SubNames;
 use indexmap::IndexMap;
 use std::alloc::{AllocError, Global};
 use std::hash::Hash;
 use std::marker::Model;
-use stream_ident::{Name, Rule, StreamId, SubName};
+use stream_ident::{GrainId, Name, Rule, StreamId, SubName};
 
 /// The subscriptions by name, in the order in which they were made, with the numbers of each stream's. A number is the
-/// place in that order.
+/// place in that order. Each stream and each grain is kept once, also where its last subscription was taken back.
 ///
 /// A contract sees it as the names with their registrations, in that order.
 #[derive(Debug, Drop)]
 pub(crate) struct Subscriptions {
-    names: IndexMap<SubName, Registration>,
+    rows: IndexMap<Key, Row>,
     by_stream: IndexMap<StreamId, Vec<u32>>,
+    grains: IndexMap<GrainId, ()>,
 }
 
 impl Model for Subscriptions {
     ghost use Rattle.std.specs.Prelude.{List};
-    ghost use Rattle.stream_ident.specs.Name.{same_stream};
     ghost use Rattle.stream_ident.specs.declared.ident.SubName.{SubName};
     ghost use Rattle.pubsub_registry.specs.declared.registration.Registration.{Registration};
-    ghost use Rattle.pubsub_registry.specs.Index.{IsIndexed};
-    ghost use Rattle.pubsub_registry.specs.Rows.{row_of};
+    ghost use Rattle.pubsub_registry.specs.Packed.{entries_by, ids_in, IsPacked};
 
     ghost Value = { List (SubName × Registration) };
 
-    ghost view = { λ s. s.names.entries };
+    ghost view = { λ s. entries_by (ids_in s.by_stream s.grains) s.rows.entries };
 
-    ghost invariant = { λ s. IsIndexed s.names.entries (row_of same_stream s.by_stream) };
+    ghost invariant = { λ s. IsPacked s.by_stream s.grains s.rows.entries };
 }
 
 impl Subscriptions {
-    ghost use Rattle.pubsub_registry.specs.Index.{AreNumbersOf, AreUnique};
-    ghost use Rattle.pubsub_registry.specs.Registry.{closed_registration};
+    ghost use Rattle.pubsub_registry.specs.Index.{names_at, AreNumbersOf, AreUnique};
+    ghost use Rattle.pubsub_registry.specs.Packed.{IsNameOf};
+    ghost use Rattle.pubsub_registry.specs.Registry.{closed_registration, no_entry};
 
     /// No subscriptions. It takes no memory.
     pub(crate) fn new(alloc: Global) -> Subscriptions
         ensures { result ≡ [] }
     {
         Subscriptions {
-            names: IndexMap::new(alloc),
+            rows: IndexMap::new(alloc),
             by_stream: IndexMap::new(alloc),
+            grains: IndexMap::new(alloc),
         }
     }
 
-    /// How many there are.
+    /// How many there are. No name stands twice.
     pub(crate) fn len(&self) -> usize
         ensures len { result ≡ length self.now }
         ensures unique { AreUnique self.now }
     {
-        self.names.len()
+        self.rows.len()
     }
 
     /// The registration of a name.
-    pub(crate) fn get(&self, sub: &SubName) -> Option<&Registration>
-        ensures { option_copied result ≡ value_at same_sub sub.now self.now }
+    pub(crate) fn get(&self, sub: &SubName) -> Option<Registration>
+        ensures { result ≡ value_at same_sub sub.now self.now }
     {
-        self.names.get(sub)
+        let place = self.find(sub)?;
+        Some(self.at(place).1)
     }
 
     /// The place of a name.
@@ -81,22 +83,52 @@ impl Subscriptions {
         ensures within { IfSome result (λ index. index < length self.now) }
         ensures found { is_some result ≡ is_some (value_at same_sub sub.now self.now) }
     {
-        self.names.get_index_of(sub)
+        let Some(key) = known_key(&self.by_stream, &self.grains, sub) else {
+            return None;
+        };
+        self.rows.get_index_of(&key)
     }
 
     /// The subscription at a place.
-    pub(crate) fn at(&self, index: usize) -> (&SubName, &Registration)
+    pub(crate) fn at(&self, index: usize) -> (SubName, Registration)
         requires { index < length self.now }
-        ensures { slice_get self.now index ≡ Some (result.0.now, result.1.now) }
+        ensures { slice_get self.now index ≡ Some result }
     {
-        self.names.get_index(index).unwrap()
+        let (key, row) = self.rows.get_index(index).unwrap();
+        let registration = Registration {
+            stream: *key_at(&self.by_stream, row.stream),
+            grain: *key_at(&self.grains, row.grain),
+            start: row.start,
+            is_open: row.is_open,
+        };
+        (name_by(&self.by_stream, &self.grains, key), registration)
     }
 
-    /// The subscriptions by name.
-    pub(crate) fn names(&self) -> &IndexMap<SubName, Registration>
-        ensures { result.now.entries ≡ self.now }
+    /// The name at a place.
+    pub(crate) fn name(&self, index: usize) -> SubName
+        requires { index < length self.now }
+        ensures { result ≡ (get_or self.now index no_entry).0 }
     {
-        &self.names
+        let (key, _) = self.rows.get_index(index).unwrap();
+        name_by(&self.by_stream, &self.grains, key)
+    }
+
+    /// The stream at a place.
+    pub(crate) fn stream(&self, index: usize) -> &StreamId
+        requires { index < length self.now }
+        ensures { result.now ≡ (get_or self.now index no_entry).1.stream }
+    {
+        let (_, row) = self.rows.get_index(index).unwrap();
+        key_at(&self.by_stream, row.stream)
+    }
+
+    /// The grain at a place.
+    pub(crate) fn grain(&self, index: usize) -> &GrainId
+        requires { index < length self.now }
+        ensures { result.now ≡ (get_or self.now index no_entry).1.grain }
+    {
+        let (_, row) = self.rows.get_index(index).unwrap();
+        key_at(&self.grains, row.grain)
     }
 
     /// The numbers of a stream's subscriptions, in the order of their names.
@@ -104,6 +136,14 @@ impl Subscriptions {
         ensures { AreNumbersOf self.now stream.now result.now }
     {
         row(&self.by_stream, stream)
+    }
+
+    /// The names of these numbers.
+    pub(crate) fn names_at<'a>(&'a self, numbers: &'a [u32]) -> SubNames<'a>
+        requires { All (λ number. number < length self.now) numbers.now }
+        ensures { result ≡ names_at (keys_of self.now) numbers.now }
+    {
+        SubNames::new(self, numbers)
     }
 
     /// Adds a subscription under a new name, behind the others.
@@ -119,15 +159,26 @@ impl Subscriptions {
     ) -> Result<(), AllocError>
         requires few { length self.old ≤ MOST_SUBS }
         requires new { value_at same_sub sub.now self.old ≡ None }
+        requires own { IsNameOf registration.now sub.now }
         ensures ok { OnOk result (self.new ≡ self.old ++ (sub.now, registration.now) ∷ []) }
         ensures err { OnErr result (self.new ≡ self.old) }
     {
-        self.names.reserve(1)?;
-        let number = self.names.len() as u32;
+        let len = self.len();
         let numbers = row(&self.by_stream, &registration.stream);
-        let at = place_of(&SubNames::new(&self.names, numbers), sub);
-        put(&mut self.by_stream, alloc, registration.stream, at, number)?;
-        push_name(&mut self.names, sub, registration);
+        let at = place_of(&self.names_at(numbers), sub);
+        let stream = number_of(&mut self.by_stream, registration.stream, Vec::new(alloc))?;
+        let grain = number_of(&mut self.grains, registration.grain, ())?;
+        let row = Row {
+            stream,
+            grain,
+            start: registration.start,
+            is_open: registration.is_open,
+        };
+        self.rows.insert(key_of(sub, grain, stream), row)?;
+        if let Err(error) = put_in(&mut self.by_stream, stream, at, len as u32) {
+            self.rows.truncate(len);
+            return Err(error);
+        }
         Ok(())
     }
 
@@ -135,9 +186,11 @@ impl Subscriptions {
     pub(crate) fn close(&mut self, sub: &SubName)
         ensures { self.new ≡ changed_value same_sub sub.now closed_registration self.old }
     {
-        if let Some(registration) = self.names.get_mut(sub) {
-            registration.is_open = false;
-        }
+        let Some(place) = self.find(sub) else {
+            return;
+        };
+        let row = self.rows.get_index_mut(place).unwrap();
+        row.is_open = false;
     }
 
     /// Takes back those behind the first `len`.
@@ -151,46 +204,47 @@ impl Subscriptions {
 
     /// Takes back the last.
     fn pop(&mut self)
+        requires { 0 < length self.old }
         ensures { self.new ≡ take (length self.old - 1) self.old }
     {
-        let len = self.names.len();
-        if len == 0 {
-            return;
-        }
-        let (_, registration) = self.names.get_index(len - 1).unwrap();
-        forget(&mut self.by_stream, &registration.stream, len - 1);
-        self.names.truncate(len - 1);
+        let last = self.len() - 1;
+        let (_, row) = self.rows.get_index(last).unwrap();
+        take_out(&mut self.by_stream, row.stream, last);
+        self.rows.truncate(last);
     }
 }
 
-/// Puts a new name behind the others, for which there is room.
+/// Puts a number into the row of the stream with a number, at this place in it.
 ///
-/// It isn't inlined: a name with its registration takes some 500 bytes, and is copied on its way.
-#[inline(never)]
-fn push_name(
-    names: &mut IndexMap<SubName, Registration>,
-    sub: &SubName,
-    registration: &Registration,
-)
-    requires room { 0 < spare names.old }
-    requires new { value_at same_sub sub.now names.old.entries ≡ None }
-    ensures { names.new.entries ≡ names.old.entries ++ (sub.now, registration.now) ∷ [] }
+/// # Errors
+/// The call failed to allocate, and each row is as it was.
+fn put_in(
+    by_stream: &mut IndexMap<StreamId, Vec<u32>>,
+    stream: u32,
+    at: usize,
+    number: u32,
+) -> Result<(), AllocError>
+    requires there { stream < length (keys_of by_stream.old.entries) }
+    requires at { (key : StreamId) → slice_get (keys_of by_stream.old.entries) stream ≡ Some key → at ≤ length (row_of same_stream by_stream.old key) }
+    ensures ok { OnOk result (ChangesRow same_stream stream (λ row. insert row at number) by_stream.old by_stream.new) }
+    ensures err { OnErr result (ChangesRow same_stream stream (λ row. row) by_stream.old by_stream.new) }
 {
-    names.insert(*sub, *registration).unwrap();
+    let row = by_stream.get_index_mut(stream as usize).unwrap();
+    row.insert(at, number)?;
+    Ok(())
 }
 
-/// Takes a number out of the row of its stream.
-fn forget(by_stream: &mut IndexMap<StreamId, Vec<u32>>, stream: &StreamId, number: usize)
-    ensures { (other : StreamId) → row_of same_stream by_stream.new other ≡ (if same_stream stream.now other then filter (λ n. not (nat_eq n number)) (row_of same_stream by_stream.old stream.now) else row_of same_stream by_stream.old other) }
+/// Takes a number out of the row of the stream with a number.
+fn take_out(by_stream: &mut IndexMap<StreamId, Vec<u32>>, stream: u32, number: usize)
+    requires { stream < length (keys_of by_stream.old.entries) }
+    ensures { ChangesRow same_stream stream (λ row. filter (λ n. not (nat_eq n number)) row) by_stream.old by_stream.new }
 {
-    if let Some(row) = by_stream.get_mut(stream) {
-        take_out(row, number);
-    }
-    drop_if_empty(by_stream, stream);
+    let row = by_stream.get_index_mut(stream as usize).unwrap();
+    drop_number(row, number);
 }
 
-/// Takes a number out of a row.
-fn take_out(row: &mut Vec<u32>, number: usize)
+/// Drops a number of a row.
+fn drop_number(row: &mut Vec<u32>, number: usize)
     ensures { row.new.items ≡ filter (λ n. not (nat_eq n number)) row.old.items }
 {
     row.retain(|n| *n as usize != number);
@@ -204,7 +258,7 @@ fn place_of(names: &SubNames, sub: &SubName) -> usize
     ensures { IsPlaceOf names.now sub.now result }
 {
     let mut at = names.len();
-    while at > 0 && sub.is_before(names.at(at - 1)) {
+    while at > 0 && sub.is_before(&names.at(at - 1)) {
         at -= 1;
     }
     at
@@ -318,13 +372,4 @@ fn put<K: Eq + Hash + Drop, V: Drop>(
     row.push_reserved(value);
     rows.insert(key, row)?;
     Ok(())
-}
-
-/// Drops the row of a key where there is no value in it.
-fn drop_if_empty<K: Eq + Hash + Drop, V: Drop>(rows: &mut IndexMap<K, Vec<V>>, key: &K)
-    ensures { (other : K) → row_of K.eq rows.new other ≡ row_of K.eq rows.old other }
-{
-    if row(rows, key).is_empty() {
-        rows.swap_remove(key);
-    }
 }

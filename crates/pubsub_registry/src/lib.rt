@@ -8,6 +8,7 @@
 
 mod implying;
 mod indexed;
+mod packed;
 mod registration;
 mod registry;
 mod sub_names;

@@ -1,11 +1,11 @@
 //! The registry.
-ghost use Rattle.std.specs.Prelude.{◌≡◌, ℕ, ◌<◌, ◌≤◌, ◌↔◌, true, false, None, Some, IsTrue, IfNone, IfSome, OnErr, is_some, length, slice_get};
+ghost use Rattle.std.specs.Prelude.{◌≡◌, ℕ, ◌<◌, ◌≤◌, ◌↔◌, true, false, None, Some, IsTrue, IfNone, IfSome, OnErr, is_some, get_or, length, slice_get};
 ghost use Rattle.stream_ident.specs.declared.limits.TheConstants.{MOST_RULES, MOST_SUBS};
 ghost use Rattle.stream_ident.specs.SubName.{same_sub};
 ghost use Rattle.stream_ident.specs.Words.{first_at, Performs};
 ghost use Rattle.stream_ident.specs.declared.ident.SubName.TheVariants.{Explicit, Implicit};
 ghost use Rattle.pubsub_registry.specs.Index.{AreNumbersOf, AreUnique, IsOn};
-ghost use Rattle.pubsub_registry.specs.Registry.{add, add_implied, add_rule, close, empty, is_full, next_number, registration_of, rules_on, truncated, AreSubsOf};
+ghost use Rattle.pubsub_registry.specs.Registry.{add, add_implied, add_rule, close, empty, is_full, next_number, no_entry, registered, registration_of, rules_on, truncated, AreSubsOf};
 
 use crate::indexed::{Rules, Subscriptions};
 use crate::registration::Registration;
@@ -240,11 +240,35 @@ impl Registry {
     }
 
     /// The subscription at a place.
-    pub fn at(&self, index: usize) -> (&SubName, &Registration)
+    pub fn at(&self, index: usize) -> (SubName, Registration)
         requires { index < length self.now.names }
-        ensures { slice_get self.now.names index ≡ Some (result.0.now, result.1.now) }
+        ensures { slice_get self.now.names index ≡ Some result }
     {
         self.subscriptions.at(index)
+    }
+
+    /// The name at a place.
+    pub fn name(&self, index: usize) -> SubName
+        requires { index < length self.now.names }
+        ensures { result ≡ (get_or self.now.names index no_entry).0 }
+    {
+        self.subscriptions.name(index)
+    }
+
+    /// The stream of the subscription at a place.
+    pub fn stream(&self, index: usize) -> &StreamId
+        requires { index < length self.now.names }
+        ensures { result.now ≡ (get_or self.now.names index no_entry).1.stream }
+    {
+        self.subscriptions.stream(index)
+    }
+
+    /// The grain of the subscription at a place.
+    pub fn grain(&self, index: usize) -> &GrainId
+        requires { index < length self.now.names }
+        ensures { result.now ≡ (get_or self.now.names index no_entry).1.grain }
+    {
+        self.subscriptions.grain(index)
     }
 
     /// The names of a stream's subscriptions, closed ones too, from the least to the greatest. It takes no
@@ -252,10 +276,8 @@ impl Registry {
     pub fn subs_of(&self, stream: &StreamId) -> SubNames<'_>
         ensures { AreSubsOf self.now stream.now result }
     {
-        SubNames::new(
-            self.subscriptions.names(),
-            self.subscriptions.numbers_of(stream),
-        )
+        let numbers = self.subscriptions.numbers_of(stream);
+        self.subscriptions.names_at(numbers)
     }
 
     /// The number of a subscription of a stream, that with the least name. It costs a look-up.

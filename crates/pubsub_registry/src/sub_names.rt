@@ -3,8 +3,7 @@ ghost use Rattle.std.specs.Prelude.{◌≡◌, ◌<◌, ◌↔◌, Some, All, Is
 ghost use Rattle.std.specs.Map.{keys_of};
 ghost use Rattle.pubsub_registry.specs.Index.{names_at};
 
-use crate::registration::Registration;
-use indexmap::IndexMap;
+use crate::indexed::Subscriptions;
 use std::marker::Model;
 use stream_ident::SubName;
 
@@ -13,7 +12,7 @@ use stream_ident::SubName;
 /// A contract sees it as the list of the names.
 #[derive(Drop)]
 pub struct SubNames<'a> {
-    names: &'a IndexMap<SubName, Registration>,
+    subscriptions: &'a Subscriptions,
     numbers: &'a [u32],
 }
 
@@ -25,21 +24,21 @@ impl<'a> Model for SubNames<'a> {
 
     ghost Value = { List SubName };
 
-    ghost view = { λ s. names_at (keys_of s.names.now.entries) s.numbers.now };
+    ghost view = { λ s. names_at (keys_of s.subscriptions.now) s.numbers.now };
 
-    ghost invariant = { λ s. All (λ number. number < length s.names.now.entries) s.numbers.now };
+    ghost invariant = { λ s. All (λ number. number < length s.subscriptions.now) s.numbers.now };
 }
 
 impl<'a> SubNames<'a> {
     /// The names of the subscriptions with these numbers, in the order of the numbers.
-    pub(crate) fn new(
-        names: &'a IndexMap<SubName, Registration>,
-        numbers: &'a [u32],
-    ) -> SubNames<'a>
-        requires { All (λ number. number < length names.now.entries) numbers.now }
-        ensures { result ≡ names_at (keys_of names.now.entries) numbers.now }
+    pub(crate) fn new(subscriptions: &'a Subscriptions, numbers: &'a [u32]) -> SubNames<'a>
+        requires { All (λ number. number < length subscriptions.now) numbers.now }
+        ensures { result ≡ names_at (keys_of subscriptions.now) numbers.now }
     {
-        SubNames { names, numbers }
+        SubNames {
+            subscriptions,
+            numbers,
+        }
     }
 
     /// How many names there are.
@@ -57,12 +56,11 @@ impl<'a> SubNames<'a> {
     }
 
     /// The name at a place.
-    pub fn at(&self, index: usize) -> &'a SubName
+    pub fn at(&self, index: usize) -> SubName
         requires { index < length self.now }
-        ensures { slice_get self.now index ≡ Some result.now }
+        ensures { slice_get self.now index ≡ Some result }
     {
         let numbers = self.numbers;
-        let (sub, _) = self.names.get_index(numbers[index] as usize).unwrap();
-        sub
+        self.subscriptions.name(numbers[index] as usize)
     }
 }

@@ -1,10 +1,11 @@
 //! What the agent hands to a subscription.
-ghost use Rattle.std.specs.Prelude.{◌≡◌, ◌+◌, ◌^◌, ◌<◌, None, OnErr, Some, length, true, IfOk};
+ghost use Rattle.std.specs.Prelude.{◌≡◌, ◌+◌, ◌^◌, ◌<◌, ◌≤◌, None, OnErr, Some, length, not, true, IfOk};
 ghost use Rattle.stream_model.specs.Memory.{is_untouched};
 ghost use Rattle.stream_model.specs.Positions.{is_outstanding, sub_at, token_at};
 ghost use Rattle.stream_model.specs.Pulling.{deliver};
 ghost use Rattle.stream_model.specs.Step.{takes_memory};
 ghost use Rattle.stream_ident.specs.Words.{Performs};
+ghost use Rattle.grain_table.specs.Changes.{activation_at};
 ghost use Rattle.grain_table.specs.Grains.{number_of};
 ghost use Rattle.subscription_table.specs.Table.{name_at};
 ghost use Rattle.stream_model.specs.Replies.{IsNoTurn};
@@ -51,7 +52,7 @@ pub(crate) fn deliver(
     let Some(number) = parts.subs.find(sub) else {
         return Ok(Reply::NoSuch);
     };
-    let grain = parts.grains.find(&parts.subs.registration(number).grain);
+    let grain = parts.grains.find(parts.subs.grain(number));
     let outstanding = is_outstanding(parts, number, grain);
     match parts
         .subs
@@ -167,7 +168,7 @@ fn hand_first(parts: &mut Parts, alloc: Global, delivery: Delivery) -> Result<Ou
     if is_spent(parts) {
         return Ok(Reply::Spent);
     }
-    let grain = parts.subs.registration(delivery.sub).grain;
+    let grain = *parts.subs.grain(delivery.sub);
     parts.grains.add(alloc, grain, delivery)?;
     Ok(sent(parts, delivery, true))
 }

@@ -87,12 +87,11 @@ pub(crate) fn subscription_figures(parts: &Parts, sub: &SubName) -> Option<Subsc
     ensures { result ≡ subscription_figures_of (plain_of parts.now) sub.now }
 {
     let number = parts.subs.find(sub)?;
-    let registration = parts.subs.registration(number);
     let state = parts.subs.state(number);
     Some(SubscriptionFigures {
-        stream: registration.stream,
-        grain: registration.grain,
-        start: registration.start,
+        stream: *parts.subs.stream(number),
+        grain: *parts.subs.grain(number),
+        start: state.start(),
         is_open: state.is_open(),
         handled: state.handled().len(),
         behind: behind(state, parts.queue.len()),

@@ -51,7 +51,7 @@ pub(crate) fn due(parts: &Parts, after: Option<SubName>) -> Outcome
     let high = parts.agent.cache().high();
     match parts.subs.due_after(after.as_ref(), high) {
         Some(number) => Reply::DueSub {
-            sub: *parts.subs.name(number),
+            sub: parts.subs.name(number),
             ack: to_acknowledge(parts.subs.state(number), &parts.queue),
         },
         None => Reply::NoneDue,
@@ -170,7 +170,7 @@ fn least_deliverable(parts: &Parts) -> Option<SubName>
     let mut last = None;
     while let Some(number) = next_due(parts, last) {
         if has_next(parts, number) {
-            return Some(*parts.subs.name(number));
+            return Some(parts.subs.name(number));
         }
         last = Some(number);
     }
@@ -188,14 +188,8 @@ fn has_next(parts: &Parts, number: usize) -> bool
         return false;
     }
     let cache = parts.agent.cache();
-    let registration = parts.subs.registration(number);
+    let stream = parts.subs.stream(number);
+    let start = state.start();
     let tag = parts.subs.tag(number);
-    next(
-        cache,
-        state.cursor(),
-        &registration.stream,
-        tag,
-        &registration.start,
-    )
-    .is_some()
+    next(cache, state.cursor(), stream, tag, &start).is_some()
 }

@@ -291,7 +291,7 @@ impl Partition {
         requires { number < length self.now.subs }
         ensures { result ≡ name_of self.now number }
     {
-        *self.parts.subs.name(number)
+        self.parts.subs.name(number)
     }
 
     /// The grain of the subscription with a number.
@@ -299,7 +299,7 @@ impl Partition {
         requires { number < length self.now.subs }
         ensures { Some result ≡ option_map grain_of (sub_at self.now (name_of self.now number)) }
     {
-        self.parts.subs.registration(number).grain
+        *self.parts.subs.grain(number)
     }
 
     /// From where on the next event of the subscription with a number is sought.

@@ -169,7 +169,7 @@ pub(crate) fn unsubscribe(parts: &mut Parts, sub: &SubName) -> Outcome
     let Some(number) = parts.subs.find(sub) else {
         return Reply::NoSuch;
     };
-    let grain = parts.subs.registration(number).grain;
+    let grain = *parts.subs.grain(number);
     let handled = parts.subs.state(number).handled().len();
     match parts.subs.close(number) {
         Closing::Done => {

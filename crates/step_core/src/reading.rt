@@ -69,13 +69,13 @@ fn summary_of(parts: &Parts, number: usize, name: SubName) -> SubSummary
     requires within { number < length parts.now.subs.registry.names }
     ensures { result ≡ summary_of (name, record_of parts.now number) }
 {
-    let registration = parts.subs.registration(number);
+    let state = parts.subs.state(number);
     SubSummary {
         name,
-        stream: registration.stream,
-        grain: registration.grain,
-        start: registration.start,
-        is_open: parts.subs.state(number).is_open(),
+        stream: *parts.subs.stream(number),
+        grain: *parts.subs.grain(number),
+        start: state.start(),
+        is_open: state.is_open(),
     }
 }
 
@@ -87,7 +87,7 @@ pub(crate) fn summary_at(parts: &Parts, rank: usize) -> SubSummary
 {
     let order = parts.subs.by_name();
     let number = order[rank];
-    summary_of(parts, number, *parts.subs.name(number))
+    summary_of(parts, number, parts.subs.name(number))
 }
 
 /// The summaries in the order of the names.
@@ -98,7 +98,7 @@ pub(crate) fn summaries(parts: &Parts, alloc: Global) -> Result<Vec<SubSummary>,
     let order = parts.subs.by_name();
     let mut summaries = Vec::with_capacity(alloc, order.len())?;
     for number in order {
-        let name = *parts.subs.name(*number);
+        let name = parts.subs.name(*number);
         summaries.push(summary_of(parts, *number, name))?;
     }
     Ok(summaries)

@@ -3,6 +3,7 @@ ghost use Rattle.std.specs.Prelude.{◌≡◌, ◌<◌, ℕ, true, max, length, 
 ghost use Rattle.stream_ident.specs.Name.{same_grain};
 ghost use Rattle.stream_ident.specs.Words.{past, value_at};
 ghost use Rattle.stream_model.specs.Draining.{next_note};
+ghost use Rattle.stream_model.specs.Positions.{next_position};
 ghost use Rattle.subscription_table.specs.Table.{name_at, state_at};
 ghost use Rattle.step_core.specs.Assembly.{Agrees, IsAssembled};
 ghost use Rattle.step_core.specs.PlainOf.{plain_of};
@@ -47,7 +48,7 @@ fn is_held(parts: &Parts, number: usize) -> bool
     if parts.grains.is_idle() {
         return false;
     }
-    match parts.grains.find(&parts.subs.registration(number).grain) {
+    match parts.grains.find(parts.subs.grain(number)) {
         Some(grain) => parts.grains.at(grain).holds(number),
         None => false,
     }
@@ -107,13 +108,14 @@ fn fresh_next(parts: &Parts, number: usize) -> Option<usize>
     if handled == 0 {
         return None;
     }
-    let registration = parts.subs.registration(number);
+    let stream = parts.subs.stream(number);
+    let start = state.start();
     let position = next(
         parts.agent.cache(),
         state.cursor(),
-        &registration.stream,
+        stream,
         parts.subs.tag(number),
-        &registration.start,
+        &start,
     )?;
     if position < handled {
         return None;
@@ -127,7 +129,7 @@ fn rests(parts: &Parts, number: usize) -> bool
     requires number { number < length parts.now.subs.registry.names }
     ensures { result ≡ true → (activation : ℕ) × (value_at same_grain (record_of parts.now number).grain (plain_of parts.now).grains ≡ Some (resting_grain activation)) }
 {
-    let Some(grain) = parts.grains.find(&parts.subs.registration(number).grain) else {
+    let Some(grain) = parts.grains.find(parts.subs.grain(number)) else {
         return false;
     };
     let activation = parts.grains.at(grain);

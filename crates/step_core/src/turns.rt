@@ -66,14 +66,14 @@ fn outcome_of_begun(parts: &mut Parts, activation: u64, begun: Begun) -> Outcome
         Begun::Busy => Reply::Busy,
         Begun::Empty => Reply::Empty,
         Begun::Dropped(delivery) => Reply::Dropped {
-            sub: *parts.subs.name(delivery.sub),
+            sub: parts.subs.name(delivery.sub),
             token: parts.queue.token_at(delivery.position),
         },
         Begun::Turn { sub, positions } => {
             parts.rises += 1;
             parts.turns += 1;
             Reply::Turn {
-                sub: *parts.subs.name(sub),
+                sub: parts.subs.name(sub),
                 activation,
                 turn: parts.turns,
                 events: positions,
@@ -146,7 +146,7 @@ fn handle(
     }
     subs.commit(alloc, run.sub, &run.positions, note)?;
     Ok(Reply::Committed {
-        sub: *subs.name(run.sub),
+        sub: subs.name(run.sub),
         token: queue.token_at(last_position(&run.positions)),
     })
 }

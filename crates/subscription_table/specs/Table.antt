@@ -4,7 +4,6 @@ use Rattle.stream_ident.specs.declared.event.Event.{Event}
 use Rattle.stream_ident.specs.declared.ident.GrainId.{GrainId}
 use Rattle.stream_ident.specs.declared.ident.StreamId.{StreamId}
 use Rattle.stream_ident.specs.declared.ident.SubName.{SubName}
-use Rattle.stream_ident.specs.declared.ident.SubName.TheVariants as name
 use Rattle.stream_ident.specs.declared.token.Token.{Token}
 use Rattle.stream_ident.specs.Event.{batch_token}
 use Rattle.stream_ident.specs.SubName.{same_sub}
@@ -14,6 +13,7 @@ use Rattle.consumer_grain.specs.Subscriptions.{PlainState, closed, new_state}
 use Rattle.pubsub_registry.specs.Implying as implying
 use Rattle.pubsub_registry.specs.Registry as registry
 use Rattle.pubsub_registry.specs.Registry.{PlainRegistry}
+pub use Rattle.pubsub_registry.specs.Registry.{no_entry}
 use Rattle.pubsub_registry.specs.declared.registration.Registration.{Registration}
 use Rattle.pubsub_registry.specs.declared.told.Added.{Added}
 use Rattle.pubsub_registry.specs.declared.told.Added.TheVariants as add_told
@@ -31,12 +31,9 @@ pub record PlainTable : Type 0 where
 abbrev pub empty : ℕ → ℕ → PlainTable
 empty most_names most_rules = record { registry = registry.empty most_names most_rules; states = [] }
 
--- what stands for a state and for a registration where there is none
+-- what stands for a state where there is none
 abbrev pub no_state : PlainState
 no_state = new_state (batch_token 0) 0
-
-abbrev pub no_entry : SubName × Registration
-no_entry = (name.Explicit 0, registry.registered (record { namespace = []; key = [] }) (record { kind = []; key = [] }) (batch_token 0))
 
 abbrev pub state_at : PlainTable → ℕ → PlainState
 state_at t number = get_or t.states number no_state

@@ -19,12 +19,12 @@ mod changes;
 
 use consumer_grain::SubState;
 use partition_queue::Span;
-use pubsub_registry::{Registration, Registry};
+use pubsub_registry::Registry;
 use queue_mapper::tag;
 use ranked_index::Resumes;
 use std::alloc::{AllocError, Global};
 use std::marker::Model;
-use stream_ident::{StreamId, SubName};
+use stream_ident::{GrainId, StreamId, SubName};
 
 /// The subscriptions of a partition.
 ///
@@ -120,23 +120,31 @@ impl SubscriptionTable {
         if number >= self.len() {
             return None;
         }
-        (*sub == *self.name(number)).then_some(number)
+        (*sub == self.name(number)).then_some(number)
     }
 
     /// The name with a number.
-    pub fn name(&self, number: usize) -> &SubName
+    pub fn name(&self, number: usize) -> SubName
         requires { number < length self.now.registry.names }
-        ensures { result.now ≡ name_at self.now number }
+        ensures { result ≡ name_at self.now number }
     {
-        self.registry.at(number).0
+        self.registry.name(number)
     }
 
-    /// The registration with a number.
-    pub fn registration(&self, number: usize) -> &Registration
+    /// The stream of the subscription with a number.
+    pub fn stream(&self, number: usize) -> &StreamId
         requires { number < length self.now.registry.names }
-        ensures { result.now ≡ registration_at self.now number }
+        ensures { result.now ≡ (registration_at self.now number).stream }
     {
-        self.registry.at(number).1
+        self.registry.stream(number)
+    }
+
+    /// The grain of the subscription with a number.
+    pub fn grain(&self, number: usize) -> &GrainId
+        requires { number < length self.now.registry.names }
+        ensures { result.now ≡ (registration_at self.now number).grain }
+    {
+        self.registry.grain(number)
     }
 
     /// The tag of the stream of the subscription with a number.
@@ -185,7 +193,7 @@ impl SubscriptionTable {
         ensures { result ≡ slowest (leaves_of self.now.registry.names self.now.states) }
     {
         let number = self.resumes.top()?;
-        Some(*self.name(number))
+        Some(self.name(number))
     }
 
     /// The number of the next subscription that is due: open, with something to acknowledge or a resume below
@@ -292,7 +300,7 @@ fn push_leaves(
 {
     let len = resumes.len();
     for number in len..registry.len() {
-        let rank = first_past(registry, resumes.numbers(), Some(registry.at(number).0));
+        let rank = first_past(registry, resumes.numbers(), Some(&registry.name(number)));
         if let Err(error) = resumes.push(alloc, rank, position) {
             resumes.truncate(len);
             return Err(error);
@@ -316,7 +324,7 @@ fn first_past(registry: &Registry, order: &[usize], after: Option<&SubName>) -> 
 fn is_up_to(registry: &Registry, number: usize, name: &SubName) -> bool
     ensures { result ≡ is_up_to name_of sub_lt registry.now.names name.now number }
 {
-    number < registry.len() && !name.is_before(registry.at(number).0)
+    number < registry.len() && !name.is_before(&registry.name(number))
 }
 
 /// Sets the leaf with a number to what is kept of a state. It takes no memory.

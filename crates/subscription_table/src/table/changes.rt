@@ -132,7 +132,7 @@ impl SubscriptionTable {
     {
         // No name stands twice, so that the name has this number.
         prove!(number < self.registry.len());
-        let sub = *self.registry.at(number).0;
+        let sub = self.registry.at(number).0;
         let closing = self.registry.close(&sub);
         if let Closing::Done = closing {
             self.states[number].close();
@@ -173,7 +173,7 @@ impl SubscriptionTable {
         ensures found { IsFound cache.now (state_at self.old number) result }
     {
         self.last = number;
-        let stream = &self.registry.at(number).1.stream;
+        let stream = self.registry.stream(number);
         let tag = self.tags[number];
         let state = &mut self.states[number];
         let sought = next_event(state, cache, stream, tag, outstanding);

@@ -10,7 +10,7 @@ pub loop-at-preserved : goal.loop-at-preserved
 loop-at-preserved c =
     let names = c.args.names.now in
     let s = c.args.sub.now in
-    let name = c.at.result.now in
+    let name = c.at.result in
     let last = c.loop-at.at - 1 in
     let some = c.loop-at-test.true in
     let within = c.loop-at.invariant.0 in
@@ -29,4 +29,4 @@ returns-else-is_before c =
     let not_less = sym c.is_before.ensures ∙ c.if-is_before.false in
     place-from names s c.loop-at.at c.requires.ascending c.requires.new within c.loop-at.invariant.1
     (λ k is. let same : last ≡ k = omega arith in
-    subst (λ at. sub_lt s (get_or names at s) ≡ false) same (ap (sub_lt s) (get_or_from_slice_get names last c.at.result.now s c.at.ensures) ∙ not_less))
+    subst (λ at. sub_lt s (get_or names at s) ≡ false) same (ap (sub_lt s) (get_or_from_slice_get names last c.at.result s c.at.ensures) ∙ not_less))

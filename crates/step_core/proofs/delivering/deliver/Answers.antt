@@ -5,7 +5,7 @@ use Rattle.step_core.proofs.RecordOps.{no-record}
 use Rattle.stream_model.specs.declared.reply.Reply.TheVariants as reply
 use Rattle.stream_model.specs.Step.{takes_memory}
 use Rattle.grain_table.specs.Grains.{number_of}
-use Rattle.pubsub_registry.specs.declared.registration.Registration.{Registration}
+use Rattle.stream_ident.specs.declared.ident.GrainId.{GrainId}
 use Rattle.queue_cache.specs.Cache.{PlainCache, high}
 use Rattle.subscription_table.specs.Table.{PlainTable, registration_at, state_at}
 use Rattle.subscription_table.specs.declared.told.Sought.TheVariants as sought
@@ -31,12 +31,12 @@ returns-in_default-find-clause-performs c =
     (no-record parts c.args.sub.now (sym c.requires.records.long) (sym c.in_default-find.ensures.number))
 
 -- the number of the grain, as it was found
-found : (parts : Parts) (number : ℕ) (registration : Registration) (grain : Option ℕ) → registration ≡ registration_at parts.subs number → grain ≡ number_of parts.grains registration.grain → number_of parts.grains (record_of parts number).grain ≡ grain
-found parts number registration grain its at = ap (λ (r : Registration). number_of parts.grains r.grain) (sym its) ∙ sym at
+found : (parts : Parts) (number : ℕ) (own : GrainId) (grain : Option ℕ) → own ≡ (registration_at parts.subs number).grain → grain ≡ number_of parts.grains own → number_of parts.grains (record_of parts number).grain ≡ grain
+found parts number own grain its at = ap (number_of parts.grains) (sym its) ∙ sym at
 
 pub is_outstanding-outstanding-requires-clause-grain : goal.is_outstanding-outstanding-requires-clause-grain
 is_outstanding-outstanding-requires-clause-grain c =
-    found c.args.parts.now c.in-Some.number c.registration.result.now c.find-grain.result c.registration.ensures c.find-grain.ensures.number
+    found c.args.parts.now c.in-Some.number c.grain.result.now c.find-grain.result c.grain.ensures c.find-grain.ensures.number
 
 pub next_event-requires-clause-cursor : goal.next_event-requires-clause-cursor
 next_event-requires-clause-cursor c =
@@ -71,7 +71,7 @@ hand_over-requires-clause-grain c =
     let sought : Searched parts c.next_event.new.self c.in-Some.number c.is_outstanding-outstanding.result (sought.Next c.in-Next.position) =
     searched-is parts c.next_event.new.self c.in-Some.number c.cache.result.now c.is_outstanding-outstanding.result (sought.Next c.in-Next.position) c.cache.ensures c.in-Next.ensures.sought in
     grain-there parts c.next_event.new.self c.in-Some.number c.in-Next.position c.is_outstanding-outstanding.result c.find-grain.result sought
-    (found parts c.in-Some.number c.registration.result.now c.find-grain.result c.registration.ensures c.find-grain.ensures.number)
+    (found parts c.in-Some.number c.grain.result.now c.find-grain.result c.grain.ensures c.find-grain.ensures.number)
 
 pub returns-in-Next-clause-performs : goal.returns-in-Next-clause-performs
 returns-in-Next-clause-performs c =

@@ -1,6 +1,6 @@
 use Rattle.std.proofs.Common.{◌∙◌, ap, sym}
 use Rattle.grain_table.specs.Grains.{with_grain}
-use Rattle.pubsub_registry.specs.declared.registration.Registration.{Registration}
+use Rattle.stream_ident.specs.declared.ident.GrainId.{GrainId}
 use Rattle.step_core.specs.Replied.{reply_of}
 use Rattle.step_core.proofs.HandOps.{Stands, first-assembled, first-memory, first-performs, first-spent, first-untouched, position-few, position-there}
 use Rattle.step_core.proofs.delivering.hand_first.Goals as goal
@@ -31,11 +31,11 @@ sent-requires-clause-room c = position-few c.args.parts.now c.args.delivery c.re
 
 pub returns-clause-assembled : goal.returns-clause-assembled
 returns-clause-assembled c =
-    first-assembled c.args.parts.now c.sent.new.parts c.args.delivery c.registration.result.now.grain c.add.new.self c.requires.agrees.assembled c.requires.next.numbered (ap (λ (r : Registration). r.grain) c.registration.ensures) c.in_ok-add.ensures c.sent.ensures.parts
+    first-assembled c.args.parts.now c.sent.new.parts c.args.delivery c.grain-grain.result.now c.add.new.self c.requires.agrees.assembled c.requires.next.numbered c.grain-grain.ensures c.in_ok-add.ensures c.sent.ensures.parts
 
 pub returns-clause-performs : goal.returns-clause-performs
 returns-clause-performs c =
     let parts = c.args.parts.now in
     let stands : Stands parts c.args.delivery.sub = record { agrees = c.requires.agrees; within = c.requires.next.numbered } in
     first-performs parts c.sent.new.parts c.args.delivery c.add.new.self (reply_of c.sent.result) stands c.requires.next c.requires.first (sym c.is_spent.ensures ∙ c.if-is_spent.false)
-    (c.in_ok-add.ensures ∙ ap (λ (r : Registration). with_grain parts.grains r.grain c.args.delivery) c.registration.ensures) c.sent.ensures.parts c.sent.ensures.reply
+    (c.in_ok-add.ensures ∙ ap (λ (grain : GrainId). with_grain parts.grains grain c.args.delivery) c.grain-grain.ensures) c.sent.ensures.parts c.sent.ensures.reply

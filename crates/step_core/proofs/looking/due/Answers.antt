@@ -26,7 +26,7 @@ returns-in-Some-clause-reply c =
     let asked = ap (due_after (high parts.agent.cache)) (sym c.as_ref.ensures.value) in
     let is_due = ap (λ due. due leaves) asked ∙ ap (λ n. due_after n (option_copied c.as_ref.result) leaves) (sym is_high) ∙ c.in-Some.ensures.some in
     let ack = c.to_acknowledge.ensures ∙ ap (λ (s : PlainState). if is_unacknowledged s then Some (token_at parts.queue (pred (past s.handled))) else None) c.state.ensures in
-    due-some parts c.args.after c.in-Some.number c.name.result.now c.to_acknowledge.result (distinct-of-unique parts.subs.registry.names c.requires.unique) (sym c.requires.records.long) c.in-Some.ensures.within is_due c.name.ensures ack
+    due-some parts c.args.after c.in-Some.number c.name.result c.to_acknowledge.result (distinct-of-unique parts.subs.registry.names c.requires.unique) (sym c.requires.records.long) c.in-Some.ensures.within is_due c.name.ensures ack
 
 pub returns-in-None-clause-reply : goal.returns-in-None-clause-reply
 returns-in-None-clause-reply c =

@@ -7,7 +7,6 @@ use Rattle.stream_model.specs.Replies.{Reply}
 use Rattle.stream_model.specs.declared.reply.Reply.TheVariants as reply
 use Rattle.consumer_grain.specs.Activations.{PlainActivation}
 use Rattle.consumer_grain.specs.Subscriptions.{PlainState}
-use Rattle.pubsub_registry.specs.declared.registration.Registration.{Registration}
 use Rattle.pubsub_registry.specs.declared.told.Closing.TheVariants as close_told
 use Rattle.step_core.specs.Assembly.{IsAssembled}
 use Rattle.step_core.specs.PlainOf.{plain_of}
@@ -23,14 +22,14 @@ returns-in-Done-clause-assembled c =
     let parts = c.args.parts.now in
     let closed = closed-assembled parts c.in-Some.number c.args.sub.now c.requires.records c.in-Some.ensures.number c.close.new.self close_told.Done c.requires.assembled c.in-Done.ensures in
     subst (λ (grains : List (GrainId × PlainActivation)). IsAssembled (record parts { subs = c.close.new.self; grains = grains })) (sym c.forget.ensures)
-    (forgotten-assembled (record parts { subs = c.close.new.self }) c.registration.result.now.grain c.in-Some.number closed
+    (forgotten-assembled (record parts { subs = c.close.new.self }) c.grain.result.now c.in-Some.number closed
     (closed-after parts c.in-Some.number c.args.sub.now c.requires.records c.in-Some.ensures.number c.close.new.self c.in-Done.ensures))
 
 pub returns-in-Done-clause-performs : goal.returns-in-Done-clause-performs
 returns-in-Done-clause-performs c =
     let parts = c.args.parts.now in
     let number = c.in-Some.number in
-    let grains = c.forget.ensures ∙ ap (λ (registration : Registration). forgotten_by registration.grain number parts.grains) c.registration.ensures in
+    let grains = c.forget.ensures ∙ ap (λ (grain : GrainId). forgotten_by grain number parts.grains) c.grain.ensures in
     let handled = c.handled-handled.ensures.handled ∙ ap (λ (state : PlainState). state.handled) c.state.ensures in
     ap {B = PlainPartition × Reply} (λ gs. (plain_of (record parts { subs = c.close.new.self; grains = gs }), reply.Unsubscribed (length c.handled-handled.result.now))) grains
     ∙ ap {B = PlainPartition × Reply} (λ (positions : List ℕ). (plain_of (record parts { subs = c.close.new.self; grains = left_grains parts number }), reply.Unsubscribed (length positions))) handled

@@ -1,4 +1,4 @@
-use Rattle.std.proofs.Common.{◌≡◌, ◌∙◌, ap, ℕ, Bool, eq-eqb}
+use Rattle.std.proofs.Common.{◌≡◌, ◌∙◌, ap, ℕ, Bool, ◌==◌, eq-eqb}
 use Rattle.std.specs.Prelude.{if◌then◌else◌, Result, Ok, Err}
 use Rattle.pulling_agent.specs.Agent.{PlainAgent, if_current, take_next}
 use Rattle.pulling_agent.specs.declared.agent.StaleAgent.{StaleAgent}

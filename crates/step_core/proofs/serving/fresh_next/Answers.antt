@@ -3,7 +3,7 @@ use Rattle.stream_ident.specs.Words.{past}
 use Rattle.stream_model.specs.Positions.{next_position}
 use Rattle.consumer_grain.specs.Subscriptions.{PlainState}
 use Rattle.stream_laws.proofs.DrainDeliver.{next-bounds}
-use Rattle.pubsub_registry.specs.declared.registration.Registration.{Registration}
+use Rattle.stream_ident.specs.declared.ident.StreamId.{StreamId}
 use Rattle.queue_cache.specs.Cache.{PlainCache}
 use Rattle.cache_cursor.specs.Cursor.{next_in}
 use Rattle.step_core.specs.PlainOf.{plain_of}
@@ -26,11 +26,15 @@ returns c =
     let stands : Stands parts c.args.number = record { agrees = c.requires.agrees; within = c.requires.number } in
     let is_open = ap (λ (state : PlainState). state.is_open) (sym c.state-state.ensures) ∙ (sym c.is_open.ensures ∙ c.if-not-is_open.false) in
     let handled : c.past-handled.result ≡ past r.handled = c.past-handled.ensures ∙ ap (λ (state : PlainState). past state.handled) c.state-state.ensures in
+    let started : c.start-start.result ≡ r.start =
+    c.start-start.ensures ∙ ap (λ (state : PlainState). state.start) c.state-state.ensures
+    ∙ c.requires.agrees.records.starts c.args.number (omega (arith, c.requires.number, c.requires.agrees.records.long)) in
     let read : c.next.result ≡ next_in parts.agent.cache r.cursor r.stream r.start =
     c.next.ensures.next
-    ∙ ap (λ (cache : PlainCache). next_in cache c.cursor.result c.registration-registration.result.now.stream c.registration-registration.result.now.start) c.cache.ensures
-    ∙ ap (λ (from : ℕ). next_in parts.agent.cache from c.registration-registration.result.now.stream c.registration-registration.result.now.start) (c.cursor.ensures ∙ ap (λ (state : PlainState). state.cursor) c.state-state.ensures)
-    ∙ ap (λ (registration : Registration). next_in parts.agent.cache r.cursor registration.stream registration.start) c.registration-registration.ensures in
+    ∙ ap (λ (cache : PlainCache). next_in cache c.cursor.result c.stream-stream.result.now c.start-start.result) c.cache.ensures
+    ∙ ap (λ (from : ℕ). next_in parts.agent.cache from c.stream-stream.result.now c.start-start.result) (c.cursor.ensures ∙ ap (λ (state : PlainState). state.cursor) c.state-state.ensures)
+    ∙ ap (λ (stream : StreamId). next_in parts.agent.cache r.cursor stream c.start-start.result) c.stream-stream.ensures
+    ∙ ap (next_in parts.agent.cache r.cursor r.stream) started in
     let next : next_position (plain_of parts) r ≡ Some c.in_ok-position.position =
     next-is parts r c.requires.agrees.assembled.cached (cursor-low parts c.args.number stands is_open)
     ∙ sym read ∙ c.in_ok-position.was in

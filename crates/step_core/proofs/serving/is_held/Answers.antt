@@ -2,7 +2,7 @@ use Rattle.std.proofs.Common.{◌≡◌, ◌∙◌, ap, sym, ℕ, Option}
 use Rattle.stream_ident.specs.Name.{same_grain}
 use Rattle.stream_ident.specs.Words.{place_of}
 use Rattle.consumer_grain.specs.Activations.{holds}
-use Rattle.pubsub_registry.specs.declared.registration.Registration.{Registration}
+use Rattle.stream_ident.specs.declared.ident.GrainId.{GrainId}
 use Rattle.subscription_table.specs.Table.{name_at, registration_at}
 use Rattle.step_core.specs.declared.parts.Parts.{Parts}
 use Rattle.step_core.specs.Records.{record_of}
@@ -10,8 +10,8 @@ use Rattle.step_core.proofs.HandOps.{Stands, held-idle, held-nowhere, held-there
 use Rattle.step_core.proofs.serving.is_held.Goals as goal
 
 -- the number of the grain, as it was found
-found : (parts : Parts) (number : ℕ) (registration : Registration) (grain : Option ℕ) → registration ≡ registration_at parts.subs number → grain ≡ place_of same_grain registration.grain parts.grains → place_of same_grain (record_of parts number).grain parts.grains ≡ grain
-found parts number registration grain its at = ap (λ (r : Registration). place_of same_grain r.grain parts.grains) (sym its) ∙ sym at
+found : (parts : Parts) (number : ℕ) (own : GrainId) (grain : Option ℕ) → own ≡ (registration_at parts.subs number).grain → grain ≡ place_of same_grain own parts.grains → place_of same_grain (record_of parts number).grain parts.grains ≡ grain
+found parts number own grain its at = ap (λ (g : GrainId). place_of same_grain g parts.grains) (sym its) ∙ sym at
 
 pub returns-then-is_idle : goal.returns-then-is_idle
 returns-then-is_idle c =
@@ -22,11 +22,11 @@ pub returns-in-Some : goal.returns-in-Some
 returns-in-Some c =
     let parts = c.args.parts.now in
     let stands : Stands parts c.args.number = record { agrees = c.requires.agrees; within = c.requires.number } in
-    let at = found parts c.args.number c.registration.result.now c.find.result c.registration.ensures c.find.ensures.number in
+    let at = found parts c.args.number c.grain.result.now c.find.result c.grain.ensures c.find.ensures.number in
     c.holds.ensures ∙ ap (holds c.args.number) c.at.ensures.activation ∙ sym (held-there parts c.args.number c.in-Some.grain stands (at ∙ c.in-Some.is))
 
 pub returns-in-None : goal.returns-in-None
 returns-in-None c =
     let parts = c.args.parts.now in
-    let at = found parts c.args.number c.registration.result.now c.find.result c.registration.ensures c.find.ensures.number in
+    let at = found parts c.args.number c.grain.result.now c.find.result c.grain.ensures c.find.ensures.number in
     sym (held-nowhere parts c.args.number (name_at parts.subs c.args.number) (at ∙ c.in-None.is))

@@ -1,3 +1,4 @@
+use Rattle.stream_ident.specs.declared.ident.GrainId.{GrainId}
 use Rattle.std.proofs.Common.{◌≡◌, ◌∙◌, ap, sym, List, [], ◌∷◌, length, Option, Some, None, true, false, refl, arith}
 use Rattle.std.specs.Prelude.{is_some}
 use Rattle.stream_ident.specs.Name.{same_grain}
@@ -29,7 +30,7 @@ returns c =
     let a = activation_at parts.grains i in
     let at = c.at-activation.ensures.activation in
     let g = (record_of parts c.args.number).grain in
-    let found : place_of same_grain g parts.grains ≡ Some i = ap (λ r. place_of same_grain r.grain parts.grains) (sym c.registration.ensures) ∙ sym c.find.ensures.number ∙ c.in-Some.is in
+    let found : place_of same_grain g parts.grains ≡ Some i = ap (λ (own : GrainId). place_of same_grain own parts.grains) (sym c.grain.ensures) ∙ sym c.find.ensures.number ∙ c.in-Some.is in
     let empty : a.mailbox ≡ [] = none-there a.mailbox (sym (ap (λ (x : PlainActivation). length x.mailbox) at) ∙ sym c.waiting.ensures.count ∙ omega (arith, c.if-waiting-gt0.false)) in
     let idle : a.running ≡ None =
     none-runs a.running (sym (ap (λ (x : PlainActivation). is_some x.running) at) ∙ sym (ap is_some c.running.ensures) ∙ some-copied c.running.result ∙ sym c.is_some.ensures ∙ c.if-is_some.false) in

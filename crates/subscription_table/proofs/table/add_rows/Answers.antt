@@ -8,7 +8,7 @@ use Rattle.subscription_table.proofs.table.add_rows.Goals as goal
 pub loop-number-preserved : goal.loop-number-preserved
 loop-number-preserved c =
     let names = c.args.registry.now.names in
-    let entry : Entry = (c.at.result.0.now, c.at.result.1.now) in
+    let entry : Entry = c.at-registration.result in
     let before = c.loop-number.invariant in
     let state = c.push_reserved.ensures in
     let tag = c.push_reserved-in-loop-number.ensures in
@@ -18,9 +18,9 @@ loop-number-preserved c =
     tag.items ∙ ap (λ (n : ℕ). c.loop-number.tags.items ++ n ∷ []) c.event_tag.ensures in
     record {
       states = row-more (λ (entry : Entry). new_state entry.1.start c.args.position) c.reserve.new.self.items c.loop-number.states.items c.push_reserved.new.self.items
-          names c.len-len.result c.loop-number.number entry c.loop-number.auto.number c.at.ensures before.states stated;
+          names c.len-len.result c.loop-number.number entry c.loop-number.auto.number c.at-registration.ensures before.states stated;
       tags = row-more (λ (entry : Entry). tag_of entry.1.stream) c.reserve-2.new.self.items c.loop-number.tags.items c.push_reserved-in-loop-number.new.self.items
-          names c.len-len.result c.loop-number.number entry c.loop-number.auto.number c.at.ensures before.tags tagged;
+          names c.len-len.result c.loop-number.number entry c.loop-number.auto.number c.at-registration.ensures before.tags tagged;
       states_room = omega (arith, state.capacity, before.states_room);
       tags_room = omega (arith, tag.capacity, before.tags_room);
     }

@@ -1,4 +1,4 @@
-use Rattle.std.proofs.Common.{◌≡◌, ◌∙◌, ◌<◌, All, length, sym, ap, subst}
+use Rattle.std.proofs.Common.{◌∙◌, sym, ap, subst}
 use Rattle.std.specs.Map.{keys_of}
 use Rattle.pubsub_registry.specs.Index.{AreNumbersOf, names_at}
 use Rattle.pubsub_registry.specs.Registry.{PlainRegistry, AreSubsOf}
@@ -6,17 +6,14 @@ use Rattle.pubsub_registry.proofs.Entries.{Names}
 use Rattle.pubsub_registry.proofs.SubsLemmas.{numbers-within, subs-of}
 use Rattle.pubsub_registry.proofs.registry.Registry.subs_of.Goals as goal
 
-pub new-requires : goal.new-requires
-new-requires c =
-    let r = c.args.self.now in
-    let numbers = subst (λ (names : Names). AreNumbersOf names c.args.stream.now c.numbers_of.result.now) (ap (λ (r : PlainRegistry). r.names) c.self.view_is) c.numbers_of.ensures in
-    let same : c.names.result.now.entries ≡ r.names = c.names.ensures ∙ ap (λ (r : PlainRegistry). r.names) c.self.view_is in
-    subst (λ (names : Names). All (λ n. n < length names) c.numbers_of.result.now) (sym same) (numbers-within r.names c.args.stream.now c.numbers_of.result.now numbers)
+pub names_at-requires : goal.names_at-requires
+names_at-requires c =
+    numbers-within c.self.inside.subscriptions c.args.stream.now c.numbers_of-numbers.result.now c.numbers_of-numbers.ensures
 
 pub returns : goal.returns
 returns c =
     let r = c.args.self.now in
-    let numbers = subst (λ (names : Names). AreNumbersOf names c.args.stream.now c.numbers_of.result.now) (ap (λ (r : PlainRegistry). r.names) c.self.view_is) c.numbers_of.ensures in
-    let same : c.names.result.now.entries ≡ r.names = c.names.ensures ∙ ap (λ (r : PlainRegistry). r.names) c.self.view_is in
-    let are = c.new.ensures ∙ ap (λ (names : Names). names_at (keys_of names) c.numbers_of.result.now) same in
-    subst (AreSubsOf r c.args.stream.now) (sym are) (subs-of r c.args.stream.now c.numbers_of.result.now numbers)
+    let row = c.numbers_of-numbers.result.now in
+    let same = ap (λ (r : PlainRegistry). r.names) c.self.view_is in
+    let numbers = subst (λ (names : Names). AreNumbersOf names c.args.stream.now row) same c.numbers_of-numbers.ensures in
+    subst (AreSubsOf r c.args.stream.now) (sym (c.names_at.ensures ∙ ap (λ (names : Names). names_at (keys_of names) row) same)) (subs-of r c.args.stream.now row numbers)

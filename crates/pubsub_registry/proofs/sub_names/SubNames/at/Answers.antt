@@ -6,18 +6,18 @@ use Rattle.std.proofs.lemmas.List.{length-map}
 use Rattle.std.proofs.lemmas.Option.{slice_get-get_or, slice_get-map}
 use Rattle.stream_ident.specs.declared.ident.SubName.{SubName}
 use Rattle.stream_ident.specs.declared.ident.SubName.TheVariants as name
-use Rattle.pubsub_registry.specs.declared.registration.Registration.{Registration}
+use Rattle.pubsub_registry.specs.Registry.{no_entry}
 use Rattle.pubsub_registry.proofs.SubsLemmas.{name-is}
 use Rattle.pubsub_registry.proofs.sub_names.SubNames.at.Goals as goal
 
 pub returns : goal.returns
 returns c =
-    let names = c.self.inside.names.now.entries in
+    let names = c.self.inside.subscriptions.now in
     let numbers = c.self.inside.numbers.now in
     let name_of : ℕ → SubName = λ n. get_or (keys_of names) n (name.Explicit 0) in
     let number = get_or numbers c.args.index 0 in
     let within : c.args.index < length numbers = omega (arith, c.requires, ap length c.self.view_is, length-map numbers name_of) in
-    let entry : SubName × Registration = (c.unwrap.result.0.now, c.unwrap.result.1.now) in
-    let found : slice_get names number ≡ Some entry = sym c.get_index.ensures.entry ∙ ap (option_map _) c.unwrap.ensures in
+    let there : number < length names = c.self.invariant c.args.index 0 within in
     sym (ap (λ names. slice_get names c.args.index) c.self.view_is) ∙ slice_get-map name_of numbers c.args.index
-    ∙ ap (option_map name_of) (slice_get-get_or numbers c.args.index 0 within) ∙ ap Some (name-is names number entry found)
+    ∙ ap (option_map name_of) (slice_get-get_or numbers c.args.index 0 within)
+    ∙ ap Some (name-is names number (get_or names number no_entry) (slice_get-get_or names number no_entry there) ∙ sym c.name.ensures)

@@ -15,11 +15,11 @@ invariant_of-self c =
     let t : PlainTable = record { registry = c.self.inside.registry; states = c.self.inside.states.items } in
     let number = c.args.number in
     let within : number < length t.registry.names = omega (arith, c.if-prove.false, c.len.ensures.len) in
-    let entry : Entry = (c.at.result.0.now, c.at.result.1.now) in
+    let entry : Entry = c.at-sub.result in
     let closes : c.close.new.self ≡ closed (state_at t number) =
     c.close.ensures ∙ ap closed (state-read t t c.self.inside.tags.items c.self.inside.resumes c.self.invariant refl number within c.index_mut.result.now c.index_mut.ensures.value) in
     table-closed t c.self.inside.tags.items c.self.inside.resumes c.self.invariant number within c.len.ensures.unique c.close-closing.new.self
-    (names-closed t t refl number c.close-closing.new.self c.close-closing.result entry c.at.ensures c.close-closing.ensures c.in-Done.is)
+    (names-closed t t refl number c.close-closing.new.self c.close-closing.result entry c.at-sub.ensures c.close-closing.ensures c.in-Done.is)
     c.close.new.self c.index.result.now closes c.index.ensures c.refresh.new.resumes c.refresh.ensures
 
 pub returns-in-Done : goal.returns-in-Done
@@ -27,12 +27,12 @@ returns-in-Done c =
     let t : PlainTable = record { registry = c.self.inside.registry; states = c.self.inside.states.items } in
     let number = c.args.number in
     let within : number < length t.registry.names = omega (arith, c.if-prove.false, c.len.ensures.len) in
-    let entry : Entry = (c.at.result.0.now, c.at.result.1.now) in
+    let entry : Entry = c.at-sub.result in
     let closes : c.close.new.self ≡ closed (state_at t number) =
     c.close.ensures ∙ ap closed (state-read t t c.self.inside.tags.items c.self.inside.resumes c.self.invariant refl number within c.index_mut.result.now c.index_mut.ensures.value) in
-    close-is t c.args.self.now c.self.view_is number c.close-closing.new.self c.close-closing.result entry c.at.ensures c.close-closing.ensures c.in-Done.is c.close.new.self closes
+    close-is t c.args.self.now c.self.view_is number c.close-closing.new.self c.close-closing.result entry c.at-sub.ensures c.close-closing.ensures c.in-Done.is c.close.new.self closes
 
 pub returns-in_default : goal.returns-in_default
 returns-in_default c =
     refused-is (record { registry = c.self.inside.registry; states = c.self.inside.states.items }) c.args.self.now c.self.view_is c.args.number
-    c.close-closing.new.self c.close-closing.result (c.at.result.0.now, c.at.result.1.now) c.at.ensures c.close-closing.ensures c.in_default.not-Done
+    c.close-closing.new.self c.close-closing.result c.at-sub.result c.at-sub.ensures c.close-closing.ensures c.in_default.not-Done

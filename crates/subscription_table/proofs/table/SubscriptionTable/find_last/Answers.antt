@@ -37,6 +37,6 @@ pub returns-clause-number : goal.returns-clause-number
 returns-clause-number c =
     let s = c.args.sub.now in
     let old = c.args.self.now in
-    let tested : c.eq.result ≡ same_sub s c.name.result.now = subst (λ (same : SubName → SubName → Bool). c.eq.result ≡ same s c.name.result.now) sub_equal-is c.eq.ensures in
+    let tested : c.eq.result ≡ same_sub s c.name.result = subst (λ (same : SubName → SubName → Bool). c.eq.result ≡ same s c.name.result) sub_equal-is c.eq.ensures in
     by-test c.eq.result c.self.inside.last c.then_some.result (λ number. Some number ≡ number_of old s) c.then_some.ensures
     (λ same. number-there old.registry.names s c.self.inside.last c.len.ensures.unique (omega (arith, c.len.ensures.len)) (ap (same_sub s) (sym c.name.ensures) ∙ sym tested ∙ same))
