@@ -187,7 +187,11 @@ fn next_mark(marks: u64, from: usize) -> Option<usize>
 fn is_owed(header: &EventHeader, stream: &StreamId, start: &Token) -> bool
     ensures { result ≡ is_owed stream.now start.now header.now }
 {
-    *stream == *header.stream() && !header.token().is_before(start)
+    // The streams of a queue mostly differ in their keys, and seldom in their namespaces.
+    let own = header.stream();
+    stream.key == own.key
+        && stream.namespace == own.namespace
+        && !header.token().is_before(start)
 }
 
 /// The least place whose token isn't less than this one.

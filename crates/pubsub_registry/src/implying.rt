@@ -37,6 +37,7 @@ impl Registry {
     /// # Errors
     /// The call failed to allocate, and nothing has changed. That can happen only where there would be more
     /// subscriptions than before.
+    #[inline(never)]
     pub fn imply(&mut self, alloc: Global, events: &Span) -> Result<Implied, AllocError>
         requires few { length events.now ≤ PULL_EVENTS }
         ensures performs { Performs self.old self.new result (imply self.old events.now) }

@@ -90,6 +90,7 @@ impl Subscriptions {
     }
 
     /// The subscription at a place.
+    #[inline(never)]
     pub(crate) fn at(&self, index: usize) -> (SubName, Registration)
         requires { index < length self.now }
         ensures { slice_get self.now index ≡ Some result }

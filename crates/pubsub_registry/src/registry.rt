@@ -139,6 +139,7 @@ impl Registry {
 
     /// A grain unsubscribes. Only an explicit subscription is closed, and it stays in the registry. It
     /// takes no memory, and costs two look-ups.
+    #[inline(never)]
     pub fn close(&mut self, sub: &SubName) -> Closing
         ensures { (self.new, result) ≡ close self.old sub.now }
     {

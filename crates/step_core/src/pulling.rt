@@ -53,6 +53,7 @@ pub(crate) fn pull(
 }
 
 /// The open subscription with the least resume, which the cache waits for.
+#[inline(never)]
 pub(crate) fn slowest(parts: &Parts) -> SubName
     ensures { result ≡ unwrap_or (slowest_name (plain_of parts.now)) (SubName.Explicit 0) }
 {

@@ -54,6 +54,7 @@ pub(crate) fn begin(parts: &mut Parts, grain: &GrainId, max: u32) -> Outcome
 }
 
 /// The outcome where a grain has begun, whose activation has this number: a turn gets the next number.
+#[inline(never)]
 fn outcome_of_begun(parts: &mut Parts, activation: u64, begun: Begun) -> Outcome
     requires begun { IsOfParts parts.old begun }
     requires rises { parts.old.rises + 1 < 2 ^ 64 }

@@ -226,6 +226,7 @@ impl SubscriptionTable {
 ///
 /// # Errors
 /// The call failed to allocate, and nothing has changed. That can happen only where a name has none yet.
+#[inline(never)]
 fn add_rows(
     alloc: Global,
     registry: &Registry,
@@ -286,6 +287,7 @@ fn event_tag(events: &Span, stream: &StreamId) -> u8
 ///
 /// # Errors
 /// The call failed to allocate, and nothing has changed. That can happen only where a name has none yet.
+#[inline(never)]
 fn push_leaves(
     alloc: Global,
     registry: &Registry,
