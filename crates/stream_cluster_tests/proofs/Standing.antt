@@ -40,6 +40,12 @@ module _ {A : Type 0} where
   insert-remove (y ∷ ys) zero x within is = ap (λ z. z ∷ ys) is
   insert-remove (y ∷ ys) (suc at) x within is = ap (λ zs. y ∷ zs) (insert-remove ys at x (omega arith) is)
 
+  -- something else comes to its place
+  pub insert-removed : (xs : List A) (at : ℕ) (x : A) → at < length xs → insert (remove xs at) at x ≡ set xs at x
+  insert-removed [] at x within = absurd (omega arith)
+  insert-removed (y ∷ ys) zero x within = refl
+  insert-removed (y ∷ ys) (suc at) x within = ap (λ zs. y ∷ zs) (insert-removed ys at x (omega arith))
+
 -- a step leaves the silo
 pub silos-set : (crew : List SiloView) (at : ℕ) (s t : SiloView) → at < length crew → s ≡ get_or crew at s → t.silo ≡ s.silo → silos_of (set crew at t) ≡ silos_of crew
 silos-set [] at s t within is same = refl

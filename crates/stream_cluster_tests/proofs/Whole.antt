@@ -19,7 +19,7 @@ use Rattle.silo_threads.specs.declared.clusters.cluster.SiloUp.{SiloUp}
 use Rattle.silo_threads.specs.declared.clusters.cluster.SiloUp.TheVariants as up
 use Rattle.silo_threads.proofs.Standing.{all-remove, lives-at, map-remove, same-at, silo-place, sits-on}
 use Rattle.stream_cluster_tests.specs.Parked.{IsLeft, IsWhole, silos_of}
-use Rattle.stream_cluster_tests.proofs.Standing.{all-set, insert-remove, one-place, range-once, silos-set}
+use Rattle.stream_cluster_tests.proofs.Standing.{all-set, insert-remove, insert-removed, one-place, range-once, silos-set}
 
 -- a new parked cluster
 pub whole-new : (config : Config) (c : ClusterView) (caller : List QueuePass) (crew : List SiloView) → IsNewParked config c caller crew → IsWhole c caller crew
@@ -48,6 +48,11 @@ whole-step c caller crew later at s t within is ran put whole =
       once = subst (λ (xs : List ℕ). HasNoDoubles xs) (sym silos) whole.once;
       beside = whole.beside;
     }
+
+-- the loops of the silo at a place were taken out, took steps or none, and came back
+pub whole-put-back : (c : ClusterView) (caller : List QueuePass) (crew left later : List SiloView) (at : ℕ) (s t : SiloView) → at < length crew → s ≡ get_or crew at s → left ≡ remove crew at → HasRun s t → later ≡ insert left at t → IsWhole c caller crew → IsWhole c caller later
+whole-put-back c caller crew left later at s t within is out ran put whole =
+    whole-step c caller crew later at s t within is ran (put ∙ ap (λ (xs : List SiloView). insert xs at t) out ∙ insert-removed crew at t within) whole
 
 -- the silo at a place lives, unless a change was broken off
 lives : (c : ClusterView) (caller : List QueuePass) (crew : List SiloView) (at : ℕ) (s : SiloView) → at < length crew → s ≡ get_or crew at s → IsWhole c caller crew → c.is_halted ≡ false → slice_get c.operator.live at ≡ Some s.silo

@@ -8,6 +8,8 @@ mod asking;
 #[cfg(test)]
 mod cases;
 #[cfg(test)]
+mod drawn;
+#[cfg(test)]
 mod gates;
 #[cfg(test)]
 mod idle;

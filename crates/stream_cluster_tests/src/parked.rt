@@ -1,5 +1,5 @@
 //! A parked cluster, and all that was handed out with it.
-ghost use Rattle.std.specs.Prelude.{◌≡◌};
+ghost use Rattle.std.specs.Prelude.{◌≡◌, insert};
 ghost use Rattle.silo_loops.specs.Silos.{HasRun};
 ghost use Rattle.stream_cluster_tests.specs.Parked.{IsLeft};
 
@@ -12,6 +12,7 @@ use silo_threads::{Caller, Cluster, Config, Quiet, Retired, SiloUp, ask_quiet};
 use std::alloc::{AllocError, Global};
 use std::marker::Model;
 use std::process::Abort;
+use std::sync::atomic::AtomicBool;
 use std::sync::{Arc, Wait};
 use std::thread::Threads;
 use step_core::{Answer, Limits, Op};
@@ -94,6 +95,29 @@ fn step<H: QueueHistory, D: DirectoryHistory, R: Wait>(
     }
 }
 
+// These loops, which go by hints from now on: each is run, and told to stop before its first step.
+fn by_hints<H: QueueHistory, D: DirectoryHistory, R: Wait>(
+    rt: &R,
+    alloc: Global,
+    loops: Loops<H, D>,
+) -> Loops<H, D>
+    ensures { HasRun loops result }
+{
+    let stop = AtomicBool::new(true);
+    let SiloLoops {
+        silo,
+        agent,
+        first,
+        second,
+    } = loops;
+    SiloLoops {
+        silo,
+        agent: agent.run(rt, alloc, &stop),
+        first: first.run(rt, alloc, &stop),
+        second: second.run(rt, alloc, &stop),
+    }
+}
+
 // The loops that are kept, where they are.
 fn go_astray<H: QueueHistory, D: DirectoryHistory>(
     loops: Loops<H, D>,
@@ -105,6 +129,19 @@ fn go_astray<H: QueueHistory, D: DirectoryHistory>(
     }
 }
 
+// The loops come to this place again.
+fn put_back<H: QueueHistory, D: DirectoryHistory, R: Abort>(
+    rt: &R,
+    crew: &mut Vec<Loops<H, D>>,
+    at: usize,
+    loops: Loops<H, D>,
+)
+    ensures { crew.new.items ≡ insert crew.old.items at loops }
+{
+    assert!(rt; at <= crew.len());
+    crew.insert(at, loops).expect(rt, "room");
+}
+
 // What a retire answered. Loops that were handed out again come to their place.
 fn sort_out<H: QueueHistory, D: DirectoryHistory, R: Abort>(
     rt: &R,
@@ -114,16 +151,15 @@ fn sort_out<H: QueueHistory, D: DirectoryHistory, R: Abort>(
 ) -> Went
     ensures { IsLeft answer at crew.old.items crew.new.items }
 {
-    assert!(rt; at <= crew.len());
     match answer {
         Ok(Retired::Down) => Went::Down,
         Ok(Retired::Limit) => Went::Limit,
         Ok(Retired::LastSilo { loops }) => {
-            crew.insert(at, loops).expect(rt, "room");
+            put_back(rt, crew, at, loops);
             Went::LastSilo
         }
         Ok(Retired::Halted { loops }) => {
-            crew.insert(at, loops).expect(rt, "room");
+            put_back(rt, crew, at, loops);
             Went::Halted
         }
         Err(AllocError) => Went::Memory,
@@ -213,6 +249,13 @@ impl<H: QueueHistory, D: DirectoryHistory> Parked<H, D> {
         assert!(rt; at < self.crew.len());
         let loops = &mut self.crew[at];
         step(rt, alloc, loops, which)
+    }
+
+    /// The loops of the silo at this place go by hints from now on.
+    pub fn go_by_hints<R: Wait + Abort>(&mut self, rt: &R, alloc: Global, at: usize) {
+        assert!(rt; at < self.crew.len());
+        let loops = by_hints(rt, alloc, self.crew.remove(at));
+        put_back(rt, &mut self.crew, at, loops);
     }
 
     /// Gives the loops of the silo at this place back. Where they are handed out again, they stand there as before.

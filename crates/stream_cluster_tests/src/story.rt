@@ -100,6 +100,15 @@ pub fn begin<H: QueueHistory, D: DirectoryHistory, R: Wait + Abort>(
     ask_all(rt, alloc, parked, &FIRST);
 }
 
+/// Asks for the rest.
+pub fn go_on<H: QueueHistory, D: DirectoryHistory, R: Wait + Abort>(
+    rt: &R,
+    alloc: Global,
+    parked: &mut Parked<H, D>,
+) {
+    ask_all(rt, alloc, parked, &LATER);
+}
+
 /// In which order loops are advanced.
 #[derive(Clone, Copy)]
 pub enum Order {
@@ -182,7 +191,7 @@ pub fn tell_the_rest<H: QueueHistory, D: DirectoryHistory, R: Wait + Abort>(
     parked: Parked<H, D>,
 ) -> Ended<H> {
     let mut parked = parked;
-    ask_all(rt, alloc, &mut parked, &LATER);
+    go_on(rt, alloc, &mut parked);
     settle(rt, alloc, &mut parked);
     parked.finish(rt, alloc)
 }
