@@ -189,9 +189,7 @@ fn is_owed(header: &EventHeader, stream: &StreamId, start: &Token) -> bool
 {
     // The streams of a queue mostly differ in their keys, and seldom in their namespaces.
     let own = header.stream();
-    stream.key == own.key
-        && stream.namespace == own.namespace
-        && !header.token().is_before(start)
+    stream.key == own.key && stream.namespace == own.namespace && !header.token().is_before(start)
 }
 
 /// The least place whose token isn't less than this one.
