@@ -6,7 +6,7 @@ use std::sync::Arc;
 use std::sync::atomic::{AtomicU64, Ordering};
 use streams::{Config, Event, Gate, GrainId, Payload, Service, StartFrom, StreamId, SubName};
 
-/// The handler of all desks, and the most letters that one of them was ordered.
+/// The handler of all desks, and the greatest letter count of one desk.
 #[derive(Drop)]
 struct Desks {
     letters: AtomicU64,

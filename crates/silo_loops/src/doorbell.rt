@@ -202,9 +202,12 @@ impl Doorbell {
         });
     }
 
-    /// Tells whom an answer at a queue concerns.
+    /// Tells whom an answer that a caller got at a queue concerns.
     pub fn tell<R: Wait>(&self, rt: &R, queue: usize, answer: &Answer) {
-        self.spread(rt, queue, News::of(answer));
+        let mut news = News::of(answer);
+        // Where a caller ends a turn that it has begun itself, its grain may be ready again, and no worker knows.
+        news.workers |= matches!(answer.outcome(), Reply::Committed { .. } | Reply::Closed);
+        self.spread(rt, queue, news);
     }
 
     /// The agent of a silo has the queue from now on. It is told, and so are all.

@@ -17,12 +17,12 @@ use stream_model::{Pending, Start};
 use thiserror::Error;
 use turnstile::Refusal;
 
-/// A subscription that a grain made.
+/// An explicit subscription, which a call made.
 #[derive(Clone, Copy, Debug, PartialEq, Eq)]
 pub struct Subscription {
     /// The queue of its stream.
     pub queue: usize,
-    /// Its number at that queue.
+    /// Its number at that queue, from 1 on.
     pub number: u32,
 }
 
@@ -49,10 +49,12 @@ pub struct StreamToken {
 pub enum StartFrom {
     /// With the first batch that is accepted after it.
     Latest,
-    /// With the first event whose token isn't less than that of an event of the same stream.
+    /// With the first event whose token isn't less than that of an event of the same stream. It is `Ahead` above the
+    /// token of the next batch, and a `Miss` below that of the first event that the cache keeps; and one of another
+    /// stream is `OtherStream`.
     At(StreamToken),
     /// With the first event whose token isn't less than this one, which may be that of an event of another stream at
-    /// the same queue.
+    /// the same queue. It is `Ahead` or a `Miss` as at `At`.
     Token(Token),
     /// From this token on, even if it is above the one that the next batch gets: events before it are passed over.
     Later(Token),
@@ -119,7 +121,7 @@ pub enum CallError {
     #[error("there is no such queue")]
     NoQueue,
     /// The queue has as many rules as it may have, or its history is full.
-    #[error("a limit of the queue is reached")]
+    #[error("a queue has as many rules as it may have, or its history is full")]
     Limit,
     /// The call failed to allocate.
     #[error("no memory")]
@@ -133,7 +135,7 @@ pub enum PublishError {
     #[error("a batch has 1 to 64 payloads")]
     BadBatch,
     /// A loop of a silo has ended before. Nothing was asked: what is published from then on may never be handled.
-    #[error("{end}")]
+    #[error("{end}: nothing is published any more, open a new service")]
     Ended {
         /// What has ended it.
         end: LoopEnd,
@@ -182,13 +184,13 @@ pub enum SubscribeError {
         next: Token,
     },
     /// A loop of a silo has ended before. Nothing was asked: what is published from then on may never be handled.
-    #[error("{end}")]
+    #[error("{end}: no subscription is made any more, open a new service")]
     Ended {
         /// What has ended it.
         end: LoopEnd,
     },
     /// The queue has as many subscriptions as it may have, closed and implicit ones counted.
-    #[error("queue {queue} has {subscriptions} of at most {limit} subscriptions")]
+    #[error("queue {queue} has {subscriptions} of at most {limit} subscriptions, closed and implicit ones counted: open a new service")]
     TooMany {
         /// The queue.
         queue: usize,
@@ -218,7 +220,7 @@ pub enum UnsubscribeError {
     #[error("the subscription has ended already")]
     Closed,
     /// The history of the queue is full.
-    #[error("a limit of the queue is reached")]
+    #[error("the history of the queue is full")]
     Limit,
     /// The call failed to allocate.
     #[error("no memory")]
@@ -234,15 +236,15 @@ pub enum SettleError {
     NotQuiet,
     /// A queue wasn't quiet, and may never be: a loop has ended, a silo went and its queues weren't given to others, or
     /// not all loops of one that came could be started.
-    #[error("a loop has ended, and not all queues are quiet")]
+    #[error("a queue isn't quiet and may never be: a loop has ended, or a change of silos was broken off")]
     Ended,
     /// The history of a queue is full.
-    #[error("a limit of a queue is reached")]
+    #[error("the history of a queue is full")]
     Limit,
     /// A message of an outbox was refused. Only [`Service::settle_with`](crate::Service::settle_with) answers so.
     #[error("a message isn't published: {0}")]
     Unpublished(Unpublished),
-    /// The call failed to allocate.
+    /// The call failed to allocate. It has only looked, and by `settle_with` published messages.
     #[error("no memory")]
     Memory,
 }
@@ -254,7 +256,7 @@ pub enum SiloError {
     #[error("silos are numbered from 0 to 15")]
     NoSilo,
     /// A loop of a silo has ended before. Nothing was done. Only [`Service::silo_up`](crate::Service::silo_up) answers so.
-    #[error("{end}")]
+    #[error("{end}: no silo comes any more")]
     Ended {
         /// What has ended it.
         end: LoopEnd,
@@ -268,16 +270,17 @@ pub enum SiloError {
     /// No other silo lives than the one that was to go. Nothing was done.
     #[error("no other silo lives: let one come before this one goes")]
     LastSilo,
-    /// The history of a queue or of the directory is full, or a queue has no rise left for a Move. The cluster's silos
-    /// don't change any more.
-    #[error("a limit of a queue is reached")]
+    /// The history of a queue or of the directory is full, or a queue has no rise left for a Move. What was done
+    /// by then stands, and the cluster's silos don't change any more.
+    #[error("a queue has no rise left for a move, or a history is full: the silos don't change any more")]
     Limit,
     /// An earlier change of silos was broken off (`Limit` or `Memory`), and the silos don't change any more. Nothing
     /// was done.
     #[error("the silos don't change any more")]
     Halted,
-    /// The call failed to allocate, or a thread can't be made. The cluster's silos don't change any more.
-    #[error("no memory")]
+    /// The call failed to allocate, or a thread can't be made. What was done by then stands, and the cluster's silos
+    /// don't change any more.
+    #[error("no memory, or no thread could be made: the silos don't change any more")]
     Memory,
 }
 
@@ -296,7 +299,7 @@ pub enum CloseError {
     #[error("a loop has made as many rounds as it may")]
     RoundLimit,
     /// A loop has come to another limit, or the history of a queue is full. The partitions are handed back.
-    #[error("a limit of a queue or of a loop is reached")]
+    #[error("a loop has come to a limit, or the history of a queue is full: Closed::queue has the figures")]
     Limit,
     /// Passes of a queue are missing, as where a [`Producer`](crate::Producer) was dropped: no other run is known to meet
     /// this. The partitions are gone.

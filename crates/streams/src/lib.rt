@@ -7,7 +7,7 @@
 //! A service is a [`Cluster`] with its first [`Caller`]. [`Service::producer`] gives a [`Producer`], which publishes
 //! beside it, and [`Service::take_back`] takes it in again.
 //!
-//! Whoever publishes from several threads makes a cluster and its caller by
+//! Whoever also subscribes from several threads makes a cluster and its caller by
 //! [`UntracedCluster::new`](Cluster::new): [`Caller::split`] gives a caller for another thread, which asks by
 //! [`Caller::call`] at the queue that [`queue`]`(&stream, caller.queues())` gives, or by [`Caller::ask`], whose small
 //! [`Answer`] stands for the [`Reply`]. [`Caller::join`] takes a caller in again, and [`Cluster::finish`] ends the
@@ -62,7 +62,8 @@ pub type UntracedCluster<G> = Cluster<
 >;
 
 /// A cluster that keeps what it was asked: at its end [`Traces::histories`](Traces) has an [`AskedHistory`] for each
-/// queue, whose `as_slice` gives the calls in order. Each call takes memory, so set `Config::history`.
+/// queue, whose `as_slice` gives the calls in order. Each call takes memory, so set `Config::history`, the most calls
+/// of a queue, to 4,000,000 or fewer.
 pub type TracedCluster<G> = Cluster<
     G,
     AskedHistory<Op, Answer>,

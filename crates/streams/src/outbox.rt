@@ -29,7 +29,7 @@ pub struct OutboxFull {
 
 /// A message that was taken out of an outbox and isn't published.
 #[derive(Clone, Copy, Debug, PartialEq, Eq, Error)]
-#[error("{why}")]
+#[error("to {}/{}: {why}", message.stream.namespace, message.stream.key)]
 pub struct Unpublished {
     /// The message.
     pub message: Message,

@@ -72,7 +72,8 @@ impl<R: Host, G: Gate + 'static> Service<R, G> {
     /// [`Config`] and of its [`Limits`](crate::Limits) say, with one rise at least.
     ///
     /// # Errors
-    /// The call failed to allocate, or a thread can't be made. Loops that ran by then were stopped.
+    /// `AllocError`: the call failed to allocate, or a thread can't be made. Loops that ran by then were stopped, nothing
+    /// is left of the service, and the gate is let go.
     pub fn open(rt: R, config: &Config, gate: Arc<G, Global>) -> Result<Service<R, G>, AllocError>
         requires { IsConfig config.now }
         ensures { IfOk result (IsNewService config.now) }
@@ -103,8 +104,9 @@ impl<R: Host, G: Gate + 'static> Service<R, G> {
         queue(stream, self.caller.queues())
     }
 
-    /// Publishes a batch of 1 to 64 payloads to a stream, and gives the token of its first event. A subscription to
-    /// the stream that starts at it begins with this batch, unless its first event has left the cache.
+    /// Publishes a batch of 1 to 64 payloads to a stream, and gives the token of its first event. The batch is in the
+    /// log then, and perhaps not yet handled. A subscription that starts at this token begins with this batch, and is a
+    /// `Miss` once its first event has left the cache.
     ///
     /// # Errors
     /// They are those of [`PublishError`]. Nothing was published.
@@ -139,7 +141,7 @@ impl<R: Host, G: Gate + 'static> Service<R, G> {
         Ok(Producer::new(self.rt, caller))
     }
 
-    /// Takes a producer in again, with all that it has seen. It takes no memory.
+    /// Takes a producer of this service in again, with all that it has seen. It takes no memory.
     pub fn take_back(&mut self, producer: Producer<R, G>)
         requires { IsProducerOf self.old producer }
         ensures joined { self.new.caller ≡ joined_passes self.old.caller producer }
@@ -152,8 +154,8 @@ impl<R: Host, G: Gate + 'static> Service<R, G> {
 
     /// Subscribes a grain to a stream. A start that was given as `At` or `Token` may not be above the token that the next
     /// batch of the queue gets, for which the queue is looked at before. That token only rises: where others publish
-    /// between the look and the subscription, a start that wasn't above it isn't then either, and one that was may no
-    /// longer be.
+    /// between the look and the subscription, a start that is accepted stays right, and one that is refused may be right
+    /// by then.
     ///
     /// # Errors
     /// They are those of [`SubscribeError`]. No subscription was made.
@@ -209,8 +211,9 @@ impl<R: Host, G: Gate + 'static> Service<R, G> {
     ///
     /// # Errors
     /// `Limit` where a queue has as many rules as it may have or its history is full, and `Memory` where a call failed
-    /// to allocate there. The queues before it have the rule, and nothing has changed at the others. The call may be
-    /// made again.
+    /// to allocate there. Which queue that was isn't said. The queues before it have the rule, and nothing has
+    /// changed at the others. The call may be made again. A rule can't be taken back, and is added also where a loop has
+    /// ended.
     pub fn add_rule(&mut self, kind: Name, namespace: Name) -> Result<bool, CallError>
         ensures adds { AddsRule self.old.caller kind namespace result self.new.caller }
         ensures cluster { self.new.cluster ≡ self.old.cluster }
@@ -266,7 +269,8 @@ impl<R: Host, G: Gate + 'static> Service<R, G> {
     }
 
     /// Waits until everything that was published is handled: all queues were quiet in one look, and had accepted as many
-    /// batches behind it as before it. It looks at them as often as [`Config`]'s `looks` says at most until they are quiet.
+    /// batches after it as before it. It looks at them as often as [`Config`]'s `looks` says at most until they are quiet,
+    /// and between two looks waits until something happens: so that is no time.
     /// Where a batch was accepted meanwhile it waits again, as often at most. It asks nothing else of them.
     ///
     /// So the turns of all those events are committed. It doesn't wait for [`Gate::done`], which a worker calls after the
@@ -289,7 +293,8 @@ impl<R: Host, G: Gate + 'static> Service<R, G> {
     /// many as the outbox has room for at most.
     ///
     /// # Errors
-    /// A message was refused, and comes back. Those before it are published, and those behind it still wait.
+    /// A message was refused. It has left the outbox, and comes back. Those before it are published, how many isn't said,
+    /// and those after it still wait.
     pub fn publish_from(&mut self, outbox: &Outbox<R>) -> Result<usize, Unpublished>
         ensures publishes { PublishesFrom self.old.caller result self.new.caller }
         ensures room { IfOk result (λ published. published ≤ outbox.now) }
@@ -313,8 +318,8 @@ impl<R: Host, G: Gate + 'static> Service<R, G> {
     /// most. What [`Gate::done`] puts in may come too late.
     ///
     /// # Errors
-    /// They are those of [`settle`](Service::settle), and `Unpublished`: a message was refused, and comes back. Those behind
-    /// it still wait.
+    /// They are those of [`settle`](Service::settle), and `Unpublished`: a message was refused, has left the outbox, and comes
+    /// back. After each error what was published stays so, and all other messages wait in the outbox.
     pub fn settle_with(&mut self, outbox: &Outbox<R>) -> Result<(), SettleError>
         ensures settles { SettlesWith self.old.cluster.looks self.old.cluster.looks self.old.caller result self.new.caller }
         ensures cluster { self.new.cluster ≡ self.old.cluster }
@@ -372,7 +377,8 @@ impl<R: Host, G: Gate + 'static> Service<R, G> {
     /// Stops all silos, waits until each handler has returned, and gives the report, or why there is none, and what is
     /// left of each partition.
     ///
-    /// The report comes where everything is handled, so call [`settle`](Service::settle) before this. A service that is
+    /// The report comes where everything is handled, so call [`settle`](Service::settle) before this. After `Memory`, `NotAll`
+    /// and `InUse` the partitions are gone, so take each producer back before. A service that is
     /// dropped without this call leaves its silos running until the program ends.
     pub fn close(self) -> Closed
         ensures { Closes self result }
