@@ -17,9 +17,9 @@ const LOOKS: u64 = 20;
 
 const MILLIS: u64 = 500;
 
-// A gate that counts the calls of all queues.
+/// A gate that counts the calls of all queues.
 #[derive(Drop)]
-struct Watch {
+pub struct Watch {
     calls: AtomicU64,
 }
 
@@ -34,6 +34,13 @@ impl Gate for Watch {
 }
 
 impl Watch {
+    /// One that has seen no call.
+    pub fn new() -> Watch {
+        Watch {
+            calls: AtomicU64::new(0),
+        }
+    }
+
     // Whether no call is made for a while.
     fn is_still<R: Clock>(&self, rt: &R) -> bool {
         let before = self.calls.load(Ordering::SeqCst);
@@ -41,8 +48,8 @@ impl Watch {
         self.calls.load(Ordering::SeqCst) == before
     }
 
-    // Whether calls are made no more, after a time.
-    fn comes_to_rest<R: Clock>(&self, rt: &R) -> bool {
+    /// Whether calls are made no more, after a time.
+    pub fn comes_to_rest<R: Clock>(&self, rt: &R) -> bool {
         for _ in 0..LOOKS {
             if self.is_still(rt) {
                 return true;
@@ -77,10 +84,7 @@ fn wait_all<
     D: DirectoryHistory + Send + 'static,
     R: Threads + Wait + Abort + Clock + Copy + Send + 'static,
 >(rt: &R, alloc: Global) {
-    let watch = Watch {
-        calls: AtomicU64::new(0),
-    };
-    let watch = Arc::new(alloc, watch).expect(rt, "memory");
+    let watch = Arc::new(alloc, Watch::new()).expect(rt, "memory");
     let gate = Arc::try_clone(&watch).expect(rt, "it is shared a few times");
     let (running, producer) = prepare::<Watch, H, D, R>(rt, alloc, gate, 0, &SETTLED);
     assert!(rt; watch.comes_to_rest(rt));

@@ -20,6 +20,8 @@ mod leaving;
 #[cfg(test)]
 mod load;
 #[cfg(test)]
+mod own_turns;
+#[cfg(test)]
 mod parked;
 #[cfg(test)]
 mod parked_ends;

@@ -10,7 +10,7 @@ use std::alloc::{AllocError, Global};
 use std::marker::Model;
 use std::process::Abort;
 use std::sync::Wait;
-use step_core::Reply;
+use step_core::{Op, Reply};
 use turnstile::Refusal;
 
 /// A caller of a cluster, and what it was told was published. A contract sees the turnstiles of its passes.
@@ -101,6 +101,17 @@ impl<G: Gate, H: QueueHistory> Producer<G, H> {
     {
         let Producer { caller, told } = self;
         (caller, told)
+    }
+
+    /// What a queue answers to an operation.
+    pub fn ask<R: Wait + Abort>(&mut self, rt: &R, alloc: Global, queue: usize, op: Op) -> Reply
+        ensures { self.new ≡ self.old }
+    {
+        assert!(rt; queue < self.caller.queues());
+        match self.caller.call(rt, alloc, queue, op) {
+            Ok(reply) => reply,
+            Err(_) => panic!(rt; "there is memory, and room in the history"),
+        }
     }
 
     /// A grain subscribes to the stream of a queue.
