@@ -323,6 +323,7 @@ impl Simulator {
     }
 
     /// Does an operation and appends the line of its reply.
+    #[inline(never)]
     fn step(
         &mut self,
         alloc: Global,
