@@ -57,6 +57,7 @@ fn push_queue(queue: usize, partition: &Partition, out: &mut Vec<u8>) -> Result<
     Ok(())
 }
 
+#[inline(never)]
 fn push_sub(
     queue: usize,
     partition: &Partition,
