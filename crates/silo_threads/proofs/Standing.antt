@@ -33,7 +33,7 @@ use Rattle.silo_threads.specs.Operators.{HasOnlyGoneOn, HasSpread, IsUnspread, O
 use Rattle.silo_threads.proofs.Changing.{each-earlier, each-later, goes-at, goes-back, nowhere-silents, nowhere-trans, op-trans, stayed-earlier}
 use Rattle.silo_threads.proofs.Rows.{all-at}
 use Rattle.silo_threads.proofs.Making.{goes-longer, last-earlier, made-earlier, made-since-silent}
-use Rattle.silo_threads.specs.Clusters.{AnswersDown, AnswersRetire, AnswersUp, AreAtQueues, AreFresh, AreNoted, AreStarted, ClusterView, HasEnded, HasHalted, HasLeft, HasMetLimit, HasNoted, HaveComeBack, HaveEnded, HaveSeenNone, IsAtDirectory, IsBrokenOff, IsCluster, IsDownBy, IsLimitedAt, IsOpened, IsRetired, IsRetiredBy, IsUpBy, MayGo, RunsOn, WereLeft, WereMoved, all_noted, is_fixed, none_ended, noted}
+use Rattle.silo_threads.specs.Clusters.{AnswersDown, AnswersRetire, AnswersUp, AreAtQueues, AreFresh, AreNoted, AreStarted, ClusterView, HasAtMostCome, HasEnded, HasHalted, HasLeft, HasMetLimit, HasNoted, HaveComeBack, HaveEnded, HaveSeenNone, IsAtDirectory, IsBrokenOff, IsCluster, IsDownBy, IsLimitedAt, IsOpened, IsRetired, IsRetiredBy, IsUpBy, MayGo, RunsOn, WereLeft, WereMoved, all_noted, is_fixed, none_ended, noted}
 use Rattle.silo_threads.specs.declared.clusters.config.Config.{Config}
 use Rattle.silo_threads.specs.declared.clusters.cluster.Retired.{Retired}
 use Rattle.silo_threads.specs.declared.clusters.cluster.SiloDown.{SiloDown}
@@ -171,10 +171,10 @@ left-some live place within others none =
     omega (arith, others, shorter, empty)
 
 -- how a change that was broken off is answered
-pub halted-up : (v w : ClusterView) (silo : ℕ) (h : Halt) (r : Result SiloUp AllocError) → IsUpBy h r → is_fixed v ≡ false → (Contains v.operator.live silo → ⊥) → HasHalted v w → (h ≡ halt.Limit → HasMetLimit v.operator w.operator) → w.ends ≡ v.ends → AnswersUp v silo r w
-halted-up v w silo halt.Limit r is goes absent halted met ends = subst (λ (x : Result SiloUp AllocError). AnswersUp v silo x w) (sym is) (goes, absent, halted, met refl, ends)
-halted-up v w silo halt.Memory (Ok x) is goes absent halted met ends = absurd (cc (is))
-halted-up v w silo halt.Memory (Err e) is goes absent halted met ends = (goes, absent, halted, ends)
+pub halted-up : (v w : ClusterView) (silo : ℕ) (h : Halt) (r : Result SiloUp AllocError) → IsUpBy h r → is_fixed v ≡ false → (Contains v.operator.live silo → ⊥) → HasHalted v w → (h ≡ halt.Limit → HasMetLimit v.operator w.operator) → w.ends ≡ v.ends → HasAtMostCome silo v.silos w.silos → AnswersUp v silo r w
+halted-up v w silo halt.Limit r is goes absent halted met ends others = subst (λ (x : Result SiloUp AllocError). AnswersUp v silo x w) (sym is) (goes, absent, halted, met refl, ends, others)
+halted-up v w silo halt.Memory (Ok x) is goes absent halted met ends others = absurd (cc (is))
+halted-up v w silo halt.Memory (Err e) is goes absent halted met ends others = (goes, absent, halted, ends, others)
 
 pub halted-down : (v w : ClusterView) (silo : ℕ) (h : Halt) (r : Result SiloDown AllocError) → IsDownBy h r → is_fixed v ≡ false → MayGo v silo → HasHalted v w → HasNoted v silo w → (h ≡ halt.Limit → HasMetLimit v.operator w.operator) → AnswersDown v silo r w
 halted-down v w silo halt.Limit r is goes may halted noted met = subst (λ (x : Result SiloDown AllocError). AnswersDown v silo x w) (sym is) (goes, may, halted, noted, met refl)
@@ -401,16 +401,21 @@ up-done v w silo s fixed absent on seen directory live more fresh split spread s
     (fixed, absent, record { on = on; seen = seen; directory = directory; live = live; started = (s, more, fresh, split); spread = spread; stayed = stayed; ends = ends; same = same; goes_on = goes })
 
 -- a silo that ran came back, and how its loops have ended was noted
-pub has-noted : (v w : ClusterView) (place silo : ℕ) (s back : SiloView) → AreFresh v.rounds v.silos → place < length v.silos → s ≡ get_or v.silos place s → back.silo ≡ silo → HasRun s back → HaveComeBack w.operator.lines w.operator.directory back → w.ends ≡ noted v.ends back → HasNoted v silo w
-has-noted v w place silo s back fresh within read named ran came ends =
+pub has-noted : (v w : ClusterView) (place silo : ℕ) (s back : SiloView) → AreFresh v.rounds v.silos → place < length v.silos → s ≡ get_or v.silos place s → w.silos ≡ remove v.silos place → back.silo ≡ silo → HasRun s back → HaveComeBack w.operator.lines w.operator.directory back → w.ends ≡ noted v.ends back → HasNoted v silo w
+has-noted v w place silo s back fresh within read others named ran came ends =
     let IsNew : SiloView → Type 0 = λ s. IsFresh v.rounds s.silo s in
-    let new : IsFresh v.rounds s.silo s = subst IsNew (sym read) (All-at IsNew v.silos place s fresh within) in (
-      place,
-      s,
-      slice_get-get_or v.silos place s within ∙ ap (λ (x : SiloView). Some x) (sym read),
-      subst (λ k. IsFresh v.rounds k s) (sym ran.silo ∙ named) new,
-      (back, ran, came, ends),
-    )
+    let new : IsFresh v.rounds s.silo s = subst IsNew (sym read) (All-at IsNew v.silos place s fresh within) in
+    record {
+      place = place;
+      started = s;
+      stood = slice_get-get_or v.silos place s within ∙ ap (λ (x : SiloView). Some x) (sym read);
+      fresh = subst (λ k. IsFresh v.rounds k s) (sym ran.silo ∙ named) new;
+      others = others;
+      back = back;
+      ran = ran;
+      come = came;
+      ends = ends;
+    }
 
 -- what came back stays so
 pub taken-op : (v w : OperatorView) (s : SiloView) → OperatorGoesOn v w → AreTakenIn v.lines v.directory s → AreTakenIn w.lines w.directory s

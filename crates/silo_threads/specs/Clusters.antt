@@ -136,10 +136,6 @@ pub record HaveComeBack (lines : List LineView) (d : DirectoryPass) (s : SiloVie
   pub taken : AreTakenIn lines d s
   pub causes : HaveCauses s
 
--- the loops of this silo have run and came back, and it was noted how they have ended
-abbrev pub EndsBy : List LineView → DirectoryPass → LoopEnds → SiloView → LoopEnds → Type 0
-EndsBy lines d ends s new = (back : SiloView) × HasRun s back × HaveComeBack lines d back × (new ≡ noted ends back)
-
 -- the loops of these silos came back so, and it was noted how they have ended
 abbrev pub HaveEnded : LoopEnds → List SiloView → List LineView → DirectoryPass → LoopEnds → Type 0
 HaveEnded ends back lines d new = (new ≡ all_noted ends back) × AllByRecursion (HaveComeBack lines d) back
@@ -179,13 +175,17 @@ pub record IsUp (v : ClusterView) (silo : ℕ) (w : ClusterView) : Type 0 where
   pub same : (w.is_parked ≡ v.is_parked) × (w.rounds ≡ v.rounds) × (w.looks ≡ v.looks)
   pub goes_on : w.is_halted ≡ false
 
+-- the loops that run are those that ran, and at most those of this silo beside them
+abbrev pub HasAtMostCome : ℕ → List SiloView → List SiloView → Type 0
+HasAtMostCome silo old new = (new ≡ old) ⊎ ((s : SiloView) × (new ≡ old ++ s ∷ []) × (s.silo ≡ silo))
+
 -- what `silo_up` answers, by the silos that live
 abbrev pub AnswersUp : ClusterView → ℕ → Result SiloUp AllocError → ClusterView → Type 0
 AnswersUp v silo (Ok up.Halted) w = (is_fixed v ≡ true) × (w ≡ v)
 AnswersUp v silo (Ok up.Already) w = (is_fixed v ≡ false) × Contains v.operator.live silo × (w ≡ v)
 AnswersUp v silo (Ok up.Up) w = (is_fixed v ≡ false) × (¬ Contains v.operator.live silo) × IsUp v silo w
-AnswersUp v silo (Ok up.Limit) w = (is_fixed v ≡ false) × (¬ Contains v.operator.live silo) × HasHalted v w × HasMetLimit v.operator w.operator × (w.ends ≡ v.ends)
-AnswersUp v silo (Err e) w = (is_fixed v ≡ false) × (¬ Contains v.operator.live silo) × HasHalted v w × (w.ends ≡ v.ends)
+AnswersUp v silo (Ok up.Limit) w = (is_fixed v ≡ false) × (¬ Contains v.operator.live silo) × HasHalted v w × HasMetLimit v.operator w.operator × (w.ends ≡ v.ends) × HasAtMostCome silo v.silos w.silos
+AnswersUp v silo (Err e) w = (is_fixed v ≡ false) × (¬ Contains v.operator.live silo) × HasHalted v w × (w.ends ≡ v.ends) × HasAtMostCome silo v.silos w.silos
 
 -- how a change of silos that was broken off is answered
 abbrev pub IsUpBy : Halt → Result SiloUp AllocError → Type 0
@@ -223,9 +223,18 @@ pub record IsDown (v : ClusterView) (silo : ℕ) (w : ClusterView) : Type 0 wher
 abbrev pub MayGo : ClusterView → ℕ → Type 0
 MayGo v silo = Contains v.operator.live silo × (1 < length v.operator.live)
 
--- the loops of the silo, which had done nothing where they were started, came back, and it was noted how they have ended
-abbrev pub HasNoted : ClusterView → ℕ → ClusterView → Type 0
-HasNoted v silo w = (place : ℕ) × (s : SiloView) × (slice_get v.silos place ≡ Some s) × IsFresh v.rounds silo s × EndsBy w.operator.lines w.operator.directory v.ends s w.ends
+-- The loops of the silo, which had done nothing where they were started, came back, and it was noted how they have
+-- ended. The others run as before.
+pub record HasNoted (v : ClusterView) (silo : ℕ) (w : ClusterView) : Type 0 where
+  pub place : ℕ
+  pub started : SiloView
+  pub stood : slice_get v.silos place ≡ Some started
+  pub fresh : IsFresh v.rounds silo started
+  pub others : w.silos ≡ remove v.silos place
+  pub back : SiloView
+  pub ran : HasRun started back
+  pub come : HaveComeBack w.operator.lines w.operator.directory back
+  pub ends : w.ends ≡ noted v.ends back
 
 -- what `silo_down` answers, by the silos that live
 abbrev pub AnswersDown : ClusterView → ℕ → Result SiloDown AllocError → ClusterView → Type 0

@@ -5,7 +5,7 @@ ghost use Rattle.turnstile.specs.Recorded.{recorded};
 ghost use Rattle.silo_loops.specs.Silos.{AreSplitOff, AreTakenIn, HasRun, HaveCauses, IsFresh, IsSiloAt, SiloView};
 ghost use Rattle.silo_threads.specs.Changes.{HaveOnlySeen, HaveStayed};
 ghost use Rattle.silo_threads.specs.Operators.{HasOnlyGoneOn, HasSpread, OperatorGoesOn};
-ghost use Rattle.silo_threads.specs.Clusters.{AreFresh, AreStarted, HasLeft, HasMetLimit, HaveComeBack, HaveEnded, RunsOn, all_noted, noted};
+ghost use Rattle.silo_threads.specs.Clusters.{AreFresh, AreStarted, HasAtMostCome, HasLeft, HasMetLimit, HaveComeBack, HaveEnded, RunsOn, all_noted, noted};
 
 use crate::ending::LoopEnds;
 use crate::operators::{Halt, Operator};
@@ -72,6 +72,7 @@ pub(crate) fn bring_up<
     ensures started { OnOk result ((s : SiloView) × (silos.new.items ≡ silos.old.items ++ s ∷ []) × IsFresh rounds silo s × AreSplitOff operator.old.lines operator.old.directory s) }
     ensures spread { OnOk result (HasSpread operator.old operator.new) }
     ensures stayed { OnOk result (HaveStayed operator.old.lines operator.new.lines operator.old.assignment operator.new.assignment) }
+    ensures others { HasAtMostCome silo silos.old.items silos.new.items }
     ensures kept { OnErr result (operator.new.assignment ≡ operator.old.assignment) }
     ensures limit { IfErr result (λ why. why ≡ Halt.Limit → HasMetLimit operator.old operator.new) }
 {

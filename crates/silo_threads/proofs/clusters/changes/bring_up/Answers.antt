@@ -1,4 +1,4 @@
-use Rattle.std.proofs.Common.{List, OnOk, ap, subst, sym, ℕ, ◌∙◌, ◌++◌, ◌∷◌, [], ◌≡◌}
+use Rattle.std.proofs.Common.{List, OnOk, ap, inl, inr, subst, sym, ℕ, ◌∙◌, ◌++◌, ◌∷◌, [], ◌≡◌}
 use Rattle.std.proofs.lemmas.Result.{IfErr-weaker, on_err_weaker, on_ok_weaker}
 use Rattle.silo_loops.specs.Lines.{LineView}
 use Rattle.silo_loops.specs.Silos.{IsSiloAt, SiloView}
@@ -106,3 +106,19 @@ returns-clause-stayed g c =
     let w = c.spread.new.self in
     subst (λ (xs : List ℕ). OnOk c.spread.result (HaveStayed c.args.operator.now.lines w.lines xs w.assignment)) assignment
     (subst (λ (ls : List LineView). OnOk c.spread.result (HaveStayed ls w.lines c.enlist.new.self.assignment w.assignment)) lines c.spread.ensures.stayed)
+
+pub returns-in_err-reserve-clause-others : goal.returns-in_err-reserve-clause-others
+returns-in_err-reserve-clause-others g c = inl c.reserve.ensures.items
+
+pub returns-in_err-start_silo-clause-others : goal.returns-in_err-start_silo-clause-others
+returns-in_err-start_silo-clause-others g c = inl c.reserve.ensures.items
+
+pub returns-in_err-enlist-clause-others : goal.returns-in_err-enlist-clause-others
+returns-in_err-enlist-clause-others g c =
+    let whole : c.push_reserved.new.self.items ≡ c.args.silos.now.items ++ c.in_ok-start_silo.field-0 ∷ [] = c.push_reserved.ensures.items ∙ ap (λ (ss : List SiloView). ss ++ c.in_ok-start_silo.field-0 ∷ []) c.reserve.ensures.items in
+    inr (c.in_ok-start_silo.field-0, whole, c.in_ok-start_silo.ensures.started.0.0)
+
+pub returns-clause-others : goal.returns-clause-others
+returns-clause-others g c =
+    let whole : c.push_reserved.new.self.items ≡ c.args.silos.now.items ++ c.in_ok-start_silo.field-0 ∷ [] = c.push_reserved.ensures.items ∙ ap (λ (ss : List SiloView). ss ++ c.in_ok-start_silo.field-0 ∷ []) c.reserve.ensures.items in
+    inr (c.in_ok-start_silo.field-0, whole, c.in_ok-start_silo.ensures.started.0.0)

@@ -54,7 +54,7 @@ returns-in-Ok g c =
     subst (λ (u : ClusterView). AnswersDown u c.args.silo (Ok down.Down) w) c.self.view_is
     (down-done v w c.in-Some.place c.args.silo c.stop-loops.result.silo fixed (lives-at v.operator.live c.in-Some.place c.args.silo c.in-Some.ensures, more) c.in-Some.ensures
     (one-name v.operator.live c.in-Some.place c.stop-loops.result.silo c.args.silo named c.in-Some.ensures) c.leave.ensures.on c.in-Ok.ensures.left (refl, refl, refl) c.if-self-2.false
-    (has-noted v w c.in-Some.place c.args.silo c.remove-running.result c.stop-loops.result c.self.invariant.fresh here c.remove-running.ensures.value (one-name v.operator.live c.in-Some.place c.stop-loops.result.silo c.args.silo named c.in-Some.ensures) c.stop-loops.ensures
+    (has-noted v w c.in-Some.place c.args.silo c.remove-running.result c.stop-loops.result c.self.invariant.fresh here c.remove-running.ensures.value c.remove-running.ensures.items (one-name v.operator.live c.in-Some.place c.stop-loops.result.silo c.args.silo named c.in-Some.ensures) c.stop-loops.ensures
     (record { taken = c.leave.ensures.taken; causes = c.note_ends-self-inside.ensures.causes }) c.note_ends-self-inside.ensures.noted))
 
 pub returns-in-Err : goal.returns-in-Err
@@ -71,5 +71,5 @@ returns-in-Err g c =
     let more : 1 < length v.operator.live = omega (arith, stood, count, other) in
     subst (λ (u : ClusterView). AnswersDown u c.args.silo c.down_by.result w) c.self.view_is
     (halted-down v w c.args.silo c.in-Err.halt c.down_by.result c.down_by.ensures fixed (lives-at v.operator.live c.in-Some.place c.args.silo c.in-Some.ensures, more) (record { on = c.leave.ensures.on; assignment = c.in-Err.ensures.kept; same = (refl, refl, refl); halted = refl })
-    (has-noted v w c.in-Some.place c.args.silo c.remove-running.result c.stop-loops.result c.self.invariant.fresh here c.remove-running.ensures.value (one-name v.operator.live c.in-Some.place c.stop-loops.result.silo c.args.silo named c.in-Some.ensures) c.stop-loops.ensures
+    (has-noted v w c.in-Some.place c.args.silo c.remove-running.result c.stop-loops.result c.self.invariant.fresh here c.remove-running.ensures.value c.remove-running.ensures.items (one-name v.operator.live c.in-Some.place c.stop-loops.result.silo c.args.silo named c.in-Some.ensures) c.stop-loops.ensures
     (record { taken = c.leave.ensures.taken; causes = c.note_ends-self-inside.ensures.causes }) c.note_ends-self-inside.ensures.noted) c.in-Err.ensures.limit)

@@ -27,4 +27,4 @@ returns-in-Err g c =
     let w : ClusterView = record { operator = c.bring_up.new.operator; silos = c.bring_up.new.silos.items; ends = c.self.inside.ends; is_parked = c.self.inside.parked; is_halted = true; rounds = c.self.inside.rounds; looks = c.self.inside.looks } in
     subst (λ (u : ClusterView). AnswersUp u c.args.silo c.up_by.result w) c.self.view_is
     (halted-up v w c.args.silo c.in-Err.halt c.up_by.result c.up_by.ensures (not-fixed v c.if-self.false c.if-self-2.false) c.in-None.ensures
-    (record { on = c.bring_up.ensures.on; assignment = c.in-Err.ensures.kept; same = (refl, refl, refl); halted = refl }) c.in-Err.ensures.limit refl)
+    (record { on = c.bring_up.ensures.on; assignment = c.in-Err.ensures.kept; same = (refl, refl, refl); halted = refl }) c.in-Err.ensures.limit refl c.bring_up.ensures.others)
