@@ -1,12 +1,12 @@
 -- What a line does, by what it asks for.
-use Rattle.std.proofs.Common.{◌≡◌, ◌≢◌, ◌≤◌, ℕ, List, Option, None, Result, Ok, Err, IfErr, IfOk, refl, sym, ap, subst, ◌∙◌}
+use Rattle.std.proofs.Common.{◌≡◌, ◌≢◌, ◌≤◌, ℕ, inl, inr, List, Option, None, Result, Ok, Err, IfErr, IfOk, refl, sym, ap, subst, ◌∙◌}
 use Rattle.std.specs.declared.alloc.AllocError.{AllocError}
 use Rattle.stream_model.specs.declared.op.Op.{Op}
 use Rattle.turnstile.specs.declared.turnstile.Refusal.TheVariants.{HistoryFull}
 use Rattle.silo_loops.specs.Lines.{QueuePass}
 use Rattle.silo_threads.proofs.Rows.{zip-refl}
 use Rattle.silo_threads.specs.Clusters.{ClusterView, HasMetLimit}
-use Rattle.silo_threads.specs.Draining.{HasGoneOn, Looks, LooksInVain, LooksQuiet}
+use Rattle.silo_threads.specs.Draining.{HasGoneOn, Looks, LooksAWhile, LooksInVain, LooksQuiet}
 use Rattle.stream_script.specs.declared.parser.command.Command.{Command}
 use Rattle.stream_script.specs.declared.parser.command.Command.TheVariants as command
 use Rattle.script_runs.specs.ScriptReport.{live_after}
@@ -18,7 +18,7 @@ use Rattle.silo_threads.proofs.GoneOn.{gone-refl}
 use Rattle.script_runs.specs.Telling.{AsksLast, AsksOnce, EndsAsking, Tells, TellsUnlessLimit, with_missed}
 use Rattle.script_runs.specs.declared.runs.line.Stop.{Stop}
 use Rattle.script_runs.specs.declared.runs.line.Stop.TheVariants as stop
-use Rattle.script_runs.specs.Lines.{ChangesBy, DoesLine, IsOfWait, IsUnquiet, MeetsLimit, StopsBy, WaitsInVain}
+use Rattle.script_runs.specs.Lines.{ChangesBy, DoesLine, IsOfWait, IsUnquiet, MeetsLimit, StopsBy, WaitsAWhile, WaitsInVain}
 
 -- a line that asks for something at the queues
 pub tells-line : (v : ClusterView) (old new : List QueuePass) (said : Command) (a : Answer) → ((live : List ℕ) → live_after live said ≡ live) → Tells old said a new → (said ≡ command.Drain → LooksQuiet v.looks old new) → DoesLine v old said a v new
@@ -67,7 +67,7 @@ pub asked-stops : (command : Command) (v : ClusterView) (old new : List QueuePas
 asked-stops command v old new asked (Ok a) last stops = tt
 asked-stops command v old new asked (Err stop.Limit) last stops = last (stops.1 refl)
 asked-stops command v old new asked (Err stop.NotQuiet) last stops = absurd (stops.0 tt)
-asked-stops command v old new asked (Err stop.Ended) last stops = absurd (stops.0 tt)
+asked-stops command v old new asked (Err stop.RoundLimit) last stops = absurd (stops.0 tt)
 asked-stops command v old new asked (Err stop.Memory) last stops = tt
 
 pub once-last : (old : List QueuePass) (queue : ℕ) (op : Op) (asked : Result Answer AllocError) (new : List QueuePass) → AsksOnce old queue op asked new → asked ≡ Ok answer.Limit → AsksLast old op (Ok answer.Limit) new
@@ -82,16 +82,19 @@ pub changed-stops : (command : Command) (v w : ClusterView) (passes : List Queue
 changed-stops command v w passes (Ok a) meets stops = tt
 changed-stops command v w passes (Err stop.Limit) meets stops = meets (stops.1 refl)
 changed-stops command v w passes (Err stop.NotQuiet) meets stops = absurd (stops.0 tt)
-changed-stops command v w passes (Err stop.Ended) meets stops = absurd (stops.0 tt)
+changed-stops command v w passes (Err stop.RoundLimit) meets stops = absurd (stops.0 tt)
 changed-stops command v w passes (Err stop.Memory) meets stops = tt
 
 vain-now : (made : ℕ) (old new : List QueuePass) → LooksInVain made old new → WaitsInVain made old new
 vain-now made old new vain = record { before = old; on = zip-refl HasGoneOn gone-refl old; vain = vain }
 
+awhile-now : (v : ClusterView) (looks : ℕ) (old new : List QueuePass) → looks ≡ v.looks → LooksAWhile looks old new → WaitsAWhile v.looks old new
+awhile-now v looks old new same some = (some.0, some.1, subst (λ n. some.0 ≤ n) same some.2, vain-now some.0 old new some.3)
+
 pub unquiet-stops : (why : Stop) (v w : ClusterView) (looks : ℕ) (old new : List QueuePass) → looks ≡ v.looks → IsUnquiet why looks old new → StopsBy why command.Drain v old w new
-unquiet-stops stop.Limit v w looks old new same unquiet =
-    record { before = old; on = zip-refl HasGoneOn gone-refl old; ends = subst (λ n. Looks n (Err HistoryFull) old new) same unquiet }
+unquiet-stops stop.Limit v w looks old new same (inl full) =
+    inl (record { before = old; on = zip-refl HasGoneOn gone-refl old; ends = subst (λ n. Looks n (Err HistoryFull) old new) same full })
+unquiet-stops stop.Limit v w looks old new same (inr some) = inr (awhile-now v looks old new same some)
 unquiet-stops stop.NotQuiet v w looks old new same unquiet = (refl, vain-now v.looks old new (subst (λ n. LooksInVain n old new) same unquiet))
-unquiet-stops stop.Ended v w looks old new same unquiet =
-    (refl, (unquiet.0, unquiet.1, subst (λ n. unquiet.0 ≤ n) same unquiet.2, vain-now unquiet.0 old new unquiet.3))
+unquiet-stops stop.RoundLimit v w looks old new same unquiet = (refl, awhile-now v looks old new same unquiet)
 unquiet-stops stop.Memory v w looks old new same unquiet = tt

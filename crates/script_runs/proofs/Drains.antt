@@ -1,14 +1,19 @@
--- A line that drains tells nothing more.
-use Rattle.std.proofs.Common.{List, refl}
+-- A line that drains tells nothing more, and why it is stopped.
+use Rattle.std.proofs.Common.{◌≡◌, ℕ, inr, List, Option, Some, None, refl, sym, subst}
 use Rattle.std.specs.List.{AllZip}
 use Rattle.silo_loops.specs.Lines.{QueuePass}
+use Rattle.silo_loops.specs.declared.advance.LoopEnd.{LoopEnd}
+use Rattle.silo_loops.specs.declared.advance.Over.{Over}
+use Rattle.silo_loops.specs.declared.advance.Over.TheVariants as over
 use Rattle.silo_threads.proofs.Rows.{all-at, zip-at}
 use Rattle.stream_script.specs.declared.parser.command.Command.TheVariants as command
 use Rattle.script_runs.specs.declared.producer.answer.Answer.TheVariants as answer
 use Rattle.script_runs.specs.Telling.{ProducesAlone, Tells}
 use Rattle.script_runs.proofs.Replying.{line-none}
-use Rattle.silo_threads.specs.Draining.{ProducesNone}
+use Rattle.silo_threads.specs.Draining.{LooksAWhile, ProducesNone}
 use Rattle.script_runs.proofs.Seen.{none-told}
+use Rattle.script_runs.specs.declared.runs.line.Stop.{Stop}
+use Rattle.script_runs.specs.Lines.{IsUnquiet, stop_by, stop_by_over}
 
 pub drain_tells : (old new : List QueuePass) → AllZip ProducesNone old new → Tells old command.Drain answer.Taken new
 drain_tells old new all =
@@ -20,3 +25,16 @@ drain_tells old new all =
           (none-told p q beside.2 (all-at ProducesAlone new queue q alone at)) (has queue p beside.1);
       printed = λ begins alone missed lines number fresh has silos. refl;
     }
+
+-- a loop has ended
+over-unquiet : (how : Over) (looks : ℕ) (old new : List QueuePass) → LooksAWhile looks old new → IsUnquiet (stop_by_over how) looks old new
+over-unquiet over.Rounds looks old new some = some
+over-unquiet over.Limit looks old new some = inr some
+over-unquiet over.Memory looks old new some = tt
+
+end-unquiet : (end : Option LoopEnd) (looks : ℕ) (old new : List QueuePass) → LooksAWhile looks old new → IsUnquiet (stop_by end) looks old new
+end-unquiet (Some end) looks old new some = over-unquiet end.over looks old new some
+end-unquiet None looks old new some = inr some
+
+pub ended_unquiet : (why : Stop) (end : Option LoopEnd) (looks : ℕ) (old new : List QueuePass) → why ≡ stop_by end → LooksAWhile looks old new → IsUnquiet why looks old new
+ended_unquiet why end looks old new is some = subst (λ (s : Stop). IsUnquiet s looks old new) (sym is) (end-unquiet end looks old new some)

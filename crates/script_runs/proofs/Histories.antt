@@ -120,7 +120,7 @@ module _ {H : Type 0} (entries : H → List (Entry Op Reply)) where
       traces-legal config c w caller now fin.lines fin.finished.asked fin.finished.last traces new first fin.on fin.finished.came_to fin.finished.answers.2
   run-legal back config c w caller now (finished.Report text traces) end.NotQuiet new first fin =
       traces-legal config c w caller now fin.lines fin.finished.asked fin.finished.last traces new first fin.on fin.finished.came_to fin.finished.answers.2
-  run-legal back config c w caller now (finished.Report text traces) end.Ended new first fin =
+  run-legal back config c w caller now (finished.Report text traces) end.RoundLimit new first fin =
       traces-legal config c w caller now fin.lines fin.finished.asked fin.finished.last traces new first fin.on fin.finished.came_to fin.finished.answers.2
   run-legal back config c w caller now (finished.Report text traces) end.Halted new first fin =
       traces-legal config c w caller now fin.lines fin.finished.asked fin.finished.last traces new first fin.on fin.finished.came_to fin.finished.answers.2

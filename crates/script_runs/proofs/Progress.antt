@@ -1,5 +1,5 @@
 -- How far a script is done.
-use Rattle.std.proofs.Common.{◌≡◌, ◌≢◌, ℕ, zero, suc, ◌+◌, ◌<◌, ◌≤◌, true, false, ◌||◌, Contains, List, [], ◌∷◌, ◌++◌, map, Result, Ok, Err, OnErr, OnOk, length, get_or, refl, sym, ap, subst, ◌∙◌, arith, append_assoc, ◌==◌}
+use Rattle.std.proofs.Common.{◌≡◌, ◌≢◌, ℕ, zero, suc, ◌+◌, ◌<◌, ◌≤◌, inl, inr, true, false, ◌||◌, Contains, List, [], ◌∷◌, ◌++◌, map, Result, Ok, Err, OnErr, OnOk, length, get_or, refl, sym, ap, subst, ◌∙◌, arith, append_assoc, ◌==◌}
 use Rattle.std.proofs.lemmas.Bool.{ne_eqb}
 use Rattle.std.proofs.lemmas.List.{append-nil}
 use Rattle.std.proofs.lemmas.List.Kept.{AllPairs-cons}
@@ -44,7 +44,7 @@ use Rattle.script_runs.proofs.Seen.{alone-as, alone-front, none-told}
 use Rattle.script_runs.specs.Scripts.{IsRunCommand, IsScript, RisesFrom}
 use Rattle.script_runs.specs.declared.runs.line.Stop.{Stop}
 use Rattle.script_runs.specs.declared.runs.line.Stop.TheVariants as stop
-use Rattle.script_runs.specs.Lines.{DoesLine, HasToldFront, MeetsLimit, StaysOpen, StopsBy, TellsInPart, WaitsInVain, WaitsUntil, next_command}
+use Rattle.script_runs.specs.Lines.{DoesLine, HasToldFront, MeetsLimit, StaysOpen, StopsBy, TellsInPart, WaitsAWhile, WaitsInVain, WaitsUntil, next_command}
 use Rattle.script_runs.specs.Runs.{DoesAll, IsPrinted, IsUntouched, StopsFront, missed_in, with_printed}
 use Rattle.script_runs.proofs.Fronts.{drain-part, none-left}
 
@@ -224,13 +224,17 @@ until-earlier looks result old now new on waits = record { before = waits.before
 waits-earlier : (made : ℕ) (old now new : List QueuePass) → AllZip HasGoneOn old now → WaitsInVain made now new → WaitsInVain made old new
 waits-earlier made old now new on waits = record { before = waits.before; on = on-all old now waits.before on waits.on; vain = waits.vain }
 
+awhile-earlier : (v w : ClusterView) (old now new : List QueuePass) → w.looks ≡ v.looks → AllZip HasGoneOn old now → WaitsAWhile w.looks now new → WaitsAWhile v.looks old new
+awhile-earlier v w old now new same on waits = (waits.0, waits.1, subst (λ n. waits.0 ≤ n) same waits.2, waits-earlier waits.0 old now new on waits.3)
+
 last-earlier : (op : Op) (result : Result Answer AllocError) (old now new : List QueuePass) → AllZip HasGoneOn old now → AsksLast now op result new → AsksLast old op result new
 last-earlier op result old now new on last = record { before = last.before; on = on-all old now last.before on last.on; queue = last.queue; asks = last.asks }
 
 limit-earlier : (asked : Command) (v w u : ClusterView) (old now new : List QueuePass) → OperatorGoesOn v.operator w.operator → w.looks ≡ v.looks → AllZip HasGoneOn old now → MeetsLimit asked w now u new → MeetsLimit asked v old u new
 limit-earlier (command.Step queue op) v w u old now new goes same on meets = last-earlier op (Ok answer.Limit) old now new on meets
 limit-earlier (command.Each each) v w u old now new goes same on meets = last-earlier (op_of each) (Ok answer.Limit) old now new on meets
-limit-earlier command.Drain v w u old now new goes same on meets = until-earlier v.looks (Err HistoryFull) old now new on (subst (λ n. WaitsUntil n (Err HistoryFull) now new) same meets)
+limit-earlier command.Drain v w u old now new goes same on (inl full) = inl (until-earlier v.looks (Err HistoryFull) old now new on (subst (λ n. WaitsUntil n (Err HistoryFull) now new) same full))
+limit-earlier command.Drain v w u old now new goes same on (inr some) = inr (awhile-earlier v w old now new same on some)
 limit-earlier (command.Up silo) v w u old now new goes same on meets = met-earlier v.operator w.operator u.operator goes meets
 limit-earlier (command.Down silo) v w u old now new goes same on meets = met-earlier v.operator w.operator u.operator goes meets
 limit-earlier command.Report v w u old now new goes same on meets = absurd meets
@@ -241,8 +245,7 @@ pub stops-later : (why : Stop) (asked : Command) (lines : List Line) (v : Cluste
 stops-later stop.Limit asked lines v old done found w now u new free far stops = limit-earlier asked v w u old now new far.cluster (far.stays free).1 far.on stops
 stops-later stop.NotQuiet asked lines v old done found w now u new free far stops =
     (stops.0, waits-earlier v.looks old now new far.on (subst (λ n. WaitsInVain n now new) (far.stays free).1 stops.1))
-stops-later stop.Ended asked lines v old done found w now u new free far stops =
-    (stops.0, (stops.1.0, stops.1.1, subst (λ n. stops.1.0 ≤ n) (far.stays free).1 stops.1.2, waits-earlier stops.1.0 old now new far.on stops.1.3))
+stops-later stop.RoundLimit asked lines v old done found w now u new free far stops = (stops.0, awhile-earlier v w old now new (far.stays free).1 far.on stops.1)
 stops-later stop.Memory asked lines v old done found w now u new free far stops = tt
 
 -- all lines were done, and then all queues were quiet

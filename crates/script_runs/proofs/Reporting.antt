@@ -188,7 +188,7 @@ module _ {H : Type 0} (entries : H → List (Entry Op Reply)) where
       )
   front-done config lines c w caller now found end.Limit histories is new ends begun made = front-known config lines c caller now found histories is new ends.1.0 begun made
   front-done config lines c w caller now found end.NotQuiet histories is new ends begun made = front-known config lines c caller now found histories is new ends.1.0 begun made
-  front-done config lines c w caller now found end.Ended histories is new ends begun made = front-known config lines c caller now found histories is new ends.1.0 begun made
+  front-done config lines c w caller now found end.RoundLimit histories is new ends begun made = front-known config lines c caller now found histories is new ends.1.0 begun made
   front-done config lines c w caller now found end.Halted histories is new ends begun made = absurd (true≢false (sym ends.0 ∙ new.goes_on))
 
   pub run-ends : (back : List SiloView) (config : Config) (lines : List Line) (c w : ClusterView) (caller now : List QueuePass) (found : List ScriptLine) (answer : Finished H) (how : ScriptEnd) → IsConfig config → IsNew config c caller → turnstiles now ≡ turnstiles caller
@@ -212,8 +212,8 @@ module _ {H : Type 0} (entries : H → List (Entry Op Reply)) where
       front-done config lines c w caller now found end.Limit (map entries traces.histories.items) is new ends fin.begun.of_callers.0 fin.producers
   run-ends back config lines c w caller now found (finished.Report text traces) end.NotQuiet is new same ends fin =
       front-done config lines c w caller now found end.NotQuiet (map entries traces.histories.items) is new ends fin.begun.of_callers.0 fin.producers
-  run-ends back config lines c w caller now found (finished.Report text traces) end.Ended is new same ends fin =
-      front-done config lines c w caller now found end.Ended (map entries traces.histories.items) is new ends fin.begun.of_callers.0 fin.producers
+  run-ends back config lines c w caller now found (finished.Report text traces) end.RoundLimit is new same ends fin =
+      front-done config lines c w caller now found end.RoundLimit (map entries traces.histories.items) is new ends fin.begun.of_callers.0 fin.producers
   run-ends back config lines c w caller now found (finished.Report text traces) end.Halted is new same ends fin =
       front-done config lines c w caller now found end.Halted (map entries traces.histories.items) is new ends fin.begun.of_callers.0 fin.producers
   run-ends back config lines c w caller now found (finished.NotQuiet queue why traces) how is new same ends fin =

@@ -8,6 +8,9 @@ use Rattle.stream_model.specs.History as told
 use Rattle.turnstile.specs.declared.turnstile.Refusal.{Refusal}
 use Rattle.turnstile.specs.declared.turnstile.Refusal.TheVariants.{HistoryFull}
 use Rattle.silo_loops.specs.Lines.{QueuePass}
+use Rattle.silo_loops.specs.declared.advance.LoopEnd.{LoopEnd}
+use Rattle.silo_loops.specs.declared.advance.Over.{Over}
+use Rattle.silo_loops.specs.declared.advance.Over.TheVariants as over
 use Rattle.silo_threads.specs.Operators.{OperatorGoesOn}
 use Rattle.silo_threads.specs.Clusters.{ClusterView, HasMetLimit, is_fixed}
 use Rattle.silo_threads.specs.declared.ending.asking.Quiet.{Quiet}
@@ -100,15 +103,6 @@ pub record WaitsUntil (looks : ℕ) (result : Result Quiet Refusal) (old new : L
   pub on : AllZip HasGoneOn old before
   pub ends : Looks looks result before new
 
--- A line met a limit: its last call did, of a partition or of a history, or a silo couldn't come or go for one.
-abbrev pub MeetsLimit : Command → ClusterView → List QueuePass → ClusterView → List QueuePass → Type 0
-MeetsLimit (command.Step queue op) v old w new = AsksLast old op (Ok answer.Limit) new
-MeetsLimit (command.Each each) v old w new = AsksLast old (op_of each) (Ok answer.Limit) new
-MeetsLimit command.Drain v old w new = WaitsUntil v.looks (Err HistoryFull) old new
-MeetsLimit (command.Up silo) v old w new = HasMetLimit v.operator w.operator
-MeetsLimit (command.Down silo) v old w new = HasMetLimit v.operator w.operator
-MeetsLimit command.Report v old w new = ⊥
-
 -- since then a wait has begun, in which so many looks were made in vain
 pub record WaitsInVain (made : ℕ) (old new : List QueuePass) : Type 0 where
   pub before : List QueuePass
@@ -119,22 +113,44 @@ pub record WaitsInVain (made : ℕ) (old new : List QueuePass) : Type 0 where
 abbrev pub WaitsAWhile : ℕ → List QueuePass → List QueuePass → Type 0
 WaitsAWhile looks old new = (made : ℕ) × (1 ≤ made) × (made ≤ looks) × WaitsInVain made old new
 
+-- A line met a limit: its last call did, of a partition or of a history, or a silo couldn't come or go for one. Where it
+-- waited, a loop may have met one instead, after some looks in vain: the caller's passes don't show that.
+abbrev pub MeetsLimit : Command → ClusterView → List QueuePass → ClusterView → List QueuePass → Type 0
+MeetsLimit (command.Step queue op) v old w new = AsksLast old op (Ok answer.Limit) new
+MeetsLimit (command.Each each) v old w new = AsksLast old (op_of each) (Ok answer.Limit) new
+MeetsLimit command.Drain v old w new = WaitsUntil v.looks (Err HistoryFull) old new ⊎ WaitsAWhile v.looks old new
+MeetsLimit (command.Up silo) v old w new = HasMetLimit v.operator w.operator
+MeetsLimit (command.Down silo) v old w new = HasMetLimit v.operator w.operator
+MeetsLimit command.Report v old w new = ⊥
+
+-- why a line is stopped by a loop that has ended so
+abbrev pub stop_by_over : Over → Stop
+stop_by_over over.Rounds = stop.RoundLimit
+stop_by_over over.Limit = stop.Limit
+stop_by_over over.Memory = stop.Memory
+
+-- Why a line is stopped where a queue may never get quiet, by the first end of a loop. Where there is none, a change of
+-- silos was broken off, which counts as a limit.
+abbrev pub stop_by : Option LoopEnd → Stop
+stop_by (Some end) = stop_by_over end.over
+stop_by None = stop.Limit
+
 -- it was a wait that stopped a line
 abbrev pub IsOfWait : Stop → Type 0
 IsOfWait stop.NotQuiet = Unit {0}
-IsOfWait stop.Ended = Unit {0}
+IsOfWait stop.RoundLimit = Unit {0}
 IsOfWait _ = ⊥
 
 -- why a wait didn't find all queues quiet
 abbrev pub IsUnquiet : Stop → ℕ → List QueuePass → List QueuePass → Type 0
-IsUnquiet stop.Limit looks old new = Looks looks (Err HistoryFull) old new
+IsUnquiet stop.Limit looks old new = Looks looks (Err HistoryFull) old new ⊎ LooksAWhile looks old new
 IsUnquiet stop.NotQuiet looks old new = LooksInVain looks old new
-IsUnquiet stop.Ended looks old new = LooksAWhile looks old new
+IsUnquiet stop.RoundLimit looks old new = LooksAWhile looks old new
 IsUnquiet stop.Memory looks old new = Unit {0}
 
 -- why a line was stopped
 abbrev pub StopsBy : Stop → Command → ClusterView → List QueuePass → ClusterView → List QueuePass → Type 0
 StopsBy stop.Limit asked v old w new = MeetsLimit asked v old w new
 StopsBy stop.NotQuiet asked v old w new = (asked ≡ command.Drain) × WaitsInVain v.looks old new
-StopsBy stop.Ended asked v old w new = (asked ≡ command.Drain) × WaitsAWhile v.looks old new
+StopsBy stop.RoundLimit asked v old w new = (asked ≡ command.Drain) × WaitsAWhile v.looks old new
 StopsBy stop.Memory asked v old w new = Unit {0}

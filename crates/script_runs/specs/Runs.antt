@@ -89,7 +89,7 @@ abbrev pub EndsScript : ScriptEnd → List Line → ClusterView → List QueuePa
 EndsScript end.Done lines v old found w new = (is_fixed v ≡ false) × DoesAll lines v old found w new
 EndsScript end.Limit lines v old found w new = (is_fixed v ≡ false) × StopsFront stop.Limit lines v old found w new
 EndsScript end.NotQuiet lines v old found w new = (is_fixed v ≡ false) × StopsFront stop.NotQuiet lines v old found w new
-EndsScript end.Ended lines v old found w new = (is_fixed v ≡ false) × StopsFront stop.Ended lines v old found w new
+EndsScript end.RoundLimit lines v old found w new = (is_fixed v ≡ false) × StopsFront stop.RoundLimit lines v old found w new
 EndsScript end.Halted lines v old found w new = (is_fixed v ≡ true) × DoesNothing v old found w new
 
 -- what `run_script` answers
@@ -152,6 +152,7 @@ module _ {H : Type 0} (entries : H → List (Entry Op Reply)) where
 abbrev pub why_after : ScriptEnd → Unfinished → Unfinished
 why_after end.Limit why = unfinished.Limit
 why_after end.Halted why = unfinished.Limit
+why_after end.RoundLimit unfinished.NotQuiet = unfinished.RoundLimit
 why_after _ why = why
 
 -- how a run has ended, by how its script and its cluster have ended

@@ -10,10 +10,11 @@ ghost use Rattle.script_runs.specs.Telling.{Tells};
 ghost use Rattle.script_runs.specs.Scripts.{IsRunCommand};
 ghost use Rattle.silo_threads.specs.Operators.{OperatorGoesOn};
 ghost use Rattle.silo_threads.specs.Clusters.{HasMetLimit, is_fixed};
-ghost use Rattle.script_runs.specs.Lines.{ChangesBy, DoesLine, IsOfWait, IsUnquiet, StopsBy, TellsInPart};
+ghost use Rattle.script_runs.specs.Lines.{ChangesBy, DoesLine, IsOfWait, IsUnquiet, StopsBy, TellsInPart, stop_by};
 
 use crate::producer::{Answer, ask, ask_each};
 use shared_partition::{DirectoryHistory, Gate, QueueHistory};
+use silo_loops::{LoopEnd, Over};
 use silo_threads::{Caller, Cluster, Drained, SiloDown, SiloUp, drain};
 use std::alloc::{AllocError, Global};
 use std::sync::Wait;
@@ -27,9 +28,9 @@ pub(crate) enum Stop {
     Limit,
     /// In as many looks as there may be not all queues were quiet.
     NotQuiet,
-    /// Not all queues were quiet, and they may never be.
-    Ended,
-    /// A call failed to allocate.
+    /// A loop has made as many rounds as it may, and not all queues were quiet.
+    RoundLimit,
+    /// A call or a loop failed to allocate.
     Memory,
 }
 
@@ -125,7 +126,7 @@ fn unless_limit(asked: Result<Answer, AllocError>) -> Result<Answer, Stop>
 }
 
 /// Waits until all queues are quiet.
-#[tactic(auto, using(crate::proofs::Drains::drain_tells))]
+#[tactic(auto, using(crate::proofs::Drains::drain_tells, crate::proofs::Drains::ended_unquiet))]
 pub(crate) fn wait_until_quiet<G: Gate, H: QueueHistory, R: Wait>(
     rt: &R,
     alloc: Global,
@@ -141,8 +142,22 @@ pub(crate) fn wait_until_quiet<G: Gate, H: QueueHistory, R: Wait>(
     match drain(rt, alloc, caller, looks) {
         Ok(Drained::Quiet) => Ok(()),
         Ok(Drained::NotQuiet) => Err(Stop::NotQuiet),
-        Ok(Drained::Ended) => Err(Stop::Ended),
+        Ok(Drained::Ended) => Err(stop_by(caller.doorbell().loop_end(rt))),
         Ok(Drained::Limit) => Err(Stop::Limit),
         Err(_) => Err(Stop::Memory),
+    }
+}
+
+// Why a line is stopped where a queue may never get quiet, by the first end of a loop.
+fn stop_by(end: Option<LoopEnd>) -> Stop
+    ensures { result ≡ stop_by end }
+{
+    let Some(end) = end else {
+        return Stop::Limit;
+    };
+    match end.over {
+        Over::Rounds => Stop::RoundLimit,
+        Over::Limit => Stop::Limit,
+        Over::Memory => Stop::Memory,
     }
 }

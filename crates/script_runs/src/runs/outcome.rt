@@ -117,9 +117,10 @@ fn conclude<H: Drop>(script: ScriptRun, finished: Finished<H>) -> Ran<H>
 fn without_report<H>(end: ScriptEnd, why: Unfinished, traces: Traces<H>) -> RunEnd<H>
     ensures { result ≡ ends.Unfinished (why_after end why) (Some traces) }
 {
-    let why = match end {
-        ScriptEnd::Limit | ScriptEnd::Halted => Unfinished::Limit,
-        ScriptEnd::Done | ScriptEnd::NotQuiet | ScriptEnd::Ended => why,
+    let why = match (end, why) {
+        (ScriptEnd::Limit | ScriptEnd::Halted, _) => Unfinished::Limit,
+        (ScriptEnd::RoundLimit, Unfinished::NotQuiet) => Unfinished::RoundLimit,
+        _ => why,
     };
     RunEnd::Unfinished {
         why,

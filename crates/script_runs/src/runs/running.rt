@@ -23,13 +23,13 @@ use std::thread::Threads;
 pub enum ScriptEnd {
     /// All lines are done, and then all queues got quiet.
     Done,
-    /// A limit is reached: of a partition's events, subscriptions or rules, or of a history. The line that met it may
-    /// be done in part.
+    /// A limit is reached, by a line or by a loop: of a partition's events, subscriptions, rules or rises, or of a
+    /// history. The line that met it may be done in part.
     Limit,
+    /// A loop has made as many rounds as it may, and not all queues were quiet.
+    RoundLimit,
     /// The queues were looked at as often as they may be, and in each look not all were quiet.
     NotQuiet,
-    /// Not all queues were quiet, and they may never be: a loop has ended.
-    Ended,
     /// The cluster's silos don't change any more, or it is parked. Nothing was done.
     Halted,
 }
@@ -46,7 +46,7 @@ pub struct ScriptRun {
 /// Does the lines of a script in order, as a producer with this caller, and waits until all queues are quiet.
 ///
 /// # Errors
-/// A call failed to allocate, or a thread can't be made. The lines before were done.
+/// A call or a loop failed to allocate, or a thread can't be made. The lines before were done.
 pub fn run_script<
     G: Gate + 'static,
     H: QueueHistory + Send + 'static,
@@ -77,7 +77,7 @@ pub fn run_script<
         Ok(()) => ScriptEnd::Done,
         Err(Stop::Limit) => ScriptEnd::Limit,
         Err(Stop::NotQuiet) => ScriptEnd::NotQuiet,
-        Err(Stop::Ended) => ScriptEnd::Ended,
+        Err(Stop::RoundLimit) => ScriptEnd::RoundLimit,
         Err(Stop::Memory) => return Err(AllocError),
     };
     Ok(ScriptRun { printed, end })

@@ -8,7 +8,7 @@ use Rattle.script_runs.specs.declared.runs.line.Stop.{Stop}
 use Rattle.script_runs.specs.declared.runs.running.ScriptEnd.{ScriptEnd}
 use Rattle.script_runs.specs.Runs.{EndsScript, StopsFront}
 use Rattle.script_runs.proofs.runs.running.run_script.Goals as goal
-use Rattle.script_runs.proofs.runs.running.run_script.Goals.{in-Err-Ended, in-Err-Limit, in-Err-NotQuiet, in-Ok}
+use Rattle.script_runs.proofs.runs.running.run_script.Goals.{in-Err-RoundLimit, in-Err-Limit, in-Err-NotQuiet, in-Ok}
 
 pub returns-then-is_fixed-clause-on : goal.returns-then-is_fixed-clause-on
 returns-then-is_fixed-clause-on g c = zip-refl HasGoneOn gone-refl _
@@ -29,5 +29,5 @@ returns-clause-script g c =
       | in-Ok b ↦ subst ends (sym b.end-is) (free, b.in-Ok.ensures.all)
       | in-Err-Limit b ↦ subst ends (sym b.end-is) (free, subst (λ (why : Stop). StopsFront why c.args.lines.items v old found w new) b.in-Err-Limit.field-0-is b.in-Err-Limit.ensures.front)
       | in-Err-NotQuiet b ↦ subst ends (sym b.end-is) (free, subst (λ (why : Stop). StopsFront why c.args.lines.items v old found w new) b.in-Err-NotQuiet.field-0-is b.in-Err-NotQuiet.ensures.front)
-      | in-Err-Ended b ↦ subst ends (sym b.end-is) (free, subst (λ (why : Stop). StopsFront why c.args.lines.items v old found w new) b.in-Err-Ended.field-0-is b.in-Err-Ended.ensures.front)
+      | in-Err-RoundLimit b ↦ subst ends (sym b.end-is) (free, subst (λ (why : Stop). StopsFront why c.args.lines.items v old found w new) b.in-Err-RoundLimit.field-0-is b.in-Err-RoundLimit.ensures.front)
     ]
