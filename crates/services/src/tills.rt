@@ -11,7 +11,7 @@ use streams::{
 };
 
 /// Sells at both tills, audits that, and prints what they have taken.
-pub fn run<R: Host + Print>(rt: R) -> Result<()> {
+pub fn run<R: Host + Print + Send + Sync + 'static>(rt: R) -> Result<()> {
     let gate = Arc::new(rt.alloc(), Counting)?;
     let mut service = Service::open(rt, &Config::new(4, 2), gate)?;
     let sales = StreamId::new(b"sales", b"shop")?;
@@ -25,7 +25,7 @@ pub fn run<R: Host + Print>(rt: R) -> Result<()> {
 }
 
 // One till sells, and the other one takes something back, at once. It gives the first of both.
-fn sell<R: Host>(
+fn sell<R: Host + Send + Sync + 'static>(
     rt: &R,
     service: &mut Service<R, Counting>,
     sales: StreamId,
@@ -44,7 +44,7 @@ fn sell<R: Host>(
 }
 
 // A till publishes a sale, and comes back.
-fn sell_at<R: Host>(
+fn sell_at<R: Host + 'static>(
     till: Producer<R, Counting>,
     sales: StreamId,
     cents: Payload,

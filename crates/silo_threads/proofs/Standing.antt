@@ -1,6 +1,6 @@
 -- What a change of silos leaves.
-use Rattle.std.proofs.Common.{◌≡◌, ◌⊎◌, inl, inr, ℕ, zero, suc, ◌<◌, ◌+◌, Bool, true, false, List, [], ◌∷◌, ◌++◌, length, drop, get_or, map, remove, Contains, Some, Result, Ok, Err, refl, sym, ap, subst, ◌∙◌, arith}
-use Rattle.std.proofs.lemmas.List.{get_or-map, length-map, map-append}
+use Rattle.std.proofs.Common.{◌≡◌, ◌⊎◌, inl, inr, ℕ, zero, suc, ◌<◌, ◌≤◌, ◌+◌, Bool, true, false, List, [], ◌∷◌, ◌++◌, length, drop, get_or, map, remove, Contains, Some, Result, Ok, Err, refl, sym, ap, subst, ◌∙◌, arith}
+use Rattle.std.proofs.lemmas.List.{get_or-map, length-append, length-map, map-append}
 use Rattle.std.proofs.lemmas.Option.{slice_get-get_or, slice_get_within}
 use Rattle.std.proofs.lemmas.List.Edits.{length-remove}
 use Rattle.std.proofs.lemmas.List.FromFn.{get_or-range_with_len, length-range_with_len}
@@ -8,6 +8,8 @@ use Rattle.std.specs.List.{AllByRecursion, AllZip, range_with_len, slice_get, sl
 use Rattle.std.specs.Option.{unwrap_or}
 use Rattle.std.specs.Prelude.{replicate, IfOk, OnOk, ◌||◌}
 use Rattle.std.specs.declared.alloc.AllocError.{AllocError}
+use Rattle.activation_directory.specs.declared.op.DirectoryOp.{DirectoryOp}
+use Rattle.activation_directory.specs.declared.reply.DirectoryReply.{DirectoryReply}
 use Rattle.turnstile.specs.Calls.{IsSplitOff}
 use Rattle.turnstile.specs.History.{Foreign}
 use Rattle.silo_threads.specs.Calls.{IsUnused, turnstiles}
@@ -22,7 +24,7 @@ use Rattle.stream_model.specs.declared.op.Op.{Op}
 use Rattle.stream_model.specs.Replies.{Reply}
 use Rattle.turnstile.specs.declared.history.Entry.{Entry}
 use Rattle.silo_loops.specs.Lines.{DirectoryPass, LineView, QueuePass, places}
-use Rattle.silo_loops.specs.Passes.{OwnsNone}
+use Rattle.silo_loops.specs.Passes.{IsOtherIn, OwnsNone}
 use Rattle.silo_loops.proofs.Running.{agent-stays, worker-stays}
 use Rattle.silo_loops.specs.Silos.{AreSilent, AreSplitOff, AreTakenIn, GoOn, GoesOn, HasRun, IsFresh, IsSilent, IsSiloAt, IsSplitLine, SiloView}
 use Rattle.silo_loops.proofs.Going.{goes-length, goes-places, goes-refl, goes-trans, on-refl, still-at, taken-silo}
@@ -33,7 +35,7 @@ use Rattle.silo_threads.specs.Operators.{HasOnlyGoneOn, HasSpread, IsUnspread, O
 use Rattle.silo_threads.proofs.Changing.{each-earlier, each-later, goes-at, goes-back, nowhere-silents, nowhere-trans, op-trans, stayed-earlier}
 use Rattle.silo_threads.proofs.Rows.{all-at}
 use Rattle.silo_threads.proofs.Making.{goes-longer, last-earlier, made-earlier, made-since-silent}
-use Rattle.silo_threads.specs.Clusters.{AnswersDown, AnswersRetire, AnswersUp, AreAtQueues, AreFresh, AreNoted, AreStarted, ClusterView, HasAtMostCome, HasEnded, HasHalted, HasLeft, HasMetLimit, HasNoted, HaveComeBack, HaveEnded, HaveSeenNone, IsAtDirectory, IsBrokenOff, IsCluster, IsDownBy, IsLimitedAt, IsOpened, IsRetired, IsRetiredBy, IsUpBy, MayGo, RunsOn, WereLeft, WereMoved, all_noted, is_fixed, none_ended, noted}
+use Rattle.silo_threads.specs.Clusters.{AnswersDown, AnswersRetire, AnswersUp, AreAtQueues, AreFresh, AreNoted, AreStarted, ClusterView, HasAtMostCome, HasEnded, HasHalted, HasLeft, HasMetLimit, HasNoted, HaveComeBack, HaveEnded, HaveSeenNone, IsAtDirectory, IsBrokenOff, IsCluster, IsDownBy, IsEmptied, IsLimitedAt, IsOpened, IsRetired, IsRetiredBy, IsUpBy, MayGo, RunsOn, WereLeft, WereMoved, all_noted, is_fixed, none_ended, noted}
 use Rattle.silo_threads.specs.declared.clusters.config.Config.{Config}
 use Rattle.silo_threads.specs.declared.clusters.cluster.Retired.{Retired}
 use Rattle.silo_threads.specs.declared.clusters.cluster.SiloDown.{SiloDown}
@@ -209,6 +211,19 @@ left-whole silo place v u t s w back silent silents taken nowhere gone none_left
           (subst (λ (ls : List LineView). HaveStayed ls w.lines s.assignment w.assignment) lines stayed));
       spread = spread-from v s w (op-trans v t s away (op-same t s lines (ap (λ (o : OperatorView). o.directory) dismissed))) on (ap (λ (o : OperatorView). o.assignment) dismissed ∙ taken.assignment ∙ back.assignment) spread;
     }
+
+other-shorter : (p q : DirectoryPass) → IsOtherIn p q → length p.seen ≤ length q.seen
+other-shorter p q other =
+    let long = ap (λ (es : List (Entry DirectoryOp DirectoryReply)). length es) other.part.claims.is ∙ length-append p.seen other.part.claims.rest in
+    omega (arith, long)
+
+-- what was found past all that a pass had taken in was found past what the workers had seen
+pub emptied-whole : (silo : ℕ) (lines : List LineView) (d e : DirectoryPass) (s : SiloView) → silo ≡ s.silo → AreTakenIn lines d s → HasMade (length d.seen) e (IsNoneLeft silo) → IsEmptied e s
+emptied-whole silo lines d e s named taken none_left =
+    let made = subst (λ k. HasMade (length d.seen) e (IsNoneLeft k)) named none_left in (
+      made-earlier (IsNoneLeft s.silo) (length s.first.directory.seen) (length d.seen) e (other-shorter s.first.directory d taken.first_asks) made,
+      made-earlier (IsNoneLeft s.silo) (length s.second.directory.seen) (length d.seen) e (other-shorter s.second.directory d taken.second_asks) made,
+    )
 
 at-goes : (config : Config) (ls ms : List LineView) → GoOn ls ms → AreAtQueues config ls → AreAtQueues config ms
 at-goes config [] [] on at = tt
@@ -389,10 +404,10 @@ place-within ss live place silo loops stood =
     let same = ap (λ (xs : List ℕ). length xs) loops in
     omega (arith, within, long, same)
 
-pub down-done : (v w : ClusterView) (place silo gone : ℕ) → is_fixed v ≡ false → MayGo v silo → slice_get v.operator.live place ≡ Some silo → gone ≡ silo → OperatorGoesOn v.operator w.operator → HasLeft gone place v.operator w.operator → (w.is_parked ≡ v.is_parked) × (w.rounds ≡ v.rounds) × (w.looks ≡ v.looks) → w.is_halted ≡ false → HasNoted v silo w
+pub down-done : (v w : ClusterView) (place silo gone : ℕ) → is_fixed v ≡ false → MayGo v silo → slice_get v.operator.live place ≡ Some silo → gone ≡ silo → OperatorGoesOn v.operator w.operator → HasLeft gone place v.operator w.operator → (w.is_parked ≡ v.is_parked) × (w.rounds ≡ v.rounds) × (w.looks ≡ v.looks) → w.is_halted ≡ false → (noted : HasNoted v silo w) → IsEmptied w.operator.directory noted.back
     → AnswersDown v silo (Ok down.Down) w
-down-done v w place silo gone fixed may stood named on left same goes noted =
-    (fixed, may, record { on = on; place = place; stood = stood; left = subst (λ k. HasLeft k place v.operator w.operator) named left; same = same; goes_on = goes }, noted)
+down-done v w place silo gone fixed may stood named on left same goes noted emptied =
+    (fixed, may, record { on = on; place = place; stood = stood; left = subst (λ k. HasLeft k place v.operator w.operator) named left; same = same; goes_on = goes }, noted, emptied)
 
 pub up-done : (v w : ClusterView) (silo : ℕ) (s : SiloView) → is_fixed v ≡ false → (Contains v.operator.live silo → ⊥) → OperatorGoesOn v.operator w.operator → HaveOnlySeen v.operator.lines w.operator.lines → w.operator.directory ≡ v.operator.directory → w.operator.live ≡ v.operator.live ++ silo ∷ [] → w.silos ≡ v.silos ++ s ∷ [] → IsFresh v.rounds silo s
     → AreSplitOff v.operator.lines v.operator.directory s → HasSpread v.operator w.operator → HaveStayed v.operator.lines w.operator.lines v.operator.assignment w.operator.assignment → w.ends ≡ v.ends → (w.is_parked ≡ v.is_parked) × (w.rounds ≡ v.rounds) × (w.looks ≡ v.looks) → w.is_halted ≡ false
@@ -401,10 +416,11 @@ up-done v w silo s fixed absent on seen directory live more fresh split spread s
     (fixed, absent, record { on = on; seen = seen; directory = directory; live = live; started = (s, more, fresh, split); spread = spread; stayed = stayed; ends = ends; same = same; goes_on = goes })
 
 -- a silo that ran came back, and how its loops have ended was noted
-pub has-noted : (v w : ClusterView) (place silo : ℕ) (s back : SiloView) → AreFresh v.rounds v.silos → place < length v.silos → s ≡ get_or v.silos place s → w.silos ≡ remove v.silos place → back.silo ≡ silo → HasRun s back → HaveComeBack w.operator.lines w.operator.directory back → w.ends ≡ noted v.ends back → HasNoted v silo w
+pub has-noted : (v w : ClusterView) (place silo : ℕ) (s back : SiloView) → AreFresh v.rounds v.silos → place < length v.silos → s ≡ get_or v.silos place s → w.silos ≡ remove v.silos place → back.silo ≡ silo → HasRun s back → HaveComeBack w.operator.lines w.operator.directory back → w.ends ≡ noted v.ends back → (noted : HasNoted v silo w) × (noted.back ≡ back)
 has-noted v w place silo s back fresh within read others named ran came ends =
     let IsNew : SiloView → Type 0 = λ s. IsFresh v.rounds s.silo s in
     let new : IsFresh v.rounds s.silo s = subst IsNew (sym read) (All-at IsNew v.silos place s fresh within) in
+    let found : HasNoted v silo w =
     record {
       place = place;
       started = s;
@@ -415,7 +431,8 @@ has-noted v w place silo s back fresh within read others named ran came ends =
       ran = ran;
       come = came;
       ends = ends;
-    }
+    } in
+    (found, refl)
 
 -- what came back stays so
 pub taken-op : (v w : OperatorView) (s : SiloView) → OperatorGoesOn v w → AreTakenIn v.lines v.directory s → AreTakenIn w.lines w.directory s
@@ -482,13 +499,14 @@ pub last-stays : (v : ClusterView) (loops : SiloView) (many : ℕ) → v.is_halt
 last-stays v loops many free lives count one = only-one v.operator.live loops.silo (lives free) (sym count ∙ one)
 
 pub retire-done : (v w : ClusterView) (loops : SiloView) (place silo gone : ℕ) → v.is_halted ≡ false → (length v.operator.live ≡ 1 → ⊥) → slice_get v.operator.live place ≡ Some silo → silo ≡ loops.silo → gone ≡ loops.silo → OperatorGoesOn v.operator w.operator
-    → HasLeft gone place v.operator w.operator → (w.is_parked ≡ v.is_parked) × (w.rounds ≡ v.rounds) × (w.looks ≡ v.looks) → w.is_halted ≡ false → AreNoted v loops w → IsRetired v loops w
-retire-done v w loops place silo gone free other stood silo_is named on left same goes ends =
+    → HasLeft gone place v.operator w.operator → (w.is_parked ≡ v.is_parked) × (w.rounds ≡ v.rounds) × (w.looks ≡ v.looks) → w.is_halted ≡ false → AreNoted v loops w → IsEmptied w.operator.directory loops → IsRetired v loops w
+retire-done v w loops place silo gone free other stood silo_is named on left same goes ends emptied =
     let here = subst (λ k. slice_get v.operator.live place ≡ Some k) silo_is stood in (
       free,
       may-go v place loops.silo here other,
       record { on = on; place = place; stood = here; left = subst (λ k. HasLeft k place v.operator w.operator) named left; same = same; goes_on = goes },
       ends,
+      emptied,
     )
 
 pub halted-retire : {G H D : Type 0} (v w : ClusterView) (loops : SiloView) (h : Halt) (r : Result (Retired G H D) AllocError) → IsRetiredBy h r → IsBrokenOff v loops w → (h ≡ halt.Limit → HasMetLimit v.operator w.operator) → AnswersRetire v loops r w

@@ -219,6 +219,11 @@ pub record IsDown (v : ClusterView) (silo : ℕ) (w : ClusterView) : Type 0 wher
   pub same : (w.is_parked ≡ v.is_parked) × (w.rounds ≡ v.rounds) × (w.looks ≡ v.looks)
   pub goes_on : w.is_halted ≡ false
 
+-- Past all that the workers of the silo have seen and done at the directory, this pass has found it without a grain of
+-- the silo.
+abbrev pub IsEmptied : DirectoryPass → SiloView → Type 0
+IsEmptied d s = HasMade (length s.first.directory.seen) d (IsNoneLeft s.silo) × HasMade (length s.second.directory.seen) d (IsNoneLeft s.silo)
+
 -- the silo lives, and another one too
 abbrev pub MayGo : ClusterView → ℕ → Type 0
 MayGo v silo = Contains v.operator.live silo × (1 < length v.operator.live)
@@ -241,7 +246,7 @@ abbrev pub AnswersDown : ClusterView → ℕ → Result SiloDown AllocError → 
 AnswersDown v silo (Ok down.Halted) w = (is_fixed v ≡ true) × (w ≡ v)
 AnswersDown v silo (Ok down.NotLive) w = (is_fixed v ≡ false) × (¬ Contains v.operator.live silo) × (w ≡ v)
 AnswersDown v silo (Ok down.LastSilo) w = (is_fixed v ≡ false) × (v.operator.live ≡ silo ∷ []) × (w ≡ v)
-AnswersDown v silo (Ok down.Down) w = (is_fixed v ≡ false) × MayGo v silo × IsDown v silo w × HasNoted v silo w
+AnswersDown v silo (Ok down.Down) w = (is_fixed v ≡ false) × MayGo v silo × IsDown v silo w × (noted : HasNoted v silo w) × IsEmptied w.operator.directory noted.back
 AnswersDown v silo (Ok down.Limit) w = (is_fixed v ≡ false) × MayGo v silo × HasHalted v w × HasNoted v silo w × HasMetLimit v.operator w.operator
 AnswersDown v silo (Err e) w = (is_fixed v ≡ false) × MayGo v silo × HasHalted v w × HasNoted v silo w
 
@@ -249,9 +254,9 @@ AnswersDown v silo (Err e) w = (is_fixed v ≡ false) × MayGo v silo × HasHalt
 abbrev pub AreNoted : ClusterView → SiloView → ClusterView → Type 0
 AreNoted v loops w = (w.ends ≡ noted v.ends loops) × HaveComeBack w.operator.lines w.operator.directory loops
 
--- the silo of these loops went
+-- the silo of these loops went, and no grain was left on it once they came back
 abbrev pub IsRetired : ClusterView → SiloView → ClusterView → Type 0
-IsRetired v loops w = (v.is_halted ≡ false) × MayGo v loops.silo × IsDown v loops.silo w × AreNoted v loops w
+IsRetired v loops w = (v.is_halted ≡ false) × MayGo v loops.silo × IsDown v loops.silo w × AreNoted v loops w × IsEmptied w.operator.directory loops
 
 -- these loops came back, but their silo didn't go in full
 abbrev pub IsBrokenOff : ClusterView → SiloView → ClusterView → Type 0

@@ -5,7 +5,7 @@ ghost use Rattle.turnstile.specs.Recorded.{recorded};
 ghost use Rattle.silo_loops.specs.Silos.{AreSplitOff, AreTakenIn, HasRun, HaveCauses, IsFresh, IsSiloAt, SiloView};
 ghost use Rattle.silo_threads.specs.Changes.{HaveOnlySeen, HaveStayed};
 ghost use Rattle.silo_threads.specs.Operators.{HasOnlyGoneOn, HasSpread, OperatorGoesOn};
-ghost use Rattle.silo_threads.specs.Clusters.{AreFresh, AreStarted, HasAtMostCome, HasLeft, HasMetLimit, HaveComeBack, HaveEnded, RunsOn, all_noted, noted};
+ghost use Rattle.silo_threads.specs.Clusters.{AreFresh, AreStarted, HasAtMostCome, HasLeft, HasMetLimit, HaveComeBack, HaveEnded, IsEmptied, RunsOn, all_noted, noted};
 
 use crate::ending::LoopEnds;
 use crate::operators::{Halt, Operator};
@@ -97,6 +97,7 @@ pub(crate) fn leave<G: Gate, H: QueueHistory, D: DirectoryHistory, R: Wait>(
     ensures on { OperatorGoesOn operator.old operator.new }
     ensures taken { AreTakenIn operator.new.lines operator.new.directory loops }
     ensures left { OnOk result (HasLeft loops.silo place operator.old operator.new) }
+    ensures emptied { OnOk result (IsEmptied operator.new.directory loops) }
     ensures kept { OnErr result (operator.new.assignment ≡ operator.old.assignment) }
     ensures limit { IfErr result (λ why. why ≡ Halt.Limit → HasMetLimit operator.old operator.new) }
 {

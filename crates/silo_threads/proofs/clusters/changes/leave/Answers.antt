@@ -1,15 +1,16 @@
 use Rattle.std.proofs.Common.{List, OnOk, ℕ, arith, ap, length, subst, sym, ◌∙◌, ◌<◌, ◌≡◌}
 use Rattle.std.proofs.lemmas.Option.{slice_get_within}
-use Rattle.std.proofs.lemmas.Result.{IfErr-weaker}
+use Rattle.std.proofs.lemmas.Result.{IfErr-weaker, on_ok_weaker}
+use Rattle.silo_loops.specs.Lines.{DirectoryPass}
 use Rattle.silo_loops.specs.Silos.{SiloView}
 use Rattle.silo_threads.specs.declared.operators.halt.Halt.{Halt}
 use Rattle.silo_threads.specs.declared.operators.halt.Halt.TheVariants as halt
 use Rattle.silo_threads.specs.Changes.{HaveStayed}
 use Rattle.silo_threads.specs.Operators.{HasSpread, IsUnspread, OperatorView}
 use Rattle.silo_threads.proofs.Making.{passed-on}
-use Rattle.silo_threads.specs.Clusters.{HasLeft, HasMetLimit}
+use Rattle.silo_threads.specs.Clusters.{HasLeft, HasMetLimit, IsEmptied}
 use Rattle.silo_threads.proofs.Changing.{op-trans}
-use Rattle.silo_threads.proofs.Standing.{evict-met, left-some, left-whole, on_ok_both, op-same, spread-met, taken-op}
+use Rattle.silo_threads.proofs.Standing.{emptied-whole, evict-met, left-some, left-whole, on_ok_both, op-same, spread-met, taken-op}
 use Rattle.silo_threads.proofs.clusters.changes.leave.Goals as goal
 
 pub returns-in_err-evict-clause-on : goal.returns-in_err-evict-clause-on
@@ -73,3 +74,10 @@ returns-clause-taken g c =
     let gone = op-same c.evict.new.self c.dismiss.new.self (ap (λ (o : OperatorView). o.lines) c.dismiss.ensures) (ap (λ (o : OperatorView). o.directory) c.dismiss.ensures) in
     let on = op-trans c.evict.new.self c.dismiss.new.self c.spread.new.self gone c.spread.ensures.on in
     taken-op c.take_back.new.self c.spread.new.self c.args.loops (op-trans c.take_back.new.self c.evict.new.self c.spread.new.self c.evict.ensures.only.on on) c.take_back.ensures.taken
+
+pub returns-clause-emptied : goal.returns-clause-emptied
+returns-clause-emptied g c =
+    let w = c.spread.new.self in
+    let kept : w.directory ≡ c.evict.new.self.directory = c.spread.ensures.directory ∙ ap (λ (o : OperatorView). o.directory) c.dismiss.ensures in
+    let emptied = emptied-whole c.loops.inside.silo c.take_back.new.self.lines c.take_back.new.self.directory c.evict.new.self.directory c.args.loops (ap (λ (s : SiloView). s.silo) c.loops.view_is) c.take_back.ensures.taken c.in_ok-evict.ensures.none_left in
+    on_ok_weaker c.spread.result (λ (spread : HasSpread c.dismiss.new.self w). subst (λ (d : DirectoryPass). IsEmptied d c.args.loops) (sym kept) emptied) c.spread.ensures.spread

@@ -41,7 +41,7 @@ returns-in-Ok g c =
     let named : c.loops.inside.silo ≡ c.args.loops.silo = ap (λ (s : SiloView). s.silo) c.loops.view_is in
     subst (λ (u : ClusterView). IsRetired u c.args.loops w) c.self.view_is
     (retire-done v w c.args.loops c.in-Some.place c.loops.inside.silo c.args.loops.silo c.if-self.false (λ one. c.if-live_count-eq1.false (c.live_count.ensures ∙ one)) c.in-Some.ensures named refl c.leave.ensures.on c.in-Ok.ensures.left (refl, refl, refl) c.if-self.false
-    (c.note_ends-self-inside.ensures.noted, record { taken = c.leave.ensures.taken; causes = c.note_ends-self-inside.ensures.causes }))
+    (c.note_ends-self-inside.ensures.noted, record { taken = c.leave.ensures.taken; causes = c.note_ends-self-inside.ensures.causes }) c.in-Ok.ensures.emptied)
 
 pub returns-in-Err : goal.returns-in-Err
 returns-in-Err g c =

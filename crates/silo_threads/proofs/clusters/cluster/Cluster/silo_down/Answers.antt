@@ -1,7 +1,7 @@
 use Rattle.std.proofs.Common.{List, Ok, Some, ℕ, arith, ap, length, refl, remove, subst, sym, true, ◌<◌, ◌∙◌}
 use Rattle.std.proofs.lemmas.Option.{slice_get_within}
 use Rattle.silo_loops.specs.Silos.{IsFresh, IsSiloAt, SiloView}
-use Rattle.silo_threads.specs.Clusters.{AnswersDown, AreFresh, ClusterView, RunsOn}
+use Rattle.silo_threads.specs.Clusters.{AnswersDown, AreFresh, ClusterView, IsEmptied, RunsOn}
 use Rattle.silo_threads.specs.declared.clusters.cluster.SiloDown.TheVariants as down
 use Rattle.silo_threads.proofs.Standing.{all-remove, back-at, cluster-gone, cluster-halted, down-done, halted-down, has-noted, lives-at, not-fixed, one-name, place-within, silo-place, sits-on}
 use Rattle.silo_threads.proofs.clusters.cluster.Cluster.silo_down.Goals as goal
@@ -51,11 +51,12 @@ returns-in-Ok g c =
     let count = c.live_count.ensures in
     let other = c.if-live_count-eq1.false in
     let more : 1 < length v.operator.live = omega (arith, stood, count, other) in
+    let found = has-noted v w c.in-Some.place c.args.silo c.remove-running.result c.stop-loops.result c.self.invariant.fresh here c.remove-running.ensures.value c.remove-running.ensures.items (one-name v.operator.live c.in-Some.place c.stop-loops.result.silo c.args.silo named c.in-Some.ensures) c.stop-loops.ensures
+    (record { taken = c.leave.ensures.taken; causes = c.note_ends-self-inside.ensures.causes }) c.note_ends-self-inside.ensures.noted in
     subst (λ (u : ClusterView). AnswersDown u c.args.silo (Ok down.Down) w) c.self.view_is
     (down-done v w c.in-Some.place c.args.silo c.stop-loops.result.silo fixed (lives-at v.operator.live c.in-Some.place c.args.silo c.in-Some.ensures, more) c.in-Some.ensures
     (one-name v.operator.live c.in-Some.place c.stop-loops.result.silo c.args.silo named c.in-Some.ensures) c.leave.ensures.on c.in-Ok.ensures.left (refl, refl, refl) c.if-self-2.false
-    (has-noted v w c.in-Some.place c.args.silo c.remove-running.result c.stop-loops.result c.self.invariant.fresh here c.remove-running.ensures.value c.remove-running.ensures.items (one-name v.operator.live c.in-Some.place c.stop-loops.result.silo c.args.silo named c.in-Some.ensures) c.stop-loops.ensures
-    (record { taken = c.leave.ensures.taken; causes = c.note_ends-self-inside.ensures.causes }) c.note_ends-self-inside.ensures.noted))
+    found.0 (subst (λ (back : SiloView). IsEmptied w.operator.directory back) (sym found.1) c.in-Ok.ensures.emptied))
 
 pub returns-in-Err : goal.returns-in-Err
 returns-in-Err g c =
@@ -72,4 +73,4 @@ returns-in-Err g c =
     subst (λ (u : ClusterView). AnswersDown u c.args.silo c.down_by.result w) c.self.view_is
     (halted-down v w c.args.silo c.in-Err.halt c.down_by.result c.down_by.ensures fixed (lives-at v.operator.live c.in-Some.place c.args.silo c.in-Some.ensures, more) (record { on = c.leave.ensures.on; assignment = c.in-Err.ensures.kept; same = (refl, refl, refl); halted = refl })
     (has-noted v w c.in-Some.place c.args.silo c.remove-running.result c.stop-loops.result c.self.invariant.fresh here c.remove-running.ensures.value c.remove-running.ensures.items (one-name v.operator.live c.in-Some.place c.stop-loops.result.silo c.args.silo named c.in-Some.ensures) c.stop-loops.ensures
-    (record { taken = c.leave.ensures.taken; causes = c.note_ends-self-inside.ensures.causes }) c.note_ends-self-inside.ensures.noted) c.in-Err.ensures.limit)
+    (record { taken = c.leave.ensures.taken; causes = c.note_ends-self-inside.ensures.causes }) c.note_ends-self-inside.ensures.noted).0 c.in-Err.ensures.limit)
