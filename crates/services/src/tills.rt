@@ -1,22 +1,19 @@
-//! A shop with two tills, each of which publishes what it sells by a producer of its own, in a thread of its own.
-ghost use Rattle.streams.specs.Services.{IsOfSameService};
-
+//! A shop with two tills, each of which publishes what it sells by a producer of its own.
 use anyhow::Result;
 use std::alloc::Global;
 use std::sync::Arc;
-use std::thread::join;
 use streams::{
-    Closed, Config, Counting, Decode, Encode, GrainId, Host, Payload, Producer, PublishError,
-    Service, StartFrom, StreamId, StreamToken, Subscription,
+    Closed, Config, Counting, Decode, Encode, GrainId, Host, Service, StartFrom, StreamId,
+    StreamToken, Subscription,
 };
 
 /// Sells at both tills, audits that, and prints what they have taken.
-pub fn run<R: Host + Print + Send + Sync + 'static>(rt: R) -> Result<()> {
+pub fn run<R: Host + Print>(rt: R) -> Result<()> {
     let gate = Arc::new(rt.alloc(), Counting)?;
     let mut service = Service::open(rt, &Config::new(4, 2), gate)?;
     let sales = StreamId::new(b"sales", b"shop")?;
     let all = service.subscribe(sales, GrainId::new(b"ledger", b"shop")?, StartFrom::Latest)?;
-    let first = sell(&rt, &mut service, sales)?;
+    let first = sell(&mut service, sales)?;
     audit(&rt, &mut service, sales, first)?;
     let closed = service.close();
     let cents = taken(rt.alloc(), &closed, &all)?;
@@ -24,45 +21,17 @@ pub fn run<R: Host + Print + Send + Sync + 'static>(rt: R) -> Result<()> {
     Ok(())
 }
 
-// One till sells, and the other one takes something back, at once. It gives the first of both.
-fn sell<R: Host + Send + Sync + 'static>(
-    rt: &R,
-    service: &mut Service<R, Counting>,
-    sales: StreamId,
-) -> Result<StreamToken> {
+// One till sells, and the other one takes something back. It gives the first of both.
+fn sell<R: Host>(service: &mut Service<R, Counting>, sales: StreamId) -> Result<StreamToken> {
     let (sale, refund) = (450i64.encode()?, (-120i64).encode()?);
-    let left = service.producer()?;
-    let right = service.producer()?;
-    let ((left, first), (right, second)) = join(
-        rt,
-        || sell_at(left, sales, sale),
-        || sell_at(right, sales, refund),
-    );
+    let mut left = service.producer()?;
+    let mut right = service.producer()?;
+    let first = left.publish(sales, &[sale]);
+    let second = right.publish(sales, &[refund]);
     service.take_back(left);
     service.take_back(right);
-    Ok(first_of(first?, second?))
-}
-
-// A till publishes a sale, and comes back.
-fn sell_at<R: Host + 'static>(
-    till: Producer<R, Counting>,
-    sales: StreamId,
-    cents: Payload,
-) -> (Producer<R, Counting>, Result<StreamToken, PublishError>)
-    ensures { IsOfSameService till result.0 }
-{
-    let mut till = till;
-    let sold = till.publish(sales, &[cents]);
-    (till, sold)
-}
-
-// The sale with the lesser token.
-fn first_of(one: StreamToken, other: StreamToken) -> StreamToken {
-    if other.token.is_before(&one.token) {
-        other
-    } else {
-        one
-    }
+    second?;
+    Ok(first?)
 }
 
 // An auditor looks at the sales from this one on.

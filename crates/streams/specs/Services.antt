@@ -66,10 +66,6 @@ IsNewService config s = IsNew config s.cluster s.caller
 abbrev pub IsProducerOf : ServiceView → List QueuePass → Type 0
 IsProducerOf s passes = turnstiles passes ≡ turnstiles s.caller
 
--- a producer, with the second passes, of the service that one with the first is of
-abbrev pub IsOfSameService : List QueuePass → List QueuePass → Type 0
-IsOfSameService producer other = turnstiles other ≡ turnstiles producer
-
 -- the queue of a stream, for a caller that has these passes
 abbrev pub queue_of : List QueuePass → StreamId → ℕ
 queue_of passes stream = (place_of stream (length passes)).queue

@@ -7,7 +7,7 @@
 //! A service is a [`Cluster`] with its first [`Caller`]. [`Service::producer`] gives a [`Producer`], which publishes
 //! beside it, and [`Service::take_back`] takes it in again.
 //!
-//! Whoever also subscribes from several threads makes a cluster and its caller by
+//! Whoever publishes from several threads makes a cluster and its caller by
 //! [`UntracedCluster::new`](Cluster::new): [`Caller::split`] gives a caller for another thread, which asks by
 //! [`Caller::call`] at the queue that [`queue`]`(&stream, caller.queues())` gives, or by [`Caller::ask`], whose small
 //! [`Answer`] stands for the [`Reply`]. [`Caller::join`] takes a caller in again, and [`Cluster::finish`] ends the

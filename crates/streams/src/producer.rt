@@ -18,7 +18,7 @@ use turnstile::Refusal;
 /// Publishes to the streams of a service beside it.
 ///
 /// [`Service::producer`](crate::Service::producer) makes it, and [`Service::take_back`](crate::Service::take_back) takes
-/// it in again; one that is dropped is lost, and `close` then answers `NotAll`. It may go to another thread.
+/// it in again; one that is dropped is lost, and `close` then answers `NotAll`.
 ///
 /// A contract sees it as its passes, in the order of the queues.
 pub struct Producer<R: Host, G: Gate> {
