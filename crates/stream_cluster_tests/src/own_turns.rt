@@ -1,4 +1,6 @@
 //! A turn that a caller begins and ends itself.
+ghost use Rattle.std.specs.Prelude.{◌≡◌};
+
 use crate::cases::{Case, ONE, Second, Step, ends, prepare};
 use crate::gates::wait_for;
 use crate::idle::Watch;
