@@ -51,8 +51,6 @@ const STEPS: [Step; 5] = [
     Step::Publish,
 ];
 
-const KEYS: [&[u8]; 3] = [b"5", b"6", b"7"];
-
 static THREE: Case = Case {
     size: ONE,
     steps: &STEPS,
@@ -62,60 +60,100 @@ static THREE: Case = Case {
     ),
 };
 
-// All that is published is delivered, whatever the agent has done by then.
+// The next event of a subscription is delivered, where the agent hasn't done that.
+fn deliver<G: Gate, H: QueueHistory, R: Wait + Abort>(
+    rt: &R,
+    alloc: Global,
+    producer: &mut Producer<G, H>,
+    number: u32,
+)
+    ensures { producer.new ≡ producer.old }
+{
+    let deliver = Op::Deliver {
+        generation: 0,
+        sub: SubName::Explicit(number),
+    };
+    let _delivered = producer.ask(rt, alloc, 0, deliver);
+}
+
+// Both events of a subscription are delivered.
+fn deliver_both<G: Gate, H: QueueHistory, R: Wait + Abort>(
+    rt: &R,
+    alloc: Global,
+    producer: &mut Producer<G, H>,
+    number: u32,
+)
+    ensures { producer.new ≡ producer.old }
+{
+    deliver(rt, alloc, producer, number);
+    deliver(rt, alloc, producer, number);
+}
+
+// All that is published is pulled and delivered.
 fn deliver_all<G: Gate, H: QueueHistory, R: Wait + Abort>(
     rt: &R,
     alloc: Global,
-    producer: Producer<G, H>,
-) -> Producer<G, H>
-    ensures { result ≡ producer }
+    producer: &mut Producer<G, H>,
+)
+    ensures { producer.new ≡ producer.old }
 {
-    let mut producer = producer;
     let pull = Op::Pull {
         generation: 0,
         max: 32,
     };
     let _pulled = producer.ask(rt, alloc, 0, pull);
-    for number in 1..=3 {
-        for _ in 0..2 {
-            let deliver = Op::Deliver {
-                generation: 0,
-                sub: SubName::Explicit(number),
-            };
-            let _delivered = producer.ask(rt, alloc, 0, deliver);
-        }
-    }
-    producer
+    deliver_both(rt, alloc, producer, 1);
+    deliver_both(rt, alloc, producer, 2);
+    deliver_both(rt, alloc, producer, 3);
 }
 
-// Begins a turn with one event, of the grain that no worker runs, and gives the operation that ends it.
-fn begin_one<G: Gate, H: QueueHistory, R: Wait + Abort>(
+fn grain<R: Abort>(rt: &R, key: &[u8]) -> GrainId {
+    GrainId::new(b"g", key).expect(rt, "a grain")
+}
+
+// Begins a turn with one event, where no worker runs the grain, and gives the operation that ends it.
+fn begin<G: Gate, H: QueueHistory, R: Wait + Abort>(
     rt: &R,
     alloc: Global,
-    producer: Producer<G, H>,
-) -> (Producer<G, H>, Op)
-    ensures { result.0 ≡ producer }
+    producer: &mut Producer<G, H>,
+    key: &[u8],
+) -> Option<Op>
+    ensures { producer.new ≡ producer.old }
 {
-    let mut producer = producer;
-    for key in KEYS {
-        let grain = GrainId::new(b"g", key).expect(rt, "a grain");
-        let begun = producer.ask(rt, alloc, 0, Op::Begin { grain, max: 1 });
-        if let Reply::Turn {
+    let begin = Op::Begin {
+        grain: grain(rt, key),
+        max: 1,
+    };
+    match producer.ask(rt, alloc, 0, begin) {
+        Reply::Turn {
             activation,
             turn,
             ..
-        } = begun
-        {
-            let commit = Op::Commit {
-                grain,
-                activation,
-                turn,
-                note: 1,
-            };
-            return (producer, commit);
-        }
+        } => Some(Op::Commit {
+            grain: grain(rt, key),
+            activation,
+            turn,
+            note: 1,
+        }),
+        _ => None,
     }
-    panic!(rt; "a grain is left that no worker runs")
+}
+
+// The same for the grain that no worker runs.
+fn begin_one<G: Gate, H: QueueHistory, R: Wait + Abort>(
+    rt: &R,
+    alloc: Global,
+    producer: &mut Producer<G, H>,
+) -> Op
+    ensures { producer.new ≡ producer.old }
+{
+    if let Some(commit) = begin(rt, alloc, producer, b"5") {
+        return commit;
+    }
+    if let Some(commit) = begin(rt, alloc, producer, b"6") {
+        return commit;
+    }
+    begin(rt, alloc, producer, b"7").expect(rt, "a grain is left that no worker runs")
 }
 
 // Both workers are in handlers, while a caller begins a turn of a third grain, which has one event more. The caller ends it
@@ -133,10 +171,10 @@ fn end_own<
     };
     let gate = Arc::new(alloc, held).expect(rt, "memory");
     let shared = Arc::try_clone(&gate).expect(rt, "it is shared a few times");
-    let (running, producer) = prepare::<Held, H, D, R>(rt, alloc, shared, 0, &THREE);
+    let (running, mut producer) = prepare::<Held, H, D, R>(rt, alloc, shared, 0, &THREE);
     assert!(rt; wait_for(&gate.are_both));
-    let producer = deliver_all(rt, alloc, producer);
-    let (mut producer, commit) = begin_one(rt, alloc, producer);
+    deliver_all(rt, alloc, &mut producer);
+    let commit = begin_one(rt, alloc, &mut producer);
     gate.are_free.store(true, Ordering::SeqCst);
     assert!(rt; gate.watch.comes_to_rest(rt));
     let ended = producer.ask(rt, alloc, 0, commit);
