@@ -122,19 +122,19 @@ const STREAMS: [(Read, &str); 6] = [
     ),
     (
         Read::Stream(b"", b"k"),
-        "bad name: field 0 is wrong at byte 0, a name has 1 to 64 bytes of A-Z a-z 0-9 _ . -",
+        "bad name: the namespace or kind is wrong at byte 0, a name has 1 to 64 bytes of A-Z a-z 0-9 _ . -",
     ),
     (
         Read::Stream(b"o", b"a/b"),
-        "bad name: field 1 is wrong at byte 1, a name has 1 to 64 bytes of A-Z a-z 0-9 _ . -",
+        "bad name: the key is wrong at byte 1, a name has 1 to 64 bytes of A-Z a-z 0-9 _ . -",
     ),
     (
         Read::Stream(b"o", &[b'k'; 65]),
-        "bad name: field 1 is wrong at byte 64, a name has 1 to 64 bytes of A-Z a-z 0-9 _ . -",
+        "bad name: the key is wrong at byte 64, a name has 1 to 64 bytes of A-Z a-z 0-9 _ . -",
     ),
     (
         Read::Stream(b"o o", b""),
-        "bad name: field 0 is wrong at byte 1, a name has 1 to 64 bytes of A-Z a-z 0-9 _ . -",
+        "bad name: the namespace or kind is wrong at byte 1, a name has 1 to 64 bytes of A-Z a-z 0-9 _ . -",
     ),
 ];
 
@@ -147,19 +147,19 @@ const GRAINS: [(Read, &str); 6] = [
     (Read::Grain(b"cart", b"7"), "GrainId { kind: cart, key: 7 }"),
     (
         Read::Grain(b"", b"k"),
-        "bad name: field 0 is wrong at byte 0, a name has 1 to 64 bytes of A-Z a-z 0-9 _ . -",
+        "bad name: the namespace or kind is wrong at byte 0, a name has 1 to 64 bytes of A-Z a-z 0-9 _ . -",
     ),
     (
         Read::Grain(b"o", b"a/b"),
-        "bad name: field 1 is wrong at byte 1, a name has 1 to 64 bytes of A-Z a-z 0-9 _ . -",
+        "bad name: the key is wrong at byte 1, a name has 1 to 64 bytes of A-Z a-z 0-9 _ . -",
     ),
     (
         Read::Grain(b"o", &[b'k'; 65]),
-        "bad name: field 1 is wrong at byte 64, a name has 1 to 64 bytes of A-Z a-z 0-9 _ . -",
+        "bad name: the key is wrong at byte 64, a name has 1 to 64 bytes of A-Z a-z 0-9 _ . -",
     ),
     (
         Read::Grain(b"o o", b""),
-        "bad name: field 0 is wrong at byte 1, a name has 1 to 64 bytes of A-Z a-z 0-9 _ . -",
+        "bad name: the namespace or kind is wrong at byte 1, a name has 1 to 64 bytes of A-Z a-z 0-9 _ . -",
     ),
 ];
 

@@ -19,7 +19,7 @@ use indexmap::IndexMap;
 use std::alloc::{AllocError, Global};
 use std::hash::Hash;
 use std::marker::Model;
-use stream_ident::{GrainId, Name, Rule, StreamId, SubName};
+use stream_ident::{GrainId, Name, Rule, StreamId, SubName, Token};
 
 /// The subscriptions by name, in the order in which they were made, with the numbers of each stream's. A number is the
 /// place in that order. Each stream and each grain is kept once, also where its last subscription was taken back.
@@ -130,6 +130,15 @@ impl Subscriptions {
     {
         let (_, row) = self.rows.get_index(index).unwrap();
         key_at(&self.grains, row.grain)
+    }
+
+    /// The start at a place.
+    pub(crate) fn start(&self, index: usize) -> Token
+        requires { index < length self.now }
+        ensures { result ≡ (get_or self.now index no_entry).1.start }
+    {
+        let (_, row) = self.rows.get_index(index).unwrap();
+        row.start
     }
 
     /// The numbers of a stream's subscriptions, in the order of their names.

@@ -272,6 +272,14 @@ impl Registry {
         self.subscriptions.grain(index)
     }
 
+    /// The start of the subscription at a place.
+    pub fn start(&self, index: usize) -> Token
+        requires { index < length self.now.names }
+        ensures { result ≡ (get_or self.now.names index no_entry).1.start }
+    {
+        self.subscriptions.start(index)
+    }
+
     /// The names of a stream's subscriptions, closed ones too, from the least to the greatest. It takes no
     /// memory, and costs a look-up.
     pub fn subs_of(&self, stream: &StreamId) -> SubNames<'_>

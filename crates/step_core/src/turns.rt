@@ -6,8 +6,10 @@ ghost use Rattle.stream_model.specs.Step.{takes_memory};
 ghost use Rattle.stream_model.specs.Turns.{begin, commit, deactivate};
 ghost use Rattle.consumer_grain.specs.Activations.{can_begin};
 ghost use Rattle.consumer_grain.specs.Subscriptions.{rises_from};
-ghost use Rattle.subscription_table.specs.Table.{state_at};
+ghost use Rattle.partition_queue.specs.Queue.{token_at};
+ghost use Rattle.subscription_table.specs.Table.{name_at, state_at};
 ghost use Rattle.stream_model.specs.Replies.{IsNoTurn};
+ghost use Rattle.stream_model.specs.declared.reply.Reply.TheVariants.{Dropped};
 ghost use Rattle.step_core.specs.Assembly.{Agrees, IsAssembled};
 ghost use Rattle.step_core.specs.PlainOf.{plain_of};
 ghost use Rattle.step_core.specs.TurnReplies.{after_begun, handle, of_begun, IsOfParts};
@@ -16,7 +18,7 @@ ghost use Rattle.step_core.specs.Replied.{replied, reply_of, reply_with, IsOfLog
 use crate::outcome::Outcome;
 use crate::parts::Parts;
 use crate::reading::is_spent;
-use consumer_grain::{Activation, Begun, RunningTurn, SubState};
+use consumer_grain::{Activation, Begun, Delivery, RunningTurn, SubState};
 use partition_queue::PartitionQueue;
 use std::alloc::{AllocError, Global};
 use stream_ident::{GrainId, Row};
@@ -66,10 +68,7 @@ fn outcome_of_begun(parts: &mut Parts, activation: u64, begun: Begun) -> Outcome
     match begun {
         Begun::Busy => Reply::Busy,
         Begun::Empty => Reply::Empty,
-        Begun::Dropped(delivery) => Reply::Dropped {
-            sub: parts.subs.name(delivery.sub),
-            token: parts.queue.token_at(delivery.position),
-        },
+        Begun::Dropped(delivery) => dropped(parts, &delivery),
         Begun::Turn { sub, positions } => {
             parts.rises += 1;
             parts.turns += 1;
@@ -81,6 +80,19 @@ fn outcome_of_begun(parts: &mut Parts, activation: u64, begun: Begun) -> Outcome
                 note: parts.subs.state(sub).note(),
             }
         }
+    }
+}
+
+/// The outcome where a delivery was dropped.
+#[inline(never)]
+fn dropped(parts: &Parts, delivery: &Delivery) -> Outcome
+    requires sub { delivery.now.sub < length parts.now.subs.registry.names }
+    requires position { delivery.now.position < length parts.now.queue.events }
+    ensures { result ≡ Dropped (name_at parts.now.subs delivery.now.sub) (token_at parts.now.queue delivery.now.position) }
+{
+    Reply::Dropped {
+        sub: parts.subs.name(delivery.sub),
+        token: parts.queue.token_at(delivery.position),
     }
 }
 

@@ -211,7 +211,7 @@ pub struct GrainId {
 
 /// Two texts that make no id, and the least place that is wrong, in the first text if it is in both.
 #[derive(Clone, Copy, Debug, PartialEq, Eq, Error)]
-#[error("bad name: field {field} is wrong at byte {at}, a name has 1 to {} bytes of A-Z a-z 0-9 _ . -", NAME_BYTES)]
+#[error("bad name: the {} is wrong at byte {at}, a name has 1 to {} bytes of A-Z a-z 0-9 _ . -", field_text(*.field), NAME_BYTES)]
 pub struct BadName {
     /// 0 for the namespace or kind, 1 for the key.
     pub field: u8,
@@ -287,6 +287,15 @@ impl fmt::Display for GrainId {
         let kind = self.kind;
         let key = self.key;
         write!(f, "{kind}/{key}")
+    }
+}
+
+/// What a field of an id is called.
+fn field_text(field: u8) -> &'static str {
+    if field == 0 {
+        "namespace or kind"
+    } else {
+        "key"
     }
 }
 

@@ -22,7 +22,7 @@ pub struct Token {
 
 /// Bytes that are no token.
 #[derive(Clone, Copy, Debug, PartialEq, Eq, Error)]
-#[error("bad token")]
+#[error("bad token: a token is two decimal numbers without leading zeros, joined by a full stop, as 12.0")]
 pub struct BadToken;
 
 impl Token {

@@ -252,9 +252,8 @@ fn add_rows(
     tags.reserve(more)?;
     push_leaves(alloc, registry, position, resumes)?;
     for number in len..registry.len() {
-        let registration = registry.at(number).1;
-        states.push_reserved(SubState::new(alloc, registration.start, position));
-        tags.push_reserved(event_tag(events, &registration.stream));
+        states.push_reserved(SubState::new(alloc, registry.start(number), position));
+        tags.push_reserved(event_tag(events, registry.stream(number)));
     }
     Ok(())
 }
