@@ -16,7 +16,6 @@ use Rattle.silo_loops.specs.Lines.{QueuePass}
 use Rattle.silo_loops.proofs.Owning.{owns-foreign}
 use Rattle.silo_threads.specs.Calls.{IsUnused, turnstiles}
 use Rattle.silo_threads.specs.declared.ending.asking.Quiet.{Quiet}
-use Rattle.silo_threads.proofs.Looking.{turnstiles-length}
 use Rattle.silo_threads.proofs.Rows.{all-at, zip-refl, zip-trans}
 use Rattle.stream_ident.proofs.EachOf.{All-push, All-weaken}
 use Rattle.silo_threads.specs.Operators.{OperatorGoesOn}
@@ -24,7 +23,6 @@ use Rattle.silo_threads.specs.Clusters.{ClusterView, is_fixed}
 use Rattle.silo_threads.specs.Draining.{HasGoneOn, LooksQuiet}
 use Rattle.silo_threads.proofs.Changing.{op-trans}
 use Rattle.silo_threads.proofs.Standing.{met-earlier, op-refl}
-use Rattle.stream_ident.proofs.WordLemmas.{All-at}
 use Rattle.stream_script.specs.declared.parser.command.Command.{Command}
 use Rattle.stream_script.specs.declared.parser.command.Command.TheVariants as command
 use Rattle.stream_script.specs.Forms.{op_of}
@@ -41,7 +39,7 @@ use Rattle.script_runs.specs.declared.producer.answer.Answer.TheVariants as answ
 use Rattle.silo_threads.proofs.GoneOn.{asks-foreign, gone-refl, gone-trans}
 use Rattle.script_runs.specs.Telling.{AloneProduces, AsksLast, BeginsEmpty, HasTold, IsNewNumber, ProducesAlone, Tells, printed_lines, told_at, with_missed}
 use Rattle.script_runs.proofs.Seen.{alone-as, alone-front, none-told}
-use Rattle.script_runs.specs.Scripts.{IsRunCommand, IsScript, RisesFrom}
+use Rattle.script_runs.specs.Scripts.{IsScript, RisesFrom}
 use Rattle.script_runs.specs.declared.runs.line.Stop.{Stop}
 use Rattle.script_runs.specs.declared.runs.line.Stop.TheVariants as stop
 use Rattle.script_runs.specs.Lines.{DoesLine, HasToldFront, MeetsLimit, StaysOpen, StopsBy, TellsInPart, WaitsAWhile, WaitsInVain, WaitsUntil, next_command}
@@ -326,12 +324,3 @@ map-same [] = refl
 map-same (x ∷ xs) = ap (λ ys. x ∷ ys) (map-same xs)
 
 -- ---- what a call of the next line asks for
-
-pub next-command : (lines : List Line) (k : ℕ) (line : Line) (old now : List QueuePass) → IsScript (length old) lines → k < length lines → line ≡ get_or lines k line → turnstiles now ≡ turnstiles old → IsRunCommand (length now) line.command
-next-command lines k line old now is within same at =
-    let holds = All-at (λ (l : Line). IsRunCommand (length old) l.command) lines k line is.commands within in
-    subst (λ (l : Line). IsRunCommand (length now) l.command) (sym same)
-    (subst (λ (queues : ℕ). IsRunCommand queues (get_or lines k line).command) (sym (turnstiles-length old now at)) holds)
-
-pub still-some : (old now : List QueuePass) → 1 ≤ length old → turnstiles now ≡ turnstiles old → 1 ≤ length now
-still-some old now some at = omega (arith, some, turnstiles-length old now at)

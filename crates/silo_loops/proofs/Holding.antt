@@ -19,11 +19,6 @@ get-set-same : {A : Type 0} (xs : List A) (at : ℕ) (x : A) → at < length xs 
 get-set-same xs at x within =
     slice_get-get_or (slice_set xs at x) at x (omega (arith, length-set xs at x)) ∙ ap (λ z. Some z) (get_or-set_same xs at x x within)
 
-pub holds-none-more : (held : List (Option ℕ)) (low at : ℕ) → at < length held → HoldsNone held low at → HoldsNone (slice_set held at None) low (at + 1)
-holds-none-more held low at within none =
-    below_more (λ k. low ≤ k → slice_get (slice_set held at None) k ≡ Some None) at (λ k below above. get-set-other held at k None None below within ∙ none k below above)
-    (λ above. get-set-same held at None within)
-
 -- the lines that are held, up to a place, were pulled
 abbrev pub ArePulled : List LineView → List (Option ℕ) → ℕ → Type 0
 ArePulled lines held at = (k : ℕ) → k < at → (line : LineView) (generation : ℕ) → slice_get held k ≡ Some (Some generation) → HasPulled (slice_index_or lines k line)

@@ -85,7 +85,3 @@ visiting-rested visit w lines new same is visiting =
     (λ line had.
     let was = was-rested lines visit.at line had in
     subst (λ p. Knows visit.step visit.last p) was.2 (visiting was.0 was.1)))
-
--- an agent that is still to pull knows what it has to
-pub fresh-visiting : (visit : Visit) → visit.step ≡ step.Pull → visit.last ≡ None → (lines : List LineView) → IsVisiting visit lines
-fresh-visiting visit pulls none lines line had = subst (λ s. Knows s visit.last line.pass) (sym pulls) none

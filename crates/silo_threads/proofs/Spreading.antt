@@ -1,11 +1,10 @@
 -- What an operator keeps.
-use Rattle.std.proofs.Common.{◌≡◌, ◌≢◌, ℕ, zero, suc, ◌<◌, List, [], ◌∷◌, ◌++◌, length, get_or, Contains, refl, sym, ap, subst, ◌∙◌, arith}
+use Rattle.std.proofs.Common.{◌≡◌, ◌≢◌, ℕ, zero, suc, ◌<◌, List, [], ◌∷◌, ◌++◌, length, get_or, Contains, refl, ap, ◌∙◌, arith}
 use Rattle.std.proofs.lemmas.List.Quantifiers.{all_pairs_push}
 use Rattle.queue_balancer.specs.Balance.{HasNoDoubles}
 use Rattle.silo_loops.specs.Lines.{DirectoryPass, LineView}
-use Rattle.silo_loops.specs.Silos.{GoOn}
-use Rattle.silo_loops.proofs.Going.{goes-length, goes-refl, goes-some, on-refl}
-use Rattle.silo_threads.specs.Operators.{HasOnlyGoneOn, IsOperator, OperatorView}
+use Rattle.silo_loops.proofs.Going.{goes-refl, on-refl}
+use Rattle.silo_threads.specs.Operators.{HasOnlyGoneOn, OperatorView}
 
 pub only-refl : (v : OperatorView) → HasOnlyGoneOn v v
 only-refl v = record { on = record { lines = goes-refl v.lines; directory = on-refl v.directory }; live = refl; assignment = refl }
@@ -13,15 +12,6 @@ only-refl v = record { on = record { lines = goes-refl v.lines; directory = on-r
 -- an operator with the same passes
 pub same-passes : (v : OperatorView) (ls : List LineView) (d : DirectoryPass) → (ls ≡ v.lines) × (d ≡ v.directory) → record v { lines = ls; directory = d } ≡ v
 same-passes v ls d same = ap (λ (ms : List LineView). record v { lines = ms; directory = d }) same.0 ∙ ap (λ (e : DirectoryPass). record v { directory = e }) same.1
-
--- lines that go on are as many
-pub kept-lines : (v w : OperatorView) → GoOn v.lines w.lines → w.live ≡ v.live → w.assignment ≡ v.assignment → IsOperator v → IsOperator w
-kept-lines v w on live assignment is =
-    record {
-      some = goes-some v.lines w.lines on is.some;
-      assigned = ap (λ (xs : List ℕ). length xs) assignment ∙ is.assigned ∙ sym (goes-length v.lines w.lines on);
-      once = subst (λ (xs : List ℕ). HasNoDoubles xs) (sym live) is.once;
-    }
 
 other-default : (xs : List ℕ) (k d e : ℕ) → k < length xs → get_or xs k e ≡ get_or xs k d
 other-default [] k d e within = absurd (omega arith)

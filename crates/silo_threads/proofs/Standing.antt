@@ -307,10 +307,6 @@ started-more v w ss s n only started runs silo at = (
 pub back-at : (v : OperatorView) (ss : List SiloView) (place : ℕ) (s t : SiloView) → place < length ss → s ≡ get_or ss place s → RunsOn v ss → HasRun s t → IsSiloAt v.lines v.directory t
 back-at v ss place s t within read runs same = same-at v.lines v.directory s t (subst (λ (x : SiloView). IsSiloAt v.lines v.directory x) (sym read) (All-at (IsSiloAt v.lines v.directory) ss place s runs within)) same
 
--- the first of the silos that run comes back, and the others go on running
-pub stop-first : (v w : OperatorView) (s : SiloView) (ss : List SiloView) → HasOnlyGoneOn v w → RunsOn v (s ∷ ss) → RunsOn w ss
-stop-first v w s ss only runs = sits-on v w ss only.on runs.1
-
 -- the silo at a place lives there
 pub silo-place : (ss : List SiloView) (live : List ℕ) (place : ℕ) (s : SiloView) → map (λ (x : SiloView). x.silo) ss ≡ live → place < length ss → s ≡ get_or ss place s → slice_get live place ≡ Some s.silo
 silo-place ss live place s loops within read =

@@ -1,5 +1,5 @@
 -- A line that drains the partitions.
-use Rattle.std.proofs.Common.{◌≡◌, ℕ, ◌+◌, ◌<◌, ◌≤◌, List, [], ◌++◌, length, get_or, set, take, drop, Some, Result, Ok, Err, refl, sym, ap, ◌∙◌}
+use Rattle.std.proofs.Common.{◌≡◌, ℕ, ◌+◌, ◌<◌, List, ◌++◌, length, get_or, set, take, drop, Some, Result, Ok, Err, refl, sym, ap, ◌∙◌}
 use Rattle.std.specs.Prelude.{OnOk}
 use Rattle.std.proofs.lemmas.List.{get_or_read}
 use Rattle.stream_model.specs.declared.drain_end.DrainEnd.{DrainEnd}
@@ -8,7 +8,7 @@ use Rattle.stream_model.specs.Draining.{drain}
 use Rattle.stream_script.specs.Replies.{drain_line}
 use Rattle.stream_script.specs.Simulation.{behind, end_line, drained, drained_each}
 use Rattle.stream_script.specs.Writing.{Writes}
-use Rattle.stream_script.proofs.EachLemmas.{next_done, all_done}
+use Rattle.stream_script.proofs.EachLemmas.{next_done}
 
 -- the partition of the queue was drained, and the line of how that ended was appended
 pub drains : {T E : Type 0} (partitions : List PlainPartition) (queue : ℕ) (old new missing : PlainPartition) (end : DrainEnd) (result : Result T E) (before text : List ℕ)
@@ -26,15 +26,8 @@ abbrev pub DrainedSoFar : ℕ → List PlainPartition → List PlainPartition �
 DrainedSoFar queue old now text =
     let left = drained_each queue (drop queue now) in (take queue now ++ left.0, text ++ left.1) ≡ drained_each 0 old
 
-pub drained_begun : (partitions : List PlainPartition) (text : List ℕ) → text ≡ [] → DrainedSoFar 0 partitions partitions text
-drained_begun partitions text none = ap (λ bytes. behind bytes (drained_each 0 partitions)) none
-
 -- the next partition was drained
 pub drained_more : (queue : ℕ) (old now after : List PlainPartition) (text more : List ℕ) (missing : PlainPartition) → queue < length now
     → DrainedSoFar queue old now text → (after, more) ≡ behind text (drained now queue (drain (get_or now queue missing))) → DrainedSoFar (queue + 1) old after more
 drained_more queue old now after text more missing within so_far next =
     next_done (λ n p. ((drain p).0.now, end_line n (drain p).1)) drained_each (λ n p ps. refl) queue old now after text more missing within so_far next
-
--- all were
-pub drained_done : (queue : ℕ) (old now : List PlainPartition) (text : List ℕ) → length now ≤ queue → DrainedSoFar queue old now text → (now, text) ≡ drained_each 0 old
-drained_done queue old now text all so_far = all_done drained_each (λ n. refl) queue old now text all so_far

@@ -1,6 +1,6 @@
 -- Partitions taken one after another, in the order of their queues.
-use Rattle.std.proofs.Common.{◌≡◌, ℕ, suc, ◌+◌, ◌<◌, ◌≤◌, List, [], ◌∷◌, ◌++◌, length, get_or, set, take, drop, sym, ap, ◌∙◌, append_assoc, arith, add-one, drop-cons}
-use Rattle.std.proofs.lemmas.List.{append-nil, drop_all, drop-set-lt, take_all, take_more_set}
+use Rattle.std.proofs.Common.{◌≡◌, ℕ, suc, ◌+◌, ◌<◌, List, [], ◌∷◌, ◌++◌, length, get_or, set, take, drop, sym, ap, ◌∙◌, append_assoc, arith, add-one, drop-cons}
+use Rattle.std.proofs.lemmas.List.{drop-set-lt, take_more_set}
 use Rattle.stream_model.specs.declared.plain.PlainPartition.{PlainPartition}
 use Rattle.stream_script.specs.Simulation.{behind}
 
@@ -47,12 +47,3 @@ next_done one each is_each queue old now after text more missing within so_far n
   where
     drop_next : (xs : List PlainPartition) (i : ℕ) (d : PlainPartition) → i < length xs → drop i xs ≡ get_or xs i d ∷ drop (i + 1) xs
     drop_next xs i d lt = let on : suc i ≡ i + 1 = omega arith in drop-cons xs i d lt ∙ ap (λ n. get_or xs i d ∷ drop n xs) on
-
--- all were
-pub all_done : (each : ℕ → List PlainPartition → List PlainPartition × List ℕ) → ((queue : ℕ) → each queue [] ≡ ([], []))
-    → (queue : ℕ) (old now : List PlainPartition) (text : List ℕ) → length now ≤ queue → SoFar each queue old now text → (now, text) ≡ each 0 old
-all_done each none_left queue old now text all so_far =
-    let Behind : List PlainPartition × List ℕ → List PlainPartition × List ℕ = λ x. (take queue now ++ x.0, text ++ x.1) in
-    let left : Behind (each queue (drop queue now)) ≡ (take queue now ++ [], text ++ []) = ap (λ ps. Behind (each queue ps)) (drop_all queue now all) ∙ ap Behind (none_left queue) in
-    let whole : (take queue now ++ [], text ++ []) ≡ (now, text) = ap (λ ps. (ps, text ++ [])) (append-nil (take queue now) ∙ take_all queue now all) ∙ ap (λ bytes. (now, bytes)) (append-nil text) in
-    sym whole ∙ (sym left ∙ so_far)

@@ -155,11 +155,6 @@ pub ended_stops : (rest : List ℕ) → ends_piece rest ≡ true → stops_at is
 ended_stops [] h = refl
 ended_stops (byte ∷ rest) h = h
 
--- a text that something else follows
-pub cut-unclosed : (text rest : List ℕ) → stops_at is_space rest ≡ false → cut (Closed text) rest ≡ None
-cut-unclosed text [] stops = cc
-cut-unclosed text (byte ∷ rest) stops = rw stops refl
-
 -- a step of the loop over a text
 pub text_begun : (text bytes plain special : List ℕ) (n : ℕ) → n ≡ position_or_len is_special bytes → plain ≡ take n bytes → special ≡ drop n bytes → (cut (InText text) bytes ≡ cut (InText (text ++ plain)) special) × (stops_at is_special special ≡ true)
 text_begun text bytes plain special n at_end front behind =

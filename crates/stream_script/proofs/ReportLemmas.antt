@@ -1,6 +1,5 @@
 -- The report, queue by queue.
-use Rattle.std.proofs.Common.{◌≡◌, ℕ, suc, ◌+◌, ◌<◌, ◌≤◌, List, [], ◌∷◌, ◌++◌, length, get_or, drop, Result, Ok, Err, refl, sym, ap, ◌∙◌, subst, append_assoc, add-one, drop-cons}
-use Rattle.std.specs.Prelude.{codes}
+use Rattle.std.proofs.Common.{◌≡◌, ℕ, suc, ◌+◌, ◌<◌, ◌≤◌, List, [], ◌∷◌, ◌++◌, length, get_or, drop, Result, Ok, Err, sym, ap, ◌∙◌, subst, append_assoc, add-one, drop-cons}
 use Rattle.std.specs.Io.{StartsWith}
 use Rattle.std.specs.Result.{IsErr}
 use Rattle.std.proofs.lemmas.List.{append-nil, drop_all}
@@ -15,9 +14,6 @@ pub record ReportsSoFar (old now : List ℕ) (queue : ℕ) (partitions : List Pl
   pub text : List ℕ
   pub appended : now ≡ old ++ text
   pub goes_on : text ++ report_from queue (drop queue partitions) ≡ report_of partitions
-
-pub report_begun : (old now : List ℕ) (partitions : List PlainPartition) → now ≡ old ++ codes "report\n" → ReportsSoFar old now 0 partitions
-report_begun old now partitions appended = record { text = codes "report\n"; appended = appended; goes_on = refl }
 
 -- the lines of one queue more
 pub report_more : (old now after : List ℕ) (queue : ℕ) (partitions : List PlainPartition) (p : PlainPartition) → queue < length partitions → p ≡ get_or partitions queue p

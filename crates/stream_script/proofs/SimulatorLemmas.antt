@@ -1,5 +1,5 @@
 -- A line on the partitions.
-use Rattle.std.proofs.Common.{◌≡◌, ℕ, ◌+◌, ◌<◌, ◌≤◌, List, [], ◌++◌, length, get_or, set, take, drop, Result, Ok, Err, refl, ap, ◌∙◌}
+use Rattle.std.proofs.Common.{◌≡◌, ℕ, ◌+◌, ◌<◌, List, ◌++◌, length, get_or, set, take, drop, Result, Ok, Err, refl, ap, ◌∙◌}
 use Rattle.std.specs.Prelude.{OnOk}
 use Rattle.std.proofs.lemmas.List.{get_or_read}
 use Rattle.stream_model.specs.declared.op.Op.{Op}
@@ -9,7 +9,7 @@ use Rattle.stream_model.specs.Step.{step}
 use Rattle.stream_script.specs.Replies.{reply_line}
 use Rattle.stream_script.specs.Simulation.{behind, stepped, stepped_each}
 use Rattle.stream_script.specs.Writing.{Writes}
-use Rattle.stream_script.proofs.EachLemmas.{next_done, all_done}
+use Rattle.stream_script.proofs.EachLemmas.{next_done}
 
 -- the partition of the queue was stepped, and the line of its reply was appended
 pub steps : {T E : Type 0} (partitions : List PlainPartition) (queue : ℕ) (old new missing : PlainPartition) (told : Reply) (op : Op) (result : Result T E) (before text : List ℕ)
@@ -26,9 +26,6 @@ abbrev pub EachSoFar : ℕ → List PlainPartition → List PlainPartition → L
 EachSoFar queue old now text o =
     let left = stepped_each queue (drop queue now) o in (take queue now ++ left.0, text ++ left.1) ≡ stepped_each 0 old o
 
-pub each_begun : (partitions : List PlainPartition) (text : List ℕ) (o : Op) → text ≡ [] → EachSoFar 0 partitions partitions text o
-each_begun partitions text o none = ap (λ bytes. behind bytes (stepped_each 0 partitions o)) none
-
 -- the next partition was stepped
 pub each_more : (queue : ℕ) (old now after : List PlainPartition) (text more : List ℕ) (missing : PlainPartition) (done_op o : Op) → queue < length now
     → EachSoFar queue old now text o → done_op ≡ o → (after, more) ≡ behind text (stepped now queue (step (get_or now queue missing) done_op)) → EachSoFar (queue + 1) old after more o
@@ -36,7 +33,3 @@ each_more queue old now after text more missing done_op o within so_far same ste
     let p = get_or now queue missing in
     let next = stepped_op ∙ ap (λ x. behind text (stepped now queue (step p x))) same in
     next_done (λ n q. ((step q o).0, reply_line n (step q o).1)) (λ n ps. stepped_each n ps o) (λ n q ps. refl) queue old now after text more missing within so_far next
-
--- all were
-pub each_done : (queue : ℕ) (old now : List PlainPartition) (text : List ℕ) (o : Op) → length now ≤ queue → EachSoFar queue old now text o → (now, text) ≡ stepped_each 0 old o
-each_done queue old now text o all so_far = all_done (λ n ps. stepped_each n ps o) (λ n. refl) queue old now text all so_far

@@ -1,5 +1,5 @@
 -- How a rule is told to one queue after another.
-use Rattle.std.proofs.Common.{◌≡◌, ℕ, zero, suc, ◌+◌, ◌-◌, ◌<◌, ◌≤◌, Bool, ◌||◌, List, Result, Ok, Err, length, refl, sym, ap, subst, ◌∙◌, arith, inl, inr}
+use Rattle.std.proofs.Common.{◌≡◌, ℕ, suc, ◌+◌, ◌-◌, ◌<◌, Bool, ◌||◌, List, Result, Ok, Err, length, refl, sym, ap, subst, ◌∙◌, arith, inl, inr}
 use Rattle.std.proofs.lemmas.List.{length-set}
 use Rattle.stream_model.specs.declared.op.Op.{Op}
 use Rattle.stream_model.specs.Replies.{Reply}
@@ -23,12 +23,6 @@ pub tells-refused : (n queue : ℕ) (op : Op) (so_far : Bool) (old : List QueueP
 tells-refused n queue op so_far old e new within reads =
     let more : n - queue ≡ suc (n - suc queue) = omega arith in
     subst (λ (k : ℕ). TellsRule k queue op so_far old (Err e) new) (sym more) (inl (e, reads, refl))
-
--- no queue is left
-pub tells-none : (n queue : ℕ) (op : Op) (so_far : Bool) (old : List QueuePass) → n ≤ queue → TellsRule (n - queue) queue op so_far old (Ok so_far) old
-tells-none n queue op so_far old past =
-    let none : n - queue ≡ zero = omega arith in
-    subst (λ (k : ℕ). TellsRule k queue op so_far old (Ok so_far) old) (sym none) (refl, refl)
 
 -- a call changes no number of queues
 pub calls-long : (old : List QueuePass) (queue : ℕ) (op : Op) (answer : Result Reply Refusal) (new : List QueuePass) → CallerCalls old queue op answer new → length new ≡ length old

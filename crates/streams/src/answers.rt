@@ -6,11 +6,11 @@ ghost use Rattle.streams.specs.Answers.{ComesTo, IsGone, IsLeft, full, too_many}
 
 use crate::UntracedCaller;
 use crate::outbox::Unpublished;
-use crate::service::Host;
 use shared_partition::Gate;
 use silo_loops::LoopEnd;
 use silo_threads::{Drained, Finished, SiloDown, SiloUp, Traces};
 use std::alloc::{AllocError, Global};
+use std::sync::Wait;
 use step_core::{Answer, Partition, QueueFigures, Reply, SubscriptionFigures};
 use stream_ident::{StreamId, SubName, Token};
 use stream_model::{Pending, Start};
@@ -319,7 +319,7 @@ pub enum CloseError {
 }
 
 // The first event of a batch, by the reply to its publish. Where the log is full, it is looked at how much it has.
-pub(crate) fn published<R: Host, G: Gate>(
+pub(crate) fn published<R: Wait, G: Gate>(
     rt: &R,
     caller: &mut UntracedCaller<G>,
     queue: usize,
@@ -352,7 +352,7 @@ pub(crate) fn published<R: Host, G: Gate>(
 }
 
 // The subscription at a queue, by the reply to its subscribe. Where there are too many, it is looked at how many.
-pub(crate) fn subscribed<R: Host, G: Gate>(
+pub(crate) fn subscribed<R: Wait, G: Gate>(
     rt: &R,
     caller: &mut UntracedCaller<G>,
     queue: usize,

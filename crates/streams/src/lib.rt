@@ -5,9 +5,9 @@
 //! [`Service::queue`] and [`Service::subscription`] give figures for whoever operates it.
 //!
 //! A service is a [`Cluster`] with its first [`Caller`]. [`Service::producer`] gives a [`Producer`], which publishes
-//! beside it, and [`Service::take_back`] takes it in again.
+//! beside it, in any thread, and [`Service::take_back`] takes it in again.
 //!
-//! Whoever publishes from several threads makes a cluster and its caller by
+//! Whoever asks all the rest from several threads makes a cluster and its caller by
 //! [`UntracedCluster::new`](Cluster::new): [`Caller::split`] gives a caller for another thread, which asks by
 //! [`Caller::call`] at the queue that [`queue`]`(&stream, caller.queues())` gives, or by [`Caller::ask`], whose small
 //! [`Answer`] stands for the [`Reply`]. [`Caller::join`] takes a caller in again, and [`Cluster::finish`] ends the
@@ -35,7 +35,7 @@ pub use answers::{
     SubscribeError, Subscription, UnsubscribeError,
 };
 pub use outbox::{Message, Outbox, OutboxFull, Unpublished};
-pub use producer::Producer;
+pub use producer::{Producer, ProducerPromise};
 pub use queue_mapper::queue;
 pub use service::{Host, Service};
 pub use shared_partition::{Counting, Gate};

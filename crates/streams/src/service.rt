@@ -119,7 +119,13 @@ impl<R: Host, G: Gate + 'static> Service<R, G> {
         ensures cluster { self.new.cluster ≡ self.old.cluster }
         ensures turnstiles { turnstiles self.new.caller ≡ turnstiles self.old.caller }
     {
-        publish(&self.rt, &mut self.caller, stream, payloads)
+        publish(
+            &self.rt,
+            self.rt.alloc(),
+            &mut self.caller,
+            stream,
+            payloads,
+        )
     }
 
     /// What publishes to this service beside it. It has seen as much as the service has, and has published
@@ -137,8 +143,9 @@ impl<R: Host, G: Gate + 'static> Service<R, G> {
         ensures cluster { self.new.cluster ≡ self.old.cluster }
         ensures turnstiles { turnstiles self.new.caller ≡ turnstiles self.old.caller }
     {
-        let caller = self.caller.split(self.rt.alloc())?;
-        Ok(Producer::new(self.rt, caller))
+        let alloc = self.rt.alloc();
+        let caller = self.caller.split(alloc)?;
+        Ok(Producer::new(self.rt, alloc, caller))
     }
 
     /// Takes a producer of this service in again, with all that it has seen. It takes no memory.
@@ -417,6 +424,6 @@ impl<R: Host, G: Gate + 'static> Service<R, G> {
         ensures cluster { self.new.cluster ≡ self.old.cluster }
         ensures turnstiles { turnstiles self.new.caller ≡ turnstiles self.old.caller }
     {
-        ask(&self.rt, &mut self.caller, queue, op)
+        ask(&self.rt, self.rt.alloc(), &mut self.caller, queue, op)
     }
 }
