@@ -6,5 +6,8 @@
 #![tactic(auto)]
 
 mod agent;
+mod subscriptions;
+mod told;
 
 pub use agent::{Agent, Plan, StaleAgent};
+pub use told::{Acked, Retried, Sought};
