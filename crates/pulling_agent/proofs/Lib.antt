@@ -1,2 +1,4 @@
 pub mod BlockLemmas
+pub mod CurrentLemmas
 pub mod FillLemmas
+pub mod HandledLemmas

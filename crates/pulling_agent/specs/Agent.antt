@@ -86,12 +86,12 @@ fill_up a c queue count = fill a c queue (min (min count (cache.room c)) (length
 abbrev pub take_next : PlainAgent → ℕ → PlainQueue → ℕ → PlainAgent × ℕ
 take_next a drops queue count = fill_up a (without_blocks (min drops (length a.cache.events / BLOCK_EVENTS)) a.cache) queue count
 
--- where the caller speaks for an agent that was replaced, nothing changes
-abbrev pub if_current : {T : Type 0} → PlainAgent → ℕ → PlainAgent × T → PlainAgent × Result T StaleAgent
-if_current a generation done = if generation == a.generation then (done.0, Ok done.1) else (a, Err (record { now = a.generation }))
+-- what a call changes and tells; where the caller speaks for an agent that was replaced, all stays as it was
+abbrev pub if_current : {S T : Type 0} → PlainAgent → ℕ → S → S × T → S × Result T StaleAgent
+if_current a generation was done = if generation == a.generation then (done.0, Ok done.1) else (was, Err (record { now = a.generation }))
 
 abbrev pub pull : PlainAgent → ℕ → ℕ → PlainQueue → ℕ → PlainAgent × Result ℕ StaleAgent
-pull a generation drops queue count = if_current a generation (take_next a drops queue count)
+pull a generation drops queue count = if_current a generation a (take_next a drops queue count)
 
 -- what a plan promises of a pull: the blocks are there, the log has the events, and there is room for them
 pub record CanTake (a : PlainAgent) (queue : PlainQueue) (drops count : ℕ) : Type 0 where
@@ -115,7 +115,7 @@ abbrev pub purge_free : PlainAgent → ℕ → ℕ → PlainAgent × ℕ
 purge_free a keep least = purge_blocks a (purges a keep least)
 
 abbrev pub purge : PlainAgent → ℕ → ℕ → ℕ → PlainAgent × Result ℕ StaleAgent
-purge a generation keep least = if_current a generation (purge_free a keep least)
+purge a generation keep least = if_current a generation a (purge_free a keep least)
 
 -- the next generation: one more, up to the greatest of 64 bits
 abbrev pub next_generation : ℕ → ℕ

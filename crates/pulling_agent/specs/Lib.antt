@@ -1,1 +1,3 @@
 pub mod Agent
+pub mod Handled
+pub mod Progress

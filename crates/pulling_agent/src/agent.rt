@@ -41,8 +41,8 @@ pub enum Plan {
 /// The pulling agent of a queue.
 ///
 /// A queue has one agent at a time, and each has a generation, counted from 0. A caller names the generation
-/// of the agent that it speaks for: `plan_pull`, `pull` and `purge` refuse one that speaks for an agent which was
-/// replaced, and `check` does where a caller asks for something else than the cache.
+/// of the agent that it speaks for: all calls that do something refuse one that speaks for an agent which was
+/// replaced, except `take_over`, which replaces it.
 ///
 /// A contract sees the agent as its generation, the silo that it runs on, and its cache.
 pub struct Agent {
@@ -181,7 +181,7 @@ impl Agent {
         count: usize,
     ) -> Result<usize, StaleAgent>
         ensures pull { (self.new, result) ≡ pull self.old generation drops queue.now count }
-        ensures planned { CanTake self.old queue.now drops count → (self.new, result) ≡ if_current self.old generation (take_planned self.old drops queue.now count) }
+        ensures planned { CanTake self.old queue.now drops count → (self.new, result) ≡ if_current self.old generation self.old (take_planned self.old drops queue.now count) }
     {
         self.check(generation)?;
         Ok(self.take_next(drops, queue, count))

@@ -12,9 +12,9 @@ use Rattle.stream_model.specs.Positions.{with_sub}
 use Rattle.stream_model.specs.Pulling as plain
 use Rattle.consumer_grain.specs.Subscriptions.{PlainState, acknowledged, rewound}
 use Rattle.pubsub_registry.specs.declared.registration.Registration.{Registration}
-use Rattle.subscription_table.specs.Progress.{ack, ack_at, handled_at, retry}
-use Rattle.subscription_table.specs.declared.told.Acked.TheVariants as ack_told
-use Rattle.subscription_table.specs.declared.told.Retried.TheVariants as retry_told
+use Rattle.pulling_agent.specs.Progress.{ack, ack_at, handled_at, retry}
+use Rattle.pulling_agent.specs.declared.told.Acked.TheVariants as ack_told
+use Rattle.pulling_agent.specs.declared.told.Retried.TheVariants as retry_told
 use Rattle.step_core.specs.declared.parts.Parts.{Parts}
 use Rattle.step_core.specs.PlainOf.{plain_of}
 use Rattle.step_core.specs.Replies.{of_ack, of_retry}

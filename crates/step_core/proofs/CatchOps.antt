@@ -18,7 +18,7 @@ use Rattle.stream_model.proofs.StepBounds.{bounds-step}
 use Rattle.consumer_grain.specs.Subscriptions.{PlainState, advanced, caught_up, committed}
 use Rattle.queue_cache.specs.Cache.{high}
 use Rattle.subscription_table.specs.Table.{PlainTable, name_at, no_entry, no_state, state_at, with_state}
-use Rattle.subscription_table.specs.declared.told.Sought.TheVariants as sought
+use Rattle.pulling_agent.specs.declared.told.Sought.TheVariants as sought
 use Rattle.step_core.specs.declared.parts.Parts.{Parts}
 use Rattle.step_core.specs.DrainPhases.{Ends}
 use Rattle.step_core.specs.PlainOf.{plain_of}

@@ -1,7 +1,7 @@
 -- Whether an agent was replaced.
 use Rattle.std.proofs.Common.{◌≡◌, ap, refl, ℕ, Bool, true, false, ◌==◌}
 use Rattle.std.specs.Prelude.{if◌then◌else◌, Result, Ok, Err}
-use Rattle.pulling_agent.specs.Agent.{PlainAgent, answered, check}
+use Rattle.pulling_agent.specs.Agent.{PlainAgent, answered}
 use Rattle.pulling_agent.specs.declared.agent.StaleAgent.{StaleAgent}
 
 -- the caller named another generation
@@ -32,9 +32,3 @@ module _ {T : Type 0} (a : PlainAgent) (generation : ℕ) (answer : T) where
       by : (b : Bool) → (generation == a.generation) ≡ b → Ok given ≡ answered_by b → IsAnswered a generation answer given
       by true own e = record { own = own; is = cc }
       by false other e = absurd (cc)
-
-pub check-stale : (a : PlainAgent) (generation : ℕ) (stale : StaleAgent) → Err stale ≡ check a generation → IsReplaced a generation stale
-check-stale a generation stale = answered-stale a generation tt stale
-
-pub check-current : (a : PlainAgent) (generation : ℕ) (checked : Unit {0}) → Ok checked ≡ check a generation → (generation == a.generation) ≡ true
-check-current a generation checked is = (answered-current a generation tt checked is).own

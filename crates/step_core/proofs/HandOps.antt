@@ -35,11 +35,14 @@ use Rattle.grain_table.specs.Grains.{PlainGrains, number_of, with_grain, AreIdle
 use Rattle.pubsub_registry.specs.declared.registration.Registration.{Registration}
 use Rattle.cache_cursor.specs.Cursor.{next_in}
 use Rattle.queue_cache.specs.Cache.{PlainCache, high}
-use Rattle.subscription_table.specs.Progress.{next_at, next_event}
+use Rattle.pulling_agent.proofs.CurrentLemmas.{done-current}
+use Rattle.pulling_agent.specs.Agent.{if_current}
+use Rattle.pulling_agent.specs.declared.agent.StaleAgent.{StaleAgent}
+use Rattle.pulling_agent.specs.Progress.{next_at, next_event}
 use Rattle.subscription_table.specs.Table.{PlainTable, no_entry, no_state, registration_at, state_at, stepped, with_state}
 use Rattle.subscription_table.specs.Table as table
-use Rattle.subscription_table.specs.declared.told.Sought.{Sought}
-use Rattle.subscription_table.specs.declared.told.Sought.TheVariants as sought
+use Rattle.pulling_agent.specs.declared.told.Sought.{Sought}
+use Rattle.pulling_agent.specs.declared.told.Sought.TheVariants as sought
 use Rattle.stream_model.proofs.Lookups.{place_of-within}
 use Rattle.stream_ident.proofs.FirstLemmas.{place_of-key}
 use Rattle.stream_model.proofs.Answering.{on-error}
@@ -505,13 +508,21 @@ with_subs parts t = record parts { subs = t }
 abbrev pub Searched : Parts → PlainTable → ℕ → Bool → Sought → Type 0
 Searched parts t number outstanding told = IsSought parts.subs t number parts.agent.cache (registration_at parts.subs number).stream outstanding told
 
--- where the cache that was searched is the agent's
-pub searched-is : (parts : Parts) (t : PlainTable) (number : ℕ) (cache : PlainCache) (outstanding : Bool) (told : Sought) → cache ≡ parts.agent.cache
-    → ◌≡◌ {A = PlainTable × Sought} (t, told) (stepped parts.subs number (next_event cache (state_at parts.subs number) (registration_at parts.subs number).stream outstanding))
-    → Searched parts t number outstanding told
-searched-is parts t number cache outstanding told same is =
-    sought-is parts.subs t number parts.agent.cache (registration_at parts.subs number).stream outstanding told
-    (is ∙ ap {B = PlainTable × Sought} (λ (c : PlainCache). stepped parts.subs number (next_event c (state_at parts.subs number) (registration_at parts.subs number).stream outstanding)) same)
+-- what the agent was asked to deliver
+abbrev pub search_in : Parts → ℕ → Bool → PlainTable × Sought
+search_in parts number outstanding = stepped parts.subs number (next_event parts.agent.cache (state_at parts.subs number) (registration_at parts.subs number).stream outstanding)
+
+-- what it told to its own generation
+module _ (parts : Parts) (generation : ℕ) (t : PlainTable) (number : ℕ) (outstanding : Bool) (told given : Sought) (same : given ≡ told)
+    (is : ◌≡◌ {A = PlainTable × Result Sought StaleAgent} (t, Ok given) (if_current parts.agent generation parts.subs (search_in parts number outstanding))) where
+  pub searched-own : (generation == parts.agent.generation) ≡ true
+  searched-own = (done-current parts.agent generation parts.subs (search_in parts number outstanding) t given is).own
+
+  pub searched-is : Searched parts t number outstanding told
+  searched-is =
+      subst (Searched parts t number outstanding) same
+      (sought-is parts.subs t number parts.agent.cache (registration_at parts.subs number).stream outstanding given
+      (done-current parts.agent generation parts.subs (search_in parts number outstanding) t given is).is)
 
 -- the next event is there
 pub next-agrees : (parts : Parts) (t : PlainTable) (number position : ℕ) (outstanding : Bool) → Agrees parts → Searched parts t number outstanding (sought.Next position) → Agrees (with_subs parts t)

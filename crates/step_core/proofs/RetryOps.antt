@@ -1,6 +1,6 @@
 -- What agents ask of one record: the replies, and parts that agree with each other.
-use Rattle.std.proofs.Common.{◌≡◌, ◌∙◌, ap, sym, subst, refl, ℕ, ◌<◌, true, not, List, [], ◌∷◌, length, Some, None, arith}
-use Rattle.std.specs.Prelude.{Ok, Err}
+use Rattle.std.proofs.Common.{◌≡◌, ◌∙◌, ap, sym, subst, refl, ℕ, ◌<◌, Bool, true, false, not, List, [], ◌∷◌, length, Some, None, arith}
+use Rattle.std.specs.Prelude.{if◌then◌else◌}
 use Rattle.std.specs.List.{All}
 use Rattle.std.proofs.lemmas.Bool.{cond_both}
 use Rattle.std.proofs.lemmas.List.Elements.{All-from_recursion}
@@ -14,24 +14,24 @@ use Rattle.stream_model.specs.Replies.{Reply}
 use Rattle.stream_model.specs.declared.reply.Reply.TheVariants as reply
 use Rattle.stream_model.specs.Bounds.{AreIn, IsWithinLimits}
 use Rattle.stream_model.specs.Pulling as plain
+use Rattle.stream_model.specs.Pulling.{is_stale}
 use Rattle.consumer_grain.specs.Subscriptions.{PlainState}
 use Rattle.partition_queue.specs.Queue.{PlainQueue}
 use Rattle.pubsub_registry.specs.declared.registration.Registration.{Registration}
-use Rattle.pulling_agent.specs.Agent as agent
+use Rattle.pulling_agent.proofs.CurrentLemmas.{IsDone, IsRefused}
 use Rattle.pulling_agent.specs.declared.agent.StaleAgent.{StaleAgent}
-use Rattle.subscription_table.specs.Progress.{ack, ack_at, handled_at, retry}
+use Rattle.pulling_agent.specs.Progress.{ack, ack_at, handled_at, retry}
 use Rattle.subscription_table.specs.Standing.{AreRecords}
 use Rattle.subscription_table.specs.Table.{PlainTable, no_entry, no_state, number_of, state_at, stepped}
-use Rattle.subscription_table.specs.declared.told.Acked.{Acked}
-use Rattle.subscription_table.specs.declared.told.Retried.{Retried}
+use Rattle.pulling_agent.specs.declared.told.Acked.{Acked}
+use Rattle.pulling_agent.specs.declared.told.Retried.{Retried}
 use Rattle.step_core.specs.Assembly.{IsAssembled}
 use Rattle.step_core.specs.PlainOf.{plain_of}
-use Rattle.step_core.specs.Replies.{of_ack, of_retry}
+use Rattle.step_core.specs.Replies.{of_ack, of_retry, unknown}
 use Rattle.step_core.specs.View.{sub_of, subs_of}
 use Rattle.step_core.specs.declared.parts.Parts.{Parts}
 use Rattle.step_core.proofs.AgentOps.{ack-parts, retry-parts}
 use Rattle.step_core.proofs.AssembledTable.{assembled-subs}
-use Rattle.step_core.proofs.CheckOps.{check-current, check-stale}
 use Rattle.step_core.proofs.KnownOps.{known-state}
 use Rattle.step_core.proofs.ViewLemmas.{record-at, records-length}
 
@@ -70,24 +70,41 @@ stepped-assembled {R} parts number x new told records within stays assembled don
     (known-state parts.subs.registry.names parts.subs.states parts.grains number x.0 assembled.known (let long = records.long in omega (arith, within, long)) stays.0 (λ at none unheld. stays.1 at none))
     assembled)
 
+-- ---- a name without a subscription, and a table that a replaced agent was asked to change
+
+pub nothing-told : (p : PlainPartition) (generation : ℕ) (answer : PlainPartition × Reply) → (is_stale p generation ≡ true → (p, reply.StaleAgent p.generation) ≡ answer) → (is_stale p generation ≡ false → (p, reply.NoSuch) ≡ answer) → (p, unknown p generation) ≡ answer
+nothing-told p generation answer stale current = by (is_stale p generation) refl
+  where
+    by : (b : Bool) → is_stale p generation ≡ b → ◌≡◌ {A = PlainPartition × Reply} (p, if b then reply.StaleAgent p.generation else reply.NoSuch) answer
+    by true is = stale is
+    by false is = current is
+
+module _ (parts : Parts) (generation : ℕ) (new : PlainTable) (stale : StaleAgent) (refused : IsRefused parts.agent generation parts.subs new stale) where
+  pub refused-assembled : IsAssembled parts → IsAssembled (record parts { subs = new })
+  refused-assembled assembled = subst (λ (t : PlainTable). IsAssembled (record parts { subs = t })) (sym refused.same) assembled
+
+  pub refused-told : ◌≡◌ {A = PlainPartition × Reply} (plain_of (record parts { subs = new }), reply.StaleAgent stale.now) (plain_of parts, reply.StaleAgent parts.agent.generation)
+  refused-told = λ i. (plain_of (record parts { subs = refused.same i }), reply.StaleAgent (refused.now i))
+
 -- ---- the cursor goes back
 
+abbrev pub rewinding : Parts → ℕ → PlainTable × Retried
+rewinding parts number = stepped parts.subs number (retry (state_at parts.subs number))
+
 module _ (parts : Parts) (generation : ℕ) (s : SubName) where
-  pub retry-replaced : (stale : StaleAgent) → Err stale ≡ agent.check parts.agent generation → (plain_of parts, reply.StaleAgent stale.now) ≡ plain.retry (plain_of parts) generation s
-  retry-replaced stale checked =
-      let replaced = check-stale parts.agent generation stale checked in
-      ap {B = PlainPartition × Reply} (λ now. (plain_of parts, reply.StaleAgent now)) replaced.now ∙ retry-stale (plain_of parts) generation s (ap not replaced.other)
+  pub retry-nothing : AreRecords parts.subs → None ≡ number_of parts.subs s → (plain_of parts, unknown (plain_of parts) generation) ≡ plain.retry (plain_of parts) generation s
+  retry-nothing records none =
+      nothing-told (plain_of parts) generation _ (retry-stale (plain_of parts) generation s) (λ current. retry-unknown (plain_of parts) generation s current (no-record parts s (sym records.long) (sym none)))
 
-  pub retry-nothing : (checked : Unit {0}) → Ok checked ≡ agent.check parts.agent generation → AreRecords parts.subs → None ≡ number_of parts.subs s → (plain_of parts, reply.NoSuch) ≡ plain.retry (plain_of parts) generation s
-  retry-nothing checked is records none =
-      retry-unknown (plain_of parts) generation s (ap not (check-current parts.agent generation checked is)) (no-record parts s (sym records.long) (sym none))
+  pub retry-refused : (new : PlainTable) (stale : StaleAgent) → IsRefused parts.agent generation parts.subs new stale → (plain_of (record parts { subs = new }), reply.StaleAgent stale.now) ≡ plain.retry (plain_of parts) generation s
+  retry-refused new stale refused = refused-told parts generation new stale refused ∙ retry-stale (plain_of parts) generation s (ap not refused.other)
 
-  pub retry-performs : (checked : Unit {0}) → Ok checked ≡ agent.check parts.agent generation → (number : ℕ) (new : PlainTable) (told : Retried) → AreRecords parts.subs → Some number ≡ number_of parts.subs s
-      → (new, told) ≡ stepped parts.subs number (retry (state_at parts.subs number))
+  pub retry-performs : (number : ℕ) (new : PlainTable) (told : Retried) → AreRecords parts.subs → Some number ≡ number_of parts.subs s
+      → IsDone parts.agent generation (rewinding parts number) new told
       → (plain_of (record parts { subs = new }), of_retry told) ≡ plain.retry (plain_of parts) generation s
-  retry-performs checked is number new told records found done =
-      ap {B = PlainPartition × Reply} (λ (left : PlainTable × Retried). (plain_of (record parts { subs = left.0 }), of_retry left.1)) done
-      ∙ sym (retry-parts parts generation s number no_entry no_state (sym records.long) (check-current parts.agent generation checked is) (sym found))
+  retry-performs number new told records found done =
+      ap {B = PlainPartition × Reply} (λ (left : PlainTable × Retried). (plain_of (record parts { subs = left.0 }), of_retry left.1)) done.is
+      ∙ sym (retry-parts parts generation s number no_entry no_state (sym records.long) done.own (sym found))
 
 -- ---- what is handled is acknowledged
 
@@ -108,19 +125,20 @@ handled-in parts number limits records within =
     inside : number < length (subs_of names states)
     inside = omega (arith, within, records-length names states (sym records.long))
 
+abbrev pub acking : Parts → Token → ℕ → PlainTable × Acked
+acking parts token number = stepped parts.subs number (ack (state_at parts.subs number) parts.queue token)
+
 module _ (parts : Parts) (generation : ℕ) (s : SubName) (token : Token) where
-  pub ack-replaced : (stale : StaleAgent) → Err stale ≡ agent.check parts.agent generation → (plain_of parts, reply.StaleAgent stale.now) ≡ plain.ack (plain_of parts) generation s token
-  ack-replaced stale checked =
-      let replaced = check-stale parts.agent generation stale checked in
-      ap {B = PlainPartition × Reply} (λ now. (plain_of parts, reply.StaleAgent now)) replaced.now ∙ ack-stale (plain_of parts) generation s token (ap not replaced.other)
+  pub ack-nothing : AreRecords parts.subs → None ≡ number_of parts.subs s → (plain_of parts, unknown (plain_of parts) generation) ≡ plain.ack (plain_of parts) generation s token
+  ack-nothing records none =
+      nothing-told (plain_of parts) generation _ (ack-stale (plain_of parts) generation s token) (λ current. ack-unknown (plain_of parts) generation s token current (no-record parts s (sym records.long) (sym none)))
 
-  pub ack-nothing : (checked : Unit {0}) → Ok checked ≡ agent.check parts.agent generation → AreRecords parts.subs → None ≡ number_of parts.subs s → (plain_of parts, reply.NoSuch) ≡ plain.ack (plain_of parts) generation s token
-  ack-nothing checked is records none =
-      ack-unknown (plain_of parts) generation s token (ap not (check-current parts.agent generation checked is)) (no-record parts s (sym records.long) (sym none))
+  pub ack-refused : (new : PlainTable) (stale : StaleAgent) → IsRefused parts.agent generation parts.subs new stale → (plain_of (record parts { subs = new }), reply.StaleAgent stale.now) ≡ plain.ack (plain_of parts) generation s token
+  ack-refused new stale refused = refused-told parts generation new stale refused ∙ ack-stale (plain_of parts) generation s token (ap not refused.other)
 
-  pub ack-performs : (checked : Unit {0}) → Ok checked ≡ agent.check parts.agent generation → (number : ℕ) (new : PlainTable) (told : Acked) → AreRecords parts.subs → Some number ≡ number_of parts.subs s
-      → (new, told) ≡ stepped parts.subs number (ack (state_at parts.subs number) parts.queue token)
+  pub ack-performs : (number : ℕ) (new : PlainTable) (told : Acked) → AreRecords parts.subs → Some number ≡ number_of parts.subs s
+      → IsDone parts.agent generation (acking parts token number) new told
       → (plain_of (record parts { subs = new }), of_ack told) ≡ plain.ack (plain_of parts) generation s token
-  ack-performs checked is number new told records found done =
-      ap {B = PlainPartition × Reply} (λ (left : PlainTable × Acked). (plain_of (record parts { subs = left.0 }), of_ack left.1)) done
-      ∙ sym (ack-parts parts generation s token number no_entry no_state (sym records.long) (check-current parts.agent generation checked is) (sym found))
+  ack-performs number new told records found done =
+      ap {B = PlainPartition × Reply} (λ (left : PlainTable × Acked). (plain_of (record parts { subs = left.0 }), of_ack left.1)) done.is
+      ∙ sym (ack-parts parts generation s token number no_entry no_state (sym records.long) done.own (sym found))

@@ -4,15 +4,14 @@ ghost use Rattle.stream_model.specs.Pulling.{ack, retry};
 ghost use Rattle.stream_model.specs.Replies.{IsNoTurn};
 ghost use Rattle.step_core.specs.Assembly.{Agrees, IsAssembled};
 ghost use Rattle.step_core.specs.PlainOf.{plain_of};
-ghost use Rattle.step_core.specs.Replies.{of_ack, of_retry};
+ghost use Rattle.step_core.specs.Replies.{of_ack, of_retry, unknown};
 ghost use Rattle.step_core.specs.Replied.{reply_of};
 
 use crate::outcome::Outcome;
 use crate::parts::Parts;
-use pulling_agent::StaleAgent;
+use pulling_agent::{Acked, Retried, StaleAgent};
 use stream_ident::{SubName, Token};
 use stream_model::Reply;
-use subscription_table::{Acked, Retried};
 
 /// The agent sets a subscription's cursor back to its resume. It takes no memory.
 #[inline(never)]
@@ -22,13 +21,13 @@ pub(crate) fn retry(parts: &mut Parts, generation: u64, sub: &SubName) -> Outcom
     ensures performs { (plain_of parts.new, reply_of result) ≡ retry (plain_of parts.old) generation sub.now }
     ensures told { IsNoTurn result }
 {
-    if let Err(StaleAgent { now }) = parts.agent.check(generation) {
-        return Reply::StaleAgent { now };
-    }
     let Some(number) = parts.subs.find(sub) else {
-        return Reply::NoSuch;
+        return unknown(parts, generation);
     };
-    told_of_retry(parts.subs.retry(number))
+    match parts.subs.retry(number, &parts.agent, generation) {
+        Ok(retried) => told_of_retry(retried),
+        Err(StaleAgent { now }) => Reply::StaleAgent { now },
+    }
 }
 
 /// The agent learns that a subscription has handled an event and all that it was owed before. It takes no
@@ -40,13 +39,27 @@ pub(crate) fn ack(parts: &mut Parts, generation: u64, sub: &SubName, token: Toke
     ensures performs { (plain_of parts.new, reply_of result) ≡ ack (plain_of parts.old) generation sub.now token }
     ensures told { IsNoTurn result }
 {
-    if let Err(StaleAgent { now }) = parts.agent.check(generation) {
-        return Reply::StaleAgent { now };
-    }
     let Some(number) = parts.subs.find(sub) else {
-        return Reply::NoSuch;
+        return unknown(parts, generation);
     };
-    told_of_ack(parts.subs.ack(number, &parts.queue, &token))
+    match parts
+        .subs
+        .ack(number, &parts.agent, generation, &parts.queue, &token)
+    {
+        Ok(acked) => told_of_ack(acked),
+        Err(StaleAgent { now }) => Reply::StaleAgent { now },
+    }
+}
+
+/// The reply to an agent that asks of a name without a subscription.
+pub(crate) fn unknown(parts: &Parts, generation: u64) -> Outcome
+    ensures reply { reply_of result ≡ unknown (plain_of parts.now) generation }
+    ensures told { IsNoTurn result }
+{
+    match parts.agent.check(generation) {
+        Ok(()) => Reply::NoSuch,
+        Err(StaleAgent { now }) => Reply::StaleAgent { now },
+    }
 }
 
 /// The reply to an agent that retries.

@@ -16,15 +16,15 @@ ghost use Rattle.step_core.specs.Records.{record_of};
 ghost use Rattle.step_core.specs.Replied.{replied, reply_of};
 ghost use Rattle.stream_model.specs.declared.reply.Reply.TheVariants.{Delivered};
 
+use crate::acknowledging::unknown;
 use crate::outcome::Outcome;
 use crate::parts::Parts;
 use crate::reading::is_spent;
 use consumer_grain::{Delivery, Offered};
-use pulling_agent::StaleAgent;
+use pulling_agent::{Sought, StaleAgent};
 use std::alloc::{AllocError, Global};
 use stream_ident::SubName;
 use stream_model::Reply;
-use subscription_table::Sought;
 
 /// The agent hands a subscription its next event.
 ///
@@ -46,27 +46,25 @@ pub(crate) fn deliver(
     ensures memory { OnErr result (takes_memory (deliver (plain_of parts.old) generation sub.now).1 ≡ true) }
     ensures first { OnErr result (is_untouched (plain_of parts.old) sub.now (sub_at (plain_of parts.old) sub.now) ≡ true) }
 {
-    if let Err(StaleAgent { now }) = parts.agent.check(generation) {
-        return Ok(Reply::StaleAgent { now });
-    }
     let Some(number) = parts.subs.find(sub) else {
-        return Ok(Reply::NoSuch);
+        return Ok(unknown(parts, generation));
     };
     let grain = parts.grains.find(parts.subs.grain(number));
     let outstanding = is_outstanding(parts, number, grain);
     match parts
         .subs
-        .next_event(number, parts.agent.cache(), outstanding)
+        .deliver(number, &parts.agent, generation, outstanding)
     {
-        Sought::Next { position } => {
+        Ok(Sought::Next { position }) => {
             let delivery = Delivery {
                 sub: number,
                 position,
             };
             hand_over(parts, alloc, delivery, grain)
         }
-        Sought::Nothing => Ok(Reply::Nothing),
-        Sought::Closed => Ok(Reply::Closed),
+        Ok(Sought::Nothing) => Ok(Reply::Nothing),
+        Ok(Sought::Closed) => Ok(Reply::Closed),
+        Err(StaleAgent { now }) => Ok(Reply::StaleAgent { now }),
     }
 }
 

@@ -13,9 +13,9 @@ ghost use Rattle.step_core.specs.Serving.{is_held, resting_grain, CatchesUp, Han
 use crate::parts::Parts;
 use crate::reading::is_spent;
 use cache_cursor::next;
+use pulling_agent::Sought;
 use std::alloc::{AllocError, Global};
 use stream_ident::Row;
-use subscription_table::Sought;
 
 /// Serves the subscription with a number to its end where the cache has nothing for it, nothing of it waits or runs, and it
 /// has handled no event past both its cursor and the end of the cache: what it has handled is acknowledged, and its cursor
@@ -32,10 +32,12 @@ pub(crate) fn catch_up(parts: &mut Parts, number: usize) -> bool
     if is_ahead(parts, number) {
         return false;
     }
-    match parts.subs.next_event(number, parts.agent.cache(), false) {
-        Sought::Nothing => true,
-        Sought::Next { .. } => false,
-        Sought::Closed => false,
+    let generation = parts.agent.generation();
+    match parts.subs.deliver(number, &parts.agent, generation, false) {
+        Ok(Sought::Nothing) => true,
+        Ok(Sought::Next { .. }) => false,
+        Ok(Sought::Closed) => false,
+        Err(_) => false,
     }
 }
 

@@ -1,7 +1,6 @@
 pub mod Answering
 pub mod CloseLemmas
 pub mod GrowLemmas
-pub mod HandledLemmas
 pub mod LeafLemmas
 pub mod LookLemmas
 pub mod RewindLemmas

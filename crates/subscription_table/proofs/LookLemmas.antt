@@ -1,15 +1,13 @@
 -- What a table tells, by its parts.
 use Rattle.std.proofs.Common.{◌≡◌, ◌∙◌, ℕ, ◌+◌, ◌<◌, List, length, get_or, map, nat_lt, None, Some, Option, refl, sym, subst, ap, ap₂, arith}
 use Rattle.std.specs.Option.{option_map}
-use Rattle.std.specs.Prelude.{slice_get, slice_index, IfNone, IfSome}
+use Rattle.std.specs.Prelude.{slice_index, IfNone, IfSome}
 use Rattle.std.proofs.lemmas.List.{get_or_read, get_or-map, length-map, take_all}
-use Rattle.std.proofs.lemmas.Option.{get_or_from_slice_get}
 use Rattle.stream_ident.specs.SubName.{same_sub, sub_lt}
 use Rattle.stream_ident.specs.Words.{is_above}
 use Rattle.stream_ident.specs.declared.ident.SubName.{SubName}
 use Rattle.stream_ident.proofs.NameOrders.{sub_order}
 use Rattle.consumer_grain.specs.Subscriptions.{PlainState, is_unacknowledged}
-use Rattle.pubsub_registry.specs.declared.registration.Registration.{Registration}
 use Rattle.ranked_index.specs.Keys.{least_key}
 use Rattle.ranked_index.specs.Leaves as index
 use Rattle.ranked_index.specs.Leaves.{due_from, keys_by_rank, no_leaf, top, PlainResumes}
@@ -22,7 +20,7 @@ use Rattle.subscription_table.specs.Leaves.{due_after, least_resume, slowest, Na
 use Rattle.subscription_table.specs.LeavesOf.{leaf_of, leaves_of, open_resume}
 use Rattle.subscription_table.specs.Rows.{AreNamed}
 use Rattle.subscription_table.specs.Standing.{kept_of, name_of, IsTable}
-use Rattle.subscription_table.specs.Table.{PlainTable, name_at, no_entry, no_state, registration_at, state_at, stepped, with_state}
+use Rattle.subscription_table.specs.Table.{PlainTable, name_at, no_entry, no_state, state_at}
 use Rattle.subscription_table.proofs.Answering.{due-is, due_of, resume_of, slowest-is, AreKeyed}
 use Rattle.subscription_table.proofs.LeafLemmas.{Entry, Names, leaf_at, length-leaves_of, same-resumes}
 
@@ -131,13 +129,3 @@ module _ (t old : PlainTable) (tags : List ℕ) (r : PlainResumes) (is : IsTable
   state-read number within was read =
       let there : number < length t.states = omega (arith, is.records.long, ap (λ (t : PlainTable). length t.registry.names) same) in
       get_or_read t.states number was there read no_state ∙ ap (λ (t : PlainTable). state_at t number) same
-
--- what a call made of one state, and what it told
-pub stepped-is : {R : Type 0} (call : PlainState → Registration → PlainState × R) (t old : PlainTable) → t ≡ old → (number : ℕ) (was now : PlainState) (told : R) (entry : Entry) → was ≡ state_at old number → slice_get t.registry.names number ≡ Some entry
-    → ◌≡◌ {A = PlainState × R} (now, told) (call was entry.1)
-    → ◌≡◌ {A = PlainTable × R} (with_state t number now, told) (stepped old number (call (state_at old number) (registration_at old number)))
-stepped-is {R} call t old same number was now told entry seen there is =
-    let registered : entry.1 ≡ registration_at old number =
-    ap (λ (e : Entry). e.1) (sym (get_or_from_slice_get t.registry.names number entry no_entry there)) ∙ ap (λ (t : PlainTable). registration_at t number) same in
-    ap (λ (t : PlainTable). stepped t number (now, told)) same
-    ∙ ap (stepped old number) (is ∙ ap (λ (s : PlainState). call s entry.1) seen ∙ ap (call (state_at old number)) registered)

@@ -1,5 +1,6 @@
 -- What each call leaves of one state.
-use Rattle.std.proofs.Common.{◌≡◌, ℕ, max, ◌+◌, ◌^◌, ◌<◌, ◌≤◌, Bool, true, false, not, List, [], ◌∷◌, length, Option, Some, None, if◌then◌else◌, refl, ap, arith, All}
+use Rattle.std.proofs.Common.{◌≡◌, ℕ, max, ◌+◌, ◌^◌, ◌<◌, ◌≤◌, ◌==◌, Bool, true, false, not, List, [], ◌∷◌, length, Option, Some, None, if◌then◌else◌, refl, ap, sym, subst, arith, All}
+use Rattle.std.specs.Prelude.{Result, Ok, Err}
 use Rattle.std.proofs.lemmas.List.Elements.{All-filter, All-head}
 use Rattle.stream_ident.specs.declared.ident.StreamId.{StreamId}
 use Rattle.stream_ident.specs.declared.token.Token.{Token}
@@ -7,12 +8,14 @@ use Rattle.stream_ident.specs.Token.{same_token}
 use Rattle.partition_queue.specs.Queue.{PlainQueue, token_at}
 use Rattle.queue_cache.specs.Cache.{PlainCache, high}
 use Rattle.consumer_grain.specs.Subscriptions.{PlainState, acknowledged, advanced, caught_up, committed, rewound}
-use Rattle.subscription_table.specs.Progress.{ack, ack_at, handled_at, next_at, next_event, retry}
+use Rattle.pulling_agent.specs.Agent.{PlainAgent, if_current}
+use Rattle.pulling_agent.specs.declared.agent.StaleAgent.{StaleAgent}
+use Rattle.pulling_agent.specs.Progress.{ack, ack_at, handled_at, next_at, next_event, retry}
 use Rattle.subscription_table.specs.Standing.{kept_of}
-use Rattle.subscription_table.specs.declared.told.Acked.TheVariants as ack_told
-use Rattle.subscription_table.specs.declared.told.Retried.TheVariants as retry_told
-use Rattle.subscription_table.specs.declared.told.Sought.{Sought}
-use Rattle.subscription_table.specs.declared.told.Sought.TheVariants as sought
+use Rattle.pulling_agent.specs.declared.told.Acked.TheVariants as ack_told
+use Rattle.pulling_agent.specs.declared.told.Retried.TheVariants as retry_told
+use Rattle.pulling_agent.specs.declared.told.Sought.{Sought}
+use Rattle.pulling_agent.specs.declared.told.Sought.TheVariants as sought
 use Rattle.subscription_table.proofs.TableLemmas.{Fits}
 
 -- what a call gives: nothing new where the state is closed
@@ -23,6 +26,18 @@ module _ {R : Type 0} (s : PlainState) (closed : R) (done : PlainState × R) (P 
   asked-either : (is_closed : Bool) → P (asked s is_closed closed done).0
   asked-either true = here
   asked-either false = there
+
+-- what a call leaves: the state as it was where the agent that it was asked of was replaced
+module _ {R : Type 0} (a : PlainAgent) (generation : ℕ) (s : PlainState) (done : PlainState × R) (P : PlainState → Type 0) (here : P s) (there : P done.0) where
+  abbrev left : Bool → PlainState × Result R StaleAgent
+  left own = if own then (done.0, Ok done.1) else (s, Err (record { now = a.generation }))
+
+  pub current-either : (new : PlainState) (told : Result R StaleAgent) → ◌≡◌ {A = PlainState × Result R StaleAgent} (new, told) (if_current a generation s done) → P new
+  current-either new told is = subst (λ (r : PlainState × Result R StaleAgent). P r.0) (sym is) (by (generation == a.generation))
+    where
+      by : (own : Bool) → P (left own).0
+      by true = there
+      by false = here
 
 module _ (s : PlainState) (stands : Fits s s) where
   pub fits-advanced : (position : ℕ) → position + 3 < 2 ^ 64 → Fits s (advanced position s)

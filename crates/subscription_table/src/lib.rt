@@ -4,7 +4,5 @@
 #![tactic(auto)]
 
 mod table;
-mod told;
 
 pub use table::SubscriptionTable;
-pub use told::{Acked, Retried, Sought};

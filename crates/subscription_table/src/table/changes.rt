@@ -1,26 +1,22 @@
 //! The calls that change subscriptions: they make and close them, commit to them, and move them over the
 //! log.
-ghost use Rattle.std.specs.Prelude.{◌≡◌, ◌+◌, ◌^◌, ◌<◌, ◌≤◌, true, length, is_ok, is_some, OnErr, All, if◌then◌else◌, IfSome};
+ghost use Rattle.std.specs.Prelude.{◌≡◌, ◌+◌, ◌^◌, ◌<◌, ◌≤◌, true, length, is_ok, is_some, OnErr, All, if◌then◌else◌, IfOk};
 ghost use Rattle.stream_ident.specs.declared.limits.TheConstants.{MOST_EVENTS, PULL_EVENTS};
 ghost use Rattle.stream_ident.specs.Words.{past, Performs};
 ghost use Rattle.queue_cache.specs.Cache.{high};
 ghost use Rattle.pubsub_registry.specs.Registry.{next_number};
 ghost use Rattle.consumer_grain.specs.Subscriptions.{committed, rises_from, advanced};
 ghost use Rattle.subscription_table.specs.Table.{add_rule, close, imply, state_at, subscribe, with_state, registration_at, rewound_all, stepped, AreRewound};
-ghost use Rattle.subscription_table.specs.Progress.{ack, next_event, retry, IsFound, handled_at};
-ghost use Rattle.partition_queue.specs.Queue.{TokensRise};
-ghost use Rattle.queue_mapper.specs.Place.{tag_of};
-ghost use Rattle.subscription_table.specs.Handled.{first_of, IsBound};
+ghost use Rattle.pulling_agent.specs.Agent.{if_current};
+ghost use Rattle.pulling_agent.specs.Progress.{ack, next_event, retry, IsFound};
 
 use super::{
     SubscriptionTable, add_rows, first_past, refresh, rewind_each, rewind_these, stream_tag,
 };
-use crate::told::{Acked, Retried, Sought};
-use cache_cursor::next;
 use consumer_grain::SubState;
 use partition_queue::{PartitionQueue, Span};
 use pubsub_registry::{Added, Closing, Implied, RuleAdded};
-use queue_cache::QueueCache;
+use pulling_agent::{Acked, Agent, Retried, Sought, StaleAgent};
 use std::alloc::{AllocError, Global};
 use stream_ident::{GrainId, Name, Row, StreamId, SubName, Token};
 
@@ -162,25 +158,34 @@ impl SubscriptionTable {
         Ok(())
     }
 
-    /// The next event of a cache that a subscription is owed. Where the cache has nothing more for it, its
+    /// The next event of the agent's cache that a subscription is owed. Where the cache has nothing more for it, its
     /// cursor goes to the end of the cache, and its resume too unless something is outstanding. It takes no
     /// memory.
-    pub fn next_event(&mut self, number: usize, cache: &QueueCache, outstanding: bool) -> Sought
+    ///
+    /// # Errors
+    /// `StaleAgent` where the caller names another generation than the agent's. Nothing has changed then.
+    pub fn deliver(
+        &mut self,
+        number: usize,
+        agent: &Agent,
+        generation: u64,
+        outstanding: bool,
+    ) -> Result<Sought, StaleAgent>
         requires within { number < length self.old.registry.names }
-        requires cursor { (state_at self.old number).is_open ≡ true → cache.now.low ≤ (state_at self.old number).cursor }
-        requires high { high cache.now + 2 < 2 ^ 64 }
-        ensures sought { (self.new, result) ≡ stepped self.old number (next_event cache.now (state_at self.old number) (registration_at self.old number).stream outstanding) }
-        ensures found { IsFound cache.now (state_at self.old number) result }
+        requires cursor { (state_at self.old number).is_open ≡ true → agent.now.cache.low ≤ (state_at self.old number).cursor }
+        requires high { high agent.now.cache + 2 < 2 ^ 64 }
+        ensures sought { (self.new, result) ≡ if_current agent.now generation self.old (stepped self.old number (next_event agent.now.cache (state_at self.old number) (registration_at self.old number).stream outstanding)) }
+        ensures found { IfOk result (IsFound agent.now.cache (state_at self.old number)) }
     {
         self.last = number;
         let stream = self.registry.stream(number);
         let tag = self.tags[number];
         let state = &mut self.states[number];
-        let sought = next_event(state, cache, stream, tag, outstanding);
+        let sought = agent.deliver(generation, state, stream, tag, outstanding)?;
         if let Sought::Nothing = sought {
             refresh(&mut self.resumes, number, &self.states[number]);
         }
-        sought
+        Ok(sought)
     }
 
     /// The cursor of a subscription goes past an event that was delivered. It takes no memory.
@@ -194,26 +199,44 @@ impl SubscriptionTable {
 
     /// What a subscription hasn't acknowledged is sought again: its cursor goes back to its resume, where
     /// it is open. It takes no memory.
-    pub fn retry(&mut self, number: usize) -> Retried
+    ///
+    /// # Errors
+    /// `StaleAgent` where the caller names another generation than the agent's. Nothing has changed then.
+    pub fn retry(
+        &mut self,
+        number: usize,
+        agent: &Agent,
+        generation: u64,
+    ) -> Result<Retried, StaleAgent>
         requires { number < length self.old.registry.names }
-        ensures { (self.new, result) ≡ stepped self.old number (retry (state_at self.old number)) }
+        ensures { (self.new, result) ≡ if_current agent.now generation self.old (stepped self.old number (retry (state_at self.old number))) }
     {
-        retry(&mut self.states[number])
+        agent.retry(generation, &mut self.states[number])
     }
 
     /// Acknowledges what a subscription is owed up to and with a handled event, which its token names. The
     /// event is found in a logarithmic number of steps. It takes no memory.
-    pub fn ack(&mut self, number: usize, queue: &PartitionQueue, token: &Token) -> Acked
+    ///
+    /// # Errors
+    /// `StaleAgent` where the caller names another generation than the agent's. Nothing has changed then.
+    pub fn ack(
+        &mut self,
+        number: usize,
+        agent: &Agent,
+        generation: u64,
+        queue: &PartitionQueue,
+        token: &Token,
+    ) -> Result<Acked, StaleAgent>
         requires within { number < length self.old.registry.names }
         requires handled { All (λ position. position < length queue.now.events) (state_at self.old number).handled }
         requires few { length queue.now.events ≤ MOST_EVENTS }
-        ensures { (self.new, result) ≡ stepped self.old number (ack (state_at self.old number) queue.now token.now) }
+        ensures { (self.new, result) ≡ if_current agent.now generation self.old (stepped self.old number (ack (state_at self.old number) queue.now token.now)) }
     {
-        let acked = ack(&mut self.states[number], queue, token);
+        let acked = agent.ack(generation, &mut self.states[number], queue, token)?;
         if let Acked::Acked = acked {
             refresh(&mut self.resumes, number, &self.states[number]);
         }
-        acked
+        Ok(acked)
     }
 
     /// The cursors of all open subscriptions go back to their resumes. It is one walk, and takes no memory.
@@ -230,92 +253,4 @@ impl SubscriptionTable {
     {
         rewind_these(self.states.as_mut_slice(), numbers);
     }
-}
-
-/// The next event of a cache that the subscription to a stream is owed, as `SubscriptionTable::next_event`
-/// says. The tag is that of the stream.
-fn next_event(
-    state: &mut SubState,
-    cache: &QueueCache,
-    stream: &StreamId,
-    tag: u8,
-    outstanding: bool,
-) -> Sought
-    requires cursor { state.old.is_open ≡ true → cache.now.low ≤ state.old.cursor }
-    requires tag { tag ≡ tag_of stream.now }
-    ensures sought { (state.new, result) ≡ next_event cache.now state.old stream.now outstanding }
-    ensures found { IsFound cache.now state.old result }
-{
-    if !state.is_open() {
-        return Sought::Closed;
-    }
-    let start = state.start();
-    match next(cache, state.cursor(), stream, tag, &start) {
-        Some(position) => Sought::Next { position },
-        None => {
-            state.catch_up(cache.high(), outstanding);
-            Sought::Nothing
-        }
-    }
-}
-
-/// What the subscription hasn't acknowledged is sought again: its cursor goes back to its resume.
-fn retry(state: &mut SubState) -> Retried
-    ensures { (state.new, result) ≡ retry state.old }
-{
-    if !state.is_open() {
-        return Retried::Closed;
-    }
-    state.rewind();
-    Retried::Rewound
-}
-
-/// Acknowledges what the subscription is owed up to and with a handled event, which its token names.
-fn ack(state: &mut SubState, queue: &PartitionQueue, token: &Token) -> Acked
-    requires { All (λ position. position < length queue.now.events) state.old.handled }
-    ensures { (state.new, result) ≡ ack state.old queue.now token.now }
-{
-    if !state.is_open() {
-        return Acked::Closed;
-    }
-    // The queue says with its length that tokens rise, which the search by token rests on.
-    prove!(state.past() <= queue.len());
-    let Some(position) = handled_at(state.handled(), queue, token) else {
-        return Acked::NotHandled;
-    };
-    state.acknowledge(position);
-    Acked::Acked
-}
-
-/// The handled position whose event has a token, found in a logarithmic number of steps.
-fn handled_at(handled: &[usize], queue: &PartitionQueue, token: &Token) -> Option<usize>
-    requires rising { rises_from 0 handled.now ≡ true }
-    requires there { All (λ position. position < length queue.now.events) handled.now }
-    requires tokens { TokensRise queue.now }
-    ensures found { result ≡ first_of (handled_at handled.now queue.now token.now) }
-    ensures there { IfSome result (λ position. position < length queue.now.events) }
-{
-    let place = lower_bound(handled, queue, token);
-    let position = *handled.get(place)?;
-    (queue.token_at(position) == *token).then_some(position)
-}
-
-/// How many of the handled positions have tokens before this one: the first of the others.
-fn lower_bound(handled: &[usize], queue: &PartitionQueue, token: &Token) -> usize
-    requires rising { rises_from 0 handled.now ≡ true }
-    requires there { All (λ position. position < length queue.now.events) handled.now }
-    requires tokens { TokensRise queue.now }
-    ensures { IsBound handled.now queue.now token.now result }
-{
-    let mut low = 0;
-    let mut high = handled.len();
-    while low < high {
-        let middle = low + (high - low) / 2;
-        if queue.token_at(handled[middle]).is_before(token) {
-            low = middle + 1;
-        } else {
-            high = middle;
-        }
-    }
-    low
 }

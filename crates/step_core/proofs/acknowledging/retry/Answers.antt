@@ -1,27 +1,40 @@
 use Rattle.std.proofs.Common.{◌∙◌, ap}
 use Rattle.stream_model.specs.declared.plain.PlainPartition.{PlainPartition}
 use Rattle.stream_model.specs.Replies.{Reply}
-use Rattle.subscription_table.specs.Progress.{retry}
+use Rattle.pulling_agent.proofs.CurrentLemmas.{done-current, done-stale}
+use Rattle.pulling_agent.specs.Progress.{retry}
 use Rattle.subscription_table.specs.Table.{state_at}
 use Rattle.step_core.specs.PlainOf.{plain_of}
-use Rattle.step_core.proofs.RetryOps.{retry-nothing, retry-performs, retry-replaced, retry-stays, stepped-assembled}
+use Rattle.step_core.proofs.RetryOps.{refused-assembled, retry-nothing, retry-performs, retry-refused, retry-stays, rewinding, stepped-assembled}
 use Rattle.step_core.proofs.acknowledging.retry.Goals as goal
 
-pub returns-in-Err-clause-performs : goal.returns-in-Err-clause-performs
-returns-in-Err-clause-performs c = retry-replaced c.args.parts.now c.args.generation c.args.sub.now c.in-Err.field-0 c.in-Err.ensures
+pub returns-in_default-clause-performs : goal.returns-in_default-clause-performs
+returns-in_default-clause-performs c =
+    ap {B = PlainPartition × Reply} (λ told. (plain_of c.args.parts.now, told)) c.unknown.ensures.reply
+    ∙ retry-nothing c.args.parts.now c.args.generation c.args.sub.now c.requires.records c.in_default.ensures.number
 
-pub returns-in_default-find-clause-performs : goal.returns-in_default-find-clause-performs
-returns-in_default-find-clause-performs c =
-    retry-nothing c.args.parts.now c.args.generation c.args.sub.now c.in_default.field-0 c.in_default.ensures c.requires.records c.in_default-find.ensures.number
-
-pub returns-clause-assembled : goal.returns-clause-assembled
-returns-clause-assembled c =
+pub returns-in-Ok-clause-assembled : goal.returns-in-Ok-clause-assembled
+returns-in-Ok-clause-assembled c =
     let parts = c.args.parts.now in
-    stepped-assembled parts c.in-Some.number (retry (state_at parts.subs c.in-Some.number)) c.retry.new.self c.retry.result c.requires.records c.in-Some.ensures.within
-    (retry-stays (state_at parts.subs c.in-Some.number)) c.requires.assembled c.retry.ensures
+    let done = done-current parts.agent c.args.generation parts.subs (rewinding parts c.in-Some.number) c.retry.new.self c.in-Ok.retried c.in-Ok.ensures in
+    stepped-assembled parts c.in-Some.number (retry (state_at parts.subs c.in-Some.number)) c.retry.new.self c.in-Ok.retried c.requires.records c.in-Some.ensures.within
+    (retry-stays (state_at parts.subs c.in-Some.number)) c.requires.assembled done.is
 
-pub returns-clause-performs : goal.returns-clause-performs
-returns-clause-performs c =
+pub returns-in-Ok-clause-performs : goal.returns-in-Ok-clause-performs
+returns-in-Ok-clause-performs c =
     let parts = c.args.parts.now in
+    let done = done-current parts.agent c.args.generation parts.subs (rewinding parts c.in-Some.number) c.retry.new.self c.in-Ok.retried c.in-Ok.ensures in
     ap {B = PlainPartition × Reply} (λ told. (plain_of (record parts { subs = c.retry.new.self }), told)) c.told_of_retry.ensures.reply
-    ∙ retry-performs parts c.args.generation c.args.sub.now c.in_default.field-0 c.in_default.ensures c.in-Some.number c.retry.new.self c.retry.result c.requires.records c.in-Some.ensures.number c.retry.ensures
+    ∙ retry-performs parts c.args.generation c.args.sub.now c.in-Some.number c.retry.new.self c.in-Ok.retried c.requires.records c.in-Some.ensures.number done
+
+pub returns-in-Err-clause-assembled : goal.returns-in-Err-clause-assembled
+returns-in-Err-clause-assembled c =
+    let parts = c.args.parts.now in
+    let refused = done-stale parts.agent c.args.generation parts.subs (rewinding parts c.in-Some.number) c.retry.new.self c.in-Err.field-0 c.in-Err.ensures in
+    refused-assembled parts c.args.generation c.retry.new.self c.in-Err.field-0 refused c.requires.assembled
+
+pub returns-in-Err-clause-performs : goal.returns-in-Err-clause-performs
+returns-in-Err-clause-performs c =
+    let parts = c.args.parts.now in
+    let refused = done-stale parts.agent c.args.generation parts.subs (rewinding parts c.in-Some.number) c.retry.new.self c.in-Err.field-0 c.in-Err.ensures in
+    retry-refused parts c.args.generation c.args.sub.now c.retry.new.self c.in-Err.field-0 refused

@@ -11,7 +11,7 @@ abbrev told : ℕ → Result ℕ StaleAgent
 told count = Ok count
 
 -- who names the agent's own generation isn't refused
-not-refused : (a new : PlainAgent) (generation : ℕ) (taken : PlainAgent × ℕ) (stale : StaleAgent) → generation ≡ a.generation → ◌≡◌ {A = Pulled} (new, Err stale) (if_current a generation taken) → ⊥
+not-refused : (a new : PlainAgent) (generation : ℕ) (taken : PlainAgent × ℕ) (stale : StaleAgent) → generation ≡ a.generation → ◌≡◌ {A = Pulled} (new, Err stale) (if_current a generation a taken) → ⊥
 not-refused a new generation taken stale current is =
     let own = ap {B = Pulled} (λ (own : Bool). if own then (taken.0, Ok taken.1) else (a, Err (record { now = a.generation }))) (eq-eqb generation a.generation current) in
     let same : Err stale ≡ told taken.1 = ap (λ (done : Pulled). done.1) (is ∙ own) in cc

@@ -1,7 +1,7 @@
 use Rattle.std.proofs.Common.{◌<◌, length, arith}
 use Rattle.std.proofs.lemmas.List.Elements.{recursion_from_All}
 use Rattle.stream_ident.proofs.WordLemmas.{past_from-within}
-use Rattle.subscription_table.proofs.table.changes.ack.Goals as goal
+use Rattle.pulling_agent.proofs.subscriptions.ack.Goals as goal
 
 pub prove-unreachable-requires : goal.prove-unreachable-requires
 prove-unreachable-requires c =

@@ -1,7 +1,7 @@
 use Rattle.std.proofs.Common.{◌∙◌, ap, arith}
 use Rattle.stream_ident.specs.Token.{same_token}
-use Rattle.subscription_table.proofs.HandledLemmas.{found_at, not_there}
-use Rattle.subscription_table.proofs.table.changes.handled_at.Goals as goal
+use Rattle.pulling_agent.proofs.HandledLemmas.{found_at, not_there}
+use Rattle.pulling_agent.proofs.subscriptions.handled_at.Goals as goal
 
 pub returns-in_err-position-clause-found : goal.returns-in_err-position-clause-found
 returns-in_err-position-clause-found c =

@@ -12,8 +12,8 @@ use Rattle.stream_ident.specs.Token.{same_token, token_lt}
 use Rattle.consumer_grain.specs.Subscriptions.{rises_from}
 use Rattle.partition_queue.specs.Queue.{PlainQueue, TokensRise, event_at, token_at}
 use Rattle.consumer_grain.proofs.NumberLemmas.{rises_from-at_least}
-use Rattle.subscription_table.specs.Progress.{handled_at}
-use Rattle.subscription_table.specs.Handled.{first_of, IsBound}
+use Rattle.pulling_agent.specs.Progress.{handled_at}
+use Rattle.pulling_agent.specs.Handled.{first_of, IsBound}
 use Rattle.stream_ident.proofs.TokenLemmas.{token_lt-trans}
 
 same_no_less : (a b : Token) → token_lt a b ≡ true → same_token a b ≡ false

@@ -7,12 +7,12 @@ use Rattle.partition_queue.specs.Queue.{PlainQueue, token_at}
 use Rattle.queue_cache.specs.Cache.{PlainCache, high}
 use Rattle.cache_cursor.specs.Cursor.{next_in}
 use Rattle.consumer_grain.specs.Subscriptions.{PlainState, acknowledged, caught_up, rewound}
-use Rattle.subscription_table.specs.declared.told.Acked.{Acked}
-use Rattle.subscription_table.specs.declared.told.Acked.TheVariants as ack_told
-use Rattle.subscription_table.specs.declared.told.Retried.{Retried}
-use Rattle.subscription_table.specs.declared.told.Retried.TheVariants as retry_told
-use Rattle.subscription_table.specs.declared.told.Sought.{Sought}
-use Rattle.subscription_table.specs.declared.told.Sought.TheVariants as sought
+use Rattle.pulling_agent.specs.declared.told.Acked.{Acked}
+use Rattle.pulling_agent.specs.declared.told.Acked.TheVariants as ack_told
+use Rattle.pulling_agent.specs.declared.told.Retried.{Retried}
+use Rattle.pulling_agent.specs.declared.told.Retried.TheVariants as retry_told
+use Rattle.pulling_agent.specs.declared.told.Sought.{Sought}
+use Rattle.pulling_agent.specs.declared.told.Sought.TheVariants as sought
 
 -- with nothing more for it in the cache, it has caught up
 abbrev pub next_at : PlainCache → PlainState → Bool → Option ℕ → PlainState × Sought

@@ -1,7 +1,7 @@
 use Rattle.std.proofs.Common.{◌≡◌, ℕ, ◌-◌, ◌<◌, ◌≤◌, true, false, length, get_or}
 use Rattle.stream_ident.specs.Token.{token_lt}
 use Rattle.partition_queue.specs.Queue.{token_at}
-use Rattle.subscription_table.proofs.table.changes.lower_bound.Given as goal
+use Rattle.pulling_agent.proofs.subscriptions.lower_bound.Given as goal
 
 -- the tokens below low are less than the one sought, and those from high on aren't
 abbrev pub invariant-loop-low : goal.invariant-loop-low

@@ -1,8 +1,8 @@
 use Rattle.std.proofs.Common.{◌≡◌, ◌+◌, ◌-◌, ◌/◌, ◌<◌, true, false, length, get_or, arith}
 use Rattle.stream_ident.specs.Token.{token_lt}
 use Rattle.partition_queue.specs.Queue.{token_at}
-use Rattle.subscription_table.proofs.HandledLemmas.{less_below, others_above}
-use Rattle.subscription_table.proofs.table.changes.lower_bound.Goals as goal
+use Rattle.pulling_agent.proofs.HandledLemmas.{less_below, others_above}
+use Rattle.pulling_agent.proofs.subscriptions.lower_bound.Goals as goal
 
 pub loop-low-preserved-then-is_before : goal.loop-low-preserved-then-is_before
 loop-low-preserved-then-is_before c =
