@@ -163,6 +163,9 @@ const GRAINS: [(Read, &str); 6] = [
     ),
 ];
 
+const BAD_TOKEN: &str =
+    "bad token: a token is two decimal numbers without leading zeros, joined by a full stop, as 12.0";
+
 /// A token has one text.
 const TOKENS: [(Read, &str); 14] = [
     (Read::Token(b"7.2"), "Token { seq: 7, idx: 2 }"),
@@ -170,18 +173,18 @@ const TOKENS: [(Read, &str); 14] = [
         Read::Token(b"18446744073709551615.4294967295"),
         "Token { seq: 18446744073709551615, idx: 4294967295 }",
     ),
-    (Read::Token(b""), "bad token"),
-    (Read::Token(b"7"), "bad token"),
-    (Read::Token(b"7."), "bad token"),
-    (Read::Token(b".2"), "bad token"),
-    (Read::Token(b"07.2"), "bad token"),
-    (Read::Token(b"7.02"), "bad token"),
-    (Read::Token(b"+7.2"), "bad token"),
-    (Read::Token(b"7.+2"), "bad token"),
-    (Read::Token(b"7.2.3"), "bad token"),
-    (Read::Token(b"7 .2"), "bad token"),
-    (Read::Token(b"7.4294967296"), "bad token"),
-    (Read::Token(b"18446744073709551616.0"), "bad token"),
+    (Read::Token(b""), BAD_TOKEN),
+    (Read::Token(b"7"), BAD_TOKEN),
+    (Read::Token(b"7."), BAD_TOKEN),
+    (Read::Token(b".2"), BAD_TOKEN),
+    (Read::Token(b"07.2"), BAD_TOKEN),
+    (Read::Token(b"7.02"), BAD_TOKEN),
+    (Read::Token(b"+7.2"), BAD_TOKEN),
+    (Read::Token(b"7.+2"), BAD_TOKEN),
+    (Read::Token(b"7.2.3"), BAD_TOKEN),
+    (Read::Token(b"7 .2"), BAD_TOKEN),
+    (Read::Token(b"7.4294967296"), BAD_TOKEN),
+    (Read::Token(b"18446744073709551616.0"), BAD_TOKEN),
 ];
 
 /// A number has one text, and a text has two parts where there is a colon.
