@@ -1,14 +1,17 @@
-//! A shop with three tills, each of which publishes what it sells by a producer of its own, in a thread of its own.
-use anyhow::{Result, bail};
-use std::alloc::Global;
-use std::sync::Arc;
-use std::thread::{join, spawn_with};
+//! A shop with two tills, each of which publishes what it sells by a producer of its own.
+ghost use Rattle.std.specs.Prelude.{◌≡◌, IfOk};
+
+use anyhow::Result;
+use std::alloc::{AllocError, Global};
+use std::sync::{Arc, Wait};
+use std::thread;
+use std::thread::{PromisedHandle, Threads};
 use streams::{
-    Closed, Config, Counting, Decode, Encode, GrainId, Host, Service, StartFrom, StreamId,
-    StreamToken, Subscription,
+    Closed, Config, Counting, Decode, Encode, GrainId, Host, Payload, Producer, ProducerPromise,
+    PublishError, Service, StartFrom, StreamId, StreamToken, Subscription,
 };
 
-/// Sells at two tills at once, audits that, sells at the third one, and prints what they have taken.
+/// Sells at both tills at once, audits that, and prints what they have taken.
 pub fn run<R: Host + Print>(rt: R) -> Result<()> {
     let gate = Arc::new(rt.alloc(), Counting)?;
     let mut service = Service::open(rt, &Config::new(4, 2), gate)?;
@@ -16,12 +19,32 @@ pub fn run<R: Host + Print>(rt: R) -> Result<()> {
     let all = service.subscribe(sales, GrainId::new(b"ledger", b"shop")?, StartFrom::Latest)?;
     let first = sell(&rt, &mut service, sales)?;
     audit(&rt, &mut service, sales, first)?;
-    sell_at_night(&rt, &mut service, sales)?;
-    service.settle()?;
     let closed = service.close();
     let cents = taken(rt.alloc(), &closed, &all)?;
     println!(rt; "they have taken {cents} cents")?;
     Ok(())
+}
+
+// What a till comes to in its thread: its producer, and the first event that it has published.
+type Till<R> = PromisedHandle<
+    (Producer<R, Counting>, Result<StreamToken, PublishError>),
+    ProducerPromise<R, Counting>,
+>;
+
+// A till sells in a thread of its own.
+fn open<R: Threads + Wait + Copy + Send + 'static>(
+    rt: &R,
+    mut till: Producer<R, Counting>,
+    sales: StreamId,
+    sale: Payload,
+) -> Result<Till<R>, AllocError>
+    ensures { IfOk result (λ thread. thread.promise.0.value ≡ till) }
+{
+    let promise = till.promise();
+    Ok(thread::spawn_with(rt, promise, move || {
+        let sold = till.publish(sales, &[sale]);
+        (till, sold)
+    })?)
 }
 
 // One till sells, and the other one takes something back meanwhile. It gives the first of both.
@@ -31,20 +54,12 @@ fn sell<R: Host>(
     sales: StreamId,
 ) -> Result<StreamToken> {
     let (sale, refund) = (450i64.encode()?, (-120i64).encode()?);
-    let (mut left, mut right) = (service.producer()?, service.producer()?);
-    let ((left, sold), (right, refunded)) = join(
-        rt,
-        move || {
-            let sold = left.publish(sales, &[sale]);
-            (left, sold)
-        },
-        move || {
-            let refunded = right.publish(sales, &[refund]);
-            (right, refunded)
-        },
-    );
-    service.take_back(left);
-    service.take_back(right);
+    let till = open(rt, service.producer()?, sales, sale)?;
+    let mut other = service.producer()?;
+    let refunded = other.publish(sales, &[refund]);
+    let (till, sold) = till.join(rt);
+    service.take_back(till);
+    service.take_back(other);
     let (sold, refunded) = (sold?, refunded?);
     if refunded.token.is_before(&sold.token) {
         return Ok(refunded);
@@ -65,28 +80,6 @@ fn audit<R: Host + Print>(
     let audited = service.unsubscribe(&audited)?;
     println!(rt; "both tills have sold: {audited} sales are audited")?;
     Ok(())
-}
-
-// A till sells in a thread that the service goes on beside, and is joined later.
-fn sell_at_night<R: Host>(
-    rt: &R,
-    service: &mut Service<R, Counting>,
-    sales: StreamId,
-) -> Result<()> {
-    let sale = 170i64.encode()?;
-    let mut till = service.producer()?;
-    let promise = till.promise();
-    let Ok(night) = spawn_with(rt, promise, move || {
-        let sold = till.publish(sales, &[sale]);
-        (till, sold)
-    }) else {
-        bail!("there is no thread for a till");
-    };
-    let settled = service.settle();
-    let (till, sold) = night.join(rt);
-    service.take_back(till);
-    sold?;
-    Ok(settled?)
 }
 
 // What a subscription has handled comes to, in cents.

@@ -21,8 +21,7 @@ use turnstile::Refusal;
 /// Publishes to the streams of a service beside it, also in another thread.
 ///
 /// [`Service::producer`](crate::Service::producer) makes it, and [`Service::take_back`](crate::Service::take_back) takes
-/// it in again; one that is dropped is lost, and `close` then answers `NotAll`. The closures of
-/// [`join_mut`](std::thread::join_mut) may borrow producers. One that goes to a thread of its own comes back by a
+/// it in again; one that is dropped is lost, and `close` then answers `NotAll`. One that goes to a thread comes back by a
 /// [`promise`](Producer::promise).
 ///
 /// A contract sees it as its passes, in the order of the queues.
@@ -75,7 +74,8 @@ impl<R: Wait + Copy, G: Gate> Producer<R, G> {
     }
 
     /// What a thread promises that is given this producer by [`spawn_with`](std::thread::spawn_with), and gives it back
-    /// beside what it comes to.
+    /// beside what it comes to. A function that starts one asks `Threads + Wait + Copy + Send + 'static` of its runtime:
+    /// under the many bounds of a [`Host`](crate::Host) no search shows that the producer may be sent.
     pub fn promise(&self) -> ProducerPromise<R, G>
         ensures { result.0.value ≡ self.now }
     {
