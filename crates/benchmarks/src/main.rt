@@ -1,17 +1,13 @@
-//! Measures the partition, the tag scan, the calls of a shared partition, how many events a service handles in a second,
-//! and how long one of them takes.
+//! Measures a partition, how many events a service handles in a second, and how long one of them takes.
 //!
-//! Without a word on the command line it only sees that the ways that it compares agree, and that a partition and a
-//! service answer as they have to. With the word `time` it prints figures: of what the words `partition`, `tags`, `calls`,
-//! `throughput` and `latency` name, or of all.
+//! Without a word on the command line it only sees that a partition and a service answer as they have to. With the word
+//! `time` it prints figures: of what the words `partition`, `throughput` and `latency` name, or of all.
 #![tactic(auto)]
 
-mod calls;
 mod consumers;
 mod latency;
 mod load;
 mod partition;
-mod tags;
 mod tally;
 mod throughput;
 mod words;
@@ -35,8 +31,6 @@ fn main(rt: HostRuntime) -> Result<()> {
 /// Sees that all is answered as it has to be.
 fn check<R: Host>(rt: &R, alloc: Global) -> Result<()> {
     partition::check(rt, alloc)?;
-    tags::check(rt, alloc)?;
-    calls::check(rt, alloc)?;
     throughput::check(rt, alloc)?;
     latency::check(rt, alloc)
 }
@@ -46,12 +40,6 @@ fn time<R: Host>(rt: &R, alloc: Global, words: &[String]) -> Result<()> {
     let is_all = words.len() == 1;
     if is_all || has(words, "partition") {
         partition::time(rt, alloc)?;
-    }
-    if is_all || has(words, "tags") {
-        tags::time(rt, alloc)?;
-    }
-    if is_all || has(words, "calls") {
-        calls::time(rt, alloc)?;
     }
     if is_all || has(words, "throughput") {
         throughput::time(rt, alloc, words)?;

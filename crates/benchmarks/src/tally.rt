@@ -7,7 +7,7 @@ use std::sync::atomic::{AtomicU64, Ordering};
 use std::time::{Duration, Instant};
 use std::{io, thread};
 use stream_ident::parse_number;
-use streams::{Event, Gate, GrainId, Payload, SubName};
+use streams::{Event, Gate, Payload, SubName};
 
 /// How often a thread looks at a count before it gives up, which is after some minutes.
 const MOST_LOOKS: u32 = 200_000;
@@ -32,7 +32,7 @@ pub struct Tally<R> {
 }
 
 impl<R: Clock + Drop + Send + Sync> Gate for Tally<R> {
-    fn handle(&self, _grain: &GrainId, _sub: &SubName, event: &Event, note: u64) -> u64 {
+    fn handle(&self, _sub: &SubName, event: &Event, note: u64) -> u64 {
         let worked = work(note.saturating_add(1), self.steps);
         let place = self.handled.fetch_add(1, Ordering::SeqCst) as usize;
         if let Some(latency) = self.latencies.get(place) {

@@ -1,6 +1,6 @@
 -- Events that tags rule out, first places in a block and in the cache, and what `first_at` gives for them.
-use Rattle.std.proofs.Common.{◌≡◌, ◌≢◌, ℕ, suc, [], ◌∷◌, map, refl, ◌+◌, ◌-◌, ◌*◌, ◌<◌, ◌≤◌, Bool, true, false, List, length, get_or, take, drop, Some, None, sym, ◌∙◌, ap, subst, arith, ⊎_elim, ◌↔◌, length-drop, length-take}
-use Rattle.std.proofs.lemmas.Bool.{cases_Bool, cases_lt}
+use Rattle.std.proofs.Common.{◌≡◌, ◌≢◌, ℕ, suc, [], ◌∷◌, map, set, inl, inr, get_or-set_same, get_or-set_other, refl, ◌+◌, ◌-◌, ◌*◌, ◌<◌, ◌≤◌, Bool, true, false, List, length, get_or, take, drop, Some, None, sym, ◌∙◌, ap, subst, arith, ⊎_elim, ◌↔◌, length-drop, length-take}
+use Rattle.std.proofs.lemmas.Bool.{both_ways, cases_Bool, cases_eq, cases_lt}
 use Rattle.std.proofs.lemmas.List.{get_or-map, get_or-take, get_or-drop, get_or_read}
 use Rattle.std.specs.Prelude.{unwrap_or}
 use Rattle.std.specs.Int.{bit_at}
@@ -10,10 +10,12 @@ use Rattle.stream_ident.specs.declared.token.Token.{Token}
 use Rattle.stream_ident.specs.Event.{is_owed, no_event}
 use Rattle.stream_ident.specs.Words.{first_at}
 use Rattle.stream_ident.specs.declared.limits.TheConstants.{BLOCK_EVENTS}
+use Rattle.queue_cache.specs.Cache.{event_at, high, PlainCache}
 use Rattle.queue_mapper.specs.Place.{bare, tag_of, tags_of}
 use Rattle.tag_scan.specs.Tags.{IsAbsentBetween}
 use Rattle.stream_ident.specs.Name.{same_stream}
 use Rattle.stream_ident.proofs.FirstLemmas.{first_at-nowhere, first_at-there}
+use Rattle.cache_cursor.specs.Cursor.{AreMarked}
 use Rattle.cache_cursor.specs.Seek.{NoneBetween, IsFirst, NoneMarked}
 use Rattle.stream_ident.proofs.SameValues.{same_stream-equal}
 
@@ -191,3 +193,34 @@ least-none passes events low high to all none =
 pub first_at-bare : (passes : Event → Bool) → ((event : Event) → passes (bare event) ≡ passes event) → (n : ℕ) (events : List Event) → first_at passes n (map bare events) ≡ first_at passes n events
 first_at-bare passes same n [] = refl
 first_at-bare passes same n (event ∷ events) = rw (same event, first_at-bare passes same (suc n) events) refl
+
+-- ---- tags that are marked
+
+-- the tag of each event from a position on, and before another, is marked
+abbrev pub IsMarkedUpTo : PlainCache → ℕ → ℕ → List Bool → Type 0
+IsMarkedUpTo cache from to marks = (at : ℕ) → from ≤ at → at < to → get_or marks (tag_of (event_at cache at).stream) false ≡ true
+
+pub marked-more : (cache : PlainCache) (from to tag : ℕ) (event : Event) (marks : List Bool) → tag < length marks → event ≡ event_at cache to → tag ≡ tag_of event.stream → IsMarkedUpTo cache from to marks → IsMarkedUpTo cache from (to + 1) (set marks tag true)
+marked-more cache from to tag event marks within read is before at reached below =
+    elim (cases_eq (tag_of (event_at cache at).stream) tag) [
+      | inl same ↦ ap (λ k. get_or (set marks tag true) k false) same ∙ get_or-set_same marks tag true false within
+      | inr other ↦
+          get_or-set_other marks tag (tag_of (event_at cache at).stream) true false other
+          ∙ before at reached (elim (cases_lt at to) [
+            | inl low ↦ low
+            | inr high ↦
+                let here : at ≡ to = omega arith in
+                absurd (other (ap (λ k. tag_of (event_at cache k).stream) here ∙ ap (λ e. tag_of e.stream) (sym read) ∙ sym is))
+          ])
+    ]
+
+pub marked-all : (cache : PlainCache) (from to : ℕ) (marks : List Bool) → cache.low ≤ from → high cache ≤ to → IsMarkedUpTo cache from to marks → AreMarked cache from marks
+marked-all cache from to marks low end marked at stream start reached unmarked =
+    sym (next_none (λ event. is_owed stream start event) cache.events at cache.low cache.low refl
+    (λ place past below within.
+    unowed stream start (get_or cache.events place no_event)
+    (λ same.
+    let back : place ≡ cache.low + place - cache.low = omega arith in
+    let tagged = marked (cache.low + place) (omega arith) (omega arith) in
+    both_ways (get_or marks (tag_of stream) false) unmarked
+    (ap (λ k. get_or marks k false) (sym same ∙ ap (λ k. tag_of (get_or cache.events k no_event).stream) back) ∙ tagged))))

@@ -1,11 +1,12 @@
 -- What a cursor seeks in a cache.
-use Rattle.std.specs.Prelude.{ℕ, ◌-◌, not, drop, Option, unwrap_or}
+use Rattle.std.specs.Prelude.{◌≡◌, ℕ, ◌-◌, ◌≤◌, Bool, false, not, List, get_or, drop, Option, None, unwrap_or}
 use Rattle.stream_ident.specs.declared.ident.StreamId.{StreamId}
 use Rattle.stream_ident.specs.declared.token.Token.{Token}
 use Rattle.stream_ident.specs.Event.{is_owed}
 use Rattle.stream_ident.specs.Token.{token_lt}
 use Rattle.stream_ident.specs.Words.{first_at}
 use Rattle.queue_cache.specs.Cache.{PlainCache, high}
+use Rattle.queue_mapper.specs.Place.{tag_of}
 
 -- the least position at or past this one whose event is of the stream and not before the start
 abbrev pub next_in : PlainCache → ℕ → StreamId → Token → Option ℕ
@@ -14,3 +15,8 @@ next_in c from stream start = first_at (λ event. is_owed stream start event) fr
 -- the least position whose token isn't less, or high
 abbrev pub lower_in : PlainCache → Token → ℕ
 lower_in c token = unwrap_or (first_at (λ event. not (token_lt event.token token)) c.low c.events) (high c)
+
+-- where the tag of a stream isn't marked, the cache has no event of the stream from a position on
+abbrev pub AreMarked : PlainCache → ℕ → List Bool → Type 0
+AreMarked c from marks =
+    (at : ℕ) (stream : StreamId) (start : Token) → from ≤ at → get_or marks (tag_of stream) false ≡ false → next_in c at stream start ≡ None

@@ -8,13 +8,16 @@ ghost use Rattle.stream_ident.specs.Event.{is_owed};
 ghost use Rattle.stream_ident.specs.Token.{token_lt};
 ghost use Rattle.queue_mapper.specs.Place.{tag_of};
 ghost use Rattle.queue_cache.specs.Cache.{high};
-ghost use Rattle.cache_cursor.specs.Cursor.{next_in, lower_in};
+ghost use Rattle.cache_cursor.specs.Cursor.{next_in, lower_in, AreMarked};
 ghost use Rattle.cache_cursor.specs.Seek.{NoneBetween, IsFirst, NoneMarked, IsNextMark};
 
 use queue_cache::{Block, QueueCache};
 use queue_mapper::EventHeader;
 use stream_ident::{BLOCK_EVENTS, StreamId, Token};
 use tag_scan::{find_tag, mask};
+
+/// How many tags there are.
+pub const TAGS: usize = 256;
 
 /// The least position at or past `from` whose event is of the stream, which has this tag, and not before
 /// the start; None where the cache has no such event, as where `from` is at or past its end.
@@ -103,6 +106,19 @@ pub fn lower(cache: &QueueCache, token: &Token) -> usize
         }
     }
     high
+}
+
+/// Marks the tags of the events from a position on, so that one look tells of a stream that none of them is its own.
+/// It costs a few steps for each of them.
+pub fn tags_from(cache: &QueueCache, from: usize) -> [bool; TAGS]
+    requires { cache.now.low ≤ from }
+    ensures { AreMarked cache.now from result }
+{
+    let mut marks = [false; TAGS];
+    for position in from..cache.high() {
+        marks[cache.get(position).tag() as usize] = true;
+    }
+    marks
 }
 
 /// The least place of a block whose event is owed.

@@ -4,4 +4,4 @@
 
 mod cursor;
 
-pub use cursor::{lower, next};
+pub use cursor::{TAGS, lower, next, tags_from};

@@ -13,9 +13,9 @@ struct Desks {
 }
 
 impl Gate for Desks {
-    /// Is called for each event of a turn, with the grain whose turn it is. The note is a number of the subscription's
-    /// own, which is stored with the turn: here it counts the letters that were ordered.
-    fn handle(&self, _grain: &GrainId, _sub: &SubName, event: &Event, note: u64) -> u64 {
+    /// Is called for each event of a turn. The note is a number of the subscription's own, which is stored with the turn:
+    /// here it counts the letters that were ordered.
+    fn handle(&self, _sub: &SubName, event: &Event, note: u64) -> u64 {
         let letters = note.saturating_add(event.payload.as_bytes().len() as u64);
         self.letters.fetch_max(letters, Ordering::SeqCst);
         letters

@@ -1,5 +1,5 @@
 -- Leaves and their keys where one is added, changed or taken back.
-use Rattle.std.proofs.Common.{◌≡◌, ◌∙◌, ℕ, ◌+◌, ◌<◌, ◌≤◌, inl, inr, Bool, true, false, List, [], ◌∷◌, ◌++◌, length, get_or, take, set, map, Option, Some, None, refl, sym, ap, subst, arith, length-append, length-set, get_or-set_same, get_or-set_other}
+use Rattle.std.proofs.Common.{◌≡◌, ◌∙◌, ℕ, zero, suc, ◌+◌, ◌<◌, ◌≤◌, inl, inr, Bool, true, false, List, [], ◌∷◌, ◌++◌, length, get_or, take, set, map, Option, Some, None, refl, sym, ap, subst, arith, length-append, length-set, get_or-set_same, get_or-set_other}
 use Rattle.std.proofs.lemmas.Bool.{both_ways, cases_lt, cases_eq, eq-eqb, eqb-true, le-leb, lt-leb}
 use Rattle.std.proofs.lemmas.List.{get_or_append_left, get_or_at, get_or_default, get_or-map, get_or-take, length-map, length_push, length-take-le, same_lists}
 use Rattle.std.proofs.lemmas.List.Edits.{length-insert, length-remove}
@@ -8,13 +8,13 @@ use Rattle.std.specs.List.{insert, remove, range_with_len}
 use Rattle.std.specs.Prelude.{slice_index, unwrap_or, ◌==◌}
 use Rattle.stream_ident.proofs.FirstLemmas.{first_at-None, first_at-Some}
 use Rattle.stream_ident.specs.Words.{first_at}
-use Rattle.ranked_index.specs.Keys.{is_at_most}
+use Rattle.ranked_index.specs.Keys.{filled, is_at_most}
 use Rattle.ranked_index.specs.Ranked.{AreKeys, IsKeySet}
 use Rattle.ranked_index.specs.Ranking.{IsRanking}
 use Rattle.ranked_index.proofs.EntryLemmas.{keys-insert, keys-remove, keys-set}
 use Rattle.ranked_index.proofs.RankLemmas.{ranking-insert, ranking-remove}
 use Rattle.ranked_index.specs.declared.resumes.Leaf.{Leaf}
-use Rattle.ranked_index.specs.Leaves.{keys_by_rank, leaf_with, no_leaf, PlainResumes}
+use Rattle.ranked_index.specs.Leaves.{keys_by_rank, leaf_with, leaves_filled, no_leaf, open_leaf, PlainResumes}
 use Rattle.ranked_index.specs.Ranks.{due_at, due_key, leaf_at, leaves_by, rank_in, resume_key, AreKept, IsTold}
 
 -- the rank that is found has the number
@@ -120,3 +120,24 @@ module _ (leaves : List Leaf) (order : List ℕ) (resumes due : List (Option ℕ
         let low : number < last = omega (arith, length-take-le last leaves (omega (arith, are.long))) in
         subst IsTold (sym (get_or-take last leaves number d low)) (are.told d number (omega (arith, are.long)));
   }
+
+-- the same leaf at ranks that follow one another
+kept-filled : (leaves : List Leaf) (order : List ℕ) (resumes due : List (Option ℕ)) → AreKept leaves order resumes due → (from count resume : ℕ) → from + count ≤ length order
+    → AreKept (leaves_filled order from count (open_leaf resume) leaves) order (filled from count (Some resume) resumes) (filled from count (Some (resume + 1)) due)
+kept-filled leaves order resumes due are from zero resume fits = are
+kept-filled leaves order resumes due are from (suc count) resume fits =
+    let rank = from + count in
+    let within : rank < length order = omega arith in
+    let old = leaves_filled order from count (open_leaf resume) leaves in
+    let before : AreKept old order (filled from count (Some resume) resumes) (filled from count (Some (resume + 1)) due) = kept-filled leaves order resumes due are from count resume (omega arith) in
+    let inside : slice_index order rank < length old = omega (arith, before.long, before.ranking.inverse.number_within rank within) in
+    kept-set old order (filled from count (Some resume) resumes) (filled from count (Some (resume + 1)) due) before (slice_index order rank) (Some resume) false inside
+    (filled from (suc count) (Some resume) resumes) (filled from (suc count) (Some (resume + 1)) due)
+    (record { rank = rank; within = within; at = refl; is = refl }) (record { rank = rank; within = within; at = refl; is = refl })
+
+pub filled-kept : (leaves : List Leaf) (order : List ℕ) (resumes due resumes' due' : List (Option ℕ)) → AreKept leaves order resumes due → (from count resume : ℕ) → from + count ≤ length order
+    → resumes' ≡ filled from count (Some resume) resumes → due' ≡ filled from count (Some (resume + 1)) due → AreKept (leaves_filled order from count (open_leaf resume) leaves) order resumes' due'
+filled-kept leaves order resumes due resumes' due' are from count resume fits resumes_are due_are =
+    subst (λ (keys : List (Option ℕ)). AreKept (leaves_filled order from count (open_leaf resume) leaves) order keys due') (sym resumes_are)
+    (subst (λ (keys : List (Option ℕ)). AreKept (leaves_filled order from count (open_leaf resume) leaves) order (filled from count (Some resume) resumes) keys) (sym due_are)
+    (kept-filled leaves order resumes due are from count resume fits))

@@ -1,6 +1,7 @@
 pub mod BelowLemmas
 pub mod Doubled
 pub mod EntryLemmas
+pub mod FillLemmas
 pub mod KeyLemmas
 pub mod LeafLemmas
 pub mod LeafRows

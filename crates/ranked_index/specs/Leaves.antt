@@ -1,5 +1,5 @@
 -- The resumes as contracts see them: a leaf for each number, and the numbers in their order.
-use Rattle.std.specs.Prelude.{ℕ, Bool, false, ◌&&◌, List, [], ◌∷◌, ◌++◌, length, map, filter, get_or, set, take, Option, Some, None, is_some, nat_lt, slice_index}
+use Rattle.std.specs.Prelude.{ℕ, zero, suc, ◌+◌, Bool, false, ◌&&◌, List, [], ◌∷◌, ◌++◌, length, map, filter, get_or, set, take, Option, Some, None, is_some, nat_lt, slice_index}
 use Rattle.std.specs.List.{insert}
 use Rattle.std.specs.Option.{option_map}
 use Rattle.stream_ident.specs.Words.{or_else}
@@ -34,6 +34,14 @@ pushed rank leaf r = record { leaves = r.leaves ++ leaf ∷ []; order = insert r
 -- another leaf under a number
 abbrev pub with_leaf : ℕ → Leaf → PlainResumes → PlainResumes
 with_leaf number leaf r = record r { leaves = set r.leaves number leaf }
+
+-- the same leaf under the numbers at so many ranks, from one on
+abbrev pub leaves_filled : List ℕ → ℕ → ℕ → Leaf → List Leaf → List Leaf
+leaves_filled order from zero leaf leaves = leaves
+leaves_filled order from (suc count) leaf leaves = set (leaves_filled order from count leaf leaves) (slice_index order (from + count)) leaf
+
+abbrev pub with_leaves : ℕ → ℕ → Leaf → PlainResumes → PlainResumes
+with_leaves from count leaf r = record r { leaves = leaves_filled r.order from count leaf r.leaves }
 
 -- the numbers below a length, in the order that they had
 abbrev pub numbers_below : ℕ → List ℕ → List ℕ

@@ -2,7 +2,7 @@
 //! in two trees.
 ghost use Rattle.std.specs.Prelude.{◌≡◌, ◌+◌, ◌-◌, ◌^◌, ◌<◌, ◌≤◌, ◌↔◌, [], length, slice_index, is_ok, IsTrue, IfSome, Some, if◌then◌else◌};
 ghost use Rattle.ranked_index.specs.Keys.{inserted};
-ghost use Rattle.ranked_index.specs.Leaves.{due_from, empty, least_resume, leaf_with, open_leaf, pushed, top, truncated, with_leaf};
+ghost use Rattle.ranked_index.specs.Leaves.{due_from, empty, least_resume, leaf_with, open_leaf, pushed, top, truncated, with_leaf, with_leaves};
 ghost use Rattle.ranked_index.specs.Ranking.{IsRanking};
 ghost use Rattle.ranked_index.specs.Ranks.{due_at};
 
@@ -126,6 +126,18 @@ impl Resumes {
         let due = due_at(resume, is_unacknowledged);
         self.ranking.set_key(&mut self.resumes, number, resume);
         self.ranking.set_key(&mut self.due, number, due);
+    }
+
+    /// Opens the leaves at the ranks from one to before another, with the same resume and nothing to acknowledge. It
+    /// costs these ranks and the logarithm of the length, and takes no memory.
+    pub fn fill(&mut self, from: usize, to: usize, resume: usize)
+        requires ordered { from ≤ to }
+        requires within { to ≤ length self.old.order }
+        requires below { resume + 2 < 2 ^ 64 }
+        ensures { self.new ≡ with_leaves from (to - from) (open_leaf resume) self.old }
+    {
+        self.resumes.fill(from, to, Some(resume));
+        self.due.fill(from, to, Some(resume + 1));
     }
 
     /// Takes the last leaf out.

@@ -1,7 +1,7 @@
 //! The tree: its nodes in a row, where node `i` has the children `2i` and `2i + 1` and is the lesser of
 //! them, and the second half of the row are the leaves.
 ghost use Rattle.std.specs.Prelude.{◌≡◌, ◌+◌, ◌^◌, ◌<◌, ◌≤◌, ◌↔◌, ◌-◌, ◌/◌, [], length, get_or, set, is_ok, IsTrue, IfSome, ℕ, take, drop, IfOk, MatchOption, if◌then◌else◌};
-ghost use Rattle.ranked_index.specs.Keys.{inserted, removed, least_key, least_place, first_at_most};
+ghost use Rattle.ranked_index.specs.Keys.{filled, inserted, removed, least_key, least_place, first_at_most};
 ghost use Rattle.ranked_index.specs.Tree.{key_of, keys_of, IsTree, IsTreeBut, IsLeastTree, IsPowerOfTwo, IsShifted, IsShiftedBack, AreGreater, IsFirstAtMost, IsSubtreeAtMost};
 
 use std::alloc::{AllocError, Global};
@@ -117,6 +117,20 @@ impl LeastTree {
     {
         let nodes = self.nodes.as_mut_slice();
         set_leaf(nodes, self.first_leaf, self.len, place, leaf(key));
+    }
+
+    /// Changes the keys at the places from one to before another to the same. It costs these places and the logarithm
+    /// of the length, and takes no memory.
+    pub fn fill(&mut self, from: usize, to: usize, key: Option<usize>)
+        requires ordered { from ≤ to }
+        requires within { to ≤ length self.old }
+        requires key { IfSome key (λ k. k + 1 < 2 ^ 64) }
+        ensures { self.new ≡ filled from (to - from) key self.old }
+    {
+        if from < to {
+            let nodes = self.nodes.as_mut_slice();
+            fill_leaves(nodes, self.first_leaf, self.len, from, to, leaf(key));
+        }
     }
 
     /// Takes the place out, so that those past it are one back. It costs the logarithm of the length and what
@@ -301,6 +315,22 @@ fn set_leaf(nodes: &mut [usize], first_leaf: usize, len: usize, place: usize, n:
     let leaf = first_leaf + place;
     nodes[leaf] = n;
     settle_path(nodes, leaf / 2);
+}
+
+/// Writes the same number into the leaves at the places from one to before another.
+fn fill_leaves(nodes: &mut [usize], first_leaf: usize, len: usize, from: usize, to: usize, n: usize)
+    requires tree { IsLeastTree nodes.old first_leaf len }
+    requires some { from < to }
+    requires within { to ≤ len }
+    ensures tree { IsLeastTree nodes.new first_leaf len }
+    ensures keys { keys_of nodes.new first_leaf len ≡ filled from (to - from) (key_of n) (keys_of nodes.old first_leaf len) }
+{
+    let first = first_leaf + from;
+    let end = first_leaf + to;
+    for leaf in first..end {
+        nodes[leaf] = n;
+    }
+    settle(nodes, first / 2, (end - 1) / 2);
 }
 
 /// Puts a leaf with a number at a place, and those from there on one further.

@@ -6,7 +6,7 @@ use std::alloc::{AllocError, Global};
 use std::rt::Clock;
 use std::sync::atomic::{AtomicU64, Ordering};
 use std::time::Instant;
-use stream_ident::{Event, GrainId, SubName};
+use stream_ident::{Event, SubName};
 use stream_model::Op;
 use stream_script::{Command, Failed, Lines, Mode, Parsed, Sink, parse_line};
 
@@ -57,7 +57,7 @@ pub(crate) struct WatchedHandler<R> {
 }
 
 impl<R: Clock + Eprint + Drop + Send + Sync> Gate for WatchedHandler<R> {
-    fn handle(&self, grain: &GrainId, sub: &SubName, event: &Event, note: u64) -> u64 {
+    fn handle(&self, sub: &SubName, event: &Event, note: u64) -> u64 {
         let before = self.handled.fetch_add(1, Ordering::SeqCst);
         if let Some(seconds) = self.progress.due() {
             let events = self.events;
@@ -67,7 +67,7 @@ impl<R: Clock + Eprint + Drop + Send + Sync> Gate for WatchedHandler<R> {
                 "streams: {events} events in the script, {handled} handled, {seconds} s"
             );
         }
-        Counting.handle(grain, sub, event, note)
+        Counting.handle(sub, event, note)
     }
 }
 

@@ -4,8 +4,8 @@ use std::alloc::Global;
 use std::sync::atomic::{AtomicU64, Ordering};
 use std::sync::{Arc, Wait};
 use streams::{
-    Closed, Config, Decode, Encode, Event, Gate, GrainId, Host, Message, Name, Outbox, Partition,
-    Payload, Service, StreamId, SubName, SubSummary,
+    Closed, Config, Decode, Encode, Event, Gate, Host, Message, Name, Outbox, Partition, Payload,
+    Service, StreamId, SubName, SubSummary,
 };
 
 // What a cup costs, in cents.
@@ -132,7 +132,7 @@ impl<R: Wait + Copy> Billing<R> {
 
 impl<R: Wait + Copy + Send + Sync + 'static> Gate for Billing<R> {
     /// The note counts what the subscription has handled.
-    fn handle(&self, _grain: &GrainId, _sub: &SubName, event: &Event, note: u64) -> u64 {
+    fn handle(&self, _sub: &SubName, event: &Event, note: u64) -> u64 {
         if event.stream.namespace == self.orders && !self.put_bill(event) {
             self.missing.fetch_add(1, Ordering::SeqCst);
         }

@@ -102,17 +102,22 @@ impl Gate for Recorder {
         self.calls.fetch_add(1, Ordering::SeqCst);
     }
 
-    fn handle(&self, grain: &GrainId, sub: &SubName, event: &Event, note: u64) -> u64 {
+    fn handle(&self, sub: &SubName, event: &Event, note: u64) -> u64 {
         self.handled.fetch_add(1, Ordering::SeqCst);
         let in_order = match self.told(sub) {
-            Some(told) => grain.key == event.stream.key && told.handle(event.token, note),
+            Some(told) => told.handle(event.token, note),
             None => false,
         };
         self.note(in_order);
         note_after(event.token, note)
     }
 
-    fn done(&self, _grain: &GrainId, sub: &SubName, token: Token) {
+    fn handle_for(&self, grain: &GrainId, sub: &SubName, event: &Event, note: u64) -> u64 {
+        self.note(grain.key == event.stream.key);
+        self.handle(sub, event, note)
+    }
+
+    fn done(&self, sub: &SubName, token: Token) {
         self.done.fetch_add(1, Ordering::SeqCst);
         let in_order = match self.told(sub) {
             Some(told) => told.done(token),

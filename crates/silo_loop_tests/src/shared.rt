@@ -10,7 +10,7 @@ use std::sync::atomic::{AtomicU64, Ordering};
 use std::sync::{Arc, Wait};
 use std::thread;
 use std::thread::{Threads, join};
-use stream_ident::{Event, GrainId, SubName};
+use stream_ident::{Event, SubName};
 
 const QUEUE: usize = 5;
 
@@ -29,7 +29,7 @@ impl Gate for Entered {
         }
     }
 
-    fn handle(&self, _grain: &GrainId, _sub: &SubName, _event: &Event, note: u64) -> u64 {
+    fn handle(&self, _sub: &SubName, _event: &Event, note: u64) -> u64 {
         note
     }
 }

@@ -12,7 +12,7 @@ use std::process::Abort;
 use std::sync::Wait;
 use std::sync::atomic::{AtomicBool, Ordering};
 use std::thread::{Threads, join};
-use stream_ident::{Event, GrainId, SubName};
+use stream_ident::{Event, SubName};
 
 // The first call of each of two queues waits until another thread has answered. The turn of that queue is held meanwhile.
 #[derive(Drop)]
@@ -44,7 +44,7 @@ impl Gate for Pausing {
         }
     }
 
-    fn handle(&self, _grain: &GrainId, _sub: &SubName, _event: &Event, note: u64) -> u64 {
+    fn handle(&self, _sub: &SubName, _event: &Event, note: u64) -> u64 {
         note
     }
 }

@@ -70,16 +70,23 @@ impl Gate for Tally {
         calls.fetch_add(1, Ordering::SeqCst);
     }
 
-    fn handle(&self, grain: &GrainId, _sub: &SubName, event: &Event, note: u64) -> u64 {
+    fn handle(&self, _sub: &SubName, event: &Event, note: u64) -> u64 {
         self.wait_for_calls();
         self.handled.fetch_add(1, Ordering::SeqCst);
-        if grain.key != event.stream.key || event.token.seq < note {
+        if event.token.seq < note {
             self.astray.fetch_add(1, Ordering::SeqCst);
         }
         event.token.seq.wrapping_add(1)
     }
 
-    fn done(&self, _grain: &GrainId, _sub: &SubName, _token: Token) {
+    fn handle_for(&self, grain: &GrainId, sub: &SubName, event: &Event, note: u64) -> u64 {
+        if grain.key != event.stream.key {
+            self.astray.fetch_add(1, Ordering::SeqCst);
+        }
+        self.handle(sub, event, note)
+    }
+
+    fn done(&self, _sub: &SubName, _token: Token) {
         self.wait_for_calls();
         self.done.fetch_add(1, Ordering::SeqCst);
     }

@@ -94,7 +94,7 @@ pub record WorkerAsks (v w : WorkerView) : Type 0 where
   pub lines : w.lines ≡ v.lines
   pub silo : w.silo ≡ v.silo
 
--- which note may follow where a gate's handler is given this grain, subscription, event and note
+-- which note may follow where a gate's handler of this grain is given this subscription, event and note
 abbrev pub Follows : Type 0
 Follows = GrainId → SubName → Event → ℕ → ℕ → Bool
 

@@ -350,7 +350,7 @@ impl<G: Gate, H: QueueHistory, D: DirectoryHistory> Worker<G, H, D> {
     {
         let note = self
             .gate
-            .handle(grain, &turn.sub, &self.events[turn.next], turn.note);
+            .handle_for(grain, &turn.sub, &self.events[turn.next], turn.note);
         let next = turn.next + 1;
         self.walk.step = Step::Handle {
             grain: *grain,
@@ -397,11 +397,7 @@ impl<G: Gate, H: QueueHistory, D: DirectoryHistory> Worker<G, H, D> {
         requires { self.old.step ≡ step.Tell grain.now permit sub.now token }
         ensures { (rounds counted : ℕ) → WorkerWorks G.follows (worker_of self.old rounds None) (worker_of self.new counted None) }
     {
-        self.walk.untold = Some(Commit {
-            grain: *grain,
-            sub: *sub,
-            token,
-        });
+        self.walk.untold = Some(Commit { sub: *sub, token });
         self.walk.step = Step::Again {
             grain: *grain,
             permit,
@@ -459,7 +455,7 @@ impl<G: Gate, H: QueueHistory, D: DirectoryHistory> Worker<G, H, D> {
         ensures { self.new ≡ self.old }
     {
         if let Some(commit) = self.walk.untold.take() {
-            self.gate.done(&commit.grain, &commit.sub, commit.token);
+            self.gate.done(&commit.sub, commit.token);
         }
     }
 

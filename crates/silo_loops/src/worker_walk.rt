@@ -65,10 +65,9 @@ pub(crate) enum Step {
     },
 }
 
-/// A commit: the grain whose turn it was, and the token of its last event.
+/// A commit: whose turn it was, and the token of its last event.
 #[derive(Clone, Copy)]
 pub(crate) struct Commit {
-    pub(crate) grain: GrainId,
     pub(crate) sub: SubName,
     pub(crate) token: Token,
 }

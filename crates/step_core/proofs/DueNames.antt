@@ -53,7 +53,7 @@ by-least after xs d P is past wrapped =
     ]) refl is
 
 -- where it finds one past the given one, that is the next
-due-past : (after : Option SubName) (xs : List SubName) (d : SubName) → next_after sub_lt after xs ≡ Some d → is_above sub_lt after d ≡ true → Some d ≡ least sub_lt (above sub_lt after xs)
+pub due-past : (after : Option SubName) (xs : List SubName) (d : SubName) → next_after sub_lt after xs ≡ Some d → is_above sub_lt after d ≡ true → Some d ≡ least sub_lt (above sub_lt after xs)
 due-past after xs d is past =
     by-least after xs d (λ (o : Option SubName). Some d ≡ o) is (λ _. refl)
     (λ none again.

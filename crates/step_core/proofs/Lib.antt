@@ -4,6 +4,7 @@ pub mod AssembledTable
 pub mod BeginOps
 pub mod CachedEvents
 pub mod CatchOps
+pub mod CatchRuns
 pub mod CheckOps
 pub mod ClosedOps
 pub mod CommitOps

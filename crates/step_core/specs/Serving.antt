@@ -1,5 +1,5 @@
 -- What a drain asks of a subscription, of which one next, and what it does for one at once.
-use Rattle.std.specs.Prelude.{◌≡◌, ℕ, suc, ◌<◌, ◌≤◌, Bool, true, false, ◌&&◌, ◌||◌, ◌==◌, not, nat_le, nat_lt, List, [], ◌∷◌, ◌++◌, length, get_or, map, Option, Some, None}
+use Rattle.std.specs.Prelude.{◌≡◌, ℕ, zero, suc, ◌<◌, ◌≤◌, Bool, true, false, ◌&&◌, ◌||◌, ◌==◌, not, nat_le, nat_lt, List, [], ◌∷◌, ◌++◌, length, get_or, map, Option, Some, None}
 use Rattle.consumer_grain.specs.Subscriptions as state
 use Rattle.consumer_grain.specs.Subscriptions.{PlainState}
 use Rattle.stream_ident.specs.declared.ident.GrainId.{GrainId}
@@ -90,6 +90,17 @@ pub record IsCaughtUp (old new : PlainPartition) (s : SubName) : Type 0 where
 abbrev pub CatchesUp : PlainPartition → PlainPartition → SubName → Bool → Type 0
 CatchesUp old new s true = IsCaughtUp old new s
 CatchesUp old new s false = new ≡ old
+
+-- the first is caught up, and then so many more, each the next that is due after the one before, up to the last
+abbrev pub CatchUp : PlainPartition → PlainPartition → SubName → ℕ → SubName → Type 0
+CatchUp old new first zero last = (last ≡ first) × IsCaughtUp old new first
+CatchUp old new first (suc more) last =
+    (mid : PlainPartition) × ((before : SubName) × (CatchUp old mid first more before × ((Some last ≡ next_due mid (Some before)) × IsCaughtUp mid new last)))
+
+-- whether they are, from the one with a number up to that with another, where nothing has changed if they aren't
+abbrev pub CatchesUpFrom : (ℕ → SubName) → PlainPartition → PlainPartition → ℕ → Option ℕ → Type 0
+CatchesUpFrom name old new number None = new ≡ old
+CatchesUpFrom name old new number (Some last) = (more : ℕ) × CatchUp old new (name number) more (name last)
 
 -- the next event of the subscription was delivered, and a turn of its grain has handled it
 pub record IsHandledOnce (old new : PlainPartition) (s : SubName) : Type 0 where

@@ -140,14 +140,21 @@ fn empty_mailboxes(partition: &mut Partition, alloc: Global) -> Result<(), Stop>
     }
 }
 
-/// Serves each open subscription that is due, in the order of names. To serve another one would change nothing.
+/// Serves each open subscription that is due, in the order of names, and at once those that follow one another for which
+/// the cache has nothing. To serve another one would change nothing.
 fn serve_each(partition: &mut Partition, alloc: Global) -> Result<(), Stop>
     ensures { Follows partition.old partition.new result (serve_each (open_names partition.old) partition.old) }
 {
     let mut last = None;
     while let Some(number) = partition.next_due(last) {
-        serve_number(partition, alloc, number)?;
-        last = Some(number);
+        let end = match partition.catch_up_from(number) {
+            Some(end) => end,
+            None => {
+                serve_number(partition, alloc, number)?;
+                number
+            }
+        };
+        last = Some(end);
     }
     Ok(())
 }

@@ -8,7 +8,7 @@ ghost use Rattle.subscription_table.specs.Table.{name_at, state_at};
 ghost use Rattle.step_core.specs.Assembly.{Agrees, IsAssembled};
 ghost use Rattle.step_core.specs.PlainOf.{plain_of};
 ghost use Rattle.step_core.specs.Records.{record_of};
-ghost use Rattle.step_core.specs.Serving.{is_held, resting_grain, CatchesUp, HandlesNext, IsFresh};
+ghost use Rattle.step_core.specs.Serving.{is_held, resting_grain, CatchesUp, CatchesUpFrom, HandlesNext, IsFresh};
 
 use crate::parts::Parts;
 use crate::reading::is_spent;
@@ -39,6 +39,22 @@ pub(crate) fn catch_up(parts: &mut Parts, number: usize) -> bool
         Ok(Sought::Closed) => false,
         Err(_) => false,
     }
+}
+
+/// Serves the subscription with a number to its end, and then each that is due after it, as `catch_up` does where it changes
+/// something, as long as the cache has nothing for them and no event was handled past the end of the cache. It gives the
+/// number of the last; elsewhere, and where anything waits or runs, nothing changes, and there is none.
+pub(crate) fn catch_up_from(parts: &mut Parts, number: usize) -> Option<usize>
+    requires agrees { Agrees parts.old }
+    requires number { number < length parts.old.subs.registry.names }
+    ensures agrees { Agrees parts.new }
+    ensures within { IfSome result (λ last. last < length parts.new.subs.registry.names) }
+    ensures told { CatchesUpFrom (name_at parts.old.subs) (plain_of parts.old) (plain_of parts.new) number result }
+{
+    if !parts.grains.is_idle() {
+        return None;
+    }
+    parts.subs.catch_up_from(number, parts.agent.cache())
 }
 
 /// Whether a delivery of a subscription waits or runs. Its grain is looked for only where some grain isn't idle.

@@ -2,7 +2,7 @@
 use crossbeam_utils::Backoff;
 use shared_partition::Gate;
 use std::sync::atomic::{AtomicBool, Ordering};
-use stream_ident::{Event, GrainId, SubName, Token};
+use stream_ident::{Event, SubName, Token};
 
 // Looks so often at most.
 const LOOKS: u32 = 1_000_000;
@@ -65,14 +65,14 @@ impl Gate for Meeting {
         }
     }
 
-    fn handle(&self, _grain: &GrainId, _sub: &SubName, _event: &Event, note: u64) -> u64 {
+    fn handle(&self, _sub: &SubName, _event: &Event, note: u64) -> u64 {
         if self.event_waits.swap(false, Ordering::SeqCst) {
             self.meet(&self.done);
         }
         note.saturating_add(1)
     }
 
-    fn done(&self, _grain: &GrainId, _sub: &SubName, _token: Token) {
+    fn done(&self, _sub: &SubName, _token: Token) {
         self.done.store(true, Ordering::SeqCst);
     }
 }

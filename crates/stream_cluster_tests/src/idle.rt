@@ -10,7 +10,7 @@ use std::sync::{Arc, Wait};
 use std::thread;
 use std::thread::Threads;
 use std::time::Duration;
-use stream_ident::{Event, GrainId, SubName};
+use stream_ident::{Event, SubName};
 
 // How often it is looked whether calls are made, and for how many milliseconds each time.
 const LOOKS: u64 = 20;
@@ -28,7 +28,7 @@ impl Gate for Watch {
         self.calls.fetch_add(1, Ordering::SeqCst);
     }
 
-    fn handle(&self, _grain: &GrainId, _sub: &SubName, _event: &Event, note: u64) -> u64 {
+    fn handle(&self, _sub: &SubName, _event: &Event, note: u64) -> u64 {
         note.saturating_add(1)
     }
 }

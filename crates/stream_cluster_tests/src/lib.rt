@@ -6,6 +6,8 @@
 #[cfg(test)]
 mod asking;
 #[cfg(test)]
+mod by_cluster;
+#[cfg(test)]
 mod cases;
 #[cfg(test)]
 mod drawn;

@@ -31,7 +31,7 @@ impl Gate for Held {
         self.watch.inside(queue);
     }
 
-    fn handle(&self, _grain: &GrainId, _sub: &SubName, _event: &Event, note: u64) -> u64 {
+    fn handle(&self, _sub: &SubName, _event: &Event, note: u64) -> u64 {
         if self.held.fetch_add(1, Ordering::SeqCst) == 1 {
             self.are_both.store(true, Ordering::SeqCst);
         }
@@ -39,7 +39,7 @@ impl Gate for Held {
         note.saturating_add(1)
     }
 
-    fn done(&self, _grain: &GrainId, _sub: &SubName, _token: Token) {}
+    fn done(&self, _sub: &SubName, _token: Token) {}
 }
 
 // Three grains get two events each.

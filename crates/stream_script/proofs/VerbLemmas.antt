@@ -67,10 +67,10 @@ either_verb word (Some verb) other is is_other = is
 
 verb_of-is : (word : List ℕ) → IsVerb word (verb_of word)
 verb_of-is word =
-    either_verb word (producer_verb word) _ (producer_verb-is word)
-    (either_verb word (agent_verb word) _ (agent_verb-is word)
+    either_verb word (agent_verb word) _ (agent_verb-is word)
     (either_verb word (worker_verb word) _ (worker_verb-is word)
-    (either_verb word (look_verb word) (operator_verb word) (look_verb-is word) (operator_verb-is word))))
+    (either_verb word (look_verb word) _ (look_verb-is word)
+    (either_verb word (producer_verb word) (operator_verb word) (producer_verb-is word) (operator_verb-is word))))
 
 verb_found : (word : List ℕ) (verb : Verb) → verb_of word ≡ Some verb → word ≡ verb_word verb
 verb_found word verb e = subst (IsVerb word) e (verb_of-is word)

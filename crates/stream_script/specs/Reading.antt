@@ -1,5 +1,5 @@
 -- What a line is: the command that it reads as, or the first step of the table of faults that holds of it.
-use Rattle.std.specs.Prelude.{◌≡◌, ℕ, ◌<◌, Bool, false, ◌||◌, List, [], ◌∷◌, Option, Some, None, Result, Ok, Err, ◌==◌, ⊤, if◌then◌else◌}
+use Rattle.std.specs.Prelude.{◌≡◌, ℕ, ◌<◌, Bool, true, false, ◌||◌, List, [], ◌∷◌, Option, Some, None, Result, Ok, Err, ◌==◌, ⊤, if◌then◌else◌}
 use Rattle.std.specs.List.{list_all}
 use Rattle.stream_ident.specs.Name.{◌>>=◌}
 use Rattle.stream_ident.specs.Alphabet.{is_printable}
@@ -7,6 +7,7 @@ use Rattle.stream_script.specs.declared.parser.command.Command.{Command}
 use Rattle.stream_script.specs.declared.parser.command.Command.TheVariants.{Step}
 use Rattle.stream_script.specs.declared.parser.command.LineError.{LineError}
 use Rattle.stream_script.specs.declared.parser.command.LineError.TheVariants as errors
+use Rattle.stream_script.specs.declared.parser.command.Fault.{Fault}
 use Rattle.stream_script.specs.declared.parser.command.FaultKind.{FaultKind}
 use Rattle.stream_script.specs.declared.parser.command.FaultKind.TheVariants as kind
 use Rattle.stream_script.specs.declared.parser.command.Mode.{Mode}
@@ -56,6 +57,17 @@ Fails (errors.Fault fault) read = read ≡ Err fault
 abbrev pub Gives : {X Y : Type 0} → (X → Y) → Result X LineError → Result Y FaultKind → Type 0
 Gives view (Ok x) read = read ≡ Ok (view x)
 Gives view (Err e) read = Fails e read
+
+-- a command was put in its place as it is read, or its fault was told
+abbrev pub Makes : {Y : Type 0} → Y → Result Unit FaultKind → Result Y FaultKind → Type 0
+Makes made (Ok done) read = read ≡ Ok made
+Makes made (Err fault) read = read ≡ Err fault
+
+-- what a line is: whether it is a command, which was put in its place, or its fault
+abbrev pub parsed_as : Result Bool Fault → Command → Parsed
+parsed_as (Ok true) command = parsed.Command command
+parsed_as (Ok false) command = parsed.Skip
+parsed_as (Err fault) command = parsed.Fault fault
 
 -- an operation is on a queue that there is
 abbrev pub IsWithin : ℕ → Parsed → Type 0

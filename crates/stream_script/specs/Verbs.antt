@@ -58,7 +58,7 @@ operator_verb word =
 
 -- the verb that a word is
 abbrev pub verb_of : List ℕ → Option Verb
-verb_of word = or_else (producer_verb word) (or_else (agent_verb word) (or_else (worker_verb word) (or_else (look_verb word) (operator_verb word))))
+verb_of word = or_else (agent_verb word) (or_else (worker_verb word) (or_else (look_verb word) (or_else (producer_verb word) (operator_verb word))))
 
 -- behind this word texts stand
 abbrev pub takes_texts : Verb → Bool

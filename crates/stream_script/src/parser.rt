@@ -13,4 +13,5 @@ pub use command::{Command, EachOp, Fault, FaultKind, Mode, Parsed};
 pub use limits::MOST_SCRIPT_BYTES;
 pub use lines::Lines;
 pub use parse::parse_line;
+pub(crate) use parse::read_line;
 pub use publish::{Publish, read_publish};

@@ -14,7 +14,7 @@ ghost use Rattle.stream_script.specs.Forms.{op_of};
 ghost use Rattle.stream_script.specs.Simulation.{IsSimConfig, Simulates, SimulatesSome, RunsLines, Finishes, ReadsScript, ReadsSome, simulation, run_script, is_read_fault, is_write_fault, behind, stepped, stepped_each, drained, drained_each, run_line, RunsLine};
 
 use crate::parser::{
-    Command, EachOp, Fault, FaultKind, Lines, Mode, Parsed, Publish, parse_line, read_publish,
+    Command, EachOp, Fault, FaultKind, Lines, Mode, Publish, read_line, read_publish,
 };
 use crate::printer::{appended_line, drain_line, outcome_line, report_text};
 use crate::source_sink::{Failed, Sink, Source, write_all};
@@ -279,28 +279,31 @@ impl Simulator {
         ensures ran { RunsLine (run_line self.old.config number self.old.partitions.items line.now)
             (self.new.partitions.items, text.new.items) result }
     {
-        let parsed = parse_line(alloc, line, number, self.config.queues, Mode::Sim)?;
-        match &parsed {
-            Parsed::Skip => Ok(None),
-            Parsed::Fault(fault) => Ok(Some(*fault)),
-            Parsed::Command(Command::Step { queue, op }) => {
-                self.step(alloc, *queue, op, text)?;
-                Ok(None)
-            }
-            Parsed::Command(Command::Each(each)) => {
-                self.step_each(alloc, each, text)?;
-                Ok(None)
-            }
-            Parsed::Command(Command::Drain) => {
-                self.drain_each(alloc, text)?;
-                Ok(None)
-            }
-            Parsed::Command(Command::Report) => {
-                report_text(alloc, &self.partitions, text)?;
-                Ok(None)
-            }
-            // In a script that is simulated these are faults.
-            Parsed::Command(Command::Up { .. } | Command::Down { .. }) => Ok(None),
+        let mut command = Command::Drain;
+        let queues = self.config.queues;
+        match read_line(alloc, line, number, queues, Mode::Sim, &mut command)? {
+            Ok(false) => Ok(None),
+            Err(fault) => Ok(Some(fault)),
+            Ok(true) => match &command {
+                Command::Step { queue, op } => {
+                    self.step(alloc, *queue, op, text)?;
+                    Ok(None)
+                }
+                Command::Each(each) => {
+                    self.step_each(alloc, each, text)?;
+                    Ok(None)
+                }
+                Command::Drain => {
+                    self.drain_each(alloc, text)?;
+                    Ok(None)
+                }
+                Command::Report => {
+                    report_text(alloc, &self.partitions, text)?;
+                    Ok(None)
+                }
+                // In a script that is simulated these are faults.
+                Command::Up { .. } | Command::Down { .. } => Ok(None),
+            },
         }
     }
 

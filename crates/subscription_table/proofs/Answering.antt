@@ -41,7 +41,7 @@ hasnt_least least None isnt = refl
 hasnt_least least (Some own) isnt = ne_eqb own least (λ same. absurd (omega (arith, leb-false own least isnt)))
 
 -- the key of a leaf is at most high exactly where it is due
-due_is : (high : ℕ) (resume : Option ℕ) (is_unacknowledged : Bool)
+pub due_is : (high : ℕ) (resume : Option ℕ) (is_unacknowledged : Bool)
     → is_at_most high (due_at resume is_unacknowledged) ≡ (is_some resume && (is_unacknowledged || resumes_below high resume))
 due_is high None is_unacknowledged = refl
 due_is high (Some resume) true = le-leb 0 high (omega arith)

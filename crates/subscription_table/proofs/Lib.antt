@@ -1,6 +1,7 @@
 pub mod Answering
 pub mod CloseLemmas
 pub mod GrowLemmas
+pub mod IdleLemmas
 pub mod LeafLemmas
 pub mod LookLemmas
 pub mod RewindLemmas

@@ -46,7 +46,7 @@ module _ (s : PlainState) (stands : Fits s s) where
   pub fits-committed : (positions : List ℕ) (note : ℕ) → Fits s (committed positions note s)
   fits-committed positions note = record { start = refl; openness = refl; cursor = stands.cursor; resume = stands.resume }
 
-  fits-caught_up : (end : ℕ) (outstanding : Bool) → end + 2 < 2 ^ 64 → Fits s (caught_up end outstanding s)
+  pub fits-caught_up : (end : ℕ) (outstanding : Bool) → end + 2 < 2 ^ 64 → Fits s (caught_up end outstanding s)
   fits-caught_up end outstanding room =
       let far : max s.cursor end + 2 < 2 ^ 64 = let here = stands.cursor in omega arith in
       record { start = refl; openness = refl; cursor = far; resume = by outstanding far }

@@ -1,3 +1,4 @@
+pub mod Idle
 pub mod Leaves
 pub mod LeavesOf
 pub mod Rows

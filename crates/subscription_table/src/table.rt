@@ -16,6 +16,7 @@ ghost use Rattle.subscription_table.specs.Table.{empty, name_at, number_of, regi
 ghost use Rattle.subscription_table.specs.Rows.{AreAllNamed, AreNamed, AreRewoundAt};
 
 mod changes;
+mod idle;
 
 use consumer_grain::SubState;
 use partition_queue::Span;

@@ -40,9 +40,13 @@ impl Monitors {
 
 impl Gate for Monitors {
     /// The note counts the readings of a subscription.
-    fn handle(&self, grain: &GrainId, _sub: &SubName, event: &Event, note: u64) -> u64 {
-        let _before = self.note(grain, event);
+    fn handle(&self, _sub: &SubName, _event: &Event, note: u64) -> u64 {
         note.saturating_add(1)
+    }
+
+    fn handle_for(&self, grain: &GrainId, sub: &SubName, event: &Event, note: u64) -> u64 {
+        let _before = self.note(grain, event);
+        self.handle(sub, event, note)
     }
 }
 

@@ -36,14 +36,18 @@ impl Accounts {
 
 impl Gate for Accounts {
     /// The note of a subscription is the sum of the orders that it has handled. It is stored with each turn, so that
-    /// each order is in it once, whatever happens to silos. Where the grain is a desk, its key is the customer, whose
-    /// account gets the sum; an auditor changes no account.
+    /// each order is in it once, whatever happens to silos.
+    fn handle(&self, _sub: &SubName, event: &Event, note: u64) -> u64 {
+        note.saturating_add(price(event.payload.as_str()).unwrap_or(0))
+    }
+
+    /// Where the grain is a desk, its key is the customer, whose account gets the sum; an auditor changes no account.
     ///
     /// The account is not stored with the turn: where a silo goes between this call and the end of the turn, the order
     /// comes here a second time, with the same note as before. So what is done here may be done twice without harm: an
     /// account takes the greatest sum that it is told.
-    fn handle(&self, grain: &GrainId, _sub: &SubName, event: &Event, note: u64) -> u64 {
-        let sum = note.saturating_add(price(event.payload.as_str()).unwrap_or(0));
+    fn handle_for(&self, grain: &GrainId, sub: &SubName, event: &Event, note: u64) -> u64 {
+        let sum = self.handle(sub, event, note);
         for customer in 0..4 {
             if grain.kind.as_str() == "desk" && grain.key.as_str() == CUSTOMERS[customer] {
                 self.cents[customer].fetch_max(sum, Ordering::SeqCst);

@@ -42,10 +42,15 @@ impl<C: Clock + Copy> Archive<C> {
 
 impl<C: Clock + Copy + Send + Sync> Gate for Archive<C> {
     /// The note counts the readings of a subscription.
-    fn handle(&self, grain: &GrainId, _sub: &SubName, _event: &Event, note: u64) -> u64 {
+    fn handle(&self, _sub: &SubName, _event: &Event, note: u64) -> u64 {
+        note.saturating_add(1)
+    }
+
+    /// An archive stores each reading first.
+    fn handle_for(&self, grain: &GrainId, sub: &SubName, event: &Event, note: u64) -> u64 {
         if grain.kind.as_str() == "archive" {
             self.store();
         }
-        note.saturating_add(1)
+        self.handle(sub, event, note)
     }
 }

@@ -1,10 +1,11 @@
 //! A cluster whose silos are threads, or parked.
-ghost use Rattle.std.specs.Prelude.{◌≡◌, ◌<◌, true, false, Contains, IfOk};
+ghost use Rattle.std.specs.Prelude.{◌≡◌, ◌<◌, length, true, false, Contains, IfOk};
 ghost use Rattle.stream_ident.specs.declared.limits.TheConstants.{MOST_SILOS};
 ghost use Rattle.std.specs.List.{AllByRecursion};
 ghost use Rattle.turnstile.specs.Recorded.{recorded};
 ghost use Rattle.silo_loops.specs.Silos.{IsSiloAt};
 ghost use Rattle.silo_loops.specs.Lines.{places};
+ghost use Rattle.silo_threads.specs.Calls.{CallerCalls, CallerSplits};
 ghost use Rattle.silo_threads.specs.Gathering.{AreAt};
 ghost use Rattle.silo_threads.specs.Clusters.{AnswersDown, AnswersRetire, AnswersUp, HasFinished, HasFinishedParked, IsConfig, IsDownBy, IsNew, IsNewParked, IsRetiredBy, IsUpBy, RunsOn, is_fixed};
 
@@ -22,7 +23,8 @@ use std::alloc::{AllocError, Global};
 use std::marker::Model;
 use std::sync::{Arc, Wait};
 use std::thread::Threads;
-use turnstile::Recorded;
+use stream_model::{Op, Reply};
+use turnstile::{Recorded, Refusal};
 
 /// What became of a silo that was to come.
 #[derive(Clone, Copy, Debug, PartialEq, Eq)]
@@ -242,6 +244,45 @@ impl<
 }
 
 impl<G: Gate, H: QueueHistory, D: DirectoryHistory> Cluster<G, H, D> {
+    /// One call of a caller of this cluster at a queue. It is [`Caller::call`], which a thread that has the caller and not
+    /// the cluster uses.
+    ///
+    /// # Errors
+    /// They are those of [`Caller::call`].
+    pub fn call<R: Wait>(
+        &self,
+        rt: &R,
+        alloc: Global,
+        caller: &mut Caller<G, H>,
+        queue: usize,
+        op: Op,
+    ) -> Result<Reply, Refusal>
+        requires at { AreAt (places self.now.operator.lines) caller.old }
+        requires queue { queue < length caller.old }
+        ensures calls { CallerCalls caller.old queue op result caller.new }
+        ensures at { AreAt (places self.now.operator.lines) caller.new }
+    {
+        caller.call(rt, alloc, queue, op)
+    }
+
+    /// Another caller of this cluster, split off one that there is. It is [`Caller::split`], which a thread that has the
+    /// caller and not the cluster uses.
+    ///
+    /// # Errors
+    /// They are those of [`Caller::split`].
+    pub fn split(
+        &self,
+        alloc: Global,
+        caller: &mut Caller<G, H>,
+    ) -> Result<Caller<G, H>, AllocError>
+        requires { AreAt (places self.now.operator.lines) caller.old }
+        ensures splits { CallerSplits caller.old result caller.new }
+        ensures at { AreAt (places self.now.operator.lines) caller.new }
+        ensures new { IfOk result (AreAt (places self.now.operator.lines)) }
+    {
+        caller.split(alloc)
+    }
+
     /// How often a drain looks at the queues before it gives up.
     pub fn looks(&self) -> u32
         ensures { result ≡ self.now.looks }

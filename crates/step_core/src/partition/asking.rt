@@ -1,6 +1,6 @@
 //! What a drain asks of a partition: operations of its current agent and of a worker. They are those of `Partition::step`,
 //! without the `Op` that asks for them and the `Reply` that is made of what they come to.
-ghost use Rattle.std.specs.Prelude.{◌≡◌, ◌<◌, true, length, OnErr};
+ghost use Rattle.std.specs.Prelude.{◌≡◌, ◌<◌, true, length, IfSome, OnErr};
 ghost use Rattle.stream_ident.specs.Words.{Performs};
 ghost use Rattle.stream_model.specs.declared.op.Op.TheVariants.{Ack, Begin, Commit, Deliver, Pull};
 ghost use Rattle.stream_model.specs.Memory.{may_allocate};
@@ -8,7 +8,7 @@ ghost use Rattle.stream_model.specs.Step.{step, IsReached};
 ghost use Rattle.step_core.specs.Assembly.{Agrees, IsAssembled};
 ghost use Rattle.step_core.specs.PlainOf.{plain_of};
 ghost use Rattle.step_core.specs.Replied.{replied, reply_of, reply_with};
-ghost use Rattle.step_core.specs.Serving.{name_of, CatchesUp, HandlesNext};
+ghost use Rattle.step_core.specs.Serving.{name_of, CatchesUp, CatchesUpFrom, HandlesNext};
 
 use crate::acknowledging::ack;
 use crate::delivering::deliver;
@@ -16,7 +16,7 @@ use crate::outcome::Outcome;
 use crate::partition::Partition;
 use crate::parts::Parts;
 use crate::pulling::pull;
-use crate::serving::{catch_up, handle_next};
+use crate::serving::{catch_up, catch_up_from, handle_next};
 use crate::turns::{begin, commit};
 use std::alloc::{AllocError, Global};
 use stream_ident::{GrainId, SubName, Token};
@@ -58,6 +58,17 @@ impl Partition {
         let is_caught_up = catch_up(&mut self.parts, number);
         let _lengths = (self.parts.subs.len(), self.parts.grains.len());
         is_caught_up
+    }
+
+    /// Serves the subscription with a number to its end, and then each that is due after it, as long as the cache has nothing
+    /// for them and no event was handled past the end of the cache. It gives the number of the last; elsewhere, and where
+    /// anything waits or runs, nothing is done, and there is none.
+    pub(crate) fn catch_up_from(&mut self, number: usize) -> Option<usize>
+        requires { number < length self.old.subs }
+        ensures within { IfSome result (λ last. last < length self.new.subs) }
+        ensures told { CatchesUpFrom (name_of self.old) self.old self.new number result }
+    {
+        catch_up_from(&mut self.parts, number)
     }
 
     /// The next event of the subscription with a number is delivered, and a turn of its grain handles it, where the

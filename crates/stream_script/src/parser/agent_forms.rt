@@ -1,17 +1,18 @@
 //! What stands behind the verbs of pulling agents and workers.
 ghost use Rattle.std.specs.Prelude.{◌≡◌, map};
-ghost use Rattle.stream_script.specs.Forms.{pull_words, pull_fields, deliver_words, deliver_fields, retry_words, retry_fields, ack_words, ack_fields, purge_words, purge_fields, move_words, move_fields, begin_words, begin_one, begin_most, commit_words, commit_fields, deactivate_words, deactivate_fields, ready_words, ready_first, ready_after, due_words, due_first, due_after};
+ghost use Rattle.stream_script.specs.Reading.{Makes};
+ghost use Rattle.stream_script.specs.Forms.{pull_words, pull_fields, deliver_words, retry_words, ack_words, ack_fields, purge_words, purge_fields, move_words, begin_words, begin_one, begin_most, commit_words, commit_fields, deactivate_words, ready_words, ready_first, ready_after, due_words, due_first, due_after};
 
 use crate::parser::command::{Command, FaultKind};
 use crate::parser::fields;
 use stream_model::Op;
 
 /// `pull Q GEN MAX`
-pub(crate) fn pull(words: &[&[u8]], queues: usize) -> Result<Command, FaultKind>
-    ensures { result ≡ pull_words queues (map (λ word. word.now) words.now) }
+pub(crate) fn pull(words: &[&[u8]], queues: usize, command: &mut Command) -> Result<(), FaultKind>
+    ensures { Makes command.new result (pull_words queues (map (λ word. word.now) words.now)) }
 {
     match words {
-        [queue, generation, max] => pull_fields(queue, generation, max, queues),
+        [queue, generation, max] => pull_fields(queue, generation, max, queues, command),
         _ => Err(FaultKind::WordCount),
     }
 }
@@ -23,61 +24,57 @@ fn pull_fields(
     generation: &[u8],
     max: &[u8],
     queues: usize,
-) -> Result<Command, FaultKind>
-    ensures { result ≡ pull_fields queues queue.now generation.now max.now }
+    command: &mut Command,
+) -> Result<(), FaultKind>
+    ensures { Makes command.new result (pull_fields queues queue.now generation.now max.now) }
 {
     let queue = fields::queue(queue, queues)?;
     let generation = fields::number(generation)?;
     let max = fields::short_number(max)?;
-    Ok(Command::on_queue(queue, Op::Pull { generation, max }))
+    *command = Command::on_queue(queue, Op::Pull { generation, max });
+    Ok(())
 }
 
 /// `deliver GEN SUB`
-pub(crate) fn deliver(words: &[&[u8]], queues: usize) -> Result<Command, FaultKind>
-    ensures { result ≡ deliver_words queues (map (λ word. word.now) words.now) }
-{
-    match words {
-        [generation, sub] => deliver_fields(generation, sub, queues),
-        _ => Err(FaultKind::WordCount),
-    }
-}
-
 #[tactic(auto, unfolding(crate::specs::Forms::deliver_fields))]
 #[inline(never)]
-fn deliver_fields(generation: &[u8], sub: &[u8], queues: usize) -> Result<Command, FaultKind>
-    ensures { result ≡ deliver_fields queues generation.now sub.now }
+pub(crate) fn deliver(
+    words: &[&[u8]],
+    queues: usize,
+    command: &mut Command,
+) -> Result<(), FaultKind>
+    ensures { Makes command.new result (deliver_words queues (map (λ word. word.now) words.now)) }
 {
+    let [generation, sub] = words else {
+        return Err(FaultKind::WordCount);
+    };
     let generation = fields::number(generation)?;
     let (queue, sub) = fields::sub(sub, queues)?;
-    Ok(Command::on_queue(queue, Op::Deliver { generation, sub }))
+    *command = Command::on_queue(queue, Op::Deliver { generation, sub });
+    Ok(())
 }
 
 /// `retry GEN SUB`
-pub(crate) fn retry(words: &[&[u8]], queues: usize) -> Result<Command, FaultKind>
-    ensures { result ≡ retry_words queues (map (λ word. word.now) words.now) }
-{
-    match words {
-        [generation, sub] => retry_fields(generation, sub, queues),
-        _ => Err(FaultKind::WordCount),
-    }
-}
-
 #[tactic(auto, unfolding(crate::specs::Forms::retry_fields))]
 #[inline(never)]
-fn retry_fields(generation: &[u8], sub: &[u8], queues: usize) -> Result<Command, FaultKind>
-    ensures { result ≡ retry_fields queues generation.now sub.now }
+pub(crate) fn retry(words: &[&[u8]], queues: usize, command: &mut Command) -> Result<(), FaultKind>
+    ensures { Makes command.new result (retry_words queues (map (λ word. word.now) words.now)) }
 {
+    let [generation, sub] = words else {
+        return Err(FaultKind::WordCount);
+    };
     let generation = fields::number(generation)?;
     let (queue, sub) = fields::sub(sub, queues)?;
-    Ok(Command::on_queue(queue, Op::Retry { generation, sub }))
+    *command = Command::on_queue(queue, Op::Retry { generation, sub });
+    Ok(())
 }
 
 /// `ack GEN SUB TOKEN`
-pub(crate) fn ack(words: &[&[u8]], queues: usize) -> Result<Command, FaultKind>
-    ensures { result ≡ ack_words queues (map (λ word. word.now) words.now) }
+pub(crate) fn ack(words: &[&[u8]], queues: usize, command: &mut Command) -> Result<(), FaultKind>
+    ensures { Makes command.new result (ack_words queues (map (λ word. word.now) words.now)) }
 {
     match words {
-        [generation, sub, token] => ack_fields(generation, sub, token, queues),
+        [generation, sub, token] => ack_fields(generation, sub, token, queues, command),
         _ => Err(FaultKind::WordCount),
     }
 }
@@ -89,28 +86,30 @@ fn ack_fields(
     sub: &[u8],
     token: &[u8],
     queues: usize,
-) -> Result<Command, FaultKind>
-    ensures { result ≡ ack_fields queues generation.now sub.now token.now }
+    command: &mut Command,
+) -> Result<(), FaultKind>
+    ensures { Makes command.new result (ack_fields queues generation.now sub.now token.now) }
 {
     let generation = fields::number(generation)?;
     let (queue, sub) = fields::sub(sub, queues)?;
     let token = fields::token(token)?;
-    Ok(Command::on_queue(
+    *command = Command::on_queue(
         queue,
         Op::Ack {
             generation,
             sub,
             token,
         },
-    ))
+    );
+    Ok(())
 }
 
 /// `purge Q GEN KEEP`
-pub(crate) fn purge(words: &[&[u8]], queues: usize) -> Result<Command, FaultKind>
-    ensures { result ≡ purge_words queues (map (λ word. word.now) words.now) }
+pub(crate) fn purge(words: &[&[u8]], queues: usize, command: &mut Command) -> Result<(), FaultKind>
+    ensures { Makes command.new result (purge_words queues (map (λ word. word.now) words.now)) }
 {
     match words {
-        [queue, generation, keep] => purge_fields(queue, generation, keep, queues),
+        [queue, generation, keep] => purge_fields(queue, generation, keep, queues, command),
         _ => Err(FaultKind::WordCount),
     }
 }
@@ -122,74 +121,88 @@ fn purge_fields(
     generation: &[u8],
     keep: &[u8],
     queues: usize,
-) -> Result<Command, FaultKind>
-    ensures { result ≡ purge_fields queues queue.now generation.now keep.now }
+    command: &mut Command,
+) -> Result<(), FaultKind>
+    ensures { Makes command.new result (purge_fields queues queue.now generation.now keep.now) }
 {
     let queue = fields::queue(queue, queues)?;
     let generation = fields::number(generation)?;
     let keep = fields::short_number(keep)?;
-    Ok(Command::on_queue(queue, Op::Purge { generation, keep }))
+    *command = Command::on_queue(queue, Op::Purge { generation, keep });
+    Ok(())
 }
 
 /// `move Q SILO`
-pub(crate) fn move_queue(words: &[&[u8]], queues: usize) -> Result<Command, FaultKind>
-    ensures { result ≡ move_words queues (map (λ word. word.now) words.now) }
-{
-    match words {
-        [queue, silo] => move_fields(queue, silo, queues),
-        _ => Err(FaultKind::WordCount),
-    }
-}
-
 #[tactic(auto, unfolding(crate::specs::Forms::move_fields))]
 #[inline(never)]
-fn move_fields(queue: &[u8], silo: &[u8], queues: usize) -> Result<Command, FaultKind>
-    ensures { result ≡ move_fields queues queue.now silo.now }
+pub(crate) fn move_queue(
+    words: &[&[u8]],
+    queues: usize,
+    command: &mut Command,
+) -> Result<(), FaultKind>
+    ensures { Makes command.new result (move_words queues (map (λ word. word.now) words.now)) }
 {
+    let [queue, silo] = words else {
+        return Err(FaultKind::WordCount);
+    };
     let queue = fields::queue(queue, queues)?;
     let silo = fields::silo(silo)?;
-    Ok(Command::on_queue(queue, Op::Move { silo }))
+    *command = Command::on_queue(queue, Op::Move { silo });
+    Ok(())
 }
 
 /// `begin Q GRAIN` or `begin Q GRAIN MAX`
-pub(crate) fn begin(words: &[&[u8]], queues: usize) -> Result<Command, FaultKind>
-    ensures { result ≡ begin_words queues (map (λ word. word.now) words.now) }
+pub(crate) fn begin(words: &[&[u8]], queues: usize, command: &mut Command) -> Result<(), FaultKind>
+    ensures { Makes command.new result (begin_words queues (map (λ word. word.now) words.now)) }
 {
     match words {
-        [queue, grain] => begin_one(queue, grain, queues),
-        [queue, grain, max] => begin_most(queue, grain, max, queues),
+        [queue, grain] => begin_one(queue, grain, queues, command),
+        [queue, grain, max] => begin_most(queue, grain, max, queues, command),
         _ => Err(FaultKind::WordCount),
     }
 }
 
 #[tactic(auto, unfolding(crate::specs::Forms::begin_one))]
 #[inline(never)]
-fn begin_one(queue: &[u8], grain: &[u8], queues: usize) -> Result<Command, FaultKind>
-    ensures { result ≡ begin_one queues queue.now grain.now }
+fn begin_one(
+    queue: &[u8],
+    grain: &[u8],
+    queues: usize,
+    command: &mut Command,
+) -> Result<(), FaultKind>
+    ensures { Makes command.new result (begin_one queues queue.now grain.now) }
 {
     let queue = fields::queue(queue, queues)?;
     let grain = fields::grain(grain)?;
-    Ok(Command::on_queue(queue, Op::Begin { grain, max: 1 }))
+    *command = Command::on_queue(queue, Op::Begin { grain, max: 1 });
+    Ok(())
 }
 
 #[tactic(auto, unfolding(crate::specs::Forms::begin_most))]
 #[inline(never)]
-fn begin_most(queue: &[u8], grain: &[u8], max: &[u8], queues: usize) -> Result<Command, FaultKind>
-    ensures { result ≡ begin_most queues queue.now grain.now max.now }
+fn begin_most(
+    queue: &[u8],
+    grain: &[u8],
+    max: &[u8],
+    queues: usize,
+    command: &mut Command,
+) -> Result<(), FaultKind>
+    ensures { Makes command.new result (begin_most queues queue.now grain.now max.now) }
 {
     let queue = fields::queue(queue, queues)?;
     let grain = fields::grain(grain)?;
     let max = fields::short_number(max)?;
-    Ok(Command::on_queue(queue, Op::Begin { grain, max }))
+    *command = Command::on_queue(queue, Op::Begin { grain, max });
+    Ok(())
 }
 
 /// `commit Q GRAIN ACTIVATION TURN NOTE`
-pub(crate) fn commit(words: &[&[u8]], queues: usize) -> Result<Command, FaultKind>
-    ensures { result ≡ commit_words queues (map (λ word. word.now) words.now) }
+pub(crate) fn commit(words: &[&[u8]], queues: usize, command: &mut Command) -> Result<(), FaultKind>
+    ensures { Makes command.new result (commit_words queues (map (λ word. word.now) words.now)) }
 {
     match words {
         [queue, grain, activation, turn, note] => {
-            commit_fields(queue, grain, activation, turn, note, queues)
+            commit_fields(queue, grain, activation, turn, note, queues, command)
         }
         _ => Err(FaultKind::WordCount),
     }
@@ -204,15 +217,16 @@ fn commit_fields(
     turn: &[u8],
     note: &[u8],
     queues: usize,
-) -> Result<Command, FaultKind>
-    ensures { result ≡ commit_fields queues queue.now grain.now activation.now turn.now note.now }
+    command: &mut Command,
+) -> Result<(), FaultKind>
+    ensures { Makes command.new result (commit_fields queues queue.now grain.now activation.now turn.now note.now) }
 {
     let queue = fields::queue(queue, queues)?;
     let grain = fields::grain(grain)?;
     let activation = fields::number(activation)?;
     let turn = fields::number(turn)?;
     let note = fields::number(note)?;
-    Ok(Command::on_queue(
+    *command = Command::on_queue(
         queue,
         Op::Commit {
             grain,
@@ -220,85 +234,99 @@ fn commit_fields(
             turn,
             note,
         },
-    ))
+    );
+    Ok(())
 }
 
 /// `deactivate Q GRAIN`
-pub(crate) fn deactivate(words: &[&[u8]], queues: usize) -> Result<Command, FaultKind>
-    ensures { result ≡ deactivate_words queues (map (λ word. word.now) words.now) }
-{
-    match words {
-        [queue, grain] => deactivate_fields(queue, grain, queues),
-        _ => Err(FaultKind::WordCount),
-    }
-}
-
 #[tactic(auto, unfolding(crate::specs::Forms::deactivate_fields))]
 #[inline(never)]
-fn deactivate_fields(queue: &[u8], grain: &[u8], queues: usize) -> Result<Command, FaultKind>
-    ensures { result ≡ deactivate_fields queues queue.now grain.now }
+pub(crate) fn deactivate(
+    words: &[&[u8]],
+    queues: usize,
+    command: &mut Command,
+) -> Result<(), FaultKind>
+    ensures { Makes command.new result (deactivate_words queues (map (λ word. word.now) words.now)) }
 {
+    let [queue, grain] = words else {
+        return Err(FaultKind::WordCount);
+    };
     let queue = fields::queue(queue, queues)?;
     let grain = fields::grain(grain)?;
-    Ok(Command::on_queue(queue, Op::Deactivate { grain }))
+    *command = Command::on_queue(queue, Op::Deactivate { grain });
+    Ok(())
 }
 
 /// `ready Q` or `ready Q GRAIN`
-pub(crate) fn ready(words: &[&[u8]], queues: usize) -> Result<Command, FaultKind>
-    ensures { result ≡ ready_words queues (map (λ word. word.now) words.now) }
+pub(crate) fn ready(words: &[&[u8]], queues: usize, command: &mut Command) -> Result<(), FaultKind>
+    ensures { Makes command.new result (ready_words queues (map (λ word. word.now) words.now)) }
 {
     match words {
-        [queue] => ready_first(queue, queues),
-        [queue, grain] => ready_after(queue, grain, queues),
+        [queue] => ready_first(queue, queues, command),
+        [queue, grain] => ready_after(queue, grain, queues, command),
         _ => Err(FaultKind::WordCount),
     }
 }
 
 #[tactic(auto, unfolding(crate::specs::Forms::ready_first))]
 #[inline(never)]
-fn ready_first(queue: &[u8], queues: usize) -> Result<Command, FaultKind>
-    ensures { result ≡ ready_first queues queue.now }
+fn ready_first(queue: &[u8], queues: usize, command: &mut Command) -> Result<(), FaultKind>
+    ensures { Makes command.new result (ready_first queues queue.now) }
 {
     let queue = fields::queue(queue, queues)?;
-    Ok(Command::on_queue(queue, Op::Ready { after: None }))
+    *command = Command::on_queue(queue, Op::Ready { after: None });
+    Ok(())
 }
 
 #[tactic(auto, unfolding(crate::specs::Forms::ready_after))]
 #[inline(never)]
-fn ready_after(queue: &[u8], grain: &[u8], queues: usize) -> Result<Command, FaultKind>
-    ensures { result ≡ ready_after queues queue.now grain.now }
+fn ready_after(
+    queue: &[u8],
+    grain: &[u8],
+    queues: usize,
+    command: &mut Command,
+) -> Result<(), FaultKind>
+    ensures { Makes command.new result (ready_after queues queue.now grain.now) }
 {
     let queue = fields::queue(queue, queues)?;
     let after = Some(fields::grain(grain)?);
-    Ok(Command::on_queue(queue, Op::Ready { after }))
+    *command = Command::on_queue(queue, Op::Ready { after });
+    Ok(())
 }
 
 /// `due Q` or `due Q SUB`
-pub(crate) fn due(words: &[&[u8]], queues: usize) -> Result<Command, FaultKind>
-    ensures { result ≡ due_words queues (map (λ word. word.now) words.now) }
+pub(crate) fn due(words: &[&[u8]], queues: usize, command: &mut Command) -> Result<(), FaultKind>
+    ensures { Makes command.new result (due_words queues (map (λ word. word.now) words.now)) }
 {
     match words {
-        [queue] => due_first(queue, queues),
-        [queue, sub] => due_after(queue, sub, queues),
+        [queue] => due_first(queue, queues, command),
+        [queue, sub] => due_after(queue, sub, queues, command),
         _ => Err(FaultKind::WordCount),
     }
 }
 
 #[tactic(auto, unfolding(crate::specs::Forms::due_first))]
 #[inline(never)]
-fn due_first(queue: &[u8], queues: usize) -> Result<Command, FaultKind>
-    ensures { result ≡ due_first queues queue.now }
+fn due_first(queue: &[u8], queues: usize, command: &mut Command) -> Result<(), FaultKind>
+    ensures { Makes command.new result (due_first queues queue.now) }
 {
     let queue = fields::queue(queue, queues)?;
-    Ok(Command::on_queue(queue, Op::Due { after: None }))
+    *command = Command::on_queue(queue, Op::Due { after: None });
+    Ok(())
 }
 
 #[tactic(auto, unfolding(crate::specs::Forms::due_after))]
 #[inline(never)]
-fn due_after(queue: &[u8], sub: &[u8], queues: usize) -> Result<Command, FaultKind>
-    ensures { result ≡ due_after queues queue.now sub.now }
+fn due_after(
+    queue: &[u8],
+    sub: &[u8],
+    queues: usize,
+    command: &mut Command,
+) -> Result<(), FaultKind>
+    ensures { Makes command.new result (due_after queues queue.now sub.now) }
 {
     let queue = fields::queue(queue, queues)?;
     let after = Some(fields::own_sub(sub, queue, queues)?);
-    Ok(Command::on_queue(queue, Op::Due { after }))
+    *command = Command::on_queue(queue, Op::Due { after });
+    Ok(())
 }

@@ -245,14 +245,14 @@ pub(crate) enum Verb {
 }
 
 impl Verb {
-    /// The verb that a word is.
+    /// The verb that a word is. Those of agents and workers come first, since a simulation has most of them.
     pub(crate) fn of(word: &[u8]) -> Option<Verb>
         ensures { result ≡ verb_of word.now }
     {
-        Verb::of_producer(word)
-            .or_else(|| Verb::of_agent(word))
+        Verb::of_agent(word)
             .or_else(|| Verb::of_worker(word))
             .or_else(|| Verb::of_look(word))
+            .or_else(|| Verb::of_producer(word))
             .or_else(|| Verb::of_operator(word))
     }
 

@@ -36,7 +36,7 @@ fn text<'a>(piece: &'a Piece) -> Result<&'a [u8], FaultKind>
 pub(crate) fn words<'a>(alloc: Global, pieces: &[Piece<'a>]) -> Result<Vec<&'a [u8]>, LineError>
     ensures { Gives (λ v. map (λ word. word.now) v.items) result (words_of (pieces_in pieces.now)) }
 {
-    let mut words = Vec::new(alloc);
+    let mut words = Vec::with_capacity(alloc, pieces.len())?;
     for piece in pieces {
         let word = word(piece)?;
         words.push(word)?;

@@ -10,6 +10,9 @@ use std::alloc::{AllocError, Global};
 use std::marker::Model;
 use stream_ident::split_once;
 
+/// The most words of a command. Only behind `pub` there may be more pieces.
+const MOST_WORDS: usize = 6;
+
 /// The lines of a script that are left, in order, each without its line feed and the carriage return
 /// before it.
 #[derive(Drop)]
@@ -82,7 +85,7 @@ pub(crate) fn pieces<'a>(
 ) -> Result<Option<Vec<Piece<'a>>>, AllocError>
     ensures { IfOk result (λ found. option_map (λ v. pieces_in v.items) found ≡ pieces_of line.now) }
 {
-    let mut pieces = Vec::new(alloc);
+    let mut pieces = Vec::with_capacity(alloc, MOST_WORDS)?;
     let mut rest = line;
     while let [first, after @ ..] = rest {
         if *first == b' ' {

@@ -1,16 +1,17 @@
 //! From a line's bytes to its command: its verb, and for the verbs of producers and operators what stands behind them.
 //!
-//! A command takes some 300 bytes, and a payload 258. What hands one on isn't inlined, since a function that inlined all
-//! of them would have the room of each in its frame, and would clear it for every line.
+//! A command takes some 300 bytes, and each function that handed one on would clear its room and copy it. So the caller
+//! has the room, and the function that knows the command's fields puts it there. Those functions aren't inlined, since a
+//! function that inlined all of them would have the room of each field in its frame, and would clear it for every line.
 ghost use Rattle.std.specs.Prelude.{◌≡◌, ◌≤◌, map, IfOk, Ok, Err};
 ghost use Rattle.std.specs.List.{list_all};
 ghost use Rattle.stream_ident.specs.Alphabet.{is_printable};
 ghost use Rattle.stream_script.specs.declared.parser.command.Command.{Command};
-ghost use Rattle.stream_script.specs.Forms.{queue_of, verb_command, words_command, alone, pub_command, pub_fields, sub_words, sub_latest, sub_from, unsub_words, unsub_fields, rule_words, rule_fields, up_words, up_fields, down_words, down_fields};
+ghost use Rattle.stream_script.specs.Forms.{queue_of, verb_command, words_command, alone, pub_command, pub_fields, sub_words, sub_latest, sub_from, unsub_words, rule_words, up_words, down_words};
 ghost use Rattle.stream_script.specs.Grammar.{Reads};
 ghost use Rattle.stream_script.specs.Lexer.{pieces_in};
 ghost use Rattle.stream_script.specs.Pieces.{is_space};
-ghost use Rattle.stream_script.specs.Reading.{Gives, IsWithin, reading, is_comment, is_skipped, line_command, command_of};
+ghost use Rattle.stream_script.specs.Reading.{Gives, Makes, IsWithin, parsed_as, reading, is_comment, is_skipped, line_command, command_of};
 
 use crate::parser::command::{
     Command, EachOp, Fault, FaultKind, LineError, Mode, Parsed, Verb, not_here,
@@ -45,13 +46,12 @@ pub fn parse_line(
     ensures only { (command : Command) → Reads mode queues bytes.now command
         → IfOk result (λ parsed. parsed ≡ Parsed.Command command) }
 {
-    read_line(alloc, bytes, line, queues, mode)
+    parsed(alloc, bytes, line, queues, mode)
 }
 
-/// What a line is.
-#[tactic(auto, unfolding(crate::specs::Reading::reading))]
+/// What a line is, with its command.
 #[inline(never)]
-fn read_line(
+fn parsed(
     alloc: Global,
     bytes: &[u8],
     line: usize,
@@ -61,12 +61,34 @@ fn read_line(
     requires { 1 ≤ queues }
     ensures { IfOk result (λ parsed. parsed ≡ reading queues mode line bytes.now) }
 {
-    if is_skipped(bytes) {
-        return Ok(Parsed::Skip);
+    let mut command = Command::Drain;
+    match read_line(alloc, bytes, line, queues, mode, &mut command)? {
+        Ok(true) => Ok(Parsed::Command(command)),
+        Ok(false) => Ok(Parsed::Skip),
+        Err(fault) => Ok(Parsed::Fault(fault)),
     }
-    match line_command(alloc, bytes, queues, mode) {
-        Ok(command) => Ok(Parsed::Command(command)),
-        Err(LineError::Fault(kind)) => Ok(Parsed::Fault(Fault { line, kind })),
+}
+
+/// Whether a line is a command, which then is put in the place of `command`, or its first fault.
+#[tactic(auto, unfolding(crate::specs::Reading::reading))]
+#[inline(never)]
+pub(crate) fn read_line(
+    alloc: Global,
+    bytes: &[u8],
+    line: usize,
+    queues: usize,
+    mode: Mode,
+    command: &mut Command,
+) -> Result<Result<bool, Fault>, AllocError>
+    requires { 1 ≤ queues }
+    ensures { IfOk result (λ read. parsed_as read command.new ≡ reading queues mode line bytes.now) }
+{
+    if is_skipped(bytes) {
+        return Ok(Ok(false));
+    }
+    match line_command(alloc, bytes, queues, mode, command) {
+        Ok(()) => Ok(Ok(true)),
+        Err(LineError::Fault(kind)) => Ok(Err(Fault { line, kind })),
         Err(LineError::Memory) => Err(AllocError),
     }
 }
@@ -102,16 +124,17 @@ pub(crate) fn are_printable(bytes: &[u8]) -> bool
     bytes.iter().all(|byte| matches!(*byte, b' '..=b'~'))
 }
 
-/// The command of a line that isn't skipped.
+/// The command of a line that isn't skipped, in the place of `command`.
 #[inline(never)]
 fn line_command(
     alloc: Global,
     bytes: &[u8],
     queues: usize,
     mode: Mode,
-) -> Result<Command, LineError>
+    command: &mut Command,
+) -> Result<(), LineError>
     requires { 1 ≤ queues }
-    ensures { Gives (λ command. command) result (line_command mode queues bytes.now) }
+    ensures { Gives (λ _. command.new) result (line_command mode queues bytes.now) }
 {
     if !are_printable(bytes) {
         return Err(LineError::Fault(FaultKind::BadByte));
@@ -119,14 +142,20 @@ fn line_command(
     let Some(pieces) = pieces(alloc, bytes)? else {
         return Err(LineError::Fault(FaultKind::BadText));
     };
-    command(alloc, &pieces, queues, mode)
+    of_pieces(alloc, &pieces, queues, mode, command)
 }
 
 /// The command of a line's pieces.
 #[inline(never)]
-fn command(alloc: Global, pieces: &[Piece], queues: usize, mode: Mode) -> Result<Command, LineError>
+fn of_pieces(
+    alloc: Global,
+    pieces: &[Piece],
+    queues: usize,
+    mode: Mode,
+    command: &mut Command,
+) -> Result<(), LineError>
     requires { 1 ≤ queues }
-    ensures { Gives (λ command. command) result (command_of mode queues (pieces_in pieces.now)) }
+    ensures { Gives (λ _. command.new) result (command_of mode queues (pieces_in pieces.now)) }
 {
     let [first, rest @ ..] = pieces else {
         return Err(LineError::Fault(FaultKind::BadCommand));
@@ -135,99 +164,116 @@ fn command(alloc: Global, pieces: &[Piece], queues: usize, mode: Mode) -> Result
     if !verb.may_stand(mode) {
         return Err(LineError::Fault(not_here(mode)));
     }
-    of_verb(alloc, verb, rest, queues)
+    of_verb(alloc, verb, rest, queues, command)
 }
 
 /// The command of a verb and the pieces behind it.
 #[inline(never)]
-fn of_verb(alloc: Global, verb: Verb, pieces: &[Piece], queues: usize) -> Result<Command, LineError>
+fn of_verb(
+    alloc: Global,
+    verb: Verb,
+    pieces: &[Piece],
+    queues: usize,
+    command: &mut Command,
+) -> Result<(), LineError>
     requires { 1 ≤ queues }
-    ensures { Gives (λ command. command) result (verb_command verb queues (pieces_in pieces.now)) }
+    ensures { Gives (λ _. command.new) result (verb_command verb queues (pieces_in pieces.now)) }
 {
     if verb.takes_texts() {
-        return publish(alloc, pieces, queues);
+        return publish(alloc, pieces, queues, command);
     }
     let words = fields::words(alloc, pieces)?;
-    Ok(of_words(verb, &words, queues)?)
+    Ok(of_words(verb, &words, queues, command)?)
 }
 
 /// The command of a verb and the words behind it.
 #[inline(never)]
-fn of_words(verb: Verb, words: &[&[u8]], queues: usize) -> Result<Command, FaultKind>
+fn of_words(
+    verb: Verb,
+    words: &[&[u8]],
+    queues: usize,
+    command: &mut Command,
+) -> Result<(), FaultKind>
     requires { 1 ≤ queues }
-    ensures { result ≡ words_command verb queues (map (λ word. word.now) words.now) }
+    ensures { Makes command.new result (words_command verb queues (map (λ word. word.now) words.now)) }
 {
     match verb {
         // Texts stand behind it.
         Verb::Pub => Err(FaultKind::WordCount),
-        Verb::Sub => subscribe(words, queues),
-        Verb::Unsub => unsubscribe(words, queues),
-        Verb::Rule => rule(words),
-        Verb::Pull => agent_forms::pull(words, queues),
-        Verb::Deliver => agent_forms::deliver(words, queues),
-        Verb::Retry => agent_forms::retry(words, queues),
-        Verb::Ack => agent_forms::ack(words, queues),
-        Verb::Purge => agent_forms::purge(words, queues),
-        Verb::Move => agent_forms::move_queue(words, queues),
-        Verb::Begin => agent_forms::begin(words, queues),
-        Verb::Commit => agent_forms::commit(words, queues),
-        Verb::Deactivate => agent_forms::deactivate(words, queues),
-        Verb::Ready => agent_forms::ready(words, queues),
-        Verb::Due => agent_forms::due(words, queues),
-        Verb::Report => report(words),
-        Verb::Quiet => quiet(words),
-        Verb::Drain => drain(words),
-        Verb::Up => up(words),
-        Verb::Down => down(words),
+        Verb::Sub => subscribe(words, queues, command),
+        Verb::Unsub => unsubscribe(words, queues, command),
+        Verb::Rule => rule(words, command),
+        Verb::Pull => agent_forms::pull(words, queues, command),
+        Verb::Deliver => agent_forms::deliver(words, queues, command),
+        Verb::Retry => agent_forms::retry(words, queues, command),
+        Verb::Ack => agent_forms::ack(words, queues, command),
+        Verb::Purge => agent_forms::purge(words, queues, command),
+        Verb::Move => agent_forms::move_queue(words, queues, command),
+        Verb::Begin => agent_forms::begin(words, queues, command),
+        Verb::Commit => agent_forms::commit(words, queues, command),
+        Verb::Deactivate => agent_forms::deactivate(words, queues, command),
+        Verb::Ready => agent_forms::ready(words, queues, command),
+        Verb::Due => agent_forms::due(words, queues, command),
+        Verb::Report => report(words, command),
+        Verb::Quiet => quiet(words, command),
+        Verb::Drain => drain(words, command),
+        Verb::Up => up(words, command),
+        Verb::Down => down(words, command),
     }
 }
 
 /// `report`
 #[inline(never)]
-fn report(words: &[&[u8]]) -> Result<Command, FaultKind>
-    ensures { result ≡ alone Command.Report (map (λ word. word.now) words.now) }
+fn report(words: &[&[u8]], command: &mut Command) -> Result<(), FaultKind>
+    ensures { Makes command.new result (alone Command.Report (map (λ word. word.now) words.now)) }
 {
-    alone(Command::Report, words)
+    alone(Command::Report, words, command)
 }
 
 /// `quiet`
 #[inline(never)]
-fn quiet(words: &[&[u8]]) -> Result<Command, FaultKind>
-    ensures { result ≡ alone (Command.Each EachOp.Quiet) (map (λ word. word.now) words.now) }
+fn quiet(words: &[&[u8]], command: &mut Command) -> Result<(), FaultKind>
+    ensures { Makes command.new result (alone (Command.Each EachOp.Quiet) (map (λ word. word.now) words.now)) }
 {
-    alone(Command::Each(EachOp::Quiet), words)
+    alone(Command::Each(EachOp::Quiet), words, command)
 }
 
 /// `drain`
 #[inline(never)]
-fn drain(words: &[&[u8]]) -> Result<Command, FaultKind>
-    ensures { result ≡ alone Command.Drain (map (λ word. word.now) words.now) }
+fn drain(words: &[&[u8]], command: &mut Command) -> Result<(), FaultKind>
+    ensures { Makes command.new result (alone Command.Drain (map (λ word. word.now) words.now)) }
 {
-    alone(Command::Drain, words)
+    alone(Command::Drain, words, command)
 }
 
 /// A command whose word stands alone.
-fn alone(command: Command, words: &[&[u8]]) -> Result<Command, FaultKind>
-    ensures { result ≡ alone command (map (λ word. word.now) words.now) }
+fn alone(made: Command, words: &[&[u8]], command: &mut Command) -> Result<(), FaultKind>
+    ensures { Makes command.new result (alone made (map (λ word. word.now) words.now)) }
 {
     if !words.is_empty() {
         return Err(FaultKind::WordCount);
     }
-    Ok(command)
+    *command = made;
+    Ok(())
 }
 
 /// `pub STREAM TEXT ..`
 #[inline(never)]
-fn publish(alloc: Global, pieces: &[Piece], queues: usize) -> Result<Command, LineError>
+fn publish(
+    alloc: Global,
+    pieces: &[Piece],
+    queues: usize,
+    command: &mut Command,
+) -> Result<(), LineError>
     requires { 1 ≤ queues }
-    ensures { Gives (λ command. command) result (pub_command queues (pieces_in pieces.now)) }
+    ensures { Gives (λ _. command.new) result (pub_command queues (pieces_in pieces.now)) }
 {
     let [first, rest @ ..] = pieces else {
         return Err(LineError::Fault(FaultKind::WordCount));
     };
     let stream = fields::word(first)?;
     let texts = fields::texts(alloc, rest)?;
-    publish_fields(alloc, stream, &texts, queues)
+    publish_fields(alloc, stream, &texts, queues, command)
 }
 
 #[tactic(auto, unfolding(crate::specs::Forms::pub_fields))]
@@ -237,13 +283,15 @@ fn publish_fields(
     stream: &[u8],
     texts: &[&[u8]],
     queues: usize,
-) -> Result<Command, LineError>
+    command: &mut Command,
+) -> Result<(), LineError>
     requires { 1 ≤ queues }
-    ensures { Gives (λ command. command) result (pub_fields queues stream.now (map (λ text. text.now) texts.now)) }
+    ensures { Gives (λ _. command.new) result (pub_fields queues stream.now (map (λ text. text.now) texts.now)) }
 {
     let stream = fields::stream(stream)?;
     let payloads = fields::payloads(alloc, texts)?;
-    Ok(publication(stream, payloads, queues))
+    *command = publication(stream, payloads, queues);
+    Ok(())
 }
 
 /// A batch for the stream's queue.
@@ -263,13 +311,13 @@ fn publication(stream: StreamId, payloads: Vec<Payload>, queues: usize) -> Comma
 }
 
 /// `sub STREAM GRAIN latest` or `sub STREAM GRAIN from TOKEN`
-fn subscribe(words: &[&[u8]], queues: usize) -> Result<Command, FaultKind>
+fn subscribe(words: &[&[u8]], queues: usize, command: &mut Command) -> Result<(), FaultKind>
     requires { 1 ≤ queues }
-    ensures { result ≡ sub_words queues (map (λ word. word.now) words.now) }
+    ensures { Makes command.new result (sub_words queues (map (λ word. word.now) words.now)) }
 {
     match words {
-        [stream, grain, word] => subscribe_latest(stream, grain, word, queues),
-        [stream, grain, word, token] => subscribe_from(stream, grain, word, token, queues),
+        [stream, grain, word] => subscribe_latest(stream, grain, word, queues, command),
+        [stream, grain, word, token] => subscribe_from(stream, grain, word, token, queues, command),
         _ => Err(FaultKind::WordCount),
     }
 }
@@ -281,16 +329,18 @@ fn subscribe_latest(
     grain: &[u8],
     word: &[u8],
     queues: usize,
-) -> Result<Command, FaultKind>
+    command: &mut Command,
+) -> Result<(), FaultKind>
     requires { 1 ≤ queues }
-    ensures { result ≡ sub_latest queues stream.now grain.now word.now }
+    ensures { Makes command.new result (sub_latest queues stream.now grain.now word.now) }
 {
     let stream = fields::stream(stream)?;
     let grain = fields::grain(grain)?;
     if word != b"latest".as_slice() {
         return Err(FaultKind::BadCommand);
     }
-    Ok(subscription(stream, grain, Start::Latest, queues))
+    *command = subscription(stream, grain, Start::Latest, queues);
+    Ok(())
 }
 
 #[tactic(auto, unfolding(crate::specs::Forms::sub_from))]
@@ -301,9 +351,10 @@ fn subscribe_from(
     word: &[u8],
     token: &[u8],
     queues: usize,
-) -> Result<Command, FaultKind>
+    command: &mut Command,
+) -> Result<(), FaultKind>
     requires { 1 ≤ queues }
-    ensures { result ≡ sub_from queues stream.now grain.now word.now token.now }
+    ensures { Makes command.new result (sub_from queues stream.now grain.now word.now token.now) }
 {
     let stream = fields::stream(stream)?;
     let grain = fields::grain(grain)?;
@@ -311,7 +362,8 @@ fn subscribe_from(
         return Err(FaultKind::BadCommand);
     }
     let token = fields::token(token)?;
-    Ok(subscription(stream, grain, Start::At(token), queues))
+    *command = subscription(stream, grain, Start::At(token), queues);
+    Ok(())
 }
 
 /// A subscription on the stream's queue.
@@ -331,78 +383,58 @@ fn subscription(stream: StreamId, grain: GrainId, start: Start, queues: usize) -
 }
 
 /// `unsub SUB`
-fn unsubscribe(words: &[&[u8]], queues: usize) -> Result<Command, FaultKind>
-    ensures { result ≡ unsub_words queues (map (λ word. word.now) words.now) }
-{
-    match words {
-        [sub] => unsubscribe_fields(sub, queues),
-        _ => Err(FaultKind::WordCount),
-    }
-}
-
 #[tactic(auto, unfolding(crate::specs::Forms::unsub_fields))]
 #[inline(never)]
-fn unsubscribe_fields(sub: &[u8], queues: usize) -> Result<Command, FaultKind>
-    ensures { result ≡ unsub_fields queues sub.now }
+fn unsubscribe(words: &[&[u8]], queues: usize, command: &mut Command) -> Result<(), FaultKind>
+    ensures { Makes command.new result (unsub_words queues (map (λ word. word.now) words.now)) }
 {
+    let [sub] = words else {
+        return Err(FaultKind::WordCount);
+    };
     let (queue, sub) = fields::sub(sub, queues)?;
-    Ok(Command::on_queue(queue, Op::Unsubscribe { sub }))
+    *command = Command::on_queue(queue, Op::Unsubscribe { sub });
+    Ok(())
 }
 
 /// `rule KIND NS`
-fn rule(words: &[&[u8]]) -> Result<Command, FaultKind>
-    ensures { result ≡ rule_words (map (λ word. word.now) words.now) }
-{
-    match words {
-        [kind, namespace] => rule_fields(kind, namespace),
-        _ => Err(FaultKind::WordCount),
-    }
-}
-
 #[tactic(auto, unfolding(crate::specs::Forms::rule_fields))]
 #[inline(never)]
-fn rule_fields(kind: &[u8], namespace: &[u8]) -> Result<Command, FaultKind>
-    ensures { result ≡ rule_fields kind.now namespace.now }
+fn rule(words: &[&[u8]], command: &mut Command) -> Result<(), FaultKind>
+    ensures { Makes command.new result (rule_words (map (λ word. word.now) words.now)) }
 {
+    let [kind, namespace] = words else {
+        return Err(FaultKind::WordCount);
+    };
     let kind = fields::bare_name(kind)?;
     let namespace = fields::bare_name(namespace)?;
-    Ok(Command::Each(EachOp::Rule { kind, namespace }))
+    *command = Command::Each(EachOp::Rule { kind, namespace });
+    Ok(())
 }
 
 /// `up SILO`
-fn up(words: &[&[u8]]) -> Result<Command, FaultKind>
-    ensures { result ≡ up_words (map (λ word. word.now) words.now) }
-{
-    match words {
-        [silo] => up_fields(silo),
-        _ => Err(FaultKind::WordCount),
-    }
-}
-
 #[tactic(auto, unfolding(crate::specs::Forms::up_fields))]
 #[inline(never)]
-fn up_fields(silo: &[u8]) -> Result<Command, FaultKind>
-    ensures { result ≡ up_fields silo.now }
+fn up(words: &[&[u8]], command: &mut Command) -> Result<(), FaultKind>
+    ensures { Makes command.new result (up_words (map (λ word. word.now) words.now)) }
 {
+    let [silo] = words else {
+        return Err(FaultKind::WordCount);
+    };
     let silo = fields::silo(silo)?;
-    Ok(Command::Up { silo })
+    *command = Command::Up { silo };
+    Ok(())
 }
 
 /// `down SILO`
-fn down(words: &[&[u8]]) -> Result<Command, FaultKind>
-    ensures { result ≡ down_words (map (λ word. word.now) words.now) }
-{
-    match words {
-        [silo] => down_fields(silo),
-        _ => Err(FaultKind::WordCount),
-    }
-}
-
 #[tactic(auto, unfolding(crate::specs::Forms::down_fields))]
 #[inline(never)]
-fn down_fields(silo: &[u8]) -> Result<Command, FaultKind>
-    ensures { result ≡ down_fields silo.now }
+fn down(words: &[&[u8]], command: &mut Command) -> Result<(), FaultKind>
+    ensures { Makes command.new result (down_words (map (λ word. word.now) words.now)) }
 {
+    let [silo] = words else {
+        return Err(FaultKind::WordCount);
+    };
     let silo = fields::silo(silo)?;
-    Ok(Command::Down { silo })
+    *command = Command::Down { silo };
+    Ok(())
 }

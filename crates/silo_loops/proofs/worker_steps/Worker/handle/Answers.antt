@@ -8,4 +8,4 @@ invariant_of-self g c = (handled-at c.self.view_is c.requires.step c.self.invari
 
 pub returns : goal.returns
 returns g c =
-    handled c.self.view_is {follows = g.G.Gate.follows} c.requires.step (subst (λ (w : WorkerState). c.args.turn.now.next < length w.events) (sym c.self.view_is) c.requires.next) c.index.ensures c.handle-note.ensures c.self.invariant.0
+    handled c.self.view_is {follows = g.G.Gate.follows} c.requires.step (subst (λ (w : WorkerState). c.args.turn.now.next < length w.events) (sym c.self.view_is) c.requires.next) c.index.ensures c.handle_for-note.ensures c.self.invariant.0

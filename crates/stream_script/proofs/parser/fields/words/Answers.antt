@@ -8,7 +8,7 @@ use Rattle.stream_script.proofs.parser.fields.words.Goals as goal
 pub returns-in_err-word : goal.returns-in_err-word
 returns-in_err-word c =
     let stuck = read_stuck word_of piece_of _ c.args.pieces.now c.loop-piece.piece-index c.piece-item.result c.in_err-word.field-0.0 _ c.loop-piece-test.true c.piece-item.is c.in_err-word.ensures c.loop-piece.invariant in
-    gives_fault _ c.from_residual.result c.in_err-word.field-0.0 _ c.from_residual.ensures.0 c.from_residual.ensures.1 stuck
+    gives_fault _ c.from_residual-in_err-word.result c.in_err-word.field-0.0 _ c.from_residual-in_err-word.ensures.0 c.from_residual-in_err-word.ensures.1 stuck
 
 pub loop-piece-preserved : goal.loop-piece-preserved
 loop-piece-preserved c =

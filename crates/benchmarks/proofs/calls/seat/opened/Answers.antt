@@ -1,7 +1,0 @@
-use Rattle.std.proofs.Common.{◌∙◌, ap, arith}
-use Rattle.benchmarks.proofs.calls.seat.opened.Goals as goal
-
-pub returns : goal.returns
-returns g c =
-    let made = c.in_ok-turnstile.ensures in
-    (ap (λ p. p.turnstile) made.pass, (4, _, omega arith, ap (λ x. x.state) made.start ∙ c.in_ok-shared.ensures))

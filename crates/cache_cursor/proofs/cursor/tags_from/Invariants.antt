@@ -1,0 +1,7 @@
+use Rattle.std.proofs.Common.{◌≡◌, length}
+use Rattle.cache_cursor.specs.declared.cursor.TheConstants.{TAGS}
+use Rattle.cache_cursor.proofs.SeekLemmas.{IsMarkedUpTo}
+use Rattle.cache_cursor.proofs.cursor.tags_from.Given as goal
+
+abbrev pub invariant-loop-position : goal.invariant-loop-position
+invariant-loop-position l = (length l.marks ≡ TAGS) × IsMarkedUpTo l.cache l.from l.position l.marks

@@ -1,0 +1,172 @@
+-- Subscriptions that are caught up one after another.
+use Rattle.std.proofs.Common.{◌≡◌, ◌∙◌, ap, sym, subst, refl, ℕ, zero, suc, ◌<◌, ◌≤◌, max, true, false, length, get_or, Option, Some, None, arith}
+use Rattle.std.specs.Prelude.{IfSome, MatchOption}
+use Rattle.stream_ident.specs.declared.ident.SubName.{SubName}
+use Rattle.stream_ident.specs.SubName.{sub_lt}
+use Rattle.stream_ident.specs.Words.{above, keys_where, past}
+use Rattle.stream_model.specs.declared.plain.PlainPartition.{PlainPartition}
+use Rattle.stream_model.specs.Draining.{open_names, serve}
+use Rattle.stream_model.specs.Looks.{is_due}
+use Rattle.stream_model.specs.Positions.{sub_at}
+use Rattle.stream_model.specs.Step.{IsReached}
+use Rattle.consumer_grain.specs.Subscriptions.{caught_up}
+use Rattle.grain_table.specs.Grains.{AreIdle}
+use Rattle.pubsub_registry.specs.Index.{AreUnique}
+use Rattle.pubsub_registry.specs.Registry.{PlainRegistry}
+use Rattle.pulling_agent.specs.declared.told.Sought.TheVariants as sought
+use Rattle.queue_cache.specs.Cache.{PlainCache, high}
+use Rattle.subscription_table.specs.Idle as table
+use Rattle.subscription_table.specs.Idle.{IsNextDue}
+use Rattle.subscription_table.specs.Standing.{AreRecords}
+use Rattle.subscription_table.specs.Table.{PlainTable, name_at, no_entry, state_at, with_state}
+use Rattle.subscription_table.proofs.StateLemmas.{fits-caught_up}
+use Rattle.subscription_table.proofs.TableLemmas.{Fits, records-with}
+use Rattle.step_core.specs.declared.parts.Parts.{Parts}
+use Rattle.step_core.specs.Assembly.{Agrees}
+use Rattle.step_core.specs.DrainPhases.{Ends}
+use Rattle.step_core.specs.PlainOf.{plain_of}
+use Rattle.step_core.specs.Serving.{names_of, next_due, CatchUp, CatchesUpFrom, IsCaughtUp}
+use Rattle.step_core.proofs.CatchOps.{caught-assembled, caught-reached, caught-up, caught-within}
+use Rattle.step_core.proofs.DueNames.{due-past, fewer-left, goes-on, GoesOn}
+use Rattle.step_core.proofs.HandOps.{Searched, Stands, held-idle, high-few, with_subs}
+use Rattle.step_core.proofs.KeptNames.{served-names}
+use Rattle.step_core.proofs.LeafOps.{due-is}
+use Rattle.step_core.proofs.SettledOps.{serves-caught-up}
+
+-- ---- of the parts
+
+-- one that is caught up
+record IsOne (parts : Parts) (t : PlainTable) (number : ℕ) : Type 0 where
+  pub agrees : Agrees (with_subs parts t)
+  pub registry : t.registry ≡ parts.subs.registry
+  pub caught : IsCaughtUp (plain_of parts) (plain_of (with_subs parts t)) (name_at parts.subs number)
+
+one-caught : (parts : Parts) (t : PlainTable) (number : ℕ) → Agrees parts → AreIdle parts.grains → table.CatchesUp parts.agent.cache parts.subs t number → IsOne parts t number
+one-caught parts t number agrees idle catches =
+    let stands : Stands parts number = record { agrees = agrees; within = catches.within } in
+    let between = catches.idle.between in
+    let state = state_at parts.subs number in
+    let there : number < length parts.subs.states = omega (arith, catches.within, agrees.records.long) in
+    let searched : Searched parts t number false sought.Nothing = (catches.is, between.is_open, catches.idle.none) in
+    let reach : past state.handled ≤ max state.cursor (high parts.agent.cache) = omega (arith, between.handled) in
+    let caught = caught-up parts t number stands (held-idle parts number stands idle) reach searched in
+    let registry : t.registry ≡ parts.subs.registry = ap (λ (t : PlainTable). t.registry) catches.is in
+    let fits : Fits state state = record { start = refl; openness = refl; cursor = agrees.records.cursors number there; resume = agrees.records.resumes number there } in
+    record {
+      agrees = record {
+        assembled = caught-assembled parts t number stands searched;
+        within = caught-within (plain_of parts) (plain_of (with_subs parts t)) (name_at parts.subs number) true caught agrees.within;
+        reached = caught-reached (plain_of parts) (plain_of (with_subs parts t)) (name_at parts.subs number) true caught agrees.reached;
+        unique = subst (λ (r : PlainRegistry). AreUnique r.names) (sym registry) agrees.unique;
+        records = subst AreRecords (sym catches.is)
+            (records-with parts.subs agrees.records number catches.within (caught_up (high parts.agent.cache) false state) (fits-caught_up state fits (high parts.agent.cache) false (omega (arith, high-few parts agrees))));
+        distinct = agrees.distinct;
+      };
+      registry = registry;
+      caught = caught;
+    }
+
+-- those that are caught up one after another
+pub record IsRun (parts : Parts) (t : PlainTable) (first more last : ℕ) : Type 0 where
+  pub agrees : Agrees (with_subs parts t)
+  pub registry : t.registry ≡ parts.subs.registry
+  pub within : last < length parts.subs.registry.names
+  pub caught : CatchUp (plain_of parts) (plain_of (with_subs parts t)) (name_at parts.subs first) more (name_at parts.subs last)
+
+next-is : (parts : Parts) (before number : ℕ) → IsNextDue (high parts.agent.cache) parts.subs before number → Some (name_at parts.subs number) ≡ next_due (plain_of parts) (Some (name_at parts.subs before))
+next-is parts before number next =
+    due-past (Some (name_at parts.subs before)) (keys_where (is_due (plain_of parts)) (plain_of parts).subs) (name_at parts.subs number)
+    (due-is parts (Some (name_at parts.subs before)) ∙ next.next) next.past
+
+pub run-caught : (parts : Parts) (t : PlainTable) (first more last : ℕ) → Agrees parts → AreIdle parts.grains → table.CatchUp parts.agent.cache parts.subs t first more last → IsRun parts t first more last
+run-caught parts t first zero last agrees idle (same, catches) =
+    let one = one-caught parts t first agrees idle catches in
+    record {
+      agrees = one.agrees;
+      registry = one.registry;
+      within = omega (arith, same, catches.within);
+      caught = (ap (name_at parts.subs) same, one.caught);
+    }
+run-caught parts t first (suc more) last agrees idle (mid, (before, (run, (next, catches)))) =
+    let rest = run-caught parts mid first more before agrees idle run in
+    let here = with_subs parts mid in
+    let one = one-caught here t last rest.agrees idle catches in
+    let name : (number : ℕ) → name_at mid number ≡ name_at parts.subs number = λ number. ap (λ (r : PlainRegistry). (get_or r.names number no_entry).0) rest.registry in
+    record {
+      agrees = one.agrees;
+      registry = one.registry ∙ rest.registry;
+      within = omega (arith, catches.within, ap (λ (r : PlainRegistry). length r.names) rest.registry);
+      caught = (
+        plain_of here,
+        (
+          name_at parts.subs before,
+          (
+            rest.caught,
+            (
+              subst (λ (s : SubName). Some s ≡ next_due (plain_of here) (Some (name_at parts.subs before))) (name last)
+                  (subst (λ (s : SubName). Some (name_at mid last) ≡ next_due (plain_of here) (Some s)) (name before) (next-is here before last next)),
+              subst (IsCaughtUp (plain_of here) (plain_of (with_subs parts t))) (name last) one.caught,
+            ),
+          ),
+        ),
+      );
+    }
+
+-- whether they are, where nothing has changed if they aren't
+pub record IsCaught (parts : Parts) (t : PlainTable) (number : ℕ) (o : Option ℕ) : Type 0 where
+  pub agrees : Agrees (with_subs parts t)
+  pub within : IfSome o (λ last. last < length t.registry.names)
+  pub told : CatchesUpFrom (name_at parts.subs) (plain_of parts) (plain_of (with_subs parts t)) number o
+
+pub runs-caught : (parts : Parts) (t : PlainTable) (number : ℕ) (cache : PlainCache) (o : Option ℕ) → Agrees parts → AreIdle parts.grains → cache ≡ parts.agent.cache
+    → MatchOption o (t ≡ parts.subs) (λ last. (more : ℕ) × table.CatchUp cache parts.subs t number more last) → IsCaught parts t number o
+runs-caught parts t number cache None agrees idle is same = record {
+  agrees = subst (λ (t : PlainTable). Agrees (with_subs parts t)) (sym same) agrees;
+  within = tt;
+  told = ap (λ (t : PlainTable). plain_of (with_subs parts t)) same;
+}
+runs-caught parts t number cache (Some last) agrees idle is (more, run) =
+    let rest = run-caught parts t number more last agrees idle (subst (λ (c : PlainCache). table.CatchUp c parts.subs t number more last) is run) in
+    record {
+      agrees = rest.agrees;
+      within = omega (arith, rest.within, ap (λ (r : PlainRegistry). length r.names) rest.registry);
+      told = (more, rest.caught);
+    }
+
+-- by names that are the same
+pub caught-by : (name other : ℕ → SubName) → ((number : ℕ) → name number ≡ other number) → (old new : PlainPartition) (number : ℕ) (o : Option ℕ) → CatchesUpFrom name old new number o → CatchesUpFrom other old new number o
+caught-by name other same old new number None unchanged = unchanged
+caught-by name other same old new number (Some last) (more, run) =
+    (more, subst (λ (s : SubName). CatchUp old new s more (other last)) (same number) (subst (λ (s : SubName). CatchUp old new (name number) more s) (same last) run))
+
+-- ---- of the plain partition
+
+-- they are served
+pub record IsPast (start here new : PlainPartition) (last : Option SubName) (final : SubName) : Type 0 where
+  pub reached : IsReached new
+  pub names : names_of new ≡ names_of here
+  pub goes : GoesOn start new (Some final)
+  pub fewer : length (above sub_lt (Some final) (open_names start)) < length (above sub_lt last (open_names start))
+
+one-past : (start here new : PlainPartition) (last : Option SubName) (d : SubName) → IsReached here → GoesOn start here last → Some d ≡ next_due here last → IsCaughtUp here new d → IsPast start here new last d
+one-past start here new last d reached before next caught =
+    let served : Ends here new (Some None) (serve d here (sub_at here d)) = serves-caught-up here new d caught in
+    record {
+      reached = caught-reached here new d true caught reached;
+      names = served-names here new d served;
+      goes = goes-on start here new last d reached before next served;
+      fewer = fewer-left start here last d reached before next;
+    }
+
+pub run-past : (start here new : PlainPartition) (last : Option SubName) (first : SubName) (more : ℕ) (final : SubName) → IsReached here → GoesOn start here last → Some first ≡ next_due here last → CatchUp here new first more final → IsPast start here new last final
+run-past start here new last first zero final reached before next (same, caught) =
+    subst (IsPast start here new last) (sym same) (one-past start here new last first reached before next caught)
+run-past start here new last first (suc more) final reached before next (mid, (d, (run, (after, caught)))) =
+    let rest = run-past start here mid last first more d reached before next run in
+    let one = one-past start mid new (Some d) final rest.reached rest.goes after caught in
+    record {
+      reached = one.reached;
+      names = one.names ∙ rest.names;
+      goes = one.goes;
+      fewer = omega (arith, one.fewer, rest.fewer);
+    }
