@@ -146,7 +146,10 @@ impl Visit {
             }
             AgentStep::Deliver { .. } => {
                 self.note_change(answer);
-                self.step = AgentStep::Due;
+                // Where an event was delivered, the subscription may be owed another.
+                if !answer.is_change() {
+                    self.step = AgentStep::Due;
+                }
             }
         }
     }
