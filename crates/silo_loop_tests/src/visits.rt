@@ -55,7 +55,7 @@ fn most_calls<H: QueueHistory, R: Wait + Abort>(
 
 // The four streams of the first queue have more events than the agent delivers in one visit.
 fn visit_as_agent<H: QueueHistory, D: DirectoryHistory, R: Wait + Abort>(rt: &R, alloc: Global) {
-    let mut silo = begun::<H, D, R>(rt, alloc, Tally::new(false), 10);
+    let mut silo = begun::<H, D, R>(rt, alloc, Tally::new(false), 16);
     assert!(rt; most_calls(rt, alloc, &silo.gate, &mut silo.agent) == 64);
 }
 

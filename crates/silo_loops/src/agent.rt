@@ -19,8 +19,9 @@ const MOST_STEPS: u32 = 64;
 
 /// The loop of a pulling agent, with its passes. A round is for each queue that is assigned to it, or for those of
 /// them with a hint: Pull, up to 32 times while there is something to pull, then for each due subscription Ack, where
-/// there is something to acknowledge, and Deliver, until each was named twice with nothing changed, or once in a round
-/// by hints. It names the generation that it was told; where that is stale, it goes on with the next queue.
+/// there is something to acknowledge, and Deliver, as long as an event is delivered, until each was named twice with
+/// nothing changed, or once in a round by hints. It names the generation that it was told; where that is stale, it goes
+/// on with the next queue.
 ///
 /// A contract sees its lines, the generation under which it holds each queue, as it last looked, how many more
 /// rounds it may begin, and why it has ended.

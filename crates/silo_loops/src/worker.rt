@@ -117,23 +117,25 @@ impl<G: Gate, H: QueueHistory, D: DirectoryHistory> WorkerLoop<G, H, D> {
         did
     }
 
-    /// Makes steps of the round, each as [`advance`](WorkerLoop::advance) makes it, as long as they are calls at the
-    /// queue at which it is, and at most 64. It keeps its turn there meanwhile, and rings once for all of them. So it
-    /// commits a turn and begins the grain's next one in one turn of its own. The gate handles events, and is told of a
-    /// commit, while none is kept.
+    /// Makes at most 64 steps of the round, each as [`advance`](WorkerLoop::advance) makes it: the gate handles the events
+    /// of the turn in hand, and then come calls, as long as they are at the queue at which it is. It keeps its turn there
+    /// from the first call on, and rings once for all of them. So it commits a turn and begins the grain's next one in one
+    /// turn of its own. The gate handles events, and is told of a commit, while none is kept.
     pub fn visit<R: Wait>(&mut self, rt: &R, alloc: Global) -> Advance
         ensures steps { Visits (WorkerAdvances G.follows) result self.old self.new }
         ensures beside { IsBeside self.old self.new }
     {
         let at = self.worker.keep();
+        let mut called = self.worker.calls();
         let mut did = self.take_held_step(rt, alloc);
         for _ in 1..MOST_STEPS {
             let Advance::Did = did else {
                 break;
             };
-            if !self.worker.stays(at) {
+            if !self.worker.stays(at, called) {
                 break;
             }
+            called |= self.worker.calls();
             did = self.take_held_step(rt, alloc);
         }
         self.worker.end_visit(rt, at);

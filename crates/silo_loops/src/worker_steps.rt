@@ -404,9 +404,18 @@ impl<G: Gate, H: QueueHistory, D: DirectoryHistory> Worker<G, H, D> {
         };
     }
 
-    /// Whether the next step is one of this queue, and isn't the handler's.
-    pub(crate) fn stays(&self, at: usize) -> bool {
-        self.walk.stays(at, self.events.len())
+    /// Whether the next step isn't the handler's.
+    pub(crate) fn calls(&self) -> bool {
+        !self.walk.handles(self.events.len())
+    }
+
+    /// Whether the next step is one of this queue, or the handler's where no call was made before it.
+    pub(crate) fn stays(&self, at: usize, called: bool) -> bool {
+        if self.walk.handles(self.events.len()) {
+            !called
+        } else {
+            self.walk.stays(at)
+        }
     }
 
     /// Whether the next step gives a permit back and the one behind it asks for another.

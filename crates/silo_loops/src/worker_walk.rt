@@ -110,12 +110,16 @@ impl Walk {
         }
     }
 
-    // Whether the next step is one of this queue, and isn't the handler's, where the turn has so many events.
-    pub(crate) fn stays(&self, at: usize, events: usize) -> bool {
+    // Whether the next step is one of this queue.
+    pub(crate) fn stays(&self, at: usize) -> bool {
+        self.at == at && !matches!(self.step, Step::Rest)
+    }
+
+    // Whether the next step is the handler's, where the turn has so many events.
+    pub(crate) fn handles(&self, events: usize) -> bool {
         match self.step {
-            Step::Rest => false,
-            Step::Handle { ref turn, .. } => turn.next >= events,
-            _ => self.at == at,
+            Step::Handle { ref turn, .. } => turn.next < events,
+            _ => false,
         }
     }
 
