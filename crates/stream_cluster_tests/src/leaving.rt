@@ -1,10 +1,11 @@
 //! Sixteen silos that go one after another, up to the last.
 ghost use Rattle.std.specs.Prelude.{◌≡◌};
 
+use crate::gates::Tally;
 use crate::producer::Producer;
 use crate::running::{Calls, Places, Running, Size, is_reported, start};
 use crate::told::{report_of, subscribe_all};
-use shared_partition::{Counting, DirectoryHistory, QueueHistory};
+use shared_partition::{DirectoryHistory, QueueHistory};
 use silo_threads::SiloDown;
 use std::alloc::Global;
 use std::process::Abort;
@@ -33,8 +34,8 @@ fn leave<
 >(
     rt: &R,
     alloc: Global,
-    running: &mut Running<Counting, H, D>,
-    producer: &mut Producer<Counting, H>,
+    running: &mut Running<Tally, H, D>,
+    producer: &mut Producer<Tally, H>,
 )
     ensures running { running.new ≡ running.old }
     ensures producer { producer.new ≡ producer.old }
@@ -55,14 +56,16 @@ fn leave<
     assert!(rt; matches!(running.down(rt, alloc, 0), Ok(SiloDown::NotLive)));
 }
 
-// All events are handled once by each of the two grains that have subscribed at a queue.
+// All events are handled once by each of the two grains that have subscribed at a queue. A silo that goes ends the turns
+// that its workers have in hand, so the gate is called once for each of them, too.
 fn run<
     H: QueueHistory + Send + 'static,
     D: DirectoryHistory + Send + 'static,
     R: Threads + Wait + Abort + Copy + Send + 'static,
 >(rt: &R, alloc: Global) {
-    let gate = Arc::new(alloc, Counting).expect(rt, "memory");
-    let started = start::<Counting, H, D, R>(rt, alloc, &SIZE, gate);
+    let tally = Arc::new(alloc, Tally::new()).expect(rt, "memory");
+    let gate = Arc::try_clone(&tally).expect(rt, "it is shared a few times");
+    let started = start::<Tally, H, D, R>(rt, alloc, &SIZE, gate);
     let (mut running, mut producer) = started.expect(rt, "memory");
     assert!(rt; !subscribe_all(rt, alloc, &mut producer, QUEUES));
     leave(rt, alloc, &mut running, &mut producer);
@@ -71,6 +74,7 @@ fn run<
     let wanted = report_of(alloc, &told, QUEUES).expect(rt, "memory");
     assert!(rt; told.len() == ROOM);
     assert!(rt; is_reported(&ended, wanted.expect(rt, "numbers").as_bytes()));
+    assert!(rt; tally.handled() == 2 * ROOM as u64);
 }
 
 #[test]
