@@ -31,12 +31,7 @@ fn leave<
     H: QueueHistory + Send + 'static,
     D: DirectoryHistory + Send + 'static,
     R: Threads + Wait + Abort + Copy + Send + 'static,
->(
-    rt: &R,
-    alloc: Global,
-    running: &mut Running<Tally, H, D>,
-    producer: &mut Producer<Tally, H>,
-)
+>(rt: &R, alloc: Global, running: &mut Running<Tally, H, D>, producer: &mut Producer<Tally, H>)
     ensures running { running.new ≡ running.old }
     ensures producer { producer.new ≡ producer.old }
 {
