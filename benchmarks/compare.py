@@ -134,7 +134,7 @@ def main():
     after, minutes = os.getloadavg()[0], (time.time() - start) / 60
     about = list(machine())
     about.append(["processes that ran or waited to run", f"{before:.1f} at the start, {after:.1f} at the end"])
-    about.append(["turns", f"{turns}, in {minutes:.0f} minutes"])
+    about.append(["turns", f"{turns}, in {counted(round(minutes), 'minute')}"])
     print_table(["What", "Which"], about)
     for load, _ in LOADS:
         print(f"### {told_load(load)}: {load.events:,} events\n")
