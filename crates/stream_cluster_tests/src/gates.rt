@@ -1,7 +1,7 @@
-//! Gates: one waits for something that can happen only beside it, and one counts the events that it handles.
+//! A gate that waits for something that can happen only beside it.
 use crossbeam_utils::Backoff;
 use shared_partition::Gate;
-use std::sync::atomic::{AtomicBool, AtomicU64, Ordering};
+use std::sync::atomic::{AtomicBool, Ordering};
 use stream_ident::{Event, SubName, Token};
 
 // Looks so often at most.
@@ -74,32 +74,5 @@ impl Gate for Meeting {
 
     fn done(&self, _sub: &SubName, _token: Token) {
         self.done.store(true, Ordering::SeqCst);
-    }
-}
-
-/// A gate that counts the events that it handles.
-#[derive(Drop)]
-pub struct Tally {
-    handled: AtomicU64,
-}
-
-impl Tally {
-    /// One that has handled none.
-    pub fn new() -> Tally {
-        Tally {
-            handled: AtomicU64::new(0),
-        }
-    }
-
-    /// How many events it has handled.
-    pub fn handled(&self) -> u64 {
-        self.handled.load(Ordering::SeqCst)
-    }
-}
-
-impl Gate for Tally {
-    fn handle(&self, _sub: &SubName, _event: &Event, note: u64) -> u64 {
-        self.handled.fetch_add(1, Ordering::SeqCst);
-        note.saturating_add(1)
     }
 }
