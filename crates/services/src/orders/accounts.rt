@@ -43,9 +43,9 @@ impl Gate for Accounts {
 
     /// Where the grain is a desk, its key is the customer, whose account gets the sum; an auditor changes no account.
     ///
-    /// The account is not stored with the turn: where the turn's commit fails to allocate, the order comes here a second
-    /// time, with the same note as before. So what is done here may be done twice without harm: an account takes the
-    /// greatest sum that it is told.
+    /// The account is not stored with the turn: where that is lost before its commit, as when its silo goes, the order
+    /// comes here a second time, with the same note as before. So what is done here may be done twice without harm: an
+    /// account takes the greatest sum that it is told.
     fn handle_for(&self, grain: &GrainId, sub: &SubName, event: &Event, note: u64) -> u64 {
         let sum = self.handle(sub, event, note);
         for customer in 0..4 {
