@@ -1,5 +1,5 @@
 -- The ready ones after one grain was looked at.
-use Rattle.std.proofs.Common.{◌≡◌, ◌∙◌, ap, sym, refl, subst, ℕ, zero, suc, ◌+◌, ◌-◌, ◌<◌, ◌≤◌, Bool, true, false, List, [], ◌∷◌, ◌++◌, length, get_or, drop, filter, map, slice_get, slice_index, insert, remove, Option, Some, None, if◌then◌else◌, arith}
+use Rattle.std.proofs.Common.{◌≡◌, ◌∙◌, ap, sym, refl, subst, ℕ, zero, suc, ◌+◌, ◌-◌, ◌<◌, ◌≤◌, ◌↔◌, IsTrue, Bool, true, false, List, [], ◌∷◌, ◌++◌, length, get_or, drop, filter, map, slice_get, slice_index, insert, remove, Option, Some, None, if◌then◌else◌, arith}
 use Rattle.std.proofs.lemmas.Bool.{cond-false, cond-true, false_from_ne_true}
 use Rattle.std.proofs.lemmas.List.{get_or_default}
 use Rattle.std.proofs.lemmas.Option.{same_Some, slice_get-get_or}
@@ -21,10 +21,6 @@ use Rattle.grain_table.specs.Table.{is_entry_ready, name_of, AreReady, AreReadyB
 -- an entry that was read
 pub read_entry : (grains : PlainGrains) (number : ℕ) (e d : GrainId × PlainActivation) → number < length grains → Some e ≡ slice_get grains number → get_or grains number d ≡ e
 read_entry grains number e d within is = sym (same_Some e (get_or grains number d) (is ∙ slice_get-get_or grains number d within))
-
--- a number stands right before a place
-abbrev pub IsLastBefore : List ℕ → ℕ → ℕ → Type 0
-IsLastBefore numbers place number = (0 < place) × (slice_index numbers (place - 1) ≡ number)
 
 -- a grain that was read under a number has that number
 pub number_of-read : (grains : PlainGrains) (grain : GrainId) (number : ℕ) → AreDistinct grains → number < length grains → same_grain grain (grain_at grains number) ≡ true → Some number ≡ number_of grains grain
@@ -53,36 +49,42 @@ pub grown : (grains seen new : PlainGrains) (g : GrainId) (a : PlainActivation) 
 grown grains seen new g a same none put =
     put ∙ ap (λ (gs : PlainGrains). insert_entry same_grain gs g a) same ∙ inserted-from grains g a 0 none
 
-module _ (grains : PlainGrains) (numbers : List ℕ) (number past : ℕ) (e : GrainId × PlainActivation) (within : number < length grains) (seen : Some e ≡ slice_get grains number)
-    (first : IsFirstPast name_of grain_lt (Some e.0) grains numbers past) (but : AreReadyBut number grains numbers) (distinct : AreDistinct grains) where
-  first-at : IsFirstPast name_of grain_lt (Some (name_of (get_or grains number no_grain))) grains numbers past
-  first-at = subst (λ (g : GrainId). IsFirstPast name_of grain_lt (Some g) grains numbers past) (ap name_of (sym (read_entry grains number e no_grain within seen))) first
+-- a grain stands among the ready ones just where it is ready
+pub stood : (grains : PlainGrains) (numbers : List ℕ) (number : ℕ) (was : Bool) → number < length grains → AreReady grains numbers → was ≡ is_entry_ready (get_or grains number no_grain) → IsTrue was ↔ IsListed numbers number
+stood grains numbers number was within are is = (
+  (λ yes. are.listed no_grain number within (sym is ∙ yes)),
+  (λ there. is ∙ ap (λ (n : ℕ). is_entry_ready (get_or grains n no_grain)) (sym there.at) ∙ are.passing no_grain there.place there.within),
+)
 
-  absent : (IsLastBefore numbers past number → ⊥) → IsListed numbers number → ⊥
-  absent isnt there = isnt (listed-last name_of grain_lt same_grain grain_order is_entry_ready grains numbers number past no_grain but.rising first-at there)
+module _ (grains : PlainGrains) (numbers : List ℕ) (number : ℕ) (e : GrainId × PlainActivation) (within : number < length grains) (seen : Some e ≡ slice_get grains number)
+    (but : AreReadyBut number grains numbers) where
+  ready-at : (b : Bool) → b ≡ is_ready e.1 → is_entry_ready (get_or grains number no_grain) ≡ b
+  ready-at b is = ap is_entry_ready (read_entry grains number e no_grain within seen) ∙ sym is
 
-  present : IsLastBefore numbers past number → IsListed numbers number
-  present there = record { place = past - 1; within = omega (arith, first.within, there.0); at = there.1 }
+  pub has-room : (IsListed numbers number → ⊥) → length numbers < length grains
+  has-room isnt = listed-room name_of grain_lt same_grain grain_order is_entry_ready grains numbers number within but.rising isnt
 
-  ready-at : (b : Bool) → is_ready e.1 ≡ b → is_entry_ready (get_or grains number no_grain) ≡ b
-  ready-at b is = ap is_entry_ready (read_entry grains number e no_grain within seen) ∙ is
+  pub stays-out : (IsListed numbers number → ⊥) → false ≡ is_ready e.1 → AreReady grains numbers
+  stays-out isnt is = listed-out name_of grain_lt same_grain grain_order is_entry_ready grains numbers number no_grain within but isnt (ready-at false is)
 
-  pub has-room : (IsLastBefore numbers past number → ⊥) → length numbers < length grains
-  has-room isnt = listed-room name_of grain_lt same_grain grain_order is_entry_ready grains numbers number within but.rising (absent isnt)
+  pub stays-in : IsListed numbers number → true ≡ is_ready e.1 → AreReady grains numbers
+  stays-in there is = listed-in name_of grain_lt same_grain grain_order is_entry_ready grains numbers number no_grain within but there (ready-at true is)
 
-  pub stays-out : (IsLastBefore numbers past number → ⊥) → is_ready e.1 ≡ false → AreReady grains numbers
-  stays-out isnt is = listed-out name_of grain_lt same_grain grain_order is_entry_ready grains numbers number no_grain within but (absent isnt) (ready-at false is)
+  module _ (past : ℕ) (first : IsFirstPast name_of grain_lt (Some e.0) grains numbers past) where
+    first-at : IsFirstPast name_of grain_lt (Some (name_of (get_or grains number no_grain))) grains numbers past
+    first-at = subst (λ (g : GrainId). IsFirstPast name_of grain_lt (Some g) grains numbers past) (ap name_of (sym (read_entry grains number e no_grain within seen))) first
 
-  pub stays-in : IsLastBefore numbers past number → is_ready e.1 ≡ true → AreReady grains numbers
-  stays-in there is = listed-in name_of grain_lt same_grain grain_order is_entry_ready grains numbers number no_grain within but (present there) (ready-at true is)
+    pub put-in : AreDistinct grains → (IsListed numbers number → ⊥) → true ≡ is_ready e.1 → AreReady grains (insert numbers past number)
+    put-in distinct isnt is =
+        listed-insert name_of grain_lt same_grain grain_order is_entry_ready grains numbers number past no_grain within (λ d i j. distinct i j d) but isnt (ready-at true is) first-at
 
-  pub put-in : (IsLastBefore numbers past number → ⊥) → is_ready e.1 ≡ true → AreReady grains (insert numbers past number)
-  put-in isnt is =
-      listed-insert name_of grain_lt same_grain grain_order is_entry_ready grains numbers number past no_grain within (λ d i j. distinct i j d) but (absent isnt) (ready-at true is) first-at
+    -- it stands right before the first whose name is greater
+    pub last-before : IsListed numbers number → (0 < past) × (slice_index numbers (past - 1) ≡ number)
+    last-before there = listed-last name_of grain_lt same_grain grain_order is_entry_ready grains numbers number past no_grain but.rising first-at there
 
-  pub taken-out : IsLastBefore numbers past number → is_ready e.1 ≡ false → AreReady grains (remove numbers (past - 1))
-  taken-out there is =
-      listed-remove name_of grain_lt same_grain grain_order is_entry_ready grains numbers number (past - 1) no_grain within but (omega (arith, first.within, there.0)) there.1 (ready-at false is)
+    pub taken-out : IsListed numbers number → false ≡ is_ready e.1 → AreReady grains (remove numbers (past - 1))
+    taken-out there is =
+        listed-remove name_of grain_lt same_grain grain_order is_entry_ready grains numbers number (past - 1) no_grain within but (omega (arith, first.within, (last-before there).0)) (last-before there).1 (ready-at false is)
 
 -- ---- the next that is ready
 

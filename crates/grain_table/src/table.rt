@@ -7,6 +7,7 @@ ghost use Rattle.stream_ident.specs.Name.{grain_lt};
 ghost use Rattle.consumer_grain.specs.Activations.{begin, commit, deactivated, forgotten, lost, new_activation, offer_takes_memory, woken};
 ghost use Rattle.consumer_grain.specs.Begins.{RisesFrom};
 ghost use Rattle.consumer_grain.specs.Subscriptions.{rises_from};
+ghost use Rattle.ranked_index.specs.Listed.{IsListed};
 ghost use Rattle.ranked_index.specs.Ranked.{is_up_to, IsFirstPast};
 ghost use Rattle.grain_table.specs.Changes.{activation_at, grain_at, OffersAt};
 ghost use Rattle.grain_table.specs.Grains.{is_ready, least_running, least_waiting, number_of, ready_after, with_grain, AreDistinct, AreIdle, PlainGrains};
@@ -158,7 +159,7 @@ impl GrainTable {
         self.ready.reserve(room - room.min(self.ready.len()))?;
         self.entries.reserve(1)?;
         self.entries.insert(grain, activation).unwrap();
-        mark(&self.entries, &mut self.ready, number);
+        mark(&self.entries, &mut self.ready, number, false);
         Ok(())
     }
 
@@ -179,12 +180,10 @@ impl GrainTable {
         ensures memory { OnErr result (offer_takes_memory (activation_at self.old number) delivery ≡ true) }
     {
         self.last = number;
-        let offered = self
-            .entries
-            .get_index_mut(number)
-            .unwrap()
-            .offer(alloc, delivery)?;
-        mark(&self.entries, &mut self.ready, number);
+        let activation = self.entries.get_index_mut(number).unwrap();
+        let was_ready = is_ready(activation);
+        let offered = activation.offer(alloc, delivery)?;
+        mark(&self.entries, &mut self.ready, number, was_ready);
         Ok(offered)
     }
 
@@ -197,11 +196,12 @@ impl GrainTable {
         ensures rising { RisesFrom (past state.now.handled) result }
     {
         let activation = self.entries.get_index_mut(number).unwrap();
+        let was_ready = is_ready(activation);
         let did_run = activation.running().is_some();
         let begun = activation.begin(state, turn, max_events);
         let runs = activation.running().is_some();
         self.running = recount(self.running, did_run, runs);
-        mark(&self.entries, &mut self.ready, number);
+        mark(&self.entries, &mut self.ready, number, was_ready);
         begun
     }
 
@@ -213,11 +213,12 @@ impl GrainTable {
         ensures ended { result ≡ (commit (activation_at self.old number) activation turn).1 }
     {
         let entry = self.entries.get_index_mut(number).unwrap();
+        let was_ready = is_ready(entry);
         let did_run = entry.running().is_some();
         let ended = entry.commit(activation, turn);
         let runs = entry.running().is_some();
         self.running = recount(self.running, did_run, runs);
-        mark(&self.entries, &mut self.ready, number);
+        mark(&self.entries, &mut self.ready, number, was_ready);
         ended
     }
 
@@ -227,8 +228,10 @@ impl GrainTable {
         requires { number < length self.old }
         ensures { self.new ≡ change_at (forgotten sub) number self.old }
     {
-        self.entries.get_index_mut(number).unwrap().forget(sub);
-        mark(&self.entries, &mut self.ready, number);
+        let activation = self.entries.get_index_mut(number).unwrap();
+        let was_ready = is_ready(activation);
+        activation.forget(sub);
+        mark(&self.entries, &mut self.ready, number, was_ready);
     }
 
     /// The grain with a number leaves memory, as `Activation::deactivate` says: it gives how many
@@ -239,11 +242,12 @@ impl GrainTable {
         ensures lost { result ≡ lost (activation_at self.old number) }
     {
         let activation = self.entries.get_index_mut(number).unwrap();
+        let was_ready = is_ready(activation);
         let did_run = activation.running().is_some();
         let lost = activation.deactivate();
         let runs = activation.running().is_some();
         self.running = recount(self.running, did_run, runs);
-        mark(&self.entries, &mut self.ready, number);
+        mark(&self.entries, &mut self.ready, number, was_ready);
         lost
     }
 
@@ -334,34 +338,35 @@ fn is_ready(activation: &Activation) -> bool
     activation.waiting() > 0 && activation.running().is_none()
 }
 
-/// Puts the grain with this number among the ready ones, or takes it out, as is right for its activation. It takes
-/// no memory.
-fn mark(entries: &IndexMap<GrainId, Activation>, ready: &mut Vec<usize>, number: usize)
+/// Puts the grain with this number among the ready ones, or takes it out, where its activation became ready or is so no
+/// more. It takes no memory.
+fn mark(
+    entries: &IndexMap<GrainId, Activation>,
+    ready: &mut Vec<usize>,
+    number: usize,
+    was_ready: bool,
+)
     requires number { number < length entries.now.entries }
     requires distinct { AreDistinct entries.now.entries }
     requires room { length entries.now.entries ≤ vec_capacity ready.old }
     requires ready { AreReadyBut number entries.now.entries ready.old.items }
+    requires was { IsTrue was_ready ↔ IsListed ready.old.items number }
     ensures ready { AreReady entries.now.entries ready.new.items }
     ensures room { vec_capacity ready.new ≡ vec_capacity ready.old }
 {
     let (grain, activation) = entries.get_index(number).unwrap();
-    let past = first_past(entries, ready.as_slice(), Some(grain));
-    match (is_ready(activation), is_last_before(ready, past, number)) {
-        (true, false) => ready.insert(past, number).unwrap(),
+    match (was_ready, is_ready(activation)) {
         (false, true) => {
+            let past = first_past(entries, ready.as_slice(), Some(grain));
+            ready.insert(past, number).unwrap();
+        }
+        (true, false) => {
+            let past = first_past(entries, ready.as_slice(), Some(grain));
             ready.remove(past - 1);
         }
         (true, true) => {}
         (false, false) => {}
     }
-}
-
-/// Whether this number stands right before a place.
-fn is_last_before(numbers: &[usize], place: usize, number: usize) -> bool
-    requires { place ≤ length numbers.now }
-    ensures { IsTrue result ↔ ((0 < place) × (slice_index numbers.now (place - 1) ≡ number)) }
-{
-    place > 0 && numbers[place - 1] == number
 }
 
 /// The lesser of a grain and the least so far.

@@ -3,8 +3,9 @@ use Rattle.std.specs.Option.{option_copied_mut}
 use Rattle.stream_ident.specs.Words.{change_at}
 use Rattle.consumer_grain.specs.Activations.{deactivated, lost}
 use Rattle.grain_table.specs.Changes.{activation_at}
-use Rattle.grain_table.specs.Grains.{is_running, PlainGrains}
+use Rattle.grain_table.specs.Grains.{is_ready, is_running, PlainGrains}
 use Rattle.grain_table.proofs.ChangeLemmas.{count-most, count-some, count-written, some-copied, distinct-written, length-written, read-value, ready-but, written}
+use Rattle.grain_table.proofs.TableLemmas.{stood}
 use Rattle.grain_table.proofs.table.GrainTable.deactivate.Goals as goal
 
 pub recount-self-inside-requires-clause-some : goal.recount-self-inside-requires-clause-some
@@ -39,6 +40,14 @@ mark-requires-clause-ready c =
     let grains = t.entries.entries in
     let within : c.args.number < length grains = omega (arith, ap length c.self.view_is) in
     ready-but grains t.ready.items c.args.number c.deactivate-lost.new.self within c.self.invariant.are_ready
+
+pub mark-requires-clause-was : goal.mark-requires-clause-was
+mark-requires-clause-was c =
+    let t = c.self.inside in
+    let grains = t.entries.entries in
+    let within : c.args.number < length grains = omega (arith, ap length c.self.view_is) in
+    let read = read-value grains c.args.number c.unwrap-activation.result.now within (sym (ap option_copied_mut c.unwrap-activation.ensures) ∙ c.get_index_mut.ensures.value) in
+    stood grains t.ready.items c.args.number c.is_ready-was_ready.result within c.self.invariant.are_ready (c.is_ready-was_ready.ensures ∙ ap is_ready read)
 
 pub invariant_of-self : goal.invariant_of-self
 invariant_of-self c =
