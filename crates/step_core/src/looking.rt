@@ -1,7 +1,7 @@
 //! What is asked without changing anything.
-ghost use Rattle.std.specs.Prelude.{◌≡◌, ◌<◌, None, Some, IfSome, length, pred, if◌then◌else◌};
+ghost use Rattle.std.specs.Prelude.{◌≡◌, ◌<◌, None, Some, IfNone, IfSome, length, pred, if◌then◌else◌};
 ghost use Rattle.std.specs.List.{AllByRecursion};
-ghost use Rattle.std.specs.Option.{option_map};
+ghost use Rattle.std.specs.Option.{option_copied, option_map};
 ghost use Rattle.stream_ident.specs.Name.{grain_lt};
 ghost use Rattle.stream_ident.specs.SubName.{sub_lt};
 ghost use Rattle.stream_ident.specs.Words.{keys_where, least, past};
@@ -9,6 +9,8 @@ ghost use Rattle.stream_model.specs.Draining.{all_waiting, least_waiting};
 ghost use Rattle.stream_model.specs.Looks.{due, is_running, pending_in, quiet, ready};
 ghost use Rattle.consumer_grain.specs.Subscriptions.{is_unacknowledged};
 ghost use Rattle.partition_queue.specs.Queue.{token_at};
+ghost use Rattle.subscription_table.specs.Leaves.{due_after};
+ghost use Rattle.subscription_table.specs.LeavesOf.{leaves_of};
 ghost use Rattle.subscription_table.specs.Table.{name_at};
 ghost use Rattle.stream_model.specs.Replies.{IsNoTurn};
 ghost use Rattle.step_core.specs.Assembly.{Agrees};
@@ -25,6 +27,7 @@ use consumer_grain::SubState;
 use partition_queue::PartitionQueue;
 use stream_ident::{GrainId, SubName, Token};
 use stream_model::{Pending, Reply};
+use subscription_table::SubscriptionTable;
 
 /// A worker asks for a grain for which something waits and no turn runs: the least such grain after the
 /// given one, else the least.
@@ -49,13 +52,28 @@ pub(crate) fn due(parts: &Parts, after: Option<SubName>) -> Outcome
     ensures told { IsNoTurn result }
 {
     let high = parts.agent.cache().high();
-    match parts.subs.due_after(after.as_ref(), high) {
+    match due_number(&parts.subs, after.as_ref(), high) {
         Some(number) => Reply::DueSub {
             sub: parts.subs.name(number),
             ack: to_acknowledge(parts.subs.state(number), &parts.queue),
         },
         None => Reply::NoneDue,
     }
+}
+
+/// The number of the next subscription that is due, as `SubscriptionTable::due_after` says. It costs a look-up of `after`
+/// and the logarithm of how many subscriptions there are. Names are searched only where no subscription has that one.
+fn due_number(subs: &SubscriptionTable, after: Option<&SubName>, high: usize) -> Option<usize>
+    ensures none { IfNone result (due_after high (option_copied after.entry) (leaves_of subs.now.registry.names subs.now.states) ≡ None) }
+    ensures within { IfSome result (λ number. number < length subs.now.registry.names) }
+    ensures some { IfSome result (λ number. due_after high (option_copied after.entry) (leaves_of subs.now.registry.names subs.now.states) ≡ Some (name_at subs.now number)) }
+{
+    if let Some(name) = after
+        && let Some(number) = subs.find(name)
+    {
+        return subs.due_past(number, high);
+    }
+    subs.due_after(after, high)
 }
 
 /// The number of the due subscription with the least name that is greater than the name of the one with the given
