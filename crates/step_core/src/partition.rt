@@ -131,7 +131,7 @@ impl Partition {
     ///
     /// # Errors
     /// They are those of `step`.
-    #[inline(never)]
+    #[inline(always)]
     pub fn answer(
         &mut self,
         alloc: Global,
@@ -179,7 +179,7 @@ impl Partition {
     ///
     /// # Errors
     /// They are those of `step`.
-    #[inline(never)]
+    #[inline(always)]
     pub fn advance(&mut self, alloc: Global, op: &Op) -> Result<Outcome, AllocError>
         ensures performs { Performs self.old self.new (answered self.new.log result) (step self.old op.now) }
         ensures of_log { IfOk result (IsOfLog self.new.log) }
