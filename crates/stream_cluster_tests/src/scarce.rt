@@ -1,10 +1,10 @@
 //! A history without room for one of its entries.
-ghost use Rattle.std.specs.Prelude.{◌≡◌, ◌++◌, ◌∷◌, [], ◌-◌, ◌^◌, true, length, nat_lt};
+ghost use Rattle.std.specs.Prelude.{◌≡◌, ◌++◌, ◌∷◌, [], ◌-◌, ◌^◌, true, length, nat_lt, IfSome, IsSome};
 ghost use Rattle.turnstile.specs.Recorded.{recorded};
 
 use activation_directory::{DirectoryOp, DirectoryReply};
 use std::alloc::{AllocError, Global};
-use turnstile::{Entry, Recorded, StoredHistory};
+use turnstile::{Asked, Entry, Recorded, StoredHistory};
 
 /// A history of a directory that refuses room once: for the entry that is to follow after so many grains were
 /// released.
@@ -47,10 +47,12 @@ impl<const RELEASED: usize> StoredHistory<DirectoryOp, DirectoryReply> for Scarc
         Ok(())
     }
 
-    fn push(&mut self, number: u64, op: DirectoryOp, reply: &DirectoryReply)
-        requires { nat_lt self.old.len (2 ^ 64 - 1) ≡ true }
-        ensures { recorded self.new.calls ≡ recorded self.old.calls ++ record { number = number; op = op; reply = reply.now } ∷ [] }
+    fn push(&mut self, asked: &mut Option<Asked<DirectoryOp>>, reply: &DirectoryReply)
+        requires room { nat_lt self.old.len (2 ^ 64 - 1) ≡ true }
+        requires asked { IsSome asked.old }
+        ensures { IfSome asked.old (λ a. recorded self.new.calls ≡ recorded self.old.calls ++ record { number = a.number; op = a.op; reply = reply.now } ∷ []) }
     {
+        let Asked { number, op } = asked.take().unwrap();
         if matches!(reply, DirectoryReply::Released { .. }) {
             self.released = self.released.saturating_add(1);
         }

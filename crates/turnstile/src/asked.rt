@@ -1,5 +1,5 @@
 //! A history of what was asked, whose replies only proofs see.
-ghost use Rattle.std.specs.Prelude.{◌≡◌, ◌++◌, [], ◌∷◌, true, length, map, nat_lt, vec_capacity, IfOk, OnOk};
+ghost use Rattle.std.specs.Prelude.{◌≡◌, ◌++◌, [], ◌∷◌, true, length, map, nat_lt, vec_capacity, IfOk, IfSome, IsSome, OnOk};
 ghost use Rattle.turnstile.specs.Recorded.{recorded};
 
 use crate::history::StoredHistory;
@@ -86,11 +86,12 @@ impl<O: Drop, R: Drop> StoredHistory<O, R> for AskedHistory<O, R> {
         self.asked.reserve(1)
     }
 
-    fn push(&mut self, number: u64, op: O, reply: &R)
-        requires { nat_lt (length self.old.asked.items) (vec_capacity self.old.asked) ≡ true }
-        ensures { asked_entries self.new ≡ asked_entries self.old ++ entry number op reply.now ∷ [] }
+    fn push(&mut self, asked: &mut Option<Asked<O>>, reply: &R)
+        requires room { nat_lt (length self.old.asked.items) (vec_capacity self.old.asked) ≡ true }
+        requires asked { IsSome asked.old }
+        ensures { IfSome asked.old (λ a. asked_entries self.new ≡ asked_entries self.old ++ entry a.number a.op reply.now ∷ []) }
     {
         self.replies.add(reply);
-        self.asked.push_reserved(Asked { number, op });
+        self.asked.push_reserved(asked.take().unwrap());
     }
 }

@@ -4,6 +4,7 @@ ghost use Rattle.std.specs.Arc.{arc_value};
 ghost use Rattle.std.specs.Fn.{FnOnceReturnsAt};
 ghost use Rattle.turnstile.specs.Calls.{outside, Agree, CallsBy, HasOnlyMade, IsOf, IsSeated, IsSplitOff, IsTurn, LooksBy, Waited, joined_pass};
 
+use crate::asked::Asked;
 use crate::pass::PassOf;
 use crate::replays::Replays;
 use crate::turnstile::{Refusal, Turn, Turnstile};
@@ -75,7 +76,7 @@ impl<T: Replays> Handle<T> {
     /// `HistoryFull` where the history has as many entries as it may have, and `Memory` where the call failed
     /// to allocate. No entry is added, the object is as before, and the pass has seen the whole history as it
     /// was found.
-    #[inline(never)]
+    #[inline(always)]
     pub fn call<R: Wait>(
         &mut self,
         rt: &R,
@@ -86,11 +87,12 @@ impl<T: Replays> Handle<T> {
         ensures calls { CallsBy T.replied T.after self.old op result self.new }
         ensures room { MatchResult result (λ r. T.shows room.old room.new r) (λ _. room.new ≡ room.old) }
     {
-        let op = &mut Some(op);
+        let number = self.pass.number();
+        let asked = &mut Some(Asked { number, op });
         let mut turn = take_turn(&self.turnstile, rt, &mut self.pass, self.turn.take());
         let answer = self
             .turnstile
-            .call_lent(alloc, &mut self.pass, &mut turn, op, room);
+            .call_lent(alloc, &mut self.pass, &mut turn, asked, room);
         settle(
             &self.turnstile,
             &mut self.pass,

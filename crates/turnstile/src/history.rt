@@ -1,6 +1,7 @@
 //! The history of a turnstile as it is stored.
-ghost use Rattle.std.specs.Prelude.{◌≡◌, ◌++◌, ◌∷◌, [], List, Bool, true, length, nat_lt, vec_capacity, OnOk};
+ghost use Rattle.std.specs.Prelude.{◌≡◌, ◌++◌, ◌∷◌, [], List, Bool, true, length, nat_lt, vec_capacity, IfSome, IsSome, OnOk};
 
+use crate::asked::Asked;
 use std::alloc::{AllocError, Global};
 
 /// A call in a history: the number of the pass that made it, the op and its reply.
@@ -40,10 +41,12 @@ pub trait StoredHistory<O, R>: Drop {
         ensures same { entries self.new ≡ entries self.old }
         ensures room { OnOk result (has_room self.new ≡ true) };
 
-    /// Adds an entry at the end. It takes no memory. The reply is shown, and stays with the caller.
-    fn push(&mut self, number: u64, op: O, reply: &R)
-        requires { has_room self.old ≡ true }
-        ensures { entries self.new ≡ entries self.old ++ record { number = number; op = op; reply = reply.now } ∷ [] };
+    /// Adds an entry at the end. It takes no memory. The call is lent, and a history that stores it takes it out. The
+    /// reply is shown, and stays with the caller.
+    fn push(&mut self, asked: &mut Option<Asked<O>>, reply: &R)
+        requires room { has_room self.old ≡ true }
+        requires asked { IsSome asked.old }
+        ensures { IfSome asked.old (λ a. entries self.new ≡ entries self.old ++ record { number = a.number; op = a.op; reply = reply.now } ∷ []) };
 }
 
 /// A history that is stored as it stands, entry after entry. It is for replies that can be copied; where they are
@@ -83,10 +86,12 @@ impl<O: Drop, R: Copy> StoredHistory<O, R> for PlainHistory<O, R> {
         self.entries.reserve(1)
     }
 
-    fn push(&mut self, number: u64, op: O, reply: &R)
-        requires { nat_lt (length self.old.entries.items) (vec_capacity self.old.entries) ≡ true }
-        ensures { self.new.entries.items ≡ self.old.entries.items ++ record { number = number; op = op; reply = reply.now } ∷ [] }
+    fn push(&mut self, asked: &mut Option<Asked<O>>, reply: &R)
+        requires room { nat_lt (length self.old.entries.items) (vec_capacity self.old.entries) ≡ true }
+        requires asked { IsSome asked.old }
+        ensures { IfSome asked.old (λ a. self.new.entries.items ≡ self.old.entries.items ++ record { number = a.number; op = a.op; reply = reply.now } ∷ []) }
     {
+        let Asked { number, op } = asked.take().unwrap();
         self.entries.push_reserved(Entry {
             number,
             op,

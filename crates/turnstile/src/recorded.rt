@@ -1,5 +1,5 @@
 //! A history that only proofs see.
-ghost use Rattle.std.specs.Prelude.{◌≡◌, ◌++◌, ◌∷◌, [], ◌-◌, ◌^◌, true, length, nat_lt};
+ghost use Rattle.std.specs.Prelude.{◌≡◌, ◌++◌, ◌∷◌, [], ◌-◌, ◌^◌, true, length, nat_lt, IfSome, IsSome};
 ghost use Rattle.turnstile.specs.History.{entry};
 ghost use Rattle.turnstile.specs.Recorded.{recorded, answered};
 
@@ -65,11 +65,13 @@ impl<O: Drop, R: Drop> StoredHistory<O, R> for ProofHistory<O, R> {
         }
     }
 
-    fn push(&mut self, number: u64, op: O, reply: &R)
-        requires { nat_lt self.old.len (2 ^ 64 - 1) ≡ true }
-        ensures { answered (recorded self.new.asked) (recorded self.new.replies) ≡ answered (recorded self.old.asked) (recorded self.old.replies) ++ entry number op reply.now ∷ [] }
+    fn push(&mut self, asked: &mut Option<Asked<O>>, reply: &R)
+        requires room { nat_lt self.old.len (2 ^ 64 - 1) ≡ true }
+        requires asked { IsSome asked.old }
+        ensures { IfSome asked.old (λ a. answered (recorded self.new.asked) (recorded self.new.replies) ≡ answered (recorded self.old.asked) (recorded self.old.replies) ++ entry a.number a.op reply.now ∷ []) }
     {
-        self.asked.add(&Asked { number, op });
+        let Some(asked) = &*asked else { unreachable!() };
+        self.asked.add(asked);
         self.replies.add(reply);
         self.len += 1;
     }

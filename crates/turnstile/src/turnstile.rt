@@ -1,6 +1,7 @@
 //! The turnstile.
-ghost use Rattle.std.specs.Prelude.{◌≡◌, ◌++◌, ◌∷◌, [], true, IfOk, IfSome, MatchResult, Some};
+ghost use Rattle.std.specs.Prelude.{◌≡◌, IfOk, IfSome, MatchResult, Some};
 
+use crate::asked::Asked;
 use crate::history::StoredHistory;
 use crate::lock::Lock;
 use crate::pass::{Pass, PassOf};
@@ -74,7 +75,6 @@ impl<T: Replays> Turn<T> {
 impl<T: Replays> Turnstile<T> {
     ghost use Rattle.std.specs.Option.{IsSome};
     ghost use Rattle.turnstile.specs.Calls.{first_pass, outside, IsOf, IsTurn, HasEntered, HasOnlySeen, Called, CalledNext, Does, Found, FoundNone, Waited};
-    ghost use Rattle.turnstile.specs.History.{entry};
 
     /// A turnstile over an object, whose history may have `limit` entries, and its first pass, with number 0.
     ///
@@ -116,47 +116,38 @@ impl<T: Replays> Turnstile<T> {
         }
     }
 
-    // Adds an entry to a history that has room for it. The op is taken from where it was lent.
-    #[inline(never)]
-    fn add(history: &mut T::History, number: u64, op: &mut Option<T::Op>, reply: &T::Reply)
-        requires room { T.History.has_room history.old ≡ true }
-        requires op { IsSome op.old }
-        ensures { IfSome op.old (λ o. T.History.entries history.new ≡ T.History.entries history.old ++ entry number o reply.now ∷ []) }
-    {
-        history.push(number, op.take().unwrap(), reply);
-    }
-
-    // Does an op in a turn, as `call_in` says. The op is lent, and is taken where its entry is added: each function
-    // that passes an op on by value has the room of another one.
-    #[inline(never)]
+    // Does an op in a turn, as `call_in` says. The call is lent, and only a history that stores it takes it out: each
+    // function that passes an op on by value has the room of another one.
+    #[inline(always)]
     pub(crate) fn call_lent(
         &self,
         alloc: Global,
         pass: &mut PassOf<T>,
         turn: &mut Turn<T>,
-        op: &mut Option<T::Op>,
+        asked: &mut Option<Asked<T::Op>>,
         room: &mut T::Room,
     ) -> Result<T::Reply, Refusal>
         requires turn { IsTurn T.replied T.after self.now pass.old turn.old }
-        requires op { IsSome op.old }
+        requires asked { IsSome asked.old }
+        requires number { IfSome asked.old (λ a. a.number ≡ pass.old.number) }
         ensures pass { HasOnlySeen pass.old pass.new }
         ensures turn { IsTurn T.replied T.after self.now pass.new turn.new }
-        ensures call { IfSome op.old (λ o. MatchResult result (λ r. CalledNext pass.old o r pass.new.seen) (λ e. FoundNone self.now.start pass.old e pass.new.seen)) }
+        ensures call { IfSome asked.old (λ a. MatchResult result (λ r. CalledNext pass.old a.op r pass.new.seen) (λ e. FoundNone self.now.start pass.old e pass.new.seen)) }
         ensures room { MatchResult result (λ r. T.shows room.old room.new r) (λ _. room.new ≡ room.old) }
-        ensures does { IfSome op.old (λ o. IfOk result (λ r. Does T.replied T.after turn.old o r turn.new)) }
+        ensures does { IfSome asked.old (λ a. IfOk result (λ r. Does T.replied T.after turn.old a.op r turn.new)) }
     {
         let held = turn.slot.as_mut().unwrap();
-        let Some(asked) = &*op else { unreachable!() };
+        let Some(call) = &*asked else { unreachable!() };
         if held.history.len() as u64 >= self.lock.limit {
             return Err(Refusal::HistoryFull);
         }
         if held.history.reserve().is_err() {
             return Err(Refusal::Memory);
         }
-        let Ok(reply) = held.object.apply(alloc, asked, room) else {
+        let Ok(reply) = held.object.apply(alloc, &call.op, room) else {
             return Err(Refusal::Memory);
         };
-        Self::add(&mut held.history, pass.number, op, &reply);
+        held.history.push(asked, &reply);
         pass.len += 1;
         self.lock.note(&mut pass.seat, &turn.slot, pass.len);
         Ok(reply)
@@ -197,7 +188,8 @@ impl<T: Replays> Turnstile<T> {
         ensures room { MatchResult result (λ r. T.shows room.old room.new r) (λ _. room.new ≡ room.old) }
         ensures does { IfOk result (λ r. Does T.replied T.after turn.old op r turn.new) }
     {
-        self.call_lent(alloc, pass, turn, &mut Some(op), room)
+        let number = pass.number;
+        self.call_lent(alloc, pass, turn, &mut Some(Asked { number, op }), room)
     }
 
     /// Gives the turn up.
@@ -231,9 +223,10 @@ impl<T: Replays> Turnstile<T> {
         ensures call { MatchResult result (λ r. Called T.replied T.after self.now.start pass.old op r pass.new.seen) (λ e. Found T.replied T.after self.now.start pass.old e pass.new.seen) }
         ensures room { MatchResult result (λ r. T.shows room.old room.new r) (λ _. room.new ≡ room.old) }
     {
-        let op = &mut Some(op);
+        let number = pass.number;
+        let asked = &mut Some(Asked { number, op });
         let mut turn = self.enter(rt, pass);
-        let answer = self.call_lent(alloc, pass, &mut turn, op, room);
+        let answer = self.call_lent(alloc, pass, &mut turn, asked, room);
         self.leave(pass, turn);
         answer
     }

@@ -1,4 +1,4 @@
-use Rattle.std.proofs.Common.{◌∙◌}
+use Rattle.std.proofs.Common.{◌∙◌, sym}
 use Rattle.turnstile.specs.Recorded.{recorded, answered}
 use Rattle.turnstile.proofs.Answering.{answered-snoc}
 use Rattle.turnstile.proofs.asked.AskedHistoryStoredHistory.push.Goals as goal
@@ -6,5 +6,6 @@ use Rattle.turnstile.proofs.asked.AskedHistoryStoredHistory.push.Goals as goal
 pub returns : goal.returns
 returns g c =
     let history = c.args.self.now in
-    (λ i. answered (c.push_reserved.ensures.items i) (c.add.ensures i))
-    ∙ answered-snoc history.asked.items (recorded history.replies) record { number = c.args.number; op = c.args.op } c.args.reply.now history.counted
+    rw (sym c.take.ensures.value ∙ c.unwrap.ensures)
+    ((λ i. answered (c.push_reserved.ensures.items i) (c.add.ensures i))
+    ∙ answered-snoc history.asked.items (recorded history.replies) c.unwrap.result c.args.reply.now history.counted)

@@ -6,5 +6,6 @@ use Rattle.turnstile.proofs.recorded.ProofHistoryStoredHistory.push.Goals as goa
 pub returns : goal.returns
 returns g c =
     let history = c.args.self.now in
-    (λ i. answered (c.add.ensures i) (c.add-2.ensures i))
-    ∙ answered-snoc (recorded history.asked) (recorded history.replies) record { number = c.args.number; op = c.args.op } c.args.reply.now (sym history.counted.0 ∙ history.counted.1)
+    rw c.in-Some.is
+    ((λ i. answered (c.add.ensures i) (c.add-2.ensures i))
+    ∙ answered-snoc (recorded history.asked) (recorded history.replies) c.in-Some.asked c.args.reply.now (sym history.counted.0 ∙ history.counted.1))
