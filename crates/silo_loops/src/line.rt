@@ -93,6 +93,7 @@ impl<G: Gate, H: QueueHistory> Line<G, H> {
     }
 
     // Does an operation in the turn that it keeps, or waits for one, and takes the events of a turn.
+    #[inline(always)]
     fn ask<R: Wait>(
         &mut self,
         rt: &R,
