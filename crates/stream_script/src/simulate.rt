@@ -341,8 +341,10 @@ impl Simulator {
             (step (slice_index_or self.old.partitions.items queue (empty self.old.config.blocks self.old.config.limits)) op.now))) }
     {
         let partition = &mut self.partitions[queue];
-        let outcome = partition.advance(alloc, op)?;
-        outcome_line(queue, &outcome, partition, text)
+        match partition.advance(alloc, op) {
+            Ok(ref outcome) => outcome_line(queue, outcome, partition, text),
+            Err(error) => Err(error),
+        }
     }
 
     /// Publishes a batch and appends the line of its reply.
