@@ -3,7 +3,7 @@ use Rattle.std.proofs.Common.{◌≡◌, ℕ, zero, suc, true, ◌&&◌, List, [
 use Rattle.std.proofs.lemmas.Bool.{and_from, and_parts, cond_both}
 use Rattle.consumer_grain.specs.declared.mailbox.Delivery.{Delivery}
 use Rattle.consumer_grain.specs.Activations.{front_of}
-use Rattle.consumer_grain.specs.Subscriptions.{rises_from}
+use Rattle.consumer_grain.specs.Handled.{rises_from}
 
 -- what a read gives where there is no delivery
 abbrev pub no_delivery : Delivery

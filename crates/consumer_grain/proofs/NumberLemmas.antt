@@ -3,7 +3,7 @@ use Rattle.std.proofs.Common.{◌≡◌, ℕ, zero, suc, ◌<◌, ◌≤◌, Boo
 use Rattle.std.specs.List.{insert}
 use Rattle.std.proofs.lemmas.Bool.{and_from, and_parts, cond_both, eq-eqb, le-leb, le-ltb, leb-true, lt-ltb, ltb-false, ltb-true, ne_eqb, eqb-false}
 use Rattle.consumer_grain.specs.Activations.{is_in, with_number}
-use Rattle.consumer_grain.specs.Subscriptions.{rises_from}
+use Rattle.consumer_grain.specs.Handled.{rises_from}
 use Rattle.consumer_grain.proofs.RisingLemmas.{rises_from-lower}
 
 -- none is below where they rise from

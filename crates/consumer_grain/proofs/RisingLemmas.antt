@@ -2,7 +2,7 @@
 use Rattle.std.proofs.Common.{◌≡◌, ℕ, suc, ◌<◌, ◌≤◌, true, List, [], ◌∷◌, ◌++◌, length, refl, nat_le, arith}
 use Rattle.std.proofs.lemmas.Bool.{and_from, and_parts, le-leb, leb-true}
 use Rattle.stream_ident.specs.Words.{past_from}
-use Rattle.consumer_grain.specs.Subscriptions.{rises_from}
+use Rattle.consumer_grain.specs.Handled.{rises_from}
 
 -- where some are there, it doesn't matter what one past is without them
 pub past_from-any : (m n : ℕ) (xs : List ℕ) → 0 < length xs → past_from m xs ≡ past_from n xs

@@ -1,6 +1,6 @@
 -- What is known of a turn that begins.
 use Rattle.std.specs.Prelude.{◌≡◌, ℕ, true}
-use Rattle.consumer_grain.specs.Subscriptions.{rises_from}
+use Rattle.consumer_grain.specs.Handled.{rises_from}
 use Rattle.consumer_grain.specs.declared.told.Begun.{Begun}
 use Rattle.consumer_grain.specs.declared.told.Begun.TheVariants.{Busy, Empty, Dropped, Turn}
 

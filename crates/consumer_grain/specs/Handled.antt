@@ -1,7 +1,11 @@
--- What always holds of the positions that a subscription has handled.
-use Rattle.std.specs.Prelude.{◌≡◌, ℕ, true, List}
+-- The positions of the events that a subscription has handled.
+use Rattle.std.specs.Prelude.{◌≡◌, ℕ, suc, Bool, true, ◌&&◌, nat_le, List, [], ◌∷◌}
 use Rattle.stream_ident.specs.Words.{past}
-use Rattle.consumer_grain.specs.Subscriptions.{rises_from}
+
+-- positions that rise, from n on
+abbrev pub rises_from : ℕ → List ℕ → Bool
+rises_from n [] = true
+rises_from n (position ∷ positions) = nat_le n position && rises_from (suc position) positions
 
 -- they rise, and this is one past the last of them
 pub record IsHandled (handled : List ℕ) (one_past : ℕ) : Type 0 where

@@ -7,7 +7,7 @@ ghost use Rattle.std.specs.Option.{option_copied};
 ghost use Rattle.stream_ident.specs.Words.{past, Performs};
 ghost use Rattle.consumer_grain.specs.Activations.{begin, begin_front, can_begin, commit, current_turn, deactivated, forgotten, holds, is_front_new, is_in, lost, new_activation, offered, offer_takes_memory, running_count, runs, with_number, without_number};
 ghost use Rattle.consumer_grain.specs.Begins.{RisesFrom};
-ghost use Rattle.consumer_grain.specs.Subscriptions.{rises_from};
+ghost use Rattle.consumer_grain.specs.Handled.{rises_from};
 
 use crate::mailbox::{Delivery, Mailbox, has_sub, turn_positions, turn_size};
 use crate::sub_state::SubState;
@@ -55,7 +55,7 @@ impl Drop for Activation {
 
 impl Model for Activation {
     ghost use Rattle.consumer_grain.specs.Activations.{PlainActivation};
-    ghost use Rattle.consumer_grain.specs.Subscriptions.{rises_from};
+    ghost use Rattle.consumer_grain.specs.Handled.{rises_from};
     ghost use Rattle.std.specs.Prelude.{◌≡◌, true};
 
     ghost Value = { PlainActivation };
@@ -177,7 +177,7 @@ impl Activation {
     {
         self.running.is_none()
             && self.is_active
-            && is_front_new(self.mailbox.as_slice(), state.past())
+            && is_front_new(self.mailbox.as_slice(), state.handled.past())
     }
 
     /// Begins a turn with the front of the mailbox: the longest front, at most `max_events` and at most 16,
@@ -196,7 +196,7 @@ impl Activation {
         if !self.is_active {
             return Begun::Empty;
         }
-        self.begin_front(state.past(), turn, turn_size(max_events))
+        self.begin_front(state.handled.past(), turn, turn_size(max_events))
     }
 
     /// Begins with the front delivery, where there is one.

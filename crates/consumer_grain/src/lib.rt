@@ -6,11 +6,13 @@
 #![tactic(auto)]
 
 mod activation;
+mod handled;
 mod mailbox;
 mod sub_state;
 mod told;
 
 pub use activation::{Activation, RunningTurn};
+pub use handled::Handled;
 pub use mailbox::Delivery;
 pub use sub_state::SubState;
 pub use told::{Begun, Ended, Offered};

@@ -1,38 +1,28 @@
 //! How far a subscription is.
 ghost use Rattle.std.specs.Prelude.{◌≡◌, ◌+◌, ◌^◌, ◌<◌, true, is_ok, if◌then◌else◌};
 ghost use Rattle.stream_ident.specs.Words.{past};
-ghost use Rattle.consumer_grain.specs.Subscriptions.{acknowledged, advanced, caught_up, closed, committed, is_unacknowledged, new_state, rewound, rises_from};
+ghost use Rattle.consumer_grain.specs.Handled.{rises_from};
+ghost use Rattle.consumer_grain.specs.Subscriptions.{acknowledged, advanced, caught_up, closed, committed, is_unacknowledged, new_state, rewound};
 
+use crate::handled::Handled;
 use std::alloc::{AllocError, Global};
-use std::marker::Model;
 use stream_ident::{Row, Token};
 
 /// How far a subscription is: which events of the log it has handled, and where it goes on.
-///
-/// A contract sees it as its start, the positions that it has handled, the note of its last commit, its
-/// resume, its cursor, and whether it is open. The handled positions rise. The room that they have in
-/// memory is no part of it.
 #[derive(Debug, Drop)]
 pub struct SubState {
-    start: Token,
-    handled: Vec<usize>,
-    past: usize,
-    note: u64,
-    resume: usize,
-    cursor: usize,
-    is_open: bool,
-}
-
-impl Model for SubState {
-    ghost use Rattle.std.specs.Prelude.{ℕ};
-    ghost use Rattle.consumer_grain.specs.Subscriptions.{PlainState};
-    ghost use Rattle.consumer_grain.specs.Handled.{IsHandled};
-
-    ghost Value = { PlainState };
-
-    ghost view = { λ s. record { start = s.start; handled = s.handled.items; note = s.note; resume = s.resume; cursor = s.cursor; is_open = s.is_open } };
-
-    ghost invariant = { λ s. IsHandled s.handled.items s.past };
+    /// The token from which on it is owed events.
+    pub start: Token,
+    /// The positions of the events that it has handled.
+    pub handled: Handled,
+    /// The note of its last commit, 0 before the first.
+    pub note: u64,
+    /// What it is owed before this position is acknowledged.
+    pub resume: usize,
+    /// The next event to deliver is sought from this position on.
+    pub cursor: usize,
+    /// Whether it is open: it hasn't been unsubscribed.
+    pub live: bool,
 }
 
 impl SubState {
@@ -43,71 +33,19 @@ impl SubState {
     {
         SubState {
             start,
-            handled: Vec::new(alloc),
-            past: 0,
+            handled: Handled::new(alloc),
             note: 0,
             resume: position,
             cursor: position,
-            is_open: true,
+            live: true,
         }
-    }
-
-    /// The token from which on it is owed events.
-    pub fn start(&self) -> Token
-        ensures { result ≡ self.now.start }
-    {
-        self.start
-    }
-
-    /// The note of its last commit, 0 before the first.
-    pub fn note(&self) -> u64
-        ensures { result ≡ self.now.note }
-    {
-        self.note
-    }
-
-    /// What it is owed before this position is acknowledged.
-    pub fn resume(&self) -> usize
-        ensures { result ≡ self.now.resume }
-    {
-        self.resume
-    }
-
-    /// The next event to deliver is sought from this position on.
-    pub fn cursor(&self) -> usize
-        ensures { result ≡ self.now.cursor }
-    {
-        self.cursor
-    }
-
-    /// Whether it hasn't been unsubscribed.
-    pub fn is_open(&self) -> bool
-        ensures { result ≡ self.now.is_open }
-    {
-        self.is_open
-    }
-
-    /// The positions of the events that it has handled, rising.
-    pub fn handled(&self) -> &[usize]
-        ensures handled { result.now ≡ self.now.handled }
-        ensures rising { rises_from 0 self.now.handled ≡ true }
-    {
-        self.handled.as_slice()
-    }
-
-    /// One past the last position that it has handled, 0 where it has handled none. It looks at no handled
-    /// position.
-    pub fn past(&self) -> usize
-        ensures { result ≡ past self.now.handled }
-    {
-        self.past
     }
 
     /// Whether it has handled an event at or past its resume, so that an acknowledgement is due.
     pub fn is_unacknowledged(&self) -> bool
         ensures { result ≡ is_unacknowledged self.now }
     {
-        self.resume < self.past
+        self.resume < self.handled.past()
     }
 
     /// Adds the positions of a turn, which go on where those handled end, to the handled ones, and keeps
@@ -125,8 +63,7 @@ impl SubState {
         requires room { past positions.now < 2 ^ 64 }
         ensures { self.new ≡ (if is_ok result then committed positions.now note self.old else self.old) }
     {
-        self.handled.extend_from_slice(positions.as_slice())?;
-        self.past = past_of(positions);
+        self.handled.extend(positions)?;
         self.note = note;
         Ok(())
     }
@@ -172,15 +109,6 @@ impl SubState {
     pub fn close(&mut self)
         ensures { self.new ≡ closed self.old }
     {
-        self.is_open = false;
+        self.live = false;
     }
-}
-
-/// One past the last of rising positions.
-fn past_of(positions: &Row<usize>) -> usize
-    requires { past positions.now < 2 ^ 64 }
-    ensures { result ≡ past positions.now }
-{
-    let positions = positions.as_slice();
-    positions[positions.len() - 1] + 1
 }

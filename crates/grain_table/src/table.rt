@@ -6,7 +6,7 @@ ghost use Rattle.stream_ident.specs.Words.{change_at, lesser, past};
 ghost use Rattle.stream_ident.specs.Name.{grain_lt};
 ghost use Rattle.consumer_grain.specs.Activations.{begin, commit, deactivated, forgotten, lost, new_activation, offer_takes_memory, woken};
 ghost use Rattle.consumer_grain.specs.Begins.{RisesFrom};
-ghost use Rattle.consumer_grain.specs.Subscriptions.{rises_from};
+ghost use Rattle.consumer_grain.specs.Handled.{rises_from};
 ghost use Rattle.ranked_index.specs.Listed.{IsListed};
 ghost use Rattle.ranked_index.specs.Ranked.{is_up_to, IsFirstPast};
 ghost use Rattle.grain_table.specs.Changes.{activation_at, grain_at, OffersAt};

@@ -9,7 +9,7 @@ use Rattle.std.proofs.lemmas.List.Elements.{All-get_or}
 use Rattle.stream_ident.specs.declared.token.Token.{Token}
 use Rattle.stream_ident.specs.Event.{batch_token, no_event}
 use Rattle.stream_ident.specs.Token.{same_token, token_lt}
-use Rattle.consumer_grain.specs.Subscriptions.{rises_from}
+use Rattle.consumer_grain.specs.Handled.{rises_from}
 use Rattle.partition_queue.specs.Queue.{PlainQueue, TokensRise, event_at, token_at}
 use Rattle.consumer_grain.proofs.NumberLemmas.{rises_from-at_least}
 use Rattle.pulling_agent.specs.Progress.{handled_at}

@@ -2,7 +2,7 @@
 ghost use Rattle.std.specs.Prelude.{◌≡◌, ◌<◌, ◌≤◌, true, length, All, IfOk, IfSome};
 ghost use Rattle.partition_queue.specs.Queue.{TokensRise};
 ghost use Rattle.queue_mapper.specs.Place.{tag_of};
-ghost use Rattle.consumer_grain.specs.Subscriptions.{rises_from};
+ghost use Rattle.consumer_grain.specs.Handled.{rises_from};
 ghost use Rattle.pulling_agent.specs.Agent.{if_current};
 ghost use Rattle.pulling_agent.specs.Handled.{first_of, IsBound};
 ghost use Rattle.pulling_agent.specs.Progress.{ack, handled_at, next_event, retry, IsFound};
@@ -30,7 +30,7 @@ impl Agent {
         tag: u8,
         outstanding: bool,
     ) -> Result<Sought, StaleAgent>
-        requires cursor { state.old.is_open ≡ true → self.now.cache.low ≤ state.old.cursor }
+        requires cursor { state.old.live ≡ true → self.now.cache.low ≤ state.old.cursor }
         requires tag { tag ≡ tag_of stream.now }
         ensures sought { (state.new, result) ≡ if_current self.now generation state.old (next_event self.now.cache state.old stream.now outstanding) }
         ensures found { IfOk result (IsFound self.now.cache state.old) }
@@ -79,16 +79,15 @@ fn next_event(
     tag: u8,
     outstanding: bool,
 ) -> Sought
-    requires cursor { state.old.is_open ≡ true → cache.now.low ≤ state.old.cursor }
+    requires cursor { state.old.live ≡ true → cache.now.low ≤ state.old.cursor }
     requires tag { tag ≡ tag_of stream.now }
     ensures sought { (state.new, result) ≡ next_event cache.now state.old stream.now outstanding }
     ensures found { IsFound cache.now state.old result }
 {
-    if !state.is_open() {
+    if !state.live {
         return Sought::Closed;
     }
-    let start = state.start();
-    match next(cache, state.cursor(), stream, tag, &start) {
+    match next(cache, state.cursor, stream, tag, &state.start) {
         Some(position) => Sought::Next { position },
         None => {
             state.catch_up(cache.high(), outstanding);
@@ -101,7 +100,7 @@ fn next_event(
 fn retry(state: &mut SubState) -> Retried
     ensures { (state.new, result) ≡ retry state.old }
 {
-    if !state.is_open() {
+    if !state.live {
         return Retried::Closed;
     }
     state.rewind();
@@ -113,12 +112,12 @@ fn ack(state: &mut SubState, queue: &PartitionQueue, token: &Token) -> Acked
     requires { All (λ position. position < length queue.now.events) state.old.handled }
     ensures { (state.new, result) ≡ ack state.old queue.now token.now }
 {
-    if !state.is_open() {
+    if !state.live {
         return Acked::Closed;
     }
     // The queue says with its length that tokens rise, which the search by token rests on.
-    prove!(state.past() <= queue.len());
-    let Some(position) = handled_at(state.handled(), queue, token) else {
+    prove!(state.handled.past() <= queue.len());
+    let Some(position) = handled_at(state.handled.as_slice(), queue, token) else {
         return Acked::NotHandled;
     };
     state.acknowledge(position);

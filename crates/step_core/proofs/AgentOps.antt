@@ -10,7 +10,8 @@ use Rattle.stream_model.specs.Replies.{Reply}
 use Rattle.stream_model.specs.declared.reply.Reply.TheVariants as reply
 use Rattle.stream_model.specs.Positions.{with_sub}
 use Rattle.stream_model.specs.Pulling as plain
-use Rattle.consumer_grain.specs.Subscriptions.{PlainState, acknowledged, rewound}
+use Rattle.consumer_grain.specs.Subscriptions.{acknowledged, rewound}
+use Rattle.consumer_grain.specs.declared.sub_state.SubState.{SubState}
 use Rattle.pubsub_registry.specs.declared.registration.Registration.{Registration}
 use Rattle.pulling_agent.specs.Progress.{ack, ack_at, handled_at, retry}
 use Rattle.pulling_agent.specs.declared.told.Acked.TheVariants as ack_told
@@ -20,17 +21,17 @@ use Rattle.step_core.specs.PlainOf.{plain_of}
 use Rattle.step_core.specs.Replies.{of_ack, of_retry}
 use Rattle.step_core.proofs.RecordOps.{record-found, record-kept, record-set, record_at}
 
-abbrev pub with_state : {R : Type 0} → Parts → ℕ → (R → Reply) → PlainState × R → PlainPartition × Reply
+abbrev pub with_state : {R : Type 0} → Parts → ℕ → (R → Reply) → SubState × R → PlainPartition × Reply
 with_state parts i told stepped = (plain_of (record parts { subs = record parts.subs { states = set parts.subs.states i stepped.0 } }), told stepped.1)
 
-pub retry-parts : (parts : Parts) (generation : ℕ) (s : SubName) (i : ℕ) (d : SubName × Registration) (e : PlainState) → length parts.subs.registry.names ≡ length parts.subs.states → (generation == parts.agent.generation) ≡ true → place_of same_sub s parts.subs.registry.names ≡ Some i
+pub retry-parts : (parts : Parts) (generation : ℕ) (s : SubName) (i : ℕ) (d : SubName × Registration) (e : SubState) → length parts.subs.registry.names ≡ length parts.subs.states → (generation == parts.agent.generation) ≡ true → place_of same_sub s parts.subs.registry.names ≡ Some i
     → plain.retry (plain_of parts) generation s ≡ with_state parts i of_retry (retry (get_or parts.subs.states i e))
 unfolding plain.retry plain.retry_of
 retry-parts parts generation s i d e lengths current found =
     rw (current, record-found parts s i d e lengths found)
-    (by (get_or parts.subs.states i e).is_open)
+    (by (get_or parts.subs.states i e).live)
   where
-    old : PlainState
+    old : SubState
     old = get_or parts.subs.states i e
 
     by : (is_open : Bool)
@@ -39,14 +40,14 @@ retry-parts parts generation s i d e lengths current found =
     by false = ap (λ p. (p, reply.Closed)) (record-kept parts i e)
     by true = ap (λ p. (p, reply.Rewound)) (record-set parts s i d e (rewound old) plain.rewound lengths found refl)
 
-pub ack-parts : (parts : Parts) (generation : ℕ) (s : SubName) (token : Token) (i : ℕ) (d : SubName × Registration) (e : PlainState) → length parts.subs.registry.names ≡ length parts.subs.states → (generation == parts.agent.generation) ≡ true → place_of same_sub s parts.subs.registry.names ≡ Some i
+pub ack-parts : (parts : Parts) (generation : ℕ) (s : SubName) (token : Token) (i : ℕ) (d : SubName × Registration) (e : SubState) → length parts.subs.registry.names ≡ length parts.subs.states → (generation == parts.agent.generation) ≡ true → place_of same_sub s parts.subs.registry.names ≡ Some i
     → plain.ack (plain_of parts) generation s token ≡ with_state parts i of_ack (ack (get_or parts.subs.states i e) parts.queue token)
 unfolding plain.ack plain.ack_of plain.ack_position
 ack-parts parts generation s token i d e lengths current found =
     rw (current, record-found parts s i d e lengths found)
-    (by (get_or parts.subs.states i e).is_open (handled_at (get_or parts.subs.states i e).handled parts.queue token))
+    (by (get_or parts.subs.states i e).live (handled_at (get_or parts.subs.states i e).handled parts.queue token))
   where
-    old : PlainState
+    old : SubState
     old = get_or parts.subs.states i e
 
     by : (is_open : Bool) (positions : List ℕ)

@@ -15,7 +15,8 @@ use Rattle.stream_model.specs.Positions.{is_spent, sub_at, with_sub}
 use Rattle.stream_model.specs.Step.{step, IsReached, Leads}
 use Rattle.stream_model.proofs.Reaching.{reached-leads}
 use Rattle.stream_model.proofs.StepBounds.{bounds-step}
-use Rattle.consumer_grain.specs.Subscriptions.{PlainState, advanced, caught_up, committed}
+use Rattle.consumer_grain.specs.Subscriptions.{advanced, caught_up, committed}
+use Rattle.consumer_grain.specs.declared.sub_state.SubState.{SubState}
 use Rattle.queue_cache.specs.Cache.{high}
 use Rattle.subscription_table.specs.Table.{PlainTable, name_at, no_entry, no_state, state_at, with_state}
 use Rattle.pulling_agent.specs.declared.told.Sought.TheVariants as sought
@@ -77,7 +78,7 @@ caught-assembled parts t number stands searched =
 -- ---- the next event handled
 
 -- the state after that
-abbrev turned_state : ℕ → ℕ → PlainState → PlainState
+abbrev turned_state : ℕ → ℕ → SubState → SubState
 turned_state position note state = advanced position (committed (position ∷ []) note state)
 
 pub state-turned : (t t1 t2 : PlainTable) (number position note : ℕ) → number < length t.states → t1 ≡ with_state t number (committed (position ∷ []) note (state_at t number))
@@ -86,9 +87,9 @@ state-turned t t1 t2 number position note within first second =
     let state = committed (position ∷ []) note (state_at t number) in
     let written : state_at t1 number ≡ state = ap (λ (t : PlainTable). state_at t number) first ∙ get_or-set_same t.states number state no_state within in
     second
-    ∙ ap (λ (s : PlainState). with_state t1 number (advanced position s)) written
+    ∙ ap (λ (s : SubState). with_state t1 number (advanced position s)) written
     ∙ ap (λ (x : PlainTable). with_state x number (advanced position state)) first
-    ∙ ap (λ (states : List PlainState). record t { states = states }) (set-set t.states number state (advanced position state))
+    ∙ ap (λ (states : List SubState). record t { states = states }) (set-set t.states number state (advanced position state))
 
 abbrev pub turned_parts : Parts → PlainTable → Parts
 turned_parts parts t = record parts { subs = t; rises = parts.rises + 1; turns = parts.turns + 1 }

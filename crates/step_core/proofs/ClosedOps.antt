@@ -23,7 +23,8 @@ use Rattle.stream_model.proofs.ChangedValues.{All-changed, place_of-changed, pla
 use Rattle.stream_model.proofs.Lookups.{place_of-value, place_of-within}
 use Rattle.consumer_grain.specs.declared.mailbox.Delivery.{Delivery}
 use Rattle.consumer_grain.specs.Activations.{PlainActivation, forgotten}
-use Rattle.consumer_grain.specs.Subscriptions.{PlainState, closed}
+use Rattle.consumer_grain.specs.Subscriptions.{closed}
+use Rattle.consumer_grain.specs.declared.sub_state.SubState.{SubState}
 use Rattle.pubsub_registry.specs.declared.registration.Registration.{Registration}
 use Rattle.pubsub_registry.specs.declared.told.Closing.{Closing}
 use Rattle.pubsub_registry.specs.declared.told.Closing.TheVariants as close_told
@@ -89,11 +90,11 @@ close-found t s number found =
     ∙ ap (λ (o : Option Registration). closed_by t number (close_found t.registry s o)) (place_of-value same_sub s number t.registry.names no_entry found)
 
 close-explicit : (t : PlainTable) (n number : ℕ) → AreRecords t → place_of same_sub (name.Explicit n) t.registry.names ≡ Some number
-    → close t number ≡ (if (state_at t number).is_open then (with_closed_name t n number, close_told.Done) else (t, close_told.Closed))
+    → close t number ≡ (if (state_at t number).live then (with_closed_name t n number, close_told.Done) else (t, close_told.Closed))
 close-explicit t n number records found =
     close-found t (name.Explicit n) number found
     ∙ ap (λ is_open. closed_by t number (picked is_open)) (sym (records.openness number within))
-    ∙ by (state_at t number).is_open
+    ∙ by (state_at t number).live
   where
     within : number < length t.states
     within = omega (arith, place_of-within same_sub (name.Explicit n) number t.registry.names found, records.long)
@@ -109,7 +110,7 @@ close-large : (t : PlainTable) (s : SubName) (number : ℕ) → AreRecords t →
 close-large t (name.Implicit kind stream) number records found =
     subst (λ (stepped : PlainTable × Closing). IsAsLarge t stepped.0) (sym (close-found t (name.Implicit kind stream) number found)) (record { names = refl; most_names = refl; most_rules = refl })
 close-large t (name.Explicit n) number records found =
-    subst (λ (stepped : PlainTable × Closing). IsAsLarge t stepped.0) (sym (close-explicit t n number records found)) (by (state_at t number).is_open)
+    subst (λ (stepped : PlainTable × Closing). IsAsLarge t stepped.0) (sym (close-explicit t n number records found)) (by (state_at t number).live)
   where
     picked : Bool → PlainTable × Closing
     picked is_open = if is_open then (with_closed_name t n number, close_told.Done) else (t, close_told.Closed)
@@ -124,7 +125,7 @@ close-known : (t : PlainTable) (grains : List (GrainId × PlainActivation)) (s :
 close-known t grains (name.Implicit kind stream) number records found known =
     subst (λ (stepped : PlainTable × Closing). AreKnown stepped.0.registry.names stepped.0.states grains) (sym (close-found t (name.Implicit kind stream) number found)) known
 close-known t grains (name.Explicit n) number records found known =
-    subst (λ (stepped : PlainTable × Closing). AreKnown stepped.0.registry.names stepped.0.states grains) (sym (close-explicit t n number records found)) (by (state_at t number).is_open)
+    subst (λ (stepped : PlainTable × Closing). AreKnown stepped.0.registry.names stepped.0.states grains) (sym (close-explicit t n number records found)) (by (state_at t number).live)
   where
     within : number < length t.states
     within = omega (arith, place_of-within same_sub (name.Explicit n) number t.registry.names found, records.long)
@@ -140,11 +141,11 @@ close-known t grains (name.Explicit n) number records found known =
     by false = known
 
 -- a record that was closed now is so
-close-closes : (t : PlainTable) (s : SubName) (number : ℕ) → AreRecords t → place_of same_sub s t.registry.names ≡ Some number → (close t number).1 ≡ close_told.Done → (state_at (close t number).0 number).is_open ≡ false
+close-closes : (t : PlainTable) (s : SubName) (number : ℕ) → AreRecords t → place_of same_sub s t.registry.names ≡ Some number → (close t number).1 ≡ close_told.Done → (state_at (close t number).0 number).live ≡ false
 close-closes t (name.Implicit kind stream) number records found =
-    subst (λ (stepped : PlainTable × Closing). stepped.1 ≡ close_told.Done → (state_at stepped.0 number).is_open ≡ false) (sym (close-found t (name.Implicit kind stream) number found)) (λ is. absurd (cc))
+    subst (λ (stepped : PlainTable × Closing). stepped.1 ≡ close_told.Done → (state_at stepped.0 number).live ≡ false) (sym (close-found t (name.Implicit kind stream) number found)) (λ is. absurd (cc))
 close-closes t (name.Explicit n) number records found =
-    subst (λ (stepped : PlainTable × Closing). stepped.1 ≡ close_told.Done → (state_at stepped.0 number).is_open ≡ false) (sym (close-explicit t n number records found)) (by (state_at t number).is_open)
+    subst (λ (stepped : PlainTable × Closing). stepped.1 ≡ close_told.Done → (state_at stepped.0 number).live ≡ false) (sym (close-explicit t n number records found)) (by (state_at t number).live)
   where
     within : number < length t.states
     within = omega (arith, place_of-within same_sub (name.Explicit n) number t.registry.names found, records.long)
@@ -152,8 +153,8 @@ close-closes t (name.Explicit n) number records found =
     picked : Bool → PlainTable × Closing
     picked is_open = if is_open then (with_closed_name t n number, close_told.Done) else (t, close_told.Closed)
 
-    by : (is_open : Bool) → (picked is_open).1 ≡ close_told.Done → (state_at (picked is_open).0 number).is_open ≡ false
-    by true is = ap (λ (state : PlainState). state.is_open) (get_or-set_same t.states number (closed (state_at t number)) no_state within)
+    by : (is_open : Bool) → (picked is_open).1 ≡ close_told.Done → (state_at (picked is_open).0 number).live ≡ false
+    by true is = ap (λ (state : SubState). state.live) (get_or-set_same t.states number (closed (state_at t number)) no_state within)
     by false is = absurd (cc)
 
 module _ (parts : Parts) (number : ℕ) where
@@ -199,7 +200,7 @@ module _ (parts : Parts) (number : ℕ) where
             ∙ unsubscribe-implicit (plain_of parts) (name.Implicit kind stream) kind stream _ refl (record-found parts (name.Implicit kind stream) number no_entry no_state lengths found)
         by (name.Explicit n) found =
             ap closed_as (close-explicit parts.subs n number records found)
-            ∙ explicit n (state_at parts.subs number).is_open
+            ∙ explicit n (state_at parts.subs number).live
             ∙ sym (unsubscribe-parts parts n number no_entry no_state left_grains lengths found (forgets n found))
 
     pub closed-performs : (new : PlainTable) (told : Closing) → Agrees parts → AreUnique parts.subs.registry.names → (new, told) ≡ close parts.subs number → closed_as (new, told) ≡ plain.unsubscribe (plain_of parts) s
@@ -210,13 +211,13 @@ module _ (parts : Parts) (number : ℕ) where
         subst (λ (stepped : PlainTable × Closing). IsAssembled (record parts { subs = stepped.0 })) (sym done)
         (assembled-subs parts (close parts.subs number).0 (close-large parts.subs s number records (sym found)) (close-known parts.subs parts.grains s number records (sym found) assembled.known) assembled)
 
-    pub closed-after : (new : PlainTable) → (new, close_told.Done) ≡ close parts.subs number → (state_at new number).is_open ≡ false
+    pub closed-after : (new : PlainTable) → (new, close_told.Done) ≡ close parts.subs number → (state_at new number).live ≡ false
     closed-after new done =
-        subst (λ (t : PlainTable). (state_at t number).is_open ≡ false) (sym (ap (λ (stepped : PlainTable × Closing). stepped.0) done))
+        subst (λ (t : PlainTable). (state_at t number).live ≡ false) (sym (ap (λ (stepped : PlainTable × Closing). stepped.0) done))
         (close-closes parts.subs s number records (sym found) (sym (ap (λ (stepped : PlainTable × Closing). stepped.1) done)))
 
 -- a grain that forgets a closed record knows no other numbers, and all that are open
-forgotten-known : (parts : Parts) (g : GrainId) (number : ℕ) → IsAssembled parts → (state_at parts.subs number).is_open ≡ false → AreKnown parts.subs.registry.names parts.subs.states (forgotten_by g number parts.grains)
+forgotten-known : (parts : Parts) (g : GrainId) (number : ℕ) → IsAssembled parts → (state_at parts.subs number).live ≡ false → AreKnown parts.subs.registry.names parts.subs.states (forgotten_by g number parts.grains)
 forgotten-known parts g number assembled is_closed = by (place_of same_grain g parts.grains) refl
   where
     by : (at : Option ℕ) → place_of same_grain g parts.grains ≡ at → AreKnown parts.subs.registry.names parts.subs.states (forgotten_by g number parts.grains)
@@ -225,7 +226,7 @@ forgotten-known parts g number assembled is_closed = by (place_of same_grain g p
         subst (AreKnown parts.subs.registry.names parts.subs.states) (place_of-changed same_grain g (forgotten number) j parts.grains found)
         (known-forgotten parts.subs.registry.names parts.subs.states parts.grains number j assembled.known is_closed (place_of-within same_grain g j parts.grains found))
 
-pub forgotten-assembled : (parts : Parts) (g : GrainId) (number : ℕ) → IsAssembled parts → (state_at parts.subs number).is_open ≡ false → IsAssembled (record parts { grains = forgotten_by g number parts.grains })
+pub forgotten-assembled : (parts : Parts) (g : GrainId) (number : ℕ) → IsAssembled parts → (state_at parts.subs number).live ≡ false → IsAssembled (record parts { grains = forgotten_by g number parts.grains })
 forgotten-assembled parts g number assembled is_closed =
     record {
       most_subs = assembled.most_subs;

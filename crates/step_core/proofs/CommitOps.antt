@@ -28,7 +28,8 @@ use Rattle.stream_ident.proofs.SameValues.{same_sub-refl}
 use Rattle.consumer_grain.specs.declared.mailbox.Delivery.{Delivery}
 use Rattle.consumer_grain.specs.declared.activation.RunningTurn.{RunningTurn}
 use Rattle.consumer_grain.specs.Activations.{PlainActivation, commit, commit_turn, current_turn, holds, is_turn, runs, without_turn}
-use Rattle.consumer_grain.specs.Subscriptions.{committed, rises_from}
+use Rattle.consumer_grain.specs.Handled.{rises_from}
+use Rattle.consumer_grain.specs.Subscriptions.{committed}
 use Rattle.grain_table.specs.Changes.{activation_at, no_grain}
 use Rattle.grain_table.specs.Changes as grains
 use Rattle.grain_table.specs.Grains.{PlainGrains, number_of}
@@ -122,7 +123,7 @@ out_of parts grains (subs, reply) = (plain_of (with_both parts subs grains), rep
 committed-running : (parts : Parts) (i activation turn note : ℕ) (run : RunningTurn) → is_turn (activation_at parts.grains i).number activation turn (Some run) ≡ true
     → committed_by parts i no_grain no_state activation turn note (Some run) ≡ out_of parts (change_at (λ _. record (activation_at parts.grains i) { running = None }) i parts.grains) (handle parts.subs parts.queue run note)
 committed-running parts i activation turn note run is =
-    ap (λ b. if b then done (state_at parts.subs run.sub).is_open else (plain_of parts, reply.Stale)) is ∙ by (state_at parts.subs run.sub).is_open
+    ap (λ b. if b then done (state_at parts.subs run.sub).live else (plain_of parts, reply.Stale)) is ∙ by (state_at parts.subs run.sub).live
   where
     grains : PlainGrains
     grains = change_at (λ _. record (activation_at parts.grains i) { running = None }) i parts.grains
@@ -190,13 +191,13 @@ commit-stale parts g i activation turn note distinct lengths found below none =
 -- where the subscription is open, the reply takes memory
 pub commit-takes : (parts : Parts) (g : GrainId) (i activation turn note : ℕ) (run : RunningTurn)
     → AreDistinct parts.subs.registry.names → length parts.subs.registry.names ≡ length parts.subs.states → number_of parts.grains g ≡ Some i → IsBelow (length parts.subs.registry.names) (activation_at parts.grains i)
-    → current_turn (activation_at parts.grains i) activation turn ≡ Some run → (state_at parts.subs run.sub).is_open ≡ true
+    → current_turn (activation_at parts.grains i) activation turn ≡ Some run → (state_at parts.subs run.sub).live ≡ true
     → takes_memory (plain.commit (plain_of parts) g activation turn note).1 ≡ true
 commit-takes parts g i activation turn note run distinct lengths found below is_current is_open =
     let grains = change_at without_turn i parts.grains in
     let handles = handle parts.subs parts.queue run note in
     let does = commit-told parts g i activation turn note run handles.0 grains handles.1 distinct lengths found below is_current refl refl in
-    ap (λ (out : PlainPartition × Reply). takes_memory out.1) (sym does) ∙ by (state_at parts.subs run.sub).is_open _ _ is_open
+    ap (λ (out : PlainPartition × Reply). takes_memory out.1) (sym does) ∙ by (state_at parts.subs run.sub).live _ _ is_open
   where
     by : (b : Bool) (subs : PlainTable) (token : Token) → b ≡ true → takes_memory (if◌then◌else◌ {A = PlainTable × Reply} b (subs, reply.Committed (table.name_at parts.subs run.sub) token) (parts.subs, reply.Closed)).1 ≡ true
     by true subs token is = refl
@@ -222,7 +223,7 @@ ended-below n a below = record { waiting = below.waiting; running = tt; subs = b
 handle-registry : (subs now : PlainTable) (told : Reply) (parts : Parts) (run : RunningTurn) (note : ℕ) → (now, told) ≡ handle subs parts.queue run note → now.registry ≡ subs.registry
 handle-registry subs now told parts run note is =
     ap (λ (out : PlainTable × Reply). out.0.registry) is
-    ∙ cond_both (state_at subs run.sub).is_open _ _ (λ (out : PlainTable × Reply). out.0.registry ≡ subs.registry) (λ _. refl) (λ _. refl)
+    ∙ cond_both (state_at subs run.sub).live _ _ (λ (out : PlainTable × Reply). out.0.registry ≡ subs.registry) (λ _. refl) (λ _. refl)
 
 -- what runs is of a record of the grain
 commit-known : (parts : Parts) (g : GrainId) (i activation turn note : ℕ) (run : RunningTurn) → IsAssembled parts → IsReached (plain_of parts)
@@ -254,7 +255,7 @@ commit-known parts g i activation turn note run assembled reached distinct lengt
 
     handled : AreKnown names (handle parts.subs parts.queue run note).0.states parts.grains
     handled =
-        cond_both (state_at parts.subs run.sub).is_open _ _ (λ (out : PlainTable × Reply). AreKnown names out.0.states parts.grains)
+        cond_both (state_at parts.subs run.sub).live _ _ (λ (out : PlainTable × Reply). AreKnown names out.0.states parts.grains)
         (λ _. known-state names parts.subs.states parts.grains run.sub (committed run.positions note (state_at parts.subs run.sub)) assembled.known (omega (arith, below, lengths))
         (λ is_open. is_open) (λ at none unheld. absurd (false≢true (sym (unheld i inside theirs) ∙ held))))
         (λ _. assembled.known)

@@ -15,7 +15,7 @@ use Rattle.stream_model.specs.Pulling.{rewound_where}
 use Rattle.stream_model.specs.Turns as plain
 use Rattle.consumer_grain.specs.declared.activation.RunningTurn.{RunningTurn}
 use Rattle.consumer_grain.specs.Activations.{PlainActivation, deactivated, lost, running_count}
-use Rattle.consumer_grain.specs.Subscriptions.{PlainState}
+use Rattle.consumer_grain.specs.declared.sub_state.SubState.{SubState}
 use Rattle.pubsub_registry.specs.declared.registration.Registration.{Registration}
 use Rattle.step_core.specs.declared.parts.Parts.{Parts}
 use Rattle.step_core.specs.PlainOf.{plain_of}
@@ -26,16 +26,16 @@ use Rattle.step_core.proofs.TurnOps.{with_activation}
 use Rattle.step_core.proofs.ViewLemmas.{records-changed}
 
 -- these states are the old ones, with the cursors of the grain's open records back at their resumes
-abbrev pub AreRewound : GrainId → Parts → List PlainState → Type 0
+abbrev pub AreRewound : GrainId → Parts → List SubState → Type 0
 AreRewound g parts new =
-    (i : ℕ) (d : SubName × Registration) (e : PlainState) → i < length parts.subs.registry.names
+    (i : ℕ) (d : SubName × Registration) (e : SubState) → i < length parts.subs.registry.names
     → (sub_of (get_or parts.subs.registry.names i d) (get_or new i e)).1 ≡ rewound_where (plain.is_open_of g (record_at parts i d e)) (record_at parts i d e)
 
 count-same : (parts : Parts) (running : Option RunningTurn) → plain.running_count (option_map (turn_of parts.subs.registry.names) running) ≡ running_count running
 count-same parts None = refl
 count-same parts (Some run) = refl
 
-pub deactivate-parts : (parts : Parts) (g : GrainId) (i : ℕ) (d : GrainId × PlainActivation) (new : List PlainState)
+pub deactivate-parts : (parts : Parts) (g : GrainId) (i : ℕ) (d : GrainId × PlainActivation) (new : List SubState)
     → length parts.subs.registry.names ≡ length parts.subs.states → length new ≡ length parts.subs.states → place_of same_grain g parts.grains ≡ Some i → AreRewound g parts new
     → plain.deactivate (plain_of parts) g
     ≡ (if not (activation_at parts i d).active then (plain_of parts, reply.NotActive)

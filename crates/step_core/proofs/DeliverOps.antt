@@ -22,7 +22,8 @@ use Rattle.stream_model.specs.declared.reply.Reply.TheVariants as reply
 use Rattle.stream_model.specs.Positions.{between, grain_at, is_outstanding, lower_bound, next_position, token_at, with_grain, with_sub}
 use Rattle.stream_model.specs.Pulling as plain
 use Rattle.consumer_grain.specs.Activations.{PlainActivation, new_activation, next_activation, woken}
-use Rattle.consumer_grain.specs.Subscriptions.{PlainState, advanced, caught_up}
+use Rattle.consumer_grain.specs.Subscriptions.{advanced, caught_up}
+use Rattle.consumer_grain.specs.declared.sub_state.SubState.{SubState}
 use Rattle.pubsub_registry.specs.declared.registration.Registration.{Registration}
 use Rattle.cache_cursor.specs.Cursor.{lower_in, next_in}
 use Rattle.queue_mapper.specs.Place.{bare}
@@ -67,29 +68,29 @@ lower-is parts token has =
 
 -- ---- what an agent hands over
 
-pub deliver-closed : (parts : Parts) (generation : ℕ) (s : SubName) (i : ℕ) (d : SubName × Registration) (e : PlainState) → length parts.subs.registry.names ≡ length parts.subs.states → (generation == parts.agent.generation) ≡ true → place_of same_sub s parts.subs.registry.names ≡ Some i → (get_or parts.subs.states i e).is_open ≡ false
+pub deliver-closed : (parts : Parts) (generation : ℕ) (s : SubName) (i : ℕ) (d : SubName × Registration) (e : SubState) → length parts.subs.registry.names ≡ length parts.subs.states → (generation == parts.agent.generation) ≡ true → place_of same_sub s parts.subs.registry.names ≡ Some i → (get_or parts.subs.states i e).live ≡ false
     → plain.deliver (plain_of parts) generation s ≡ (plain_of parts, reply.Closed)
 unfolding plain.deliver plain.deliver_to
 deliver-closed parts generation s i d e lengths current found is_closed = rw (current, record-found parts s i d e lengths found, is_closed) refl
 
 -- an open subscription whose next event is sought
-abbrev pub Seeks : Parts → ℕ → SubName → ℕ → SubName × Registration → PlainState → Type 0
+abbrev pub Seeks : Parts → ℕ → SubName → ℕ → SubName × Registration → SubState → Type 0
 Seeks parts generation s i d e =
-    (length parts.subs.registry.names ≡ length parts.subs.states) × (((generation == parts.agent.generation) ≡ true) × ((place_of same_sub s parts.subs.registry.names ≡ Some i) × ((get_or parts.subs.states i e).is_open ≡ true)))
+    (length parts.subs.registry.names ≡ length parts.subs.states) × (((generation == parts.agent.generation) ≡ true) × ((place_of same_sub s parts.subs.registry.names ≡ Some i) × ((get_or parts.subs.states i e).live ≡ true)))
 
 not-closed : {A : Type 0} (b : Bool) (x y : A) → b ≡ true → (if not b then x else y) ≡ y
 not-closed true x y is = refl
 not-closed false x y is = absurd (cc)
 
-deliver-open : (parts : Parts) (generation : ℕ) (s : SubName) (i : ℕ) (d : SubName × Registration) (e : PlainState) → Seeks parts generation s i d e
+deliver-open : (parts : Parts) (generation : ℕ) (s : SubName) (i : ℕ) (d : SubName × Registration) (e : SubState) → Seeks parts generation s i d e
     → plain.deliver (plain_of parts) generation s ≡ plain.deliver_position (plain_of parts) s (record_at parts i d e) (grain_at (plain_of parts) (record_at parts i d e).grain) (next_position (plain_of parts) (record_at parts i d e))
 unfolding plain.deliver plain.deliver_to
 deliver-open parts generation s i d e seeks =
     rw (seeks.1.0, record-found parts s i d e seeks.0 seeks.1.1.0)
-    (not-closed (get_or parts.subs.states i e).is_open (plain_of parts, reply.Closed) (plain.deliver_position (plain_of parts) s (record_at parts i d e) (grain_at (plain_of parts) (record_at parts i d e).grain) (next_position (plain_of parts) (record_at parts i d e))) seeks.1.1.1)
+    (not-closed (get_or parts.subs.states i e).live (plain_of parts, reply.Closed) (plain.deliver_position (plain_of parts) s (record_at parts i d e) (grain_at (plain_of parts) (record_at parts i d e).grain) (next_position (plain_of parts) (record_at parts i d e))) seeks.1.1.1)
 
 -- nothing is left for it
-pub deliver-nothing : (parts : Parts) (generation : ℕ) (s : SubName) (i : ℕ) (d : SubName × Registration) (e : PlainState) (outstanding : Bool) → Seeks parts generation s i d e
+pub deliver-nothing : (parts : Parts) (generation : ℕ) (s : SubName) (i : ℕ) (d : SubName × Registration) (e : SubState) (outstanding : Bool) → Seeks parts generation s i d e
     → next_position (plain_of parts) (record_at parts i d e) ≡ None → is_outstanding (plain_of parts) s (record_at parts i d e) ≡ outstanding
     → plain.deliver (plain_of parts) generation s ≡ (plain_of (record parts { subs = record parts.subs { states = set parts.subs.states i (caught_up (high parts.agent.cache) outstanding (get_or parts.subs.states i e)) } }), reply.Nothing)
 unfolding plain.deliver_position
@@ -103,7 +104,7 @@ deliver-nothing parts generation s i d e outstanding seeks none is_out =
     change b r = record r { cursor = max r.cursor (high parts.agent.cache); resume = if b then r.resume else max r.cursor (high parts.agent.cache) }
 
 -- the next event, for a grain that has a number
-abbrev pub handed : Parts → ℕ → ℕ → ℕ → GrainId × PlainActivation → PlainState → Parts
+abbrev pub handed : Parts → ℕ → ℕ → ℕ → GrainId × PlainActivation → SubState → Parts
 handed parts i j position d e =
     record parts {
       subs = record parts.subs { states = set parts.subs.states i (advanced position (get_or parts.subs.states i e)) };
@@ -111,7 +112,7 @@ handed parts i j position d e =
       rises = if (activation_at parts j d).active then parts.rises else suc parts.rises;
     }
 
-pub deliver-next : (parts : Parts) (generation : ℕ) (s : SubName) (i j position : ℕ) (c : SubName × Registration) (d : GrainId × PlainActivation) (e : PlainState) → Seeks parts generation s i c e
+pub deliver-next : (parts : Parts) (generation : ℕ) (s : SubName) (i j position : ℕ) (c : SubName × Registration) (d : GrainId × PlainActivation) (e : SubState) → Seeks parts generation s i c e
     → next_position (plain_of parts) (record_at parts i c e) ≡ Some position → s ≡ name_at parts.subs.registry.names i → place_of same_grain (record_at parts i c e).grain parts.grains ≡ Some j → next_activation (activation_at parts j d).number ≡ suc (activation_at parts j d).number
     → plain.deliver (plain_of parts) generation s
     ≡ (if nat_le MAILBOX_PLACES (length (activation_at parts j d).mailbox) then (plain_of parts, reply.MailboxFull)
@@ -170,7 +171,7 @@ deliver-next parts generation s i j position c d e seeks some is_name found rise
     by false false same false = ap {B = PlainPartition × Reply} (λ p. (p, reply.Delivered (token_at (plain_of parts) position))) done
 
 -- the next event, for a grain that was never active
-abbrev pub handed_first : Parts → ℕ → ℕ → GrainId → PlainState → Parts
+abbrev pub handed_first : Parts → ℕ → ℕ → GrainId → SubState → Parts
 handed_first parts i position g e =
     record parts {
       subs = record parts.subs { states = set parts.subs.states i (advanced position (get_or parts.subs.states i e)) };
@@ -178,7 +179,7 @@ handed_first parts i position g e =
       rises = suc parts.rises;
     }
 
-pub deliver-first : (parts : Parts) (generation : ℕ) (s : SubName) (i position : ℕ) (c : SubName × Registration) (e : PlainState) → Seeks parts generation s i c e
+pub deliver-first : (parts : Parts) (generation : ℕ) (s : SubName) (i position : ℕ) (c : SubName × Registration) (e : SubState) → Seeks parts generation s i c e
     → next_position (plain_of parts) (record_at parts i c e) ≡ Some position → s ≡ name_at parts.subs.registry.names i → place_of same_grain (record_at parts i c e).grain parts.grains ≡ None
     → plain.deliver (plain_of parts) generation s
     ≡ (if nat_le parts.limits.rises parts.rises then (plain_of parts, reply.Spent)

@@ -29,7 +29,8 @@ use Rattle.consumer_grain.specs.declared.told.Offered.{Offered}
 use Rattle.consumer_grain.specs.declared.told.Offered.TheVariants as offer
 use Rattle.consumer_grain.specs.declared.activation.RunningTurn.{RunningTurn}
 use Rattle.consumer_grain.specs.Activations.{PlainActivation, holds, runs, is_in, new_activation, next_activation, offered, offer_takes_memory, with_number, woken}
-use Rattle.consumer_grain.specs.Subscriptions.{PlainState, advanced, caught_up}
+use Rattle.consumer_grain.specs.Subscriptions.{advanced, caught_up}
+use Rattle.consumer_grain.specs.declared.sub_state.SubState.{SubState}
 use Rattle.grain_table.specs.Changes.{OffersAt, no_grain}
 use Rattle.grain_table.specs.Grains.{PlainGrains, number_of, with_grain, AreIdle}
 use Rattle.pubsub_registry.specs.declared.registration.Registration.{Registration}
@@ -86,7 +87,7 @@ named parts number stands =
     (number-of-name parts.subs.registry.names number (distinct parts number stands) stands.within)
 
 -- an open subscription's cursor isn't behind the cache
-pub cursor-low : (parts : Parts) (number : ℕ) → Stands parts number → (state_at parts.subs number).is_open ≡ true → parts.agent.cache.low ≤ (state_at parts.subs number).cursor
+pub cursor-low : (parts : Parts) (number : ℕ) → Stands parts number → (state_at parts.subs number).live ≡ true → parts.agent.cache.low ≤ (state_at parts.subs number).cursor
 cursor-low parts number stands is_open =
     let found = record-of-number parts number no_entry no_state (distinct parts number stands) (sym stands.agrees.records.long) stands.within in
     let fits = (history-of (plain_of parts) stands.agrees.reached).fits.subs (name_at parts.subs.registry.names number) (record_of parts number) found in
@@ -175,25 +176,25 @@ outstanding-nowhere parts number s handled none = unacknowledged-none parts numb
 
 -- what a search for a subscription's next event found, and what it left of the table
 abbrev pub IsSought : PlainTable → PlainTable → ℕ → PlainCache → StreamId → Bool → Sought → Type 0
-IsSought t new number cache stream outstanding sought.Closed = (new ≡ t) × ((state_at t number).is_open ≡ false)
+IsSought t new number cache stream outstanding sought.Closed = (new ≡ t) × ((state_at t number).live ≡ false)
 IsSought t new number cache stream outstanding sought.Nothing =
-    (new ≡ with_state t number (caught_up (high cache) outstanding (state_at t number))) × ((state_at t number).is_open ≡ true) × (next_in cache (state_at t number).cursor stream (state_at t number).start ≡ None)
+    (new ≡ with_state t number (caught_up (high cache) outstanding (state_at t number))) × ((state_at t number).live ≡ true) × (next_in cache (state_at t number).cursor stream (state_at t number).start ≡ None)
 IsSought t new number cache stream outstanding (sought.Next position) =
-    (new ≡ t) × ((state_at t number).is_open ≡ true) × (next_in cache (state_at t number).cursor stream (state_at t number).start ≡ Some position)
+    (new ≡ t) × ((state_at t number).live ≡ true) × (next_in cache (state_at t number).cursor stream (state_at t number).start ≡ Some position)
 
 state-kept : (t : PlainTable) (number : ℕ) → with_state t number (state_at t number) ≡ t
-state-kept t number = ap (λ (states : List PlainState). record t { states = states }) (set-get_or t.states number no_state)
+state-kept t number = ap (λ (states : List SubState). record t { states = states }) (set-get_or t.states number no_state)
 
 pub sought-is : (t new : PlainTable) (number : ℕ) (cache : PlainCache) (stream : StreamId) (outstanding : Bool) (told : Sought)
     → ◌≡◌ {A = PlainTable × Sought} (new, told) (stepped t number (next_event cache (state_at t number) stream outstanding)) → IsSought t new number cache stream outstanding told
 sought-is t new number cache stream outstanding told is =
     subst (λ (r : PlainTable × Sought). IsSought t r.0 number cache stream outstanding r.1) (sym is)
-    (by (state_at t number).is_open (next_in cache (state_at t number).cursor stream (state_at t number).start) refl refl)
+    (by (state_at t number).live (next_in cache (state_at t number).cursor stream (state_at t number).start) refl refl)
   where
-    state : PlainState
+    state : SubState
     state = state_at t number
 
-    by : (is_open : Bool) (next : Option ℕ) → state.is_open ≡ is_open → next_in cache state.cursor stream state.start ≡ next
+    by : (is_open : Bool) (next : Option ℕ) → state.live ≡ is_open → next_in cache state.cursor stream state.start ≡ next
         → IsSought t
         (stepped t number (if not is_open then (state, sought.Closed) else next_at cache state outstanding next)).0
         number cache stream outstanding
@@ -380,7 +381,7 @@ abbrev AreBelow : Parts → PlainGrains → Type 0
 AreBelow parts grains = AllByRecursion (λ (g : GrainId × PlainActivation). IsBelow (length parts.subs.registry.names) g.1) grains
 
 -- the cursor of its subscription past the event
-abbrev sent_states : Parts → Delivery → List PlainState
+abbrev sent_states : Parts → Delivery → List SubState
 sent_states parts d = set parts.subs.states d.sub (advanced d.position (state_at parts.subs d.sub))
 
 sent-assembled : (parts new : Parts) (d : Delivery) (wakes : Bool) (grains : PlainGrains) → IsAssembled parts → AreBelow parts grains → AreKnown parts.subs.registry.names (sent_states parts d) grains → new ≡ sent (record parts { grains = grains }) d wakes → IsAssembled new
@@ -494,7 +495,7 @@ first-untouched parts d r stands next none =
 
 -- ---- what the search of an open subscription found is its next position
 
-pub sought-next : (parts : Parts) (number : ℕ) (o : Option ℕ) → Stands parts number → (state_at parts.subs number).is_open ≡ true
+pub sought-next : (parts : Parts) (number : ℕ) (o : Option ℕ) → Stands parts number → (state_at parts.subs number).live ≡ true
     → next_in parts.agent.cache (state_at parts.subs number).cursor (registration_at parts.subs number).stream (state_at parts.subs number).start ≡ o → next_position (plain_of parts) (record_of parts number) ≡ o
 sought-next parts number o stands is_open found =
     next-is parts (record_of parts number) stands.agrees.assembled.cached (cursor-low parts number stands is_open)
@@ -588,7 +589,7 @@ nothing-assembled parts t number outstanding stands is_out sought =
     assembled : IsAssembled parts
     assembled = stands.agrees.assembled
 
-    state : PlainState
+    state : SubState
     state = state_at parts.subs number
 
     follows : outstanding ≡ false → max state.cursor (high parts.agent.cache) ≡ (if outstanding then state.resume else max state.cursor (high parts.agent.cache))

@@ -11,7 +11,7 @@ use Rattle.stream_ident.specs.SubName.{same_sub}
 use Rattle.stream_ident.specs.Words.{change_at, changed_value}
 use Rattle.consumer_grain.specs.Activations.{PlainActivation, forgotten, holds, new_activation, runs, without_number, woken}
 use Rattle.consumer_grain.specs.declared.mailbox.Delivery.{Delivery}
-use Rattle.consumer_grain.specs.Subscriptions.{PlainState}
+use Rattle.consumer_grain.specs.declared.sub_state.SubState.{SubState}
 use Rattle.grain_table.specs.Changes.{activation_at, grain_at, no_grain}
 use Rattle.pubsub_registry.specs.declared.registration.Registration.{Registration}
 use Rattle.subscription_table.specs.Table.{is_in, no_entry, no_state}
@@ -22,7 +22,7 @@ use Rattle.step_core.proofs.KnownOps.{Either, Left, Right, changed-back, changed
 -- ---- a grain more
 
 -- one that was never active, with one delivery; whatever the state of its record becomes
-pub known-first : (names : List (SubName × Registration)) (states : List PlainState) (grains : List (GrainId × PlainActivation)) (i : ℕ) (s : PlainState) (g : GrainId) (d : Delivery) → AreKnown names states grains → i < length names → d.sub ≡ i → same_grain (get_or names i no_entry).1.grain g ≡ true
+pub known-first : (names : List (SubName × Registration)) (states : List SubState) (grains : List (GrainId × PlainActivation)) (i : ℕ) (s : SubState) (g : GrainId) (d : Delivery) → AreKnown names states grains → i < length names → d.sub ≡ i → same_grain (get_or names i no_entry).1.grain g ≡ true
     → AreKnown names (set states i s) (grains ++ (g, woken new_activation d) ∷ [])
 known-first names states grains i s g d known within_i is_sub its = record {
   within = λ k n within is. within_by k n is (place k within) (same-or n i);
@@ -95,7 +95,7 @@ known-first names states grains i s g d known within_i is_sub its = record {
         ap (λ (e : GrainId × PlainActivation). holds n e.1) (here k same)
         ∙ none-or ((n == d.sub) || false) false (none-or (n == d.sub) false (ne_eqb n d.sub (λ is. other (is ∙ is_sub))) refl) refl
 
-    untouched_by : (n : ℕ) → n < length names → (get_or (set states i s) n no_state).is_open ≡ true → IsUnknown names New n → Either (n ≡ i) (n ≢ i) → IsUntouched names (set states i s) New n
+    untouched_by : (n : ℕ) → n < length names → (get_or (set states i s) n no_state).live ≡ true → IsUnknown names New n → Either (n ≡ i) (n ≢ i) → IsUntouched names (set states i s) New n
     untouched_by n within is_open unknown (Left own) =
         let of_last : IsOf names New n (length grains) =
         subst (λ (e : GrainId × PlainActivation). same_grain (get_or names n no_entry).1.grain e.0 ≡ true) (sym (here (length grains) refl)) (subst (λ m. same_grain (get_or names m no_entry).1.grain g ≡ true) (sym own) its) in
@@ -104,7 +104,7 @@ known-first names states grains i s g d known within_i is_sub its = record {
         absurd (false≢true (sym (unknown (length grains) last of_last) ∙ among))
     untouched_by n within is_open unknown (Right other) =
         let kept : get_or (set states i s) n no_state ≡ get_or states n no_state = get_or-set_other states i n s no_state other in
-        let was = known.untouched n within (subst (λ t. t.is_open ≡ true) kept is_open)
+        let was = known.untouched n within (subst (λ t. t.live ≡ true) kept is_open)
         (λ k in_k of_k. sym (ap (λ (e : GrainId × PlainActivation). is_in e.1.subs n) (there k in_k)) ∙ unknown k (omega (arith, in_k, long)) (of_there k n in_k of_k)) in
         record {
           at_resume = ap (λ t. t.cursor) kept ∙ was.at_resume ∙ sym (ap (λ t. t.resume) kept);
@@ -115,7 +115,7 @@ known-first names states grains i s g d known within_i is_sub its = record {
 -- ---- records closed
 
 -- names that stand for the same grains
-pub known-names : (names others : List (SubName × Registration)) (states : List PlainState) (grains : List (GrainId × PlainActivation)) → AreKnown names states grains → length others ≡ length names
+pub known-names : (names others : List (SubName × Registration)) (states : List SubState) (grains : List (GrainId × PlainActivation)) → AreKnown names states grains → length others ≡ length names
     → ((n : ℕ) → (get_or others n no_entry).1.grain ≡ (get_or names n no_entry).1.grain) → AreKnown others states grains
 known-names names others states grains known long same = record {
   within = λ k n within is. subst (λ m. n < m) (sym long) (known.within k n within is);
@@ -168,7 +168,7 @@ any-filtered p q (d ∷ ds) none = by (q d) (or-none (p d) (list_any p ds) none)
     by false parts rest = rest parts.1
 
 -- a record that is closed is forgotten by its grain
-pub known-forgotten : (names : List (SubName × Registration)) (states : List PlainState) (grains : List (GrainId × PlainActivation)) (i j : ℕ) → AreKnown names states grains → (get_or states i no_state).is_open ≡ false → j < length grains
+pub known-forgotten : (names : List (SubName × Registration)) (states : List SubState) (grains : List (GrainId × PlainActivation)) (i j : ℕ) → AreKnown names states grains → (get_or states i no_state).live ≡ false → j < length grains
     → AreKnown names states (change_at (forgotten i) j grains)
 known-forgotten names states grains i j known is_closed inside = record {
   within = λ k n within is. known.within k n (changed-back grains j (forgotten i) k within) (was_in k n is (same-or k j) (same-or n i));
@@ -204,8 +204,8 @@ known-forgotten names states grains i j known is_closed inside = record {
         ∙ none-or (list_any (λ (e : Delivery). n == e.sub) (filter (λ (e : Delivery). not (i == e.sub)) old.mailbox)) (runs n old.running) (any-filtered (λ e. n == e.sub) (λ e. not (i == e.sub)) old.mailbox parts.0) parts.1
     held n k was (Right other) = ap (λ (e : GrainId × PlainActivation). holds n e.1) (changed-other (forgotten i) j k grains no_grain other) ∙ was
 
-    untouched_by : (n : ℕ) → n < length names → (get_or states n no_state).is_open ≡ true → IsUnknown names New n → Either (n ≡ i) (n ≢ i) → IsUntouched names states New n
-    untouched_by n within is_open unknown (Left own) = absurd (false≢true (sym (ap (λ m. (get_or states m no_state).is_open) own ∙ is_closed) ∙ is_open))
+    untouched_by : (n : ℕ) → n < length names → (get_or states n no_state).live ≡ true → IsUnknown names New n → Either (n ≡ i) (n ≢ i) → IsUntouched names states New n
+    untouched_by n within is_open unknown (Left own) = absurd (false≢true (sym (ap (λ m. (get_or states m no_state).live) own ∙ is_closed) ∙ is_open))
     untouched_by n within is_open unknown (Right other) =
         let was = known.untouched n within is_open (λ k in_k of_k. sym (in_same k n other (same-or k j)) ∙ unknown k (changed-forth grains j (forgotten i) k in_k) (changed-of grains j (forgotten i) names inside k n of_k)) in
         record { at_resume = was.at_resume; unhandled = was.unhandled; unheld = λ k in_k of_k. held n k (was.unheld k (changed-back grains j (forgotten i) k in_k) (of-changed grains j (forgotten i) names inside k n of_k)) (same-or k j) }

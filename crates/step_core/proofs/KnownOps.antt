@@ -10,7 +10,7 @@ use Rattle.stream_ident.specs.Name.{same_grain}
 use Rattle.stream_ident.specs.Words.{change_at, place_of}
 use Rattle.consumer_grain.specs.Activations.{PlainActivation, holds, runs, with_number, woken}
 use Rattle.consumer_grain.specs.declared.mailbox.Delivery.{Delivery}
-use Rattle.consumer_grain.specs.Subscriptions.{PlainState}
+use Rattle.consumer_grain.specs.declared.sub_state.SubState.{SubState}
 use Rattle.grain_table.specs.Changes.{activation_at, grain_at, no_grain}
 use Rattle.pubsub_registry.specs.declared.registration.Registration.{Registration}
 use Rattle.subscription_table.specs.Table.{is_in, no_entry, no_state, rewound_open}
@@ -70,14 +70,14 @@ same-or (suc i) (suc j) = next (same-or i j)
 -- ---- states changed, grains as they were
 
 -- each open state was open, and one that was at its resume with nothing handled is so
-abbrev pub StaySo : List (SubName × Registration) → List (GrainId × PlainActivation) → List PlainState → List PlainState → Type 0
+abbrev pub StaySo : List (SubName × Registration) → List (GrainId × PlainActivation) → List SubState → List SubState → Type 0
 StaySo names grains old new =
-    (n : ℕ) → n < length names → (get_or new n no_state).is_open ≡ true
-    → ((get_or old n no_state).is_open ≡ true)
+    (n : ℕ) → n < length names → (get_or new n no_state).live ≡ true
+    → ((get_or old n no_state).live ≡ true)
     × ((get_or old n no_state).cursor ≡ (get_or old n no_state).resume → (get_or old n no_state).handled ≡ [] → IsUnheld names grains n
     → ((get_or new n no_state).cursor ≡ (get_or new n no_state).resume) × ((get_or new n no_state).handled ≡ []))
 
-pub known-states : (names : List (SubName × Registration)) (old new : List PlainState) (grains : List (GrainId × PlainActivation)) → AreKnown names old grains → StaySo names grains old new → AreKnown names new grains
+pub known-states : (names : List (SubName × Registration)) (old new : List SubState) (grains : List (GrainId × PlainActivation)) → AreKnown names old grains → StaySo names grains old new → AreKnown names new grains
 known-states names old new grains known stay = record {
   within = known.within;
   theirs = known.theirs;
@@ -89,37 +89,37 @@ known-states names old new grains known stay = record {
 }
 
 -- one state changed
-pub known-state : (names : List (SubName × Registration)) (states : List PlainState) (grains : List (GrainId × PlainActivation)) (i : ℕ) (s : PlainState) → AreKnown names states grains → i < length states
-    → (s.is_open ≡ true → (get_or states i no_state).is_open ≡ true)
+pub known-state : (names : List (SubName × Registration)) (states : List SubState) (grains : List (GrainId × PlainActivation)) (i : ℕ) (s : SubState) → AreKnown names states grains → i < length states
+    → (s.live ≡ true → (get_or states i no_state).live ≡ true)
     → ((get_or states i no_state).cursor ≡ (get_or states i no_state).resume → (get_or states i no_state).handled ≡ [] → IsUnheld names grains i → (s.cursor ≡ s.resume) × (s.handled ≡ []))
     → AreKnown names (set states i s) grains
 known-state names states grains i s known inside opened stays =
     known-states names states (set states i s) grains known (λ n within is_open. by n is_open (same-or n i))
   where
-    Old : ℕ → PlainState
+    Old : ℕ → SubState
     Old n = get_or states n no_state
 
-    by : (n : ℕ) → (get_or (set states i s) n no_state).is_open ≡ true → Either (n ≡ i) (n ≢ i)
-        → ((Old n).is_open ≡ true)
+    by : (n : ℕ) → (get_or (set states i s) n no_state).live ≡ true → Either (n ≡ i) (n ≢ i)
+        → ((Old n).live ≡ true)
         × ((Old n).cursor ≡ (Old n).resume → (Old n).handled ≡ [] → IsUnheld names grains n
         → ((get_or (set states i s) n no_state).cursor ≡ (get_or (set states i s) n no_state).resume) × ((get_or (set states i s) n no_state).handled ≡ []))
     by n is_open (Left same) =
         let here : get_or (set states i s) n no_state ≡ s = ap (λ k. get_or (set states i s) k no_state) same ∙ get_or-set_same states i s no_state inside in
-        let P : PlainState → Type 0 = λ t. (t.cursor ≡ t.resume) × (t.handled ≡ []) in (
-          subst (λ k. (Old k).is_open ≡ true) (sym same) (opened (subst (λ t. t.is_open ≡ true) here is_open)),
+        let P : SubState → Type 0 = λ t. (t.cursor ≡ t.resume) × (t.handled ≡ []) in (
+          subst (λ k. (Old k).live ≡ true) (sym same) (opened (subst (λ t. t.live ≡ true) here is_open)),
           λ at none unheld. subst P (sym here) (stays (subst (λ k. (Old k).cursor ≡ (Old k).resume) same at) (subst (λ k. (Old k).handled ≡ []) same none) (subst (IsUnheld names grains) same unheld)),
         )
     by n is_open (Right other) =
         let kept : get_or (set states i s) n no_state ≡ get_or states n no_state = get_or-set_other states i n s no_state other in
-        let P : PlainState → Type 0 = λ t. (t.cursor ≡ t.resume) × (t.handled ≡ []) in
-        (subst (λ t. t.is_open ≡ true) kept is_open, λ at none unheld. subst P (sym kept) (at, none))
+        let P : SubState → Type 0 = λ t. (t.cursor ≡ t.resume) × (t.handled ≡ []) in
+        (subst (λ t. t.live ≡ true) kept is_open, λ at none unheld. subst P (sym kept) (at, none))
 
 -- the open ones back at their resumes
-pub known-rewound : (names : List (SubName × Registration)) (states : List PlainState) (grains : List (GrainId × PlainActivation)) → length states ≡ length names → AreKnown names states grains → AreKnown names (map rewound_open states) grains
+pub known-rewound : (names : List (SubName × Registration)) (states : List SubState) (grains : List (GrainId × PlainActivation)) → length states ≡ length names → AreKnown names states grains → AreKnown names (map rewound_open states) grains
 known-rewound names states grains lengths known =
     known-states names states (map rewound_open states) grains known (λ n within is_open.
     let is : get_or (map rewound_open states) n no_state ≡ rewound_open (get_or states n no_state) = get_or-map rewound_open states n no_state no_state (omega (arith, within, lengths)) in
-    let was : (get_or states n no_state).is_open ≡ true = sym (ap (λ t. t.is_open) is) ∙ is_open in (
+    let was : (get_or states n no_state).live ≡ true = sym (ap (λ t. t.live) is) ∙ is_open in (
       was,
       λ at none unheld. (
         ap (λ t. t.cursor) is ∙ ap (λ b. if b then (get_or states n no_state).resume else (get_or states n no_state).cursor) was ∙ sym (ap (λ t. t.resume) is),
@@ -151,7 +151,7 @@ module _ (grains : List (GrainId × PlainActivation)) (j : ℕ) (f : PlainActiva
   of-changed names inside k n is = subst (λ (g : GrainId). same_grain (get_or names n no_entry).1.grain g ≡ true) (changed-grain inside k) is
 
 -- it knows the same and holds no more
-pub known-grain : (names : List (SubName × Registration)) (states : List PlainState) (grains : List (GrainId × PlainActivation)) (j : ℕ) (f : PlainActivation → PlainActivation) → AreKnown names states grains → j < length grains
+pub known-grain : (names : List (SubName × Registration)) (states : List SubState) (grains : List (GrainId × PlainActivation)) (j : ℕ) (f : PlainActivation → PlainActivation) → AreKnown names states grains → j < length grains
     → (f (activation_at grains j)).subs ≡ (activation_at grains j).subs
     → ((n : ℕ) → holds n (activation_at grains j) ≡ false → holds n (f (activation_at grains j)) ≡ false)
     → AreKnown names states (change_at f j grains)
@@ -265,7 +265,7 @@ holds-woken n a d other was =
     none-or (list_any (λ (e : Delivery). n == e.sub) (a.mailbox ++ d ∷ [])) (runs n a.running) (any-append n a.mailbox d (ne_eqb n d.sub other) parts.0) parts.1
 
 -- to a grain that has a number; whatever the state of its record becomes
-pub known-offered : (names : List (SubName × Registration)) (states : List PlainState) (grains : List (GrainId × PlainActivation)) (i j : ℕ) (s : PlainState) (d : Delivery) → AreKnown names states grains → i < length names → j < length grains → d.sub ≡ i → IsOf names grains i j
+pub known-offered : (names : List (SubName × Registration)) (states : List SubState) (grains : List (GrainId × PlainActivation)) (i j : ℕ) (s : SubState) (d : Delivery) → AreKnown names states grains → i < length names → j < length grains → d.sub ≡ i → IsOf names grains i j
     → AreKnown names (set states i s) (change_at (λ a. woken a d) j grains)
 known-offered names states grains i j s d known within_i inside is_sub its = record {
   within = λ k n within is. within_by k n (changed-back grains j (λ a. woken a d) k within) is (same-or k j) (same-or n i);
@@ -309,13 +309,13 @@ known-offered names states grains i j s d known within_i inside is_sub its = rec
         ∙ holds-woken n (activation_at grains j) d (λ is. other (is ∙ is_sub)) (ap (λ m. holds n (activation_at grains m)) (sym same) ∙ was)
     held n k other was (Right other_k) = ap (λ (e : GrainId × PlainActivation). holds n e.1) (changed-other (λ a. woken a d) j k grains no_grain other_k) ∙ was
 
-    untouched_by : (n : ℕ) → n < length names → (get_or (set states i s) n no_state).is_open ≡ true → IsUnknown names New n → Either (n ≡ i) (n ≢ i) → IsUntouched names (set states i s) New n
+    untouched_by : (n : ℕ) → n < length names → (get_or (set states i s) n no_state).live ≡ true → IsUnknown names New n → Either (n ≡ i) (n ≢ i) → IsUntouched names (set states i s) New n
     untouched_by n within is_open unknown (Left own) =
         absurd (false≢true (sym (unknown j (changed-forth grains j (λ a. woken a d) j inside) (changed-of grains j (λ a. woken a d) names inside j n (subst (λ m. IsOf names grains m j) (sym own) its)))
         ∙ ap (λ (subs : List ℕ). is_in subs n) (subs-here j refl) ∙ ap (λ m. is_in (with_number i (activation_at grains j).subs) m) own ∙ with-number-in i (activation_at grains j).subs))
     untouched_by n within is_open unknown (Right other) =
         let kept : get_or (set states i s) n no_state ≡ get_or states n no_state = get_or-set_other states i n s no_state other in
-        let was = known.untouched n within (subst (λ t. t.is_open ≡ true) kept is_open) (λ k in_k of_k. not_in k n (unknown k (changed-forth grains j (λ a. woken a d) k in_k) (changed-of grains j (λ a. woken a d) names inside k n of_k)) (same-or k j) (is_in (activation_at grains k).subs n) refl) in
+        let was = known.untouched n within (subst (λ t. t.live ≡ true) kept is_open) (λ k in_k of_k. not_in k n (unknown k (changed-forth grains j (λ a. woken a d) k in_k) (changed-of grains j (λ a. woken a d) names inside k n of_k)) (same-or k j) (is_in (activation_at grains k).subs n) refl) in
         record {
           at_resume = ap (λ t. t.cursor) kept ∙ was.at_resume ∙ sym (ap (λ t. t.resume) kept);
           unhandled = ap (λ t. t.handled) kept ∙ was.unhandled;

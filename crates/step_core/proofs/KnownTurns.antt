@@ -15,7 +15,7 @@ use Rattle.consumer_grain.specs.Activations.{PlainActivation, begin, begin_front
 use Rattle.stream_ident.specs.Blocks.{turn_size}
 use Rattle.consumer_grain.specs.declared.mailbox.Delivery.{Delivery}
 use Rattle.consumer_grain.specs.declared.activation.RunningTurn.{RunningTurn}
-use Rattle.consumer_grain.specs.Subscriptions.{PlainState}
+use Rattle.consumer_grain.specs.declared.sub_state.SubState.{SubState}
 use Rattle.grain_table.specs.Changes.{activation_at, grain_at, no_grain}
 use Rattle.grain_table.specs.Grains as table
 use Rattle.pubsub_registry.specs.declared.registration.Registration.{Registration}
@@ -50,7 +50,7 @@ below-at m zero (e ∷ grains) within all = all.0
 below-at m (suc j) (e ∷ grains) within all = below-at m j grains (omega (arith, within)) all.1
 
 -- records that have handled nothing, at a position
-pub known-grown : (names entries : List (SubName × Registration)) (states : List PlainState) (position : ℕ) (grains : List (GrainId × PlainActivation)) → AreKnown names states grains → length states ≡ length names
+pub known-grown : (names entries : List (SubName × Registration)) (states : List SubState) (position : ℕ) (grains : List (GrainId × PlainActivation)) → AreKnown names states grains → length states ≡ length names
     → AllByRecursion (λ (e : GrainId × PlainActivation). IsBelow (length names) e.1) grains
     → AreKnown (names ++ entries) (states ++ new_states position entries) grains
 known-grown names entries states position grains known lengths below = record {
@@ -77,23 +77,23 @@ known-grown names entries states position grains known lengths below = record {
     of_back : (k n : ℕ) → n < length names → IsOf (names ++ entries) grains n k → IsOf names grains n k
     of_back k n within is = subst (λ (e : SubName × Registration). same_grain e.1.grain (grain_at grains k) ≡ true) (get_or_append_left names entries no_entry n within) is
 
-    New : List PlainState
+    New : List SubState
     New = states ++ new_states position entries
 
     is_new : (n : ℕ) → length names ≤ n → n < length (names ++ entries) → ((get_or New n no_state).cursor ≡ (get_or New n no_state).resume) × ((get_or New n no_state).handled ≡ [])
     is_new n past within =
-        let P : PlainState → Type 0 = λ s. (s.cursor ≡ s.resume) × (s.handled ≡ []) in
+        let P : SubState → Type 0 = λ s. (s.cursor ≡ s.resume) × (s.handled ≡ []) in
         let is : get_or New n no_state ≡ get_or (new_states position entries) (n - length states) no_state =
         ap (λ m. get_or New m no_state) {x = n} {y = length states + (n - length states)} (omega (arith, past, lengths)) ∙ get_or-append-add states (new_states position entries) (n - length states) no_state in
         subst P (sym (is ∙ get_or-map (λ (e : SubName × Registration). new_one e) entries (n - length states) no_entry no_state (omega (arith, past, within, long, lengths)))) (refl, refl)
       where
-        new_one : SubName × Registration → PlainState
-        new_one e = record { start = e.1.start; handled = []; note = 0; resume = position; cursor = position; is_open = true }
+        new_one : SubName × Registration → SubState
+        new_one e = record { start = e.1.start; handled = []; note = 0; resume = position; cursor = position; live = true }
 
-    by : (n : ℕ) → n < length (names ++ entries) → (get_or New n no_state).is_open ≡ true → IsUnknown (names ++ entries) grains n → Either (n < length names) (length names ≤ n) → IsUntouched (names ++ entries) New grains n
+    by : (n : ℕ) → n < length (names ++ entries) → (get_or New n no_state).live ≡ true → IsUnknown (names ++ entries) grains n → Either (n < length names) (length names ≤ n) → IsUntouched (names ++ entries) New grains n
     by n within is_open unknown (Left old) =
         let kept : get_or New n no_state ≡ get_or states n no_state = get_or_append_left states (new_states position entries) no_state n (omega (arith, old, lengths)) in
-        let was = known.untouched n old (subst (λ s. s.is_open ≡ true) kept is_open) (λ k in_k of_k. unknown k in_k (of_there k n old of_k)) in
+        let was = known.untouched n old (subst (λ s. s.live ≡ true) kept is_open) (λ k in_k of_k. unknown k in_k (of_there k n old of_k)) in
         record {
           at_resume = ap (λ s. s.cursor) kept ∙ was.at_resume ∙ sym (ap (λ s. s.resume) kept);
           unhandled = ap (λ s. s.handled) kept ∙ was.unhandled;
@@ -164,16 +164,16 @@ ended-holds n a none = none-or (list_any (λ (e : Delivery). n == e.sub) a.mailb
 
 -- ---- a grain leaves memory
 
-rewound-parts : (b : Bool) (s : PlainState) → (if b then rewound_open s else s).is_open ≡ s.is_open
+rewound-parts : (b : Bool) (s : SubState) → (if b then rewound_open s else s).live ≡ s.live
 rewound-parts true s = refl
 rewound-parts false s = refl
 
-rewound-handled : (b : Bool) (s : PlainState) → (if b then rewound_open s else s).handled ≡ s.handled
+rewound-handled : (b : Bool) (s : SubState) → (if b then rewound_open s else s).handled ≡ s.handled
 rewound-handled true s = refl
 rewound-handled false s = refl
 
-rewound-at : (b : Bool) (s : PlainState) → s.cursor ≡ s.resume → (if b then rewound_open s else s).cursor ≡ (if b then rewound_open s else s).resume
-rewound-at true s at = by s.is_open
+rewound-at : (b : Bool) (s : SubState) → s.cursor ≡ s.resume → (if b then rewound_open s else s).cursor ≡ (if b then rewound_open s else s).resume
+rewound-at true s at = by s.live
   where
     by : (is_open : Bool) → (if is_open then s.resume else s.cursor) ≡ s.resume
     by true = refl
@@ -185,7 +185,7 @@ pub known-deactivated : (numbers : List ℕ) (old new : PlainTable) (grains : Li
 known-deactivated numbers old new grains lengths known rewound =
     known-states old.registry.names old.states new.states grains known (λ n within is_open.
     let is : state_at new n ≡ (if is_in numbers n then rewound_open (state_at old n) else state_at old n) = rewound.each n (omega (arith, within, lengths)) in (
-      sym (rewound-parts (is_in numbers n) (state_at old n)) ∙ sym (ap (λ s. s.is_open) is) ∙ is_open,
+      sym (rewound-parts (is_in numbers n) (state_at old n)) ∙ sym (ap (λ s. s.live) is) ∙ is_open,
       λ at none unheld. (
         ap (λ s. s.cursor) is ∙ rewound-at (is_in numbers n) (state_at old n) at ∙ sym (ap (λ s. s.resume) is),
         ap (λ s. s.handled) is ∙ rewound-handled (is_in numbers n) (state_at old n) ∙ none,
@@ -208,16 +208,16 @@ rewound-is parts g j new lengths known distinct found rewound i d e within =
     names : List (SubName × Registration)
     names = parts.subs.registry.names
 
-    states : List PlainState
+    states : List SubState
     states = parts.subs.states
 
     numbers : List ℕ
     numbers = (activation_at parts.grains j).subs
 
-    Same : SubName × Registration → PlainState → PlainState → Type 0
+    Same : SubName × Registration → SubState → SubState → Type 0
     Same entry now was = (sub_of entry now).1 ≡ rewound_where (is_open_of g (sub_of entry was).1) (sub_of entry was).1
 
-    Q : SubName × Registration → PlainState → PlainState → Type 0
+    Q : SubName × Registration → SubState → SubState → Type 0
     Q entry now e' = Same (get_or names i entry) now (get_or states i e')
 
     P : SubName × Registration → Type 0
@@ -229,7 +229,7 @@ rewound-is parts g j new lengths known distinct found rewound i d e within =
     own : g ≡ grain_at parts.grains j
     own = same_grain-equal g (grain_at parts.grains j) (place_of-key same_grain g parts.grains no_grain j found)
 
-    old : PlainState
+    old : SubState
     old = state_at parts.subs i
 
     entry : SubName × Registration
@@ -238,13 +238,13 @@ rewound-is parts g j new lengths known distinct found rewound i d e within =
     now : (b : Bool) → is_in numbers i ≡ b → state_at new i ≡ (if b then rewound_open old else old)
     now b in_them = rewound.each i (omega (arith, within, lengths)) ∙ ap (λ c. if c then rewound_open old else old) in_them
 
-    back : (its is_open : Bool) → its ≡ true → (sub_of entry (record old { is_open = is_open; cursor = if is_open then old.resume else old.cursor })).1 ≡ rewound_where (its && is_open) (sub_of entry (record old { is_open = is_open })).1
+    back : (its is_open : Bool) → its ≡ true → (sub_of entry (record old { live = is_open; cursor = if is_open then old.resume else old.cursor })).1 ≡ rewound_where (its && is_open) (sub_of entry (record old { live = is_open })).1
     back true true is = refl
     back true false is = refl
     back false is_open is = absurd (false≢true is)
 
-    stays : (its is_open : Bool) → (its ≡ true → is_open ≡ true → old.cursor ≡ old.resume) → (sub_of entry (record old { is_open = is_open })).1 ≡ rewound_where (its && is_open) (sub_of entry (record old { is_open = is_open })).1
-    stays true true at = ap (λ (cursor : ℕ). (sub_of entry (record old { is_open = true; cursor = cursor })).1) (at refl refl)
+    stays : (its is_open : Bool) → (its ≡ true → is_open ≡ true → old.cursor ≡ old.resume) → (sub_of entry (record old { live = is_open })).1 ≡ rewound_where (its && is_open) (sub_of entry (record old { live = is_open })).1
+    stays true true at = ap (λ (cursor : ℕ). (sub_of entry (record old { live = true; cursor = cursor })).1) (at refl refl)
     stays true false at = refl
     stays false is_open at = refl
 
@@ -256,7 +256,7 @@ rewound-is parts g j new lengths known distinct found rewound i d e within =
     is true in_them =
         let its : same_grain g entry.1.grain ≡ true =
         subst (λ (h : GrainId). same_grain h entry.1.grain ≡ true) (same_grain-equal entry.1.grain (grain_at parts.grains j) (known.theirs j i inside in_them) ∙ sym own) (same_grain-refl entry.1.grain) in
-        subst (λ s. Same entry s old) (sym (now true in_them)) (back (same_grain g entry.1.grain) old.is_open its)
+        subst (λ s. Same entry s old) (sym (now true in_them)) (back (same_grain g entry.1.grain) old.live its)
     is false none =
         subst (λ s. Same entry s old) (sym (now false none))
-        (stays (same_grain g entry.1.grain) old.is_open (λ its is_open. (known.untouched i within is_open (unknown its none)).at_resume))
+        (stays (same_grain g entry.1.grain) old.live (λ its is_open. (known.untouched i within is_open (unknown its none)).at_resume))

@@ -10,7 +10,7 @@ use Rattle.stream_model.specs.Replies.{Reply}
 use Rattle.stream_model.specs.declared.reply.Reply.TheVariants as reply
 use Rattle.stream_model.specs.Positions.{open_resumes, slowest, token_at}
 use Rattle.stream_model.specs.Pulling as plain
-use Rattle.consumer_grain.specs.Subscriptions.{PlainState}
+use Rattle.consumer_grain.specs.declared.sub_state.SubState.{SubState}
 use Rattle.pubsub_registry.specs.declared.registration.Registration.{Registration}
 use Rattle.pulling_agent.specs.Agent as agent
 use Rattle.queue_cache.specs.Cache.{PlainCache, high}
@@ -61,15 +61,15 @@ purge-parts parts generation keep current = rw current drops
         ∙ ap {B = PlainPartition × Reply} (λ n. (record (plain_of parts) { low = c.low + BLOCK_EVENTS * blocks; high = n }, reply.Purged (token_at (plain_of parts) (c.low + BLOCK_EVENTS * blocks)))) (sym (high-without blocks c within))
 
 -- these states are the old ones, with the cursors of the open records back at their resumes
-abbrev pub AreAllRewound : Parts → List PlainState → Type 0
+abbrev pub AreAllRewound : Parts → List SubState → Type 0
 AreAllRewound parts new =
-    (i : ℕ) (d : SubName × Registration) (e : PlainState) → i < length parts.subs.registry.names
+    (i : ℕ) (d : SubName × Registration) (e : SubState) → i < length parts.subs.registry.names
     → (sub_of (get_or parts.subs.registry.names i d) (get_or new i e)).1 ≡ plain.rewound_where (record_at parts i d e).is_open (record_at parts i d e)
 
-abbrev pub moved : Parts → ℕ → ℕ → List PlainState → Parts
+abbrev pub moved : Parts → ℕ → ℕ → List SubState → Parts
 moved parts silo at new = record parts { agent = (agent.replaced parts.agent (suc parts.agent.generation) silo at).0; subs = record parts.subs { states = new }; rises = suc parts.rises }
 
-pub move-parts : (parts : Parts) (silo at : ℕ) (new : List PlainState) → length parts.subs.registry.names ≡ length parts.subs.states → length new ≡ length parts.subs.states → at ≡ least_with (high parts.agent.cache) (open_resumes (plain_of parts)) → AreAllRewound parts new
+pub move-parts : (parts : Parts) (silo at : ℕ) (new : List SubState) → length parts.subs.registry.names ≡ length parts.subs.states → length new ≡ length parts.subs.states → at ≡ least_with (high parts.agent.cache) (open_resumes (plain_of parts)) → AreAllRewound parts new
     → plain.move (plain_of parts) silo
     ≡ (if nat_le parts.limits.rises parts.rises then (plain_of parts, reply.Spent) else (plain_of (moved parts silo at new), reply.Moved (suc parts.agent.generation) (token_at (plain_of parts) at)))
 unfolding plain.move plain.move_to

@@ -10,7 +10,7 @@ use Rattle.stream_model.specs.Replies.{Reply}
 use Rattle.stream_model.specs.declared.reply.Reply.TheVariants as reply
 use Rattle.stream_model.specs.Positions.{between, is_spent, open_resumes, slowest, token_at}
 use Rattle.stream_model.specs.Pulling as plain
-use Rattle.consumer_grain.specs.Subscriptions.{PlainState}
+use Rattle.consumer_grain.specs.declared.sub_state.SubState.{SubState}
 use Rattle.pulling_agent.specs.Agent as agent
 use Rattle.pulling_agent.specs.declared.agent.StaleAgent.{StaleAgent}
 use Rattle.queue_mapper.specs.Place.{bare}
@@ -132,7 +132,7 @@ module _ (parts : Parts) (generation keep : ℕ) where
 
 -- ---- another agent
 
-map-at : (f : PlainState → PlainState) (states : List PlainState) (i : ℕ) (e : PlainState) → i < length states → get_or (map f states) i e ≡ f (get_or states i e)
+map-at : (f : SubState → SubState) (states : List SubState) (i : ℕ) (e : SubState) → i < length states → get_or (map f states) i e ≡ f (get_or states i e)
 map-at f [] i e within = absurd (omega (arith, within))
 map-at f (state ∷ states) zero e within = refl
 map-at f (state ∷ states) (suc i) e within = map-at f states i e (omega (arith, within))

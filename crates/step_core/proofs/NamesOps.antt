@@ -7,7 +7,7 @@ use Rattle.stream_ident.specs.SubName.{same_sub}
 use Rattle.stream_ident.specs.Words.{place_of}
 use Rattle.stream_model.specs.declared.plain.Subscription.{Subscription}
 use Rattle.stream_model.specs.Positions.{sub_at}
-use Rattle.consumer_grain.specs.Subscriptions.{PlainState}
+use Rattle.consumer_grain.specs.declared.sub_state.SubState.{SubState}
 use Rattle.pubsub_registry.specs.declared.registration.Registration.{Registration}
 use Rattle.stream_ident.proofs.FirstLemmas.{first_at-there, place_of-key}
 use Rattle.stream_ident.proofs.SameValues.{same_sub-refl, same_sub-equal}
@@ -43,12 +43,12 @@ number-of-name names j distinct within =
     s = name_at names j
 
 -- the record of the name under a number
-pub record-of-number : (parts : Parts) (j : ℕ) (d : SubName × Registration) (e : PlainState) → AreDistinct parts.subs.registry.names → length parts.subs.registry.names ≡ length parts.subs.states → j < length parts.subs.registry.names → sub_at (plain_of parts) (name_at parts.subs.registry.names j) ≡ Some (record_at parts j d e)
+pub record-of-number : (parts : Parts) (j : ℕ) (d : SubName × Registration) (e : SubState) → AreDistinct parts.subs.registry.names → length parts.subs.registry.names ≡ length parts.subs.states → j < length parts.subs.registry.names → sub_at (plain_of parts) (name_at parts.subs.registry.names j) ≡ Some (record_at parts j d e)
 record-of-number parts j d e distinct lengths within =
     record-found parts (name_at parts.subs.registry.names j) j d e lengths (number-of-name parts.subs.registry.names j distinct within)
 
 -- the names of the plain partition are those of the table
-names-same : (names : List (SubName × Registration)) (states : List PlainState) → length names ≡ length states → map (λ (entry : SubName × Subscription). entry.0) (subs_of names states) ≡ map (λ (entry : SubName × Registration). entry.0) names
+names-same : (names : List (SubName × Registration)) (states : List SubState) → length names ≡ length states → map (λ (entry : SubName × Subscription). entry.0) (subs_of names states) ≡ map (λ (entry : SubName × Registration). entry.0) names
 names-same [] states lengths = refl
 names-same (entry ∷ names) [] lengths = absurd (omega (arith, lengths))
 names-same (entry ∷ names) (state ∷ states) lengths = ap (λ rest. entry.0 ∷ rest) (names-same names states (omega (arith, lengths)))

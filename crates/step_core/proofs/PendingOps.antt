@@ -12,7 +12,7 @@ use Rattle.stream_model.specs.Step.{IsReached}
 use Rattle.queue_cache.specs.Cache.{PlainCache}
 use Rattle.cache_cursor.specs.Cursor.{next_in}
 use Rattle.consumer_grain.specs.Activations.{PlainActivation}
-use Rattle.consumer_grain.specs.Subscriptions.{PlainState}
+use Rattle.consumer_grain.specs.declared.sub_state.SubState.{SubState}
 use Rattle.grain_table.specs.Changes.{activation_at}
 use Rattle.grain_table.specs.Grains.{PlainGrains}
 use Rattle.pubsub_registry.specs.declared.registration.Registration.{Registration}
@@ -31,7 +31,7 @@ use Rattle.step_core.proofs.Shared.{history-of}
 -- ---- what can be delivered
 
 -- nothing that the cache has dropped is behind the cursor of an open subscription
-pub open-cursor : (parts : Parts) (i : ℕ) → IsReached (plain_of parts) → AreDistinct parts.subs.registry.names → length parts.subs.registry.names ≡ length parts.subs.states → i < length parts.subs.registry.names → (state_at parts.subs i).is_open ≡ true
+pub open-cursor : (parts : Parts) (i : ℕ) → IsReached (plain_of parts) → AreDistinct parts.subs.registry.names → length parts.subs.registry.names ≡ length parts.subs.states → i < length parts.subs.registry.names → (state_at parts.subs i).live ≡ true
     → parts.agent.cache.low ≤ (state_at parts.subs i).cursor
 open-cursor parts i reached distinct lengths within is_open =
     let history = history-of (plain_of parts) reached in
@@ -40,20 +40,20 @@ open-cursor parts i reached distinct lengths within is_open =
     omega (arith, served.low_resume, served.resume_cursor)
 
 -- whether the record with a number has a next event is told by the cache
-abbrev seeks : PlainCache → Registration → PlainState → Bool
-seeks cache registration state = state.is_open && is_some (next_in cache state.cursor registration.stream registration.start)
+abbrev seeks : PlainCache → Registration → SubState → Bool
+seeks cache registration state = state.live && is_some (next_in cache state.cursor registration.stream registration.start)
 
-pub next-told : (parts : Parts) (i : ℕ) (told : Bool) (cache : PlainCache) (registration : Registration) (state : PlainState) → HasEvents parts
-    → ((state_at parts.subs i).is_open ≡ true → parts.agent.cache.low ≤ (state_at parts.subs i).cursor)
+pub next-told : (parts : Parts) (i : ℕ) (told : Bool) (cache : PlainCache) (registration : Registration) (state : SubState) → HasEvents parts
+    → ((state_at parts.subs i).live ≡ true → parts.agent.cache.low ≤ (state_at parts.subs i).cursor)
     → cache ≡ parts.agent.cache → registration ≡ registration_at parts.subs i → state ≡ state_at parts.subs i
-    → told ≡ (state.is_open && is_some (next_in cache state.cursor registration.stream registration.start))
+    → told ≡ (state.live && is_some (next_in cache state.cursor registration.stream registration.start))
     → told ≡ is_deliverable (plain_of parts) (record_at parts i no_entry no_state)
 next-told parts i told cache registration state has cursor is_cache is_registration is_state is_told =
     is_told
     ∙ ap (λ cache. seeks cache registration state) is_cache
     ∙ ap (λ registration. seeks parts.agent.cache registration state) is_registration
     ∙ ap (seeks parts.agent.cache (registration_at parts.subs i)) is_state
-    ∙ by (state_at parts.subs i).is_open cursor
+    ∙ by (state_at parts.subs i).live cursor
   where
     by : (b : Bool) → (b ≡ true → parts.agent.cache.low ≤ (state_at parts.subs i).cursor)
         → (b && is_some (next_in parts.agent.cache (state_at parts.subs i).cursor (registration_at parts.subs i).stream (registration_at parts.subs i).start))

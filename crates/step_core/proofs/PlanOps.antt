@@ -10,7 +10,7 @@ use Rattle.stream_model.specs.Replies.{Reply}
 use Rattle.stream_model.specs.declared.reply.Reply.TheVariants as reply
 use Rattle.stream_model.specs.Positions.{slowest, slowest_name, is_open_at}
 use Rattle.stream_model.specs.Pulling as plain
-use Rattle.consumer_grain.specs.Subscriptions.{PlainState}
+use Rattle.consumer_grain.specs.declared.sub_state.SubState.{SubState}
 use Rattle.ranked_index.specs.Keys.{lesser_key}
 use Rattle.pubsub_registry.specs.declared.registration.Registration.{Registration}
 use Rattle.pulling_agent.specs.Agent as agent
@@ -45,10 +45,10 @@ none-open resume (leaf ∷ all) none = by leaf.resume (leaves.least_resume all) 
     by (Some key) None none rest = absurd (cc)
     by (Some key) (Some other) none rest = absurd (cc)
 
-at-resume : (resume : ℕ) (names : List (SubName × Registration)) (states : List PlainState) → keys_where (is_open_at resume) (subs_of names states) ≡ leaves.names_where (λ leaf. has_number resume leaf.resume) (leaves_of names states)
+at-resume : (resume : ℕ) (names : List (SubName × Registration)) (states : List SubState) → keys_where (is_open_at resume) (subs_of names states) ≡ leaves.names_where (λ leaf. has_number resume leaf.resume) (leaves_of names states)
 at-resume resume [] states = refl
 at-resume resume (entry ∷ names) [] = refl
-at-resume resume (entry ∷ names) (state ∷ states) = by state.is_open (at-resume resume names states)
+at-resume resume (entry ∷ names) (state ∷ states) = by state.live (at-resume resume names states)
   where
     later : List (SubName × Subscription)
     later = filter (λ (e : SubName × Subscription). is_open_at resume e.1) (subs_of names states)

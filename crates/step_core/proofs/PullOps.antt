@@ -17,7 +17,8 @@ use Rattle.stream_ident.specs.Words.{value_at}
 use Rattle.stream_model.specs.declared.plain.Subscription.{Subscription}
 use Rattle.stream_model.specs.Pulling as plain
 use Rattle.consumer_grain.specs.Activations.{PlainActivation}
-use Rattle.consumer_grain.specs.Subscriptions.{PlainState, new_state}
+use Rattle.consumer_grain.specs.Subscriptions.{new_state}
+use Rattle.consumer_grain.specs.declared.sub_state.SubState.{SubState}
 use Rattle.pubsub_registry.specs.declared.registration.Registration.{Registration}
 use Rattle.pubsub_registry.specs.Implying as implying
 use Rattle.subscription_table.specs.Table.{new_states}
@@ -68,7 +69,7 @@ all-implied rules position events =
 -- ---- those that are new
 
 -- a name is there where its record is
-there-is : (s : SubName) (names : List (SubName × Registration)) (states : List PlainState) → length names ≡ length states → is_some (value_at same_sub s (subs_of names states)) ≡ is_some (value_at same_sub s names)
+there-is : (s : SubName) (names : List (SubName × Registration)) (states : List SubState) → length names ≡ length states → is_some (value_at same_sub s (subs_of names states)) ≡ is_some (value_at same_sub s names)
 there-is s [] states lengths = refl
 there-is s (entry ∷ names) [] lengths = absurd (omega (arith, lengths))
 there-is s (entry ∷ names) (state ∷ states) lengths = by (same_sub s entry.0) (there-is s names states (omega (arith, lengths)))
@@ -105,7 +106,7 @@ length-one (first ∷ xs) [] x y same = absurd (omega (arith, same))
 length-one (first ∷ xs) (other ∷ ys) x y same = ap suc (length-one xs ys x y (omega (arith, same)))
 
 -- and their records
-records-made : (position : ℕ) (names entries : List (SubName × Registration)) (states : List PlainState) → length names ≡ length states
+records-made : (position : ℕ) (names entries : List (SubName × Registration)) (states : List SubState) → length names ≡ length states
     → fold added (subs_of names states) (new_records position entries) ≡ subs_of (names ++ new_of names entries) (states ++ new_states position (new_of names entries))
 unfolding new_of
 records-made position names [] states lengths =
@@ -116,10 +117,10 @@ records-made position names (entry ∷ entries) states lengths =
     ∙ by (is_some (value_at same_sub entry.0 names)) (records-made position names entries states lengths)
     (records-made position (names ++ entry ∷ []) entries (states ++ state ∷ []) (length-one names states entry state lengths))
   where
-    state : PlainState
+    state : SubState
     state = new_state entry.1.start position
 
-    Made : List (SubName × Registration) → List (SubName × Registration) → List PlainState → List PlainState → Type 0
+    Made : List (SubName × Registration) → List (SubName × Registration) → List SubState → List SubState → Type 0
     Made ns more ss made = fold added (subs_of ns ss) (new_records position entries) ≡ subs_of (ns ++ more) (ss ++ made)
 
     by : (there : Bool) → Made names (new_of names entries) states (new_states position (new_of names entries))
@@ -134,7 +135,7 @@ records-made position names (entry ∷ entries) states lengths =
         ∙ ap (λ ss. subs_of (names ++ entry ∷ new_of (names ++ entry ∷ []) entries) ss) (append-one states state (new_states position (new_of (names ++ entry ∷ []) entries)))
 
 -- the view of a table with the names and states that the rules make
-pub made-view : (rules : List Rule) (position : ℕ) (names : List (SubName × Registration)) (states : List PlainState) (events : List Event) → length names ≡ length states
+pub made-view : (rules : List Rule) (position : ℕ) (names : List (SubName × Registration)) (states : List SubState) (events : List Event) → length names ≡ length states
     → subs_of (implying.names_with rules names events) (states ++ new_states position (drop (length names) (implying.names_with rules names events))) ≡ plain.subs_with rules position (subs_of names states) events
 made-view rules position names states events lengths =
     ap (λ ns. subs_of ns (states ++ new_states position (drop (length names) ns))) (names-added names entries)
@@ -153,7 +154,7 @@ length-both f (x ∷ xs) [] more same = absurd (omega (arith, same))
 length-both f (x ∷ xs) (y ∷ ys) more same = ap suc (length-both f xs ys more (omega (arith, same)))
 
 -- as many records as names
-pub made-length : (rules : List Rule) (position : ℕ) (names : List (SubName × Registration)) (states : List PlainState) (events : List Event) → length names ≡ length states
+pub made-length : (rules : List Rule) (position : ℕ) (names : List (SubName × Registration)) (states : List SubState) (events : List Event) → length names ≡ length states
     → length (plain.subs_with rules position (subs_of names states) events) ≡ length (implying.names_with rules names events)
 made-length rules position names states events lengths =
     ap length (sym (made-view rules position names states events lengths))
@@ -188,7 +189,7 @@ made-grains rules names events grains below =
     ∙ grains-same names (new_of names (implying.all_implied rules events)) grains below
 
 -- what the grains know stays so
-pub made-known : (rules : List Rule) (position : ℕ) (names : List (SubName × Registration)) (states : List PlainState) (events : List Event) (grains : List (GrainId × PlainActivation)) → length states ≡ length names → AreBelow (length names) grains
+pub made-known : (rules : List Rule) (position : ℕ) (names : List (SubName × Registration)) (states : List SubState) (events : List Event) (grains : List (GrainId × PlainActivation)) → length states ≡ length names → AreBelow (length names) grains
     → AreKnown names states grains → AreKnown (implying.names_with rules names events) (states ++ new_states position (drop (length names) (implying.names_with rules names events))) grains
 made-known rules position names states events grains lengths below known =
     subst (λ ns. AreKnown ns (states ++ new_states position (drop (length names) ns)) grains) (sym (names-added names entries))

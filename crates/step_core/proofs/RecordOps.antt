@@ -7,7 +7,7 @@ use Rattle.stream_ident.specs.Words.{place_of}
 use Rattle.stream_model.specs.declared.plain.Subscription.{Subscription}
 use Rattle.stream_model.specs.Positions.{sub_at, with_sub}
 use Rattle.stream_model.proofs.Lookups.{place_of-change, place_of-none, place_of-value, place_of-within}
-use Rattle.consumer_grain.specs.Subscriptions.{PlainState}
+use Rattle.consumer_grain.specs.declared.sub_state.SubState.{SubState}
 use Rattle.pubsub_registry.specs.declared.registration.Registration.{Registration}
 use Rattle.step_core.specs.declared.parts.Parts.{Parts}
 use Rattle.step_core.specs.PlainOf.{plain_of}
@@ -20,20 +20,20 @@ no-record parts s lengths none =
     place_of-none same_sub s (subs_of parts.subs.registry.names parts.subs.states) (place_of_record (same_sub s) 0 parts.subs.registry.names parts.subs.states lengths ∙ none)
 
 -- the record with a number
-abbrev pub record_at : Parts → ℕ → SubName × Registration → PlainState → Subscription
+abbrev pub record_at : Parts → ℕ → SubName × Registration → SubState → Subscription
 record_at parts i d e = (sub_of (get_or parts.subs.registry.names i d) (get_or parts.subs.states i e)).1
 
 place-within : (parts : Parts) (s : SubName) (i : ℕ) → length parts.subs.registry.names ≡ length parts.subs.states → place_of same_sub s parts.subs.registry.names ≡ Some i → place_of same_sub s (subs_of parts.subs.registry.names parts.subs.states) ≡ Some i
 place-within parts s i lengths found = place_of_record (same_sub s) 0 parts.subs.registry.names parts.subs.states lengths ∙ found
 
-pub record-found : (parts : Parts) (s : SubName) (i : ℕ) (d : SubName × Registration) (e : PlainState) → length parts.subs.registry.names ≡ length parts.subs.states → place_of same_sub s parts.subs.registry.names ≡ Some i → sub_at (plain_of parts) s ≡ Some (record_at parts i d e)
+pub record-found : (parts : Parts) (s : SubName) (i : ℕ) (d : SubName × Registration) (e : SubState) → length parts.subs.registry.names ≡ length parts.subs.states → place_of same_sub s parts.subs.registry.names ≡ Some i → sub_at (plain_of parts) s ≡ Some (record_at parts i d e)
 record-found parts s i d e lengths found =
     let within = place_of-within same_sub s i parts.subs.registry.names found in
     place_of-value same_sub s i (subs_of parts.subs.registry.names parts.subs.states) (sub_of d e) (place-within parts s i lengths found)
     ∙ ap {B = Option Subscription} (λ (r : SubName × Subscription). Some r.1) (record-at parts.subs.registry.names parts.subs.states i (sub_of d e) d e lengths within)
 
 -- its state changed
-pub record-set : (parts : Parts) (s : SubName) (i : ℕ) (d : SubName × Registration) (e new : PlainState) (change : Subscription → Subscription) → length parts.subs.registry.names ≡ length parts.subs.states → place_of same_sub s parts.subs.registry.names ≡ Some i → (sub_of (get_or parts.subs.registry.names i d) new).1 ≡ change (record_at parts i d e) → with_sub (plain_of parts) s (change (record_at parts i d e)) ≡ plain_of (record parts { subs = record parts.subs { states = set parts.subs.states i new } })
+pub record-set : (parts : Parts) (s : SubName) (i : ℕ) (d : SubName × Registration) (e new : SubState) (change : Subscription → Subscription) → length parts.subs.registry.names ≡ length parts.subs.states → place_of same_sub s parts.subs.registry.names ≡ Some i → (sub_of (get_or parts.subs.registry.names i d) new).1 ≡ change (record_at parts i d e) → with_sub (plain_of parts) s (change (record_at parts i d e)) ≡ plain_of (record parts { subs = record parts.subs { states = set parts.subs.states i new } })
 record-set parts s i d e new change lengths found changed =
     let within = place_of-within same_sub s i parts.subs.registry.names found in
     let placed = place-within parts s i lengths found in
@@ -42,5 +42,5 @@ record-set parts s i d e new change lengths found changed =
     ap (λ subs. record (plain_of parts) { subs = subs }) (sym written ∙ moved)
 
 -- a state that stays
-pub record-kept : (parts : Parts) (i : ℕ) (e : PlainState) → plain_of parts ≡ plain_of (record parts { subs = record parts.subs { states = set parts.subs.states i (get_or parts.subs.states i e) } })
+pub record-kept : (parts : Parts) (i : ℕ) (e : SubState) → plain_of parts ≡ plain_of (record parts { subs = record parts.subs { states = set parts.subs.states i (get_or parts.subs.states i e) } })
 record-kept parts i e = ap (λ states. plain_of (record parts { subs = record parts.subs { states = states } })) (sym (set-get_or parts.subs.states i e))

@@ -15,7 +15,7 @@ use Rattle.stream_model.specs.declared.reply.Reply.TheVariants as reply
 use Rattle.stream_model.specs.Bounds.{AreIn, IsWithinLimits}
 use Rattle.stream_model.specs.Pulling as plain
 use Rattle.stream_model.specs.Pulling.{is_stale}
-use Rattle.consumer_grain.specs.Subscriptions.{PlainState}
+use Rattle.consumer_grain.specs.declared.sub_state.SubState.{SubState}
 use Rattle.partition_queue.specs.Queue.{PlainQueue}
 use Rattle.pubsub_registry.specs.declared.registration.Registration.{Registration}
 use Rattle.pulling_agent.proofs.CurrentLemmas.{IsDone, IsRefused}
@@ -36,26 +36,26 @@ use Rattle.step_core.proofs.KnownOps.{known-state}
 use Rattle.step_core.proofs.ViewLemmas.{record-at, records-length}
 
 -- an open state that was open, and is at its resume with nothing handled where it was
-abbrev Stays : PlainState → PlainState → Type 0
+abbrev Stays : SubState → SubState → Type 0
 Stays old new =
-    (new.is_open ≡ true → old.is_open ≡ true)
+    (new.live ≡ true → old.live ≡ true)
     × (old.cursor ≡ old.resume → old.handled ≡ [] → (new.cursor ≡ new.resume) × (new.handled ≡ []))
 
-unchanged : (s : PlainState) → Stays s s
+unchanged : (s : SubState) → Stays s s
 unchanged s = (λ is_open. is_open, λ at none. (at, none))
 
-pub retry-stays : (s : PlainState) → Stays s (retry s).0
-retry-stays s = cond_both (not s.is_open) _ _ Kept (λ _. unchanged s) (λ _. (λ is_open. is_open, λ at none. (refl, none)))
+pub retry-stays : (s : SubState) → Stays s (retry s).0
+retry-stays s = cond_both (not s.live) _ _ Kept (λ _. unchanged s) (λ _. (λ is_open. is_open, λ at none. (refl, none)))
   where
-    Kept : PlainState × Retried → Type 0
+    Kept : SubState × Retried → Type 0
     Kept out = Stays s out.0
 
 -- an event that is acknowledged was handled
-pub ack-stays : (s : PlainState) (queue : PlainQueue) (token : Token) → Stays s (ack s queue token).0
+pub ack-stays : (s : SubState) (queue : PlainQueue) (token : Token) → Stays s (ack s queue token).0
 ack-stays s queue token =
-    cond_both (not s.is_open) _ _ Kept (λ _. unchanged s) (λ _. by (handled_at s.handled queue token) (λ none. ap (λ (handled : List ℕ). handled_at handled queue token) none))
+    cond_both (not s.live) _ _ Kept (λ _. unchanged s) (λ _. by (handled_at s.handled queue token) (λ none. ap (λ (handled : List ℕ). handled_at handled queue token) none))
   where
-    Kept : PlainState × Acked → Type 0
+    Kept : SubState × Acked → Type 0
     Kept out = Stays s out.0
 
     by : (positions : List ℕ) → (s.handled ≡ [] → positions ≡ []) → Stays s (ack_at s positions).0
@@ -63,7 +63,7 @@ ack-stays s queue token =
     by (position ∷ positions) empty = (λ is_open. is_open, λ at none. absurd (let is : position ∷ positions ≡ [] = empty none in cc))
 
 -- a change of one state
-pub stepped-assembled : {R : Type 0} (parts : Parts) (number : ℕ) (x : PlainState × R) (new : PlainTable) (told : R) → AreRecords parts.subs → number < length parts.subs.registry.names → Stays (state_at parts.subs number) x.0 → IsAssembled parts → (new, told) ≡ stepped parts.subs number x → IsAssembled (record parts { subs = new })
+pub stepped-assembled : {R : Type 0} (parts : Parts) (number : ℕ) (x : SubState × R) (new : PlainTable) (told : R) → AreRecords parts.subs → number < length parts.subs.registry.names → Stays (state_at parts.subs number) x.0 → IsAssembled parts → (new, told) ≡ stepped parts.subs number x → IsAssembled (record parts { subs = new })
 stepped-assembled {R} parts number x new told records within stays assembled done =
     subst (λ (left : PlainTable × R). IsAssembled (record parts { subs = left.0 })) (sym done)
     (assembled-subs parts (stepped parts.subs number x).0 (record { names = refl; most_names = refl; most_rules = refl })
@@ -119,7 +119,7 @@ handled-in parts number limits records within =
     names : List (SubName × Registration)
     names = parts.subs.registry.names
 
-    states : List PlainState
+    states : List SubState
     states = parts.subs.states
 
     inside : number < length (subs_of names states)

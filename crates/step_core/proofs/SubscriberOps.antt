@@ -21,7 +21,8 @@ use Rattle.stream_model.proofs.ChangedValues.{place_of-changed, place_of-unchang
 use Rattle.consumer_grain.specs.declared.mailbox.Delivery.{Delivery}
 use Rattle.consumer_grain.specs.declared.activation.RunningTurn.{RunningTurn}
 use Rattle.consumer_grain.specs.Activations.{PlainActivation, forgotten}
-use Rattle.consumer_grain.specs.Subscriptions.{PlainState, closed}
+use Rattle.consumer_grain.specs.Subscriptions.{closed}
+use Rattle.consumer_grain.specs.declared.sub_state.SubState.{SubState}
 use Rattle.pubsub_registry.specs.declared.registration.Registration.{Registration}
 use Rattle.pubsub_registry.specs.Registry.{closed_registration}
 use Rattle.step_core.specs.Numbers.{AreDistinct, IsBelow}
@@ -34,7 +35,7 @@ use Rattle.step_core.proofs.RecordOps.{record-found, record-set, record_at}
 
 -- ---- a name that is closed says the same of its record
 
-pub closed-records : (s : SubName) (names : List (SubName × Registration)) (states : List PlainState) → subs_of (changed_value same_sub s closed_registration names) states ≡ subs_of names states
+pub closed-records : (s : SubName) (names : List (SubName × Registration)) (states : List SubState) → subs_of (changed_value same_sub s closed_registration names) states ≡ subs_of names states
 closed-records s [] states = refl
 closed-records s (entry ∷ names) [] = by (same_sub s entry.0)
   where
@@ -92,29 +93,29 @@ forgotten-is names sub a distinct within below =
 
 -- ---- unsubscribing
 
-abbrev pub with_closed : Parts → SubName → List PlainState → List (GrainId × PlainActivation) → Parts
+abbrev pub with_closed : Parts → SubName → List SubState → List (GrainId × PlainActivation) → Parts
 with_closed parts s states grains =
     record parts { subs = record { registry = record parts.subs.registry { names = changed_value same_sub s closed_registration parts.subs.registry.names }; states = states }; grains = grains }
 
-closed-is : (parts : Parts) (s : SubName) (states : List PlainState) (grains : List (GrainId × PlainActivation)) → plain_of (record parts { subs = record parts.subs { states = states }; grains = grains }) ≡ plain_of (with_closed parts s states grains)
+closed-is : (parts : Parts) (s : SubName) (states : List SubState) (grains : List (GrainId × PlainActivation)) → plain_of (record parts { subs = record parts.subs { states = states }; grains = grains }) ≡ plain_of (with_closed parts s states grains)
 closed-is parts s states grains =
     ap (λ subs. record (plain_of (record parts { subs = record parts.subs { states = states }; grains = grains })) { subs = subs }) (sym (closed-records s parts.subs.registry.names states))
     ∙ ap (λ gs. record (plain_of (record parts { subs = record parts.subs { states = states }; grains = grains })) { subs = subs_of (changed_value same_sub s closed_registration parts.subs.registry.names) states; grains = gs }) (sym (same-names parts.subs.registry.names (changed_value same_sub s closed_registration parts.subs.registry.names) grains (closed-names s parts.subs.registry.names)))
 
-pub unsubscribe-parts : (parts : Parts) (number sub : ℕ) (d : SubName × Registration) (e : PlainState) (grains : List (GrainId × PlainActivation))
+pub unsubscribe-parts : (parts : Parts) (number sub : ℕ) (d : SubName × Registration) (e : SubState) (grains : List (GrainId × PlainActivation))
     → length parts.subs.registry.names ≡ length parts.subs.states → place_of same_sub (name.Explicit number) parts.subs.registry.names ≡ Some sub
     → changed_value same_grain (record_at parts sub d e).grain (plain.without (name.Explicit number)) (grains_of parts.subs.registry.names parts.grains) ≡ grains_of parts.subs.registry.names grains
     → plain.unsubscribe (plain_of parts) (name.Explicit number)
-    ≡ (if not (get_or parts.subs.states sub e).is_open then (plain_of parts, reply.Closed)
+    ≡ (if not (get_or parts.subs.states sub e).live then (plain_of parts, reply.Closed)
     else (plain_of (with_closed parts (name.Explicit number) (set parts.subs.states sub (closed (get_or parts.subs.states sub e))) grains), reply.Unsubscribed (length (get_or parts.subs.states sub e).handled)))
 unfolding plain.unsubscribe plain.unsubscribe_from
 unsubscribe-parts parts number sub d e grains lengths found forgets =
-    rw (record-found parts (name.Explicit number) sub d e lengths found) (by (get_or parts.subs.states sub e).is_open)
+    rw (record-found parts (name.Explicit number) sub d e lengths found) (by (get_or parts.subs.states sub e).live)
   where
     s : SubName
     s = name.Explicit number
 
-    old : PlainState
+    old : SubState
     old = get_or parts.subs.states sub e
 
     closes : plain.unsubscribed (plain_of parts) s (record_at parts sub d e) ≡ plain_of (with_closed parts s (set parts.subs.states sub (closed old)) grains)

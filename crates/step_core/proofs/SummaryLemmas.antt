@@ -13,7 +13,7 @@ use Rattle.stream_ident.specs.contracts.ident.SubNameOrd.TheImpl as name_order
 use Rattle.stream_ident.specs.contracts.ident.SubNameOrd.TheImpl.Laws.{total-law}
 use Rattle.stream_ident.proofs.NameOrders.{sub_less_at}
 use Rattle.stream_model.specs.Draining.{in_order, insert_in_order}
-use Rattle.consumer_grain.specs.Subscriptions.{PlainState}
+use Rattle.consumer_grain.specs.declared.sub_state.SubState.{SubState}
 use Rattle.pubsub_registry.specs.declared.registration.Registration.{Registration}
 use Rattle.ranked_index.specs.Ranked.{AreRanked}
 use Rattle.ranked_index.specs.Ranking.{IsInverse}
@@ -49,7 +49,7 @@ length-in_order : (xs : List SubSummary) → length (in_order is_named_before xs
 length-in_order [] = refl
 length-in_order (x ∷ xs) = length-insert x (in_order is_named_before xs) ∙ ap suc (length-in_order xs)
 
-module _ (names : List (SubName × Registration)) (states : List PlainState) (lengths : length names ≡ length states) where
+module _ (names : List (SubName × Registration)) (states : List SubState) (lengths : length names ≡ length states) where
   abbrev pub summary_by : ℕ → SubSummary
   summary_by number = summary_of (sub_of (get_or names number no_entry) (get_or states number no_state))
 

@@ -22,7 +22,8 @@ use Rattle.consumer_grain.specs.declared.told.Begun.TheVariants as begun
 use Rattle.consumer_grain.specs.Activations.{PlainActivation, begin, begin_front, begin_turn, can_begin, front_of, is_front_new, started}
 use Rattle.stream_ident.specs.Blocks.{turn_size}
 use Rattle.consumer_grain.specs.declared.activation.RunningTurn.{RunningTurn}
-use Rattle.consumer_grain.specs.Subscriptions.{PlainState, committed}
+use Rattle.consumer_grain.specs.Subscriptions.{committed}
+use Rattle.consumer_grain.specs.declared.sub_state.SubState.{SubState}
 use Rattle.pubsub_registry.specs.declared.registration.Registration.{Registration}
 use Rattle.step_core.specs.Numbers.{AreDistinct, IsBelow, TurnIsBelow}
 use Rattle.step_core.specs.declared.parts.Parts.{Parts}
@@ -38,7 +39,7 @@ abbrev pub with_activation : Parts → ℕ → PlainActivation → Parts
 with_activation parts i a = record parts { grains = change_at (λ _. a) i parts.grains }
 
 -- what a partition leaves and replies where a grain has begun so
-abbrev pub begun_by : Parts → ℕ → GrainId × PlainActivation → PlainState → PlainActivation × Begun → PlainPartition × Reply
+abbrev pub begun_by : Parts → ℕ → GrainId × PlainActivation → SubState → PlainActivation × Begun → PlainPartition × Reply
 begun_by parts i d e (a, begun.Busy) = (plain_of parts, reply.Busy)
 begun_by parts i d e (a, begun.Empty) = (plain_of parts, reply.Empty)
 begun_by parts i d e (a, begun.Dropped delivery) =
@@ -57,7 +58,7 @@ drop-map f zero xs = refl
 drop-map f (suc n) [] = refl
 drop-map f (suc n) (x ∷ xs) = drop-map f n xs
 
-begin-front-parts : (parts : Parts) (g : GrainId) (i size : ℕ) (c : SubName × Registration) (d : GrainId × PlainActivation) (e : PlainState) (deliveries : List Delivery)
+begin-front-parts : (parts : Parts) (g : GrainId) (i size : ℕ) (c : SubName × Registration) (d : GrainId × PlainActivation) (e : SubState) (deliveries : List Delivery)
     → AreDistinct parts.subs.registry.names → length parts.subs.registry.names ≡ length parts.subs.states → place_of same_grain g parts.grains ≡ Some i
     → AllByRecursion (λ (d : Delivery). d.sub < length parts.subs.registry.names) deliveries → (activation_at parts i d).mailbox ≡ deliveries
     → (past_front : ℕ) → ((f : Delivery) (fs : List Delivery) → deliveries ≡ f ∷ fs → past_front ≡ past (get_or parts.subs.states f.sub e).handled)
@@ -101,7 +102,7 @@ begin-front-parts parts g i size c d e (f ∷ fs) distinct lengths found below m
         (grain-set parts g i d (λ _. begins) (λ st. record st { mailbox = drop (length positions) st.mailbox; running = Some (record { sub = name_at parts.subs.registry.names f.sub; turn = suc parts.turns; positions = positions }) }) found
         (ap (λ ds. record st { mailbox = ds; running = Some (record { sub = name_at parts.subs.registry.names f.sub; turn = suc parts.turns; positions = positions }) }) (sym (drop-map (delivery_of parts.subs.registry.names) (length positions) a.mailbox))))
 
-pub begin-parts : (parts : Parts) (g : GrainId) (i max_events past_front : ℕ) (c : SubName × Registration) (d : GrainId × PlainActivation) (e : PlainState)
+pub begin-parts : (parts : Parts) (g : GrainId) (i max_events past_front : ℕ) (c : SubName × Registration) (d : GrainId × PlainActivation) (e : SubState)
     → AreDistinct parts.subs.registry.names → length parts.subs.registry.names ≡ length parts.subs.states → place_of same_grain g parts.grains ≡ Some i
     → IsBelow (length parts.subs.registry.names) (activation_at parts i d)
     → ((f : Delivery) (fs : List Delivery) → (activation_at parts i d).mailbox ≡ f ∷ fs → past_front ≡ past (get_or parts.subs.states f.sub e).handled)
@@ -157,11 +158,11 @@ unfolding plain.begin plain.begin_in
 begin-none parts g max_events none = rw (grain-new parts g none) refl
 
 -- the turn ends, and its events are handled where its subscription is open
-abbrev pub committed_by : Parts → ℕ → GrainId × PlainActivation → PlainState → ℕ → ℕ → ℕ → Option RunningTurn → PlainPartition × Reply
+abbrev pub committed_by : Parts → ℕ → GrainId × PlainActivation → SubState → ℕ → ℕ → ℕ → Option RunningTurn → PlainPartition × Reply
 committed_by parts i d e activation turn note None = (plain_of parts, reply.Stale)
 committed_by parts i d e activation turn note (Some run) =
     if (activation == (activation_at parts i d).number) && (turn == run.turn)
-    then (if not (get_or parts.subs.states run.sub e).is_open
+    then (if not (get_or parts.subs.states run.sub e).live
     then (plain_of (with_activation parts i (record (activation_at parts i d) { running = None })), reply.Closed)
     else (
       plain_of (record (with_activation parts i (record (activation_at parts i d) { running = None })) { subs = record parts.subs { states = set parts.subs.states run.sub (committed run.positions note (get_or parts.subs.states run.sub e)) } }),
@@ -169,7 +170,7 @@ committed_by parts i d e activation turn note (Some run) =
     ))
     else (plain_of parts, reply.Stale)
 
-commit-running : (parts : Parts) (g : GrainId) (i activation turn note : ℕ) (c : SubName × Registration) (d : GrainId × PlainActivation) (e : PlainState) (running : Option RunningTurn)
+commit-running : (parts : Parts) (g : GrainId) (i activation turn note : ℕ) (c : SubName × Registration) (d : GrainId × PlainActivation) (e : SubState) (running : Option RunningTurn)
     → AreDistinct parts.subs.registry.names → length parts.subs.registry.names ≡ length parts.subs.states → place_of same_grain g parts.grains ≡ Some i
     → TurnIsBelow (length parts.subs.registry.names) running → (activation_at parts i d).running ≡ running
     → plain.commit_running (plain_of parts) g (grain_of parts.subs.registry.names (activation_at parts i d)) activation turn note (option_map (turn_of parts.subs.registry.names) running)
@@ -178,7 +179,7 @@ unfolding plain.commit_running plain.commit_for
 commit-running parts g i activation turn note c d e None distinct lengths found below running = refl
 commit-running parts g i activation turn note c d e (Some run) distinct lengths found below running =
     rw (record-of-number parts run.sub c e distinct lengths below)
-    (by ((activation == (activation_at parts i d).number) && (turn == run.turn)) (get_or parts.subs.states run.sub e).is_open)
+    (by ((activation == (activation_at parts i d).number) && (turn == run.turn)) (get_or parts.subs.states run.sub e).live)
   where
     a : PlainActivation
     a = activation_at parts i d
@@ -189,7 +190,7 @@ commit-running parts g i activation turn note c d e (Some run) distinct lengths 
     s : SubName
     s = name_at parts.subs.registry.names run.sub
 
-    new : PlainState
+    new : SubState
     new = committed run.positions note (get_or parts.subs.states run.sub e)
 
     change : Subscription → Subscription
@@ -226,7 +227,7 @@ commit-running parts g i activation turn note c d e (Some run) distinct lengths 
         ap {B = PlainPartition × Reply} (λ p. (with_sub p s (change (record_at parts run.sub c e)), reply.Committed s token)) ends
         ∙ ap {B = PlainPartition × Reply} (λ p. (p, reply.Committed s token)) handles
 
-pub commit-parts : (parts : Parts) (g : GrainId) (i activation turn note : ℕ) (c : SubName × Registration) (d : GrainId × PlainActivation) (e : PlainState)
+pub commit-parts : (parts : Parts) (g : GrainId) (i activation turn note : ℕ) (c : SubName × Registration) (d : GrainId × PlainActivation) (e : SubState)
     → AreDistinct parts.subs.registry.names → length parts.subs.registry.names ≡ length parts.subs.states → place_of same_grain g parts.grains ≡ Some i
     → IsBelow (length parts.subs.registry.names) (activation_at parts i d)
     → plain.commit (plain_of parts) g activation turn note ≡ committed_by parts i d e activation turn note (activation_at parts i d).running

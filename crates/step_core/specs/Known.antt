@@ -4,7 +4,7 @@ use Rattle.stream_ident.specs.declared.ident.GrainId.{GrainId}
 use Rattle.stream_ident.specs.declared.ident.SubName.{SubName}
 use Rattle.stream_ident.specs.Name.{same_grain}
 use Rattle.consumer_grain.specs.Activations.{PlainActivation, holds}
-use Rattle.consumer_grain.specs.Subscriptions.{PlainState}
+use Rattle.consumer_grain.specs.declared.sub_state.SubState.{SubState}
 use Rattle.grain_table.specs.Changes.{activation_at, grain_at}
 use Rattle.pubsub_registry.specs.declared.registration.Registration.{Registration}
 use Rattle.subscription_table.specs.Table.{is_in, no_entry, no_state}
@@ -22,13 +22,13 @@ abbrev pub IsUnheld : List (SubName × Registration) → List (GrainId × PlainA
 IsUnheld names grains n = (j : ℕ) → j < length grains → IsOf names grains n j → holds n (activation_at grains j) ≡ false
 
 -- nothing was ever offered for the record
-pub record IsUntouched (names : List (SubName × Registration)) (states : List PlainState) (grains : List (GrainId × PlainActivation)) (n : ℕ) : Type 0 where
+pub record IsUntouched (names : List (SubName × Registration)) (states : List SubState) (grains : List (GrainId × PlainActivation)) (n : ℕ) : Type 0 where
   pub at_resume : (get_or states n no_state).cursor ≡ (get_or states n no_state).resume
   pub unhandled : (get_or states n no_state).handled ≡ []
   pub unheld : IsUnheld names grains n
 
 -- a grain knows of its own records alone, and an open one that it doesn't know of is untouched
-pub record AreKnown (names : List (SubName × Registration)) (states : List PlainState) (grains : List (GrainId × PlainActivation)) : Type 0 where
+pub record AreKnown (names : List (SubName × Registration)) (states : List SubState) (grains : List (GrainId × PlainActivation)) : Type 0 where
   pub within : (j n : ℕ) → j < length grains → is_in (activation_at grains j).subs n ≡ true → n < length names
   pub theirs : (j n : ℕ) → j < length grains → is_in (activation_at grains j).subs n ≡ true → IsOf names grains n j
-  pub untouched : (n : ℕ) → n < length names → (get_or states n no_state).is_open ≡ true → IsUnknown names grains n → IsUntouched names states grains n
+  pub untouched : (n : ℕ) → n < length names → (get_or states n no_state).live ≡ true → IsUnknown names grains n → IsUntouched names states grains n

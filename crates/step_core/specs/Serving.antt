@@ -1,7 +1,7 @@
 -- What a drain asks of a subscription, of which one next, and what it does for one at once.
 use Rattle.std.specs.Prelude.{◌≡◌, ℕ, zero, suc, ◌<◌, ◌≤◌, Bool, true, false, ◌&&◌, ◌||◌, ◌==◌, not, nat_le, nat_lt, List, [], ◌∷◌, ◌++◌, length, get_or, map, Option, Some, None}
 use Rattle.consumer_grain.specs.Subscriptions as state
-use Rattle.consumer_grain.specs.Subscriptions.{PlainState}
+use Rattle.consumer_grain.specs.declared.sub_state.SubState.{SubState}
 use Rattle.stream_ident.specs.declared.ident.GrainId.{GrainId}
 use Rattle.stream_ident.specs.declared.ident.SubName.{SubName}
 use Rattle.stream_ident.specs.declared.ident.SubName.TheVariants as name
@@ -32,8 +32,8 @@ is_settled_in high None = false
 is_settled_in high (Some r) = is_settled high r
 
 -- the same of how far a subscription is
-abbrev pub is_settled_state : ℕ → PlainState → Bool
-is_settled_state high s = s.is_open && (nat_le high s.cursor && ((s.resume == s.cursor) && not (state.is_unacknowledged s)))
+abbrev pub is_settled_state : ℕ → SubState → Bool
+is_settled_state high s = s.live && (nat_le high s.cursor && ((s.resume == s.cursor) && not (state.is_unacknowledged s)))
 
 -- the least name of a subscription that is due, of those that are greater than the given one
 abbrev pub next_due : PlainPartition → Option SubName → Option SubName

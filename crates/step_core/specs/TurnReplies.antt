@@ -36,6 +36,6 @@ IsOfParts parts _ = Unit {0}
 -- the events of a turn are handled where its subscription is open
 abbrev pub handle : PlainTable → PlainQueue → RunningTurn → ℕ → PlainTable × Reply
 handle subs queue run note =
-    if (state_at subs run.sub).is_open
+    if (state_at subs run.sub).live
     then (with_state subs run.sub (committed run.positions note (state_at subs run.sub)), reply.Committed (name_at subs run.sub) (token_at queue (pred (past run.positions))))
     else (subs, reply.Closed)

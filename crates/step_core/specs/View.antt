@@ -11,11 +11,11 @@ use Rattle.stream_model.specs.declared.plain.Subscription.{Subscription}
 use Rattle.consumer_grain.specs.declared.mailbox.Delivery.{Delivery}
 use Rattle.consumer_grain.specs.declared.activation.RunningTurn.{RunningTurn}
 use Rattle.consumer_grain.specs.Activations.{PlainActivation}
-use Rattle.consumer_grain.specs.Subscriptions.{PlainState}
+use Rattle.consumer_grain.specs.declared.sub_state.SubState.{SubState}
 use Rattle.pubsub_registry.specs.declared.registration.Registration.{Registration}
 
 -- a name with its registration and its state is a record
-abbrev pub sub_of : SubName × Registration → PlainState → SubName × Subscription
+abbrev pub sub_of : SubName × Registration → SubState → SubName × Subscription
 sub_of entry state = (
   entry.0,
   record {
@@ -26,12 +26,12 @@ sub_of entry state = (
     note = state.note;
     resume = state.resume;
     cursor = state.cursor;
-    is_open = state.is_open;
+    is_open = state.live;
   },
 )
 
 -- records by number: the names and their states stand in one order
-abbrev pub subs_of : List (SubName × Registration) → List PlainState → List (SubName × Subscription)
+abbrev pub subs_of : List (SubName × Registration) → List SubState → List (SubName × Subscription)
 subs_of [] states = []
 subs_of (entry ∷ entries) [] = []
 subs_of (entry ∷ entries) (state ∷ states) = sub_of entry state ∷ subs_of entries states

@@ -91,9 +91,9 @@ pub(crate) fn subscription_figures(parts: &Parts, sub: &SubName) -> Option<Subsc
     Some(SubscriptionFigures {
         stream: *parts.subs.stream(number),
         grain: *parts.subs.grain(number),
-        start: state.start(),
-        is_open: state.is_open(),
-        handled: state.handled().len(),
+        start: state.start,
+        is_open: state.live,
+        handled: state.handled.as_slice().len(),
         behind: behind(state, parts.queue.len()),
         last: last_handled(parts, sub),
     })
@@ -101,12 +101,12 @@ pub(crate) fn subscription_figures(parts: &Parts, sub: &SubName) -> Option<Subsc
 
 /// How many of so many events lie from the resume of a subscription on, none where it is closed.
 fn behind(state: &SubState, events: usize) -> usize
-    ensures { result ≡ (if state.now.is_open then events - state.now.resume else 0) }
+    ensures { result ≡ (if state.now.live then events - state.now.resume else 0) }
 {
-    if !state.is_open() {
+    if !state.live {
         return 0;
     }
-    events.saturating_sub(state.resume())
+    events.saturating_sub(state.resume)
 }
 
 /// The subscription that a pull of one event would be answered `Pressed` by, where it would.

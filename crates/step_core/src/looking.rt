@@ -110,7 +110,7 @@ fn to_acknowledge(state: &SubState, queue: &PartitionQueue) -> Option<Token>
     ensures { result ≡ (if is_unacknowledged state.now then Some (token_at queue.now (pred (past state.now.handled))) else None) }
 {
     if state.is_unacknowledged() {
-        Some(queue.token_at(state.past() - 1))
+        Some(queue.token_at(state.handled.past() - 1))
     } else {
         None
     }
@@ -202,12 +202,11 @@ fn has_next(parts: &Parts, number: usize) -> bool
     ensures { result ≡ is_deliverable (plain_of parts.now) (record_of parts.now number) }
 {
     let state = parts.subs.state(number);
-    if !state.is_open() {
+    if !state.live {
         return false;
     }
     let cache = parts.agent.cache();
     let stream = parts.subs.stream(number);
-    let start = state.start();
     let tag = parts.subs.tag(number);
-    next(cache, state.cursor(), stream, tag, &start).is_some()
+    next(cache, state.cursor, stream, tag, &state.start).is_some()
 }

@@ -307,7 +307,7 @@ impl Partition {
         requires { number < length self.now.subs }
         ensures { Some result ≡ option_map cursor_of (sub_at self.now (name_of self.now number)) }
     {
-        self.parts.subs.state(number).cursor()
+        self.parts.subs.state(number).cursor
     }
 
     /// Whether a drain that serves a subscription changes nothing, in a partition that a legal history leads to.

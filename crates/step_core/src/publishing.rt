@@ -170,7 +170,7 @@ pub(crate) fn unsubscribe(parts: &mut Parts, sub: &SubName) -> Outcome
         return Reply::NoSuch;
     };
     let grain = *parts.subs.grain(number);
-    let handled = parts.subs.state(number).handled().len();
+    let handled = parts.subs.state(number).handled.as_slice().len();
     match parts.subs.close(number) {
         Closing::Done => {
             forget(&mut parts.grains, &grain, number);

@@ -74,8 +74,8 @@ fn summary_of(parts: &Parts, number: usize, name: SubName) -> SubSummary
         name,
         stream: *parts.subs.stream(number),
         grain: *parts.subs.grain(number),
-        start: state.start(),
-        is_open: state.is_open(),
+        start: state.start,
+        is_open: state.live,
     }
 }
 
@@ -120,10 +120,7 @@ pub(crate) fn is_settled(parts: &Parts, sub: &SubName) -> bool
 fn is_settled_state(state: &SubState, high: usize) -> bool
     ensures { result ≡ is_settled_state high state.now }
 {
-    state.is_open()
-        && high <= state.cursor()
-        && state.resume() == state.cursor()
-        && !state.is_unacknowledged()
+    state.live && high <= state.cursor && state.resume == state.cursor && !state.is_unacknowledged()
 }
 
 /// The token of the last event that a subscription has handled.
@@ -134,10 +131,10 @@ pub(crate) fn last_handled(parts: &Parts, sub: &SubName) -> Option<Token>
     let subs = &parts.subs;
     let number = subs.find(sub)?;
     let state = subs.state(number);
-    if state.handled().is_empty() {
+    if state.handled.as_slice().is_empty() {
         return None;
     }
-    Some(parts.queue.token_at(state.past().saturating_sub(1)))
+    Some(parts.queue.token_at(state.handled.past().saturating_sub(1)))
 }
 
 /// The positions of the events that a subscription has handled, none where it has no record.
@@ -147,7 +144,7 @@ pub(crate) fn handled_positions<'a>(parts: &'a Parts, sub: &SubName) -> &'a [usi
     ensures within { AllByRecursion (λ position. position < length parts.now.queue.events) result.now }
 {
     match parts.subs.find(sub) {
-        Some(number) => parts.subs.state(number).handled(),
+        Some(number) => parts.subs.state(number).handled.as_slice(),
         None => &[],
     }
 }
@@ -158,7 +155,11 @@ pub(crate) fn handled(parts: &Parts, alloc: Global, sub: &SubName) -> Result<Vec
     ensures { IfOk result (λ events. events.items ≡ handled_of (plain_of parts.now) sub.now) }
 {
     match parts.subs.find(sub) {
-        Some(number) => events_at(&parts.queue, alloc, parts.subs.state(number).handled()),
+        Some(number) => events_at(
+            &parts.queue,
+            alloc,
+            parts.subs.state(number).handled.as_slice(),
+        ),
         None => Ok(Vec::new(alloc)),
     }
 }

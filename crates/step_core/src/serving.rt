@@ -78,7 +78,7 @@ fn is_ahead(parts: &Parts, number: usize) -> bool
     ensures { result ≡ nat_lt (max (state_at parts.now.subs number).cursor (plain_of parts.now).high) (past (state_at parts.now.subs number).handled) }
 {
     let state = parts.subs.state(number);
-    state.cursor().max(parts.agent.cache().high()) < state.past()
+    state.cursor.max(parts.agent.cache().high()) < state.handled.past()
 }
 
 /// Delivers the next event of the subscription with a number and has a turn of its grain handle it, where the subscription is
@@ -99,7 +99,7 @@ pub(crate) fn handle_next(parts: &mut Parts, alloc: Global, number: usize) -> bo
     if !rests(parts, number) {
         return false;
     }
-    let note = next_note(parts.subs.state(number).note());
+    let note = next_note(parts.subs.state(number).note);
     match parts.subs.commit(alloc, number, &Row::of(position), note) {
         Ok(()) => {
             parts.subs.advance(number, position);
@@ -119,21 +119,20 @@ fn fresh_next(parts: &Parts, number: usize) -> Option<usize>
     ensures { IfSome result (IsFresh (plain_of parts.now) (record_of parts.now number)) }
 {
     let state = parts.subs.state(number);
-    if !state.is_open() {
+    if !state.live {
         return None;
     }
-    let handled = state.past();
+    let handled = state.handled.past();
     if handled == 0 {
         return None;
     }
     let stream = parts.subs.stream(number);
-    let start = state.start();
     let position = next(
         parts.agent.cache(),
-        state.cursor(),
+        state.cursor,
         stream,
         parts.subs.tag(number),
-        &start,
+        &state.start,
     )?;
     if position < handled {
         return None;

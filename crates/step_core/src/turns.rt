@@ -5,7 +5,7 @@ ghost use Rattle.stream_ident.specs.Words.{past, Performs};
 ghost use Rattle.stream_model.specs.Step.{takes_memory};
 ghost use Rattle.stream_model.specs.Turns.{begin, commit, deactivate};
 ghost use Rattle.consumer_grain.specs.Activations.{can_begin};
-ghost use Rattle.consumer_grain.specs.Subscriptions.{rises_from};
+ghost use Rattle.consumer_grain.specs.Handled.{rises_from};
 ghost use Rattle.partition_queue.specs.Queue.{token_at};
 ghost use Rattle.subscription_table.specs.Table.{name_at, state_at};
 ghost use Rattle.stream_model.specs.Replies.{IsNoTurn};
@@ -77,7 +77,7 @@ fn outcome_of_begun(parts: &mut Parts, activation: u64, begun: Begun) -> Outcome
                 activation,
                 turn: parts.turns,
                 events: positions,
-                note: parts.subs.state(sub).note(),
+                note: parts.subs.state(sub).note,
             }
         }
     }
@@ -152,9 +152,9 @@ fn handle(
     requires room { past run.now.positions < 2 ^ 64 }
     ensures performs { Performs subs.old subs.new (replied result) (handle subs.old queue.now run.now note) }
     ensures told { IfOk result IsNoTurn }
-    ensures memory { OnErr result ((state_at subs.old run.now.sub).is_open ≡ true) }
+    ensures memory { OnErr result ((state_at subs.old run.now.sub).live ≡ true) }
 {
-    if !subs.state(run.sub).is_open() {
+    if !subs.state(run.sub).live {
         return Ok(Reply::Closed);
     }
     subs.commit(alloc, run.sub, &run.positions, note)?;

@@ -10,7 +10,8 @@ use Rattle.stream_ident.specs.Words.{changed_value}
 use Rattle.stream_ident.specs.declared.ident.SubName.{SubName}
 use Rattle.stream_ident.specs.declared.ident.SubName.TheVariants as name
 use Rattle.queue_mapper.specs.Place.{tag_of}
-use Rattle.consumer_grain.specs.Subscriptions.{PlainState, closed}
+use Rattle.consumer_grain.specs.Subscriptions.{closed}
+use Rattle.consumer_grain.specs.declared.sub_state.SubState.{SubState}
 use Rattle.pubsub_registry.specs.Index.{AreUnique}
 use Rattle.pubsub_registry.specs.Registry as registry
 use Rattle.pubsub_registry.specs.declared.registration.Registration.{Registration}
@@ -76,7 +77,7 @@ closed-at (entry ∷ entries) (suc number) within unique =
         absurd (omega arith))
 
 -- what holds of a new entry and its state and of the old ones holds of all
-at-both : (P : Entry → PlainState → Type 0) (names : Names) (states : List PlainState) (number : ℕ) (entry : Entry) (state : PlainState) → length states ≡ length names → P entry state
+at-both : (P : Entry → SubState → Type 0) (names : Names) (states : List SubState) (number : ℕ) (entry : Entry) (state : SubState) → length states ≡ length names → P entry state
     → ((i : ℕ) → i < length states → P (get_or names i no_entry) (get_or states i no_state))
     → (i : ℕ) → i < length (set states number state) → P (get_or (set names number entry) i no_entry) (get_or (set states number state) i no_state)
 at-both P names states number entry state long here each i within =
@@ -113,22 +114,22 @@ module _ (t : PlainTable) (tags : List ℕ) (r : PlainResumes) (is : IsTable t t
         long = length-set t.states number state ∙ is.records.long ∙ sym (ap length names ∙ length-set t.registry.names number closed_entry);
         starts = λ i i_within. subst (λ (all : Names). (get_or (set t.states number state) i no_state).start ≡ (get_or all i no_entry).1.start) (sym names)
             (at-both (λ e s. s.start ≡ e.1.start) t.registry.names t.states number closed_entry state is.records.long (is.records.starts number there) is.records.starts i i_within);
-        openness = λ i i_within. subst (λ (all : Names). (get_or (set t.states number state) i no_state).is_open ≡ (get_or all i no_entry).1.is_open) (sym names)
-            (at-both (λ e s. s.is_open ≡ e.1.is_open) t.registry.names t.states number closed_entry state is.records.long refl is.records.openness i i_within);
+        openness = λ i i_within. subst (λ (all : Names). (get_or (set t.states number state) i no_state).live ≡ (get_or all i no_entry).1.is_open) (sym names)
+            (at-both (λ e s. s.live ≡ e.1.is_open) t.registry.names t.states number closed_entry state is.records.long refl is.records.openness i i_within);
         cursors = at-both (λ e s. s.cursor + 2 < 2 ^ 64) t.registry.names t.states number closed_entry state is.records.long (is.records.cursors number there) is.records.cursors;
         resumes = at-both (λ e s. s.resume + 2 < 2 ^ 64) t.registry.names t.states number closed_entry state is.records.long (is.records.resumes number there) is.records.resumes;
       }
 
-  pub table-closed : (now seen : PlainState) → now ≡ closed (state_at t number) → seen ≡ get_or (set t.states number now) number seen → (new : PlainResumes) → new ≡ with_leaf number (kept_of seen) r
+  pub table-closed : (now seen : SubState) → now ≡ closed (state_at t number) → seen ≡ get_or (set t.states number now) number seen → (new : PlainResumes) → new ≡ with_leaf number (kept_of seen) r
       → IsTable (record { registry = new_registry; states = set t.states number now }) tags new
   table-closed now seen closes look new set_to =
       let there : number < length t.states = omega (arith, is.records.long) in
       let same : seen ≡ now = look ∙ get_or-set_same t.states number now seen there in
       let renamed = ranked-set t.registry.names r.order number closed_entry within name_of sub_lt (λ d. ap name_of (get_or_default t.registry.names number no_entry d within)) is.ranked in
       record {
-        records = subst (λ (s : PlainState). AreRecords (record { registry = new_registry; states = set t.states number s })) (sym closes) records-closed;
+        records = subst (λ (s : SubState). AreRecords (record { registry = new_registry; states = set t.states number s })) (sym closes) records-closed;
         tagged = is.tagged ∙ sym (ap tags_of names ∙ map-set_same (λ (e : Entry). tag_of e.1.stream) t.registry.names number closed_entry no_entry refl);
-        leaved = ap (λ (r : PlainResumes). r.leaves) set_to ∙ ap (λ (s : PlainState). set r.leaves number (kept_of s)) same ∙ kept-changed t.states r.leaves number now is.leaved;
+        leaved = ap (λ (r : PlainResumes). r.leaves) set_to ∙ ap (λ (s : SubState). set r.leaves number (kept_of s)) same ∙ kept-changed t.states r.leaves number now is.leaved;
         ranked = subst (λ (order : List ℕ). AreRanked name_of sub_lt new_registry.names order) (sym (ap (λ (r : PlainResumes). r.order) set_to))
             (subst (λ (all : Names). AreRanked name_of sub_lt all r.order) (sym names) renamed);
       }
@@ -145,9 +146,9 @@ module _ (t old : PlainTable) (same : t ≡ old) (number : ℕ) (r : PlainRegist
   pub names-closed : told ≡ Done → r.names ≡ changed_value same_sub (get_or t.registry.names number no_entry).0 closed_registration t.registry.names
   names-closed done = close-done t.registry r entry.0 told done is ∙ ap (λ (s : SubName). changed_value same_sub s closed_registration t.registry.names) named
 
-  pub close-is : told ≡ Done → (now : PlainState) → now ≡ closed (state_at t number) → ◌≡◌ {A = PlainTable × Closing} (record { registry = r; states = set t.states number now }, told) (close old number)
+  pub close-is : told ≡ Done → (now : SubState) → now ≡ closed (state_at t number) → ◌≡◌ {A = PlainTable × Closing} (record { registry = r; states = set t.states number now }, told) (close old number)
   close-is done now closes =
-      ap {B = PlainTable × Closing} (λ (s : PlainState). (record { registry = r; states = set t.states number s }, told)) closes
+      ap {B = PlainTable × Closing} (λ (s : SubState). (record { registry = r; states = set t.states number s }, told)) closes
       ∙ ap {B = PlainTable × Closing} (λ (c : Closing). (record { registry = r; states = set t.states number (closed (state_at t number)) }, c)) done
       ∙ ap (λ (c : Closing). closed_by t number (r, c)) (sym done) ∙ by-registry
 

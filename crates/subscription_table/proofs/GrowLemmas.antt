@@ -20,7 +20,8 @@ use Rattle.stream_ident.specs.declared.ident.SubName.TheVariants as name
 use Rattle.stream_ident.specs.declared.rule.Rule.{Rule}
 use Rattle.stream_ident.specs.declared.token.Token.{Token}
 use Rattle.queue_mapper.specs.Place.{tag_of}
-use Rattle.consumer_grain.specs.Subscriptions.{PlainState, new_state}
+use Rattle.consumer_grain.specs.Subscriptions.{new_state}
+use Rattle.consumer_grain.specs.declared.sub_state.SubState.{SubState}
 use Rattle.pubsub_registry.specs.Registry.{PlainRegistry, add, add_with, next_number, registered, truncated}
 use Rattle.pubsub_registry.specs.declared.told.Added.{Added}
 use Rattle.pubsub_registry.specs.declared.told.Implied.{Implied}
@@ -40,7 +41,7 @@ abbrev pub AreOpen : Names → Type 0
 AreOpen names = All (λ (entry : Entry). entry.1.is_open ≡ true) names
 
 -- what holds of each name and its state, with those of more names
-each-grown : (P : Entry → PlainState → Type 0) (names more : Names) (states : List PlainState) (position : ℕ) → length states ≡ length names
+each-grown : (P : Entry → SubState → Type 0) (names more : Names) (states : List SubState) (position : ℕ) → length states ≡ length names
     → ((i : ℕ) → i < length states → P (get_or names i no_entry) (get_or states i no_state))
     → ((j : ℕ) → j < length more → P (get_or more j no_entry) (new_state (get_or more j no_entry).1.start position))
     → (i : ℕ) → i < length (states ++ new_states position more) → P (get_or (names ++ more) i no_entry) (get_or (states ++ new_states position more) i no_state)
@@ -77,8 +78,8 @@ module _ (t : PlainTable) (r : PlainRegistry) (more : Names) (names : r.names �
         let old = is.long in omega (arith, many, all, old));
     starts = λ i within. subst (λ (all : Names). (get_or grown.states i no_state).start ≡ (get_or all i no_entry).1.start) (sym names)
         (each-grown (λ entry state. state.start ≡ entry.1.start) t.registry.names more t.states position is.long is.starts (λ j there. refl) i within);
-    openness = λ i within. subst (λ (all : Names). (get_or grown.states i no_state).is_open ≡ (get_or all i no_entry).1.is_open) (sym names)
-        (each-grown (λ entry state. state.is_open ≡ entry.1.is_open) t.registry.names more t.states position is.long is.openness (λ j there. sym (opened j no_entry there)) i within);
+    openness = λ i within. subst (λ (all : Names). (get_or grown.states i no_state).live ≡ (get_or all i no_entry).1.is_open) (sym names)
+        (each-grown (λ entry state. state.live ≡ entry.1.is_open) t.registry.names more t.states position is.long is.openness (λ j there. sym (opened j no_entry there)) i within);
     cursors = each-grown (λ entry state. state.cursor + 2 < 2 ^ 64) t.registry.names more t.states position is.long is.cursors (λ j there. room);
     resumes = each-grown (λ entry state. state.resume + 2 < 2 ^ 64) t.registry.names more t.states position is.long is.resumes (λ j there. room);
   }
@@ -176,14 +177,14 @@ absent names s none d i within = All-from_recursion (λ (e : Entry). same_sub s 
 
 module _ (t : PlainTable) (tags : List ℕ) (r : PlainResumes) (is : IsTable t tags r) (position : ℕ) (room : position + 2 < 2 ^ 64) where
   -- all that the rules made
-  pub table-implied : (new : PlainRegistry) → Implies t.registry new → (states : List PlainState) (new_tags : List ℕ) (new_r : PlainResumes)
+  pub table-implied : (new : PlainRegistry) → Implies t.registry new → (states : List SubState) (new_tags : List ℕ) (new_r : PlainResumes)
       → states ≡ t.states ++ new_states position (drop (length t.states) new.names) → new_tags ≡ tags ++ tags_of (drop (length t.states) new.names)
       → AreAllNamed position r new_r new.names → IsTable (record { registry = new; states = states }) new_tags new_r
   table-implied new implies states new_tags new_r stated tagged named =
       let more = implies.grown.more in
       let rest : drop (length t.states) new.names ≡ more = grown-rest t.registry.names new.names implies.grown (length t.states) is.records.long in
       let leaves : length r.leaves ≡ length t.registry.names = ap length is.leaved ∙ length-map t.states kept_of ∙ is.records.long in
-      subst (λ (all : List PlainState). IsTable (record { registry = new; states = all }) new_tags new_r) (sym (stated ∙ ap (λ (names : Names). t.states ++ new_states position names) rest))
+      subst (λ (all : List SubState). IsTable (record { registry = new; states = all }) new_tags new_r) (sym (stated ∙ ap (λ (names : Names). t.states ++ new_states position names) rest))
       (table-grown t new more implies.grown.is implies.grown.opened position room tags new_tags r new_r is
       (tagged ∙ ap (λ (names : Names). tags ++ tags_of names) rest)
       (named.leaves ∙ ap (λ (names : Names). r.leaves ++ new_leaves position names) (grown-rest t.registry.names new.names implies.grown (length r.leaves) leaves))
@@ -192,13 +193,13 @@ module _ (t : PlainTable) (tags : List ℕ) (r : PlainResumes) (is : IsTable t t
   -- one that a grain made
   pub table-subscribed : (new : PlainRegistry) (stream : StreamId) (grain : GrainId) (start : Token) (told : Added) (number rank : ℕ) → next_number t.registry ≡ Some number → ◌≡◌ {A = PlainRegistry × Added} (new, told) (add t.registry stream grain start)
       → value_at same_sub (name.Explicit number) t.registry.names ≡ None → IsFirstPast name_of sub_lt (Some (name.Explicit number)) t.registry.names r.order rank
-      → (states : List PlainState) (new_tags : List ℕ) (new_r : PlainResumes) → states ≡ t.states ++ new_state start position ∷ [] → new_tags ≡ tags ++ tag_of stream ∷ []
+      → (states : List SubState) (new_tags : List ℕ) (new_r : PlainResumes) → states ≡ t.states ++ new_state start position ∷ [] → new_tags ≡ tags ++ tag_of stream ∷ []
       → new_r ≡ pushed rank (open_leaf position) r → IsTable (record { registry = new; states = states }) new_tags new_r
   table-subscribed new stream grain start told number rank given adds none first states new_tags new_r stated tagged pushes =
       let entry : Entry = (name.Explicit number, registered stream grain start) in
       let names : new.names ≡ t.registry.names ++ entry ∷ [] =
       ap (λ (out : PlainRegistry × Added). out.0.names) (adds ∙ ap {B = PlainRegistry × Added} (add_with t.registry stream grain start) given) in
-      subst (λ (all : List PlainState). IsTable (record { registry = new; states = all }) new_tags new_r) (sym stated)
+      subst (λ (all : List SubState). IsTable (record { registry = new; states = all }) new_tags new_r) (sym stated)
       (subst (λ (new_r : PlainResumes). IsTable (record { registry = new; states = t.states ++ new_state start position ∷ [] }) new_tags new_r) (sym pushes)
       (table-grown t new (entry ∷ []) names (All-cons (λ (entry : Entry). entry.1.is_open ≡ true) _ [] refl (All-nil (λ (entry : Entry). entry.1.is_open ≡ true)))
       position room tags new_tags r (pushed rank (open_leaf position) r) is tagged refl

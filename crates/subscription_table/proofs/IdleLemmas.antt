@@ -9,7 +9,8 @@ use Rattle.stream_ident.specs.Words.{or_else, past}
 use Rattle.stream_ident.specs.declared.ident.StreamId.{StreamId}
 use Rattle.stream_ident.specs.declared.ident.SubName.{SubName}
 use Rattle.pubsub_registry.specs.declared.registration.Registration.{Registration}
-use Rattle.consumer_grain.specs.Subscriptions.{PlainState, caught_up, is_unacknowledged}
+use Rattle.consumer_grain.specs.Subscriptions.{caught_up, is_unacknowledged}
+use Rattle.consumer_grain.specs.declared.sub_state.SubState.{SubState}
 use Rattle.queue_cache.specs.Cache.{PlainCache, high}
 use Rattle.queue_mapper.specs.Place.{tag_of}
 use Rattle.cache_cursor.specs.Cursor.{next_in}
@@ -29,7 +30,7 @@ use Rattle.subscription_table.proofs.StateLemmas.{fits-caught_up}
 use Rattle.subscription_table.proofs.TableLemmas.{Fits, table-changed}
 
 -- where its cursor stands between a position that the cache has and its end
-pub idle-between : (cache : PlainCache) (s : PlainState) (stream : StreamId) (from : ℕ) → cache.low ≤ from → IsBetween s from (high cache) → next_in cache s.cursor stream s.start ≡ None → IsIdle cache s stream
+pub idle-between : (cache : PlainCache) (s : SubState) (stream : StreamId) (from : ℕ) → cache.low ≤ from → IsBetween s from (high cache) → next_in cache s.cursor stream s.start ≡ None → IsIdle cache s stream
 idle-between cache s stream from low between none = record {
   between = record {
     is_open = between.is_open;
@@ -48,14 +49,14 @@ tag-of-number t tags r is number within =
     ∙ get_or-map (λ (entry : SubName × Registration). tag_of entry.1.stream) t.registry.names number no_entry 0 within
 
 -- a state after it
-abbrev pub now_of : PlainCache → PlainState → PlainState
+abbrev pub now_of : PlainCache → SubState → SubState
 now_of cache s = caught_up (high cache) false s
 
 -- its leaf is open at the end of the cache, with nothing to acknowledge
-kept-idle : (cache : PlainCache) (s : PlainState) (stream : StreamId) → IsIdle cache s stream → kept_of (now_of cache s) ≡ open_leaf (high cache)
+kept-idle : (cache : PlainCache) (s : SubState) (stream : StreamId) → IsIdle cache s stream → kept_of (now_of cache s) ≡ open_leaf (high cache)
 kept-idle cache s stream idle =
     let level : max s.cursor (high cache) ≡ high cache = omega (arith, idle.between.behind) in
-    ap (λ (top : ℕ). leaf_with (open_resume s.is_open top) (nat_lt top (past s.handled))) level
+    ap (λ (top : ℕ). leaf_with (open_resume s.live top) (nat_lt top (past s.handled))) level
     ∙ ap₂ (λ (b u : Bool). leaf_with (open_resume b (high cache)) u) idle.between.is_open (le-ltb (high cache) (past s.handled) idle.between.handled)
 
 -- one that is idle catches up
@@ -70,7 +71,7 @@ module _ (cache : PlainCache) (room : high cache + 2 < 2 ^ 64) (t : PlainTable) 
       (with_leaf number (open_leaf (high cache)) r) (ap (λ (leaf : Leaf). with_leaf number leaf r) (sym (kept-idle cache state stream idle)))
 
   -- a due one is the next after that at the rank before
-  next-due : (rank : ℕ) → rank + 1 < length r.order → (state_at t (slice_index r.order (rank + 1))).is_open ≡ true → (state_at t (slice_index r.order (rank + 1))).resume < high cache
+  next-due : (rank : ℕ) → rank + 1 < length r.order → (state_at t (slice_index r.order (rank + 1))).live ≡ true → (state_at t (slice_index r.order (rank + 1))).resume < high cache
       → IsNextDue (high cache) t (slice_index r.order rank) (slice_index r.order (rank + 1))
   next-due rank within is_open below = record {
     next = sym (due-found t t tags r is refl (high cache) (Some (name_at t before)) (rank + 1) (past-rank t t tags r is refl before rank (omega arith) refl) (Some number) found inside);
@@ -103,8 +104,8 @@ module _ (cache : PlainCache) (room : high cache + 2 < 2 ^ 64) (t : PlainTable) 
       due : is_at_most (high cache) (get_or (drop (rank + 1) keys) 0 None) ≡ true
       due =
           let state = state_at t number in
-          ap (is_at_most (high cache)) (key-is ∙ sym (due-with (open_resume state.is_open state.resume) (is_unacknowledged state)))
-          ∙ due_is (high cache) (open_resume state.is_open state.resume) (is_unacknowledged state)
+          ap (is_at_most (high cache)) (key-is ∙ sym (due-with (open_resume state.live state.resume) (is_unacknowledged state)))
+          ∙ due_is (high cache) (open_resume state.live state.resume) (is_unacknowledged state)
           ∙ ap (λ (b : Bool). is_some (open_resume b state.resume) && (is_unacknowledged state || resumes_below (high cache) (open_resume b state.resume))) is_open
           ∙ or_right (is_unacknowledged state) (nat_lt state.resume (high cache)) (lt-ltb state.resume (high cache) below)
 
@@ -147,7 +148,7 @@ module _ (cache : PlainCache) (room : high cache + 2 < 2 ^ 64) (start here : Pla
             (
               subst (λ (k : ℕ). IsNextDue (high cache) here (slice_index r.order (first + more)) (slice_index r.order k)) next
                   (next-due cache room here tags (with_leaves first (suc more) (open_leaf (high cache)) r) is (first + more) (omega arith)
-                  (ap (λ (k : ℕ). (state_at here (slice_index r.order k)).is_open) next ∙ idle.between.is_open)
+                  (ap (λ (k : ℕ). (state_at here (slice_index r.order k)).live) next ∙ idle.between.is_open)
                   (let below = idle.between.due in omega (arith, below, ap (λ (k : ℕ). (state_at here (slice_index r.order k)).resume) next))),
               catches (suc more) within is idle,
             ),
@@ -158,12 +159,12 @@ module _ (cache : PlainCache) (room : high cache + 2 < 2 ^ 64) (start here : Pla
   -- a state that was read, with a tag that isn't marked, and written
   pub catch-step : (rank number : ℕ) → first ≤ rank → rank < length r.order → number ≡ slice_index r.order rank
       → IsTable here tags (with_leaves first (rank - first) (open_leaf (high cache)) r) × CatchUpAt cache r.order start here first (rank - first)
-      → (s : PlainState) → s ≡ get_or here.states number s → IsIdle cache s (registration_at here number).stream → (own new : PlainState) → own ≡ get_or here.states number own → new ≡ now_of cache own
+      → (s : SubState) → s ≡ get_or here.states number s → IsIdle cache s (registration_at here number).stream → (own new : SubState) → own ≡ get_or here.states number own → new ≡ now_of cache own
       → IsTable (with_state here number new) tags (with_leaves first (rank + 1 - first) (open_leaf (high cache)) r) × CatchUpAt cache r.order start (with_state here number new) first (rank + 1 - first)
   catch-step rank number reached below is_number was s read its own new again is =
       subst (λ (n : ℕ). Q number n) more
       (subst (λ (k : ℕ). Q k (suc count)) (sym named)
-      (subst (λ (state : PlainState). IsTable (with_state here at state) tags (with_leaves first (suc count) (open_leaf (high cache)) r) × CatchUpAt cache r.order start (with_state here at state) first (suc count)) (sym written) (
+      (subst (λ (state : SubState). IsTable (with_state here at state) tags (with_leaves first (suc count) (open_leaf (high cache)) r) × CatchUpAt cache r.order start (with_state here at state) first (suc count)) (sym written) (
         idle-table cache room here tags (with_leaves first count (open_leaf (high cache)) r) was.0 at inside (registration_at here at).stream idle,
         catch-more count within was.0 idle was.1,
       )))
@@ -192,14 +193,14 @@ module _ (cache : PlainCache) (room : high cache + 2 < 2 ^ 64) (start here : Pla
       there : number < length here.states
       there = let known = inside in omega (arith, named, was.0.records.long)
 
-      state-is : (x : PlainState) → x ≡ get_or here.states number x → x ≡ state_at here at
+      state-is : (x : SubState) → x ≡ get_or here.states number x → x ≡ state_at here at
       state-is x seen = get_or_read here.states number x there seen no_state ∙ ap (state_at here) named
 
       written : new ≡ now_of cache (state_at here at)
       written = is ∙ ap (now_of cache) (state-is own again)
 
       idle : IsIdle cache (state_at here at) (registration_at here at).stream
-      idle = subst (λ (x : PlainState). IsIdle cache x (registration_at here at).stream) (state-is s read) (subst (λ (k : ℕ). IsIdle cache s (registration_at here k).stream) named its)
+      idle = subst (λ (x : SubState). IsIdle cache x (registration_at here at).stream) (state-is s read) (subst (λ (k : ℕ). IsIdle cache s (registration_at here k).stream) named its)
 
 -- those at ranks before an end, by the numbers of the first and the last
 pub catch-run : (cache : PlainCache) (order : List ℕ) (old new : PlainTable) (first end number : ℕ) → first < end → slice_index order first ≡ number → CatchUpAt cache order old new first (end - first)

@@ -7,7 +7,8 @@ use Rattle.stream_ident.specs.SubName.{same_sub, sub_lt}
 use Rattle.stream_ident.specs.Words.{is_above}
 use Rattle.stream_ident.specs.declared.ident.SubName.{SubName}
 use Rattle.stream_ident.proofs.NameOrders.{sub_order}
-use Rattle.consumer_grain.specs.Subscriptions.{PlainState, is_unacknowledged}
+use Rattle.consumer_grain.specs.Subscriptions.{is_unacknowledged}
+use Rattle.consumer_grain.specs.declared.sub_state.SubState.{SubState}
 use Rattle.ranked_index.specs.Keys.{least_key}
 use Rattle.ranked_index.specs.Leaves as index
 use Rattle.ranked_index.specs.Leaves.{due_from, keys_by_rank, no_leaf, top, PlainResumes}
@@ -61,7 +62,7 @@ module _ (t old : PlainTable) (tags : List ℕ) (r : PlainResumes) (is : IsTable
   ranked-leaf : (d : NamedLeaf) (rank : ℕ) → rank < length r.order → entry_at leaves r.order d rank ≡ leaf_of (entry_at names r.order no_entry rank) (get_or t.states (slice_index r.order rank) no_state)
   ranked-leaf d rank within = leaf_at names t.states (slice_index r.order rank) d is.records.long (omega (arith, is.ranked.long, is.ranked.ranking.inverse.number_within rank within))
 
-  keys-are : (key : Leaf → Option ℕ) (own : NamedLeaf → Option ℕ) → ((entry : Entry) (state : PlainState) → key (kept_of state) ≡ own (leaf_of entry state)) → AreKeys own leaves r.order (keys_by_rank key r)
+  keys-are : (key : Leaf → Option ℕ) (own : NamedLeaf → Option ℕ) → ((entry : Entry) (state : SubState) → key (kept_of state) ≡ own (leaf_of entry state)) → AreKeys own leaves r.order (keys_by_rank key r)
   keys-are key own fits = record {
     long = length-map r.order (λ number. key (get_or r.leaves number no_leaf));
     key_at = λ d rank within.
@@ -82,7 +83,7 @@ module _ (t old : PlainTable) (tags : List ℕ) (r : PlainResumes) (is : IsTable
       rises = λ d low high less below. ap₂ (λ (a b : NamedLeaf). sub_lt a.name b.name) (ranked-leaf d low (omega arith)) (ranked-leaf d high below) ∙ is.ranked.rises no_entry low high less below;
     };
     resumes_are = keys-are resume_key resume_of (λ entry state. refl);
-    due_are = keys-are due_key due_of (λ entry state. sym (due-with (open_resume state.is_open state.resume) (is_unacknowledged state)));
+    due_are = keys-are due_key due_of (λ entry state. sym (due-with (open_resume state.live state.resume) (is_unacknowledged state)));
   }
 
   -- the name of a number is that of its leaf
@@ -125,7 +126,7 @@ module _ (t old : PlainTable) (tags : List ℕ) (r : PlainResumes) (is : IsTable
       ∙ ap (λ (t : PlainTable). sub_lt (name_at t m) (name_at t n)) same
 
   -- a state that was read
-  pub state-read : (number : ℕ) → number < length old.registry.names → (was : PlainState) → was ≡ get_or t.states number was → was ≡ state_at old number
+  pub state-read : (number : ℕ) → number < length old.registry.names → (was : SubState) → was ≡ get_or t.states number was → was ≡ state_at old number
   state-read number within was read =
       let there : number < length t.states = omega (arith, is.records.long, ap (λ (t : PlainTable). length t.registry.names) same) in
       get_or_read t.states number was there read no_state ∙ ap (λ (t : PlainTable). state_at t number) same

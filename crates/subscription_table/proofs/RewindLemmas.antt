@@ -1,7 +1,7 @@
 -- A table with cursors back at their resumes.
 use Rattle.std.proofs.Common.{◌≡◌, ◌∙◌, ℕ, ◌+◌, ◌^◌, ◌<◌, Bool, true, false, List, length, get_or, map, if◌then◌else◌, refl, sym, ap, subst, arith}
 use Rattle.std.proofs.lemmas.List.{get_or-map, length-map, same_lists}
-use Rattle.consumer_grain.specs.Subscriptions.{PlainState}
+use Rattle.consumer_grain.specs.declared.sub_state.SubState.{SubState}
 use Rattle.ranked_index.specs.Leaves.{PlainResumes}
 use Rattle.subscription_table.specs.Rows.{AreRewoundAt}
 use Rattle.subscription_table.specs.Standing.{kept_of, IsTable}
@@ -9,16 +9,16 @@ use Rattle.subscription_table.specs.Table.{PlainTable, is_in, no_state, rewound_
 use Rattle.subscription_table.proofs.TableLemmas.{Fits}
 
 -- a state that fits another, and of which the same is kept
-record Follows (old new : PlainState) : Type 0 where
+record Follows (old new : SubState) : Type 0 where
   fits : Fits old new
   leaf : kept_of new ≡ kept_of old
 
-follows-itself : (s : PlainState) → Fits s s → Follows s s
+follows-itself : (s : SubState) → Fits s s → Follows s s
 follows-itself s stands = record { fits = stands; leaf = refl }
 
-follows-rewound : (s : PlainState) → Fits s s → Follows s (rewound_open s)
+follows-rewound : (s : SubState) → Fits s s → Follows s (rewound_open s)
 follows-rewound s stands = record {
-  fits = record { start = refl; openness = refl; cursor = by s.is_open; resume = stands.resume };
+  fits = record { start = refl; openness = refl; cursor = by s.live; resume = stands.resume };
   leaf = refl;
 }
   where
@@ -26,11 +26,11 @@ follows-rewound s stands = record {
     by true = stands.resume
     by false = stands.cursor
 
-follows-if : (b : Bool) (s : PlainState) → Fits s s → Follows s (if b then rewound_open s else s)
+follows-if : (b : Bool) (s : SubState) → Fits s s → Follows s (if b then rewound_open s else s)
 follows-if true s stands = follows-rewound s stands
 follows-if false s stands = follows-itself s stands
 
-module _ (t : PlainTable) (tags : List ℕ) (r : PlainResumes) (is : IsTable t tags r) (new : List PlainState) where
+module _ (t : PlainTable) (tags : List ℕ) (r : PlainResumes) (is : IsTable t tags r) (new : List SubState) where
   table-followed : length new ≡ length t.states → ((i : ℕ) → i < length t.states → Follows (state_at t i) (get_or new i no_state)) → IsTable (record t { states = new }) tags r
   table-followed same follows = record {
     records = record {
@@ -58,7 +58,7 @@ module _ (t : PlainTable) (tags : List ℕ) (r : PlainResumes) (is : IsTable t t
   pub table-rewound : new ≡ map rewound_open t.states → IsTable (record t { states = new }) tags r
   table-rewound rewinds =
       table-followed (ap length rewinds ∙ length-map t.states rewound_open)
-      (λ i within. subst (Follows (state_at t i)) (sym (ap (λ (states : List PlainState). get_or states i no_state) rewinds ∙ get_or-map rewound_open t.states i no_state no_state within))
+      (λ i within. subst (Follows (state_at t i)) (sym (ap (λ (states : List SubState). get_or states i no_state) rewinds ∙ get_or-map rewound_open t.states i no_state no_state within))
       (follows-rewound (state_at t i) (stands i within)))
 
   -- those with these numbers

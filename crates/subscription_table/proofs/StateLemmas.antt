@@ -7,7 +7,8 @@ use Rattle.stream_ident.specs.declared.token.Token.{Token}
 use Rattle.stream_ident.specs.Token.{same_token}
 use Rattle.partition_queue.specs.Queue.{PlainQueue, token_at}
 use Rattle.queue_cache.specs.Cache.{PlainCache, high}
-use Rattle.consumer_grain.specs.Subscriptions.{PlainState, acknowledged, advanced, caught_up, committed, rewound}
+use Rattle.consumer_grain.specs.Subscriptions.{acknowledged, advanced, caught_up, committed, rewound}
+use Rattle.consumer_grain.specs.declared.sub_state.SubState.{SubState}
 use Rattle.pulling_agent.specs.Agent.{PlainAgent, if_current}
 use Rattle.pulling_agent.specs.declared.agent.StaleAgent.{StaleAgent}
 use Rattle.pulling_agent.specs.Progress.{ack, ack_at, handled_at, next_at, next_event, retry}
@@ -19,27 +20,27 @@ use Rattle.pulling_agent.specs.declared.told.Sought.TheVariants as sought
 use Rattle.subscription_table.proofs.TableLemmas.{Fits}
 
 -- what a call gives: nothing new where the state is closed
-abbrev asked : {R : Type 0} → PlainState → Bool → R → PlainState × R → PlainState × R
+abbrev asked : {R : Type 0} → SubState → Bool → R → SubState × R → SubState × R
 asked s is_closed closed done = if is_closed then (s, closed) else done
 
-module _ {R : Type 0} (s : PlainState) (closed : R) (done : PlainState × R) (P : PlainState → Type 0) (here : P s) (there : P done.0) where
+module _ {R : Type 0} (s : SubState) (closed : R) (done : SubState × R) (P : SubState → Type 0) (here : P s) (there : P done.0) where
   asked-either : (is_closed : Bool) → P (asked s is_closed closed done).0
   asked-either true = here
   asked-either false = there
 
 -- what a call leaves: the state as it was where the agent that it was asked of was replaced
-module _ {R : Type 0} (a : PlainAgent) (generation : ℕ) (s : PlainState) (done : PlainState × R) (P : PlainState → Type 0) (here : P s) (there : P done.0) where
-  abbrev left : Bool → PlainState × Result R StaleAgent
+module _ {R : Type 0} (a : PlainAgent) (generation : ℕ) (s : SubState) (done : SubState × R) (P : SubState → Type 0) (here : P s) (there : P done.0) where
+  abbrev left : Bool → SubState × Result R StaleAgent
   left own = if own then (done.0, Ok done.1) else (s, Err (record { now = a.generation }))
 
-  pub current-either : (new : PlainState) (told : Result R StaleAgent) → ◌≡◌ {A = PlainState × Result R StaleAgent} (new, told) (if_current a generation s done) → P new
-  current-either new told is = subst (λ (r : PlainState × Result R StaleAgent). P r.0) (sym is) (by (generation == a.generation))
+  pub current-either : (new : SubState) (told : Result R StaleAgent) → ◌≡◌ {A = SubState × Result R StaleAgent} (new, told) (if_current a generation s done) → P new
+  current-either new told is = subst (λ (r : SubState × Result R StaleAgent). P r.0) (sym is) (by (generation == a.generation))
     where
       by : (own : Bool) → P (left own).0
       by true = there
       by false = here
 
-module _ (s : PlainState) (stands : Fits s s) where
+module _ (s : SubState) (stands : Fits s s) where
   pub fits-advanced : (position : ℕ) → position + 3 < 2 ^ 64 → Fits s (advanced position s)
   fits-advanced position room = record { start = refl; openness = refl; cursor = omega arith; resume = stands.resume }
 
@@ -61,12 +62,12 @@ module _ (s : PlainState) (stands : Fits s s) where
 
   pub fits-sought : (cache : PlainCache) (stream : StreamId) (outstanding : Bool) → high cache + 2 < 2 ^ 64 → Fits s (next_event cache s stream outstanding).0
   fits-sought cache stream outstanding room =
-      asked-either s sought.Closed _ (Fits s) stands (fits-found cache outstanding room _) (not s.is_open)
+      asked-either s sought.Closed _ (Fits s) stands (fits-found cache outstanding room _) (not s.live)
 
   pub fits-retried : Fits s (retry s).0
   fits-retried =
       asked-either s retry_told.Closed (rewound s, retry_told.Rewound) (Fits s) stands (record { start = refl; openness = refl; cursor = stands.resume; resume = stands.resume })
-      (not s.is_open)
+      (not s.live)
 
   fits-acknowledged : (position : ℕ) → position + 3 < 2 ^ 64 → Fits s (acknowledged position s)
   fits-acknowledged position room =
@@ -83,22 +84,22 @@ module _ (s : PlainState) (stands : Fits s s) where
       let below : All (λ position. position + 3 < 2 ^ 64) s.handled = λ k d within. let here = there k d within in omega arith in
       asked-either s ack_told.Closed (ack_at s (handled_at s.handled queue token)) (Fits s) stands
       (fits-handled (handled_at s.handled queue token) (All-filter (λ position. same_token (token_at queue position) token) (λ position. position + 3 < 2 ^ 64) s.handled below))
-      (not s.is_open)
+      (not s.live)
 
 -- a retry leaves the leaf
-pub kept-retried : (s : PlainState) → kept_of (retry s).0 ≡ kept_of s
+pub kept-retried : (s : SubState) → kept_of (retry s).0 ≡ kept_of s
 kept-retried s =
-    asked-either s retry_told.Closed (rewound s, retry_told.Rewound) (λ new. kept_of new ≡ kept_of s) refl refl (not s.is_open)
+    asked-either s retry_told.Closed (rewound s, retry_told.Rewound) (λ new. kept_of new ≡ kept_of s) refl refl (not s.live)
 
 -- a call that found anything but nothing leaves the state
-pub same-sought : (cache : PlainCache) (s new : PlainState) (stream : StreamId) (outstanding : Bool) (told : Sought) → (told ≡ sought.Nothing → ⊥)
-    → ◌≡◌ {A = PlainState × Sought} (new, told) (next_event cache s stream outstanding) → new ≡ s
-same-sought cache s new stream outstanding told other is = by (not s.is_open) _ is
+pub same-sought : (cache : PlainCache) (s new : SubState) (stream : StreamId) (outstanding : Bool) (told : Sought) → (told ≡ sought.Nothing → ⊥)
+    → ◌≡◌ {A = SubState × Sought} (new, told) (next_event cache s stream outstanding) → new ≡ s
+same-sought cache s new stream outstanding told other is = by (not s.live) _ is
   where
-    found : (o : Option ℕ) → ◌≡◌ {A = PlainState × Sought} (new, told) (next_at cache s outstanding o) → new ≡ s
-    found None is = absurd (other (ap (λ (r : PlainState × Sought). r.1) is))
-    found (Some position) is = ap (λ (r : PlainState × Sought). r.0) is
+    found : (o : Option ℕ) → ◌≡◌ {A = SubState × Sought} (new, told) (next_at cache s outstanding o) → new ≡ s
+    found None is = absurd (other (ap (λ (r : SubState × Sought). r.1) is))
+    found (Some position) is = ap (λ (r : SubState × Sought). r.0) is
 
-    by : (is_closed : Bool) (o : Option ℕ) → ◌≡◌ {A = PlainState × Sought} (new, told) (asked s is_closed sought.Closed (next_at cache s outstanding o)) → new ≡ s
-    by true o is = ap (λ (r : PlainState × Sought). r.0) is
+    by : (is_closed : Bool) (o : Option ℕ) → ◌≡◌ {A = SubState × Sought} (new, told) (asked s is_closed sought.Closed (next_at cache s outstanding o)) → new ≡ s
+    by true o is = ap (λ (r : SubState × Sought). r.0) is
     by false o is = found o is

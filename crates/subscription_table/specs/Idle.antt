@@ -3,7 +3,8 @@ use Rattle.std.specs.Prelude.{◌≡◌, ℕ, zero, suc, ◌<◌, ◌≤◌, ◌
 use Rattle.stream_ident.specs.declared.ident.StreamId.{StreamId}
 use Rattle.stream_ident.specs.SubName.{sub_lt}
 use Rattle.stream_ident.specs.Words.{past}
-use Rattle.consumer_grain.specs.Subscriptions.{PlainState, caught_up}
+use Rattle.consumer_grain.specs.Subscriptions.{caught_up}
+use Rattle.consumer_grain.specs.declared.sub_state.SubState.{SubState}
 use Rattle.queue_cache.specs.Cache.{PlainCache, high}
 use Rattle.cache_cursor.specs.Cursor.{next_in}
 use Rattle.subscription_table.specs.Leaves.{due_after}
@@ -11,15 +12,15 @@ use Rattle.subscription_table.specs.LeavesOf.{leaves_of}
 use Rattle.subscription_table.specs.Table.{PlainTable, name_at, registration_at, state_at, with_state}
 
 -- it is open and due, its cursor stands between two positions, and it has handled nothing past the second
-pub record IsBetween (s : PlainState) (from high : ℕ) : Type 0 where
-  pub is_open : s.is_open ≡ true
+pub record IsBetween (s : SubState) (from high : ℕ) : Type 0 where
+  pub is_open : s.live ≡ true
   pub due : s.resume < high
   pub reached : from ≤ s.cursor
   pub behind : s.cursor ≤ high
   pub handled : past s.handled ≤ high
 
 -- it is open and due, though the cache has nothing for it, and it has handled nothing past the end of the cache
-pub record IsIdle (cache : PlainCache) (s : PlainState) (stream : StreamId) : Type 0 where
+pub record IsIdle (cache : PlainCache) (s : SubState) (stream : StreamId) : Type 0 where
   pub between : IsBetween s cache.low (high cache)
   pub none : next_in cache s.cursor stream s.start ≡ None
 

@@ -2,7 +2,7 @@
 use Rattle.std.specs.Prelude.{◌≡◌, ℕ, ◌<◌, ◌≤◌, List, ◌++◌, length, get_or, map, take, drop, if◌then◌else◌}
 use Rattle.stream_ident.specs.declared.ident.SubName.{SubName}
 use Rattle.stream_ident.specs.SubName.{sub_lt}
-use Rattle.consumer_grain.specs.Subscriptions.{PlainState}
+use Rattle.consumer_grain.specs.declared.sub_state.SubState.{SubState}
 use Rattle.pubsub_registry.specs.declared.registration.Registration.{Registration}
 use Rattle.ranked_index.specs.Leaves.{open_leaf, PlainResumes}
 use Rattle.ranked_index.specs.Ranked.{AreRanked}
@@ -25,7 +25,7 @@ pub record AreAllNamed (position : ℕ) (old new : PlainResumes) (names : List (
   pub ranked : AreRanked name_of sub_lt names new.order
 
 -- the cursors of those with these numbers are back at their resumes, where they are open
-pub record AreRewoundAt (numbers : List ℕ) (old new : List PlainState) : Type 0 where
+pub record AreRewoundAt (numbers : List ℕ) (old new : List SubState) : Type 0 where
   pub long : length new ≡ length old
   pub each : (i : ℕ) → i < length old
       → get_or new i no_state ≡ (if is_in numbers i then rewound_open (get_or old i no_state) else get_or old i no_state)

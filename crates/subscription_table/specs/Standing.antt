@@ -3,7 +3,8 @@ use Rattle.std.specs.Prelude.{◌≡◌, ℕ, ◌+◌, ◌^◌, ◌<◌, List, l
 use Rattle.stream_ident.specs.declared.ident.SubName.{SubName}
 use Rattle.stream_ident.specs.SubName.{sub_lt}
 use Rattle.queue_mapper.specs.Place.{tag_of}
-use Rattle.consumer_grain.specs.Subscriptions.{PlainState, is_unacknowledged}
+use Rattle.consumer_grain.specs.Subscriptions.{is_unacknowledged}
+use Rattle.consumer_grain.specs.declared.sub_state.SubState.{SubState}
 use Rattle.pubsub_registry.specs.declared.registration.Registration.{Registration}
 use Rattle.ranked_index.specs.Leaves.{leaf_with, PlainResumes}
 use Rattle.ranked_index.specs.Ranked.{AreRanked}
@@ -15,7 +16,7 @@ use Rattle.subscription_table.specs.Table.{PlainTable, registration_at, state_at
 pub record AreRecords (t : PlainTable) : Type 0 where
   pub long : length t.states ≡ length t.registry.names
   pub starts : (i : ℕ) → i < length t.states → (state_at t i).start ≡ (registration_at t i).start
-  pub openness : (i : ℕ) → i < length t.states → (state_at t i).is_open ≡ (registration_at t i).is_open
+  pub openness : (i : ℕ) → i < length t.states → (state_at t i).live ≡ (registration_at t i).is_open
   pub cursors : (i : ℕ) → i < length t.states → (state_at t i).cursor + 2 < 2 ^ 64
   pub resumes : (i : ℕ) → i < length t.states → (state_at t i).resume + 2 < 2 ^ 64
 
@@ -27,8 +28,8 @@ abbrev pub name_of : SubName × Registration → SubName
 name_of entry = entry.0
 
 -- what is kept of a state beside it
-abbrev pub kept_of : PlainState → Leaf
-kept_of state = leaf_with (open_resume state.is_open state.resume) (is_unacknowledged state)
+abbrev pub kept_of : SubState → Leaf
+kept_of state = leaf_with (open_resume state.live state.resume) (is_unacknowledged state)
 
 -- what is kept beside the records fits them
 pub record IsTable (t : PlainTable) (tags : List ℕ) (resumes : PlainResumes) : Type 0 where

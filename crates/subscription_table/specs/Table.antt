@@ -9,7 +9,8 @@ use Rattle.stream_ident.specs.Event.{batch_token}
 use Rattle.stream_ident.specs.SubName.{same_sub}
 use Rattle.stream_ident.specs.Words.{place_of}
 pub use Rattle.consumer_grain.specs.Activations.{is_in}
-use Rattle.consumer_grain.specs.Subscriptions.{PlainState, closed, new_state}
+use Rattle.consumer_grain.specs.Subscriptions.{closed, new_state}
+use Rattle.consumer_grain.specs.declared.sub_state.SubState.{SubState}
 use Rattle.pubsub_registry.specs.Implying as implying
 use Rattle.pubsub_registry.specs.Registry as registry
 use Rattle.pubsub_registry.specs.Registry.{PlainRegistry}
@@ -26,16 +27,16 @@ use Rattle.pubsub_registry.specs.declared.told.RuleAdded.{RuleAdded}
 -- the registry, whose names have the numbers 0, 1, 2 and so on, and by number how far each subscription is
 pub record PlainTable : Type 0 where
   pub registry : PlainRegistry
-  pub states : List PlainState
+  pub states : List SubState
 
 abbrev pub empty : ℕ → ℕ → PlainTable
 empty most_names most_rules = record { registry = registry.empty most_names most_rules; states = [] }
 
 -- what stands for a state where there is none
-abbrev pub no_state : PlainState
+abbrev pub no_state : SubState
 no_state = new_state (batch_token 0) 0
 
-abbrev pub state_at : PlainTable → ℕ → PlainState
+abbrev pub state_at : PlainTable → ℕ → SubState
 state_at t number = get_or t.states number no_state
 
 abbrev pub name_at : PlainTable → ℕ → SubName
@@ -48,11 +49,11 @@ registration_at t number = (get_or t.registry.names number no_entry).1
 abbrev pub number_of : PlainTable → SubName → Option ℕ
 number_of t s = place_of same_sub s t.registry.names
 
-abbrev pub with_state : PlainTable → ℕ → PlainState → PlainTable
+abbrev pub with_state : PlainTable → ℕ → SubState → PlainTable
 with_state t number state = record t { states = set t.states number state }
 
 -- one state changed, and what was told
-abbrev pub stepped : {R : Type 0} → PlainTable → ℕ → PlainState × R → PlainTable × R
+abbrev pub stepped : {R : Type 0} → PlainTable → ℕ → SubState × R → PlainTable × R
 stepped t number (state, told) = (with_state t number state, told)
 
 -- one subscription more, which has handled nothing and is sought from a position on
@@ -65,7 +66,7 @@ abbrev pub subscribe : PlainTable → StreamId → GrainId → Token → ℕ →
 subscribe t stream grain start position = subscribed t position start (registry.add t.registry stream grain start)
 
 -- subscriptions that have handled nothing and are sought from a position on
-abbrev pub new_states : ℕ → List (SubName × Registration) → List PlainState
+abbrev pub new_states : ℕ → List (SubName × Registration) → List SubState
 new_states position entries = map (λ entry. new_state entry.1.start position) entries
 
 abbrev pub implied_by : PlainTable → ℕ → PlainRegistry × Implied → PlainTable × Implied
@@ -93,8 +94,8 @@ abbrev pub add_rule : PlainTable → List ℕ → List ℕ → ℕ → PlainTabl
 add_rule t kind namespace seq = with_registry t (registry.add_rule t.registry kind namespace seq)
 
 -- the cursor back at the resume, where it is open
-abbrev pub rewound_open : PlainState → PlainState
-rewound_open s = record s { cursor = if s.is_open then s.resume else s.cursor }
+abbrev pub rewound_open : SubState → SubState
+rewound_open s = record s { cursor = if s.live then s.resume else s.cursor }
 
 abbrev pub rewound_all : PlainTable → PlainTable
 rewound_all t = record t { states = map rewound_open t.states }

@@ -340,16 +340,16 @@ fn refresh(resumes: &mut Resumes, number: usize, state: &SubState)
 
 /// The resume of a subscription, none where it is closed.
 fn open_resume(state: &SubState) -> Option<usize>
-    ensures { result ≡ open_resume state.now.is_open state.now.resume }
+    ensures { result ≡ open_resume state.now.live state.now.resume }
 {
-    state.is_open().then_some(state.resume())
+    state.live.then_some(state.resume)
 }
 
 /// The cursor goes back to the resume, where the state is open.
 fn rewind_open(state: &mut SubState)
     ensures { state.new ≡ rewound_open state.old }
 {
-    if state.is_open() {
+    if state.live {
         state.rewind();
     }
 }

@@ -5,7 +5,8 @@ ghost use Rattle.stream_ident.specs.declared.limits.TheConstants.{MOST_EVENTS, P
 ghost use Rattle.stream_ident.specs.Words.{past, Performs};
 ghost use Rattle.queue_cache.specs.Cache.{high};
 ghost use Rattle.pubsub_registry.specs.Registry.{next_number};
-ghost use Rattle.consumer_grain.specs.Subscriptions.{committed, rises_from, advanced};
+ghost use Rattle.consumer_grain.specs.Handled.{rises_from};
+ghost use Rattle.consumer_grain.specs.Subscriptions.{committed, advanced};
 ghost use Rattle.subscription_table.specs.Table.{add_rule, close, imply, state_at, subscribe, with_state, registration_at, rewound_all, stepped, AreRewound};
 ghost use Rattle.pulling_agent.specs.Agent.{if_current};
 ghost use Rattle.pulling_agent.specs.Progress.{ack, next_event, retry, IsFound};
@@ -172,7 +173,7 @@ impl SubscriptionTable {
         outstanding: bool,
     ) -> Result<Sought, StaleAgent>
         requires within { number < length self.old.registry.names }
-        requires cursor { (state_at self.old number).is_open ≡ true → agent.now.cache.low ≤ (state_at self.old number).cursor }
+        requires cursor { (state_at self.old number).live ≡ true → agent.now.cache.low ≤ (state_at self.old number).cursor }
         requires high { high agent.now.cache + 2 < 2 ^ 64 }
         ensures sought { (self.new, result) ≡ if_current agent.now generation self.old (stepped self.old number (next_event agent.now.cache (state_at self.old number) (registration_at self.old number).stream outstanding)) }
         ensures found { IfOk result (IsFound agent.now.cache (state_at self.old number)) }

@@ -65,14 +65,14 @@ fn catch_up_each(
 {
     let order = resumes.numbers();
     let head = order[first];
-    let from = states[head].cursor();
+    let from = states[head].cursor;
     let high = cache.high();
     if from < cache.low() || high.saturating_sub(from) > BLOCK_EVENTS {
         return first;
     }
     // Tags are marked only where the first is idle.
-    let start = states[head].start();
-    if next(cache, from, registry.stream(head), tags[head], &start).is_some() {
+    let start = &states[head].start;
+    if next(cache, from, registry.stream(head), tags[head], start).is_some() {
         return first;
     }
     let marks = tags_from(cache, from);
@@ -110,8 +110,14 @@ fn is_idle(
     if !marks[tag as usize] {
         return true;
     }
-    let start = state.start();
-    next(cache, state.cursor(), registry.stream(number), tag, &start).is_none()
+    next(
+        cache,
+        state.cursor,
+        registry.stream(number),
+        tag,
+        &state.start,
+    )
+    .is_none()
 }
 
 /// Whether a subscription is open and due, its cursor stands between two positions, and it has handled nothing past the
@@ -119,9 +125,9 @@ fn is_idle(
 fn is_between(state: &SubState, from: usize, high: usize) -> bool
     ensures { result ≡ true → IsBetween state.now from high }
 {
-    state.is_open()
-        && state.resume() < high
-        && state.past() <= high
-        && from <= state.cursor()
-        && state.cursor() <= high
+    state.live
+        && state.resume < high
+        && state.handled.past() <= high
+        && from <= state.cursor
+        && state.cursor <= high
 }

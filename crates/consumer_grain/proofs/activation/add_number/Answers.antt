@@ -2,7 +2,7 @@ use Rattle.std.proofs.Common.{◌≡◌, true, false, Ok, Err, ◌∙◌, sym, a
 use Rattle.std.specs.List.{insert}
 use Rattle.std.proofs.lemmas.List.Sorted.{searched}
 use Rattle.consumer_grain.specs.Activations.{is_in, with_number}
-use Rattle.consumer_grain.specs.Subscriptions.{rises_from}
+use Rattle.consumer_grain.specs.Handled.{rises_from}
 use Rattle.consumer_grain.proofs.NumberLemmas.{is_in-gap, rises-index, with_number-gap, with_number-there}
 use Rattle.consumer_grain.proofs.activation.add_number.Goals as goal
 

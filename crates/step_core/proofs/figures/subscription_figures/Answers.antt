@@ -1,5 +1,5 @@
 use Rattle.std.proofs.Common.{◌≡◌, ◌∙◌, ap, sym, refl, arith}
-use Rattle.consumer_grain.specs.Subscriptions.{PlainState}
+use Rattle.consumer_grain.specs.declared.sub_state.SubState.{SubState}
 use Rattle.subscription_table.specs.Table.{registration_at}
 use Rattle.std.specs.Option.{option_map}
 use Rattle.step_core.specs.Figures.{figures_at}
@@ -18,7 +18,7 @@ returns c =
     let parts = c.args.parts.now in
     let p = plain_of parts in
     let found = found-sub parts c.args.sub.now c.in_ok-number.number c.requires.records (sym c.find.ensures.number ∙ c.in_ok-number.was) in
-    let started : c.start.result ≡ (registration_at parts.subs c.in_ok-number.number).start =
-    c.start.ensures ∙ ap (λ (state : PlainState). state.start) c.state-state.ensures
+    let started : c.state-state.result.now.start ≡ (registration_at parts.subs c.in_ok-number.number).start =
+    ap (λ (state : SubState). state.start) c.state-state.ensures
     ∙ c.requires.records.starts c.in_ok-number.number (omega (arith, c.in_ok-number.ensures.within, c.requires.records.long)) in
-    rw (c.stream.ensures, c.grain.ensures, started, c.is_open.ensures, c.handled.ensures.handled, c.behind.ensures, c.len.ensures.count, c.state-state.ensures, c.last_handled.ensures, found) refl
+    rw (c.stream.ensures, c.grain.ensures, started, c.as_slice.ensures.positions, c.behind.ensures, c.len.ensures.count, c.state-state.ensures, c.last_handled.ensures, found) refl

@@ -3,7 +3,8 @@ use Rattle.std.specs.Prelude.{if◌then◌else◌}
 use Rattle.std.specs.List.{AllByRecursion}
 use Rattle.std.specs.Option.{option_copied}
 use Rattle.stream_ident.specs.Words.{past}
-use Rattle.consumer_grain.specs.Subscriptions.{PlainState, is_unacknowledged}
+use Rattle.consumer_grain.specs.Subscriptions.{is_unacknowledged}
+use Rattle.consumer_grain.specs.declared.sub_state.SubState.{SubState}
 use Rattle.partition_queue.specs.Queue.{token_at}
 use Rattle.queue_cache.specs.Cache.{high}
 use Rattle.subscription_table.specs.Leaves.{due_after}
@@ -15,7 +16,7 @@ use Rattle.step_core.proofs.looking.due.Goals as goal
 pub to_acknowledge-requires : goal.to_acknowledge-requires
 to_acknowledge-requires c =
     let parts = c.args.parts.now in
-    subst (λ (s : PlainState). AllByRecursion (λ position. position < length parts.queue.events) s.handled) (sym c.state.ensures)
+    subst (λ (s : SubState). AllByRecursion (λ position. position < length parts.queue.events) s.handled) (sym c.state.ensures)
     (handled-within parts c.in-Some.number c.requires.within (sym c.requires.records.long) c.in-Some.ensures.within)
 
 pub returns-in-Some-clause-reply : goal.returns-in-Some-clause-reply
@@ -25,7 +26,7 @@ returns-in-Some-clause-reply c =
     let is_high = c.high-high.ensures ∙ ap high c.cache.ensures in
     let asked = ap (due_after (high parts.agent.cache)) (sym c.as_ref.ensures.value) in
     let is_due = ap (λ due. due leaves) asked ∙ ap (λ n. due_after n (option_copied c.as_ref.result) leaves) (sym is_high) ∙ c.in-Some.ensures.some in
-    let ack = c.to_acknowledge.ensures ∙ ap (λ (s : PlainState). if is_unacknowledged s then Some (token_at parts.queue (pred (past s.handled))) else None) c.state.ensures in
+    let ack = c.to_acknowledge.ensures ∙ ap (λ (s : SubState). if is_unacknowledged s then Some (token_at parts.queue (pred (past s.handled))) else None) c.state.ensures in
     due-some parts c.args.after c.in-Some.number c.name.result c.to_acknowledge.result (distinct-of-unique parts.subs.registry.names c.requires.unique) (sym c.requires.records.long) c.in-Some.ensures.within is_due c.name.ensures ack
 
 pub returns-in-None-clause-reply : goal.returns-in-None-clause-reply

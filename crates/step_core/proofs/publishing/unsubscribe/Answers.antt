@@ -6,7 +6,7 @@ use Rattle.stream_model.specs.declared.plain.PlainPartition.{PlainPartition}
 use Rattle.stream_model.specs.Replies.{Reply}
 use Rattle.stream_model.specs.declared.reply.Reply.TheVariants as reply
 use Rattle.consumer_grain.specs.Activations.{PlainActivation}
-use Rattle.consumer_grain.specs.Subscriptions.{PlainState}
+use Rattle.consumer_grain.specs.declared.sub_state.SubState.{SubState}
 use Rattle.pubsub_registry.specs.declared.told.Closing.TheVariants as close_told
 use Rattle.step_core.specs.Assembly.{IsAssembled}
 use Rattle.step_core.specs.PlainOf.{plain_of}
@@ -30,8 +30,8 @@ returns-in-Done-clause-performs c =
     let parts = c.args.parts.now in
     let number = c.in-Some.number in
     let grains = c.forget.ensures ∙ ap (λ (grain : GrainId). forgotten_by grain number parts.grains) c.grain.ensures in
-    let handled = c.handled-handled.ensures.handled ∙ ap (λ (state : PlainState). state.handled) c.state.ensures in
-    ap {B = PlainPartition × Reply} (λ gs. (plain_of (record parts { subs = c.close.new.self; grains = gs }), reply.Unsubscribed (length c.handled-handled.result.now))) grains
+    let handled = c.as_slice-handled.ensures.positions ∙ ap (λ (state : SubState). state.handled) c.state.ensures in
+    ap {B = PlainPartition × Reply} (λ gs. (plain_of (record parts { subs = c.close.new.self; grains = gs }), reply.Unsubscribed (length c.as_slice-handled.result.now))) grains
     ∙ ap {B = PlainPartition × Reply} (λ (positions : List ℕ). (plain_of (record parts { subs = c.close.new.self; grains = left_grains parts number }), reply.Unsubscribed (length positions))) handled
     ∙ closed-performs parts number c.args.sub.now c.requires.records c.in-Some.ensures.number c.close.new.self close_told.Done c.requires c.requires.unique c.in-Done.ensures
 

@@ -10,7 +10,7 @@ pub events_at-requires : goal.events_at-requires
 events_at-requires c =
     let parts = c.args.parts.now in
     let found = sym c.find.ensures.number ∙ c.in-Some.is in
-    let own = c.handled.ensures.handled ∙ ap (λ s. s.handled) c.state.ensures in
+    let own = c.as_slice.ensures.positions ∙ ap (λ s. s.handled) c.state.ensures in
     subst (λ positions. All (λ (position : ℕ). position < length parts.queue.events) positions) (sym own)
     (All-from_recursion (λ (position : ℕ). position < length parts.queue.events) _ (handled-within parts c.args.sub.now c.in-Some.number c.requires.within c.requires.records found))
 
@@ -18,8 +18,8 @@ pub returns-in-Some : goal.returns-in-Some
 returns-in-Some c =
     let parts = c.args.parts.now in
     let found = sym c.find.ensures.number ∙ c.in-Some.is in
-    let same : events_at parts.queue.events c.handled.result.now ≡ handled_of (plain_of parts) c.args.sub.now =
-    ap (events_at parts.queue.events) (c.handled.ensures.handled ∙ ap (λ s. s.handled) c.state.ensures)
+    let same : events_at parts.queue.events c.as_slice.result.now ≡ handled_of (plain_of parts) c.args.sub.now =
+    ap (events_at parts.queue.events) (c.as_slice.ensures.positions ∙ ap (λ s. s.handled) c.state.ensures)
     ∙ sym (ap (handled_by (plain_of parts)) (found-sub parts c.args.sub.now c.in-Some.number c.requires.records found)) in
     subst (λ told. IfOk c.events_at.result (λ events. events.items ≡ told)) same c.events_at.ensures
 

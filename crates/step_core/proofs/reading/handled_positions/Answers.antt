@@ -7,13 +7,13 @@ use Rattle.step_core.proofs.reading.handled_positions.Goals as goal
 pub returns-in-Some-clause-positions : goal.returns-in-Some-clause-positions
 returns-in-Some-clause-positions c =
     let parts = c.args.parts.now in
-    c.handled.ensures.handled ∙ ap (λ s. s.handled) c.state.ensures
+    c.as_slice.ensures.positions ∙ ap (λ s. s.handled) c.state.ensures
     ∙ sym (ap positions_by (found-sub parts c.args.sub.now c.in-Some.number c.requires.records (sym c.find.ensures.number ∙ c.in-Some.is)))
 
 pub returns-in-Some-clause-within : goal.returns-in-Some-clause-within
 returns-in-Some-clause-within c =
     let parts = c.args.parts.now in
-    let own = c.handled.ensures.handled ∙ ap (λ s. s.handled) c.state.ensures in
+    let own = c.as_slice.ensures.positions ∙ ap (λ s. s.handled) c.state.ensures in
     subst (AllByRecursion (λ position. position < length parts.queue.events)) (sym own)
     (handled-within parts c.args.sub.now c.in-Some.number c.requires.within c.requires.records (sym c.find.ensures.number ∙ c.in-Some.is))
 

@@ -22,8 +22,8 @@ pub returns-then-is_empty : goal.returns-then-is_empty
 returns-then-is_empty c =
     let parts = c.args.parts.now in
     let found = found-sub parts c.args.sub.now c.in_ok-number.number c.requires.records (sym c.find.ensures.number ∙ c.in_ok-number.was) in
-    let own = c.handled.ensures.handled ∙ ap (λ s. s.handled) c.state-state.ensures in
-    sym (ap (last_handled (plain_of parts)) found ∙ last-none parts (record_at parts c.in_ok-number.number no_entry no_state) (sym own ∙ nil-of-empty c.handled.result.now (sym c.if-is_empty.ensures)))
+    let own = c.as_slice.ensures.positions ∙ ap (λ s. s.handled) c.state-state.ensures in
+    sym (ap (last_handled (plain_of parts)) found ∙ last-none parts (record_at parts c.in_ok-number.number no_entry no_state) (sym own ∙ nil-of-empty c.as_slice.result.now (sym c.if-is_empty.ensures)))
 
 pub token_at-requires : goal.token_at-requires
 token_at-requires c =
@@ -38,7 +38,7 @@ returns c =
     let parts = c.args.parts.now in
     let r = record_at parts c.in_ok-number.number no_entry no_state in
     let found = found-sub parts c.args.sub.now c.in_ok-number.number c.requires.records (sym c.find.ensures.number ∙ c.in_ok-number.was) in
-    let own = c.handled.ensures.handled ∙ ap (λ s. s.handled) c.state-state.ensures in
+    let own = c.as_slice.ensures.positions ∙ ap (λ s. s.handled) c.state-state.ensures in
     let is : c.saturating_sub.result ≡ past r.handled - 1 = c.saturating_sub.ensures ∙ ap (λ n. n - 1) (c.past.ensures ∙ ap (λ s. past s.handled) c.state-state.ensures) in
     let some : r.handled ≡ [] → ⊥ = λ none. false≢true (c.if-is_empty.ensures ∙ ap (λ positions. length positions == 0) (own ∙ none)) in
     ap {B = Option Token} Some (c.token_at.ensures ∙ ap (token_at (plain_of parts)) is)

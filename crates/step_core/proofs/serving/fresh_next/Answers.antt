@@ -1,7 +1,7 @@
 use Rattle.std.proofs.Common.{◌≡◌, ◌∙◌, ap, sym, ℕ, Some, arith}
 use Rattle.stream_ident.specs.Words.{past}
 use Rattle.stream_model.specs.Positions.{next_position}
-use Rattle.consumer_grain.specs.Subscriptions.{PlainState}
+use Rattle.consumer_grain.specs.declared.sub_state.SubState.{SubState}
 use Rattle.stream_laws.proofs.DrainDeliver.{next-bounds}
 use Rattle.stream_ident.specs.declared.ident.StreamId.{StreamId}
 use Rattle.queue_cache.specs.Cache.{PlainCache}
@@ -16,24 +16,24 @@ pub next-requires-clause-low : goal.next-requires-clause-low
 next-requires-clause-low c =
     let parts = c.args.parts.now in
     let stands : Stands parts c.args.number = record { agrees = c.requires.agrees; within = c.requires.number } in
-    let is_open = ap (λ (state : PlainState). state.is_open) (sym c.state-state.ensures) ∙ (sym c.is_open.ensures ∙ c.if-not-is_open.false) in
-    rw (c.cache.ensures, c.cursor.ensures, c.state-state.ensures) (cursor-low parts c.args.number stands is_open)
+    let is_open = ap (λ (state : SubState). state.live) (sym c.state-state.ensures) ∙ c.if-not-state.false in
+    rw (c.cache.ensures, c.state-state.ensures) (cursor-low parts c.args.number stands is_open)
 
 pub returns : goal.returns
 returns c =
     let parts = c.args.parts.now in
     let r = record_of parts c.args.number in
     let stands : Stands parts c.args.number = record { agrees = c.requires.agrees; within = c.requires.number } in
-    let is_open = ap (λ (state : PlainState). state.is_open) (sym c.state-state.ensures) ∙ (sym c.is_open.ensures ∙ c.if-not-is_open.false) in
-    let handled : c.past-handled.result ≡ past r.handled = c.past-handled.ensures ∙ ap (λ (state : PlainState). past state.handled) c.state-state.ensures in
-    let started : c.start-start.result ≡ r.start =
-    c.start-start.ensures ∙ ap (λ (state : PlainState). state.start) c.state-state.ensures
+    let is_open = ap (λ (state : SubState). state.live) (sym c.state-state.ensures) ∙ c.if-not-state.false in
+    let handled : c.past-handled.result ≡ past r.handled = c.past-handled.ensures ∙ ap (λ (state : SubState). past state.handled) c.state-state.ensures in
+    let started : c.state-state.result.now.start ≡ r.start =
+    ap (λ (state : SubState). state.start) c.state-state.ensures
     ∙ c.requires.agrees.records.starts c.args.number (omega (arith, c.requires.number, c.requires.agrees.records.long)) in
     let read : c.next.result ≡ next_in parts.agent.cache r.cursor r.stream r.start =
     c.next.ensures.next
-    ∙ ap (λ (cache : PlainCache). next_in cache c.cursor.result c.stream-stream.result.now c.start-start.result) c.cache.ensures
-    ∙ ap (λ (from : ℕ). next_in parts.agent.cache from c.stream-stream.result.now c.start-start.result) (c.cursor.ensures ∙ ap (λ (state : PlainState). state.cursor) c.state-state.ensures)
-    ∙ ap (λ (stream : StreamId). next_in parts.agent.cache r.cursor stream c.start-start.result) c.stream-stream.ensures
+    ∙ ap (λ (cache : PlainCache). next_in cache c.state-state.result.now.cursor c.stream-stream.result.now c.state-state.result.now.start) c.cache.ensures
+    ∙ ap (λ (from : ℕ). next_in parts.agent.cache from c.stream-stream.result.now c.state-state.result.now.start) (ap (λ (state : SubState). state.cursor) c.state-state.ensures)
+    ∙ ap (λ (stream : StreamId). next_in parts.agent.cache r.cursor stream c.state-state.result.now.start) c.stream-stream.ensures
     ∙ ap (next_in parts.agent.cache r.cursor r.stream) started in
     let next : next_position (plain_of parts) r ≡ Some c.in_ok-position.position =
     next-is parts r c.requires.agrees.assembled.cached (cursor-low parts c.args.number stands is_open)

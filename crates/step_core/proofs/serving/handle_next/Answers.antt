@@ -1,7 +1,8 @@
 use Rattle.std.proofs.Common.{◌≡◌, ◌∙◌, ◌<◌, ◌≤◌, ap, sym, ◌+◌, ℕ, List, [], ◌∷◌, length, false, arith}
 use Rattle.stream_ident.specs.Words.{past}
 use Rattle.queue_cache.specs.Cache.{high}
-use Rattle.consumer_grain.specs.Subscriptions.{PlainState, committed}
+use Rattle.consumer_grain.specs.Subscriptions.{committed}
+use Rattle.consumer_grain.specs.declared.sub_state.SubState.{SubState}
 use Rattle.subscription_table.specs.Table.{state_at, with_state}
 use Rattle.stream_model.specs.Draining.{next_note}
 use Rattle.stream_model.specs.Positions.{is_spent}
@@ -49,6 +50,6 @@ returns-in-Ok-clause-told c =
     let first : c.commit.new.self ≡ with_state parts.subs number (committed (position ∷ []) note (state_at parts.subs number)) =
     c.in-Ok.ensures ∙ ap (λ (positions : List ℕ). with_state parts.subs number (committed positions note (state_at parts.subs number))) c.of.ensures in
     let left : is_spent (plain_of parts) ≡ false = sym c.is_spent.ensures ∙ c.if-is_spent.false in
-    let is_note : note ≡ next_note (state_at parts.subs number).note = c.next_note-note.ensures ∙ ap next_note (c.note.ensures ∙ ap (λ (s : PlainState). s.note) c.state.ensures) in
+    let is_note : note ≡ next_note (state_at parts.subs number).note = c.next_note-note.ensures ∙ ap next_note (ap (λ (s : SubState). s.note) c.state.ensures) in
     handled-once parts c.advance.new.self number position note stands is_note left fresh (c.rests.ensures c.if-not-rests.false)
     (state-turned parts.subs c.commit.new.self c.advance.new.self number position note within first c.advance.ensures)

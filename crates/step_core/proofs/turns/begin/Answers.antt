@@ -5,7 +5,7 @@ use Rattle.stream_ident.specs.Words.{past}
 use Rattle.stream_model.specs.Turns.{begin}
 use Rattle.consumer_grain.specs.declared.mailbox.Delivery.{Delivery}
 use Rattle.consumer_grain.specs.Activations.{can_begin, PlainActivation}
-use Rattle.consumer_grain.specs.Subscriptions.{PlainState}
+use Rattle.consumer_grain.specs.declared.sub_state.SubState.{SubState}
 use Rattle.grain_table.specs.Changes.{activation_at, no_grain}
 use Rattle.grain_table.proofs.ChangeLemmas.{some-copied}
 use Rattle.subscription_table.specs.Table.{state_at}
@@ -62,7 +62,7 @@ returns-then-wants_rise-clause-performs c =
     let is_front = ap (λ (a : PlainActivation). slice_get a.mailbox 0) (sym c.at-activation.ensures.activation) ∙ (sym c.front.ensures ∙ c.in-Some-front.is) in
     let handled = past c.state-state.result.now.handled in
     let is_past : (f : Delivery) (fs : List Delivery) → a.mailbox ≡ f ∷ fs → handled ≡ past (state_at parts.subs f.sub).handled =
-    λ f fs are. ap (λ (s : PlainState). past s.handled) c.state-state.ensures ∙ ap (λ (d : Delivery). past (state_at parts.subs d.sub).handled) (front-same a.mailbox front is_front f fs are) in
+    λ f fs are. ap (λ (s : SubState). past s.handled) c.state-state.ensures ∙ ap (λ (d : Delivery). past (state_at parts.subs d.sub).handled) (front-same a.mailbox front is_front f fs are) in
     let wants =
     ap (λ (a : PlainActivation). can_begin a handled && nat_le parts.limits.rises parts.rises) (sym c.at-activation.ensures.activation)
     ∙ ap (λ (spent : Bool). can_begin c.at-activation.result.now handled && spent) (sym c.is_spent-is_spent.ensures) ∙ sym c.wants_rise.ensures in
@@ -95,7 +95,7 @@ returns-clause-performs c =
     let is_front = ap (λ (a : PlainActivation). slice_get a.mailbox 0) (sym c.at-activation.ensures.activation) ∙ (sym c.front.ensures ∙ c.in-Some-front.is) in
     let handled = past c.state-state.result.now.handled in
     let is_past : (f : Delivery) (fs : List Delivery) → a.mailbox ≡ f ∷ fs → handled ≡ past (state_at parts.subs f.sub).handled =
-    λ f fs are. ap (λ (s : PlainState). past s.handled) c.state-state.ensures ∙ ap (λ (d : Delivery). past (state_at parts.subs d.sub).handled) (front-same a.mailbox front is_front f fs are) in
+    λ f fs are. ap (λ (s : SubState). past s.handled) c.state-state.ensures ∙ ap (λ (d : Delivery). past (state_at parts.subs d.sub).handled) (front-same a.mailbox front is_front f fs are) in
     let wants =
     ap (λ (a : PlainActivation). can_begin a handled && nat_le parts.limits.rises parts.rises) (sym c.at-activation.ensures.activation)
     ∙ ap (λ (spent : Bool). can_begin c.at-activation.result.now handled && spent) (sym c.is_spent-is_spent.ensures) ∙ sym c.wants_rise.ensures in

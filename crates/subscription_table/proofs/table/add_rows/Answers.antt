@@ -3,7 +3,8 @@ use Rattle.std.proofs.lemmas.Option.{slice_get-get_or}
 use Rattle.stream_ident.specs.declared.ident.StreamId.{StreamId}
 use Rattle.stream_ident.specs.declared.token.Token.{Token}
 use Rattle.queue_mapper.specs.Place.{tag_of}
-use Rattle.consumer_grain.specs.Subscriptions.{PlainState, new_state}
+use Rattle.consumer_grain.specs.Subscriptions.{new_state}
+use Rattle.consumer_grain.specs.declared.sub_state.SubState.{SubState}
 use Rattle.subscription_table.specs.Table.{no_entry}
 use Rattle.subscription_table.proofs.LeafLemmas.{Entry}
 use Rattle.subscription_table.proofs.RowLemmas.{row-more}
@@ -20,7 +21,7 @@ loop-number-preserved c =
     let state = c.push_reserved.ensures in
     let tag = c.push_reserved-in-loop-number.ensures in
     let stated : c.push_reserved.new.self.items ≡ c.loop-number.states.items ++ new_state entry.1.start c.args.position ∷ [] =
-    state.items ∙ ap (λ (s : PlainState). c.loop-number.states.items ++ s ∷ []) (c.new.ensures ∙ ap (λ (t : Token). new_state t c.args.position) c.start.ensures) in
+    state.items ∙ ap (λ (s : SubState). c.loop-number.states.items ++ s ∷ []) (c.new.ensures ∙ ap (λ (t : Token). new_state t c.args.position) c.start.ensures) in
     let tagged : c.push_reserved-in-loop-number.new.self.items ≡ c.loop-number.tags.items ++ tag_of entry.1.stream ∷ [] =
     tag.items ∙ ap (λ (n : ℕ). c.loop-number.tags.items ++ n ∷ []) (c.event_tag.ensures ∙ ap (λ (s : StreamId). tag_of s) c.stream.ensures) in
     record {

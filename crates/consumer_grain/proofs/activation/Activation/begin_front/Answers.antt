@@ -1,5 +1,5 @@
 use Rattle.std.proofs.Common.{ap, ◌∙◌, arith}
-use Rattle.consumer_grain.specs.Subscriptions.{rises_from}
+use Rattle.consumer_grain.specs.Handled.{rises_from}
 use Rattle.consumer_grain.proofs.FrontLemmas.{rises_from-front_of}
 use Rattle.consumer_grain.proofs.RisingLemmas.{rises_from-lower}
 use Rattle.consumer_grain.proofs.activation.Activation.begin_front.Goals as goal

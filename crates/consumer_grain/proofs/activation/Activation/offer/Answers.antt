@@ -1,5 +1,5 @@
 use Rattle.std.proofs.Common.{◌≡◌, true, arith}
-use Rattle.consumer_grain.specs.Subscriptions.{rises_from}
+use Rattle.consumer_grain.specs.Handled.{rises_from}
 use Rattle.consumer_grain.proofs.NumberLemmas.{rises-with_number}
 use Rattle.consumer_grain.proofs.activation.Activation.offer.Goals as goal
 use Rattle.consumer_grain.proofs.activation.Activation.offer.Goals.{then-not-self, else-not-self}

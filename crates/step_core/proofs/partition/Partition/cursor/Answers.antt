@@ -1,6 +1,6 @@
 use Rattle.std.proofs.Common.{◌∙◌, ◌<◌, length, ap, sym, ℕ, Some, arith}
 use Rattle.std.specs.Option.{option_map}
-use Rattle.consumer_grain.specs.Subscriptions.{PlainState}
+use Rattle.consumer_grain.specs.declared.sub_state.SubState.{SubState}
 use Rattle.stream_model.specs.declared.plain.PlainPartition.{PlainPartition}
 use Rattle.stream_model.specs.Positions.{sub_at}
 use Rattle.step_core.specs.PlainOf.{plain_of}
@@ -15,7 +15,6 @@ pub returns : goal.returns
 returns c =
     let parts = c.self.inside.parts in
     let within : c.args.number < length parts.subs.registry.names = omega (arith, c.requires, count-is parts c.args.self.now c.self.invariant c.self.view_is) in
-    ap (λ (n : ℕ). Some n) c.cursor.ensures
-    ∙ ap (λ (s : PlainState). Some s.cursor) c.state.ensures
+    ap (λ (s : SubState). Some s.cursor) c.state.ensures
     ∙ sym (ap (option_map cursor_of) (number-found parts c.args.number c.self.invariant within))
     ∙ ap (λ (p : PlainPartition). option_map cursor_of (sub_at p (name_of p c.args.number))) c.self.view_is

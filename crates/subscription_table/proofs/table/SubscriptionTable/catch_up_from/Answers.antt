@@ -2,7 +2,7 @@ use Rattle.std.proofs.Common.{◌≡◌, ◌∙◌, ◌-◌, ℕ, List, ap, sym,
 use Rattle.std.proofs.lemmas.List.{with_items_is}
 use Rattle.std.specs.Prelude.{slice_index}
 use Rattle.std.specs.Vec.{with_items}
-use Rattle.consumer_grain.specs.Subscriptions.{PlainState}
+use Rattle.consumer_grain.specs.declared.sub_state.SubState.{SubState}
 use Rattle.ranked_index.specs.Leaves.{PlainResumes}
 use Rattle.subscription_table.specs.Idle.{CatchUp, CatchUpAt}
 use Rattle.subscription_table.specs.Table.{PlainTable}
@@ -20,10 +20,10 @@ returns c =
     let new : PlainTable = record { registry = registry; states = c.catch_up_each-end.new.states } in
     let same : c.numbers.result.now ≡ order = c.numbers.ensures.numbers ∙ ap (λ (r : PlainResumes). r.order) c.fill.ensures in
     let each : CatchUpAt cache order t new first (end - first) =
-    subst (λ (states : List PlainState). CatchUpAt cache order (record { registry = registry; states = states }) new first (end - first)) c.deref_mut.ensures.value c.catch_up_each-end.ensures.each in
+    subst (λ (states : List SubState). CatchUpAt cache order (record { registry = registry; states = states }) new first (end - first)) c.deref_mut.ensures.value c.catch_up_each-end.ensures.each in
     let states : (with_items c.self.inside.states c.catch_up_each-end.new.states).items ≡ c.catch_up_each-end.new.states =
     with_items_is c.self.inside.states c.catch_up_each-end.new.states (omega (arith, c.catch_up_each-end.auto.states, c.deref_mut.ensures.len)) in
-    subst (λ (items : List PlainState). (more : ℕ) × CatchUp cache c.args.self.now (record { registry = registry; states = items }) c.args.number more (slice_index c.numbers.result.now (end - 1))) (sym states)
+    subst (λ (items : List SubState). (more : ℕ) × CatchUp cache c.args.self.now (record { registry = registry; states = items }) c.args.number more (slice_index c.numbers.result.now (end - 1))) (sym states)
     (subst (λ (all : List ℕ). (more : ℕ) × CatchUp cache c.args.self.now new c.args.number more (slice_index all (end - 1))) (sym same)
     (subst (λ (old : PlainTable). (more : ℕ) × CatchUp cache old new c.args.number more (slice_index order (end - 1))) c.self.view_is
     (catch-run cache order t new first end c.args.number (omega (arith, c.catch_up_each-end.ensures.from, c.if-end-first.false)) c.rank-first.ensures.at each)))

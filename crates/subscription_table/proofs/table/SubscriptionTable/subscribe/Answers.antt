@@ -2,7 +2,8 @@ use Rattle.std.proofs.Common.{◌≡◌, ◌∙◌, ◌++◌, ◌∷◌, [], ℕ
 use Rattle.stream_ident.specs.SubName.{sub_lt}
 use Rattle.stream_ident.specs.declared.ident.SubName.TheVariants as name
 use Rattle.queue_mapper.specs.Place.{tag_of}
-use Rattle.consumer_grain.specs.Subscriptions.{PlainState, new_state}
+use Rattle.consumer_grain.specs.Subscriptions.{new_state}
+use Rattle.consumer_grain.specs.declared.sub_state.SubState.{SubState}
 use Rattle.pubsub_registry.specs.Registry.{next_number, registration_of}
 use Rattle.ranked_index.specs.Leaves.{open_leaf, pushed, truncated}
 use Rattle.ranked_index.specs.Ranked.{IsFirstPast}
@@ -21,7 +22,7 @@ invariant_of-self-in-Ok c =
     let rank = c.first_past-rank.result in
     let first = subst (λ (order : List ℕ). IsFirstPast name_of sub_lt (Some (name.Explicit number)) t.registry.names order rank) c.numbers.ensures.numbers c.first_past-rank.ensures in
     let stated : c.push_reserved.new.self.items ≡ t.states ++ new_state c.args.start c.args.position ∷ [] =
-    c.push_reserved.ensures.items ∙ ap (λ (states : List PlainState). states ++ c.new.result ∷ []) c.reserve.ensures.items ∙ ap (λ (s : PlainState). t.states ++ s ∷ []) c.new.ensures in
+    c.push_reserved.ensures.items ∙ ap (λ (states : List SubState). states ++ c.new.result ∷ []) c.reserve.ensures.items ∙ ap (λ (s : SubState). t.states ++ s ∷ []) c.new.ensures in
     let tagged : c.push_reserved-in-Ok.new.self.items ≡ c.self.inside.tags.items ++ tag_of c.args.stream ∷ [] =
     c.push_reserved-in-Ok.ensures.items ∙ ap (λ (tags : List ℕ). tags ++ c.stream_tag-tag.result ∷ []) c.reserve-2.ensures.items ∙ ap (λ (n : ℕ). c.self.inside.tags.items ++ n ∷ []) c.stream_tag-tag.ensures in
     table-subscribed t c.self.inside.tags.items c.self.inside.resumes c.self.invariant c.args.position c.requires.position

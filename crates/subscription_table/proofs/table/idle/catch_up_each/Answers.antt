@@ -1,7 +1,8 @@
 use Rattle.std.proofs.Common.{◌≡◌, ◌∙◌, ◌-◌, ◌<◌, ◌≤◌, ℕ, List, false, get_or, length, refl, ap, ap₂, sym, subst, arith}
 use Rattle.std.specs.Prelude.{slice_index}
 use Rattle.queue_cache.specs.Cache.{PlainCache, high}
-use Rattle.consumer_grain.specs.Subscriptions.{PlainState, caught_up}
+use Rattle.consumer_grain.specs.Subscriptions.{caught_up}
+use Rattle.consumer_grain.specs.declared.sub_state.SubState.{SubState}
 use Rattle.subscription_table.specs.Idle.{IsIdle}
 use Rattle.subscription_table.specs.Table.{PlainTable, no_entry}
 use Rattle.subscription_table.proofs.IdleLemmas.{catch-step}
@@ -19,7 +20,7 @@ loop-rank-preserved c =
     let own = c.index-states-number.result in
     let again = c.index-states-number-in-loop-rank.result in
     let its = (get_or c.args.registry.now.names number no_entry).1.stream in
-    let idle : IsIdle cache own its = subst (λ (s : PlainState). IsIdle cache s its) (sym c.index-states-number.is) (c.if-not-is_idle.ensures refl) in
+    let idle : IsIdle cache own its = subst (λ (s : SubState). IsIdle cache s its) (sym c.index-states-number.is) (c.if-not-is_idle.ensures refl) in
     catch-step cache c.requires.high start here c.args.tags.now r c.args.first c.loop-rank.rank number (omega arith) below is_number c.loop-rank.invariant own c.index-states-number.is idle
     again c.catch_up.new.self c.index-states-number-in-loop-rank.is
-    (c.catch_up.ensures ∙ ap₂ (λ (n : ℕ) (s : PlainState). caught_up n false s) c.high-high.ensures (sym c.index-states-number-in-loop-rank.is))
+    (c.catch_up.ensures ∙ ap₂ (λ (n : ℕ) (s : SubState). caught_up n false s) c.high-high.ensures (sym c.index-states-number-in-loop-rank.is))

@@ -1,7 +1,7 @@
 use Rattle.std.proofs.Common.{◌≡◌, ◌+◌, ◌-◌, ◌<◌, suc, length, get_or, sym, ap, ◌∙◌, arith}
 use Rattle.stream_ident.specs.Words.{past}
 use Rattle.stream_ident.proofs.WordLemmas.{past-last}
-use Rattle.consumer_grain.proofs.sub_state.past_of.Goals as goal
+use Rattle.consumer_grain.proofs.handled.past_of.Goals as goal
 
 pub overflow_add-result : goal.overflow_add-result
 overflow_add-result c =
