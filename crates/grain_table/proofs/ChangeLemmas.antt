@@ -1,98 +1,35 @@
 -- One activation of a table changed.
-use Rattle.std.proofs.Common.{◌≡◌, ◌∙◌, ap, ap₂, sym, refl, subst, ℕ, zero, suc, ◌<◌, true, false, true≢false, List, [], ◌∷◌, length, get_or, set, slice_get, Some, arith, ◌+◌, ◌≤◌, filter, if◌then◌else◌, Bool, ◌++◌, is_some, None, Bor, Option, slice_index, nat_lt, ◌&&◌, not}
+use Rattle.std.proofs.Common.{◌≡◌, ◌∙◌, ap, ap₂, sym, refl, subst, ℕ, zero, suc, ◌<◌, true, false, true≢false, List, [], ◌∷◌, length, get_or, set, Some, arith, ◌+◌, ◌≤◌, filter, if◌then◌else◌, Bool, ◌++◌, is_some, None, Bor, Option, slice_index, nat_lt, ◌&&◌, not, IsTrue, ◌↔◌, ◌^◌, length-set, get_or-set_same}
 use Rattle.std.proofs.lemmas.Bool.{false_from_ne_true, lt-ltb}
-use Rattle.std.proofs.lemmas.List.{get_or_default}
-use Rattle.std.proofs.lemmas.Option.{same_Some}
-use Rattle.std.specs.List.{AllByRecursion, IsDistinct}
+use Rattle.std.proofs.lemmas.List.{get_or_default, get_or_push, length_push}
 use Rattle.std.specs.Option.{option_copied}
-use Rattle.std.specs.Map.{keys_of, values_of}
-use Rattle.indexmap.specs.IndexMap.{set_value_at}
 use Rattle.stream_ident.specs.declared.ident.GrainId.{GrainId}
 use Rattle.stream_ident.specs.Name.{grain_lt, same_grain}
 use Rattle.stream_ident.specs.Words.{change_at}
 use Rattle.stream_ident.proofs.NameOrders.{grain_order}
-use Rattle.stream_ident.proofs.SameValues.{same_grain-equal}
 use Rattle.consumer_grain.specs.Activations.{PlainActivation}
 use Rattle.consumer_grain.specs.declared.activation.RunningTurn.{RunningTurn}
 use Rattle.consumer_grain.specs.declared.mailbox.Delivery.{Delivery}
 use Rattle.grain_table.specs.Grains.{PlainGrains, is_ready, is_running, AreDistinct, AreIdle}
-use Rattle.grain_table.specs.Changes.{no_grain, activation_at, grain_at}
-use Rattle.grain_table.specs.Table.{is_entry_ready, name_of, running_in, AreReady, AreReadyBut}
-use Rattle.ranked_index.proofs.ListedLemmas.{listed-but}
+use Rattle.grain_table.specs.Changes.{no_grain, activation_at}
+use Rattle.grain_table.specs.Table.{is_entry_ready, name_of, running_in, standing_of, AreReady, IsKept, IsKeptBut, IsTable}
+use Rattle.grain_table.specs.declared.table.Standing.{Standing}
+use Rattle.ranked_index.specs.Listed.{IsListed}
+use Rattle.ranked_index.specs.Ranked.{AreRanked}
+use Rattle.ranked_index.proofs.EntryLemmas.{ranked-set}
+use Rattle.grain_table.proofs.TableLemmas.{distinct-ranked, read_entry}
+use Rattle.ranked_index.proofs.ListedLemmas.{listed-but, listed-more}
 
 -- an activation read, changed and written
-pub written : (grains : PlainGrains) (change : PlainActivation → PlainActivation) (number : ℕ) (a : PlainActivation) → number < length grains → a ≡ change (activation_at grains number) → set_value_at grains number a ≡ change_at change number grains
-written [] change number a within is = absurd (omega arith)
-written (e ∷ es) change zero a within is = ap (λ (b : PlainActivation). (e.0, b) ∷ es) is
-written (e ∷ es) change (suc n) a within is = ap (λ (rest : PlainGrains). e ∷ rest) (written es change n a (omega arith) is)
-
--- it stands there with its grain
-as_set : (grains : PlainGrains) (number : ℕ) (a : PlainActivation) → set_value_at grains number a ≡ set grains number (grain_at grains number, a)
-as_set [] number a = refl
-as_set (e ∷ es) zero a = refl
-as_set (e ∷ es) (suc n) a = ap (λ (rest : PlainGrains). e ∷ rest) (as_set es n a)
-
-pub length-written : (grains : PlainGrains) (number : ℕ) (a : PlainActivation) → length (set_value_at grains number a) ≡ length grains
-length-written [] number a = refl
-length-written (e ∷ es) zero a = refl
-length-written (e ∷ es) (suc n) a = ap suc (length-written es n a)
-
--- and no grain is another
-grain-written : (grains : PlainGrains) (number : ℕ) (a : PlainActivation) (i : ℕ) (d : GrainId × PlainActivation) → (get_or (set_value_at grains number a) i d).0 ≡ (get_or grains i d).0
-grain-written [] number a i d = refl
-grain-written (e ∷ es) zero a zero d = refl
-grain-written (e ∷ es) zero a (suc i) d = refl
-grain-written (e ∷ es) (suc n) a zero d = refl
-grain-written (e ∷ es) (suc n) a (suc i) d = grain-written es n a i d
-
--- ---- no grain stands twice
-
-apart-at : (grain : GrainId) (grains : PlainGrains) (i : ℕ) (d : GrainId × PlainActivation) → AllByRecursion (λ other. same_grain grain other ≡ false) (keys_of grains) → i < length grains → same_grain grain (get_or grains i d).0 ≡ false
-apart-at grain [] i d all within = absurd (omega arith)
-apart-at grain (e ∷ es) zero d all within = all.0
-apart-at grain (e ∷ es) (suc i) d all within = apart-at grain es i d all.1 (omega arith)
-
-pub distinct-of : (grains : PlainGrains) → IsDistinct same_grain (keys_of grains) → AreDistinct grains
-unfolding IsDistinct
-distinct-of [] distinct i j d i_within j_within same = absurd (omega arith)
-distinct-of (e ∷ es) distinct zero zero d i_within j_within same = refl
-distinct-of (e ∷ es) distinct zero (suc j) d i_within j_within same =
-    absurd (true≢false (sym same ∙ apart-at e.0 es j d distinct.0 (omega arith)))
-distinct-of (e ∷ es) distinct (suc i) zero d i_within j_within same =
-    let equal = same_grain-equal (get_or es i d).0 e.0 same in
-    let back : same_grain e.0 (get_or es i d).0 ≡ true = ap (λ (g : GrainId). same_grain g (get_or es i d).0) (sym equal) ∙ ap (same_grain (get_or es i d).0) equal ∙ same in
-    absurd (true≢false (sym back ∙ apart-at e.0 es i d distinct.0 (omega arith)))
-distinct-of (e ∷ es) distinct (suc i) (suc j) d i_within j_within same =
-    ap suc (distinct-of es distinct.1 i j d (omega arith) (omega arith) same)
-
-pub distinct-written : (grains : PlainGrains) (number : ℕ) (a : PlainActivation) → AreDistinct grains → AreDistinct (set_value_at grains number a)
-distinct-written grains number a distinct i j d i_within j_within same =
-    distinct i j d (omega (arith, length-written grains number a)) (omega (arith, length-written grains number a))
-    (ap₂ same_grain (sym (grain-written grains number a i d)) (sym (grain-written grains number a j d)) ∙ same)
-
--- ---- what is known of the others
-
-pub ready-but : (grains : PlainGrains) (ready : List ℕ) (number : ℕ) (a : PlainActivation) → number < length grains → AreReady grains ready → AreReadyBut number (set_value_at grains number a) ready
-ready-but grains ready number a within are =
-    subst (λ (gs : PlainGrains). AreReadyBut number gs ready) (sym (as_set grains number a))
-    (listed-but name_of grain_lt same_grain grain_order is_entry_ready grains ready number (grain_at grains number, a) within
-    (λ d. ap name_of (get_or_default grains number no_grain d within)) are)
-
--- ---- what was read before it was written
-
-pub read-value : (grains : PlainGrains) (number : ℕ) (a : PlainActivation) → number < length grains → Some a ≡ slice_get (values_of grains) number → a ≡ activation_at grains number
-read-value [] number a within is = absurd (omega arith)
-read-value (e ∷ es) zero a within is = same_Some a e.1 is
-read-value (e ∷ es) (suc n) a within is = read-value es n a (omega arith) is
-
--- the same written again
-pub written-same : (grains : PlainGrains) (number : ℕ) (a : PlainActivation) → a ≡ activation_at grains number → set_value_at grains number a ≡ grains
-written-same [] number a is = refl
-written-same (e ∷ es) zero a is = ap (λ (b : PlainActivation). (e.0, b) ∷ es) is
-written-same (e ∷ es) (suc n) a is = ap (λ (rest : PlainGrains). e ∷ rest) (written-same es n a is)
+written : (grains : PlainGrains) (change : PlainActivation → PlainActivation) (number : ℕ) (e : GrainId × PlainActivation) (a : PlainActivation) → number < length grains → get_or grains number no_grain ≡ e → a ≡ change e.1
+    → set grains number (e.0, a) ≡ change_at change number grains
+written [] change number e a within read is = absurd (omega arith)
+written (x ∷ xs) change zero e a within read is = ap₂ (λ (y : GrainId × PlainActivation) (b : PlainActivation). (y.0, b) ∷ xs) (sym read) (is ∙ ap (λ (y : GrainId × PlainActivation). change y.1) (sym read))
+written (x ∷ xs) change (suc n) e a within read is = ap (λ (rest : PlainGrains). x ∷ rest) (written xs change n e a (omega arith) read is)
 
 -- ---- how many turns run
 
+-- a borrowed value is there where the value is
 pub some-copied : {T : Type 0} (o : Option (Bor T)) → is_some (option_copied o) ≡ is_some o
 some-copied None = refl
 some-copied (Some t) = refl
@@ -104,19 +41,13 @@ count-first e es = by (is_running e.1)
     by true = omega arith
     by false = omega arith
 
-pub count-written : (grains : PlainGrains) (number : ℕ) (a : PlainActivation) → number < length grains
-    → running_in (set_value_at grains number a) + (if is_running (activation_at grains number) then 1 else 0) ≡ running_in grains + (if is_running a then 1 else 0)
-count-written [] number a within = absurd (omega arith)
-count-written (e ∷ es) zero a within = omega (arith, count-first e es, count-first (e.0, a) es)
-count-written (e ∷ es) (suc n) a within = omega (arith, count-first e es, count-first e (set_value_at es n a), count-written es n a (omega arith))
+count-written : (grains : PlainGrains) (number : ℕ) (x : GrainId × PlainActivation) → number < length grains
+    → running_in (set grains number x) + (if is_running (activation_at grains number) then 1 else 0) ≡ running_in grains + (if is_running x.1 then 1 else 0)
+count-written [] number x within = absurd (omega arith)
+count-written (e ∷ es) zero x within = omega (arith, count-first e es, count-first x es)
+count-written (e ∷ es) (suc n) x within = omega (arith, count-first e es, count-first e (set es n x), count-written es n x (omega arith))
 
--- the count of a call that leaves a turn running, or none, as it was
-pub count-kept : (grains : PlainGrains) (number : ℕ) (a : PlainActivation) → number < length grains → is_running a ≡ is_running (activation_at grains number) → running_in (set_value_at grains number a) ≡ running_in grains
-count-kept grains number a within same =
-    let flags : ◌≡◌ {A = ℕ} (if is_running a then 1 else 0) (if is_running (activation_at grains number) then 1 else 0) = ap {B = ℕ} (λ (b : Bool). if b then 1 else 0) same in
-    omega (arith, count-written grains number a within, flags)
-
-pub count-most : (grains : PlainGrains) → running_in grains ≤ length grains
+count-most : (grains : PlainGrains) → running_in grains ≤ length grains
 count-most [] = omega arith
 count-most (e ∷ es) = by (is_running e.1) (count-first e es) (count-most es)
   where
@@ -124,21 +55,107 @@ count-most (e ∷ es) = by (is_running e.1) (count-first e es) (count-most es)
     by true is rest = omega (arith, is, rest)
     by false is rest = omega (arith, is, rest)
 
-pub count-some : (grains : PlainGrains) (number : ℕ) → number < length grains → is_running (activation_at grains number) ≡ true → 0 < running_in grains
+count-some : (grains : PlainGrains) (number : ℕ) → number < length grains → is_running (activation_at grains number) ≡ true → 0 < running_in grains
 count-some [] number within is = absurd (omega arith)
 count-some (e ∷ es) zero within is =
     let one : ◌≡◌ {A = ℕ} (if is_running e.1 then 1 else 0) 1 = ap {B = ℕ} (λ (b : Bool). if b then 1 else 0) is in
     omega (arith, count-first e es, one)
 count-some (e ∷ es) (suc n) within is = omega (arith, count-first e es, count-some es n (omega arith) is)
 
-pub count-none : (grains : PlainGrains) (number : ℕ) → running_in grains ≡ 0 → number < length grains → is_running (activation_at grains number) ≡ false
+count-none : (grains : PlainGrains) (number : ℕ) → running_in grains ≡ 0 → number < length grains → is_running (activation_at grains number) ≡ false
 count-none grains number none within = false_from_ne_true (is_running (activation_at grains number)) (λ is. absurd (omega (arith, none, count-some grains number within is)))
 
-pub count-more : (grains : PlainGrains) (e : GrainId × PlainActivation) → is_running e.1 ≡ false → running_in (grains ++ e ∷ []) ≡ running_in grains
-count-more [] e is =
-    let none : ◌≡◌ {A = ℕ} (if is_running e.1 then 1 else 0) 0 = ap {B = ℕ} (λ (b : Bool). if b then 1 else 0) is in
-    omega (arith, count-first e [], none)
-count-more (x ∷ xs) e is = omega (arith, count-first x xs, count-first x (xs ++ e ∷ []), count-more xs e is)
+count-more : (grains : PlainGrains) (e : GrainId × PlainActivation) → running_in (grains ++ e ∷ []) ≡ running_in grains + (if is_running e.1 then 1 else 0)
+count-more [] e = count-first e []
+count-more (x ∷ xs) e = omega (arith, count-first x xs, count-first x (xs ++ e ∷ []), count-more xs e)
+
+-- ---- all but one grain is kept
+
+-- a grain stands among the ready ones just where it is ready
+listed-ready : (grains : PlainGrains) (numbers : List ℕ) (number : ℕ) → number < length grains → AreReady grains numbers → IsTrue (is_ready (activation_at grains number)) ↔ IsListed numbers number
+listed-ready grains numbers number within are = (
+  (λ yes. are.listed no_grain number within yes),
+  (λ there. ap (λ (n : ℕ). is_entry_ready (get_or grains n no_grain)) (sym there.at) ∙ are.passing no_grain there.place there.within),
+)
+
+-- an entry that was read
+module _ (grains old : PlainGrains) (number : ℕ) (e : GrainId × PlainActivation) (seen : e ≡ get_or grains number e) (same : grains ≡ old) (inside : number < length old) where
+  within : number < length grains
+  within = omega (arith, inside, ap length same)
+
+  read : get_or grains number no_grain ≡ e
+  read = read_entry grains number e no_grain within seen
+
+  pub was-at : e.1 ≡ activation_at old number
+  was-at = ap (λ (x : GrainId × PlainActivation). x.1) (sym read) ∙ ap (λ (gs : PlainGrains). activation_at gs number) same
+
+  -- and changed
+  pub changed : (change : PlainActivation → PlainActivation) (a : PlainActivation) → a ≡ change e.1 → set grains number (e.0, a) ≡ change_at change number old
+  changed change a is = written grains change number e a within read is ∙ ap (change_at change number) same
+
+  named : (d : GrainId × PlainActivation) → e.0 ≡ name_of (get_or grains number d)
+  named d = ap name_of (sym read ∙ get_or_default grains number no_grain d within)
+
+  module _ (order ready : List ℕ) (room running : ℕ) (is : IsTable grains order ready room running) (a : PlainActivation) where
+    pub changed-ranked : AreRanked name_of grain_lt (set grains number (e.0, a)) order
+    changed-ranked = ranked-set grains order number (e.0, a) within name_of grain_lt named is.ranked
+
+    pub changed-but : (before : Standing) → before ≡ standing_of e.1 → IsKeptBut number before (set grains number (e.0, a)) ready room running
+    changed-but before stands =
+        let long = length-set grains number (e.0, a) in
+        let stood : before ≡ standing_of (activation_at grains number) = stands ∙ ap (λ (x : GrainId × PlainActivation). standing_of x.1) (sym read) in
+        let now : ◌≡◌ {A = ℕ} (if is_running (activation_at (set grains number (e.0, a)) number) then 1 else 0) (if is_running a then 1 else 0) =
+        ap {B = ℕ} (λ (x : GrainId × PlainActivation). if is_running x.1 then 1 else 0) (get_or-set_same grains number (e.0, a) no_grain within) in
+        let ran : ◌≡◌ {A = ℕ} (if before.runs then 1 else 0) (if is_running (activation_at grains number) then 1 else 0) = ap {B = ℕ} (λ (s : Standing). if s.runs then 1 else 0) stood in
+        record {
+          within = omega (arith, long, within);
+          distinct = distinct-ranked (set grains number (e.0, a)) order changed-ranked;
+          are_ready = listed-but name_of grain_lt same_grain grain_order is_entry_ready grains ready number (e.0, a) within named is.kept.are_ready;
+          was_ready = subst (λ (s : Standing). IsTrue s.is_ready ↔ IsListed ready number) (sym stood) (listed-ready grains ready number within is.kept.are_ready);
+          fits = omega (arith, long, is.kept.fits);
+          few = omega (arith, long, is.kept.few);
+          counted = omega (arith, is.kept.counted, now, ran, count-written grains number (e.0, a) within);
+        }
+
+-- one grain more
+pub added-but : (grains : PlainGrains) (ready : List ℕ) (room running more : ℕ) (e : GrainId × PlainActivation) → IsKept grains ready room running → AreDistinct (grains ++ e ∷ []) → length grains + 1 ≤ more → length grains + 1 ≤ 2 ^ 63
+    → IsKeptBut (length grains) (record { is_ready = false; runs = false }) (grains ++ e ∷ []) ready more running
+added-but grains ready room running more e is distinct fits few =
+    let long = length_push grains e in
+    let now : ◌≡◌ {A = ℕ} (if is_running (activation_at (grains ++ e ∷ []) (length grains)) then 1 else 0) (if is_running e.1 then 1 else 0) = ap {B = ℕ} (λ (x : GrainId × PlainActivation). if is_running x.1 then 1 else 0) (get_or_push grains e no_grain (length grains) refl) in
+    record {
+      within = omega (arith, long);
+      distinct = distinct;
+      are_ready = listed-more name_of grain_lt same_grain grain_order is_entry_ready grains ready e is.are_ready;
+      was_ready = ((λ no. absurd (true≢false (sym no))), (λ there. absurd (omega (arith, ap {B = ℕ} (λ n. n) there.at, is.are_ready.rising.within there.place there.within))));
+      fits = omega (arith, long, fits);
+      few = omega (arith, long, few);
+      counted = omega (arith, is.counted, now, count-more grains e);
+    }
+
+module _ (number : ℕ) (before : Standing) (grains : PlainGrains) (ready : List ℕ) (room running : ℕ) (but : IsKeptBut number before grains ready room running) where
+  pub some-ran : IsTrue before.runs → 0 < running
+  some-ran ran = by (is_running (activation_at grains number)) refl
+    where
+      one : ◌≡◌ {A = ℕ} (if before.runs then 1 else 0) 1
+      one = ap {B = ℕ} (λ (b : Bool). if b then 1 else 0) ran
+
+      by : (b : Bool) → is_running (activation_at grains number) ≡ b → 0 < running
+      by true is =
+          let now : ◌≡◌ {A = ℕ} (if is_running (activation_at grains number) then 1 else 0) 1 = ap {B = ℕ} (λ (b : Bool). if b then 1 else 0) is in
+          omega (arith, but.counted, one, now, count-some grains number but.within is)
+      by false is =
+          let now : ◌≡◌ {A = ℕ} (if is_running (activation_at grains number) then 1 else 0) 0 = ap {B = ℕ} (λ (b : Bool). if b then 1 else 0) is in
+          omega (arith, but.counted, one, now)
+
+  pub few-run : running + 1 < 2 ^ 64
+  few-run = by before.runs but.counted
+    where
+      by : (b : Bool) → running + (if is_running (activation_at grains number) then 1 else 0) ≡ running_in grains + (if b then 1 else 0) → running + 1 < 2 ^ 64
+      by true is = omega (arith, is, count-most grains, but.few)
+      by false is = omega (arith, is, count-most grains, but.few)
+
+-- ---- none ready, and none running
 
 -- where none is ready and no turn runs, nothing waits either
 pub idle-all : (grains : PlainGrains) → AreReady grains [] → running_in grains ≡ 0 → AreIdle grains

@@ -1,26 +1,47 @@
 -- The ready ones after one grain was looked at.
-use Rattle.std.proofs.Common.{◌≡◌, ◌∙◌, ap, sym, refl, subst, ℕ, zero, suc, ◌+◌, ◌-◌, ◌<◌, ◌≤◌, ◌↔◌, IsTrue, Bool, true, false, List, [], ◌∷◌, ◌++◌, length, get_or, drop, filter, map, slice_get, slice_index, insert, remove, Option, Some, None, if◌then◌else◌, arith}
-use Rattle.std.proofs.lemmas.Bool.{cond-false, cond-true, false_from_ne_true}
+use Rattle.std.proofs.Common.{◌≡◌, ◌∙◌, ap, sym, subst, ℕ, ◌+◌, ◌-◌, ◌<◌, ◌≤◌, Bool, true, false, List, [], ◌∷◌, ◌++◌, length, get_or, drop, slice_index, insert, remove, Option, Some, None, arith, true≢false, IsTrue, ◌↔◌, refl}
+use Rattle.std.proofs.lemmas.Bool.{false_from_ne_true, ltb-false}
 use Rattle.std.proofs.lemmas.List.{get_or_default}
-use Rattle.std.proofs.lemmas.Option.{same_Some, slice_get-get_or}
-use Rattle.indexmap.specs.IndexMap.{insert_entry}
 use Rattle.stream_ident.specs.declared.ident.GrainId.{GrainId}
 use Rattle.stream_ident.specs.Name.{grain_lt, same_grain}
-use Rattle.stream_ident.specs.Words.{first_at, keys_where, least, lesser}
-use Rattle.stream_ident.proofs.FirstLemmas.{first_at-there}
+use Rattle.stream_ident.specs.Words.{keys_where, least}
+use Rattle.stream_ident.proofs.FirstLemmas.{first_at-None, first_at-Some, first_at-there}
 use Rattle.stream_ident.proofs.NameOrders.{grain_order}
 use Rattle.stream_ident.proofs.SameValues.{same_grain-equal}
 use Rattle.consumer_grain.specs.Activations.{PlainActivation}
 use Rattle.ranked_index.specs.Listed.{IsListed}
-use Rattle.ranked_index.specs.Ranked.{entry_at, IsFirstPast}
+use Rattle.ranked_index.specs.Ranked.{entry_at, AreRanked, IsFirstPast}
+use Rattle.ranked_index.proofs.EntryLemmas.{rank-before, ranked-insert}
 use Rattle.ranked_index.proofs.ListedLemmas.{listed-in, listed-insert, listed-last, listed-out, listed-remove, listed-room, next_listed-first, next_listed-none, next_listed-past}
-use Rattle.grain_table.specs.Changes.{no_grain, grain_at}
+use Rattle.grain_table.specs.Changes.{no_grain, activation_at, grain_at}
 use Rattle.grain_table.specs.Grains.{PlainGrains, is_ready, number_of, ready_after, AreDistinct}
-use Rattle.grain_table.specs.Table.{is_entry_ready, name_of, AreReady, AreReadyBut}
+use Rattle.grain_table.specs.Table.{is_entry_ready, name_of, AreReady, AreReadyBut, HaveRisingNames}
 
 -- an entry that was read
-pub read_entry : (grains : PlainGrains) (number : ℕ) (e d : GrainId × PlainActivation) → number < length grains → Some e ≡ slice_get grains number → get_or grains number d ≡ e
-read_entry grains number e d within is = sym (same_Some e (get_or grains number d) (is ∙ slice_get-get_or grains number d within))
+pub read_entry : (grains : PlainGrains) (number : ℕ) (e d : GrainId × PlainActivation) → number < length grains → e ≡ get_or grains number e → get_or grains number d ≡ e
+read_entry grains number e d within is = get_or_default grains number d e within ∙ sym is
+
+-- ---- the grains by name
+
+pub rising-ranked : (grains : PlainGrains) (order : List ℕ) → AreRanked name_of grain_lt grains order → HaveRisingNames grains order
+rising-ranked grains order are = record {
+  within = λ i below. omega (arith, are.long, are.ranking.inverse.number_within i below);
+  rises = are.rises;
+}
+
+-- grains that have ranks by name are distinct
+pub distinct-ranked : (grains : PlainGrains) (order : List ℕ) → AreRanked name_of grain_lt grains order → AreDistinct grains
+distinct-ranked grains order are i j d i_within j_within same =
+    let of = are.ranking.inverse in
+    let i_below : i < length order = omega (arith, are.long, i_within) in
+    let j_below : j < length order = omega (arith, are.long, j_within) in
+    let i_rank = are.ranking.rank_of i in
+    let j_rank = are.ranking.rank_of j in
+    let apart = grain_order.apart (get_or grains i d).0 (get_or grains j d).0 same in
+    let before = rank-before name_of grain_lt same_grain grain_order grains order are d i j i_rank j_rank (of.rank_within i i_below) (of.forth i i_below) (of.rank_within j j_below) (of.forth j j_below) in
+    let after = rank-before name_of grain_lt same_grain grain_order grains order are d j i j_rank i_rank (of.rank_within j j_below) (of.forth j j_below) (of.rank_within i i_below) (of.forth i i_below) in
+    let level : i_rank ≡ j_rank = omega (arith, ltb-false i_rank j_rank (before ∙ apart.0), ltb-false j_rank i_rank (after ∙ apart.1)) in
+    sym (of.forth i i_below) ∙ ap (slice_index order) level ∙ of.forth j j_below
 
 -- a grain that was read under a number has that number
 pub number_of-read : (grains : PlainGrains) (grain : GrainId) (number : ℕ) → AreDistinct grains → number < length grains → same_grain grain (grain_at grains number) ≡ true → Some number ≡ number_of grains grain
@@ -34,62 +55,63 @@ number_of-read grains grain number distinct within is =
     zero_add : (n : ℕ) → 0 + n ≡ n
     zero_add n = omega arith
 
--- a grain that has no number is put behind the others
-inserted-from : (grains : PlainGrains) (g : GrainId) (a : PlainActivation) (n : ℕ) → first_at (λ (e : GrainId × PlainActivation). same_grain g e.0) n grains ≡ None → insert_entry same_grain grains g a ≡ grains ++ (g, a) ∷ []
-inserted-from [] g a n none = refl
-inserted-from (e ∷ es) g a n none = by (same_grain g e.0) none (inserted-from es g a (suc n))
-  where
-    by : (b : Bool) → (if b then Some n else first_at (λ (e : GrainId × PlainActivation). same_grain g e.0) (suc n) es) ≡ None
-        → (first_at (λ (e : GrainId × PlainActivation). same_grain g e.0) (suc n) es ≡ None → insert_entry same_grain es g a ≡ es ++ (g, a) ∷ [])
-        → (if b then (e.0, a) ∷ es else e ∷ insert_entry same_grain es g a) ≡ e ∷ (es ++ (g, a) ∷ [])
-    by true none rest = absurd (cc)
-    by false none rest = ap (λ (more : PlainGrains). e ∷ more) (rest none)
+-- and the other way round
+pub number_of-found : (grains : PlainGrains) (grain : GrainId) (number : ℕ) → number_of grains grain ≡ Some number → (number < length grains) × (same_grain grain (grain_at grains number) ≡ true)
+number_of-found grains grain number is =
+    let first = first_at-Some (λ (e : GrainId × PlainActivation). same_grain grain e.0) 0 grains no_grain number is in
+    let place : first.place ≡ number = omega (arith, first.at) in
+    (omega (arith, place, first.within), ap (λ (n : ℕ). same_grain grain (grain_at grains n)) (sym place) ∙ first.is)
 
-pub grown : (grains seen new : PlainGrains) (g : GrainId) (a : PlainActivation) → seen ≡ grains → number_of grains g ≡ None → new ≡ insert_entry same_grain seen g a → new ≡ grains ++ (g, a) ∷ []
-grown grains seen new g a same none put =
-    put ∙ ap (λ (gs : PlainGrains). insert_entry same_grain gs g a) same ∙ inserted-from grains g a 0 none
+-- it has the last rank whose name is not greater
+pub last-named : (grains : PlainGrains) (order : List ℕ) (grain : GrainId) (past number : ℕ) → AreRanked name_of grain_lt grains order → IsFirstPast name_of grain_lt (Some grain) grains order past → number_of grains grain ≡ Some number
+    → (0 < past) × (slice_index order (past - 1) ≡ number)
+last-named grains order grain past number are first is =
+    let found = number_of-found grains grain number is in
+    let below : number < length order = omega (arith, are.long, found.0) in
+    let of = are.ranking.inverse in
+    listed-last name_of grain_lt same_grain grain_order is_entry_ready grains order number past no_grain (rising-ranked grains order are)
+    (subst (λ (g : GrainId). IsFirstPast name_of grain_lt (Some g) grains order past) (same_grain-equal grain (grain_at grains number) found.1) first)
+    (record { place = are.ranking.rank_of number; within = of.rank_within number below; at = of.forth number below })
 
--- a grain stands among the ready ones just where it is ready
-pub stood : (grains : PlainGrains) (numbers : List ℕ) (number : ℕ) (was : Bool) → number < length grains → AreReady grains numbers → was ≡ is_entry_ready (get_or grains number no_grain) → IsTrue was ↔ IsListed numbers number
-stood grains numbers number was within are is = (
-  (λ yes. are.listed no_grain number within (sym is ∙ yes)),
-  (λ there. is ∙ ap (λ (n : ℕ). is_entry_ready (get_or grains n no_grain)) (sym there.at) ∙ are.passing no_grain there.place there.within),
-)
+-- one more, at the first rank past its name
+pub ranked-more : (grains : PlainGrains) (order : List ℕ) (past : ℕ) (e : GrainId × PlainActivation) → AreRanked name_of grain_lt grains order → IsFirstPast name_of grain_lt (Some e.0) grains order past → number_of grains e.0 ≡ None
+    → AreRanked name_of grain_lt (grains ++ e ∷ []) (insert order past (length grains))
+ranked-more grains order past e are first none =
+    subst (λ (n : ℕ). AreRanked name_of grain_lt (grains ++ e ∷ []) (insert order past n)) are.long
+    (ranked-insert grains order past e are.long are.ranking first.within name_of grain_lt same_grain grain_order are first
+    (λ d i within. first_at-None (λ (x : GrainId × PlainActivation). same_grain e.0 x.0) 0 grains d none i within))
 
-module _ (grains : PlainGrains) (numbers : List ℕ) (number : ℕ) (e : GrainId × PlainActivation) (within : number < length grains) (seen : Some e ≡ slice_get grains number)
-    (but : AreReadyBut number grains numbers) where
-  ready-at : (b : Bool) → b ≡ is_ready e.1 → is_entry_ready (get_or grains number no_grain) ≡ b
-  ready-at b is = ap is_entry_ready (read_entry grains number e no_grain within seen) ∙ sym is
+-- ---- the ready ones
 
+module _ (grains : PlainGrains) (numbers : List ℕ) (number : ℕ) (within : number < length grains) (but : AreReadyBut number grains numbers) where
   pub has-room : (IsListed numbers number → ⊥) → length numbers < length grains
   has-room isnt = listed-room name_of grain_lt same_grain grain_order is_entry_ready grains numbers number within but.rising isnt
 
-  pub stays-out : (IsListed numbers number → ⊥) → false ≡ is_ready e.1 → AreReady grains numbers
-  stays-out isnt is = listed-out name_of grain_lt same_grain grain_order is_entry_ready grains numbers number no_grain within but isnt (ready-at false is)
+  -- it stands there just where it is to
+  pub stays : (was : Bool) → IsTrue was ↔ IsListed numbers number → was ≡ is_ready (activation_at grains number) → AreReady grains numbers
+  stays true stood is = listed-in name_of grain_lt same_grain grain_order is_entry_ready grains numbers number no_grain within but (stood.0 refl) (sym is)
+  stays false stood is = listed-out name_of grain_lt same_grain grain_order is_entry_ready grains numbers number no_grain within but (λ there. true≢false (sym (stood.1 there))) (sym is)
 
-  pub stays-in : IsListed numbers number → true ≡ is_ready e.1 → AreReady grains numbers
-  stays-in there is = listed-in name_of grain_lt same_grain grain_order is_entry_ready grains numbers number no_grain within but there (ready-at true is)
+  module _ (d : GrainId × PlainActivation) (past : ℕ) (before : IsFirstPast name_of grain_lt (Some (get_or grains number d).0) grains numbers past) where
+    first : IsFirstPast name_of grain_lt (Some (grain_at grains number)) grains numbers past
+    first = subst (λ (g : GrainId). IsFirstPast name_of grain_lt (Some g) grains numbers past) (ap name_of (get_or_default grains number d no_grain within)) before
 
-  module _ (past : ℕ) (first : IsFirstPast name_of grain_lt (Some e.0) grains numbers past) where
-    first-at : IsFirstPast name_of grain_lt (Some (name_of (get_or grains number no_grain))) grains numbers past
-    first-at = subst (λ (g : GrainId). IsFirstPast name_of grain_lt (Some g) grains numbers past) (ap name_of (sym (read_entry grains number e no_grain within seen))) first
-
-    pub put-in : AreDistinct grains → (IsListed numbers number → ⊥) → true ≡ is_ready e.1 → AreReady grains (insert numbers past number)
+    pub put-in : AreDistinct grains → (IsListed numbers number → ⊥) → is_ready (activation_at grains number) ≡ true → AreReady grains (insert numbers past number)
     put-in distinct isnt is =
-        listed-insert name_of grain_lt same_grain grain_order is_entry_ready grains numbers number past no_grain within (λ d i j. distinct i j d) but isnt (ready-at true is) first-at
+        listed-insert name_of grain_lt same_grain grain_order is_entry_ready grains numbers number past no_grain within (λ d i j. distinct i j d) but isnt is first
 
     -- it stands right before the first whose name is greater
     pub last-before : IsListed numbers number → (0 < past) × (slice_index numbers (past - 1) ≡ number)
-    last-before there = listed-last name_of grain_lt same_grain grain_order is_entry_ready grains numbers number past no_grain but.rising first-at there
+    last-before there = listed-last name_of grain_lt same_grain grain_order is_entry_ready grains numbers number past no_grain but.rising first there
 
-    pub taken-out : IsListed numbers number → false ≡ is_ready e.1 → AreReady grains (remove numbers (past - 1))
+    pub taken-out : IsListed numbers number → is_ready (activation_at grains number) ≡ false → AreReady grains (remove numbers (past - 1))
     taken-out there is =
-        listed-remove name_of grain_lt same_grain grain_order is_entry_ready grains numbers number (past - 1) no_grain within but (omega (arith, first.within, (last-before there).0)) (last-before there).1 (ready-at false is)
+        listed-remove name_of grain_lt same_grain grain_order is_entry_ready grains numbers number (past - 1) no_grain within but (omega (arith, first.within, (last-before there).0)) (last-before there).1 is
 
 -- ---- the next that is ready
 
 -- the grain that was read at a place
-pub grain-at : (grains : PlainGrains) (numbers : List ℕ) (place number : ℕ) (e : GrainId × PlainActivation) → AreReady grains numbers → place < length numbers → number ≡ get_or numbers place number → Some e ≡ slice_get grains number
+pub grain-at : (grains : PlainGrains) (numbers : List ℕ) (place number : ℕ) (e : GrainId × PlainActivation) → AreReady grains numbers → place < length numbers → number ≡ get_or numbers place number → e ≡ get_or grains number e
     → e.0 ≡ name_of (entry_at grains numbers no_grain place)
 grain-at grains numbers place number e are within is seen =
     let same : slice_index numbers place ≡ number = get_or_default numbers place 0 number within ∙ sym is in
@@ -113,33 +135,5 @@ next-none grains numbers after are none = sym (next_listed-none name_of grain_lt
 
 -- ---- the least that passes, from the end on
 
-module _ (passes : PlainActivation → Bool) where
-  abbrev pub least_from : ℕ → PlainGrains → Option GrainId
-  least_from n grains = least grain_lt (keys_where passes (drop n grains))
-
-  pub least-there : (grains : PlainGrains) (number : ℕ) (e : GrainId × PlainActivation) (so_far : Option GrainId) → number < length grains → Some e ≡ slice_get grains number → passes e.1 ≡ true → so_far ≡ least_from (suc number) grains
-      → Some (lesser grain_lt e.0 so_far) ≡ least_from number grains
-  least-there [] number e so_far within seen is same = absurd (omega arith)
-  least-there (x ∷ xs) zero e so_far within seen is same =
-      let here : e ≡ x = same_Some e x seen in
-      let passed : passes x.1 ≡ true = ap (λ (y : GrainId × PlainActivation). passes y.1) (sym here) ∙ is in
-      ap (λ (y : GrainId × PlainActivation). Some (lesser grain_lt y.0 so_far)) here
-      ∙ ap (λ (o : Option GrainId). Some (lesser grain_lt x.0 o)) same
-      ∙ sym (ap (λ (es : PlainGrains). least grain_lt (map (λ (y : GrainId × PlainActivation). y.0) es)) (cond-true (passes x.1) (x ∷ filter (λ (y : GrainId × PlainActivation). passes y.1) xs) (filter (λ (y : GrainId × PlainActivation). passes y.1) xs) passed))
-  least-there (x ∷ xs) (suc n) e so_far within seen is same = least-there xs n e so_far (omega arith) seen is same
-
-  pub least-not : (grains : PlainGrains) (number : ℕ) (e : GrainId × PlainActivation) (so_far : Option GrainId) → number < length grains → Some e ≡ slice_get grains number → passes e.1 ≡ false → so_far ≡ least_from (suc number) grains
-      → so_far ≡ least_from number grains
-  least-not [] number e so_far within seen is same = absurd (omega arith)
-  least-not (x ∷ xs) zero e so_far within seen is same =
-      let here : e ≡ x = same_Some e x seen in
-      let passed : passes x.1 ≡ false = ap (λ (y : GrainId × PlainActivation). passes y.1) (sym here) ∙ is in
-      same
-      ∙ sym (ap (λ (es : PlainGrains). least grain_lt (map (λ (y : GrainId × PlainActivation). y.0) es)) (cond-false (passes x.1) (x ∷ filter (λ (y : GrainId × PlainActivation). passes y.1) xs) (filter (λ (y : GrainId × PlainActivation). passes y.1) xs) passed))
-  least-not (x ∷ xs) (suc n) e so_far within seen is same = least-not xs n e so_far (omega arith) seen is same
-
-  pub least-end : (grains : PlainGrains) (number : ℕ) → length grains ≤ number → None ≡ least_from number grains
-  least-end [] zero past = refl
-  least-end [] (suc n) past = refl
-  least-end (x ∷ xs) zero past = absurd (omega arith)
-  least-end (x ∷ xs) (suc n) past = least-end xs n (omega arith)
+abbrev pub least_from : (PlainActivation → Bool) → ℕ → PlainGrains → Option GrainId
+least_from passes n grains = least grain_lt (keys_where passes (drop n grains))

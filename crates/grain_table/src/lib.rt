@@ -1,5 +1,5 @@
-//! The grains that were ever active in a partition, with what waits and runs for each: found by identity,
-//! and the next that is ready found by name.
+//! The grains that were ever active in a partition, with what waits and runs for each. A grain is found by its
+//! name in a binary search, and so is the next that is ready.
 #![tactic(auto)]
 
 mod table;

@@ -10,7 +10,7 @@ use Rattle.grain_table.proofs.table.first_past.Goals as goal
 
 pub returns : goal.returns
 returns c =
-    let entries = c.args.entries.now.entries in
+    let entries = c.args.entries.now in
     let order = c.args.numbers.now in
     let grain = c.in-Some.grain.now in
     first_past-from name_of grain_lt same_grain grain_order entries order c.requires grain (option_copied c.args.after) c.partition_point.result (ap option_copied c.in-Some.is) c.partition_point.ensures.bound

@@ -14,8 +14,8 @@ pub returns-then-is_empty : goal.returns-then-is_empty
 returns-then-is_empty c =
     let t = c.self.inside in
     let none : t.ready.items ≡ [] = no-items t.ready.items (ap length (sym c.as_slice-ready.ensures.value) ∙ eqb-true (length c.as_slice-ready.result.now) 0 (sym c.is_empty.ensures ∙ c.if-is_empty.true)) in (
-      λ is. subst AreIdle c.self.view_is (idle-all t.entries.entries (subst (AreReady t.entries.entries) none c.self.invariant.are_ready) (sym c.self.invariant.counted ∙ eqb-true t.running 0 is)),
-      λ idle. ap (λ n. eqb n 0) (c.self.invariant.counted ∙ idle-running t.entries.entries (subst AreIdle (sym c.self.view_is) idle)),
+      λ is. subst AreIdle c.self.view_is (idle-all t.entries.items (subst (AreReady t.entries.items) none c.self.invariant.kept.are_ready) (sym c.self.invariant.kept.counted ∙ eqb-true t.running 0 is)),
+      λ idle. ap (λ n. eqb n 0) (c.self.invariant.kept.counted ∙ idle-running t.entries.items (subst AreIdle (sym c.self.view_is) idle)),
     )
 
 pub returns-else-is_empty : goal.returns-else-is_empty
@@ -23,6 +23,6 @@ returns-else-is_empty c =
     let t = c.self.inside in (
       λ is. absurd (true≢false (sym is ∙ c.if-is_empty.false)),
       λ idle.
-          let none = ap length c.as_slice-ready.ensures.value ∙ idle-ready t.entries.entries t.ready.items c.self.invariant.are_ready (subst AreIdle (sym c.self.view_is) idle) in
+          let none = ap length c.as_slice-ready.ensures.value ∙ idle-ready t.entries.items t.ready.items c.self.invariant.kept.are_ready (subst AreIdle (sym c.self.view_is) idle) in
           absurd (eqb-false (length c.as_slice-ready.result.now) 0 (sym c.is_empty.ensures ∙ c.if-is_empty.false) none),
     )

@@ -1,10 +1,8 @@
-use Rattle.std.proofs.Common.{◌≡◌, ◌∙◌, ap, sym, subst, ℕ, ◌<◌, ◌≤◌, List, length, get_or, slice_get, Some, arith}
+use Rattle.std.proofs.Common.{◌≡◌, ◌∙◌, ap, sym, subst, ℕ, ◌<◌, ◌≤◌, List, length, get_or, Some, arith}
 use Rattle.std.proofs.lemmas.Bool.{ltb-false, ltb-true}
-use Rattle.std.specs.Map.Iter.{deref_pair}
-use Rattle.std.specs.Option.{option_copied, option_map}
+use Rattle.std.specs.Option.{option_copied}
 use Rattle.stream_ident.specs.declared.ident.GrainId.{GrainId}
 use Rattle.stream_ident.specs.Name.{grain_lt}
-use Rattle.consumer_grain.specs.Activations.{PlainActivation}
 use Rattle.ranked_index.specs.Ranked.{entry_at, IsFirstPast}
 use Rattle.grain_table.specs.Changes.{no_grain}
 use Rattle.grain_table.specs.Grains.{PlainGrains, ready_after}
@@ -16,7 +14,7 @@ use Rattle.grain_table.proofs.table.GrainTable.ready_after.Goals.{then-past-read
 pub returns-in_err-number : goal.returns-in_err-number
 returns-in_err-number c =
     let t = c.self.inside in
-    let grains = t.entries.entries in
+    let grains = t.entries.items in
     let numbers = t.ready.items in
     let after = option_copied c.args.after in
     let place = c.if-past-ready.place in
@@ -25,26 +23,25 @@ returns-in_err-number c =
       | then-past-ready w ↦ absurd (omega (arith, high, w.place-is, w.if-past-ready.true))
       | else-past-ready w ↦ omega (arith, high, w.place-is, ap length c.as_slice-ready.ensures.value)
     ] in
-    c.from_residual.ensures ∙ next-none grains numbers after c.self.invariant.are_ready none ∙ ap (λ (gs : PlainGrains). ready_after gs after) c.self.view_is
+    c.from_residual.ensures ∙ next-none grains numbers after c.self.invariant.kept.are_ready none ∙ ap (λ (gs : PlainGrains). ready_after gs after) c.self.view_is
 
 pub returns : goal.returns
 returns c =
     let t = c.self.inside in
-    let grains = t.entries.entries in
+    let grains = t.entries.items in
     let numbers = t.ready.items in
     let after = option_copied c.args.after in
     let past = c.first_past-past.result in
     let place = c.if-past-ready.place in
     let number = c.in_ok-number.field-0.now in
-    let first = subst (λ (ns : List ℕ). IsFirstPast name_of grain_lt after grains ns past) c.as_slice-ready.ensures.value c.first_past-past.ensures in
-    let e : GrainId × PlainActivation = (c.unwrap.result.0.now, c.unwrap.result.1.now) in
-    let seen : Some e ≡ slice_get grains number = sym (ap (option_map deref_pair) c.unwrap.ensures) ∙ c.get_index.ensures.entry in
+    let first = subst (λ (gs : PlainGrains). IsFirstPast name_of grain_lt after gs numbers past) c.deref.ensures.value
+    (subst (λ (ns : List ℕ). IsFirstPast name_of grain_lt after c.deref.result.now ns past) c.as_slice-ready.ensures.value c.first_past-past.ensures) in
     let within : place < length numbers = omega (arith, ltb-true place (length c.as_slice-ready.result.now) (sym c.in_ok-number.ensures.lookup.0), ap length c.as_slice-ready.ensures.value) in
     let next : Some (name_of (entry_at grains numbers no_grain place)) ≡ ready_after grains after = elim c.if-past-ready.branch [
       | then-past-ready w ↦
-          next-past grains numbers after past place c.self.invariant.are_ready first (omega (arith, w.if-past-ready.true, ap length c.as_slice-ready.ensures.value)) w.place-is
+          next-past grains numbers after past place c.self.invariant.kept.are_ready first (omega (arith, w.if-past-ready.true, ap length c.as_slice-ready.ensures.value)) w.place-is
       | else-past-ready w ↦
-          next-first grains numbers after past place c.self.invariant.are_ready first (omega (arith, w.if-past-ready.false, ap length c.as_slice-ready.ensures.value)) w.place-is within
+          next-first grains numbers after past place c.self.invariant.kept.are_ready first (omega (arith, w.if-past-ready.false, ap length c.as_slice-ready.ensures.value)) w.place-is within
     ] in
-    ap (λ (g : GrainId). Some g) (grain-at grains numbers place number e c.self.invariant.are_ready within (c.in_ok-number.ensures.lookup.1 ∙ ap (λ (ns : List ℕ). get_or ns place number) c.as_slice-ready.ensures.value) seen)
+    ap (λ (g : GrainId). Some g) (grain-at grains numbers place number c.index.result.now c.self.invariant.kept.are_ready within (c.in_ok-number.ensures.lookup.1 ∙ ap (λ (ns : List ℕ). get_or ns place number) c.as_slice-ready.ensures.value) c.index.ensures)
     ∙ next ∙ ap (λ (gs : PlainGrains). ready_after gs after) c.self.view_is
