@@ -1,8 +1,7 @@
 -- Subscriptions by name: their look-up, and their streams after a change.
-use Rattle.std.proofs.Common.{◌≡◌, ◌∙◌, ◌<◌, ℕ, zero, suc, Bool, true, false, List, [], ◌∷◌, ◌++◌, length, get_or, map, Option, Some, None, is_some, if◌then◌else◌, refl, sym, ap, subst, arith, Contains, true≢false}
-use Rattle.std.specs.Prelude.{◌⊎◌, slice_get}
-use Rattle.std.specs.List.{IsDistinct, AllByRecursion}
-use Rattle.std.specs.Map.{keys_of, lookup}
+use Rattle.std.proofs.Common.{◌≡◌, ◌∙◌, ◌<◌, ℕ, zero, suc, Bool, true, false, List, [], ◌∷◌, length, get_or, map, Option, Some, None, is_some, if◌then◌else◌, refl, sym, ap, subst, arith, Contains, true≢false}
+use Rattle.std.specs.Prelude.{◌⊎◌}
+use Rattle.std.specs.Map.{lookup}
 use mathlib.Core.Logic.{inl, inr}
 use Rattle.stream_ident.specs.SubName.{same_sub}
 use Rattle.stream_ident.specs.Words.{change_at, changed_value, first_at}
@@ -10,7 +9,7 @@ use Rattle.stream_ident.specs.declared.ident.StreamId.{StreamId}
 use Rattle.stream_ident.specs.declared.ident.SubName.{SubName}
 use Rattle.stream_ident.proofs.FirstLemmas.{first_at-Some}
 use Rattle.stream_ident.proofs.WordLemmas.{changed_value-none, none_from_is_some}
-use Rattle.pubsub_registry.specs.Index.{streams_of, AreUnique}
+use Rattle.pubsub_registry.specs.Index.{streams_of}
 use Rattle.pubsub_registry.specs.Registry.{closed_registration, no_entry}
 use Rattle.pubsub_registry.specs.declared.registration.Registration.{Registration}
 use Rattle.pubsub_registry.proofs.Elements.{Contains-here, Contains-later, Contains-cases, Contains-none}
@@ -71,35 +70,27 @@ length-closed (entry ∷ entries) s =
 
 -- ---- the place of a name
 
--- what stands at the first place of a name
-value-here : (s : SubName) (names : Names) (i : ℕ) (d : SubName × Registration) → i < length names → same_sub s (get_or names i d).0 ≡ true → ((j : ℕ) → j < i → same_sub s (get_or names j d).0 ≡ false)
-    → lookup (same_sub s) names ≡ Some (get_or names i d).1
-value-here s [] i d within is before = absurd (omega arith)
-value-here s (entry ∷ entries) zero d within is before = rw is refl
-value-here s (entry ∷ entries) (suc i) d within is before =
-    rw (before 0 (omega arith)) (value-here s entries i d (omega arith) is (λ j less. before (suc j) (omega arith)))
-
-closed-here : (s : SubName) (names : Names) (i : ℕ) (d : SubName × Registration) → i < length names → same_sub s (get_or names i d).0 ≡ true → ((j : ℕ) → j < i → same_sub s (get_or names j d).0 ≡ false)
-    → change_at closed_registration i names ≡ changed_value same_sub s closed_registration names
-closed-here s [] i d within is before = absurd (omega arith)
-closed-here s (entry ∷ entries) zero d within is before = rw is refl
-closed-here s (entry ∷ entries) (suc i) d within is before =
-    rw (before 0 (omega arith)) (ap (λ (rest : Names). entry ∷ rest) (closed-here s entries i d (omega arith) is (λ j less. before (suc j) (omega arith))))
-
 abbrev pub place_in : SubName → Names → Option ℕ
 place_in s names = first_at (λ (entry : SubName × Registration). same_sub s entry.0) 0 names
 
-pub value-placed : (s : SubName) (names : Names) (i : ℕ) → place_in s names ≡ Some i → lookup (same_sub s) names ≡ Some (get_or names i no_entry).1
-value-placed s names i found =
-    let first = first_at-Some (λ (entry : SubName × Registration). same_sub s entry.0) 0 names no_entry i found in
-    let same : first.place ≡ i = (let at = first.at in omega (arith, at)) in
-    subst (λ n. lookup (same_sub s) names ≡ Some (get_or names n no_entry).1) same (value-here s names first.place no_entry first.within first.is first.before)
+-- what stands at the first place of a name, and what becomes of it
+abbrev pub StandsAt : SubName → Names → ℕ → SubName × Registration → Type 0
+StandsAt s names i d =
+    (lookup (same_sub s) names ≡ Some (get_or names i d).1) × (change_at closed_registration i names ≡ changed_value same_sub s closed_registration names)
 
-pub closed-placed : (s : SubName) (names : Names) (i : ℕ) → place_in s names ≡ Some i → change_at closed_registration i names ≡ changed_value same_sub s closed_registration names
-closed-placed s names i found =
+stands-here : (s : SubName) (names : Names) (i : ℕ) (d : SubName × Registration) → i < length names → same_sub s (get_or names i d).0 ≡ true → ((j : ℕ) → j < i → same_sub s (get_or names j d).0 ≡ false) → StandsAt s names i d
+stands-here s [] i d within is before = absurd (omega arith)
+stands-here s (entry ∷ entries) zero d within is before = (rw is refl, rw is refl)
+stands-here s (entry ∷ entries) (suc i) d within is before =
+    let apart = before 0 (omega arith) in
+    let rest = stands-here s entries i d (omega arith) is (λ j less. before (suc j) (omega arith)) in
+    (rw apart rest.0, rw apart (ap (λ (names : Names). entry ∷ names) rest.1))
+
+pub stands-placed : (s : SubName) (names : Names) (i : ℕ) → place_in s names ≡ Some i → StandsAt s names i no_entry
+stands-placed s names i found =
     let first = first_at-Some (λ (entry : SubName × Registration). same_sub s entry.0) 0 names no_entry i found in
     let same : first.place ≡ i = (let at = first.at in omega (arith, at)) in
-    subst (λ n. change_at closed_registration n names ≡ changed_value same_sub s closed_registration names) same (closed-here s names first.place no_entry first.within first.is first.before)
+    subst (λ n. StandsAt s names n no_entry) same (stands-here s names first.place no_entry first.within first.is first.before)
 
 -- a name is found where it has a value
 placed-from : (s : SubName) (n : ℕ) (names : Names) → is_some (first_at (λ (entry : SubName × Registration). same_sub s entry.0) n names) ≡ is_some (lookup (same_sub s) names)
@@ -119,26 +110,3 @@ value-unplaced s names none = none_from_is_some (lookup (same_sub s) names) (sym
 
 pub closed-unplaced : (s : SubName) (names : Names) → place_in s names ≡ None → names ≡ changed_value same_sub s closed_registration names
 closed-unplaced s names none = sym (changed_value-none same_sub s closed_registration names (value-unplaced s names none))
-
--- no name is twice among the keys of a map
-others-apart : (name : SubName) (names : Names) (i : ℕ) (entry : SubName × Registration) → AllByRecursion (λ other. same_sub name other ≡ false) (keys_of names) → slice_get names i ≡ Some entry → same_sub name entry.0 ≡ false
-others-apart name [] i entry apart at = absurd (cc)
-others-apart name (first ∷ others) zero entry apart at =
-    let is : first ≡ entry = cc in ap (λ (e : SubName × Registration). same_sub name e.0) (sym is) ∙ apart.0
-others-apart name (first ∷ others) (suc i) entry apart at = others-apart name others i entry apart.1 at
-
-pub unique-keys : (names : Names) → IsDistinct same_sub (keys_of names) → AreUnique names
-unfolding IsDistinct
-unique-keys [] distinct i j a b at-i at-j same = absurd (cc)
-unique-keys (first ∷ others) distinct zero zero a b at-i at-j same = refl
-unique-keys (first ∷ others) distinct zero (suc j) a b at-i at-j same =
-    let is : first ≡ a = cc in
-    let apart = others-apart first.0 others j b distinct.0 at-j in
-    absurd (true≢false (sym same ∙ ap (λ (e : SubName × Registration). same_sub e.0 b.0) (sym is) ∙ apart))
-unique-keys (first ∷ others) distinct (suc i) zero a b at-i at-j same =
-    let is : first ≡ b = cc in
-    let names = same_sub-equal a.0 b.0 same in
-    let apart = others-apart first.0 others i a distinct.0 at-i in
-    absurd (true≢false (sym (same_sub-refl b.0) ∙ ap (same_sub b.0) (sym names) ∙ ap (λ (e : SubName × Registration). same_sub e.0 a.0) (sym is) ∙ apart))
-unique-keys (first ∷ others) distinct (suc i) (suc j) a b at-i at-j same =
-    ap suc (unique-keys others distinct.1 i j a b at-i at-j same)

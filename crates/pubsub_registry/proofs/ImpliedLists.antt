@@ -1,9 +1,8 @@
 -- The names with those that the rules make of events: their front, and how many they are.
 use Rattle.std.proofs.Common.{◌≡◌, ◌∙◌, ℕ, zero, suc, ◌+◌, ◌*◌, ◌<◌, ◌≤◌, not, Bool, true, false, List, [], ◌∷◌, ◌++◌, length, take, get_or, fold, if◌then◌else◌, refl, ap, arith, length-append}
 use Rattle.std.proofs.lemmas.Bool.{le-ltb}
-use Rattle.std.proofs.lemmas.List.Concat.{length-flat_map}
 use Rattle.std.proofs.lemmas.List.Filters.{length-filter_both}
-use Rattle.std.proofs.lemmas.List.Sums.{fold-append}
+use Rattle.std.proofs.lemmas.List.Sums.{fold-append, sum_by-cons}
 use Rattle.std.specs.List.{flat_map}
 use Rattle.stream_ident.specs.declared.event.Event.{Event}
 use Rattle.stream_ident.specs.declared.ident.SubName.{SubName}
@@ -89,7 +88,7 @@ most-made event (rule ∷ rules) = omega (arith, most-made event rules, one, len
     one : length (made event rule) ≤ 1
     one = by (not (token_lt event.token (batch_token rule.from))) _
 
-most-implied : (rules : List Rule) (events : List Event) → length (all_implied rules events) ≤ length (flat_map (λ (event : Event). on event.stream.namespace rules) events)
+most-implied : (rules : List Rule) (events : List Event) → length (all_implied rules events) ≤ rule_count rules events
 most-implied rules [] = omega arith
 most-implied rules (event ∷ events) =
     omega (
@@ -98,28 +97,24 @@ most-implied rules (event ∷ events) =
       most-made event (on event.stream.namespace rules),
       ap length (implied-on event rules),
       length-append (flat_map (implied event) rules) (all_implied rules events),
-      length-append (on event.stream.namespace rules) (flat_map (λ (event : Event). on event.stream.namespace rules) events),
+      sum_by-cons (λ (event : Event). length (on event.stream.namespace rules)) event events,
     )
 
 -- at most one for each rule on the namespace of each event
 pub most-names_with : (rules : List Rule) (names : Names) (events : List Event) → length (names_with rules names events) ≤ length names + rule_count rules events
 most-names_with rules names events =
-    omega (arith, most-fold names (all_implied rules events), most-implied rules events, length-flat_map (λ (event : Event). on event.stream.namespace rules) events)
+    omega (arith, most-fold names (all_implied rules events), most-implied rules events)
 
 pub length-on : (namespace : List ℕ) (rules : List Rule) → length (on namespace rules) ≤ length rules
 length-on namespace rules =
     omega (arith, length-filter_both (λ (rule : Rule). same_name namespace rule.namespace) (λ (rule : Rule). not (same_name namespace rule.namespace)) (λ _. refl) rules)
 
-few-on : (rules : List Rule) (events : List Event) → length rules ≤ MOST_RULES → length (flat_map (λ (event : Event). on event.stream.namespace rules) events) ≤ MOST_RULES * length events
-few-on rules [] few = omega arith
-few-on rules (event ∷ events) few =
+pub few-rule_count : (rules : List Rule) (events : List Event) → length rules ≤ MOST_RULES → rule_count rules events ≤ MOST_RULES * length events
+few-rule_count rules [] few = omega arith
+few-rule_count rules (event ∷ events) few =
     omega (
       arith,
-      few-on rules events few,
+      few-rule_count rules events few,
       length-on event.stream.namespace rules,
-      length-append (on event.stream.namespace rules) (flat_map (λ (event : Event). on event.stream.namespace rules) events),
+      sum_by-cons (λ (event : Event). length (on event.stream.namespace rules)) event events,
     )
-
-pub few-rule_count : (rules : List Rule) (events : List Event) → length rules ≤ MOST_RULES → rule_count rules events ≤ MOST_RULES * length events
-few-rule_count rules events few =
-    omega (arith, few-on rules events few, length-flat_map (λ (event : Event). on event.stream.namespace rules) events)

@@ -5,7 +5,7 @@ use Rattle.std.specs.List.{flat_map, list_any}
 use Rattle.stream_ident.specs.declared.event.Event.{Event}
 use Rattle.stream_ident.specs.declared.ident.StreamId.{StreamId}
 use Rattle.stream_ident.specs.declared.ident.SubName.{SubName}
-use Rattle.stream_ident.specs.declared.ident.SubName.TheVariants.{Explicit, Implicit}
+use Rattle.stream_ident.specs.declared.ident.SubName.TheVariants.{Implicit}
 use Rattle.stream_ident.specs.declared.rule.Rule.{Rule}
 use Rattle.stream_ident.specs.Event.{batch_token}
 use Rattle.stream_ident.specs.Name.{same_name, same_stream}
@@ -86,23 +86,6 @@ has-of_any kind stream rules (event ∷ events) =
     by : (same : Bool) → same_stream stream event.stream ≡ same → same && makes_any kind event (on event.stream.namespace rules) ≡ same && makes_any kind event (on stream.namespace rules)
     by true same = ap (λ (s : StreamId). makes_any kind event (on s.namespace rules)) (sym (same_stream-equal stream event.stream same))
     by false apart = refl
-
--- no explicit name is made
-pub has-explicit : (number : ℕ) (rules : List Rule) (events : List Event) → has (Explicit number) (all_implied rules events) ≡ false
-has-explicit number rules [] = refl
-has-explicit number rules (event ∷ events) =
-    has-append (Explicit number) (flat_map (implied event) rules) (all_implied rules events)
-    ∙ (λ i. of_event rules i || has-explicit number rules events i)
-  where
-    of_rule : (event : Event) (rule : Rule) (holds : Bool) → has (Explicit number) (if holds then entry event rule ∷ [] else []) ≡ false
-    of_rule event rule true = refl
-    of_rule event rule false = refl
-
-    of_event : (rules : List Rule) → has (Explicit number) (flat_map (implied event) rules) ≡ false
-    of_event [] = refl
-    of_event (rule ∷ rules) =
-        has-append (Explicit number) (implied event rule) (flat_map (implied event) rules)
-        ∙ (λ i. of_rule event rule (same_name event.stream.namespace rule.namespace && not (token_lt event.token (batch_token rule.from))) i || of_event rules i)
 
 -- a name is there after the earlier events and the rules before where it was, or is made of this event, or of an earlier one
 pub has-so_far : (names : Names) (rules before : List Rule) (earlier : List Event) (event : Event) (kind : List ℕ)

@@ -1,50 +1,47 @@
 -- Registries that are sound with what the rules make of events.
-use Rattle.std.proofs.Common.{◌≡◌, ◌∙◌, ℕ, ◌≤◌, ◌||◌, Bool, true, false, List, length, Option, Some, None, is_some, refl, sym, ap, subst, Contains, true≢false}
-use Rattle.std.specs.Map.{lookup}
+use Rattle.std.proofs.Common.{◌≡◌, ℕ, ◌≤◌, ◌&&◌, not, Bool, true, false, List, [], ◌∷◌, ◌++◌, fold, length, if◌then◌else◌, sym, subst, arith}
+use Rattle.std.specs.List.{AllByRecursion, flat_map}
 use Rattle.stream_ident.specs.declared.event.Event.{Event}
-use Rattle.stream_ident.specs.declared.ident.StreamId.{StreamId}
+use Rattle.stream_ident.specs.declared.ident.SubName.{SubName}
 use Rattle.stream_ident.specs.declared.ident.SubName.TheVariants as name
-use Rattle.stream_ident.specs.SubName.{same_sub}
-use Rattle.stream_ident.proofs.NewNames.{has, has-fold}
-use Rattle.pubsub_registry.specs.Implying.{all_implied, names_with}
-use Rattle.pubsub_registry.specs.Index.{streams_of}
+use Rattle.stream_ident.specs.declared.rule.Rule.{Rule}
+use Rattle.stream_ident.specs.Event.{batch_token}
+use Rattle.stream_ident.specs.Implying.{added}
+use Rattle.stream_ident.specs.Name.{same_name}
+use Rattle.stream_ident.specs.Token.{token_lt}
+use Rattle.stream_ident.proofs.EachOf.{All-flat_map}
+use Rattle.stream_ident.proofs.NewNames.{has}
+use Rattle.pubsub_registry.specs.Implying.{all_implied, implied, names_with}
 use Rattle.pubsub_registry.specs.Registry.{PlainRegistry}
 use Rattle.pubsub_registry.specs.Sound.{IsSound}
 use Rattle.pubsub_registry.specs.declared.registration.Registration.{Registration}
-use Rattle.pubsub_registry.proofs.Entries.{Names, streams_of-found, streams_of-none}
-use Rattle.pubsub_registry.proofs.ImpliedNames.{has-explicit}
+use Rattle.pubsub_registry.proofs.Entries.{Names}
+use Rattle.pubsub_registry.proofs.ImpliedNames.{entry}
+use Rattle.pubsub_registry.proofs.SoundLemmas.{IsNumbered, numbered-push, sound-with}
 
-module _ (r : PlainRegistry) (sound : IsSound r) (events : List Event) where
-  explicit-there : (number : ℕ) → has (name.Explicit number) r.names ≡ true → number ≤ r.explicit
-  explicit-there number there = by (lookup (same_sub (name.Explicit number)) r.names) refl
-    where
-      by : (found : Option Registration) → lookup (same_sub (name.Explicit number)) r.names ≡ found → number ≤ r.explicit
-      by None is = absurd (true≢false (sym there ∙ ap is_some is))
-      by (Some registration) is = sound.numbered number registration.stream (streams_of-found r.names (name.Explicit number) registration is)
+abbrev IsImplicit : SubName × Registration → Type 0
+IsImplicit made = (number : ℕ) → made.0 ≡ name.Explicit number → ⊥
 
-  -- an explicit name among the names with those that are made was there
-  numbered-implied : (number : ℕ) (stream : StreamId) → Contains (streams_of (names_with r.rules r.names events)) (name.Explicit number, stream) → number ≤ r.explicit
-  numbered-implied number stream there = by (lookup (same_sub (name.Explicit number)) (names_with r.rules r.names events)) refl
-    where
-      none : (x : Bool) → x || false ≡ x
-      none true = refl
-      none false = refl
+-- no explicit name is made
+all-implicit : (rules : List Rule) (events : List Event) → AllByRecursion IsImplicit (all_implied rules events)
+all-implicit rules = All-flat_map IsImplicit (λ event. flat_map (implied event) rules) (λ event. All-flat_map IsImplicit (implied event) (of_rule event) rules)
+  where
+    by : (event : Event) (rule : Rule) (holds : Bool) → AllByRecursion IsImplicit (if holds then entry event rule ∷ [] else [])
+    by event rule true = (λ number same. absurd (cc), tt)
+    by event rule false = tt
 
-      was : has (name.Explicit number) (names_with r.rules r.names events) ≡ has (name.Explicit number) r.names
-      was =
-          has-fold (name.Explicit number) r.names (all_implied r.rules events)
-          ∙ ap (λ made. has (name.Explicit number) r.names || made) (has-explicit number r.rules events)
-          ∙ none (has (name.Explicit number) r.names)
+    of_rule : (event : Event) (rule : Rule) → AllByRecursion IsImplicit (implied event rule)
+    of_rule event rule = by event rule (same_name event.stream.namespace rule.namespace && not (token_lt event.token (batch_token rule.from)))
 
-      by : (found : Option Registration) → lookup (same_sub (name.Explicit number)) (names_with r.rules r.names events) ≡ found → number ≤ r.explicit
-      by None is = absurd (streams_of-none (names_with r.rules r.names events) (name.Explicit number) stream is there)
-      by (Some registration) is = explicit-there number (sym was ∙ ap is_some is)
+numbered-added : (names entries : Names) (most : ℕ) → AllByRecursion IsImplicit entries → IsNumbered names most → IsNumbered (fold added names entries) most
+numbered-added names [] most implicit numbered = numbered
+numbered-added names (made ∷ entries) most implicit numbered = numbered-added (added names made) entries most implicit.1 (by (has made.0 names))
+  where
+    by : (there : Bool) → IsNumbered (if there then names else names ++ made ∷ []) most
+    by true = numbered
+    by false = numbered-push names made.0 made.1 most most numbered (omega arith) (λ number same. absurd (implicit.0 number same))
 
-  pub sound-implied : (names : Names) → names ≡ names_with r.rules r.names events → length (names_with r.rules r.names events) ≤ r.most_names → IsSound (record r { names = names })
-  sound-implied names is fits = record {
-    names_fit = subst (λ (names : Names). length names ≤ r.most_names) (sym is) fits;
-    few_names = sound.few_names;
-    rules_fit = sound.rules_fit;
-    few_rules = sound.few_rules;
-    numbered = subst (λ (names : Names). (number : ℕ) (stream : StreamId) → Contains (streams_of names) (name.Explicit number, stream) → number ≤ r.explicit) (sym is) numbered-implied;
-  }
+pub sound-implied : (r : PlainRegistry) → IsSound r → (events : List Event) (names : Names) → names ≡ names_with r.rules r.names events → length (names_with r.rules r.names events) ≤ r.most_names → IsSound (record r { names = names })
+sound-implied r sound events names is fits =
+    subst (λ names. IsSound (record r { names = names })) (sym is)
+    (sound-with r sound (names_with r.rules r.names events) r.explicit fits (numbered-added r.names (all_implied r.rules events) r.explicit (all-implicit r.rules events) sound.numbered))

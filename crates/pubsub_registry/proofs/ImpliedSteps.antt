@@ -50,41 +50,24 @@ abbrev repeats : List Rule → List Rule → List Event → Event → List ℕ �
 repeats rules before earlier event kind =
     makes_any kind event before || list_any (λ (other : Event). same_stream event.stream other.stream && makes_any kind other rules) earlier
 
--- so where it is missing at first and is no repeat
-counts-on : (rules : List Rule) (names : Names) (earlier : List Event) (event : Event) (before : List Rule) (rule : Rule) (missing repeat : Bool)
-    → missing ≡ not (token_lt event.token (batch_token rule.from)) && not (has (Implicit rule.kind event.stream) names)
-    → repeat ≡ repeats (on event.stream.namespace rules) before earlier event rule.kind
-    → length (fold added (fold added (names_with rules names earlier) (flat_map (made event) before)) (made event rule))
-    ≡ length (fold added (names_with rules names earlier) (flat_map (made event) before)) + one_if (missing && not repeat)
-counts-on rules names earlier event before rule missing repeat is_missing is_repeat =
-    let so_far = fold added (names_with rules names earlier) (flat_map (made event) before) in
-    rule-adds so_far event rule
+-- so at a step of the walk through the rules on the event's namespace, where it isn't there at first and is no repeat
+pub step-counts : (all : List Rule) (names : Names) (earlier : List Event) (event : Event) (rules : List Rule) (i : ℕ) (rule : Rule) (new : Bool)
+    → rules ≡ on event.stream.namespace all → i < length rules → rule ≡ get_or rules i rule
+    → new ≡ (not (token_lt event.token (batch_token rule.from)) && not (has (Implicit rule.kind event.stream) names)) && not (repeats rules (take i rules) earlier event rule.kind)
+    → length (fold added (names_with all names earlier) (flat_map (made event) (take (i + 1) rules)))
+    ≡ length (fold added (names_with all names earlier) (flat_map (made event) (take i rules))) + one_if new
+step-counts all names earlier event rules i rule new are_on within is is_new =
+    let so_far = fold added (names_with all names earlier) (flat_map (made event) (take i rules)) in
+    let holds = not (token_lt event.token (batch_token rule.from)) in
+    let there = has (Implicit rule.kind event.stream) names in
+    ap length (added-more (made event) (names_with all names earlier) rules i rule within is) ∙ rule-adds so_far event rule
     ∙ ap (λ new. length so_far + one_if new) (
-    ap (λ there. not (token_lt event.token (batch_token rule.from)) && not there) (has-so_far names rules before earlier event rule.kind)
-    ∙ by (not (token_lt event.token (batch_token rule.from))) (has (Implicit rule.kind event.stream) names) (repeats (on event.stream.namespace rules) before earlier event rule.kind)
-    ∙ (λ i. sym is_missing i && not (sym is_repeat i))
+    ap (λ there. holds && not there) (has-so_far names all (take i rules) earlier event rule.kind)
+    ∙ by holds there (repeats (on event.stream.namespace all) (take i rules) earlier event rule.kind)
+    ∙ ap (λ rules'. (holds && not there) && not (repeats rules' (take i rules) earlier event rule.kind)) (sym are_on) ∙ sym is_new
     )
   where
     by : (holds there again : Bool) → holds && not (there || again) ≡ (holds && not there) && not again
     by true true again = refl
     by true false again = refl
     by false there again = refl
-
--- at a step of the walk through the rules on the event's namespace
-pub step-counts : (all : List Rule) (names : Names) (earlier : List Event) (event : Event) (rules : List Rule) (i : ℕ) (rule : Rule) (missing repeat : Bool)
-    → rules ≡ on event.stream.namespace all → i < length rules → rule ≡ get_or rules i rule
-    → missing ≡ not (token_lt event.token (batch_token rule.from)) && not (has (Implicit rule.kind event.stream) names)
-    → (missing ≡ true → repeat ≡ repeats rules (take i rules) earlier event rule.kind)
-    → length (fold added (names_with all names earlier) (flat_map (made event) (take (i + 1) rules)))
-    ≡ length (fold added (names_with all names earlier) (flat_map (made event) (take i rules))) + one_if (missing && not repeat)
-step-counts all names earlier event rules i rule missing repeat are_on within is is_missing is_repeat =
-    ap length (added-more (made event) (names_with all names earlier) rules i rule within is) ∙ by missing refl
-  where
-    by : (b : Bool) → missing ≡ b → length (fold added (fold added (names_with all names earlier) (flat_map (made event) (take i rules))) (made event rule))
-        ≡ length (fold added (names_with all names earlier) (flat_map (made event) (take i rules))) + one_if (missing && not repeat)
-    by true asked =
-        counts-on all names earlier event (take i rules) rule missing repeat is_missing (is_repeat asked ∙ ap (λ rules'. repeats rules' (take i rules) earlier event rule.kind) are_on)
-    by false unasked =
-        counts-on all names earlier event (take i rules) rule missing (repeats (on event.stream.namespace all) (take i rules) earlier event rule.kind) is_missing refl
-        ∙ ap (λ b. length (fold added (names_with all names earlier) (flat_map (made event) (take i rules))) + one_if (b && not (repeats (on event.stream.namespace all) (take i rules) earlier event rule.kind))) unasked
-        ∙ ap (λ b. length (fold added (names_with all names earlier) (flat_map (made event) (take i rules))) + one_if (b && not repeat)) (sym unasked)

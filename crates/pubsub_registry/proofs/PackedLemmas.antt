@@ -2,11 +2,14 @@
 use Rattle.std.proofs.Common.{◌≡◌, ◌∙◌, ℕ, zero, suc, ◌<◌, ◌≤◌, ◌^◌, Bool, true, false, ◌==◌, List, [], ◌∷◌, ◌++◌, length, take, get_or, map, Option, Some, None, if◌then◌else◌, insert, refl, sym, ap, subst, arith, true≢false}
 use Rattle.std.specs.List.{AllByRecursion, IsDistinct, position_or_len}
 use Rattle.std.specs.Map.{keys_of, lookup, values_of}
-use Rattle.std.specs.Prelude.{slice_get, position, nat_lt, Result, Ok, Err, IfNone, OnErr}
+use Rattle.std.specs.Prelude.{◌⊎◌, slice_get, position, nat_lt, Result, Ok, Err, IfNone, OnErr, OnOk}
 use Rattle.std.specs.declared.vec.Vec.{Vec}
-use Rattle.std.proofs.lemmas.Bool.{and_from, and_parts, eqb-true, eq-eqb, false_from_ne_true, ltb-false}
+use Rattle.std.proofs.lemmas.Bool.{and_from, and_parts, cases_order, eqb-true, eq-eqb, false_from_ne_true, ltb-false}
 use Rattle.std.proofs.lemmas.List.{append-nil, get_or_append_left, length-append, length-map, map-append}
-use Rattle.std.proofs.lemmas.Option.{get_or_from_slice_get, none-some, same_Some, slice_get-get_or, slice_get-map, slice_get_within}
+use Rattle.std.proofs.lemmas.Map.Entries.{length-keys_of}
+use Rattle.std.proofs.lemmas.Map.Keys.{apart_from_distinct}
+use mathlib.Core.Logic.{inl, inr}
+use Rattle.std.proofs.lemmas.Option.{get_or_from_slice_get, slice_get-get_or, slice_get-map, slice_get_within}
 use Rattle.std.specs.Option.{option_map}
 use Rattle.std.proofs.lemmas.List.Quantifiers.{position-Some}
 use Rattle.std.proofs.lemmas.List.Sums.{fails_before_first}
@@ -19,12 +22,12 @@ use Rattle.stream_ident.specs.declared.ident.StreamId.{StreamId}
 use Rattle.stream_ident.specs.declared.ident.SubName.{SubName}
 use Rattle.stream_ident.specs.declared.ident.SubName.TheVariants as name
 use Rattle.stream_ident.proofs.EachOf.{All-push}
-use Rattle.stream_ident.proofs.SameValues.{same_grain-refl, same_stream-equal, same_stream-refl, same_sub-equal, same_sub-refl}
+use Rattle.stream_ident.proofs.SameValues.{same_grain-refl, same_stream-refl, same_sub-equal, same_sub-refl}
 use Rattle.pubsub_registry.specs.Ascending.{IsPlaceOf}
-use Rattle.pubsub_registry.specs.Index.{names_at, IsIndexed}
+use Rattle.pubsub_registry.specs.Index.{names_at, AreUnique, IsIndexed}
 use Rattle.pubsub_registry.specs.Packed.{entries_by, entry_by, grain_at, ids_in, key_of, name_by, registration_by, same_key, stream_at, Ids, IsEntryWithin, IsGrown, IsKeyWithin, IsNameOf, IsPacked, IsRowWithin}
 use Rattle.pubsub_registry.specs.Registry.{closed_registration, no_entry}
-use Rattle.pubsub_registry.specs.Rows.{row_of, values_in, ChangesRow}
+use Rattle.pubsub_registry.specs.Rows.{row_of, values_in, ChangesRow, KeepsRows}
 use Rattle.pubsub_registry.specs.contracts.packed.KeyPartialEq.TheImpl as key_equality
 use Rattle.pubsub_registry.specs.declared.packed.Key.{Key}
 use Rattle.pubsub_registry.specs.declared.packed.Key.TheVariants.{Explicit, Implicit}
@@ -36,14 +39,8 @@ use Rattle.pubsub_registry.proofs.IndexLemmas.{indexed-push, indexed-same}
 abbrev Rows : Type 0
 Rows = List (Key × Row)
 
-pub length-keys : {K V : Type 0} (entries : List (K × V)) → length (keys_of entries) ≡ length entries
-length-keys [] = refl
-length-keys (entry ∷ entries) = ap suc (length-keys entries)
-
-pub key-slice : {K V : Type 0} (entries : List (K × V)) (n : ℕ) (key : K) (value : V) → slice_get entries n ≡ Some (key, value) → slice_get (keys_of entries) n ≡ Some key
-key-slice [] n key value at = absurd (none-some (key, value) at)
-key-slice {K} {V} (entry ∷ entries) zero key value at = ap Some (ap (λ (e : K × V). e.0) (same_Some entry (key, value) at))
-key-slice (entry ∷ entries) (suc n) key value at = key-slice entries n key value at
+pub key-slice : {K V : Type 0} (entries : List (K × V)) (n : ℕ) (entry : K × V) → slice_get entries n ≡ Some entry → slice_get (keys_of entries) n ≡ Some entry.0
+key-slice {K} {V} entries n entry at = slice_get-map (λ (e : K × V). e.0) entries n ∙ ap (option_map (λ (e : K × V). e.0)) at
 
 -- ---- the number of a key
 
@@ -64,22 +61,19 @@ module _ {K : Type 0} (same : K → K → Bool) (reflexive : (a : K) → same a 
           let other = fails_before_first (same key) keys n key (omega (arith, whole, within)) in
           true≢false (sym (reflexive key) ∙ ap (same key) (sym (get_or_from_slice_get keys n key key at)) ∙ other)
 
-  pub apart-at : (key : K) (keys : List K) (n : ℕ) → AllByRecursion (λ other. same key other ≡ false) keys → slice_get keys n ≡ Some key → ⊥
-  apart-at key [] n apart at = none-some key at
-  apart-at key (first ∷ keys) zero apart at =
-      true≢false (sym (reflexive key) ∙ ap (same key) (sym (same_Some first key at)) ∙ apart.0)
-  apart-at key (first ∷ keys) (suc n) apart at = apart-at key keys n apart.1 at
-
   -- no key has two numbers
   pub numbered-once : (keys : List K) → IsDistinct same keys → (m n : ℕ) (key : K) → slice_get keys m ≡ Some key → slice_get keys n ≡ Some key → m ≡ n
-  unfolding IsDistinct
-  numbered-once [] distinct m n key at-m at-n = absurd (none-some key at-m)
-  numbered-once (first ∷ keys) distinct zero zero key at-m at-n = refl
-  numbered-once (first ∷ keys) distinct zero (suc n) key at-m at-n =
-      absurd (apart-at first keys n distinct.0 (at-n ∙ ap Some (sym (same_Some first key at-m))))
-  numbered-once (first ∷ keys) distinct (suc m) zero key at-m at-n =
-      absurd (apart-at first keys m distinct.0 (at-m ∙ ap Some (sym (same_Some first key at-n))))
-  numbered-once (first ∷ keys) distinct (suc m) (suc n) key at-m at-n = ap suc (numbered-once keys distinct.1 m n key at-m at-n)
+  numbered-once keys distinct m n key at-m at-n = by (cases_order m n)
+    where
+      apart : (i j : ℕ) → slice_get keys i ≡ Some key → slice_get keys j ≡ Some key → i < j → ⊥
+      apart i j at-i at-j less =
+          true≢false (sym (reflexive key) ∙ (λ k. same (sym (get_or_from_slice_get keys i key key at-i) k) (sym (get_or_from_slice_get keys j key key at-j) k))
+          ∙ apart_from_distinct same keys i j key distinct less (slice_get_within keys j key at-j))
+
+      by : (m ≡ n) ⊎ ((m < n) ⊎ (n < m)) → m ≡ n
+      by (inl is) = is
+      by (inr (inl less)) = absurd (apart m n at-m at-n less)
+      by (inr (inr more)) = absurd (apart n m at-n at-m more)
 
 -- ---- some keys more
 
@@ -113,19 +107,16 @@ values-grown {K} {V} {H} test row old new empty grown = ap (λ (entries : List (
         ]
 
 -- a list is the front of another
-abbrev pub IsFront : {X : Type 0} → List X → List X → Type 0
+abbrev IsFront : {X : Type 0} → List X → List X → Type 0
 IsFront {X} old new = (more : List X) × (new ≡ old ++ more)
 
-pub front-keys : {K V : Type 0} (value : V) (old new : List (K × V)) → IsGrown value old new → IsFront (keys_of old) (keys_of new)
+front-keys : {K V : Type 0} (value : V) (old new : List (K × V)) → IsGrown value old new → IsFront (keys_of old) (keys_of new)
 front-keys {K} {V} value old new grown =
     (grown.more, ap keys_of grown.is ∙ map-append (λ (entry : K × V). entry.0) old (map (λ (key : K). (key, value)) grown.more) ∙ ap (λ (keys : List K). keys_of old ++ keys) (own grown.more))
   where
     own : (keys : List K) → keys_of (map (λ (key : K). (key, value)) keys) ≡ keys
     own [] = refl
     own (key ∷ keys) = ap (λ (rest : List K). key ∷ rest) (own keys)
-
-pub front-same : {X : Type 0} (old : List X) → IsFront old old
-front-same old = ([], sym (append-nil old))
 
 module _ {X : Type 0} (old new : List X) (front : IsFront old new) where
   front-length : length old ≤ length new
@@ -355,6 +346,10 @@ module _ (ids : Ids) where
     distinct-names (entry ∷ rows) within distinct =
         (apart-keys entry.0 within.0.0 rows within.1 distinct.0, distinct-names rows within.1 distinct.1)
 
+pub unique-keys : (names : Names) → IsDistinct same_sub (keys_of names) → AreUnique names
+unique-keys names distinct i j a b at-i at-j same =
+    numbered-once same_sub same_sub-refl (keys_of names) distinct i j a.0 (key-slice names i a at-i) (key-slice names j b at-j ∙ ap Some (sym (same_sub-equal a.0 b.0 same)))
+
 -- what is so of an option that is none
 pub if-none : {A : Type 0} (P : Type 0) (o : Option A) → P → IfNone o P
 if-none P None holds = holds
@@ -365,30 +360,38 @@ pub if-err : {T E : Type 0} (P : Type 0) (r : Result T E) → P → OnErr r P
 if-err P (Ok x) holds = tt
 if-err P (Err e) holds = holds
 
--- ---- what is kept
+-- what follows of either
+pub if-either : {T E P Q R : Type 0} (r : Result T E) → OnOk r P → OnErr r Q → (P → R) → (Q → R) → R
+if-either (Ok x) ok err first second = first ok
+if-either (Err e) ok err first second = second err
 
-pub ids-same : {H S W T : Type 0} (by_stream new : IndexMap StreamId (Vec ℕ H) S) (grains : IndexMap GrainId W T) → keys_of new.entries ≡ keys_of by_stream.entries → ids_in new grains ≡ ids_in by_stream grains
-ids-same by_stream new grains same = λ i. record { streams = same i; grains = keys_of grains.entries }
+-- ---- what is kept
 
 -- with other rows of numbers, and of names
 pub packed-rows : {H S W T : Type 0} (by_stream new : IndexMap StreamId (Vec ℕ H) S) (grains : IndexMap GrainId W T) (rows left : Rows) → keys_of new.entries ≡ keys_of by_stream.entries → IsPacked by_stream grains rows
-    → AllByRecursion (IsEntryWithin (ids_in by_stream grains)) left → IsIndexed (entries_by (ids_in by_stream grains) left) (row_of same_stream new) → IsPacked new grains left
-packed-rows by_stream new grains rows left same is within indexed = record {
-  streams_apart = subst (IsDistinct same_stream) (sym same) is.streams_apart;
-  grains_apart = is.grains_apart;
-  few_streams = let many = ap length same in let fits = is.few_streams in omega (arith, many, fits, length-keys new.entries, length-keys by_stream.entries);
-  few_grains = is.few_grains;
-  within = subst (λ (ids : Ids). AllByRecursion (IsEntryWithin ids) left) (sym (ids-same by_stream new grains same)) within;
-  indexed = subst (λ (ids : Ids). IsIndexed (entries_by ids left) (row_of same_stream new)) (sym (ids-same by_stream new grains same)) indexed;
-}
+    → AllByRecursion (IsEntryWithin (ids_in by_stream grains)) left → IsIndexed (entries_by (ids_in by_stream grains) left) (row_of same_stream new)
+    → IsPacked new grains left × (entries_by (ids_in new grains) left ≡ entries_by (ids_in by_stream grains) left)
+packed-rows by_stream new grains rows left same is within indexed =
+    let ids : ids_in new grains ≡ ids_in by_stream grains = λ i. record { streams = same i; grains = keys_of grains.entries } in (
+      record {
+        streams_apart = subst (IsDistinct same_stream) (sym same) is.streams_apart;
+        grains_apart = is.grains_apart;
+        few_streams = let many = ap length same in let fits = is.few_streams in omega (arith, many, fits, length-keys_of new.entries, length-keys_of by_stream.entries);
+        few_grains = is.few_grains;
+        within = subst (λ (ids : Ids). AllByRecursion (IsEntryWithin ids) left) (sym ids) within;
+        indexed = subst (λ (ids : Ids). IsIndexed (entries_by ids left) (row_of same_stream new)) (sym ids) indexed;
+      },
+      ap (λ (ids : Ids). entries_by ids left) ids,
+    )
 
 -- with more streams and grains, and no more names
-pub packed-grown : {H S W T : Type 0} (by_stream new : IndexMap StreamId (Vec ℕ H) S) (grains more : IndexMap GrainId W T) (rows : Rows) (row : Vec ℕ H) → row.items ≡ []
-    → IsGrown row by_stream.entries new.entries → IsFront (keys_of grains.entries) (keys_of more.entries) → IsDistinct same_stream (keys_of new.entries) → IsDistinct same_grain (keys_of more.entries)
+pub packed-grown : {H S W T : Type 0} (by_stream new : IndexMap StreamId (Vec ℕ H) S) (grains more : IndexMap GrainId W T) (rows : Rows) (row : Vec ℕ H) (unit : W) → row.items ≡ []
+    → IsGrown row by_stream.entries new.entries → IsGrown unit grains.entries more.entries → IsDistinct same_stream (keys_of new.entries) → IsDistinct same_grain (keys_of more.entries)
     → length new.entries ≤ 2 ^ 32 → length more.entries ≤ 2 ^ 32 → IsPacked by_stream grains rows
     → IsPacked new more rows × (entries_by (ids_in new more) rows ≡ entries_by (ids_in by_stream grains) rows)
-packed-grown by_stream new grains more rows row empty grown front streams_apart grains_apart few_streams few_grains is =
+packed-grown by_stream new grains more rows row unit empty grown grown_too streams_apart grains_apart few_streams few_grains is =
     let streams = front-keys row by_stream.entries new.entries grown in
+    let front = front-keys unit grains.entries more.entries grown_too in
     let old = ids_in by_stream grains in
     let ids = ids_in new more in
     let kept = entries-kept old ids streams front rows is.within in (
@@ -407,31 +410,30 @@ packed-grown by_stream new grains more rows row empty grown front streams_apart 
 
 -- ---- one more
 
-pub entries-push : (ids : Ids) (rows : Rows) (key : Key) (row : Row) (s : SubName) (registration : Registration) → name_by ids key ≡ s → registration_by ids row ≡ registration
-    → entries_by ids (rows ++ (key, row) ∷ []) ≡ entries_by ids rows ++ (s, registration) ∷ []
-entries-push ids rows key row s registration is own =
-    map-append (entry_by ids) rows ((key, row) ∷ []) ∙ (λ i. entries_by ids rows ++ (is i, own i) ∷ [])
-
-pub packed-push : {H S W T : Type 0} (by_stream new : IndexMap StreamId (Vec ℕ H) S) (grains : IndexMap GrainId W T) (rows : Rows) (key : Key) (row : Row) (s : SubName) (registration : Registration) (n number at : ℕ)
+-- its row is behind the others, and its number is in the row of its stream
+pub packed-push : {H S W T : Type 0} (by_stream new : IndexMap StreamId (Vec ℕ H) S) (grains : IndexMap GrainId W T) (rows more : Rows) (key : Key) (row : Row) (s : SubName) (registration : Registration) (at : ℕ)
     → IsPacked by_stream grains rows → IsKeyWithin (ids_in by_stream grains) key × (name_by (ids_in by_stream grains) key ≡ s)
-    → IsRowWithin (ids_in by_stream grains) row × (registration_by (ids_in by_stream grains) row ≡ registration)
-    → slice_get (keys_of by_stream.entries) n ≡ Some registration.stream → number ≡ length rows
+    → IsRowWithin (ids_in by_stream grains) row × (registration_by (ids_in by_stream grains) row ≡ registration) → slice_get (keys_of by_stream.entries) row.stream ≡ Some registration.stream
     → IsPlaceOf (names_at (keys_of (entries_by (ids_in by_stream grains) rows)) (row_of same_stream by_stream registration.stream)) s at
-    → ChangesRow same_stream n (λ row. insert row at number) by_stream new → IsPacked new grains (rows ++ (key, row) ∷ [])
-packed-push by_stream new grains rows key row s registration n number at is named own there last place changes =
+    → (more ≡ rows ++ (key, row) ∷ []) × ChangesRow same_stream row.stream (λ numbers. insert numbers at (length rows)) by_stream new
+    → IsPacked new grains more × (entries_by (ids_in new grains) more ≡ entries_by (ids_in by_stream grains) rows ++ (s, registration) ∷ [])
+packed-push by_stream new grains rows more key row s registration at is named own there place puts =
     let ids = ids_in by_stream grains in
-    packed-rows by_stream new grains rows (rows ++ (key, row) ∷ []) changes.0 is (All-push (IsEntryWithin ids) rows (key, row) is.within (named.0, own.0))
-    (subst (λ (names : Names). IsIndexed names (row_of same_stream new)) (sym (entries-push ids rows key row s registration named.1 own.1))
-    (indexed-push (entries_by ids rows) (row_of same_stream by_stream) (row_of same_stream new) s registration number (last ∙ sym (length-map rows (entry_by ids))) at is.indexed place
-    (λ other. changes.1 registration.stream other there)))
+    let pushed : entries_by ids (rows ++ (key, row) ∷ []) ≡ entries_by ids rows ++ (s, registration) ∷ [] =
+    map-append (entry_by ids) rows ((key, row) ∷ []) ∙ (λ i. entries_by ids rows ++ (named.1 i, own.1 i) ∷ []) in
+    let all = packed-rows by_stream new grains rows (rows ++ (key, row) ∷ []) puts.1.0 is (All-push (IsEntryWithin ids) rows (key, row) is.within (named.0, own.0))
+    (subst (λ (names : Names). IsIndexed names (row_of same_stream new)) (sym pushed)
+    (indexed-push (entries_by ids rows) (row_of same_stream by_stream) (row_of same_stream new) s registration (length rows) (sym (length-map rows (entry_by ids))) at is.indexed place
+    (λ other. puts.1.1 registration.stream other there))) in
+    subst (λ (more : Rows). IsPacked new grains more × (entries_by (ids_in new grains) more ≡ entries_by ids rows ++ (s, registration) ∷ [])) (sym puts.0) (all.0, all.1 ∙ pushed)
 
--- a row that is put back as it was
-pub row-same : (row : StreamId → List ℕ) (stream other : StreamId) → (if same_stream stream other then row stream else row other) ≡ row other
-row-same row stream other = by (same_stream stream other) refl
-  where
-    by : (b : Bool) → same_stream stream other ≡ b → (if b then row stream else row other) ≡ row other
-    by true same = ap row (same_stream-equal stream other same)
-    by false apart = refl
+-- what it is where nothing was changed
+pub packed-same : {H S W T : Type 0} (by_stream new : IndexMap StreamId (Vec ℕ H) S) (grains : IndexMap GrainId W T) (rows left : Rows) → IsPacked by_stream grains rows → (left ≡ rows) × KeepsRows same_stream by_stream new
+    → IsPacked new grains left × (entries_by (ids_in new grains) left ≡ entries_by (ids_in by_stream grains) rows)
+packed-same by_stream new grains rows left is keeps =
+    let ids = ids_in by_stream grains in
+    subst (λ (left : Rows). IsPacked new grains left × (entries_by (ids_in new grains) left ≡ entries_by ids rows)) (sym keeps.0)
+    (packed-rows by_stream new grains rows rows keeps.1.0 is is.within (indexed-same (entries_by ids rows) (row_of same_stream by_stream) (row_of same_stream new) is.indexed keeps.1.1))
 
 -- ---- one is closed
 
@@ -461,14 +463,6 @@ within-take ids (suc len) [] within = tt
 within-take ids (suc len) (entry ∷ rows) within = (within.0, within-take ids len rows within.1)
 
 -- ---- one of them
-
-pub entry-at : (ids : Ids) (rows : Rows) (n : ℕ) (entry : Key × Row) → slice_get rows n ≡ Some entry → (d : SubName × Registration) → get_or (entries_by ids rows) n d ≡ entry_by ids entry
-entry-at ids [] n entry found d = absurd (cc)
-entry-at ids (first ∷ rows) zero entry found d = let same : first ≡ entry = cc in ap (entry_by ids) same
-entry-at ids (first ∷ rows) (suc n) entry found d = entry-at ids rows n entry found d
-
-pub slice-at : (ids : Ids) (rows : Rows) (n : ℕ) (entry : Key × Row) → slice_get rows n ≡ Some entry → slice_get (entries_by ids rows) n ≡ Some (entry_by ids entry)
-slice-at ids rows n entry found = slice_get-map (entry_by ids) rows n ∙ ap (option_map (entry_by ids)) found
 
 pub within-at : (ids : Ids) (rows : Rows) (n : ℕ) (entry : Key × Row) → slice_get rows n ≡ Some entry → AllByRecursion (IsEntryWithin ids) rows → IsEntryWithin ids entry
 within-at ids [] n entry found within = absurd (cc)

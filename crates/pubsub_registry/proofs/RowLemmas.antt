@@ -1,82 +1,56 @@
--- The rows of a map after the row of a number was changed.
-use Rattle.std.proofs.Common.{◌≡◌, ◌∙◌, ℕ, zero, suc, Bool, true, false, List, [], ◌∷◌, Option, Some, None, if◌then◌else◌, refl, sym, ap, true≢false}
+-- The rows of the streams after the row of a number was changed.
+use Rattle.std.proofs.Common.{◌≡◌, ◌∙◌, ℕ, zero, suc, Bool, true, false, cond, List, [], ◌∷◌, Some, if◌then◌else◌, refl, sym, ap, subst}
+use Rattle.std.specs.Cmp.{IsEquivalence, decided}
 use Rattle.std.specs.List.{IsDistinct}
-use Rattle.std.specs.Map.{keys_of, lookup, values_of}
+use Rattle.std.specs.Map.{keys_of, values_of}
 use Rattle.std.specs.Prelude.{slice_get}
 use Rattle.std.specs.declared.vec.Vec.{Vec}
-use Rattle.std.proofs.lemmas.Bool.{false_from_ne_true}
+use Rattle.std.proofs.lemmas.Map.Entries.{lookup_from_place}
 use Rattle.std.proofs.lemmas.Option.{none-some, same_Some}
-use Rattle.indexmap.specs.IndexMap.{IndexMap, set_value_at, with_value_at}
-use Rattle.indexmap.proofs.CallerLemmas.{keys-with_value_at}
-use Rattle.pubsub_registry.specs.Rows.{row_of, values_in, ChangesRow}
-use Rattle.pubsub_registry.proofs.PackedLemmas.{apart-at}
+use Rattle.indexmap.specs.IndexMap.{IndexMap, get, with_value_at}
+use Rattle.indexmap.proofs.CallerLemmas.{keys-with_value_at, updates-with_value_at}
+use Rattle.stream_ident.specs.Name.{same_stream}
+use Rattle.stream_ident.specs.declared.ident.StreamId.{StreamId}
+use Rattle.stream_ident.proofs.SameValues.{same_stream-equal, same_stream-refl}
+use Rattle.pubsub_registry.specs.Rows.{row_of, values_in, ChangesRow, KeepsRows}
 
-module _ {K V H : Type 0} (same : K → K → Bool) (equal : (a b : K) → same a b ≡ true → a ≡ b) (reflexive : (a : K) → same a a ≡ true) where
-  -- a key in front of another is another
-  not-first : (first key : K) (entries : List (K × Vec V H)) (i : ℕ) → IsDistinct same (first ∷ keys_of entries) → slice_get (keys_of entries) i ≡ Some key → same key first ≡ false
-  unfolding IsDistinct
-  not-first first key entries i distinct at =
-      false_from_ne_true (same key first) (λ is. apart-at same reflexive first (keys_of entries) i distinct.0 (at ∙ ap Some (equal key first is)))
+stream_laws : IsEquivalence same_stream
+stream_laws = decided same_stream (λ a b. (same_stream-equal a b, λ same. subst (λ other. same_stream a other ≡ true) same (same_stream-refl a)))
 
-  -- the row of a number
-  row-read : (entries : List (K × Vec V H)) (i : ℕ) (key : K) (row : Vec V H) → IsDistinct same (keys_of entries) → slice_get (keys_of entries) i ≡ Some key → slice_get (values_of entries) i ≡ Some row
-      → values_in (lookup (same key) entries) ≡ row.items
-  unfolding IsDistinct
-  row-read [] i key row distinct at value = absurd (none-some key at)
-  row-read (entry ∷ entries) zero key row distinct at value =
-      let here : same key entry.0 ≡ true = ap (same key) (same_Some entry.0 key at) ∙ reflexive key in
-      ap (λ b. values_in (if b then Some entry.1 else lookup (same key) entries)) here ∙ ap (λ (v : Vec V H). v.items) (same_Some entry.1 row value)
-  row-read (entry ∷ entries) (suc i) key row distinct at value =
-      ap (λ b. values_in (if b then Some entry.1 else lookup (same key) entries)) (not-first entry.0 key entries i distinct at)
-      ∙ row-read entries i key row distinct.1 at value
+entry-of : {K V : Type 0} (entries : List (K × V)) (i : ℕ) (key : K) (value : V) → slice_get (keys_of entries) i ≡ Some key → slice_get (values_of entries) i ≡ Some value → slice_get entries i ≡ Some (key, value)
+entry-of [] i key value at there = absurd (none-some key at)
+entry-of (entry ∷ entries) zero key value at there =
+    let first = same_Some entry.0 key at in
+    let second = same_Some entry.1 value there in
+    λ i. Some (first i, second i)
+entry-of (entry ∷ entries) (suc i) key value at there = entry-of entries i key value at there
 
-  module _ (change : List V → List V) (key other : K) (row new : Vec V H) (changed : new.items ≡ change row.items) where
-    row-written : (entries : List (K × Vec V H)) (i : ℕ) → IsDistinct same (keys_of entries) → slice_get (keys_of entries) i ≡ Some key → slice_get (values_of entries) i ≡ Some row
-        → values_in (lookup (same other) (set_value_at entries i new)) ≡ (if same key other then change (values_in (lookup (same key) entries)) else values_in (lookup (same other) entries))
-    unfolding IsDistinct
-    row-written [] i distinct at value = absurd (none-some key at)
-    row-written (entry ∷ entries) zero distinct at value =
-        by (same other entry.0) (same key other) refl refl
-      where
-        first : entry.0 ≡ key
-        first = same_Some entry.0 key at
+module _ {V H S : Type 0} (rows : IndexMap StreamId (Vec V H) S) (i : ℕ) (row : Vec V H) (distinct : IsDistinct same_stream (keys_of rows.entries)) (value : slice_get (values_of rows.entries) i ≡ Some row) where
+  pub row-at : (key : StreamId) → slice_get (keys_of rows.entries) i ≡ Some key → row_of same_stream rows key ≡ row.items
+  row-at key at =
+      ap values_in (lookup_from_place stream_laws rows.entries i key row distinct (entry-of rows.entries i key row at value))
 
-        here : same key entry.0 ≡ true
-        here = ap (same key) first ∙ reflexive key
+  row-written : (new : Vec V H) (key other : StreamId) → slice_get (keys_of rows.entries) i ≡ Some key
+      → row_of same_stream (with_value_at rows i new) other ≡ (if same_stream key other then new.items else row_of same_stream rows other)
+  row-written new key other at =
+      ap values_in ((updates-with_value_at rows i new stream_laws distinct key row (entry-of rows.entries i key row at value)).0 other) ∙ by (same_stream key other)
+    where
+      by : (b : Bool) → values_in (cond b (Some new) (get same_stream rows other)) ≡ (if b then new.items else row_of same_stream rows other)
+      by true = refl
+      by false = refl
 
-        was : values_in (if same key entry.0 then Some entry.1 else lookup (same key) entries) ≡ row.items
-        was = ap (λ b. values_in (if b then Some entry.1 else lookup (same key) entries)) here ∙ ap (λ (v : Vec V H). v.items) (same_Some entry.1 row value)
+  pub changes-row : (change : List V → List V) (new : Vec V H) → new.items ≡ change row.items → ChangesRow same_stream i change rows (with_value_at rows i new)
+  changes-row change new changed = (
+    keys-with_value_at rows i new,
+    λ key other at.
+        row-written new key other at ∙ ap (λ items. if same_stream key other then items else row_of same_stream rows other) (changed ∙ ap change (sym (row-at key at))),
+  )
 
-        by : (b c : Bool) → same other entry.0 ≡ b → same key other ≡ c
-            → values_in (if b then Some new else lookup (same other) entries) ≡ (if c then change (values_in (if same key entry.0 then Some entry.1 else lookup (same key) entries)) else values_in (if b then Some entry.1 else lookup (same other) entries))
-        by true true is own = changed ∙ ap change (sym was)
-        by true false is own =
-            absurd (true≢false (sym (reflexive key) ∙ ap (same key) (sym (equal other entry.0 is ∙ first)) ∙ own))
-        by false true is own =
-            absurd (true≢false (sym here ∙ ap (λ k. same k entry.0) (equal key other own) ∙ is))
-        by false false is own = refl
-    row-written (entry ∷ entries) (suc i) distinct at value =
-        by (same other entry.0) (same key other) refl refl (row-written entries i distinct.1 at value)
-      where
-        there : same key entry.0 ≡ false
-        there = not-first entry.0 key entries i distinct at
-
-        was : values_in (if same key entry.0 then Some entry.1 else lookup (same key) entries) ≡ values_in (lookup (same key) entries)
-        was = ap (λ b. values_in (if b then Some entry.1 else lookup (same key) entries)) there
-
-        by : (b c : Bool) → same other entry.0 ≡ b → same key other ≡ c
-            → values_in (lookup (same other) (set_value_at entries i new)) ≡ (if c then change (values_in (lookup (same key) entries)) else values_in (lookup (same other) entries))
-            → values_in (if b then Some entry.1 else lookup (same other) (set_value_at entries i new)) ≡ (if c then change (values_in (if same key entry.0 then Some entry.1 else lookup (same key) entries)) else values_in (if b then Some entry.1 else lookup (same other) entries))
-        by true true is own rest =
-            absurd (true≢false (sym (reflexive key) ∙ ap (same key) (equal key other own ∙ equal other entry.0 is) ∙ there))
-        by true false is own rest = refl
-        by false true is own rest = rest ∙ ap change (sym was)
-        by false false is own rest = rest
-
-  module _ {S : Type 0} (rows : IndexMap K (Vec V H) S) (i : ℕ) (distinct : IsDistinct same (keys_of rows.entries)) where
-    pub row-at : (key : K) (row : Vec V H) → slice_get (keys_of rows.entries) i ≡ Some key → slice_get (values_of rows.entries) i ≡ Some row → row_of same rows key ≡ row.items
-    row-at key row at value = row-read rows.entries i key row distinct at value
-
-    pub changes-row : (change : List V → List V) (row new : Vec V H) → slice_get (values_of rows.entries) i ≡ Some row → new.items ≡ change row.items → ChangesRow same i change rows (with_value_at rows i new)
-    changes-row change row new value changed =
-        (keys-with_value_at rows i new, λ key other at. row-written change key other row new changed rows.entries i distinct at value)
+  -- a row that is put back as it was
+  pub keeps-rows : (new : Vec V H) → new.items ≡ row.items → (key : StreamId) → slice_get (keys_of rows.entries) i ≡ Some key → KeepsRows same_stream rows (with_value_at rows i new)
+  keeps-rows new unchanged key at =
+      (keys-with_value_at rows i new, λ other. row-written new key other at ∙ by other (same_stream key other) refl)
+    where
+      by : (other : StreamId) (b : Bool) → same_stream key other ≡ b → (if b then new.items else row_of same_stream rows other) ≡ row_of same_stream rows other
+      by other true same = unchanged ∙ sym (row-at key at) ∙ ap (row_of same_stream rows) (same_stream-equal key other same)
+      by other false apart = refl

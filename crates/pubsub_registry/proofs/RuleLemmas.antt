@@ -1,8 +1,7 @@
 -- The rows of rules by namespace, with a rule put in.
-use Rattle.std.proofs.Common.{◌≡◌, ◌∙◌, ℕ, Bool, true, false, List, [], ◌∷◌, ◌++◌, length, filter, insert, if◌then◌else◌, refl, sym, ap, true≢false}
+use Rattle.std.proofs.Common.{◌≡◌, ◌∙◌, ℕ, Bool, true, false, List, [], ◌∷◌, ◌++◌, filter, if◌then◌else◌, refl, sym, ap, true≢false}
 use Rattle.std.proofs.lemmas.Bool.{false_from_ne_true}
 use Rattle.std.proofs.lemmas.List.{append-nil}
-use Rattle.std.proofs.lemmas.List.Edits.{insert_end}
 use Rattle.std.proofs.lemmas.List.Elements.{filter-append}
 use Rattle.stream_ident.specs.Name.{same_name}
 use Rattle.stream_ident.specs.declared.rule.Rule.{Rule}
@@ -11,18 +10,18 @@ use Rattle.stream_ident.proofs.SameValues.{same_name-equal, same_name-refl}
 abbrev pub on : List ℕ → List Rule → List Rule
 on namespace rules = filter (λ (rule : Rule). same_name namespace rule.namespace) rules
 
-pub ruled-push : (old new : List ℕ → List Rule) (rules : List Rule) (rule : Rule) (at : ℕ) → ((namespace : List ℕ) → old namespace ≡ on namespace rules) → at ≡ length (old rule.namespace)
-    → ((namespace : List ℕ) → new namespace ≡ (if same_name rule.namespace namespace then insert (old rule.namespace) at rule else old namespace))
+pub ruled-push : (old new : List ℕ → List Rule) (rules : List Rule) (rule : Rule) → ((namespace : List ℕ) → old namespace ≡ on namespace rules)
+    → ((namespace : List ℕ) → new namespace ≡ (if same_name rule.namespace namespace then old rule.namespace ++ rule ∷ [] else old namespace))
     → (namespace : List ℕ) → new namespace ≡ on namespace (rules ++ rule ∷ [])
-ruled-push old new rules rule at ruled is puts namespace =
+ruled-push old new rules rule ruled puts namespace =
     puts namespace ∙ by (same_name rule.namespace namespace) refl
     ∙ sym (filter-append (λ (rule : Rule). same_name namespace rule.namespace) rules (rule ∷ []))
   where
-    by : (b : Bool) → same_name rule.namespace namespace ≡ b → (if b then insert (old rule.namespace) at rule else old namespace) ≡ on namespace rules ++ on namespace (rule ∷ [])
+    by : (b : Bool) → same_name rule.namespace namespace ≡ b → (if b then old rule.namespace ++ rule ∷ [] else old namespace) ≡ on namespace rules ++ on namespace (rule ∷ [])
     by true same =
         let equal = same_name-equal rule.namespace namespace same in
         let own : same_name namespace rule.namespace ≡ true = ap (same_name namespace) equal ∙ same_name-refl namespace in
-        ap (λ n. insert (old rule.namespace) n rule) is ∙ insert_end (old rule.namespace) rule ∙ ap (λ rules. rules ++ rule ∷ []) (ruled rule.namespace ∙ ap (λ (namespace : List ℕ). on namespace rules) equal)
+        ap (λ rules. rules ++ rule ∷ []) (ruled rule.namespace ∙ ap (λ (namespace : List ℕ). on namespace rules) equal)
         ∙ ap (λ test. on namespace rules ++ (if test then rule ∷ [] else [])) (sym own)
     by false apart =
         let other : same_name namespace rule.namespace ≡ false = false_from_ne_true _ (λ same. true≢false (sym (same_name-refl rule.namespace) ∙ ap (same_name rule.namespace) (sym (same_name-equal namespace rule.namespace same)) ∙ apart)) in

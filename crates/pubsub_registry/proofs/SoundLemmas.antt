@@ -1,5 +1,5 @@
 -- Registries that are sound after a change of the subscriptions.
-use Rattle.std.proofs.Common.{◌≡◌, ◌∙◌, ℕ, suc, ◌+◌, ◌^◌, ◌≤◌, ◌<◌, Bool, true, false, ◌||◌, nat_le, if◌then◌else◌, [], ◌∷◌, ◌++◌, length, take, drop, Option, Some, None, refl, sym, ap, subst, arith, Contains, length-append}
+use Rattle.std.proofs.Common.{◌≡◌, ◌∙◌, ℕ, suc, ◌+◌, ◌^◌, ◌≤◌, ◌<◌, Bool, true, false, ◌||◌, nat_le, if◌then◌else◌, [], ◌∷◌, ◌++◌, length, take, drop, Option, Some, None, refl, sym, ap, subst, arith, Contains, length-append, length-take}
 use Rattle.std.specs.Prelude.{◌⊎◌}
 use Rattle.std.specs.List.{take-map}
 use Rattle.std.specs.Map.{lookup}
@@ -23,7 +23,7 @@ abbrev stream_of : SubName × Registration → SubName × StreamId
 stream_of entry = (entry.0, entry.1.stream)
 
 -- each explicit number is at most this one
-abbrev IsNumbered : Names → ℕ → Type 0
+abbrev pub IsNumbered : Names → ℕ → Type 0
 IsNumbered names most = (number : ℕ) (stream : StreamId) → Contains (streams_of names) (name.Explicit number, stream) → number ≤ most
 
 -- a greater number was not given
@@ -45,7 +45,7 @@ given-number r number = by (is_full r) (nat_le (2 ^ 32) (suc r.explicit)) refl
     by false true is given = absurd (cc)
     by false false is given = (is, cc)
 
-numbered-push : (names : Names) (s : SubName) (registration : Registration) (most more : ℕ) → IsNumbered names most → most ≤ more
+pub numbered-push : (names : Names) (s : SubName) (registration : Registration) (most more : ℕ) → IsNumbered names most → most ≤ more
     → ((number : ℕ) → s ≡ name.Explicit number → number ≤ more) → IsNumbered (names ++ (s, registration) ∷ []) more
 numbered-push names s registration most more numbered rises own number stream there =
     by (Contains-push_cases (streams_of names) (s, registration.stream) (name.Explicit number, stream) (subst (λ streams. Contains streams (name.Explicit number, stream)) (map-append stream_of names ((s, registration) ∷ [])) there))
@@ -55,43 +55,32 @@ numbered-push names s registration most more numbered rises own number stream th
     by (inr same) = own number (ap (λ (p : SubName × StreamId). p.0) same)
 
 module _ (r : PlainRegistry) (sound : IsSound r) where
+  -- with other names
+  pub sound-with : (names : Names) (explicit : ℕ) → length names ≤ r.most_names → IsNumbered names explicit → IsSound (record r { names = names; explicit = explicit })
+  sound-with names explicit fits numbered = record { names_fit = fits; few_names = sound.few_names; rules_fit = sound.rules_fit; few_rules = sound.few_rules; numbered = numbered }
+
   -- one more subscription
   pub sound-push : is_full r ≡ false → (names : Names) (explicit : ℕ) (s : SubName) (registration : Registration) → names ≡ r.names ++ (s, registration) ∷ [] → r.explicit ≤ explicit
       → ((number : ℕ) → s ≡ name.Explicit number → number ≤ explicit) → IsSound (record r { names = names; explicit = explicit })
   sound-push room names explicit s registration is rises own =
       let below : length r.names < r.most_names = leb-false _ _ room in
       let more : length names ≡ length r.names + 1 = ap length is ∙ length-append r.names ((s, registration) ∷ []) in
-      record {
-        names_fit = omega (arith, more);
-        few_names = sound.few_names;
-        rules_fit = sound.rules_fit;
-        few_rules = sound.few_rules;
-        numbered = subst (λ names. IsNumbered names explicit) (sym is) (numbered-push r.names s registration r.explicit explicit sound.numbered rises own);
-      }
+      sound-with names explicit (omega (arith, more)) (subst (λ names. IsNumbered names explicit) (sym is) (numbered-push r.names s registration r.explicit explicit sound.numbered rises own))
 
   -- one is closed
   pub sound-closed : (names : Names) (s : SubName) → names ≡ changed_value same_sub s closed_registration r.names → IsSound (record r { names = names })
-  sound-closed names s is = record {
-    names_fit = let same = ap length is ∙ length-closed r.names s in let fits = sound.names_fit in omega (arith, same);
-    few_names = sound.few_names;
-    rules_fit = sound.rules_fit;
-    few_rules = sound.few_rules;
-    numbered = λ number stream there. sound.numbered number stream (subst (λ streams. Contains streams (name.Explicit number, stream)) (ap streams_of is ∙ map-closed stream_of (λ _. refl) r.names s) there);
-  }
+  sound-closed names s is =
+      let same = ap length is ∙ length-closed r.names s in
+      let fits = sound.names_fit in
+      sound-with names r.explicit (omega (arith, same)) (λ number stream there.
+      sound.numbered number stream (subst (λ streams. Contains streams (name.Explicit number, stream)) (ap streams_of is ∙ map-closed stream_of (λ _. refl) r.names s) there))
 
   -- the last ones are taken back
   pub sound-take : (names : Names) (len : ℕ) → names ≡ take len r.names → IsSound (record r { names = names })
   sound-take names len is =
-      let parts : length (take len r.names) + length (drop len r.names) ≡ length r.names = sym (length-append (take len r.names) (drop len r.names)) ∙ ap length (take-append-drop len r.names) in
       let same = ap length is in
       let fits = sound.names_fit in
       let streams = ap streams_of is ∙ sym (take-map stream_of len r.names) in
-      record {
-        names_fit = omega (arith, parts, same);
-        few_names = sound.few_names;
-        rules_fit = sound.rules_fit;
-        few_rules = sound.few_rules;
-        numbered = λ number stream there. sound.numbered number stream
-            (subst (λ streams. Contains streams (name.Explicit number, stream)) (take-append-drop len (streams_of r.names))
-            (Contains-append_left (take len (streams_of r.names)) (drop len (streams_of r.names)) (name.Explicit number, stream) (subst (λ streams. Contains streams (name.Explicit number, stream)) streams there)));
-      }
+      sound-with names r.explicit (omega (arith, same, length-take len r.names)) (λ number stream there.
+      sound.numbered number stream (subst (λ streams. Contains streams (name.Explicit number, stream)) (take-append-drop len (streams_of r.names))
+      (Contains-append_left (take len (streams_of r.names)) (drop len (streams_of r.names)) (name.Explicit number, stream) (subst (λ streams. Contains streams (name.Explicit number, stream)) streams there))))

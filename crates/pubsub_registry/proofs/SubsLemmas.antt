@@ -18,6 +18,7 @@ use Rattle.pubsub_registry.proofs.Ascending.{rises}
 use Rattle.pubsub_registry.proofs.Elements.{Contains-map}
 use Rattle.pubsub_registry.proofs.Entries.{Names, streams_of-none}
 use Rattle.pubsub_registry.proofs.IndexLemmas.{row-within, stream_in}
+use Rattle.pubsub_registry.proofs.PackedLemmas.{key-slice}
 use Rattle.stream_ident.proofs.SameValues.{same_stream-equal, same_stream-refl}
 
 -- a subscription of the stream under this name
@@ -26,9 +27,7 @@ HasEntry names s stream = (registration : Registration) × (Contains names (s, r
 
 -- the name of a subscription, by its place
 pub name-is : (names : Names) (n : ℕ) (entry : SubName × Registration) → slice_get names n ≡ Some entry → get_or (keys_of names) n (name.Explicit 0) ≡ entry.0
-name-is names n entry found =
-    let key : SubName × Registration → SubName = λ entry. entry.0 in
-    get_or_from_slice_get (keys_of names) n entry.0 (name.Explicit 0) (slice_get-map key names n ∙ ap (option_map key) found)
+name-is names n entry found = get_or_from_slice_get (keys_of names) n entry.0 (name.Explicit 0) (key-slice names n entry found)
 
 module _ (names : Names) (stream : StreamId) (row : List ℕ) (is : AreNumbersOf names stream row) where
   abbrev name_of : ℕ → SubName

@@ -17,3 +17,7 @@ abbrev pub ChangesRow : {K V H S : Type 0} → (K → K → Bool) → ℕ → (L
 ChangesRow {K} same number change old new =
     (keys_of new.entries ≡ keys_of old.entries)
     × ((key other : K) → slice_get (keys_of old.entries) number ≡ Some key → row_of same new other ≡ (if same key other then change (row_of same old key) else row_of same old other))
+
+-- no row is changed
+abbrev pub KeepsRows : {K V H S : Type 0} → (K → K → Bool) → IndexMap K (Vec V H) S → IndexMap K (Vec V H) S → Type 0
+KeepsRows {K} same old new = (keys_of new.entries ≡ keys_of old.entries) × ((other : K) → row_of same new other ≡ row_of same old other)

@@ -11,11 +11,10 @@ ghost use Rattle.stream_ident.specs.declared.event.Event.{Event};
 ghost use Rattle.stream_ident.specs.declared.rule.Rule.{Rule};
 ghost use Rattle.stream_ident.specs.Implying.{added};
 ghost use Rattle.pubsub_registry.specs.Implying.{imply, made, makes_any, names_with, rule_count};
-ghost use Rattle.pubsub_registry.specs.Registry.{registered};
 
 use crate::indexed::{Rules, Subscriptions};
 use crate::registration::Registration;
-use crate::registry::{Registry, implied_grain};
+use crate::registry::Registry;
 use crate::told::Implied;
 use partition_queue::Span;
 use queue_mapper::HeaderRef;
@@ -120,36 +119,31 @@ fn count_for_event(
     let rules = rules_on(rules, event);
     let mut count = 0;
     for (index, rule) in rules.iter().enumerate() {
-        if is_missing(subscriptions, rule, event)
-            && !is_repeat(rules, &rules[..index], earlier, event, &rule.kind)
-        {
+        if is_new(subscriptions, rules, &rules[..index], rule, earlier, event) {
             count += 1;
         }
     }
     count
 }
 
-/// Whether a rule on its namespace makes a subscription of an event, and the name isn't there.
-fn is_missing(subscriptions: &Subscriptions, rule: &Rule, event: &HeaderRef) -> bool
-    ensures { result ≡ (not (token_lt event.now.token (batch_token rule.now.from))
-        && not (is_some (value_at same_sub (SubName.Implicit rule.now.kind event.now.stream) subscriptions.now))) }
-{
-    holds_for(rule, event) && subscriptions.find(&implied_name(rule, event)).is_none()
-}
-
-/// Whether the rules before make the subscription of a kind of an event, or the rules on its namespace make
-/// it of an earlier event.
-fn is_repeat(
+/// Whether a rule on its namespace makes a subscription of an event whose name isn't there, which neither the
+/// rules before it make, nor the rules on the namespace of an earlier event.
+fn is_new(
+    subscriptions: &Subscriptions,
     rules: &[Rule],
     before: &[Rule],
+    rule: &Rule,
     earlier: &Span,
     event: &HeaderRef,
-    kind: &Name,
 ) -> bool
-    ensures { result ≡ (makes_any kind.now event.now before.now
-        || list_any (λ (other : Event). same_stream event.now.stream other.stream && makes_any kind.now other rules.now) earlier.now) }
+    ensures { result ≡ ((not (token_lt event.now.token (batch_token rule.now.from)) && not (is_some (value_at same_sub (SubName.Implicit rule.now.kind event.now.stream) subscriptions.now)))
+        && not (makes_any rule.now.kind event.now before.now
+        || list_any (λ (other : Event). same_stream event.now.stream other.stream && makes_any rule.now.kind other rules.now) earlier.now)) }
 {
-    makes(before, event, kind) || makes_of_any(rules, earlier, event.stream(), kind)
+    holds_for(rule, event)
+        && subscriptions.find(&implied_name(rule, event)).is_none()
+        && !makes(before, event, &rule.kind)
+        && !makes_of_any(rules, earlier, event.stream(), &rule.kind)
 }
 
 /// Whether the rules, which are on a stream's namespace, make its subscription of a kind of any of these
@@ -256,7 +250,12 @@ fn push_by_rule(
     if !holds_for(rule, event) || subscriptions.find(&sub).is_some() {
         return Ok(());
     }
-    subscriptions.push(alloc, &sub, &implied_registration(rule, event))
+    let start = Token {
+        seq: rule.from,
+        idx: 0,
+    };
+    let registration = Registration::implied(rule.kind, event.stream(), start);
+    subscriptions.push(alloc, &sub, &registration)
 }
 
 /// The name of the subscription that a rule makes of an event.
@@ -267,24 +266,6 @@ fn implied_name(rule: &Rule, event: &HeaderRef) -> SubName
     SubName::Implicit {
         kind: rule.kind,
         stream: *event.stream(),
-    }
-}
-
-/// The registration of the subscription that a rule makes of an event.
-#[inline(never)]
-fn implied_registration(rule: &Rule, event: &HeaderRef) -> Registration
-    ensures { result ≡ registered event.now.stream (record { kind = rule.now.kind; key = event.now.stream.key }) (batch_token rule.now.from) }
-{
-    let stream = event.stream();
-    let start = Token {
-        seq: rule.from,
-        idx: 0,
-    };
-    Registration {
-        stream: *stream,
-        grain: implied_grain(rule.kind, stream),
-        start,
-        is_open: true,
     }
 }
 

@@ -1,18 +1,19 @@
 //! The subscriptions and the rules, each with an index: the numbers of each stream's subscriptions, and the
 //! rules on each namespace.
-ghost use Rattle.std.specs.Prelude.{◌≡◌, ◌-◌, ◌<◌, [], ◌∷◌, ◌++◌, ◌&&◌, ◌≤◌, All, filter, get_or, length, take, nat_eq, not, None, Some, OnOk, OnErr, IfSome, is_some, slice_get, Contains, insert, if◌then◌else◌};
+ghost use Rattle.std.specs.Prelude.{◌≡◌, ◌-◌, ◌<◌, [], ◌∷◌, ◌++◌, ◌&&◌, ◌≤◌, filter, get_or, length, take, nat_eq, not, None, Some, OnOk, OnErr, IfSome, is_some, slice_get, Contains, insert, if◌then◌else◌};
 ghost use Rattle.std.specs.List.{list_any};
-ghost use Rattle.std.specs.Map.{keys_of};
+ghost use Rattle.std.specs.Map.{keys_of, lookup};
 ghost use Rattle.stream_ident.specs.Name.{same_stream, same_name};
 ghost use Rattle.stream_ident.specs.SubName.{same_sub};
 ghost use Rattle.stream_ident.specs.Words.{changed_value, first_at, value_at};
 ghost use Rattle.stream_ident.specs.declared.ident.StreamId.{StreamId};
 ghost use Rattle.stream_ident.specs.declared.limits.TheConstants.{MOST_SUBS};
 ghost use Rattle.stream_ident.specs.declared.rule.Rule.{Rule};
-ghost use Rattle.pubsub_registry.specs.Rows.{row_of, ChangesRow};
+ghost use Rattle.pubsub_registry.specs.Packed.{same_key};
+ghost use Rattle.pubsub_registry.specs.Rows.{row_of, ChangesRow, KeepsRows};
 ghost use Rattle.pubsub_registry.specs.Ascending.{IsAscending, IsPlaceOf};
 
-use crate::packed::{Key, Row, key_at, key_of, known_key, name_by, number_of};
+use crate::packed::{Key, Row, entry_at, key_at, key_of, known_key, name_by, row_for};
 use crate::registration::Registration;
 use crate::sub_names::SubNames;
 use indexmap::IndexMap;
@@ -46,7 +47,7 @@ impl Model for Subscriptions {
 }
 
 impl Subscriptions {
-    ghost use Rattle.pubsub_registry.specs.Index.{names_at, AreNumbersOf, AreUnique};
+    ghost use Rattle.pubsub_registry.specs.Index.{AreNumbersOf, AreUnique};
     ghost use Rattle.pubsub_registry.specs.Packed.{IsNameOf};
     ghost use Rattle.pubsub_registry.specs.Registry.{closed_registration, no_entry};
 
@@ -95,7 +96,7 @@ impl Subscriptions {
         requires { index < length self.now }
         ensures { slice_get self.now index ≡ Some result }
     {
-        let (key, row) = self.rows.get_index(index).unwrap();
+        let (key, row) = entry_at(&self.rows, index);
         let registration = Registration {
             stream: *key_at(&self.by_stream, row.stream),
             grain: *key_at(&self.grains, row.grain),
@@ -110,7 +111,7 @@ impl Subscriptions {
         requires { index < length self.now }
         ensures { result ≡ (get_or self.now index no_entry).0 }
     {
-        let (key, _) = self.rows.get_index(index).unwrap();
+        let (key, _) = entry_at(&self.rows, index);
         name_by(&self.by_stream, &self.grains, key)
     }
 
@@ -119,7 +120,7 @@ impl Subscriptions {
         requires { index < length self.now }
         ensures { result.now ≡ (get_or self.now index no_entry).1.stream }
     {
-        let (_, row) = self.rows.get_index(index).unwrap();
+        let (_, row) = entry_at(&self.rows, index);
         key_at(&self.by_stream, row.stream)
     }
 
@@ -128,7 +129,7 @@ impl Subscriptions {
         requires { index < length self.now }
         ensures { result.now ≡ (get_or self.now index no_entry).1.grain }
     {
-        let (_, row) = self.rows.get_index(index).unwrap();
+        let (_, row) = entry_at(&self.rows, index);
         key_at(&self.grains, row.grain)
     }
 
@@ -137,7 +138,7 @@ impl Subscriptions {
         requires { index < length self.now }
         ensures { result ≡ (get_or self.now index no_entry).1.start }
     {
-        let (_, row) = self.rows.get_index(index).unwrap();
+        let (_, row) = entry_at(&self.rows, index);
         row.start
     }
 
@@ -146,14 +147,6 @@ impl Subscriptions {
         ensures { AreNumbersOf self.now stream.now result.now }
     {
         row(&self.by_stream, stream)
-    }
-
-    /// The names of these numbers.
-    pub(crate) fn names_at<'a>(&'a self, numbers: &'a [u32]) -> SubNames<'a>
-        requires { All (λ number. number < length self.now) numbers.now }
-        ensures { result ≡ names_at (keys_of self.now) numbers.now }
-    {
-        SubNames::new(self, numbers)
     }
 
     /// Adds a subscription under a new name, behind the others.
@@ -173,23 +166,11 @@ impl Subscriptions {
         ensures ok { OnOk result (self.new ≡ self.old ++ (sub.now, registration.now) ∷ []) }
         ensures err { OnErr result (self.new ≡ self.old) }
     {
-        let len = self.len();
         let numbers = row(&self.by_stream, &registration.stream);
-        let at = place_of(&self.names_at(numbers), sub);
-        let stream = number_of(&mut self.by_stream, registration.stream, Vec::new(alloc))?;
-        let grain = number_of(&mut self.grains, registration.grain, ())?;
-        let row = Row {
-            stream,
-            grain,
-            start: registration.start,
-            is_open: registration.is_open,
-        };
-        self.rows.insert(key_of(sub, grain, stream), row)?;
-        if let Err(error) = put_in(&mut self.by_stream, stream, at, len as u32) {
-            self.rows.truncate(len);
-            return Err(error);
-        }
-        Ok(())
+        let at = place_of(&SubNames::new(self, numbers), sub);
+        let row = row_for(&mut self.by_stream, &mut self.grains, alloc, registration)?;
+        let key = key_of(sub, row.grain, row.stream);
+        put_row(&mut self.by_stream, &mut self.rows, key, row, at)
     }
 
     /// Closes the subscription of a name, where there is one.
@@ -218,29 +199,37 @@ impl Subscriptions {
         ensures { self.new ≡ take (length self.old - 1) self.old }
     {
         let last = self.len() - 1;
-        let (_, row) = self.rows.get_index(last).unwrap();
+        let (_, row) = entry_at(&self.rows, last);
         take_out(&mut self.by_stream, row.stream, last);
         self.rows.truncate(last);
     }
 }
 
-/// Puts a number into the row of the stream with a number, at this place in it.
+/// Adds a row under a new key behind the others, and its number to those of its stream, at this place.
 ///
 /// # Errors
-/// The call failed to allocate, and each row is as it was.
-fn put_in(
+/// The call failed to allocate, and nothing has changed.
+fn put_row(
     by_stream: &mut IndexMap<StreamId, Vec<u32>>,
-    stream: u32,
+    rows: &mut IndexMap<Key, Row>,
+    key: Key,
+    row: Row,
     at: usize,
-    number: u32,
 ) -> Result<(), AllocError>
-    requires there { stream < length (keys_of by_stream.old.entries) }
-    requires at { (key : StreamId) → slice_get (keys_of by_stream.old.entries) stream ≡ Some key → at ≤ length (row_of same_stream by_stream.old key) }
-    ensures ok { OnOk result (ChangesRow same_stream stream (λ row. insert row at number) by_stream.old by_stream.new) }
-    ensures err { OnErr result (ChangesRow same_stream stream (λ row. row) by_stream.old by_stream.new) }
+    requires few { length rows.old.entries ≤ MOST_SUBS }
+    requires new { lookup (same_key key) rows.old.entries ≡ None }
+    requires there { row.stream < length (keys_of by_stream.old.entries) }
+    requires at { (stream : StreamId) → slice_get (keys_of by_stream.old.entries) row.stream ≡ Some stream → at ≤ length (row_of same_stream by_stream.old stream) }
+    ensures ok { OnOk result ((rows.new.entries ≡ rows.old.entries ++ (key, row) ∷ []) × ChangesRow same_stream row.stream (λ numbers. insert numbers at (length rows.old.entries)) by_stream.old by_stream.new) }
+    ensures err { OnErr result ((rows.new.entries ≡ rows.old.entries) × KeepsRows same_stream by_stream.old by_stream.new) }
 {
-    let row = by_stream.get_index_mut(stream as usize).unwrap();
-    row.insert(at, number)?;
+    let number = rows.len();
+    rows.insert(key, row)?;
+    let numbers = by_stream.get_index_mut(row.stream as usize).unwrap();
+    if let Err(error) = numbers.insert(at, number as u32) {
+        rows.truncate(number);
+        return Err(error.into());
+    }
     Ok(())
 }
 
@@ -250,13 +239,6 @@ fn take_out(by_stream: &mut IndexMap<StreamId, Vec<u32>>, stream: u32, number: u
     ensures { ChangesRow same_stream stream (λ row. filter (λ n. not (nat_eq n number)) row) by_stream.old by_stream.new }
 {
     let row = by_stream.get_index_mut(stream as usize).unwrap();
-    drop_number(row, number);
-}
-
-/// Drops a number of a row.
-fn drop_number(row: &mut Vec<u32>, number: usize)
-    ensures { row.new.items ≡ filter (λ n. not (nat_eq n number)) row.old.items }
-{
     row.retain(|n| *n as usize != number);
 }
 
@@ -335,14 +317,13 @@ impl Rules {
     /// # Errors
     /// The call failed to allocate, and nothing has changed.
     #[inline(never)]
-    pub(crate) fn push(&mut self, alloc: Global, rule: Rule) -> Result<(), AllocError>
-        ensures ok { OnOk result (self.new ≡ self.old ++ rule ∷ []) }
+    pub(crate) fn push(&mut self, alloc: Global, rule: &Rule) -> Result<(), AllocError>
+        ensures ok { OnOk result (self.new ≡ self.old ++ rule.now ∷ []) }
         ensures err { OnErr result (self.new ≡ self.old) }
     {
         self.rules.reserve(1)?;
-        let at = row(&self.by_namespace, &rule.namespace).len();
-        put(&mut self.by_namespace, alloc, rule.namespace, at, rule)?;
-        self.rules.push_reserved(rule);
+        push_to(&mut self.by_namespace, alloc, rule.namespace, *rule)?;
+        self.rules.push_reserved(*rule);
         Ok(())
     }
 }
@@ -357,24 +338,22 @@ fn row<'a, K: Eq + Hash, V>(rows: &'a IndexMap<K, Vec<V>>, key: &K) -> &'a [V]
     }
 }
 
-/// Puts a value into the row of a key, at this place in it.
+/// Adds a value to the row of a key, behind the others.
 ///
 /// # Errors
 /// The call failed to allocate, and each row is as it was.
 #[inline(never)]
-fn put<K: Eq + Hash + Drop, V: Drop>(
+fn push_to<K: Eq + Hash + Drop, V: Drop>(
     rows: &mut IndexMap<K, Vec<V>>,
     alloc: Global,
     key: K,
-    at: usize,
     value: V,
 ) -> Result<(), AllocError>
-    requires { at ≤ length (row_of K.eq rows.old key) }
-    ensures ok { OnOk result ((other : K) → row_of K.eq rows.new other ≡ (if K.eq key other then insert (row_of K.eq rows.old key) at value else row_of K.eq rows.old other)) }
+    ensures ok { OnOk result ((other : K) → row_of K.eq rows.new other ≡ (if K.eq key other then row_of K.eq rows.old key ++ value ∷ [] else row_of K.eq rows.old other)) }
     ensures err { OnErr result ((other : K) → row_of K.eq rows.new other ≡ row_of K.eq rows.old other) }
 {
     if let Some(row) = rows.get_mut(&key) {
-        row.insert(at, value)?;
+        row.push(value)?;
         return Ok(());
     }
     // Most keys have one value, so the row begins with room for one.

@@ -1,14 +1,18 @@
 //! Subscriptions as they are kept: each stream and each grain once, and rows of their numbers.
-ghost use Rattle.std.specs.Prelude.{◌≡◌, ◌<◌, ◌≤◌, ◌^◌, true, Some, IfOk, IfNone, IfSome, get_or, is_some, length, position, slice_get};
-ghost use Rattle.std.specs.List.{IsDistinct};
+ghost use Rattle.std.specs.Prelude.{◌≡◌, ◌<◌, ◌≤◌, ◌^◌, List, true, Some, IfOk, IfNone, IfSome, get_or, is_some, length, position, slice_get};
+ghost use Rattle.std.specs.List.{AllByRecursion, IsDistinct};
 ghost use Rattle.std.specs.Map.{keys_of};
 ghost use Rattle.indexmap.specs.IndexMap.{get};
+ghost use Rattle.stream_ident.specs.Name.{same_stream};
+ghost use Rattle.stream_ident.specs.declared.ident.StreamId.{StreamId};
 ghost use Rattle.pubsub_registry.specs.declared.packed.Key.{Key};
-ghost use Rattle.pubsub_registry.specs.Packed.{ids_in, key_of, name_by, IsGrown, IsKeyWithin};
+ghost use Rattle.pubsub_registry.specs.declared.packed.Row.{Row};
+ghost use Rattle.pubsub_registry.specs.Packed.{entries_by, entry_by, ids_in, key_of, name_by, registration_by, Ids, IsEntryWithin, IsGrown, IsKeyWithin, IsPacked, IsRowWithin};
+ghost use Rattle.pubsub_registry.specs.Rows.{row_of};
 
-use crate::registry::implied_grain;
+use crate::registration::{Registration, implied_grain};
 use indexmap::IndexMap;
-use std::alloc::AllocError;
+use std::alloc::{AllocError, Global};
 use std::hash::Hash;
 use stream_ident::{GrainId, StreamId, SubName, Token};
 
@@ -44,6 +48,43 @@ pub(crate) fn key_at<K: Eq + Hash, V>(map: &IndexMap<K, V>, number: u32) -> &K
     key
 }
 
+/// The key and the row at a place.
+pub(crate) fn entry_at(rows: &IndexMap<Key, Row>, index: usize) -> (&Key, &Row)
+    requires { index < length rows.now.entries }
+    ensures entry { (ids : Ids) → slice_get (entries_by ids rows.now.entries) index ≡ Some (entry_by ids (result.0.now, result.1.now)) }
+    ensures within { (ids : Ids) → AllByRecursion (IsEntryWithin ids) rows.now.entries → IsEntryWithin ids (result.0.now, result.1.now) }
+{
+    rows.get_index(index).unwrap()
+}
+
+/// The row of a registration, whose stream and grain are added where they aren't there.
+///
+/// # Errors
+/// The call failed to allocate, or there are as many streams or grains as numbers. What was kept stays the same.
+pub(crate) fn row_for(
+    by_stream: &mut IndexMap<StreamId, Vec<u32>>,
+    grains: &mut IndexMap<GrainId, ()>,
+    alloc: Global,
+    registration: &Registration,
+) -> Result<Row, AllocError>
+    requires streams { length by_stream.old.entries ≤ 2 ^ 32 }
+    requires grains { length grains.old.entries ≤ 2 ^ 32 }
+    ensures stream { IfOk result (λ row. slice_get (keys_of by_stream.new.entries) row.stream ≡ Some registration.now.stream) }
+    ensures grain { IfOk result (λ row. slice_get (keys_of grains.new.entries) row.grain ≡ Some registration.now.grain) }
+    ensures own { IfOk result (λ row. IsRowWithin (ids_in by_stream.new grains.new) row × (registration_by (ids_in by_stream.new grains.new) row ≡ registration.now)) }
+    ensures rows { (stream : StreamId) → row_of same_stream by_stream.new stream ≡ row_of same_stream by_stream.old stream }
+    ensures packed { (rows : List (Key × Row)) → IsPacked by_stream.old grains.old rows → IsPacked by_stream.new grains.new rows × (entries_by (ids_in by_stream.new grains.new) rows ≡ entries_by (ids_in by_stream.old grains.old) rows) }
+{
+    let stream = number_of(by_stream, registration.stream, Vec::new(alloc))?;
+    let grain = number_of(grains, registration.grain, ())?;
+    Ok(Row {
+        stream,
+        grain,
+        start: registration.start,
+        is_open: registration.is_open,
+    })
+}
+
 /// The number of a key, where it is there.
 fn find_number<K: Eq + Hash, V>(map: &IndexMap<K, V>, key: &K) -> Option<u32>
     requires { length map.now.entries ≤ 2 ^ 32 }
@@ -60,7 +101,7 @@ fn find_number<K: Eq + Hash, V>(map: &IndexMap<K, V>, key: &K) -> Option<u32>
 /// # Errors
 /// The call failed to allocate, or there are as many keys as numbers.
 #[inline(never)]
-pub(crate) fn number_of<K: Eq + Hash + Drop, V: Drop>(
+fn number_of<K: Eq + Hash + Drop, V: Drop>(
     map: &mut IndexMap<K, V>,
     key: K,
     value: V,

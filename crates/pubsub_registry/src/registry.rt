@@ -4,8 +4,8 @@ ghost use Rattle.stream_ident.specs.declared.limits.TheConstants.{MOST_RULES, MO
 ghost use Rattle.stream_ident.specs.SubName.{same_sub};
 ghost use Rattle.stream_ident.specs.Words.{first_at, Performs};
 ghost use Rattle.stream_ident.specs.declared.ident.SubName.TheVariants.{Explicit, Implicit};
-ghost use Rattle.pubsub_registry.specs.Index.{AreNumbersOf, AreUnique, IsOn};
-ghost use Rattle.pubsub_registry.specs.Registry.{add, add_implied, add_rule, close, empty, is_full, next_number, no_entry, registered, registration_of, rules_on, truncated, AreSubsOf};
+ghost use Rattle.pubsub_registry.specs.Index.{AreUnique, IsOn};
+ghost use Rattle.pubsub_registry.specs.Registry.{add, add_implied, add_rule, close, empty, is_full, next_number, no_entry, registration_of, rules_on, truncated, AreSubsOf};
 
 use crate::indexed::{Rules, Subscriptions};
 use crate::registration::Registration;
@@ -126,12 +126,7 @@ impl Registry {
         if self.is_full() {
             return Ok(Implied::TooMany);
         }
-        let registration = Registration {
-            stream,
-            grain: implied_grain(kind, &stream),
-            start,
-            is_open: true,
-        };
+        let registration = Registration::implied(kind, &stream, start);
         let sub = SubName::Implicit { kind, stream };
         self.subscriptions.push(alloc, &sub, &registration)?;
         Ok(Implied::Implied)
@@ -191,7 +186,7 @@ impl Registry {
             namespace,
             from: seq,
         };
-        self.rules.push(alloc, rule)?;
+        self.rules.push(alloc, &rule)?;
         Ok(RuleAdded::Added)
     }
 
@@ -286,7 +281,7 @@ impl Registry {
         ensures { AreSubsOf self.now stream.now result }
     {
         let numbers = self.subscriptions.numbers_of(stream);
-        self.subscriptions.names_at(numbers)
+        SubNames::new(&self.subscriptions, numbers)
     }
 
     /// The number of a subscription of a stream, that with the least name. It costs a look-up.
@@ -312,15 +307,5 @@ impl Registry {
         ensures few { self.now.most_rules ≤ MOST_RULES }
     {
         self.rules.as_slice()
-    }
-}
-
-/// The grain of a kind with the stream's key.
-pub(crate) fn implied_grain(kind: Name, stream: &StreamId) -> GrainId
-    ensures { result ≡ record { kind = kind; key = stream.now.key } }
-{
-    GrainId {
-        kind,
-        key: stream.key,
     }
 }

@@ -1,4 +1,4 @@
-use Rattle.std.proofs.Common.{◌≡◌, ◌∙◌, ◌&&◌, not, true, refl, sym, ap, length, fold, arith}
+use Rattle.std.proofs.Common.{◌≡◌, ◌∙◌, true, sym, ap, length, fold, arith}
 use Rattle.std.proofs.lemmas.List.{take_all}
 use Rattle.std.specs.List.{flat_map}
 use Rattle.stream_ident.specs.Implying.{added}
@@ -6,28 +6,20 @@ use Rattle.pubsub_registry.specs.Implying.{made, names_with}
 use Rattle.pubsub_registry.proofs.ImpliedLists.{length-on}
 use Rattle.pubsub_registry.proofs.ImpliedSteps.{event-last, one_if, step-counts}
 use Rattle.pubsub_registry.proofs.implying.count_for_event.Goals as goal
-use Rattle.pubsub_registry.proofs.implying.count_for_event.Goals.{then-is_missing+then-not-is_repeat, else-is_missing, else-is_missing-via-then-is_missing+else-not-is_repeat, else-is_missing-via-else-is_missing}
+use Rattle.pubsub_registry.proofs.implying.count_for_event.Goals.{then-is_new, else-is_new}
 
 pub loop-index-preserved : goal.loop-index-preserved
 loop-index-preserved c =
-    let rules = c.rules_on-rules.result.now in
-    let step = step-counts c.args.rules.now c.args.subscriptions.now c.args.earlier.now c.args.event.now rules c.loop-index.index c.index-rules-index.result c.is_missing.result in
+    let more = step-counts c.args.rules.now c.args.subscriptions.now c.args.earlier.now c.args.event.now c.rules_on-rules.result.now c.loop-index.index c.index-rules-index.result c.is_new.result
+    c.rules_on-rules.ensures c.loop-index-test.true c.index-rules-index.is c.is_new.ensures in
     let counted = c.loop-index.invariant.count in
-    elim c.if-is_missing.branch [
-      | then-is_missing+then-not-is_repeat w ↦
-          let more = step w.is_repeat.result c.rules_on-rules.ensures c.loop-index-test.true c.index-rules-index.is c.is_missing.ensures (λ _. w.is_repeat.ensures) in
-          let one : one_if (c.is_missing.result && not w.is_repeat.result) ≡ 1 = rw (w.if-is_missing.true, w.if-not-is_repeat.true) refl in
+    elim c.if-is_new.branch [
+      | then-is_new w ↦
+          let one : one_if c.is_new.result ≡ 1 = ap one_if w.if-is_new.true in
           record { count = omega (arith, more, one, counted, w.count-is); bound = omega (arith, w.count-is) }
-      | else-is_missing w ↦ elim w.else-is_missing.branch [
-        | else-is_missing-via-then-is_missing+else-not-is_repeat w' ↦
-            let more = step w'.is_repeat.result c.rules_on-rules.ensures c.loop-index-test.true c.index-rules-index.is c.is_missing.ensures (λ _. w'.is_repeat.ensures) in
-            let none : one_if (c.is_missing.result && not w'.is_repeat.result) ≡ 0 = rw (w'.if-is_missing.true, w'.if-not-is_repeat.false) refl in
-            record { count = omega (arith, more, none, counted, w.count-is); bound = omega (arith, w.count-is) }
-        | else-is_missing-via-else-is_missing w' ↦
-            let more = step true c.rules_on-rules.ensures c.loop-index-test.true c.index-rules-index.is c.is_missing.ensures (λ missing. absurd (cc)) in
-            let none : one_if (c.is_missing.result && not true) ≡ 0 = rw w'.if-is_missing.false refl in
-            record { count = omega (arith, more, none, counted, w.count-is); bound = omega (arith, w.count-is) }
-      ]
+      | else-is_new w ↦
+          let none : one_if c.is_new.result ≡ 0 = ap one_if w.if-is_new.false in
+          record { count = omega (arith, more, none, counted, w.count-is); bound = omega (arith, w.count-is) }
     ]
 
 pub returns-clause-count : goal.returns-clause-count

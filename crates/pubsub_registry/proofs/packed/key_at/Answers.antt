@@ -1,15 +1,12 @@
-use Rattle.std.proofs.Common.{◌≡◌, ◌∙◌, Some, slice_get, sym, ap, arith}
+use Rattle.std.proofs.Common.{◌≡◌, ◌∙◌, Some, slice_get, sym, ap}
 use Rattle.std.specs.Map.{keys_of}
 use Rattle.std.specs.Option.{option_map}
 use Rattle.std.proofs.lemmas.Option.{get_or_from_slice_get}
-use Rattle.pubsub_registry.proofs.PackedLemmas.{key-slice, length-keys}
+use Rattle.pubsub_registry.proofs.PackedLemmas.{key-slice}
 use Rattle.pubsub_registry.proofs.packed.key_at.Goals as goal
-
-pub unwrap-requires : goal.unwrap-requires
-unwrap-requires g c = c.get_index.ensures.found.1 (omega (arith, c.requires, length-keys c.args.map.now.entries))
 
 pub returns : goal.returns
 returns g c = λ d.
     let entries = c.args.map.now.entries in
     let found : slice_get entries c.args.number ≡ Some (c.unwrap.result.0.now, c.unwrap.result.1.now) = sym c.get_index.ensures.entry ∙ ap (option_map _) c.unwrap.ensures in
-    get_or_from_slice_get (keys_of entries) c.args.number c.unwrap.result.0.now d (key-slice entries c.args.number c.unwrap.result.0.now c.unwrap.result.1.now found)
+    get_or_from_slice_get (keys_of entries) c.args.number c.unwrap.result.0.now d (key-slice entries c.args.number _ found)

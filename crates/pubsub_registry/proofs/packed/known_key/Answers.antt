@@ -1,4 +1,4 @@
-use Rattle.std.proofs.Common.{◌≡◌, ◌∙◌, List, None, Some, position, slice_get, sym, ap, subst}
+use Rattle.std.proofs.Common.{◌≡◌, ◌∙◌, None, Some, position, sym, ap, subst}
 use Rattle.std.specs.Map.{keys_of}
 use Rattle.stream_ident.specs.Name.{same_grain, same_stream}
 use Rattle.stream_ident.specs.declared.ident.GrainId.{GrainId}

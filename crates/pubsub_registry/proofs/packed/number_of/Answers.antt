@@ -1,4 +1,4 @@
-use Rattle.std.proofs.Common.{◌≡◌, ◌∙◌, ◌∷◌, [], Some, length, slice_get, length-append, refl, sym, ap, subst, arith}
+use Rattle.std.proofs.Common.{◌≡◌, ◌∙◌, ◌∷◌, [], Some, slice_get, sym, subst}
 use Rattle.std.specs.Map.{keys_of}
 use Rattle.indexmap.proofs.CallerLemmas.{insert_entry-new}
 use Rattle.stream_ident.proofs.WordLemmas.{none_from_is_some}
@@ -8,12 +8,6 @@ use Rattle.pubsub_registry.proofs.packed.number_of.Goals as goal
 pub returns-in-Some-clause-number : goal.returns-in-Some-clause-number
 returns-in-Some-clause-number g c =
     key-found _ c.requires.equal (keys_of c.args.map.now.entries) c.args.key c.in-Some.number (sym c.in-Some.ensures.number)
-
-pub returns-in-Some-clause-grown : goal.returns-in-Some-clause-grown
-returns-in-Some-clause-grown g c = grown-same c.args.value c.args.map.now.entries c.args.map.now.entries refl
-
-pub returns-then-number-clause-grown : goal.returns-then-number-clause-grown
-returns-then-number-clause-grown g c = grown-same c.args.value c.args.map.now.entries c.args.map.now.entries refl
 
 pub returns-in_err-insert-clause-grown : goal.returns-in_err-insert-clause-grown
 returns-in_err-insert-clause-grown g c =
@@ -29,10 +23,3 @@ pub returns-clause-grown : goal.returns-clause-grown
 returns-clause-grown g c =
     let added = c.in_ok-insert.ensures.entries ∙ insert_entry-new _ c.args.map.now c.args.key c.args.value (none_from_is_some _ (sym c.in_default.ensures.found)) in
     record { more = c.args.key ∷ []; is = added }
-
-pub returns-clause-few : goal.returns-clause-few
-returns-clause-few g c =
-    let added = c.in_ok-insert.ensures.entries ∙ insert_entry-new _ c.args.map.now c.args.key c.args.value (none_from_is_some _ (sym c.in_default.ensures.found)) in
-    let entries = c.args.map.now.entries in
-    let size = ap length added in
-    omega (arith, size, c.len-number.ensures.len, c.if-number.false, length-append entries ((c.args.key, c.args.value) ∷ []))

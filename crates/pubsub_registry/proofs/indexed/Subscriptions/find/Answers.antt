@@ -1,47 +1,35 @@
-use Rattle.std.proofs.Common.{◌≡◌, ◌∙◌, ◌<◌, Bool, length, is_some, sym, ap, subst}
-use Rattle.std.specs.Map.{keys_of, lookup}
+use Rattle.std.proofs.Common.{◌≡◌, ◌∙◌, ◌<◌, Bool, None, length, is_some, sym, ap, subst}
+use Rattle.std.specs.Map.{keys_of}
 use Rattle.std.specs.Prelude.{position, IfSome}
 use Rattle.std.proofs.lemmas.List.{length-map}
-use Rattle.stream_ident.specs.SubName.{same_sub}
 use Rattle.stream_ident.proofs.FirstLemmas.{position-key}
-use Rattle.pubsub_registry.specs.Packed.{entries_by, entry_by, ids_in, same_key}
+use Rattle.pubsub_registry.specs.Packed.{entry_by, ids_in, same_key}
 use Rattle.pubsub_registry.specs.declared.packed.Key.{Key}
-use Rattle.pubsub_registry.proofs.Entries.{Names, place_in, placed-valued}
+use Rattle.pubsub_registry.proofs.Entries.{place_in, placed-valued}
 use Rattle.pubsub_registry.proofs.PackedLemmas.{key_equal-is, nowhere-by, place-by}
 use Rattle.pubsub_registry.proofs.indexed.Subscriptions.find.Goals as goal
 
-pub returns-in_default-clause-place : goal.returns-in_default-clause-place
-returns-in_default-clause-place c =
-    nowhere-by (ids_in c.self.inside.by_stream c.self.inside.grains) c.args.sub.now c.in_default.ensures.none 0 c.self.inside.rows.entries c.self.invariant.within
-    ∙ ap (place_in c.args.sub.now) c.self.view_is
+pub returns-in_default : goal.returns-in_default
+returns-in_default c =
+    let sub = c.args.sub.now in
+    let place : None ≡ place_in sub c.args.self.now =
+    nowhere-by (ids_in c.self.inside.by_stream c.self.inside.grains) sub c.in_default.ensures.none 0 c.self.inside.rows.entries c.self.invariant.within ∙ ap (place_in sub) c.self.view_is in
+    record { place = place; within = tt; found = ap is_some place ∙ placed-valued sub c.args.self.now }
 
-pub returns-in_default-clause-found : goal.returns-in_default-clause-found
-returns-in_default-clause-found c =
-    let ids = ids_in c.self.inside.by_stream c.self.inside.grains in
-    ap is_some (nowhere-by ids c.args.sub.now c.in_default.ensures.none 0 c.self.inside.rows.entries c.self.invariant.within)
-    ∙ placed-valued c.args.sub.now (entries_by ids c.self.inside.rows.entries) ∙ ap (λ (names : Names). is_some (lookup (same_sub c.args.sub.now) names)) c.self.view_is
-
-pub returns-clause-place : goal.returns-clause-place
-returns-clause-place c =
+pub returns : goal.returns
+returns c =
     let ids = ids_in c.self.inside.by_stream c.self.inside.grains in
     let rows = c.self.inside.rows.entries in
+    let sub = c.args.sub.now in
     let key = c.in-Some.key in
+    let is = c.self.invariant in
+    let place : c.get_index_of.result ≡ place_in sub c.args.self.now =
     subst (λ (same : Key → Key → Bool). c.get_index_of.result ≡ position (same key) (keys_of rows)) key_equal-is c.get_index_of.ensures.index
     ∙ position-key (same_key key) rows
-    ∙ place-by ids c.self.invariant.streams_apart c.self.invariant.grains_apart c.args.sub.now key c.in-Some.ensures.some.0 c.in-Some.ensures.some.1 0 rows c.self.invariant.within
-    ∙ ap (place_in c.args.sub.now) c.self.view_is
-
-pub returns-clause-within : goal.returns-clause-within
-returns-clause-within c =
-    let ids = ids_in c.self.inside.by_stream c.self.inside.grains in
-    subst (λ n. IfSome c.get_index_of.result (λ i. i < n)) (sym (length-map c.self.inside.rows.entries (entry_by ids)) ∙ ap length c.self.view_is) c.get_index_of.ensures.within
-
-pub returns-clause-found : goal.returns-clause-found
-returns-clause-found c =
-    let ids = ids_in c.self.inside.by_stream c.self.inside.grains in
-    let rows = c.self.inside.rows.entries in
-    let key = c.in-Some.key in
-    ap is_some (subst (λ (same : Key → Key → Bool). c.get_index_of.result ≡ position (same key) (keys_of rows)) key_equal-is c.get_index_of.ensures.index
-    ∙ position-key (same_key key) rows
-    ∙ place-by ids c.self.invariant.streams_apart c.self.invariant.grains_apart c.args.sub.now key c.in-Some.ensures.some.0 c.in-Some.ensures.some.1 0 rows c.self.invariant.within)
-    ∙ placed-valued c.args.sub.now (entries_by ids rows) ∙ ap (λ (names : Names). is_some (lookup (same_sub c.args.sub.now) names)) c.self.view_is
+    ∙ place-by ids is.streams_apart is.grains_apart sub key c.in-Some.ensures.some.0 c.in-Some.ensures.some.1 0 rows is.within
+    ∙ ap (place_in sub) c.self.view_is in
+    record {
+      place = place;
+      within = subst (λ n. IfSome c.get_index_of.result (λ i. i < n)) (sym (length-map rows (entry_by ids)) ∙ ap length c.self.view_is) c.get_index_of.ensures.within;
+      found = ap is_some place ∙ placed-valued sub c.args.self.now;
+    }

@@ -1,18 +1,11 @@
-use Rattle.std.proofs.Common.{◌≡◌, ◌∙◌, Bool, length, sym, ap, subst}
+use Rattle.std.proofs.Common.{Bool, subst}
 use Rattle.std.specs.List.{IsDistinct}
 use Rattle.std.specs.Map.{keys_of}
-use Rattle.std.proofs.lemmas.List.{length-map}
 use Rattle.pubsub_registry.specs.Index.{AreUnique}
-use Rattle.pubsub_registry.specs.Packed.{entry_by, ids_in}
+use Rattle.pubsub_registry.specs.Packed.{ids_in}
 use Rattle.pubsub_registry.specs.declared.packed.Key.{Key}
-use Rattle.pubsub_registry.proofs.Entries.{unique-keys}
-use Rattle.pubsub_registry.proofs.PackedLemmas.{distinct-names, key_equal-is}
+use Rattle.pubsub_registry.proofs.PackedLemmas.{distinct-names, key_equal-is, unique-keys}
 use Rattle.pubsub_registry.proofs.indexed.Subscriptions.len.Goals as goal
-
-pub returns-clause-len : goal.returns-clause-len
-returns-clause-len c =
-    let ids = ids_in c.self.inside.by_stream c.self.inside.grains in
-    c.len.ensures.len ∙ sym (length-map c.self.inside.rows.entries (entry_by ids)) ∙ ap length c.self.view_is
 
 pub returns-clause-unique : goal.returns-clause-unique
 returns-clause-unique c =

@@ -4,9 +4,6 @@ use Rattle.pubsub_registry.specs.Registry.{PlainRegistry, next_number, registere
 use Rattle.pubsub_registry.proofs.SoundLemmas.{given-number, sound-push}
 use Rattle.pubsub_registry.proofs.registry.Registry.add.Goals as goal
 
-pub push-requires-clause-few : goal.push-requires-clause-few
-push-requires-clause-few c = omega (arith, c.self.invariant.names_fit, c.self.invariant.few_names)
-
 pub invariant_of-self-2 : goal.invariant_of-self-2
 invariant_of-self-2 c =
     let r : PlainRegistry = record { names = c.self.inside.subscriptions; explicit = c.self.inside.explicit; rules = c.self.inside.rules; most_names = c.self.inside.most_names; most_rules = c.self.inside.most_rules } in

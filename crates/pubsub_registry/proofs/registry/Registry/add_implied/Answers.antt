@@ -1,14 +1,11 @@
 use Rattle.std.proofs.Common.{◌≡◌, ◌∙◌, false, sym, subst, arith}
 use Rattle.stream_ident.specs.declared.ident.SubName.TheVariants.{Implicit}
-use Rattle.pubsub_registry.specs.Registry.{PlainRegistry, is_full, registered}
+use Rattle.pubsub_registry.specs.Registry.{PlainRegistry, is_full}
 use Rattle.pubsub_registry.proofs.SoundLemmas.{sound-push}
 use Rattle.pubsub_registry.proofs.registry.Registry.add_implied.Goals as goal
-
-pub push-requires-clause-few : goal.push-requires-clause-few
-push-requires-clause-few c = omega (arith, c.self.invariant.names_fit, c.self.invariant.few_names)
 
 pub invariant_of-self-2 : goal.invariant_of-self-2
 invariant_of-self-2 c =
     let room = subst (λ (r : PlainRegistry). is_full r ≡ false) (sym c.self.view_is) (sym c.is_full.ensures ∙ c.if-is_full.false) in
-    sound-push _ c.self.invariant room c.push.new.self c.self.inside.explicit (Implicit c.args.kind c.args.stream) (registered c.args.stream c.implied_grain.result c.args.start) c.in_ok-push.ensures.ok (omega arith)
+    sound-push _ c.self.invariant room c.push.new.self c.self.inside.explicit (Implicit c.args.kind c.args.stream) _ c.in_ok-push.ensures.ok (omega arith)
     (λ number is. absurd (cc))

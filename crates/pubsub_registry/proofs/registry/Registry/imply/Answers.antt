@@ -11,9 +11,6 @@ returns-then-is_empty-clause-performs c =
     let none : c.args.self.now.rules ≡ [] = sym (ap (λ (r : PlainRegistry). r.rules) c.self.view_is) ∙ (sym c.as_slice.ensures ∙ nil_from_length c.as_slice.result.now (omega (arith, empty))) in
     nothing-implied c.args.self.now c.args.events.now none (subst (λ (r : PlainRegistry). length r.names ≤ r.most_names) c.self.view_is c.self.invariant.names_fit)
 
-pub add_all-requires : goal.add_all-requires
-add_all-requires c = omega (arith, c.has_room.ensures.0 c.if-not-has_room.false, c.self.invariant.few_names)
-
 pub invariant_of-self-2 : goal.invariant_of-self-2
 invariant_of-self-2 c =
     let fits = c.has_room.ensures.0 c.if-not-has_room.false in

@@ -6,8 +6,8 @@ use Rattle.pubsub_registry.proofs.Entries.{Names}
 use Rattle.pubsub_registry.proofs.SubsLemmas.{numbers-within, subs-of}
 use Rattle.pubsub_registry.proofs.registry.Registry.subs_of.Goals as goal
 
-pub names_at-requires : goal.names_at-requires
-names_at-requires c =
+pub new-requires : goal.new-requires
+new-requires c =
     numbers-within c.self.inside.subscriptions c.args.stream.now c.numbers_of-numbers.result.now c.numbers_of-numbers.ensures
 
 pub returns : goal.returns
@@ -16,4 +16,4 @@ returns c =
     let row = c.numbers_of-numbers.result.now in
     let same = ap (λ (r : PlainRegistry). r.names) c.self.view_is in
     let numbers = subst (λ (names : Names). AreNumbersOf names c.args.stream.now row) same c.numbers_of-numbers.ensures in
-    subst (AreSubsOf r c.args.stream.now) (sym (c.names_at.ensures ∙ ap (λ (names : Names). names_at (keys_of names) row) same)) (subs-of r c.args.stream.now row numbers)
+    subst (AreSubsOf r c.args.stream.now) (sym (c.new.ensures ∙ ap (λ (names : Names). names_at (keys_of names) row) same)) (subs-of r c.args.stream.now row numbers)
