@@ -40,7 +40,7 @@ below-last last rank order ranking within at end =
     (sym (take-append-drop rank order) ∙ ap (λ (rest : List ℕ). take rank order ++ rest) (drop-cons order rank 0 within ∙ ap (λ (n : ℕ). n ∷ drop (suc rank) order) here))
     ∙ filter-skips (λ number. nat_lt number last) (take rank order) (drop (suc rank) order) last (le-ltb last last (omega arith))
     ∙ filter-keeps (λ number. nat_lt number last) (remove order rank) (λ i below.
-    lt-ltb (slice_index (remove order rank) i) last (omega (arith, end, length-remove order rank within, removed_within order ranking.rank_of ranking.inverse rank within at i below)))
+    lt-ltb (slice_index (remove order rank) i) last (omega (arith, end, length-remove order rank within, removed_within order ranking rank within at i below)))
 
 -- those below the lesser of two lengths
 below-twice : (len more : ℕ) (order : List ℕ) → len ≤ more → numbers_below len (numbers_below more order) ≡ numbers_below len order

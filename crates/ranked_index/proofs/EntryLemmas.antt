@@ -1,5 +1,5 @@
 -- Entries and their keys where one is added, changed or taken back.
-use Rattle.std.proofs.Common.{◌≡◌, ◌≢◌, ◌∙◌, ap, ap₂, sym, subst, ℕ, ◌+◌, ◌<◌, ◌≤◌, inl, inr, Bool, true, false, not, List, [], ◌∷◌, ◌++◌, length, get_or, take, set, Option, Some, None, nat_lt, arith, length-set, get_or-set_same, get_or-set_other}
+use Rattle.std.proofs.Common.{◌≡◌, ◌≢◌, ◌∙◌, ap, ap₂, sym, subst, ℕ, ◌+◌, ◌<◌, ◌≤◌, inl, inr, Bool, true, false, not, List, [], ◌∷◌, ◌++◌, length, get_or, take, set, Option, Some, nat_lt, arith, length-set, get_or-set_same, get_or-set_other}
 use Rattle.std.proofs.lemmas.Bool.Decides.{nat_tests}
 use Rattle.std.proofs.lemmas.Bool.{both_ways, cases_lt, cases_eq, cases_order, false_from_ne_true, not-false, not-true, not_from_false}
 use Rattle.std.proofs.lemmas.List.{get_or_append_left, get_or_default, get_or_push, get_or-take, length_push}
@@ -8,11 +8,11 @@ use Rattle.std.proofs.lemmas.Option.{slice_get-get_or}
 use Rattle.std.specs.List.{insert, remove}
 use Rattle.std.specs.List.Sorted.{IsPartitionedBy, IsPartitionPoint}
 use Rattle.std.specs.Prelude.{slice_index}
-use Rattle.ranked_index.specs.Ranked.{entry_at, is_up_to, some_up_to, AreKeys, AreRanked, IsFirstPast, IsKeySet}
+use Rattle.ranked_index.specs.Ranked.{entry_at, is_up_to, some_up_to, AreByRank, AreRanked, IsFirstPast}
 use Rattle.ranked_index.specs.Listed.{AreRising}
 use Rattle.ranked_index.specs.Ranking.{IsRanking}
 use Rattle.stream_ident.proofs.Order.{IsOrder}
-use Rattle.ranked_index.proofs.RankLemmas.{distinct_numbers, insert-before, insert-here, insert-past, placed, ranking-insert, removed_within, Placed, Before, Here, Past}
+use Rattle.ranked_index.proofs.RankLemmas.{along, distinct_numbers, insert-before, insert-here, insert-past, inserted_pairs, placed, ranking-insert, removed_within, Placed, Before, Here, Past}
 
 -- ---- an entry more
 
@@ -29,61 +29,45 @@ module _ {E : Type 0} (entries : List E) (order : List ℕ) (rank : ℕ) (entry 
   old_entry : (d : E) (i : ℕ) → i < length order → get_or more (slice_index order i) d ≡ entry_at entries order d i
   old_entry d i within = get_or_append_left entries (entry ∷ []) d (slice_index order i) (omega (arith, long, ranking.inverse.number_within i within))
 
-  entry-before : (d : E) (i : ℕ) → i < rank → entry_at more moved d i ≡ entry_at entries order d i
-  entry-before d i low = ap (λ (n : ℕ). get_or more n d) (insert-before order rank (length order) 0 fits i low) ∙ old_entry d i (omega (arith, fits))
+  new_entry : (d : E) → get_or more (length order) d ≡ entry
+  new_entry d = get_or_push entries entry d (length order) (sym long)
 
-  entry-here : (d : E) (i : ℕ) → i ≡ rank → entry_at more moved d i ≡ entry
-  entry-here d i same = ap (λ (n : ℕ). get_or more n d) (insert-here order rank (length order) 0 fits i same) ∙ get_or_push entries entry d (length order) (sym long)
-
-  entry-past : (d : E) (i j : ℕ) → i ≡ j + 1 → rank ≤ j → j < length order → entry_at more moved d i ≡ entry_at entries order d j
-  entry-past d i j next high within = ap (λ (n : ℕ). get_or more n d) (insert-past order rank (length order) 0 fits i j next high) ∙ old_entry d j within
-
-  -- the keys with that of the entry at its rank
-  pub keys-insert : (key : E → Option ℕ) (keys : List (Option ℕ)) → AreKeys key entries order keys → AreKeys key more moved (insert keys rank (key entry))
-  keys-insert key keys are = record { long = omega (arith, length-insert keys rank (key entry) inside, are.long, moved_long); key_at = λ d i within. key_at d i within (placed rank i) }
+  -- what is kept by rank, with that of the entry at its rank
+  pub by_rank-insert : {K : Type 0} (Is : E → K → Type 0) (none k : K) (row : List K) → AreByRank Is none entries order row → Is entry k → AreByRank Is none more moved (insert row rank k)
+  by_rank-insert Is none k row are is = record { long = omega (arith, length-insert row rank k inside, are.long, moved_long); row_at = λ d i within. row_at d i within (placed rank i) }
     where
-      inside : rank ≤ length keys
+      inside : rank ≤ length row
       inside = omega (arith, are.long, fits)
 
-      key_at : (d : E) (i : ℕ) → i < length moved → Placed rank i → get_or (insert keys rank (key entry)) i None ≡ key (entry_at more moved d i)
-      key_at d i within (Before low) =
-          insert-before keys rank (key entry) None inside i low ∙ are.key_at d i (omega (arith, fits)) ∙ ap key (sym (entry-before d i low))
-      key_at d i within (Here same) = insert-here keys rank (key entry) None inside i same ∙ ap key (sym (entry-here d i same))
-      key_at d i within (Past j next high) =
+      row_at : (d : E) (i : ℕ) → i < length moved → Placed rank i → Is (entry_at more moved d i) (get_or (insert row rank k) i none)
+      row_at d i within (Before low) =
+          along Is (ap (λ (n : ℕ). get_or more n d) (insert-before order rank (length order) 0 fits i low) ∙ old_entry d i (omega (arith, fits)))
+          (insert-before row rank k none inside i low) (are.row_at d i (omega (arith, fits)))
+      row_at d i within (Here same) =
+          along Is (ap (λ (n : ℕ). get_or more n d) (insert-here order rank (length order) 0 fits i same) ∙ new_entry d) (insert-here row rank k none inside i same) is
+      row_at d i within (Past j next high) =
           let below : j < length order = omega (arith, moved_long) in
-          insert-past keys rank (key entry) None inside i j next high ∙ are.key_at d j below ∙ ap key (sym (entry-past d i j next high below))
+          along Is (ap (λ (n : ℕ). get_or more n d) (insert-past order rank (length order) 0 fits i j next high) ∙ old_entry d j below)
+          (insert-past row rank k none inside i j next high) (are.row_at d j below)
 
   -- the entries with it, where it stands at the first rank past its name, which none has
   pub ranked-insert : {N : Type 0} (name : E → N) (lt same : N → N → Bool) → IsOrder lt same → AreRanked name lt entries order → IsFirstPast name lt (Some (name entry)) entries order rank
       → ((d : E) (i : ℕ) → i < length entries → same (name entry) (name (get_or entries i d)) ≡ false) → AreRanked name lt more moved
   ranked-insert {N} name lt same o are first new = record {
     long = omega (arith, moved_long, long, length_push entries entry);
-    ranking = ranking-insert order ranking.rank_of ranking.inverse rank fits;
-    rises = λ d i j less within. rises d i j less within (placed rank i) (placed rank j);
+    ranking = ranking-insert order ranking rank fits;
+    rises = λ d.
+        inserted_pairs order rank (length order) fits (λ m n. Less (get_or more m d) (get_or more n d))
+        (λ i j less within. along Less (old_entry d i (omega arith)) (old_entry d j within) (are.rises d i j less within))
+        (λ i low.
+        let within : i < length order = omega (arith, fits) in
+        along Less (old_entry d i within) (new_entry d)
+        (o.rest (name entry) (name (entry_at entries order d i)) (first.before d i low) (new d (slice_index order i) (omega (arith, long, ranking.inverse.number_within i within)))))
+        (λ i high within. along Less (new_entry d) (old_entry d i within) (first.past d i high within));
   }
     where
       Less : E → E → Type 0
       Less a b = lt (name a) (name b) ≡ true
-
-      along : (a a' b b' : E) → a ≡ a' → b ≡ b' → Less a' b' → Less a b
-      along a a' b b' is is' less = ap₂ (λ (a b : E). lt (name a) (name b)) is is' ∙ less
-
-      rises : (d : E) (i j : ℕ) → i < j → j < length moved → Placed rank i → Placed rank j → Less (entry_at more moved d i) (entry_at more moved d j)
-      rises d i j less within (Before a) (Before b) = along _ _ _ _ (entry-before d i a) (entry-before d j b) (are.rises d i j less (omega (arith, fits)))
-      rises d i j less within (Before a) (Here b) =
-          along _ _ _ _ (entry-before d i a) (entry-here d j b)
-          (o.rest (name entry) (name (entry_at entries order d i)) (first.before d i a) (new d (slice_index order i) (omega (arith, long, ranking.inverse.number_within i (omega (arith, fits))))))
-      rises d i j less within (Before a) (Past k next high) =
-          let below : k < length order = omega (arith, moved_long) in along _ _ _ _ (entry-before d i a) (entry-past d j k next high below) (are.rises d i k (omega arith) below)
-      rises d i j less within (Here a) (Before b) = absurd (omega arith)
-      rises d i j less within (Here a) (Here b) = absurd (omega arith)
-      rises d i j less within (Here a) (Past k next high) =
-          let below : k < length order = omega (arith, moved_long) in along _ _ _ _ (entry-here d i a) (entry-past d j k next high below) (first.past d k high below)
-      rises d i j less within (Past h next high) (Before b) = absurd (omega arith)
-      rises d i j less within (Past h next high) (Here b) = absurd (omega arith)
-      rises d i j less within (Past h next high) (Past k next' high') =
-          let below : k < length order = omega (arith, moved_long) in
-          along _ _ _ _ (entry-past d i h next high (omega arith)) (entry-past d j k next' high' below) (are.rises d h k (omega arith) below)
 
 -- ---- another entry under a number
 
@@ -92,37 +76,37 @@ module _ {E : Type 0} (entries : List E) (order : List ℕ) (number : ℕ) (entr
   other = set entries number entry
 
   -- of the same name
+  pub name_kept : {N : Type 0} (name : E → N) → ((d : E) → name entry ≡ name (get_or entries number d)) → (d : E) (i : ℕ) → name (get_or other i d) ≡ name (get_or entries i d)
+  name_kept name same d i =
+      elim (cases_eq i number) [
+        | inl here ↦
+            ap (λ (k : ℕ). name (get_or other k d)) here ∙ ap name (get_or-set_same entries number entry d within)
+            ∙ same d ∙ ap (λ (k : ℕ). name (get_or entries k d)) (sym here)
+        | inr there ↦ ap name (get_or-set_other entries number i entry d there)
+      ]
+
   pub ranked-set : {N : Type 0} (name : E → N) (lt : N → N → Bool) → ((d : E) → name entry ≡ name (get_or entries number d)) → AreRanked name lt entries order → AreRanked name lt other order
   ranked-set name lt same are = record {
     long = are.long ∙ sym (length-set entries number entry);
     ranking = are.ranking;
-    rises = λ d low high less below. ap₂ lt (name_same d (slice_index order low)) (name_same d (slice_index order high)) ∙ are.rises d low high less below;
+    rises = λ d low high less below. ap₂ lt (name_kept name same d (slice_index order low)) (name_kept name same d (slice_index order high)) ∙ are.rises d low high less below;
   }
-    where
-      name_same : (d : E) (i : ℕ) → name (get_or other i d) ≡ name (get_or entries i d)
-      name_same d i =
-          elim (cases_eq i number) [
-            | inl here ↦
-                ap (λ (k : ℕ). name (get_or other k d)) here ∙ ap name (get_or-set_same entries number entry d within)
-                ∙ same d ∙ ap (λ (k : ℕ). name (get_or entries k d)) (sym here)
-            | inr there ↦ ap name (get_or-set_other entries number i entry d there)
-          ]
 
-  -- with its key at the rank of the number
-  pub keys-set : IsRanking order → (key : E → Option ℕ) (keys new : List (Option ℕ)) → IsKeySet order number (key entry) keys new → AreKeys key entries order keys → AreKeys key other order new
-  keys-set ranking key keys new at are = record {
-    long = ap length at.is ∙ length-set keys at.rank (key entry) ∙ are.long;
-    key_at = λ d i below.
-        ap (λ (ks : List (Option ℕ)). get_or ks i None) at.is
-        ∙ elim (cases_eq i at.rank) [
-          | inl here ↦
-              ap (λ (k : ℕ). get_or (set keys at.rank (key entry)) k None) here ∙ get_or-set_same keys at.rank (key entry) None (omega (arith, are.long, at.within))
-              ∙ ap key (sym (ap (λ (n : ℕ). get_or other n d) (ap (slice_index order) here ∙ at.at) ∙ get_or-set_same entries number entry d within))
-          | inr there ↦
-              let isnt : slice_index order i ≢ number = λ same. there (distinct_numbers order ranking.rank_of ranking.inverse i at.rank below at.within (same ∙ sym at.at)) in
-              get_or-set_other keys at.rank i (key entry) None there ∙ are.key_at d i below
-              ∙ ap key (sym (get_or-set_other entries number (slice_index order i) entry d isnt))
-        ];
+  -- what is kept by rank, with that of the entry at the rank of the number
+  pub by_rank-set : {K : Type 0} (Is : E → K → Type 0) (none k : K) (row : List K) → IsRanking order → AreByRank Is none entries order row → (rank : ℕ) → rank < length order → slice_index order rank ≡ number → Is entry k
+      → AreByRank Is none other order (set row rank k)
+  by_rank-set Is none k row ranking are rank inside at is = record {
+    long = length-set row rank k ∙ are.long;
+    row_at = λ d i below. elim (cases_eq i rank) [
+      | inl here ↦
+          along Is
+          (ap (λ (n : ℕ). get_or other n d) (ap (slice_index order) here ∙ at) ∙ get_or-set_same entries number entry d within)
+          (ap (λ (n : ℕ). get_or (set row rank k) n none) here ∙ get_or-set_same row rank k none (omega (arith, are.long)))
+          is
+      | inr there ↦
+          let isnt : slice_index order i ≢ number = λ same. there (distinct_numbers order ranking.rank_of ranking.inverse i rank below inside (same ∙ sym at)) in
+          along Is (get_or-set_other entries number (slice_index order i) entry d isnt) (get_or-set_other row rank i k none there) (are.row_at d i below)
+    ];
   }
 
 -- ---- the last entry taken back
@@ -138,7 +122,7 @@ module _ {E : Type 0} (entries : List E) (order : List ℕ) (last rank : ℕ) (r
   shorter_long = omega (arith, length-remove order rank within, end)
 
   inside : (i : ℕ) → i < last → slice_index shorter i < last
-  inside i below = omega (arith, shorter_long, removed_within order ranking.rank_of ranking.inverse rank within at i (omega (arith, shorter_long)))
+  inside i below = omega (arith, shorter_long, removed_within order ranking rank within at i (omega (arith, shorter_long)))
 
   entry-low : (d : E) (i : ℕ) → i < rank → i < last → entry_at fewer shorter d i ≡ entry_at entries order d i
   entry-low d i low below =
@@ -148,15 +132,15 @@ module _ {E : Type 0} (entries : List E) (order : List ℕ) (last rank : ℕ) (r
   entry-high d i high below =
       get_or-take last entries (slice_index shorter i) d (inside i below) ∙ ap (λ (n : ℕ). get_or entries n d) (get_or-remove_above order rank 0 i high within)
 
-  pub keys-remove : (key : E → Option ℕ) (keys : List (Option ℕ)) → AreKeys key entries order keys → AreKeys key fewer shorter (remove keys rank)
-  keys-remove key keys are = record {
-    long = omega (arith, length-remove keys rank (omega (arith, are.long)), are.long, shorter_long, end);
-    key_at = λ d i below.
-        let fits : rank < length keys = omega (arith, are.long) in
+  pub by_rank-remove : {K : Type 0} (Is : E → K → Type 0) (none : K) (row : List K) → AreByRank Is none entries order row → AreByRank Is none fewer shorter (remove row rank)
+  by_rank-remove Is none row are = record {
+    long = omega (arith, length-remove row rank (omega (arith, are.long)), are.long, shorter_long, end);
+    row_at = λ d i below.
+        let fits : rank < length row = omega (arith, are.long) in
         let i_below : i < last = omega (arith, shorter_long) in
         elim (cases_lt i rank) [
-          | inl low ↦ get_or-remove_below keys rank None i low fits ∙ are.key_at d i (omega (arith, end)) ∙ ap key (sym (entry-low d i low i_below))
-          | inr high ↦ get_or-remove_above keys rank None i high fits ∙ are.key_at d (i + 1) (omega (arith, end)) ∙ ap key (sym (entry-high d i high i_below))
+          | inl low ↦ along Is (entry-low d i low i_below) (get_or-remove_below row rank none i low fits) (are.row_at d i (omega (arith, end)))
+          | inr high ↦ along Is (entry-high d i high i_below) (get_or-remove_above row rank none i high fits) (are.row_at d (i + 1) (omega (arith, end)))
         ];
   }
 

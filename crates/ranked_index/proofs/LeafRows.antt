@@ -1,60 +1,57 @@
 -- Leaves and their keys where one is added, changed or taken back.
-use Rattle.std.proofs.Common.{◌≡◌, ◌∙◌, ℕ, zero, suc, ◌+◌, ◌<◌, ◌≤◌, inl, inr, Bool, true, false, List, [], ◌∷◌, ◌++◌, length, get_or, take, set, map, Option, Some, None, refl, sym, ap, subst, arith, length-append, length-set, get_or-set_same, get_or-set_other}
-use Rattle.std.proofs.lemmas.Bool.{both_ways, cases_lt, cases_eq, eq-eqb, eqb-true, le-leb, lt-leb}
-use Rattle.std.proofs.lemmas.List.{get_or_append_left, get_or_at, get_or_default, get_or-map, get_or-take, length-map, length_push, length-take-le, same_lists}
+use Rattle.std.proofs.Common.{◌≡◌, ◌∙◌, ℕ, zero, suc, ◌+◌, ◌<◌, ◌≤◌, Bool, true, false, List, [], ◌∷◌, ◌++◌, length, get_or, take, set, map, Option, Some, None, refl, sym, ap, subst, arith, length-set}
+use Rattle.std.proofs.lemmas.Bool.{le-leb, lt-leb}
+use Rattle.std.proofs.lemmas.List.{get_or_default, get_or-map, length-map, length_push, length-take-le, same_lists}
 use Rattle.std.proofs.lemmas.List.Edits.{length-insert, length-remove}
 use Rattle.std.proofs.lemmas.List.FromFn.{get_or-map-range_with_len, length-range_with_len}
 use Rattle.std.specs.List.{insert, remove, range_with_len}
-use Rattle.std.specs.Prelude.{slice_index, unwrap_or, ◌==◌}
-use Rattle.stream_ident.proofs.FirstLemmas.{first_at-None, first_at-Some}
-use Rattle.stream_ident.specs.Words.{first_at}
-use Rattle.ranked_index.specs.Keys.{filled, is_at_most}
-use Rattle.ranked_index.specs.Ranked.{AreKeys, IsKeySet}
-use Rattle.ranked_index.specs.Ranking.{IsRanking}
-use Rattle.ranked_index.proofs.EntryLemmas.{keys-insert, keys-remove, keys-set}
-use Rattle.ranked_index.proofs.RankLemmas.{ranking-insert, ranking-remove}
+use Rattle.std.specs.Option.{option_map}
+use Rattle.std.specs.Prelude.{slice_index}
+use Rattle.stream_ident.specs.Words.{or_else}
+use Rattle.ranked_index.specs.Keys.{filled, first_at_most, is_at_most, least_place}
+use Rattle.ranked_index.specs.Ranked.{AreKeys}
+use Rattle.ranked_index.proofs.EntryLemmas.{by_rank-insert, by_rank-remove, by_rank-set}
+use Rattle.ranked_index.proofs.RankLemmas.{rank_in-is, ranking-insert, ranking-remove}
 use Rattle.ranked_index.specs.declared.resumes.Leaf.{Leaf}
-use Rattle.ranked_index.specs.Leaves.{keys_by_rank, leaf_with, leaves_filled, no_leaf, open_leaf, PlainResumes}
-use Rattle.ranked_index.specs.Ranks.{due_at, due_key, leaf_at, leaves_by, rank_in, resume_key, AreKept, IsTold}
-
--- the rank that is found has the number
-rank_in-is : (order : List ℕ) → IsRanking order → (number : ℕ) → number < length order → (rank_in order number < length order) × (slice_index order (rank_in order number) ≡ number)
-rank_in-is order ranking number within = by (first_at (λ other. other == number) 0 order) refl
-  where
-    by : (found : Option ℕ) → first_at (λ other. other == number) 0 order ≡ found → (unwrap_or found 0 < length order) × (slice_index order (unwrap_or found 0) ≡ number)
-    by None none =
-        let rank = ranking.rank_of number in
-        absurd (both_ways (slice_index order rank == number) (first_at-None (λ other. other == number) 0 order 0 none rank (ranking.inverse.rank_within number within))
-        (eq-eqb (slice_index order rank) number (ranking.inverse.forth number within)))
-    by (Some rank) is =
-        let met = first_at-Some (λ other. other == number) 0 order 0 rank is in
-        let here : rank ≡ met.place = omega (arith, met.at) in
-        (omega (arith, met.within), ap (slice_index order) here ∙ eqb-true (slice_index order met.place) number met.is)
+use Rattle.ranked_index.specs.Leaves.{due_from, keys_by_rank, leaf_with, leaves_filled, no_leaf, top, PlainResumes}
+use Rattle.ranked_index.specs.Ranks.{due_at, due_key, leaf_of, leaves_by, rank_in, resume_key, AreKept, IsLeaf}
+use Rattle.ranked_index.specs.Tree.{key_in, key_of, no_node}
+use Rattle.ranked_index.specs.declared.tree.Key.{Key}
+use Rattle.ranked_index.specs.declared.tree.Key.TheVariants.{Resume, Due}
+use Rattle.ranked_index.specs.declared.tree.Node.{Node}
 
 -- leaves that the keys fit are those of the keys
-leaves_by-are : (leaves : List Leaf) (order : List ℕ) (resumes due : List (Option ℕ)) → AreKept leaves order resumes due → leaves ≡ leaves_by order resumes due
-leaves_by-are leaves order resumes due are =
-    same_lists leaves (leaves_by order resumes due) (omega (arith, are.long, length-map (range_with_len 0 (length order)) (leaf_at order resumes due), length-range_with_len 0 (length order)))
+leaves_by-are : (leaves : List Leaf) (order : List ℕ) (row : List Node) → AreKept leaves order row → leaves ≡ leaves_by order row
+leaves_by-are leaves order row are =
+    let at_number : ℕ → Leaf = λ number. leaf_of (get_or row (rank_in order number) no_node) in
+    same_lists leaves (leaves_by order row) (omega (arith, are.long, length-map (range_with_len 0 (length order)) at_number, length-range_with_len 0 (length order)))
     (λ number d within.
     let in_order : number < length order = omega (arith, are.long) in
-    let rank = rank_in order number in
     let at = rank_in-is order are.ranking number in_order in
-    let resume : (get_or leaves number d).resume ≡ get_or resumes rank None = sym (are.resumes_are.key_at d rank at.0 ∙ ap (λ (n : ℕ). resume_key (get_or leaves n d)) at.1) in
-    let told : (get_or leaves number d).is_unacknowledged ≡ is_at_most 0 (get_or due rank None) =
-    are.told d number within ∙ ap (is_at_most 0) (sym (are.due_are.key_at d rank at.0 ∙ ap (λ (n : ℕ). due_key (get_or leaves n d)) at.1)) in
-    (λ i. record { resume = resume i; is_unacknowledged = told i })
-    ∙ sym (get_or-map-range_with_len (leaf_at order resumes due) 0 (length order) number number d in_order (omega arith)))
+    ap (λ (n : ℕ). get_or leaves n d) (sym at.1) ∙ sym (are.kept.row_at d (rank_in order number) at.0).is
+    ∙ sym (get_or-map-range_with_len at_number 0 (length order) number number d in_order (omega arith)))
 
 -- what a contract sees of the keys
-pub view-is : (leaves : List Leaf) (order : List ℕ) (resumes due : List (Option ℕ)) → AreKept leaves order resumes due
-    → ◌≡◌ {A = PlainResumes} (record { leaves = leaves_by order resumes due; order = order }) (record { leaves = leaves; order = order })
-view-is leaves order resumes due are = λ i. record { leaves = sym (leaves_by-are leaves order resumes due are) i; order = order }
+pub view-is : (leaves : List Leaf) (order : List ℕ) (row : List Node) → AreKept leaves order row
+    → ◌≡◌ {A = PlainResumes} (record { leaves = leaves_by order row; order = order }) (record { leaves = leaves; order = order })
+view-is leaves order row are = λ i. record { leaves = sym (leaves_by-are leaves order row are) i; order = order }
 
-pub kept-again : (leaves : List Leaf) (order : List ℕ) (resumes due : List (Option ℕ)) → AreKept leaves order resumes due → AreKept (leaves_by order resumes due) order resumes due
-kept-again leaves order resumes due are = subst (λ (leaves : List Leaf). AreKept leaves order resumes due) (leaves_by-are leaves order resumes due are) are
+pub kept-again : (leaves : List Leaf) (order : List ℕ) (row : List Node) → AreKept leaves order row → AreKept (leaves_by order row) order row
+kept-again leaves order row are = subst (λ (leaves : List Leaf). AreKept leaves order row) (leaves_by-are leaves order row are) are
+
+-- a key of the nodes is that of the leaves by rank
+keys-are : (by : Key) (key : Leaf → Option ℕ) → ((leaf : Leaf) (node : Node) → IsLeaf leaf node → key_in by node ≡ key leaf) → (leaves : List Leaf) (order : List ℕ) (row : List Node) → AreKept leaves order row
+    → AreKeys key leaves order (map (key_in by) row)
+keys-are by key same leaves order row are = record {
+  long = length-map row (key_in by) ∙ are.kept.long;
+  key_at = λ d rank within. get_or-map (key_in by) row rank no_node None (omega (arith, are.kept.long)) ∙ same _ _ (are.kept.row_at d rank within);
+}
+
+pub resumes-are : (leaves : List Leaf) (order : List ℕ) (row : List Node) → AreKept leaves order row → AreKeys resume_key leaves order (map (key_in Resume) row)
+resumes-are = keys-are Resume resume_key (λ leaf node is. ap resume_key is.is)
 
 -- the keys are those of the leaves by rank
-pub keys-ranked : (key : Leaf → Option ℕ) (leaves : List Leaf) (order : List ℕ) (keys : List (Option ℕ)) → AreKeys key leaves order keys → keys ≡ keys_by_rank key (record { leaves = leaves; order = order })
+keys-ranked : (key : Leaf → Option ℕ) (leaves : List Leaf) (order : List ℕ) (keys : List (Option ℕ)) → AreKeys key leaves order keys → keys ≡ keys_by_rank key (record { leaves = leaves; order = order })
 keys-ranked key leaves order keys are =
     let at : ℕ → Option ℕ = λ number. key (get_or leaves number no_leaf) in
     same_lists keys (map at order) (are.long ∙ sym (length-map order at))
@@ -62,10 +59,16 @@ keys-ranked key leaves order keys are =
     let below : rank < length order = omega (arith, are.long) in
     get_or_default keys rank d None within ∙ are.key_at no_leaf rank below ∙ sym (get_or-map at order rank 0 d below))
 
-told-with : (resume : Option ℕ) (is_unacknowledged : Bool) → IsTold (leaf_with resume is_unacknowledged)
-told-with None is_unacknowledged = refl
-told-with (Some resume) true = sym (le-leb 0 0 (omega arith))
-told-with (Some resume) false = sym (lt-leb (resume + 1) 0 (omega arith))
+pub top-ranked : (leaves : List Leaf) (order : List ℕ) (row : List Node) → AreKept leaves order row
+    → option_map (slice_index order) (least_place (map (key_in Resume) row)) ≡ top (record { leaves = leaves; order = order })
+top-ranked leaves order row are =
+    ap (λ (keys : List (Option ℕ)). option_map (slice_index order) (least_place keys)) (keys-ranked resume_key leaves order (map (key_in Resume) row) (resumes-are leaves order row are))
+
+pub due-ranked : (leaves : List Leaf) (order : List ℕ) (row : List Node) (from high : ℕ) → AreKept leaves order row
+    → option_map (slice_index order) (or_else (first_at_most from high (map (key_in Due) row)) (first_at_most 0 high (map (key_in Due) row))) ≡ due_from from high (record { leaves = leaves; order = order })
+due-ranked leaves order row from high are =
+    ap (λ (keys : List (Option ℕ)). option_map (slice_index order) (or_else (first_at_most from high keys) (first_at_most 0 high keys)))
+    (keys-ranked due_key leaves order (map (key_in Due) row) (keys-are Due due_key (λ leaf node is. is.due) leaves order row are))
 
 -- a closed leaf has nothing to acknowledge, which its key doesn't tell
 pub due-with : (resume : Option ℕ) (is_unacknowledged : Bool) → due_at resume is_unacknowledged ≡ due_key (leaf_with resume is_unacknowledged)
@@ -73,71 +76,49 @@ due-with None is_unacknowledged = refl
 due-with (Some resume) true = refl
 due-with (Some resume) false = refl
 
-module _ (leaves : List Leaf) (order : List ℕ) (resumes due : List (Option ℕ)) (are : AreKept leaves order resumes due) where
+told-with : (resume : Option ℕ) (is_unacknowledged : Bool) → is_at_most 0 (due_at resume is_unacknowledged) ≡ (leaf_with resume is_unacknowledged).is_unacknowledged
+told-with None is_unacknowledged = refl
+told-with (Some resume) true = le-leb 0 0 (omega arith)
+told-with (Some resume) false = lt-leb (resume + 1) 0 (omega arith)
+
+-- the keys of a leaf
+pub is_leaf : (resume : Option ℕ) (is_unacknowledged : Bool) (node : Node) → key_of node.resume ≡ resume → key_of node.due ≡ due_at resume is_unacknowledged → IsLeaf (leaf_with resume is_unacknowledged) node
+is_leaf resume is_unacknowledged node resumes due =
+    let told : is_at_most 0 (key_of node.due) ≡ (leaf_with resume is_unacknowledged).is_unacknowledged = ap (is_at_most 0) due ∙ told-with resume is_unacknowledged in
+    record { is = λ i. record { resume = resumes i; is_unacknowledged = told i }; due = due ∙ due-with resume is_unacknowledged }
+
+module _ (leaves : List Leaf) (order : List ℕ) (row : List Node) (are : AreKept leaves order row) where
   -- one leaf more
-  pub kept-push : (rank resume : ℕ) → rank ≤ length order
-      → AreKept (leaves ++ leaf_with (Some resume) false ∷ []) (insert order rank (length order)) (insert resumes rank (Some resume)) (insert due rank (Some (resume + 1)))
-  kept-push rank resume fits = record {
+  pub kept-push : (rank : ℕ) (leaf : Leaf) (node : Node) → IsLeaf leaf node → rank ≤ length order → AreKept (leaves ++ leaf ∷ []) (insert order rank (length order)) (insert row rank node)
+  kept-push rank leaf node is fits = record {
     long = omega (arith, are.long, length-insert order rank (length order) fits, length_push leaves leaf);
-    ranking = ranking-insert order are.ranking.rank_of are.ranking.inverse rank fits;
-    resumes_are = keys-insert leaves order rank leaf are.long are.ranking fits resume_key resumes are.resumes_are;
-    due_are = keys-insert leaves order rank leaf are.long are.ranking fits due_key due are.due_are;
-    told = λ d number within. elim (cases_lt number (length leaves)) [
-      | inl old ↦ subst IsTold (sym (get_or_append_left leaves (leaf ∷ []) d number old)) (are.told d number old)
-      | inr last ↦ subst IsTold (sym (get_or_at leaves leaf [] d number (omega (arith, length-append leaves (leaf ∷ []))))) (told-with (Some resume) false)
-    ];
+    ranking = ranking-insert order are.ranking rank fits;
+    kept = by_rank-insert leaves order rank leaf are.long are.ranking fits IsLeaf no_node node row are.kept is;
   }
-    where
-      leaf : Leaf
-      leaf = leaf_with (Some resume) false
 
   -- another leaf
-  pub kept-set : (number : ℕ) (resume : Option ℕ) (is_unacknowledged : Bool) → number < length leaves → (resumes' due' : List (Option ℕ))
-      → IsKeySet order number resume resumes resumes' → IsKeySet order number (due_at resume is_unacknowledged) due due' → AreKept (set leaves number (leaf_with resume is_unacknowledged)) order resumes' due'
-  kept-set number resume is_unacknowledged within resumes' due' resume_set due_set = record {
+  pub kept-set : (number rank : ℕ) (leaf : Leaf) (node : Node) → IsLeaf leaf node → number < length leaves → rank < length order → slice_index order rank ≡ number → AreKept (set leaves number leaf) order (set row rank node)
+  kept-set number rank leaf node is within inside at = record {
     long = are.long ∙ sym (length-set leaves number leaf);
     ranking = are.ranking;
-    resumes_are = keys-set leaves order number leaf within are.ranking resume_key resumes resumes' resume_set are.resumes_are;
-    due_are = keys-set leaves order number leaf within are.ranking due_key due due'
-        (subst (λ (key : Option ℕ). IsKeySet order number key due due') (due-with resume is_unacknowledged) due_set) are.due_are;
-    told = λ d i inside. elim (cases_eq i number) [
-      | inl here ↦ subst IsTold (sym (ap (λ (k : ℕ). get_or (set leaves number leaf) k d) here ∙ get_or-set_same leaves number leaf d within)) (told-with resume is_unacknowledged)
-      | inr there ↦ subst IsTold (sym (get_or-set_other leaves number i leaf d there)) (are.told d i (omega (arith, length-set leaves number leaf)))
-    ];
+    kept = by_rank-set leaves order number leaf within IsLeaf no_node node row are.ranking are.kept rank inside at is;
   }
-    where
-      leaf : Leaf
-      leaf = leaf_with resume is_unacknowledged
 
   -- the last leaf taken back
-  pub kept-pop : (last rank : ℕ) → rank < length order → slice_index order rank + 1 ≡ length order → last + 1 ≡ length order → AreKept (take last leaves) (remove order rank) (remove resumes rank) (remove due rank)
+  pub kept-pop : (last rank : ℕ) → rank < length order → slice_index order rank + 1 ≡ length order → last + 1 ≡ length order → AreKept (take last leaves) (remove order rank) (remove row rank)
   kept-pop last rank within at end = record {
     long = omega (arith, length-remove order rank within, end, length-take-le last leaves (omega (arith, are.long)));
-    ranking = ranking-remove order are.ranking.rank_of are.ranking.inverse rank within at;
-    resumes_are = keys-remove leaves order last rank are.ranking within at end resume_key resumes are.resumes_are;
-    due_are = keys-remove leaves order last rank are.ranking within at end due_key due are.due_are;
-    told = λ d number below.
-        let low : number < last = omega (arith, length-take-le last leaves (omega (arith, are.long))) in
-        subst IsTold (sym (get_or-take last leaves number d low)) (are.told d number (omega (arith, are.long)));
+    ranking = ranking-remove order are.ranking rank within at;
+    kept = by_rank-remove leaves order last rank are.ranking within at end IsLeaf no_node row are.kept;
   }
 
 -- the same leaf at ranks that follow one another
-kept-filled : (leaves : List Leaf) (order : List ℕ) (resumes due : List (Option ℕ)) → AreKept leaves order resumes due → (from count resume : ℕ) → from + count ≤ length order
-    → AreKept (leaves_filled order from count (open_leaf resume) leaves) order (filled from count (Some resume) resumes) (filled from count (Some (resume + 1)) due)
-kept-filled leaves order resumes due are from zero resume fits = are
-kept-filled leaves order resumes due are from (suc count) resume fits =
+pub kept-filled : (leaves : List Leaf) (order : List ℕ) (row : List Node) → AreKept leaves order row → (from count : ℕ) (leaf : Leaf) (node : Node) → IsLeaf leaf node → from + count ≤ length order
+    → AreKept (leaves_filled order from count leaf leaves) order (filled from count node row)
+kept-filled leaves order row are from zero leaf node is fits = are
+kept-filled leaves order row are from (suc count) leaf node is fits =
     let rank = from + count in
     let within : rank < length order = omega arith in
-    let old = leaves_filled order from count (open_leaf resume) leaves in
-    let before : AreKept old order (filled from count (Some resume) resumes) (filled from count (Some (resume + 1)) due) = kept-filled leaves order resumes due are from count resume (omega arith) in
-    let inside : slice_index order rank < length old = omega (arith, before.long, before.ranking.inverse.number_within rank within) in
-    kept-set old order (filled from count (Some resume) resumes) (filled from count (Some (resume + 1)) due) before (slice_index order rank) (Some resume) false inside
-    (filled from (suc count) (Some resume) resumes) (filled from (suc count) (Some (resume + 1)) due)
-    (record { rank = rank; within = within; at = refl; is = refl }) (record { rank = rank; within = within; at = refl; is = refl })
-
-pub filled-kept : (leaves : List Leaf) (order : List ℕ) (resumes due resumes' due' : List (Option ℕ)) → AreKept leaves order resumes due → (from count resume : ℕ) → from + count ≤ length order
-    → resumes' ≡ filled from count (Some resume) resumes → due' ≡ filled from count (Some (resume + 1)) due → AreKept (leaves_filled order from count (open_leaf resume) leaves) order resumes' due'
-filled-kept leaves order resumes due resumes' due' are from count resume fits resumes_are due_are =
-    subst (λ (keys : List (Option ℕ)). AreKept (leaves_filled order from count (open_leaf resume) leaves) order keys due') (sym resumes_are)
-    (subst (λ (keys : List (Option ℕ)). AreKept (leaves_filled order from count (open_leaf resume) leaves) order (filled from count (Some resume) resumes) keys) (sym due_are)
-    (kept-filled leaves order resumes due are from count resume fits))
+    let before = kept-filled leaves order row are from count leaf node is (omega arith) in
+    kept-set (leaves_filled order from count leaf leaves) order (filled from count node row) before (slice_index order rank) rank leaf node is
+    (omega (arith, before.long, before.ranking.inverse.number_within rank within)) within refl

@@ -61,21 +61,28 @@ pub least_key-is : (keys : List (Option ℕ)) → IsLeast (least_key keys) keys
 least_key-is [] = record { met = λ key same. absurd (cc); lower = λ i key within same. absurd (omega arith) }
 least_key-is (key ∷ keys) = least_more key (least_key keys) keys (least_key-is keys)
 
+-- there is one least
+pub least-same : (a b : Option ℕ) (keys : List (Option ℕ)) → IsLeast a keys → IsLeast b keys → a ≡ b
+least-same None None keys is is' = refl
+least-same None (Some n) keys is is' =
+    let at = is'.met n refl in
+    let low = is.lower at.at n at.within at.is in let none : None ≡ Some low.low = low.is in absurd (cc)
+least-same (Some m) None keys is is' =
+    let at = is.met m refl in
+    let low = is'.lower at.at m at.within at.is in let none : None ≡ Some low.low = low.is in absurd (cc)
+least-same (Some m) (Some n) keys is is' =
+    let at = is'.met n refl in
+    let low = is.lower at.at n at.within at.is in
+    let at' = is.met m refl in
+    let low' = is'.lower at'.at m at'.within at'.is in
+    ap Some (omega (arith, low.le, low'.le, same_Some m low.low low.is, same_Some n low'.low low'.is))
+
 -- rows of the same keys have the same least key
 pub least_key-same : (xs ys : List (Option ℕ)) → ((key : ℕ) → IsAt xs key → IsAt ys key) → ((key : ℕ) → IsAt ys key → IsAt xs key) → least_key xs ≡ least_key ys
-least_key-same xs ys to from = by (least_key xs) (least_key ys) (least_key-is xs) (least_key-is ys)
-  where
-    by : (a b : Option ℕ) → IsLeast a xs → IsLeast b ys → a ≡ b
-    by None None is is' = refl
-    by None (Some n) is is' =
-        let at = from n (is'.met n refl) in
-        let low = is.lower at.at n at.within at.is in let none : None ≡ Some low.low = low.is in absurd (cc)
-    by (Some m) None is is' =
-        let at = to m (is.met m refl) in
-        let low = is'.lower at.at m at.within at.is in let none : None ≡ Some low.low = low.is in absurd (cc)
-    by (Some m) (Some n) is is' =
-        let at = from n (is'.met n refl) in
-        let low = is.lower at.at n at.within at.is in
-        let at' = to m (is.met m refl) in
-        let low' = is'.lower at'.at m at'.within at'.is in
-        ap Some (omega (arith, low.le, low'.le, same_Some m low.low low.is, same_Some n low'.low low'.is))
+least_key-same xs ys to from =
+    let is = least_key-is xs in
+    let along : IsLeast (least_key xs) ys = record {
+      met = λ key same. to key (is.met key same);
+      lower = λ i key within there. let at = from key (record { at = i; within = within; is = there }) in is.lower at.at key at.within at.is;
+    } in
+    least-same (least_key xs) (least_key ys) ys along (least_key-is ys)

@@ -1,5 +1,5 @@
 -- The numbers of the entries that pass a test, where one is added, changed, put in or taken out.
-use Rattle.std.proofs.Common.{◌≡◌, ◌≢◌, ◌∙◌, ap, ap₂, sym, refl, subst, ℕ, zero, suc, ◌+◌, ◌-◌, ◌<◌, ◌≤◌, ◌⊎◌, inl, inr, Bool, true, false, ◌&&◌, List, [], ◌∷◌, ◌++◌, length, get_or, map, filter, set, Option, Some, None, arith, length-set, get_or-set_other, get_or-set_same}
+use Rattle.std.proofs.Common.{◌≡◌, ◌≢◌, ◌∙◌, ap, ap₂, sym, refl, subst, ℕ, ◌+◌, ◌-◌, ◌<◌, ◌≤◌, inl, inr, Bool, true, false, ◌&&◌, List, [], ◌∷◌, ◌++◌, length, get_or, map, filter, set, Option, Some, None, arith, length-set, get_or-set_other}
 use Rattle.std.proofs.lemmas.Bool.{and_from, and_parts, both_ways, cases_eq, cases_lt, cases_order, false_from_ne_true}
 use Rattle.std.proofs.lemmas.List.{get_or_append_left, get_or_default, length_push}
 use Rattle.std.proofs.lemmas.List.Edits.{length-insert, length-remove, get_or-remove_below, get_or-remove_above}
@@ -9,134 +9,9 @@ use Rattle.stream_ident.specs.Words.{above, is_above, least, next_after, or_else
 use Rattle.stream_ident.proofs.Order.{IsOrder}
 use Rattle.ranked_index.specs.Ranked.{entry_at, IsFirstPast}
 use Rattle.ranked_index.specs.Listed.{AreListed, AreListedBut, AreRising, IsListed}
-use Rattle.ranked_index.proofs.RankLemmas.{insert-before, insert-here, insert-past, placed, Placed, Before, Here, Past}
+use Rattle.ranked_index.proofs.EntryLemmas.{name_kept}
+use Rattle.ranked_index.proofs.RankLemmas.{insert-before, insert-here, insert-past, inserted_each, inserted_pairs, removed_each, removed_pairs, room_below}
 use Rattle.ranked_index.proofs.LeastLemmas.{above_where, least_is, least_none, names_of}
-
--- ---- numbers in a list
-
--- what holds of two numbers holds of the same ones
-along : (R : ℕ → ℕ → Type 0) (a a' b b' : ℕ) → a ≡ a' → b ≡ b' → R a' b' → R a b
-along R a a' b b' is is' holds = subst (λ (x : ℕ). R x b) (sym is) (subst (λ (y : ℕ). R a' y) (sym is') holds)
-
-module _ (ns : List ℕ) (place : ℕ) (inside : place < length ns) where
-  -- what holds of each other number holds of each that is left
-  removed_each : (P : ℕ → Type 0) → ((i : ℕ) → i < length ns → i ≢ place → P (slice_index ns i)) → (i : ℕ) → i < length (remove ns place) → P (slice_index (remove ns place) i)
-  removed_each P each i within =
-      elim (cases_lt i place) [
-        | inl low ↦ subst P (sym (get_or-remove_below ns place 0 i low inside)) (each i (omega arith) (λ same. omega arith))
-        | inr high ↦
-            subst P (sym (get_or-remove_above ns place 0 i high inside))
-            (each (i + 1) (omega (arith, length-remove ns place inside)) (λ same. omega arith))
-      ]
-
-  -- what holds of each two in their order holds of those that are left
-  removed_pairs : (R : ℕ → ℕ → Type 0) → ((i j : ℕ) → i < j → j < length ns → R (slice_index ns i) (slice_index ns j))
-      → (i j : ℕ) → i < j → j < length (remove ns place) → R (slice_index (remove ns place) i) (slice_index (remove ns place) j)
-  removed_pairs R pairs i j less within =
-      let long = length-remove ns place inside in
-      elim (cases_lt j place) [
-        | inl low ↦
-            along R _ _ _ _ (get_or-remove_below ns place 0 i (omega arith) inside) (get_or-remove_below ns place 0 j low inside) (pairs i j less (omega arith))
-        | inr high ↦ elim (cases_lt i place) [
-          | inl low ↦
-              along R _ _ _ _ (get_or-remove_below ns place 0 i low inside) (get_or-remove_above ns place 0 j high inside) (pairs i (j + 1) (omega arith) (omega (arith, long)))
-          | inr also ↦
-              along R _ _ _ _ (get_or-remove_above ns place 0 i also inside) (get_or-remove_above ns place 0 j high inside) (pairs (i + 1) (j + 1) (omega arith) (omega (arith, long)))
-        ]
-      ]
-
-module _ (ns : List ℕ) (place n : ℕ) (fits : place ≤ length ns) where
-  -- what holds of each number and of one more holds of each with it
-  inserted_each : (P : ℕ → Type 0) → ((i : ℕ) → i < length ns → P (slice_index ns i)) → P n → (i : ℕ) → i < length (insert ns place n) → P (slice_index (insert ns place n) i)
-  inserted_each P each new i within = by (placed place i)
-    where
-      by : Placed place i → P (slice_index (insert ns place n) i)
-      by (Before low) = subst P (sym (insert-before ns place n 0 fits i low)) (each i (omega (arith, fits)))
-      by (Here same) = subst P (sym (insert-here ns place n 0 fits i same)) new
-      by (Past j next high) = subst P (sym (insert-past ns place n 0 fits i j next high)) (each j (omega (arith, within, next, length-insert ns place n fits)))
-
-  -- what holds of each two in their order, and of those before and after one more with it, holds with it
-  inserted_pairs : (R : ℕ → ℕ → Type 0) → ((i j : ℕ) → i < j → j < length ns → R (slice_index ns i) (slice_index ns j))
-      → ((i : ℕ) → i < place → R (slice_index ns i) n) → ((i : ℕ) → place ≤ i → i < length ns → R n (slice_index ns i))
-      → (i j : ℕ) → i < j → j < length (insert ns place n) → R (slice_index (insert ns place n) i) (slice_index (insert ns place n) j)
-  inserted_pairs R pairs before after i j less within = by (placed place i) (placed place j)
-    where
-      long : length (insert ns place n) ≡ length ns + 1
-      long = length-insert ns place n fits
-
-      by : Placed place i → Placed place j → R (slice_index (insert ns place n) i) (slice_index (insert ns place n) j)
-      by (Before a) (Before b) =
-          along R _ _ _ _ (insert-before ns place n 0 fits i a) (insert-before ns place n 0 fits j b) (pairs i j less (omega (arith, fits, b)))
-      by (Before a) (Here b) = along R _ _ _ _ (insert-before ns place n 0 fits i a) (insert-here ns place n 0 fits j b) (before i a)
-      by (Before a) (Past k next high) =
-          along R _ _ _ _ (insert-before ns place n 0 fits i a) (insert-past ns place n 0 fits j k next high) (pairs i k (omega arith) (omega (arith, within, next, long)))
-      by (Here a) (Before b) = absurd (omega (arith, less, a, b))
-      by (Here a) (Here b) = absurd (omega (arith, less, a, b))
-      by (Here a) (Past k next high) =
-          along R _ _ _ _ (insert-here ns place n 0 fits i a) (insert-past ns place n 0 fits j k next high) (after k high (omega (arith, within, next, long)))
-      by (Past h next high) (Before b) = absurd (omega (arith, less, next, high, b))
-      by (Past h next high) (Here b) = absurd (omega (arith, less, next, high, b))
-      by (Past h next high) (Past k next' high') =
-          along R _ _ _ _ (insert-past ns place n 0 fits i h next high) (insert-past ns place n 0 fits j k next' high')
-          (pairs h k (omega (arith, less, next, next')) (omega (arith, within, next', long)))
-
--- a number stands among those behind the first, where it is not the first
-listed_tail : (n : ℕ) (ns : List ℕ) (number : ℕ) → n ≢ number → (i : ℕ) → i < length (n ∷ ns) → slice_index (n ∷ ns) i ≡ number → IsListed ns number
-listed_tail n ns number other zero within at = absurd (other at)
-listed_tail n ns number other (suc i) within at = record { place = i; within = omega (arith, within); at = at }
-
--- a number stands among these, or it doesn't
-listed_or_not : (ns : List ℕ) (number : ℕ) → IsListed ns number ⊎ (IsListed ns number → ⊥)
-listed_or_not [] number = inr (λ is. absurd (omega (arith, is.within)))
-listed_or_not (n ∷ ns) number =
-    elim (cases_eq n number) [
-      | inl here ↦ inl (record { place = 0; within = omega arith; at = here })
-      | inr other ↦ elim (listed_or_not ns number) [
-        | inl is ↦ inl (record { place = suc is.place; within = omega (arith, is.within); at = is.at })
-        | inr isnt ↦ inr (λ is. isnt (listed_tail n ns number other is.place is.within is.at))
-      ]
-    ]
-
--- distinct numbers below a bound are at most as many
-distinct_below : (n : ℕ) (ns : List ℕ) → ((i : ℕ) → i < length ns → slice_index ns i < n) → ((i j : ℕ) → i < j → j < length ns → slice_index ns i ≢ slice_index ns j) → length ns ≤ n
-distinct_below zero [] below apart = omega arith
-distinct_below zero (m ∷ ns) below apart = absurd (omega (arith, below 0 (omega arith)))
-distinct_below (suc n) ns below apart =
-    elim (listed_or_not ns n) [
-      | inl is ↦
-          let rest : length (remove ns is.place) ≤ n =
-          distinct_below n (remove ns is.place)
-          (removed_each ns is.place is.within (λ m. m < n) (λ i within other.
-          let isnt : slice_index ns i ≢ n = λ same. apart_at i is.place within is.within other (same ∙ sym is.at) in omega (arith, below i within, isnt)))
-          (removed_pairs ns is.place is.within (λ a b. a ≢ b) apart) in
-          omega (arith, rest, length-remove ns is.place is.within)
-      | inr isnt ↦
-          let rest : length ns ≤ n =
-          distinct_below n ns (λ i within.
-          let other : slice_index ns i ≢ n = λ same. isnt (record { place = i; within = within; at = same }) in omega (arith, below i within, other)) apart in
-          omega (arith, rest)
-    ]
-  where
-    apart_at : (i j : ℕ) → i < length ns → j < length ns → i ≢ j → slice_index ns i ≢ slice_index ns j
-    apart_at i j i_within j_within other same =
-        elim (cases_lt i j) [
-          | inl less ↦ apart i j less j_within same
-          | inr more ↦ apart j i (omega (arith, other)) i_within (sym same)
-        ]
-
--- where one is missing, they are fewer
-room_below : (n m : ℕ) (ns : List ℕ) → m < n → ((i : ℕ) → i < length ns → slice_index ns i < n) → ((i j : ℕ) → i < j → j < length ns → slice_index ns i ≢ slice_index ns j) → (IsListed ns m → ⊥)
-    → length ns < n
-room_below n m ns inside below apart isnt = omega (arith, distinct_below n (m ∷ ns) below_more apart_more)
-  where
-    below_more : (i : ℕ) → i < length (m ∷ ns) → slice_index (m ∷ ns) i < n
-    below_more zero within = inside
-    below_more (suc i) within = below i (omega (arith, within))
-
-    apart_more : (i j : ℕ) → i < j → j < length (m ∷ ns) → slice_index (m ∷ ns) i ≢ slice_index (m ∷ ns) j
-    apart_more i zero less within = absurd (omega (arith, less))
-    apart_more zero (suc j) less within = λ same. isnt (record { place = j; within = omega (arith, within); at = sym same })
-    apart_more (suc i) (suc j) less within = apart i j (omega (arith, less)) (omega (arith, within))
 
 module _ {E N : Type 0} (name : E → N) (lt same : N → N → Bool) (o : IsOrder lt same) (passes : E → Bool) where
   not_self : (a : N) → lt a a ≡ true → ⊥
@@ -158,20 +33,11 @@ module _ {E N : Type 0} (name : E → N) (lt same : N → N → Bool) (o : IsOrd
   listed-but entries numbers number e inside named are = record {
     rising = record {
       within = λ i within. omega (arith, length-set entries number e, are.rising.within i within);
-      rises = λ d low high less within. ap₂ lt (kept d (slice_index numbers low)) (kept d (slice_index numbers high)) ∙ are.rising.rises d low high less within;
+      rises = λ d low high less within. ap₂ lt (name_kept entries numbers number e inside name named d (slice_index numbers low)) (name_kept entries numbers number e inside name named d (slice_index numbers high)) ∙ are.rising.rises d low high less within;
     };
     passing = λ d i within other. ap passes (get_or-set_other entries number (slice_index numbers i) e d other) ∙ are.passing d i within;
     listed = λ d n within other passed. are.listed d n (omega (arith, within, length-set entries number e)) (ap passes (sym (get_or-set_other entries number n e d other)) ∙ passed);
   }
-    where
-      kept : (d : E) (i : ℕ) → name (get_or (set entries number e) i d) ≡ name (get_or entries i d)
-      kept d i =
-          elim (cases_eq i number) [
-            | inl here ↦
-                ap (λ (k : ℕ). name (get_or (set entries number e) k d)) here ∙ ap name (get_or-set_same entries number e d inside)
-                ∙ named d ∙ ap (λ (k : ℕ). name (get_or entries k d)) (sym here)
-            | inr there ↦ ap name (get_or-set_other entries number i e d there)
-          ]
 
   pub listed-more : (entries : List E) (numbers : List ℕ) (e : E) → AreListed name lt passes entries numbers → AreListedBut (length entries) name lt passes (entries ++ e ∷ []) numbers
   listed-more entries numbers e are = record {

@@ -1,11 +1,18 @@
 -- Numbers and ranks where a number is put in or taken out.
-use Rattle.std.proofs.Common.{◌≡◌, ◌≢◌, ◌∙◌, ap, sym, refl, subst, ℕ, zero, suc, ◌+◌, ◌-◌, ◌<◌, ◌≤◌, inl, inr, List, [], ◌∷◌, ◌++◌, length, get_or, take, set, nat_lt, arith, get_or-set_same, get_or-set_other}
-use Rattle.std.proofs.lemmas.Bool.{cases_lt, cases_eq, cond-true, cond-false, lt-ltb, le-ltb}
-use Rattle.std.proofs.lemmas.List.{get_or_append_left, get_or-take}
+use Rattle.std.proofs.Common.{◌≡◌, ◌≢◌, ◌∙◌, ap, sym, refl, subst, ℕ, zero, suc, ◌+◌, ◌-◌, ◌<◌, ◌≤◌, inl, inr, Bool, true, ◌||◌, List, [], ◌∷◌, ◌++◌, length, get_or, take, Option, Some, None, arith}
+use Rattle.std.proofs.Math.Dec.{eqb}
+use Rattle.std.proofs.lemmas.Bool.{both_ways, cases_lt, cases_eq, cases_order, eq-eqb, eqb-true, ne_eqb}
+use Rattle.std.proofs.lemmas.List.{get_or_append_left, get_or_default, get_or-take}
 use Rattle.std.proofs.lemmas.List.Edits.{length-insert, get_or-insert_at, get_or-insert_below, get_or-insert_above, length-remove, get_or-remove_below, get_or-remove_above}
-use Rattle.std.specs.List.{insert, remove}
-use Rattle.std.specs.Prelude.{slice_index, if◌then◌else◌}
+use Rattle.std.proofs.lemmas.Map.Keys.{IsDistinct-from_apart}
+use Rattle.std.proofs.lemmas.Map.Steps.{length-le_from_distinct_below}
+use Rattle.std.specs.List.{insert, list_any, remove}
+use Rattle.std.specs.Prelude.{slice_index, unwrap_or, ◌==◌}
+use Rattle.stream_ident.proofs.FirstLemmas.{first_at-None, first_at-Some}
+use Rattle.stream_ident.specs.Words.{first_at}
+use Rattle.ranked_index.specs.Listed.{IsListed}
 use Rattle.ranked_index.specs.Ranking.{AreRanks, IsInverse, IsRanking, IsReranked}
+use Rattle.ranked_index.specs.Ranks.{rank_in}
 
 -- a place in a list with one more at a rank: before the rank, the rank, or past it
 pub data Placed (rank i : ℕ) : Type 0 where
@@ -34,10 +41,150 @@ module _ {A : Type 0} (xs : List A) (rank : ℕ) (x d : A) (fits : rank ≤ leng
   insert-past i j next more =
       ap (λ (k : ℕ). get_or (insert xs rank x) k d) next ∙ get_or-insert_above xs rank x d j more fits
 
--- ---- ranks given anew
+-- what holds of two holds of the same ones
+pub along : {A B : Type 0} (Is : A → B → Type 0) {a a' : A} {b b' : B} → a ≡ a' → b ≡ b' → Is a' b' → Is a b
+along {A} {B} Is {a} {a'} {b} {b'} first second is = subst (λ (x : A). Is x b) (sym first) (subst (Is a') (sym second) is)
+
+module _ (ns : List ℕ) (place n : ℕ) (fits : place ≤ length ns) where
+  -- what holds of each number and of one more holds of each with it
+  pub inserted_each : (P : ℕ → Type 0) → ((i : ℕ) → i < length ns → P (slice_index ns i)) → P n → (i : ℕ) → i < length (insert ns place n) → P (slice_index (insert ns place n) i)
+  inserted_each P each new i within = by (placed place i)
+    where
+      by : Placed place i → P (slice_index (insert ns place n) i)
+      by (Before low) = subst P (sym (insert-before ns place n 0 fits i low)) (each i (omega (arith, fits)))
+      by (Here same) = subst P (sym (insert-here ns place n 0 fits i same)) new
+      by (Past j next high) = subst P (sym (insert-past ns place n 0 fits i j next high)) (each j (omega (arith, within, next, length-insert ns place n fits)))
+
+  -- what holds of each two in their order, and of those before and after one more with it, holds with it
+  pub inserted_pairs : (R : ℕ → ℕ → Type 0) → ((i j : ℕ) → i < j → j < length ns → R (slice_index ns i) (slice_index ns j))
+      → ((i : ℕ) → i < place → R (slice_index ns i) n) → ((i : ℕ) → place ≤ i → i < length ns → R n (slice_index ns i))
+      → (i j : ℕ) → i < j → j < length (insert ns place n) → R (slice_index (insert ns place n) i) (slice_index (insert ns place n) j)
+  inserted_pairs R pairs before after i j less within = by (placed place i) (placed place j)
+    where
+      long : length (insert ns place n) ≡ length ns + 1
+      long = length-insert ns place n fits
+
+      by : Placed place i → Placed place j → R (slice_index (insert ns place n) i) (slice_index (insert ns place n) j)
+      by (Before a) (Before b) =
+          along R (insert-before ns place n 0 fits i a) (insert-before ns place n 0 fits j b) (pairs i j less (omega (arith, fits, b)))
+      by (Before a) (Here b) = along R (insert-before ns place n 0 fits i a) (insert-here ns place n 0 fits j b) (before i a)
+      by (Before a) (Past k next high) =
+          along R (insert-before ns place n 0 fits i a) (insert-past ns place n 0 fits j k next high) (pairs i k (omega arith) (omega (arith, within, next, long)))
+      by (Here a) (Before b) = absurd (omega (arith, less, a, b))
+      by (Here a) (Here b) = absurd (omega (arith, less, a, b))
+      by (Here a) (Past k next high) =
+          along R (insert-here ns place n 0 fits i a) (insert-past ns place n 0 fits j k next high) (after k high (omega (arith, within, next, long)))
+      by (Past h next high) (Before b) = absurd (omega (arith, less, next, high, b))
+      by (Past h next high) (Here b) = absurd (omega (arith, less, next, high, b))
+      by (Past h next high) (Past k next' high') =
+          along R (insert-past ns place n 0 fits i h next high) (insert-past ns place n 0 fits j k next' high')
+          (pairs h k (omega (arith, less, next, next')) (omega (arith, within, next', long)))
+
+module _ (ns : List ℕ) (place : ℕ) (inside : place < length ns) where
+  -- what holds of each other number holds of each that is left
+  pub removed_each : (P : ℕ → Type 0) → ((i : ℕ) → i < length ns → i ≢ place → P (slice_index ns i)) → (i : ℕ) → i < length (remove ns place) → P (slice_index (remove ns place) i)
+  removed_each P each i within =
+      elim (cases_lt i place) [
+        | inl low ↦ subst P (sym (get_or-remove_below ns place 0 i low inside)) (each i (omega arith) (λ same. omega arith))
+        | inr high ↦
+            subst P (sym (get_or-remove_above ns place 0 i high inside))
+            (each (i + 1) (omega (arith, length-remove ns place inside)) (λ same. omega arith))
+      ]
+
+  -- what holds of each two in their order holds of those that are left
+  pub removed_pairs : (R : ℕ → ℕ → Type 0) → ((i j : ℕ) → i < j → j < length ns → R (slice_index ns i) (slice_index ns j))
+      → (i j : ℕ) → i < j → j < length (remove ns place) → R (slice_index (remove ns place) i) (slice_index (remove ns place) j)
+  removed_pairs R pairs i j less within =
+      let long = length-remove ns place inside in
+      elim (cases_lt j place) [
+        | inl low ↦
+            along R (get_or-remove_below ns place 0 i (omega arith) inside) (get_or-remove_below ns place 0 j low inside) (pairs i j less (omega arith))
+        | inr high ↦ elim (cases_lt i place) [
+          | inl low ↦
+              along R (get_or-remove_below ns place 0 i low inside) (get_or-remove_above ns place 0 j high inside) (pairs i (j + 1) (omega arith) (omega (arith, long)))
+          | inr also ↦
+              along R (get_or-remove_above ns place 0 i also inside) (get_or-remove_above ns place 0 j high inside) (pairs (i + 1) (j + 1) (omega arith) (omega (arith, long)))
+        ]
+      ]
+
+-- what stands among numbers below a bound is below it
+found_below : (n found : ℕ) (ns : List ℕ) → ((i : ℕ) → i < length ns → slice_index ns i < n) → list_any (eqb found) ns ≡ true → found < n
+found_below n found [] below is = absurd (cc)
+found_below n found (m ∷ ns) below is =
+    elim (cases_eq found m) [
+      | inl here ↦ omega (arith, below 0 (omega arith))
+      | inr other ↦ found_below n found ns (λ i within. below (suc i) (omega arith)) (ap (λ (b : Bool). b || list_any (eqb found) ns) (sym (ne_eqb found m other)) ∙ is)
+    ]
+
+-- distinct numbers below a bound are at most as many
+distinct_below : (n : ℕ) (ns : List ℕ) → ((i : ℕ) → i < length ns → slice_index ns i < n) → ((i j : ℕ) → i < j → j < length ns → slice_index ns i ≢ slice_index ns j) → length ns ≤ n
+distinct_below n ns below apart =
+    length-le_from_distinct_below ns n
+    (IsDistinct-from_apart eqb ns (λ i j d less within.
+    ne_eqb (get_or ns i d) (get_or ns j d) (λ same. apart i j less within (get_or_default ns i 0 d (omega arith) ∙ same ∙ get_or_default ns j d 0 within))))
+    (λ found is. found_below n found ns below is)
+
+-- where one is missing, they are fewer
+pub room_below : (n m : ℕ) (ns : List ℕ) → m < n → ((i : ℕ) → i < length ns → slice_index ns i < n) → ((i j : ℕ) → i < j → j < length ns → slice_index ns i ≢ slice_index ns j) → (IsListed ns m → ⊥)
+    → length ns < n
+room_below n m ns inside below apart isnt = omega (arith, distinct_below n (m ∷ ns) below_more apart_more)
+  where
+    below_more : (i : ℕ) → i < length (m ∷ ns) → slice_index (m ∷ ns) i < n
+    below_more zero within = inside
+    below_more (suc i) within = below i (omega (arith, within))
+
+    apart_more : (i j : ℕ) → i < j → j < length (m ∷ ns) → slice_index (m ∷ ns) i ≢ slice_index (m ∷ ns) j
+    apart_more i zero less within = absurd (omega (arith, less))
+    apart_more zero (suc j) less within = λ same. isnt (record { place = j; within = omega (arith, within); at = sym same })
+    apart_more (suc i) (suc j) less within = apart i j (omega (arith, less)) (omega (arith, within))
 
 pub distinct_numbers : (order : List ℕ) (rank_of : ℕ → ℕ) → IsInverse order rank_of → (i j : ℕ) → i < length order → j < length order → slice_index order i ≡ slice_index order j → i ≡ j
 distinct_numbers order rank_of is i j i_within j_within same = sym (is.back i i_within) ∙ ap rank_of same ∙ is.back j j_within
+
+distinct : (order : List ℕ) → IsRanking order → (i j : ℕ) → i < j → j < length order → slice_index order i ≢ slice_index order j
+distinct order ranking i j less within same = omega (arith, distinct_numbers order ranking.rank_of ranking.inverse i j (omega arith) within same)
+
+-- ---- numbers below their length, each once
+
+module _ (order : List ℕ) (within : (rank : ℕ) → rank < length order → slice_index order rank < length order) (apart : (i j : ℕ) → i < j → j < length order → slice_index order i ≢ slice_index order j) where
+  -- the rank that is found has the number
+  found_at : (number : ℕ) → number < length order → (rank_in order number < length order) × (slice_index order (rank_in order number) ≡ number)
+  found_at number below = by (first_at (λ other. other == number) 0 order) refl
+    where
+      by : (found : Option ℕ) → first_at (λ other. other == number) 0 order ≡ found → (unwrap_or found 0 < length order) × (slice_index order (unwrap_or found 0) ≡ number)
+      by None none =
+          let fewer : length order < length order =
+          room_below (length order) number order below within apart (λ is.
+          both_ways (slice_index order is.place == number) (first_at-None (λ other. other == number) 0 order 0 none is.place is.within) (eq-eqb (slice_index order is.place) number is.at)) in
+          absurd (omega arith)
+      by (Some rank) is =
+          let met = first_at-Some (λ other. other == number) 0 order 0 rank is in
+          let here : rank ≡ met.place = omega (arith, met.at) in
+          (omega (arith, met.within), ap (slice_index order) here ∙ eqb-true (slice_index order met.place) number met.is)
+
+  same_rank : (i j : ℕ) → i < length order → j < length order → slice_index order i ≡ slice_index order j → i ≡ j
+  same_rank i j i_within j_within same =
+      elim (cases_order i j) [
+        | inl level ↦ level
+        | inr other ↦ elim other [ inl less ↦ absurd (apart i j less j_within same) | inr more ↦ absurd (apart j i more i_within (sym same)) ]
+      ]
+
+  pub ranking-from : IsRanking order
+  ranking-from = record {
+    rank_of = rank_in order;
+    inverse = record {
+      number_within = within;
+      back = λ rank inside. let at = found_at (slice_index order rank) (within rank inside) in same_rank (rank_in order (slice_index order rank)) rank at.0 inside at.1;
+      rank_within = λ number below. (found_at number below).0;
+      forth = λ number below. (found_at number below).1;
+    };
+  }
+
+-- the rank that is found in a ranking has the number
+pub rank_in-is : (order : List ℕ) → IsRanking order → (number : ℕ) → number < length order → (rank_in order number < length order) × (slice_index order (rank_in order number) ≡ number)
+rank_in-is order ranking = found_at order ranking.inverse.number_within (distinct order ranking)
+
+-- ---- ranks given anew
 
 -- of rows that are others under another name
 pub reranked_along : (order order' old old' new : List ℕ) (from : ℕ) → order ≡ order' → old ≡ old' → IsReranked order old new from (length order) → IsReranked order' old' new from (length order')
@@ -66,235 +213,56 @@ ranks-given order old new rank_of from is long given kept = record {
           | inr high ↦ ap (slice_index new) (sym (is.forth number within)) ∙ given.here (rank_of number) high (is.rank_within number within)
         ]
 
--- ---- a number more
+-- ---- a number more, or one fewer
 
--- the rank of what stood at another, with one more at a rank
-abbrev raised : ℕ → ℕ → ℕ
-raised rank r = if nat_lt r rank then r else r + 1
+pub ranking-insert : (order : List ℕ) → IsRanking order → (rank : ℕ) → rank ≤ length order → IsRanking (insert order rank (length order))
+ranking-insert order ranking rank fits =
+    let more = insert order rank (length order) in
+    let long = length-insert order rank (length order) fits in
+    ranking-from more
+    (inserted_each order rank (length order) fits (λ n. n < length more) (λ i within. omega (arith, long, ranking.inverse.number_within i within)) (omega (arith, long)))
+    (inserted_pairs order rank (length order) fits (λ m n. m ≢ n) (distinct order ranking)
+    (λ i low same. omega (arith, ranking.inverse.number_within i (omega (arith, fits)), same))
+    (λ i high within same. omega (arith, ranking.inverse.number_within i within, same)))
 
-raised-low : (rank r : ℕ) → r < rank → raised rank r ≡ r
-raised-low rank r low = cond-true (nat_lt r rank) r (r + 1) (lt-ltb r rank low)
+module _ (order : List ℕ) (ranking : IsRanking order) (rank : ℕ) (within : rank < length order) (last : slice_index order rank + 1 ≡ length order) where
+  pub removed_within : (i : ℕ) → i < length (remove order rank) → slice_index (remove order rank) i < length (remove order rank)
+  removed_within =
+      removed_each order rank within (λ n. n < length (remove order rank)) (λ i inside other.
+      let isnt : slice_index order i ≢ slice_index order rank = λ same. other (distinct_numbers order ranking.rank_of ranking.inverse i rank inside within same) in
+      omega (arith, last, length-remove order rank within, isnt, ranking.inverse.number_within i inside))
 
-raised-high : (rank r : ℕ) → rank ≤ r → raised rank r ≡ r + 1
-raised-high rank r high = cond-false (nat_lt r rank) r (r + 1) (le-ltb r rank high)
+  pub ranking-remove : IsRanking (remove order rank)
+  ranking-remove = ranking-from (remove order rank) removed_within (removed_pairs order rank within (λ m n. m ≢ n) (distinct order ranking))
 
-module _ (order : List ℕ) (rank_of : ℕ → ℕ) (is : IsInverse order rank_of) (rank : ℕ) (fits : rank ≤ length order) where
-  abbrev moved : List ℕ
-  moved = insert order rank (length order)
+pub ranking_of : (order ranks : List ℕ) → AreRanks order ranks → IsRanking order
+ranking_of order ranks are = record { rank_of = slice_index ranks; inverse = are.inverse }
 
-  abbrev moved_rank : ℕ → ℕ
-  moved_rank number = if nat_lt number (length order) then raised rank (rank_of number) else rank
-
-  moved_long : length moved ≡ length order + 1
-  moved_long = length-insert order rank (length order) fits
-
-  old_rank : (number : ℕ) → number < length order → moved_rank number ≡ raised rank (rank_of number)
-  old_rank number old = cond-true (nat_lt number (length order)) (raised rank (rank_of number)) rank (lt-ltb number (length order) old)
-
-  low_rank : (number : ℕ) → number < length order → rank_of number < rank → moved_rank number ≡ rank_of number
-  low_rank number old low = old_rank number old ∙ raised-low rank (rank_of number) low
-
-  high_rank : (number : ℕ) → number < length order → rank ≤ rank_of number → moved_rank number ≡ rank_of number + 1
-  high_rank number old high = old_rank number old ∙ raised-high rank (rank_of number) high
-
-  new_rank : (number : ℕ) → number ≡ length order → moved_rank number ≡ rank
-  new_rank number new = cond-false (nat_lt number (length order)) (raised rank (rank_of number)) rank (le-ltb number (length order) (omega arith))
-
-  number-before : (i : ℕ) → i < rank → slice_index moved i ≡ slice_index order i
-  number-before = insert-before order rank (length order) 0 fits
-
-  number-here : (i : ℕ) → i ≡ rank → slice_index moved i ≡ length order
-  number-here = insert-here order rank (length order) 0 fits
-
-  number-past : (i j : ℕ) → i ≡ j + 1 → rank ≤ j → slice_index moved i ≡ slice_index order j
-  number-past = insert-past order rank (length order) 0 fits
-
-  number_within : (i : ℕ) → i < length moved → Placed rank i → slice_index moved i < length moved
-  number_within i within (Before low) = omega (arith, moved_long, number-before i low, is.number_within i (omega (arith, fits)))
-  number_within i within (Here same) = omega (arith, moved_long, number-here i same)
-  number_within i within (Past j next high) = omega (arith, moved_long, number-past i j next high, is.number_within j (omega (arith, moved_long)))
-
-  back : (i : ℕ) → i < length moved → Placed rank i → moved_rank (slice_index moved i) ≡ i
-  back i within (Before low) =
-      let inside : i < length order = omega (arith, fits) in
-      let here = is.back i inside in
-      ap moved_rank (number-before i low) ∙ low_rank (slice_index order i) (is.number_within i inside) (omega (arith, here)) ∙ here
-  back i within (Here same) = ap moved_rank (number-here i same) ∙ new_rank (length order) refl ∙ sym same
-  back i within (Past j next high) =
-      let inside : j < length order = omega (arith, moved_long) in
-      let here = is.back j inside in
-      ap moved_rank (number-past i j next high)
-      ∙ high_rank (slice_index order j) (is.number_within j inside) (omega (arith, here)) ∙ omega (arith, here)
-
-  rank_within : (number : ℕ) → number < length moved → moved_rank number < length moved
-  rank_within number within =
-      elim (cases_lt number (length order)) [
-        | inl old ↦ elim (cases_lt (rank_of number) rank) [
-          | inl low ↦ omega (arith, moved_long, fits, low_rank number old low)
-          | inr high ↦ omega (arith, moved_long, high_rank number old high, is.rank_within number old)
-        ]
-        | inr new ↦ omega (arith, moved_long, fits, new_rank number (omega (arith, moved_long)))
-      ]
-
-  forth : (number : ℕ) → number < length moved → slice_index moved (moved_rank number) ≡ number
-  forth number within =
-      elim (cases_lt number (length order)) [
-        | inl old ↦ elim (cases_lt (rank_of number) rank) [
-          | inl low ↦ ap (slice_index moved) (low_rank number old low) ∙ number-before (rank_of number) low ∙ is.forth number old
-          | inr high ↦ ap (slice_index moved) (high_rank number old high) ∙ number-past (rank_of number + 1) (rank_of number) refl high ∙ is.forth number old
-        ]
-        | inr new ↦
-            let last : number ≡ length order = omega (arith, moved_long) in
-            ap (slice_index moved) (new_rank number last) ∙ number-here rank refl ∙ sym last
-      ]
-
-  pub inverse-insert : IsInverse moved moved_rank
-  inverse-insert = record {
-    number_within = λ i within. number_within i within (placed rank i);
-    back = λ i within. back i within (placed rank i);
-    rank_within = rank_within;
-    forth = forth;
-  }
-
-  pub ranking-insert : IsRanking moved
-  ranking-insert = record { rank_of = moved_rank; inverse = inverse-insert }
-
-module _ (order ranks : List ℕ) (are : AreRanks order ranks) (rank : ℕ) (fits : rank ≤ length order) where
-  abbrev more : List ℕ
-  more = insert order rank (length order)
-
-  abbrev more_rank : ℕ → ℕ
-  more_rank = moved_rank order (slice_index ranks) are.inverse rank fits
-
-  kept : (number : ℕ) → number < length more → more_rank number < rank → slice_index (ranks ++ rank ∷ []) number ≡ more_rank number
-  kept number within below =
-      elim (cases_lt number (length order)) [
-        | inl inside ↦ elim (cases_lt (slice_index ranks number) rank) [
-          | inl low ↦
-              get_or_append_left ranks (rank ∷ []) 0 number (omega (arith, are.long)) ∙ sym (low_rank order (slice_index ranks) are.inverse rank fits number inside low)
-          | inr high ↦ absurd (omega (arith, high_rank order (slice_index ranks) are.inverse rank fits number inside high))
-        ]
-        | inr past ↦
-            let last : number ≡ length order = omega (arith, length-insert order rank (length order) fits) in
-            absurd (omega (arith, new_rank order (slice_index ranks) are.inverse rank fits number last))
-      ]
-
-  -- the ranks with the next number at a rank
-  pub ranks-insert : (new : List ℕ) → length new ≡ length ranks + 1 → IsReranked more (ranks ++ rank ∷ []) new rank (length more) → AreRanks more new
-  ranks-insert new long given =
-      ranks-given more (ranks ++ rank ∷ []) new more_rank rank (inverse-insert order (slice_index ranks) are.inverse rank fits)
-      (omega (arith, long, are.long, length-insert order rank (length order) fits)) given kept
-
--- ---- the last number taken out
-
--- the rank of what stood at another, with one out
-abbrev lowered : ℕ → ℕ → ℕ
-lowered rank r = if nat_lt rank r then r - 1 else r
-
-lowered-low : (rank r : ℕ) → r ≤ rank → lowered rank r ≡ r
-lowered-low rank r low = cond-false (nat_lt rank r) (r - 1) r (le-ltb rank r low)
-
-lowered-high : (rank r : ℕ) → rank < r → lowered rank r ≡ r - 1
-lowered-high rank r high = cond-true (nat_lt rank r) (r - 1) r (lt-ltb rank r high)
-
-module _ (order : List ℕ) (rank_of : ℕ → ℕ) (is : IsInverse order rank_of) (rank : ℕ) (within : rank < length order) (last : slice_index order rank + 1 ≡ length order) where
-  abbrev shorter : List ℕ
-  shorter = remove order rank
-
-  abbrev shorter_rank : ℕ → ℕ
-  shorter_rank number = lowered rank (rank_of number)
-
-  shorter_long : length shorter + 1 ≡ length order
-  shorter_long = length-remove order rank within
-
-  -- the number at another rank is not the last
-  not_last : (i : ℕ) → i < length order → i ≢ rank → slice_index order i + 1 < length order
-  not_last i inside other =
-      elim (cases_eq (slice_index order i) (slice_index order rank)) [
-        | inl same ↦ absurd (other (distinct_numbers order rank_of is i rank inside within same))
-        | inr apart ↦ omega (arith, last, is.number_within i inside)
-      ]
-
-  -- the rank of another number is another one
-  not_rank : (number : ℕ) → number + 1 < length order → rank_of number ≢ rank
-  not_rank number below same = absurd (omega (arith, last, sym (is.forth number (omega arith)) ∙ ap (slice_index order) same))
-
-  number-low : (i : ℕ) → i < rank → slice_index shorter i ≡ slice_index order i
-  number-low i low = get_or-remove_below order rank 0 i low within
-
-  number-high : (i : ℕ) → rank ≤ i → slice_index shorter i ≡ slice_index order (i + 1)
-  number-high i high = get_or-remove_above order rank 0 i high within
-
-  pub removed_within : (i : ℕ) → i < length shorter → slice_index shorter i < length shorter
-  removed_within i below =
-      elim (cases_lt i rank) [
-        | inl low ↦ omega (arith, shorter_long, number-low i low, not_last i (omega arith) (λ same. omega arith))
-        | inr high ↦ omega (arith, shorter_long, number-high i high, not_last (i + 1) (omega (arith, shorter_long)) (λ same. omega arith))
-      ]
-
-  pub inverse-remove : IsInverse shorter shorter_rank
-  inverse-remove = record {
-    number_within = removed_within;
-    back = λ i below.
-        elim (cases_lt i rank) [
-          | inl low ↦
-              let here = is.back i (omega arith) in
-              ap shorter_rank (number-low i low) ∙ lowered-low rank (rank_of (slice_index order i)) (omega (arith, here)) ∙ here
-          | inr high ↦
-              let here = is.back (i + 1) (omega (arith, shorter_long)) in
-              ap shorter_rank (number-high i high) ∙ lowered-high rank (rank_of (slice_index order (i + 1))) (omega (arith, here)) ∙ omega (arith, here)
-        ];
-    rank_within = λ number below.
-        let inside = is.rank_within number (omega (arith, shorter_long)) in
-        let other = not_rank number (omega (arith, shorter_long)) in
-        elim (cases_lt rank (rank_of number)) [
-          | inl high ↦ omega (arith, shorter_long, lowered-high rank (rank_of number) high)
-          | inr low ↦ omega (arith, shorter_long, lowered-low rank (rank_of number) low, other)
-        ];
-    forth = λ number below.
-        let there = is.forth number (omega (arith, shorter_long)) in
-        let other = not_rank number (omega (arith, shorter_long)) in
-        elim (cases_lt rank (rank_of number)) [
-          | inl high ↦
-              let next : rank_of number - 1 + 1 ≡ rank_of number = omega arith in
-              ap (slice_index shorter) (lowered-high rank (rank_of number) high) ∙ number-high (rank_of number - 1) (omega arith) ∙ ap (slice_index order) next ∙ there
-          | inr low ↦ ap (slice_index shorter) (lowered-low rank (rank_of number) low) ∙ number-low (rank_of number) (omega (arith, other)) ∙ there
-        ];
-  }
-
-  pub ranking-remove : IsRanking shorter
-  ranking-remove = record { rank_of = shorter_rank; inverse = inverse-remove }
+-- the ranks with the next number at a rank
+pub ranks-insert : (order ranks : List ℕ) → AreRanks order ranks → (rank : ℕ) → rank ≤ length order → (new : List ℕ) → length new ≡ length ranks + 1
+    → IsReranked (insert order rank (length order)) (ranks ++ rank ∷ []) new rank (length (insert order rank (length order))) → AreRanks (insert order rank (length order)) new
+ranks-insert order ranks are rank fits new long given =
+    let ranking = ranking-insert order (ranking_of order ranks are) rank fits in
+    ranks-given (insert order rank (length order)) (ranks ++ rank ∷ []) new ranking.rank_of rank ranking.inverse (omega (arith, long, are.long, length-insert order rank (length order) fits)) given
+    (λ number within low.
+    let r = ranking.rank_of number in
+    let inside : r < length order = omega (arith, low, fits) in
+    let at : slice_index order r ≡ number = sym (insert-before order rank (length order) 0 fits r low) ∙ ranking.inverse.forth number within in
+    get_or_append_left ranks (rank ∷ []) 0 number (omega (arith, at, are.long, are.inverse.number_within r inside)) ∙ ap (slice_index ranks) (sym at) ∙ are.inverse.back r inside)
 
 -- the ranks without the last number
 pub ranks-remove : (order ranks new : List ℕ) (rank last : ℕ) → AreRanks order ranks → rank < length order → slice_index order rank ≡ last → last + 1 ≡ length order → length new ≡ last
     → IsReranked (remove order rank) (take last ranks) new rank (length (remove order rank)) → AreRanks (remove order rank) new
 ranks-remove order ranks new rank last are within at end long given =
-    ranks-given (remove order rank) (take last ranks) new (λ number. lowered rank (slice_index ranks number)) rank (inverse-remove order (slice_index ranks) are.inverse rank within is_last)
-    (omega (arith, long, end, length-remove order rank within)) given kept
-  where
-    is_last : slice_index order rank + 1 ≡ length order
-    is_last = omega (arith, at, end)
-
-    kept : (number : ℕ) → number < length (remove order rank) → lowered rank (slice_index ranks number) < rank → slice_index (take last ranks) number ≡ lowered rank (slice_index ranks number)
-    kept number inside below =
-        elim (cases_lt rank (slice_index ranks number)) [
-          | inl high ↦ absurd (omega (arith, lowered-high rank (slice_index ranks number) high))
-          | inr low ↦
-              get_or-take last ranks number 0 (omega (arith, end, length-remove order rank within)) ∙ sym (lowered-low rank (slice_index ranks number) low)
-        ]
+    let ranking = ranking-remove order (ranking_of order ranks are) rank within (omega (arith, at, end)) in
+    ranks-given (remove order rank) (take last ranks) new ranking.rank_of rank ranking.inverse (omega (arith, long, end, length-remove order rank within)) given
+    (λ number inside low.
+    let r = ranking.rank_of number in
+    let there : slice_index order r ≡ number = sym (get_or-remove_below order rank 0 r low within) ∙ ranking.inverse.forth number inside in
+    get_or-take last ranks number 0 (omega (arith, end, length-remove order rank within)) ∙ ap (slice_index ranks) (sym there) ∙ are.inverse.back r (omega (arith, low, within)))
 
 -- a number that is put in and taken out again
 pub remove-insert : {A : Type 0} (xs : List A) (rank : ℕ) (x : A) → rank ≤ length xs → remove (insert xs rank x) rank ≡ xs
 remove-insert xs zero x fits = refl
 remove-insert [] (suc rank) x fits = absurd (omega arith)
 remove-insert (y ∷ xs) (suc rank) x fits = ap (λ rest. y ∷ rest) (remove-insert xs rank x (omega arith))
-
--- where the last number was put in, it is taken out
-pub popped : (order : List ℕ) (rank at : ℕ) → IsRanking order → rank ≤ length order → at < length (insert order rank (length order)) → slice_index (insert order rank (length order)) at + 1 ≡ length (insert order rank (length order))
-    → remove (insert order rank (length order)) at ≡ order
-popped order rank at ranking fits within last =
-    let long = length-insert order rank (length order) fits in
-    let more = ranking-insert order ranking.rank_of ranking.inverse rank fits in
-    let same : at ≡ rank =
-    distinct_numbers (insert order rank (length order)) more.rank_of more.inverse at rank within (omega (arith, long)) (omega (arith, last, long, insert-here order rank (length order) 0 fits rank refl)) in
-    ap (remove (insert order rank (length order))) same ∙ remove-insert order rank (length order) fits

@@ -1,34 +1,34 @@
 -- Nodes that are made the lesser of their children, row by row.
-use Rattle.std.proofs.Common.{◌≡◌, ◌≢◌, ℕ, ◌+◌, ◌*◌, ◌/◌, ◌<◌, ◌≤◌, ◌⊎◌, inl, inr, List, length, set, min, sym, ap, ap₂, ◌∙◌, subst, arith, length-set, get_or-set_same, get_or-set_other}
-use Rattle.std.proofs.lemmas.Bool.{cases_eq, cases_lt}
-use Rattle.std.specs.Prelude.{slice_index}
-use Rattle.ranked_index.specs.Tree.{IsLesser, IsTree, IsTreeBut}
+use Rattle.std.proofs.Common.{◌≡◌, ◌≢◌, ℕ, ◌+◌, ◌*◌, ◌/◌, ◌<◌, ◌≤◌, ◌⊎◌, inl, inr, List, length, set, sym, ap, ap₂, ◌∙◌, subst, arith, length-set, get_or-set_same, get_or-set_other}
+use Rattle.std.proofs.lemmas.Bool.{cases_eq}
+use Rattle.ranked_index.specs.declared.tree.Node.{Node}
+use Rattle.ranked_index.specs.Tree.{lesser_node, zero_node, node_at, IsLesser}
 
 -- a row from first to last, settled up to a place: only the nodes from there on, and the parents of the row,
 -- may not be the lesser of their children
-pub record IsSettled (first last at : ℕ) (nodes : List ℕ) : Type 0 where
+pub record IsSettled (first last at : ℕ) (nodes : List Node) : Type 0 where
   pub lesser : (x : ℕ) → 0 < x → x + x + 1 < length nodes → (x < at) ⊎ (last < x) → (x < first / 2) ⊎ (last / 2 < x) → IsLesser nodes x
 
 -- a node is still the lesser of its children where none of the three is written
-kept : (nodes : List ℕ) (at n x : ℕ) → x ≢ at → x + x ≢ at → x + x + 1 ≢ at → IsLesser nodes x → IsLesser (set nodes at n) x
+kept : (nodes : List Node) (at : ℕ) (n : Node) (x : ℕ) → x ≢ at → x + x ≢ at → x + x + 1 ≢ at → IsLesser nodes x → IsLesser (set nodes at n) x
 kept nodes at n x node left right lesser =
-    get_or-set_other nodes at x n 0 node ∙ lesser
-    ∙ sym (ap₂ min (get_or-set_other nodes at (x + x) n 0 left) (get_or-set_other nodes at (x + x + 1) n 0 right))
+    get_or-set_other nodes at x n zero_node node ∙ lesser
+    ∙ sym (ap₂ lesser_node (get_or-set_other nodes at (x + x) n zero_node left) (get_or-set_other nodes at (x + x + 1) n zero_node right))
 
 -- a node that is written
-made : (nodes : List ℕ) (at n : ℕ) → 0 < at → at + at + 1 < length nodes → n ≡ min (slice_index nodes (2 * at)) (slice_index nodes (2 * at + 1))
+made : (nodes : List Node) (at : ℕ) (n : Node) → 0 < at → at + at + 1 < length nodes → n ≡ lesser_node (node_at nodes (2 * at)) (node_at nodes (2 * at + 1))
     → IsLesser (set nodes at n) at
 made nodes at n some inner is =
-    let left : slice_index nodes (2 * at) ≡ slice_index nodes (at + at) = ap (slice_index nodes) (omega arith) in
-    let right : slice_index nodes (2 * at + 1) ≡ slice_index nodes (at + at + 1) = ap (slice_index nodes) (omega arith) in
-    get_or-set_same nodes at n 0 (omega arith) ∙ is ∙ ap₂ min left right
-    ∙ sym (ap₂ min (get_or-set_other nodes at (at + at) n 0 (omega arith)) (get_or-set_other nodes at (at + at + 1) n 0 (omega arith)))
+    let left : node_at nodes (2 * at) ≡ node_at nodes (at + at) = ap (node_at nodes) (omega arith) in
+    let right : node_at nodes (2 * at + 1) ≡ node_at nodes (at + at + 1) = ap (node_at nodes) (omega arith) in
+    get_or-set_same nodes at n zero_node (omega arith) ∙ is ∙ ap₂ lesser_node left right
+    ∙ sym (ap₂ lesser_node (get_or-set_other nodes at (at + at) n zero_node (omega arith)) (get_or-set_other nodes at (at + at + 1) n zero_node (omega arith)))
 
 still_outside : (x at last : ℕ) → (x < at + 1) ⊎ (last < x) → x ≢ at → (x < at) ⊎ (last < x)
 still_outside x at last outside other = elim outside [ inl before ↦ inl (omega arith) | inr past ↦ inr past ]
 
 -- the next node of the row
-pub settled_step : (first last at n : ℕ) (nodes : List ℕ) → n ≡ min (slice_index nodes (2 * at)) (slice_index nodes (2 * at + 1)) → first ≤ at → at ≤ last
+pub settled_step : (first last at : ℕ) (n : Node) (nodes : List Node) → n ≡ lesser_node (node_at nodes (2 * at)) (node_at nodes (2 * at + 1)) → first ≤ at → at ≤ last
     → IsSettled first last at nodes → IsSettled first last (at + 1) (set nodes at n)
 settled_step first last at n nodes is from to settled = record {
   lesser = λ x some inner outside parents.

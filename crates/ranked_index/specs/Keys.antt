@@ -1,5 +1,5 @@
 -- Keys in a row, none at a place that has nothing, and what is asked of them.
-use Rattle.std.specs.Prelude.{ℕ, zero, suc, ◌+◌, Bool, false, List, [], ◌∷◌, ◌++◌, take, drop, set, Option, Some, None, nat_le, min}
+use Rattle.std.specs.Prelude.{ℕ, zero, suc, ◌+◌, Bool, false, List, [], ◌∷◌, drop, set, Option, Some, None, nat_le, min}
 use Rattle.stream_ident.specs.Words.{first_at}
 
 abbrev pub lesser_key : Option ℕ → Option ℕ → Option ℕ
@@ -28,14 +28,6 @@ place_of_least (Some key) keys = first_at_most 0 key keys
 
 abbrev pub least_place : List (Option ℕ) → Option ℕ
 least_place keys = place_of_least (least_key keys) keys
-
--- with a key at a place, and those from there on one further
-abbrev pub inserted : ℕ → Option ℕ → List (Option ℕ) → List (Option ℕ)
-inserted place key keys = take place keys ++ key ∷ drop place keys
-
--- without the key at a place, and those past it one back
-abbrev pub removed : ℕ → List (Option ℕ) → List (Option ℕ)
-removed place keys = take place keys ++ drop (suc place) keys
 
 -- the same at so many places, from one on
 abbrev pub filled : {T : Type 0} → ℕ → ℕ → T → List T → List T

@@ -1,5 +1,5 @@
 -- Entries whose numbers are ranked by name, and their keys by rank.
-use Rattle.std.specs.Prelude.{◌≡◌, ℕ, ◌<◌, ◌≤◌, Bool, true, false, not, List, length, slice_index, get_or, set, Option, Some, None}
+use Rattle.std.specs.Prelude.{◌≡◌, ℕ, ◌<◌, ◌≤◌, Bool, true, false, not, List, length, slice_index, get_or, Option, Some, None}
 use Rattle.std.specs.List.{slice_get}
 use Rattle.stream_ident.specs.Words.{is_above}
 use Rattle.ranked_index.specs.Ranking.{IsRanking}
@@ -19,12 +19,10 @@ pub record AreKeys {E : Type 0} (key : E → Option ℕ) (entries : List E) (ord
   pub long : length keys ≡ length order
   pub key_at : (d : E) (rank : ℕ) → rank < length order → get_or keys rank None ≡ key (entry_at entries order d rank)
 
--- the key at the rank of a number is another
-pub record IsKeySet (order : List ℕ) (number : ℕ) (key : Option ℕ) (old new : List (Option ℕ)) : Type 0 where
-  pub rank : ℕ
-  pub within : rank < length order
-  pub at : slice_index order rank ≡ number
-  pub is : new ≡ set old rank key
+-- this is kept of the entries by rank
+pub record AreByRank {E K : Type 0} (Is : E → K → Type 0) (none : K) (entries : List E) (order : List ℕ) (row : List K) : Type 0 where
+  pub long : length row ≡ length order
+  pub row_at : (d : E) (rank : ℕ) → rank < length order → Is (entry_at entries order d rank) (get_or row rank none)
 
 -- the first rank whose name is greater than the given one, or the first of all
 pub record IsFirstPast {E N : Type 0} (name : E → N) (lt : N → N → Bool) (after : Option N) (entries : List E) (order : List ℕ) (rank : ℕ) : Type 0 where

@@ -1,11 +1,13 @@
 -- What is kept of the leaves: their numbers in an order, and their keys by rank.
-use Rattle.std.specs.Prelude.{◌≡◌, ℕ, ◌+◌, ◌<◌, Bool, true, false, List, length, map, get_or, Option, Some, None, unwrap_or, ◌==◌}
+use Rattle.std.specs.Prelude.{◌≡◌, ℕ, ◌+◌, Bool, true, false, List, length, map, get_or, Option, Some, None, unwrap_or, ◌==◌}
 use Rattle.std.specs.List.{range_with_len}
 use Rattle.stream_ident.specs.Words.{first_at}
 use Rattle.ranked_index.specs.Keys.{is_at_most}
-use Rattle.ranked_index.specs.Ranked.{AreKeys}
+use Rattle.ranked_index.specs.Ranked.{AreByRank}
 use Rattle.ranked_index.specs.Ranking.{IsRanking}
+use Rattle.ranked_index.specs.Tree.{key_of, no_node}
 use Rattle.ranked_index.specs.declared.resumes.Leaf.{Leaf}
+use Rattle.ranked_index.specs.declared.tree.Node.{Node}
 
 -- the least high at which a leaf is due, less than any where something is unacknowledged, and none of a closed one
 abbrev pub due_at : Option ℕ → Bool → Option ℕ
@@ -25,25 +27,21 @@ resume_key leaf = leaf.resume
 abbrev pub rank_in : List ℕ → ℕ → ℕ
 rank_in order number = unwrap_or (first_at (λ other. other == number) 0 order) 0
 
--- the leaf of a number, by its keys: it is due at once where it has something to acknowledge
-abbrev pub leaf_at : List ℕ → List (Option ℕ) → List (Option ℕ) → ℕ → Leaf
-leaf_at order resumes due number = record {
-  resume = get_or resumes (rank_in order number) None;
-  is_unacknowledged = is_at_most 0 (get_or due (rank_in order number) None);
-}
+-- the leaf of these keys: it is due at once where it has something to acknowledge
+abbrev pub leaf_of : Node → Leaf
+leaf_of node = record { resume = key_of node.resume; is_unacknowledged = is_at_most 0 (key_of node.due) }
 
--- the leaves by number
-abbrev pub leaves_by : List ℕ → List (Option ℕ) → List (Option ℕ) → List Leaf
-leaves_by order resumes due = map (leaf_at order resumes due) (range_with_len 0 (length order))
+-- the leaves by number, from their keys by rank
+abbrev pub leaves_by : List ℕ → List Node → List Leaf
+leaves_by order row = map (λ number. leaf_of (get_or row (rank_in order number) no_node)) (range_with_len 0 (length order))
 
--- it has something to acknowledge exactly where it is due at once
-abbrev pub IsTold : Leaf → Type 0
-IsTold leaf = leaf.is_unacknowledged ≡ is_at_most 0 (due_key leaf)
+-- these are the keys of this leaf
+pub record IsLeaf (leaf : Leaf) (node : Node) : Type 0 where
+  pub is : leaf_of node ≡ leaf
+  pub due : key_of node.due ≡ due_key leaf
 
 -- all that is kept of the leaves fits them
-pub record AreKept (leaves : List Leaf) (order : List ℕ) (resumes due : List (Option ℕ)) : Type 0 where
+pub record AreKept (leaves : List Leaf) (order : List ℕ) (row : List Node) : Type 0 where
   pub long : length order ≡ length leaves
   pub ranking : IsRanking order
-  pub resumes_are : AreKeys resume_key leaves order resumes
-  pub due_are : AreKeys due_key leaves order due
-  pub told : (d : Leaf) (number : ℕ) → number < length leaves → IsTold (get_or leaves number d)
+  pub kept : AreByRank IsLeaf no_node leaves order row

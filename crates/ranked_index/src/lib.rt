@@ -1,6 +1,5 @@
-//! Rows in an order of their own: a row of keys, with a tree of minima over it, that knows its least key; a
-//! ranking, which is an order of numbers with the rank of each; and the resumes of subscriptions, which are found
-//! by both.
+//! Rows in an order of their own: a ranking, which is an order of numbers with the rank of each; and the resumes of
+//! subscriptions by rank, with a tree of minima over them, that knows the slowest one and the next that is due.
 //!
 //! Its specs have the theory of lists that are kept in the order of names (`Ranked`, `Listed`), by which what is
 //! added keeps its place among what is there.
@@ -12,4 +11,3 @@ mod tree;
 
 pub use ranking::Ranking;
 pub use resumes::{Leaf, Resumes};
-pub use tree::LeastTree;

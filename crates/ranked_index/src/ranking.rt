@@ -1,13 +1,8 @@
 //! The ranking.
-ghost use Rattle.std.specs.Prelude.{◌≡◌, ◌+◌, ◌^◌, ◌<◌, ◌≤◌, [], length, slice_index, is_ok, IfSome, if◌then◌else◌};
+ghost use Rattle.std.specs.Prelude.{◌≡◌, ◌+◌, ◌<◌, ◌≤◌, [], length, slice_index, is_ok, if◌then◌else◌};
 ghost use Rattle.std.specs.List.{insert, remove};
-ghost use Rattle.std.specs.Option.{option_map};
-ghost use Rattle.stream_ident.specs.Words.{or_else};
-ghost use Rattle.ranked_index.specs.Keys.{first_at_most, least_place};
-ghost use Rattle.ranked_index.specs.Ranked.{IsKeySet};
 ghost use Rattle.ranked_index.specs.Ranking.{IsRanking, IsReranked};
 
-use crate::tree::LeastTree;
 use std::alloc::{AllocError, Global};
 use std::marker::Model;
 
@@ -94,39 +89,13 @@ impl Ranking {
         self.ranks[number]
     }
 
-    /// Sets the key of a number among the keys by rank. It costs the logarithm of the length, and takes no
-    /// memory.
-    pub fn set_key(&self, keys: &mut LeastTree, number: usize, key: Option<usize>)
-        requires number { number < length self.now }
-        requires long { length keys.old ≡ length self.now }
-        requires key { IfSome key (λ k. k + 1 < 2 ^ 64) }
-        ensures { IsKeySet self.now number key keys.old keys.new }
+    /// The number at a rank. It costs a constant.
+    pub fn number(&self, rank: usize) -> usize
+        requires { rank < length self.now }
+        ensures is { result ≡ slice_index self.now rank }
+        ensures within { result < length self.now }
     {
-        keys.set(self.ranks[number], key);
-    }
-
-    /// The number at the first rank that has the least of the keys by rank, where a rank has one. It costs
-    /// the logarithm of the length.
-    pub fn least_number(&self, keys: &LeastTree) -> Option<usize>
-        requires { length keys.now ≡ length self.now }
-        ensures number { result ≡ option_map (slice_index self.now) (least_place keys.now) }
-        ensures within { IfSome result (λ number. number < length self.now) }
-    {
-        let rank = keys.least()?;
-        Some(self.order[rank])
-    }
-
-    /// The number at the first rank from this one on, else at the first of all, whose key is at most the
-    /// bound. It costs the logarithm of the length.
-    pub fn next_number(&self, keys: &LeastTree, from: usize, bound: usize) -> Option<usize>
-        requires { length keys.now ≡ length self.now }
-        ensures number { result ≡ option_map (slice_index self.now) (or_else (first_at_most from bound keys.now) (first_at_most 0 bound keys.now)) }
-        ensures within { IfSome result (λ number. number < length self.now) }
-    {
-        let rank = keys
-            .first_at_most(from, bound)
-            .or_else(|| keys.first_at_most(0, bound))?;
-        Some(self.order[rank])
+        self.order[rank]
     }
 }
 

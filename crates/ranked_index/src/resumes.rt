@@ -1,13 +1,13 @@
 //! The resumes of a partition: its subscriptions by number in an order of the caller's, and their keys by rank
-//! in two trees.
+//! in a tree.
 ghost use Rattle.std.specs.Prelude.{◌≡◌, ◌+◌, ◌-◌, ◌^◌, ◌<◌, ◌≤◌, ◌↔◌, [], length, slice_index, is_ok, IsTrue, IfSome, Some, if◌then◌else◌};
-ghost use Rattle.ranked_index.specs.Keys.{inserted};
 ghost use Rattle.ranked_index.specs.Leaves.{due_from, empty, least_resume, leaf_with, open_leaf, pushed, top, truncated, with_leaf, with_leaves};
 ghost use Rattle.ranked_index.specs.Ranking.{IsRanking};
 ghost use Rattle.ranked_index.specs.Ranks.{due_at};
+ghost use Rattle.ranked_index.specs.Tree.{key_of};
 
 use crate::ranking::Ranking;
-use crate::tree::LeastTree;
+use crate::tree::{Key, LeastTree, Node, leaf};
 use std::alloc::{AllocError, Global};
 use std::marker::Model;
 
@@ -24,20 +24,18 @@ pub struct Leaf {
 /// the numbers.
 ///
 /// What the numbers stand for, and by what they are ordered, is the caller's. A contract sees the list of the leaves,
-/// one for each number, and the list of the numbers by rank. Only the keys are kept, in the trees.
+/// one for each number, and the list of the numbers by rank. Only the keys are kept, in the tree.
 #[derive(Debug)]
 pub struct Resumes {
     ranking: Ranking,
-    resumes: LeastTree,
-    due: LeastTree,
+    tree: LeastTree,
 }
 
 impl Drop for Resumes {
     fn drop(self) {
         let Self {
             ranking: _,
-            resumes: _,
-            due: _,
+            tree: _,
         } = self;
     }
 }
@@ -48,9 +46,9 @@ impl Model for Resumes {
 
     ghost Value = { PlainResumes };
 
-    ghost view = { λ r. record { leaves = leaves_by r.ranking r.resumes r.due; order = r.ranking } };
+    ghost view = { λ r. record { leaves = leaves_by r.ranking r.tree; order = r.ranking } };
 
-    ghost invariant = { λ r. AreKept (leaves_by r.ranking r.resumes r.due) r.ranking r.resumes r.due };
+    ghost invariant = { λ r. AreKept (leaves_by r.ranking r.tree) r.ranking r.tree };
 }
 
 impl Resumes {
@@ -60,8 +58,7 @@ impl Resumes {
     {
         Resumes {
             ranking: Ranking::new(alloc),
-            resumes: LeastTree::new(alloc),
-            due: LeastTree::new(alloc),
+            tree: LeastTree::new(alloc),
         }
     }
 
@@ -71,14 +68,14 @@ impl Resumes {
         ensures order { length self.now.order ≡ length self.now.leaves }
         ensures ranking { IsRanking self.now.order }
     {
-        self.resumes.len()
+        self.tree.len()
     }
 
     /// Whether there is no leaf.
     pub fn is_empty(&self) -> bool
         ensures { IsTrue result ↔ (self.now.leaves ≡ []) }
     {
-        self.resumes.is_empty()
+        self.len() == 0
     }
 
     /// The numbers by rank. Each number stands at one rank.
@@ -108,9 +105,9 @@ impl Resumes {
         requires below { resume + 2 < 2 ^ 64 }
         ensures { self.new ≡ (if is_ok result then pushed rank (open_leaf resume) self.old else self.old) }
     {
-        self.ranking.insert(rank)?;
-        if let Err(error) = insert_keys(alloc, &mut self.resumes, &mut self.due, rank, resume) {
-            self.ranking.pop();
+        self.tree.insert(alloc, rank, keys(Some(resume), false))?;
+        if let Err(error) = self.ranking.insert(rank) {
+            self.tree.remove(rank);
             return Err(error);
         }
         Ok(())
@@ -123,9 +120,8 @@ impl Resumes {
         requires below { IfSome resume (λ position. position + 2 < 2 ^ 64) }
         ensures { self.new ≡ with_leaf number (leaf_with resume is_unacknowledged) self.old }
     {
-        let due = due_at(resume, is_unacknowledged);
-        self.ranking.set_key(&mut self.resumes, number, resume);
-        self.ranking.set_key(&mut self.due, number, due);
+        let rank = self.ranking.rank(number);
+        self.tree.set(rank, keys(resume, is_unacknowledged));
     }
 
     /// Opens the leaves at the ranks from one to before another, with the same resume and nothing to acknowledge. It
@@ -136,8 +132,7 @@ impl Resumes {
         requires below { resume + 2 < 2 ^ 64 }
         ensures { self.new ≡ with_leaves from (to - from) (open_leaf resume) self.old }
     {
-        self.resumes.fill(from, to, Some(resume));
-        self.due.fill(from, to, Some(resume + 1));
+        self.tree.fill(from, to, keys(Some(resume), false));
     }
 
     /// Takes the last leaf out.
@@ -146,8 +141,7 @@ impl Resumes {
         ensures { self.new ≡ truncated (length self.old.leaves - 1) self.old }
     {
         let rank = self.ranking.pop();
-        self.resumes.remove(rank);
-        self.due.remove(rank);
+        self.tree.remove(rank);
     }
 
     /// Keeps the first `len` leaves, in the order that they have, and takes the later ones back, where there are more.
@@ -164,7 +158,7 @@ impl Resumes {
     pub fn least_resume(&self) -> Option<usize>
         ensures { result ≡ least_resume self.now }
     {
-        self.resumes.least_key()
+        self.tree.least_resume()
     }
 
     /// The number of the open leaf with the least resume, and of those with the least rank, where one is
@@ -173,7 +167,8 @@ impl Resumes {
         ensures top { result ≡ top self.now }
         ensures within { IfSome result (λ number. number < length self.now.leaves) }
     {
-        self.ranking.least_number(&self.resumes)
+        let rank = self.tree.least()?;
+        Some(self.ranking.number(rank))
     }
 
     /// The number of the first leaf at or past a rank that is due: open, with something to acknowledge or a resume below
@@ -182,7 +177,8 @@ impl Resumes {
         ensures due { result ≡ due_from rank high self.now }
         ensures within { IfSome result (λ number. number < length self.now.leaves) }
     {
-        self.ranking.next_number(&self.due, rank, high)
+        let rank = self.tree.next_at_most(Key::Due, rank, high)?;
+        Some(self.ranking.number(rank))
     }
 }
 
@@ -199,27 +195,11 @@ fn due_at(resume: Option<usize>, is_unacknowledged: bool) -> Option<usize>
     Some(position + 1)
 }
 
-/// Puts the keys of an open leaf with nothing to acknowledge at a rank.
-///
-/// # Errors
-/// The call failed to allocate. Both trees are then as before.
-fn insert_keys(
-    alloc: Global,
-    resumes: &mut LeastTree,
-    due: &mut LeastTree,
-    rank: usize,
-    resume: usize,
-) -> Result<(), AllocError>
-    requires resumes { rank ≤ length resumes.old }
-    requires due { rank ≤ length due.old }
-    requires below { resume + 2 < 2 ^ 64 }
-    ensures resumes { resumes.new ≡ (if is_ok result then inserted rank (Some resume) resumes.old else resumes.old) }
-    ensures due { due.new ≡ (if is_ok result then inserted rank (Some (resume + 1)) due.old else due.old) }
+/// The keys of a leaf.
+fn keys(resume: Option<usize>, is_unacknowledged: bool) -> Node
+    requires { IfSome resume (λ position. position + 2 < 2 ^ 64) }
+    ensures resume { key_of result.resume ≡ resume }
+    ensures due { key_of result.due ≡ due_at resume is_unacknowledged }
 {
-    resumes.insert(alloc, rank, Some(resume))?;
-    if let Err(error) = due.insert(alloc, rank, Some(resume + 1)) {
-        resumes.remove(rank);
-        return Err(error);
-    }
-    Ok(())
+    leaf(resume, due_at(resume, is_unacknowledged))
 }

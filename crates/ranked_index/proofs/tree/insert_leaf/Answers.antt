@@ -1,5 +1,5 @@
-use Rattle.std.proofs.Common.{◌+◌, ◌/◌, arith}
-use Rattle.ranked_index.proofs.LeafLemmas.{same_past, least_tree-insert, keys_of-insert}
+use Rattle.std.proofs.Common.{◌∙◌, ◌+◌, ◌/◌, take, ap, arith}
+use Rattle.ranked_index.proofs.LeafLemmas.{same_past, least_tree-insert, leaves-insert}
 use Rattle.ranked_index.proofs.tree.insert_leaf.Goals as goal
 
 pub returns-clause-tree : goal.returns-clause-tree
@@ -8,8 +8,7 @@ returns-clause-tree c =
     (omega (arith, c.settle.auto.nodes, c.shift.auto.nodes)) c.requires.room c.requires.within c.settle.ensures.tree c.shift.ensures
     (λ i from. same_past ((c.args.first_leaf + c.args.len) / 2) c.shift.new.nodes c.settle.new.nodes c.settle.ensures.past i (omega arith))
 
-pub returns-clause-keys : goal.returns-clause-keys
-returns-clause-keys c =
-    keys_of-insert c.args.nodes.now c.shift.new.nodes c.settle.new.nodes c.args.first_leaf c.args.len c.args.place c.args.n c.requires.tree.halves
-    (omega (arith, c.shift.auto.nodes)) c.requires.room c.requires.within c.shift.ensures
-    (c.settle.ensures.past c.args.first_leaf (omega (arith, c.requires.room)))
+pub returns-clause-leaves : goal.returns-clause-leaves
+returns-clause-leaves c =
+    ap (take (c.args.len + 1)) (c.settle.ensures.past c.args.first_leaf (omega (arith, c.requires.room)))
+    ∙ leaves-insert c.args.nodes.now c.shift.new.nodes c.args.first_leaf c.args.len c.args.place c.args.n c.requires.tree.halves (omega (arith, c.shift.auto.nodes)) c.requires.room c.requires.within c.shift.ensures

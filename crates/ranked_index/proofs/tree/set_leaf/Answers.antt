@@ -1,5 +1,5 @@
 use Rattle.std.proofs.Common.{◌+◌, ◌/◌, set, arith, length-set}
-use Rattle.ranked_index.proofs.LeafLemmas.{same_past, least_tree-set, keys_of-set}
+use Rattle.ranked_index.proofs.LeafLemmas.{same_past, least_tree-set, leaves-set}
 use Rattle.ranked_index.proofs.tree.set_leaf.Goals as goal
 
 pub returns-clause-tree : goal.returns-clause-tree
@@ -10,7 +10,7 @@ returns-clause-tree c =
     (omega (arith, c.settle_path.auto.nodes, length-set c.args.nodes.now leaf c.args.n)) c.requires.within c.settle_path.ensures.tree
     (λ i from. same_past (leaf / 2) written c.settle_path.new.nodes c.settle_path.ensures.past i (omega (arith, c.requires.tree.room)))
 
-pub returns-clause-keys : goal.returns-clause-keys
-returns-clause-keys c =
-    keys_of-set c.args.nodes.now c.settle_path.new.nodes c.args.first_leaf c.args.len c.args.place c.args.n
+pub returns-clause-leaves : goal.returns-clause-leaves
+returns-clause-leaves c =
+    leaves-set c.args.nodes.now c.settle_path.new.nodes c.args.first_leaf c.args.len c.args.place c.args.n
     (c.settle_path.ensures.past c.args.first_leaf (omega (arith, c.requires.tree.room))) c.requires.within

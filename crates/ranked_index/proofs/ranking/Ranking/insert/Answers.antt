@@ -1,9 +1,8 @@
 use Rattle.std.proofs.Common.{◌≡◌, ◌∙◌, ℕ, ◌+◌, ◌≤◌, List, [], ◌∷◌, ◌++◌, length, drop, ap, sym, subst, arith, length-append}
 use Rattle.std.proofs.lemmas.List.{take_at}
 use Rattle.std.specs.List.{insert}
-use Rattle.std.specs.Prelude.{slice_index}
 use Rattle.ranked_index.specs.Ranking.{IsRanking}
-use Rattle.ranked_index.proofs.RankLemmas.{ranking-insert, ranks-insert, reranked_along}
+use Rattle.ranked_index.proofs.RankLemmas.{ranking_of, ranking-insert, ranks-insert, reranked_along}
 use Rattle.ranked_index.proofs.ranking.Ranking.insert.Goals as goal
 
 pub rerank-requires-clause-ranking : goal.rerank-requires-clause-ranking
@@ -12,7 +11,7 @@ rerank-requires-clause-ranking c =
     let numbers : c.as_slice.result.now ≡ insert order c.args.rank c.len-number.result = c.as_slice.ensures.value ∙ c.in_ok-insert.ensures.items in
     let number : c.len-number.result ≡ length order = omega arith in
     let fits : c.args.rank ≤ length order = omega (arith, ap length c.self.view_is) in
-    subst IsRanking (sym (numbers ∙ ap (insert order c.args.rank) number)) (ranking-insert order (slice_index c.self.inside.ranks.items) c.self.invariant.inverse c.args.rank fits)
+    subst IsRanking (sym (numbers ∙ ap (insert order c.args.rank) number)) (ranking-insert order (ranking_of order c.self.inside.ranks.items c.self.invariant) c.args.rank fits)
 
 pub invariant_of-self-2 : goal.invariant_of-self-2
 invariant_of-self-2 c =

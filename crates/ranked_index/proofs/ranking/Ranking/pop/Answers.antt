@@ -3,7 +3,7 @@ use Rattle.std.proofs.lemmas.List.{get_or_default, take_at, length-take-le}
 use Rattle.std.specs.List.{remove}
 use Rattle.std.specs.Prelude.{slice_index, slice_index_or}
 use Rattle.ranked_index.specs.Ranking.{AreRanks}
-use Rattle.ranked_index.proofs.RankLemmas.{ranking-remove, ranks-remove, reranked_along}
+use Rattle.ranked_index.proofs.RankLemmas.{ranking_of, ranking-remove, ranks-remove, reranked_along}
 use Rattle.ranked_index.proofs.ranking.Ranking.pop.Goals as goal
 
 -- the last number stands at its rank
@@ -20,7 +20,7 @@ rerank-requires-clause-ranking c =
     let end : last + 1 ≡ length order = omega (arith, ap length c.self.view_is, c.requires) in
     let at = stands order ranks last c.index-rank.result.now c.self.invariant end c.index-rank.ensures in
     rw (c.as_slice.ensures.value, c.remove.ensures.items)
-    (ranking-remove order (slice_index ranks) c.self.invariant.inverse c.index-rank.result.now at.0 (omega (arith, at.1, end)))
+    (ranking-remove order (ranking_of order ranks c.self.invariant) c.index-rank.result.now at.0 (omega (arith, at.1, end)))
 
 pub invariant_of-self : goal.invariant_of-self
 invariant_of-self c =

@@ -1,17 +1,19 @@
-use Rattle.std.proofs.Common.{◌∙◌, ℕ, List, Option, ap}
+use Rattle.std.proofs.Common.{◌∙◌, Some, ap}
 use Rattle.std.specs.Option.{option_map}
 use Rattle.std.specs.Prelude.{slice_index}
-use Rattle.stream_ident.specs.Words.{or_else}
-use Rattle.ranked_index.specs.Keys.{first_at_most}
 use Rattle.ranked_index.specs.Leaves.{due_from}
-use Rattle.ranked_index.specs.Ranks.{due_key, leaves_by}
-use Rattle.ranked_index.proofs.LeafRows.{keys-ranked}
+use Rattle.ranked_index.specs.Ranks.{leaves_by}
+use Rattle.ranked_index.proofs.LeafRows.{due-ranked}
 use Rattle.ranked_index.proofs.resumes.Resumes.due_from.Goals as goal
+
+pub returns-in_err-rank-clause-due : goal.returns-in_err-rank-clause-due
+returns-in_err-rank-clause-due c =
+    let t = c.self.inside in
+    c.from_residual.ensures ∙ ap (option_map (slice_index t.ranking)) c.in_err-rank.ensures.place
+    ∙ due-ranked (leaves_by t.ranking t.tree) t.ranking t.tree c.args.rank c.args.high c.self.invariant ∙ ap (due_from c.args.rank c.args.high) c.self.view_is
 
 pub returns-clause-due : goal.returns-clause-due
 returns-clause-due c =
     let t = c.self.inside in
-    c.next_number.ensures.number
-    ∙ ap (λ (keys : List (Option ℕ)). option_map (slice_index t.ranking) (or_else (first_at_most c.args.rank c.args.high keys) (first_at_most 0 c.args.high keys)))
-    (keys-ranked due_key (leaves_by t.ranking t.resumes t.due) t.ranking t.due c.self.invariant.due_are)
-    ∙ ap (due_from c.args.rank c.args.high) c.self.view_is
+    ap Some c.number.ensures.is ∙ ap (option_map (slice_index t.ranking)) c.in_ok-rank.ensures.place
+    ∙ due-ranked (leaves_by t.ranking t.tree) t.ranking t.tree c.args.rank c.args.high c.self.invariant ∙ ap (due_from c.args.rank c.args.high) c.self.view_is
