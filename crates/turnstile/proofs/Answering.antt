@@ -57,9 +57,7 @@ module _ {S O R : Type 0} (reply : S → O → R) (after : S → O → S) where
   pub again_done : (s : S) (qs : List (Asked O)) (rs : List R) (k : ℕ) (a : Asked O) (got got' : List R) (t t' : S) (r : R) → length qs ≡ length rs → k < length qs → a ≡ get_or qs k a → Again s qs rs k got t
       → got' ≡ got ++ r ∷ [] → t' ≡ after t a.op → r ≡ reply t a.op → Again s qs rs (k + 1) got' t'
   again_done s qs rs k a got got' t t' r same inside is so_far pushed changed right =
-      let next : Again s qs rs (suc k) (got ++ reply t a.op ∷ []) (after t a.op) = again_next s qs rs k a got t same inside is so_far in
-      let left : got' ≡ got ++ reply t a.op ∷ [] = pushed ∙ ap (λ (z : R). got ++ z ∷ []) right in
-      subst (λ (n : ℕ). Again s qs rs n got' t') (sym (add-one k)) (subst (λ (l : List R). Again s qs rs (suc k) l t') (sym left) (subst (Again s qs rs (suc k) (got ++ reply t a.op ∷ [])) (sym changed) next))
+      rw (add-one, pushed, changed, right) (again_next s qs rs k a got t same inside is so_far)
 
   -- all are done
   pub again_all : (s : S) (qs : List (Asked O)) (rs : List R) (k : ℕ) (got : List R) (t : S) → length qs ≡ length rs → k ≡ length qs → Again s qs rs k got t

@@ -8,7 +8,7 @@ use Rattle.turnstile.specs.Calls.{numbers_of, joined_pass, Agree}
 use Rattle.turnstile.specs.Closing.{Each, HasSome, all_numbers, FirstCounted, Gathered, IsTrace, FromAll}
 use Rattle.turnstile.specs.History.{times, Claims, longer}
 use Rattle.turnstile.specs.Passes.{PassView}
-use Rattle.turnstile.proofs.Histories.{claims_same, claims_extend, foreign_fewer, own_same, longer_one}
+use Rattle.turnstile.proofs.Histories.{claims_same, claims_extend, foreign_fewer, own_same, longer_is}
 use Rattle.turnstile.proofs.Totals.{times-append, AllPairs-times}
 
 -- what holds of each holds of each of a front
@@ -21,41 +21,19 @@ all_last P whole xs x is all =
     let h : length whole ≡ length xs + 1 = ap length is ∙ length-append xs (x ∷ []) in
     subst P (ap (λ l. get_or l (length xs) x) is ∙ get_or-append_seam xs x [] x) (all (length xs) x (omega (arith, h)))
 
--- a part has no more than the whole
-times_first : (k : ℕ) (xs ys zs : List ℕ) → times k (xs ++ ys) ≤ times k zs → times k xs ≤ times k zs
-times_first k xs ys zs less = let h : times k (xs ++ ys) ≡ times k xs + times k ys = times-append k xs ys in omega (arith, h, less)
-
-times_last : (k : ℕ) (xs ys zs : List ℕ) → times k (xs ++ ys) ≤ times k zs → times k ys ≤ times k zs
-times_last k xs ys zs less = let h : times k (xs ++ ys) ≡ times k xs + times k ys = times-append k xs ys in omega (arith, h, less)
-
--- whether they are joined behind or put in front, the numbers are the same, and as many
-times_joined : (k : ℕ) (all xs ys both : List ℕ) → times k all ≡ times k xs → both ≡ xs ++ ys → times k (ys ++ all) ≡ times k both
-times_joined k all xs ys both same is =
-    let a : times k (ys ++ all) ≡ times k ys + times k all = times-append k ys all in
-    let b : times k both ≡ times k xs + times k ys = ap (times k) is ∙ times-append k xs ys in
-    omega (arith, a, b, same)
-
-length_joined : (all xs ys both : List ℕ) → length all ≡ length xs → both ≡ xs ++ ys → length (ys ++ all) ≡ length both
-length_joined all xs ys both same is =
-    let a : length (ys ++ all) ≡ length ys + length all = length-append ys all in
-    let b : length both ≡ length xs + length ys = ap length is ∙ length-append xs ys in
-    omega (arith, a, b, same)
-
 module _ {O R S : Type 0} where
   -- what holds of a list holds of it with more calls of others
   each_extend : (ps : List (PassView O R S)) (numbers : List ℕ) (seen seen' : List (Entry O R)) → ((k : ℕ) → times k (all_numbers ps) ≤ times k numbers) → Claims numbers seen seen' → Each (λ p. Claims (numbers_of p) p.seen seen) ps → Each (λ p. Claims (numbers_of p) p.seen seen') ps
   each_extend [] numbers seen seen' less whole each = tt
   each_extend (p ∷ ps) numbers seen seen' less whole each = (
-    subst (Claims (numbers_of p) p.seen) (sym whole.is) (claims_extend (numbers_of p) p.seen seen whole.rest each.0 (foreign_fewer (numbers_of p) numbers whole.rest (λ k. times_first k (numbers_of p) (all_numbers ps) numbers (less k)) whole.foreign)),
-    each_extend ps numbers seen seen' (λ k. times_last k (numbers_of p) (all_numbers ps) numbers (less k)) whole each.1,
+    subst (Claims (numbers_of p) p.seen) (sym whole.is) (claims_extend (numbers_of p) p.seen seen whole.rest each.0
+        (foreign_fewer (numbers_of p) numbers whole.rest (λ k. omega (arith, less k, times-append k (numbers_of p) (all_numbers ps))) whole.foreign)),
+    each_extend ps numbers seen seen' (λ k. omega (arith, less k, times-append k (numbers_of p) (all_numbers ps))) whole each.1,
   )
-
-  some_seen : (ps : List (PassView O R S)) (seen seen' : List (Entry O R)) → seen ≡ seen' → HasSome (λ p. p.seen ≡ seen) ps → HasSome (λ p. p.seen ≡ seen') ps
-  some_seen ps seen seen' e has = subst (λ l. HasSome (λ (p : PassView O R S). p.seen ≡ l) ps) e has
 
   each_less : (ps : List (PassView O R S)) (m n : ℕ) → m ≤ n → Each (λ p. p.made ≤ m) ps → Each (λ p. p.made ≤ n) ps
   each_less [] m n le each = tt
-  each_less (p ∷ ps) m n le each = let a : p.made ≤ m = each.0 in (omega (arith, a, le), each_less ps m n le each.1)
+  each_less (p ∷ ps) m n le each = (omega (arith, each.0, le), each_less ps m n le each.1)
 
   gathered_one : (p : PassView O R S) → Gathered (p ∷ []) p
   gathered_one p = record {
@@ -72,10 +50,10 @@ module _ {O R S : Type 0} where
       let seen : r.seen ≡ longer p.seen q.seen = ap (λ (z : PassView O R S). z.seen) is in
       let made : r.made ≡ max p.made q.made = ap (λ (z : PassView O R S). z.made) is in
       record {
-        claims = (both.1, each_extend ps (numbers_of p) p.seen r.seen (λ k. let h : times k (all_numbers ps) ≡ times k (numbers_of p) = all.numbers k in omega (arith, h)) both.0 all.claims);
-        longest = ⊎_elim (λ e. inr (some_seen ps p.seen r.seen (e ∙ sym seen) all.longest)) (λ e. inl (e ∙ sym seen)) (longer_one p.seen q.seen);
-        numbers = λ k. times_joined k (all_numbers ps) (numbers_of p) (numbers_of q) (numbers_of r) (all.numbers k) numbers;
-        count = length_joined (all_numbers ps) (numbers_of p) (numbers_of q) (numbers_of r) all.count numbers;
+        claims = (both.1, each_extend ps (numbers_of p) p.seen r.seen (λ k. omega (arith, all.numbers k)) both.0 all.claims);
+        longest = ⊎_elim (λ t. inr (subst (λ l. HasSome (λ (z : PassView O R S). z.seen ≡ l) ps) (sym (seen ∙ t.0)) all.longest)) (λ t. inl (sym (seen ∙ t.0))) (longer_is p.seen q.seen);
+        numbers = λ k. omega (arith, all.numbers k, times-append k (numbers_of q) (all_numbers ps), ap (times k) numbers ∙ times-append k (numbers_of p) (numbers_of q));
+        count = omega (arith, all.count, length-append (numbers_of q) (all_numbers ps), ap length numbers ∙ length-append (numbers_of p) (numbers_of q));
         most = (omega (arith, made), each_less ps p.made r.made (omega (arith, made)) all.most);
       }
 
@@ -100,35 +78,20 @@ module _ {O R S : Type 0} where
       subst (λ (l : List (PassView O R S)). Gathered l kept) (sym (so_far.whole ∙ ap (λ (l : List (PassView O R S)). l ++ so_far.taken) none)) so_far.gathered
 
 module _ {X S O R : Type 0} (reply : S → O → R) (after : S → O → S) (state : X → S) (x : Start S) where
-  -- what the trace of one pass says of all that were joined into it
-  from_gathered : (ps : List (PassView O R S)) (kept : PassView O R S) (history : List (Entry O R)) (object : X) → Gathered ps kept → IsTrace reply after state x kept history object → FromAll reply after state x ps history object
-  from_gathered ps kept history object all trace = record {
-    claims = subst (λ (l : List (Entry O R)). Each (λ p. Claims (numbers_of p) p.seen l) ps) (sym trace.whole) all.claims;
-    longest = some_seen ps kept.seen history (sym trace.whole) all.longest;
-    differ = AllPairs-times (all_numbers ps) (λ k. let a : times k (all_numbers ps) ≡ times k (numbers_of kept) = all.numbers k in let b : times k (numbers_of kept) ≤ 1 = trace.differ k in omega (arith, a, b));
-    own = own_same (numbers_of kept) (all_numbers ps) history all.numbers trace.own;
-    most = each_less ps kept.made (length (all_numbers ps)) (let a : length (all_numbers ps) ≡ length (numbers_of kept) = all.count in let b : kept.made ≤ length (numbers_of kept) = trace.most in omega (arith, a, b)) all.most;
-    legal = trace.legal;
-    object_is = trace.object_is;
-    bounded = trace.bounded;
-  }
-
-  -- and of the passes before the first was counted
+  -- what the trace of one pass says of all that were joined into it, and of the first before it was counted
   pub traced : (ps qs : List (PassView O R S)) (kept : PassView O R S) (made : ℕ) (history : List (Entry O R)) (object : X) → FirstCounted ps qs made → Gathered qs kept → IsTrace reply after state x kept history object → FromAll reply after state x ps history object
-  traced [] qs kept made history object first all trace = absurd first
-  traced (p ∷ ps) [] kept made history object first all trace = absurd first
-  traced (p ∷ ps) (q ∷ qs) kept made history object first all trace =
-      let from : FromAll reply after state x ((record p { made = q.made }) ∷ ps) history object =
-      from_gathered ((record p { made = q.made }) ∷ ps) kept history object (subst (λ (l : List (PassView O R S)). Gathered l kept) (λ i. first.0.0 i ∷ first.2 i) all) trace in
-      let before : p.made ≤ q.made = first.0.1 in
-      let most : q.made ≤ length (all_numbers (p ∷ ps)) = from.most.0 in
+  traced [] qs kept made history object first gathered trace = absurd first
+  traced (p ∷ ps) [] kept made history object first gathered trace = absurd first
+  traced (p ∷ ps) (q ∷ qs) kept made history object first gathered trace =
+      let all : Gathered ((record p { made = q.made }) ∷ ps) kept = subst (λ (l : List (PassView O R S)). Gathered l kept) (λ i. first.0.0 i ∷ first.2 i) gathered in
+      let whole = sym trace.whole in
       record {
-        claims = from.claims;
-        longest = from.longest;
-        differ = from.differ;
-        own = from.own;
-        most = (omega (arith, before, most), from.most.1);
-        legal = from.legal;
-        object_is = from.object_is;
-        bounded = from.bounded;
+        claims = subst (λ (l : List (Entry O R)). Each (λ (z : PassView O R S). Claims (numbers_of z) z.seen l) (p ∷ ps)) whole all.claims;
+        longest = subst (λ (l : List (Entry O R)). HasSome (λ (z : PassView O R S). z.seen ≡ l) (p ∷ ps)) whole all.longest;
+        differ = AllPairs-times (all_numbers (p ∷ ps)) (λ k. omega (arith, all.numbers k, trace.differ k));
+        own = own_same (numbers_of kept) (all_numbers (p ∷ ps)) history all.numbers trace.own;
+        most = (omega (arith, first.0.1, all.most.0, all.count, trace.most), each_less ps kept.made (length (all_numbers (p ∷ ps))) (omega (arith, all.count, trace.most)) all.most.1);
+        legal = trace.legal;
+        object_is = trace.object_is;
+        bounded = trace.bounded;
       }

@@ -1,5 +1,5 @@
 -- Beginnings of a history, and a history with one more entry.
-use Rattle.std.proofs.Common.{◌≡◌, ℕ, ◌+◌, ◌<◌, ◌≤◌, ◌⊎◌, inl, inr, Bool, true, false, ltb, if◌then◌else◌, List, [], ◌∷◌, ◌++◌, length, get_or, drop, refl, sym, ap, ◌∙◌, subst, arith, append_assoc, append-nil}
+use Rattle.std.proofs.Common.{◌≡◌, ℕ, ◌<◌, ◌≤◌, ◌⊎◌, ⊎_elim, inl, inr, Bool, true, false, ltb, if◌then◌else◌, List, [], ◌∷◌, ◌++◌, length, get_or, drop, refl, sym, ap, ◌∙◌, subst, arith, append_assoc, append-nil}
 use Rattle.std.proofs.lemmas.Bool.{ltb-true, ltb-false}
 use Rattle.turnstile.specs.declared.history.Entry.{Entry}
 use Rattle.turnstile.specs.declared.view.Claim.{Claim}
@@ -36,14 +36,13 @@ module _ {O R : Type 0} where
 
   pub foreign_both : (numbers others : List ℕ) (xs : List (Entry O R)) → Foreign numbers xs → Foreign others xs → Foreign (numbers ++ others) xs
   foreign_both numbers others [] f g = tt
-  foreign_both numbers others (x ∷ xs) f g = let a = times_absent numbers x.number f.0 in let b = times_absent others x.number g.0 in
-      let c : times x.number (numbers ++ others) ≡ times x.number numbers + times x.number others = times-append x.number numbers others in (absent-times (numbers ++ others) x.number (omega (arith, a, b, c)), foreign_both numbers others xs f.1 g.1)
+  foreign_both numbers others (x ∷ xs) f g =
+      (absent-times (numbers ++ others) x.number (omega (arith, times_absent numbers x.number f.0, times_absent others x.number g.0, times-append x.number numbers others)), foreign_both numbers others xs f.1 g.1)
 
   -- with fewer numbers
   pub foreign_fewer : (fewer numbers : List ℕ) (xs : List (Entry O R)) → ((k : ℕ) → times k fewer ≤ times k numbers) → Foreign numbers xs → Foreign fewer xs
   foreign_fewer fewer numbers [] less f = tt
-  foreign_fewer fewer numbers (x ∷ xs) less f = let a = times_absent numbers x.number f.0 in let b : times x.number fewer ≤ times x.number numbers = less x.number in
-      (absent-times fewer x.number (omega (arith, a, b)), foreign_fewer fewer numbers xs less f.1)
+  foreign_fewer fewer numbers (x ∷ xs) less f = (absent-times fewer x.number (omega (arith, times_absent numbers x.number f.0, less x.number)), foreign_fewer fewer numbers xs less f.1)
 
   -- no entry has a number, where there is none
   pub foreign_none : (xs : List (Entry O R)) → Foreign [] xs
@@ -51,34 +50,23 @@ module _ {O R : Type 0} where
   foreign_none (x ∷ xs) = (absent-times [] x.number refl, foreign_none xs)
 
   -- no entry has a number that is not drawn yet
-  pub foreign_fresh : (n k : ℕ) (xs : List (Entry O R)) → n ≤ k → Drawn n xs → Foreign (k ∷ []) xs
-  foreign_fresh n k [] le d = tt
-  foreign_fresh n k (x ∷ xs) le d = let a : x.number < n = d.0 in (absent-times (k ∷ []) x.number (times_else x.number k [] (λ e. omega (arith, a, e, le))), foreign_fresh n k xs le d.1)
-
-  pub drawn_front : (n : ℕ) (xs ys : List (Entry O R)) → Drawn n (xs ++ ys) → Drawn n xs
-  drawn_front n [] ys d = tt
-  drawn_front n (x ∷ xs) ys d = (d.0, drawn_front n xs ys d.1)
-
-  pub drawn_tail : (n : ℕ) (xs ys : List (Entry O R)) → Drawn n (xs ++ ys) → Drawn n ys
-  drawn_tail n [] ys d = d
-  drawn_tail n (x ∷ xs) ys d = drawn_tail n xs ys d.1
+  pub foreign_fresh : (n : ℕ) (xs : List (Entry O R)) → Drawn n xs → Foreign (n ∷ []) xs
+  foreign_fresh n [] d = tt
+  foreign_fresh n (x ∷ xs) d = (absent-times (n ∷ []) x.number (times_else x.number n [] (λ e. omega (arith, d.0, e))), foreign_fresh n xs d.1)
 
   pub drawn_more : (n m : ℕ) (xs : List (Entry O R)) → n ≤ m → Drawn n xs → Drawn m xs
   drawn_more n m [] le d = tt
-  drawn_more n m (x ∷ xs) le d = let a : x.number < n = d.0 in (omega (arith, a, le), drawn_more n m xs le d.1)
+  drawn_more n m (x ∷ xs) le d = (omega (arith, d.0, le), drawn_more n m xs le d.1)
 
   pub drawn_snoc : (n : ℕ) (xs : List (Entry O R)) (e : Entry O R) → Drawn n xs → e.number < n → Drawn n (xs ++ e ∷ [])
   drawn_snoc n [] e d l = (l, tt)
   drawn_snoc n (x ∷ xs) e d l = (d.0, drawn_snoc n xs e d.1 l)
 
   -- entries that have one of the numbers and none of them are none
-  pub own_foreign : (numbers : List ℕ) (xs : List (Entry O R)) → Own numbers xs → Foreign numbers xs → xs ≡ []
-  own_foreign numbers [] own f = refl
-  own_foreign numbers (x ∷ xs) own f = absurd (f.0 own.0)
-
-  pub own_tail : (numbers : List ℕ) (xs ys : List (Entry O R)) → Own numbers (xs ++ ys) → Own numbers ys
-  own_tail numbers [] ys own = own
-  own_tail numbers (x ∷ xs) ys own = own_tail numbers xs ys own.1
+  pub own_foreign : (numbers : List ℕ) (seen xs : List (Entry O R)) → Own numbers (seen ++ xs) → Foreign numbers xs → xs ≡ []
+  own_foreign numbers [] [] own f = refl
+  own_foreign numbers [] (x ∷ xs) own f = absurd (f.0 own.0)
+  own_foreign numbers (e ∷ seen) xs own f = own_foreign numbers seen xs own.1 f
 
   pub own_drawn : (numbers : List ℕ) (n : ℕ) (xs : List (Entry O R)) → ((k : ℕ) → k < n → 0 < times k numbers) → Drawn n xs → Own numbers xs
   own_drawn numbers n [] each d = tt
@@ -87,10 +75,7 @@ module _ {O R : Type 0} where
   -- with the same numbers, counted
   pub own_same : (numbers others : List ℕ) (xs : List (Entry O R)) → ((k : ℕ) → times k others ≡ times k numbers) → Own numbers xs → Own others xs
   own_same numbers others [] same own = tt
-  own_same numbers others (x ∷ xs) same own =
-      let a = times_contained numbers x.number own.0 in
-      let b = same x.number in
-      (Contains-times others x.number (omega (arith, a, b)), own_same numbers others xs same own.1)
+  own_same numbers others (x ∷ xs) same own = (Contains-times others x.number (omega (arith, times_contained numbers x.number own.0, same x.number)), own_same numbers others xs same own.1)
 
   pub claims_same : (numbers : List ℕ) (seen log : List (Entry O R)) → seen ≡ log → Claims numbers seen log
   claims_same numbers seen log e = record { rest = []; is = sym e ∙ sym (append-nil seen); foreign = tt }
@@ -122,45 +107,26 @@ module _ {O R : Type 0} where
         foreign = foreign_front numbers h.0 r (subst (Foreign numbers) h.2 c.foreign);
       }
 
-  claims_of_longer : (numbers others : List ℕ) (xs ys log : List (Entry O R)) → length xs ≤ length ys → Claims numbers xs log → Claims others ys log → Claims (numbers ++ others) ys log
-  claims_of_longer numbers others xs ys log le c d =
-      let h = cut ys d.rest xs c.rest (sym d.is ∙ c.is) le in
-      record {
-        rest = d.rest;
-        is = d.is;
-        foreign = foreign_both numbers others d.rest (foreign_tail numbers h.0 d.rest (subst (Foreign numbers) h.2 c.foreign)) d.foreign;
-      }
+  longer_by : (xs ys : List (Entry O R)) (b : Bool) → ltb (length xs) (length ys) ≡ b → ((if b then ys else xs) ≡ xs) × (length ys ≤ length xs) ⊎ ((if b then ys else xs) ≡ ys) × (length xs ≤ length ys)
+  longer_by xs ys true is = inr (refl, omega (arith, ltb-true (length xs) (length ys) is))
+  longer_by xs ys false is = inl (refl, ltb-false (length xs) (length ys) is)
 
-  claims_of_first : (numbers others : List ℕ) (xs ys log : List (Entry O R)) → length ys ≤ length xs → Claims numbers xs log → Claims others ys log → Claims (numbers ++ others) xs log
-  claims_of_first numbers others xs ys log le c d =
-      let h = cut xs c.rest ys d.rest (sym c.is ∙ d.is) le in
-      record {
-        rest = c.rest;
-        is = c.is;
-        foreign = foreign_both numbers others c.rest c.foreign (foreign_tail others h.0 c.rest (subst (Foreign others) h.2 d.foreign));
-      }
+  pub longer_is : (xs ys : List (Entry O R)) → (longer xs ys ≡ xs) × (length ys ≤ length xs) ⊎ (longer xs ys ≡ ys) × (length xs ≤ length ys)
+  longer_is xs ys = longer_by xs ys (ltb (length xs) (length ys)) refl
 
-  longer_by : (numbers others : List ℕ) (xs ys log : List (Entry O R)) (b : Bool) → ltb (length xs) (length ys) ≡ b → Claims numbers xs log → Claims others ys log → Claims (numbers ++ others) (if b then ys else xs) log
-  longer_by numbers others xs ys log true is c d = let l : length xs < length ys = ltb-true (length xs) (length ys) is in claims_of_longer numbers others xs ys log (omega (arith, l)) c d
-  longer_by numbers others xs ys log false is c d = let l : length ys ≤ length xs = ltb-false (length xs) (length ys) is in claims_of_first numbers others xs ys log l c d
+  pub longer_bounds : (xs ys : List (Entry O R)) → (length xs ≤ length (longer xs ys)) × (length ys ≤ length (longer xs ys))
+  longer_bounds xs ys = ⊎_elim (λ t. rw t.0 (omega arith, t.1)) (λ t. rw t.0 (t.1, omega arith)) (longer_is xs ys)
+
+  -- of two beginnings, no entry past the longer has a number of the shorter
+  foreign_past : (numbers : List ℕ) (xs ys rest log : List (Entry O R)) → length xs ≤ length ys → Claims numbers xs log → log ≡ ys ++ rest → Foreign numbers rest
+  foreign_past numbers xs ys rest log le c is = let h = cut ys rest xs c.rest (sym is ∙ c.is) le in foreign_tail numbers h.0 rest (subst (Foreign numbers) h.2 c.foreign)
 
   -- the longer of two beginnings, past which no entry has a number of either
   pub claims_longer : (numbers others : List ℕ) (xs ys log : List (Entry O R)) → Claims numbers xs log → Claims others ys log → Claims (numbers ++ others) (longer xs ys) log
-  claims_longer numbers others xs ys log c d = longer_by numbers others xs ys log (ltb (length xs) (length ys)) refl c d
-
-  longer_most : (xs ys : List (Entry O R)) (b : Bool) → ltb (length xs) (length ys) ≡ b → (length xs ≤ length (if b then ys else xs)) × (length ys ≤ length (if b then ys else xs))
-  longer_most xs ys true is = let l : length xs < length ys = ltb-true (length xs) (length ys) is in (omega (arith, l), omega arith)
-  longer_most xs ys false is = let l : length ys ≤ length xs = ltb-false (length xs) (length ys) is in (omega arith, l)
-
-  pub longer_bounds : (xs ys : List (Entry O R)) → (length xs ≤ length (longer xs ys)) × (length ys ≤ length (longer xs ys))
-  longer_bounds xs ys = longer_most xs ys (ltb (length xs) (length ys)) refl
-
-  one_of : (xs ys : List (Entry O R)) (b : Bool) → (xs ≡ (if b then ys else xs)) ⊎ (ys ≡ (if b then ys else xs))
-  one_of xs ys true = inr refl
-  one_of xs ys false = inl refl
-
-  pub longer_one : (xs ys : List (Entry O R)) → (xs ≡ longer xs ys) ⊎ (ys ≡ longer xs ys)
-  longer_one xs ys = one_of xs ys (ltb (length xs) (length ys))
+  claims_longer numbers others xs ys log c d = ⊎_elim
+      (λ t. rw t.0 record { rest = c.rest; is = c.is; foreign = foreign_both numbers others c.rest c.foreign (foreign_past others ys xs c.rest log t.1 d c.is) })
+      (λ t. rw t.0 record { rest = d.rest; is = d.is; foreign = foreign_both numbers others d.rest (foreign_past numbers xs ys d.rest log t.1 c d.is) d.foreign })
+      (longer_is xs ys)
 
   pub all_claim_extend : (numbers : List ℕ) (cs : List (Claim O R)) (log more : List (Entry O R)) → Foreign numbers more → AllClaim numbers cs log → AllClaim numbers cs (log ++ more)
   all_claim_extend numbers [] log more f a = tt

@@ -1,5 +1,5 @@
 -- A pass that takes in another.
-use Rattle.std.proofs.Common.{◌≡◌, ℕ, ◌+◌, ◌≤◌, List, [], ◌∷◌, ◌++◌, drop, sym, ap, ◌∙◌, subst, arith}
+use Rattle.std.proofs.Common.{◌≡◌, ℕ, List, [], ◌∷◌, drop, ap, ◌∙◌, subst, arith}
 use Rattle.atomic_table.specs.Seated.{TableId}
 use Rattle.turnstile.specs.declared.history.Entry.{Entry}
 use Rattle.turnstile.specs.declared.view.View.{View}
@@ -12,21 +12,13 @@ use Rattle.turnstile.proofs.Histories.{claims_cut, longer_bounds}
 use Rattle.turnstile.proofs.Totals.{times-append, times_contained}
 
 module _ {S O R : Type 0} where
-  told_both : (v w : View S O R) → Told (joined v w) → Claims v.numbers v.seen (longer v.seen w.seen) × Claims w.numbers w.seen (longer v.seen w.seen) × ShareNone v.numbers w.numbers
-  told_both v w told =
+  told_both : (v w : View S O R) (xs ys : List ℕ) (seen : List (Entry O R)) → v.numbers ≡ xs → w.numbers ≡ ys → seen ≡ longer v.seen w.seen → Told (joined v w) → Claims xs v.seen seen × Claims ys w.seen seen × ShareNone xs ys
+  told_both v w xs ys seen one other is told =
       let bounds = longer_bounds v.seen w.seen in (
-        claims_cut v.numbers v.seen told.log (longer v.seen w.seen) told.seen.rest told.past.1 told.seen.is bounds.0,
-        claims_cut w.numbers w.seen told.log (longer v.seen w.seen) told.seen.rest told.past.2.1 told.seen.is bounds.1,
-        (λ k one other.
-            let a : times k (v.numbers ++ w.numbers) ≤ 1 = told.once k in
-            let b : times k (v.numbers ++ w.numbers) ≡ times k v.numbers + times k w.numbers = times-append k v.numbers w.numbers in
-            let c = times_contained v.numbers k one in
-            let d = times_contained w.numbers k other in
-            omega (arith, a, b, c, d)),
+        rw (← one, is) (claims_cut v.numbers v.seen told.log (longer v.seen w.seen) told.seen.rest told.past.1 told.seen.is bounds.0),
+        rw (← other, is) (claims_cut w.numbers w.seen told.log (longer v.seen w.seen) told.seen.rest told.past.2.1 told.seen.is bounds.1),
+        (λ k a b. omega (arith, told.once k, times-append k v.numbers w.numbers, ap (times k) one, ap (times k) other, times_contained xs k a, times_contained ys k b)),
       )
-
-  abbrev Agreed : View S O R → View S O R → List (Entry O R) → List ℕ → List ℕ → Type 0
-  Agreed v w seen xs ys = Claims xs v.seen seen × Claims ys w.seen seen × ShareNone xs ys
 
 module _ {X H S O R : Type 0} where
   -- m is the seat after the join, and n once it was told what stands
@@ -34,7 +26,5 @@ module _ {X H S O R : Type 0} where
       → m.0 ≡ joined v w → n ≡ (record m.0 { past = [] }, m.1) → Told m.0 → Agree p q (pass_view x n.0 k)
   agree p q z y x v w k j m n one other named other_named is tell told =
       let seen : n.0.seen ≡ longer v.seen w.seen = ap (λ (z : Sat X H S O R). z.0.seen) tell ∙ ap (λ (z : View S O R). z.seen) is in
-      let both : Agreed v w n.0.seen v.numbers w.numbers = subst (λ (l : List (Entry O R)). Agreed v w l v.numbers w.numbers) (sym seen) (told_both v w (subst Told is told)) in
-      let views : Agree (pass_view z v k) (pass_view y w j) (pass_view x n.0 k) =
-      subst (λ (xs : List ℕ). Agreed v w n.0.seen xs (j ∷ drop 1 w.numbers)) named (subst (Agreed v w n.0.seen v.numbers) other_named both) in
-      subst (λ (r : PassView O R S). Agree r q (pass_view x n.0 k)) one (subst (λ (r : PassView O R S). Agree (pass_view z v k) r (pass_view x n.0 k)) other views)
+      subst (λ (r : PassView O R S). Agree r q (pass_view x n.0 k)) one (subst (λ (r : PassView O R S). Agree (pass_view z v k) r (pass_view x n.0 k)) other
+      (told_both v w (k ∷ drop 1 v.numbers) (j ∷ drop 1 w.numbers) n.0.seen named other_named seen (subst Told is told)))

@@ -17,8 +17,6 @@ use Rattle.turnstile.specs.declared.view.View.{View}
 use Rattle.turnstile.specs.History.{times, replay, IsLegal, Own, Claims}
 use Rattle.turnstile.specs.Plays.{Sat, items_of, first_of, drew, looked, noted, left, numbered, counted, told}
 use Rattle.turnstile.specs.Turns.{opening_view, spent_view, unnumbered, joined, AtHome, Stands, Turning}
-use Rattle.turnstile.proofs.Ending.{ended}
-use Rattle.turnstile.proofs.Members as members
 use Rattle.turnstile.proofs.Stands as stands
 
 module _ {X H S O R : Type 0} (entries : H → List (Entry O R)) (state : X → S) (reply : S → O → R) (after : S → O → S) (start : Start S) where
@@ -64,25 +62,18 @@ module _ {X H S O R : Type 0} (entries : H → List (Entry O R)) (state : X → 
       → Allows Holds slots id m i f then
   moves slots id m i f then each s h len at fits = subst (Goes id m i f then s.homes s.views) (sym h.words) (each h.passes h.drawn h.serving h.log s.homes s.views h.stands len at)
 
+  stays : (id : ℕ) (m : M) (i : ℕ) (f : ℕ → ℕ) (then : ℕ → M → Type 0) (p d s : ℕ) (log : Log) (homes : Homes) (views : Views) (ws : List ℕ) (w : View S O R) → set ws i (f (get_or ws i 0)) ≡ words_of p d s log
+      → Rule p d s log homes (set views id w) → then (get_or ws i 0) (w, m.1) → Goes id m i f then homes views ws
+  stays id m i f then p d s log homes views ws w words rule told = (w, keeps, tt, holds_at p d s log homes (set views id w) _ words rule, told)
+
   pub makes : (xs : List Slot) (held : Held X H) → xs ≡ Some held ∷ [] → entries held.history ≡ [] → state held.object ≡ start.state → Holds (opening (1 ∷ 0 ∷ 0 ∷ 0 ∷ []) xs (opening_view start))
   makes xs held is none same = subst (λ ys. Holds (opening (1 ∷ 0 ∷ 0 ∷ 0 ∷ []) ys (opening_view start))) (sym is)
       (holds_at 1 0 0 [] (maybe.some (Some held) ∷ []) (opening_view start ∷ []) (1 ∷ 0 ∷ 0 ∷ 0 ∷ []) refl (stands.made entries state reply after start held none same))
 
   pub draws : (slots id : ℕ) (m : M) → m.0.tickets ≡ [] → m.0.come ≡ false → 0 < length m.0.numbers → Allows Holds slots id m 1 (λ n. (n + 1) % 18446744073709551616) (drew any_step m)
-  draws slots id m none idle some = moves slots id m 1 (λ n. (n + 1) % 18446744073709551616) (drew any_step m) (λ p d s log homes views rule len at. (
-    record m.0 { tickets = d ∷ [] },
-    keeps,
-    tt,
-    holds_at p (d + 1) s log homes (set views id (record m.0 { tickets = d ∷ [] })) _ (ap (λ (n : ℕ). p ∷ n ∷ (s % 18446744073709551616) ∷ length log ∷ []) (mod-add-mod d 18446744073709551616 1))
-        (stands.drawn entries state reply after start p d s log homes views id m.0 at none idle some rule),
-    (d, refl, refl),
-  ))
-
-  legal_here : (x : Start S) (held : Held X H) (log : Log) → x ≡ start → entries held.history ≡ log → IsLegal reply after start.state log → state held.object ≡ replay reply after start.state log → length log ≤ start.limit
-      → IsLegal reply after x.state (entries held.history) × (state held.object ≡ replay reply after x.state (entries held.history)) × (length (entries held.history) ≤ x.limit)
-  legal_here x held log begins history legal object bounded =
-      subst (λ (z : Start S). IsLegal reply after z.state (entries held.history) × (state held.object ≡ replay reply after z.state (entries held.history)) × (length (entries held.history) ≤ z.limit)) (sym begins)
-      (subst (λ (l : Log). IsLegal reply after start.state l × (state held.object ≡ replay reply after start.state l) × (length l ≤ start.limit)) (sym history) (legal, object, bounded))
+  draws slots id m none idle some = moves slots id m 1 (λ n. (n + 1) % 18446744073709551616) (drew any_step m) (λ p d s log homes views rule len at.
+      stays id m 1 (λ n. (n + 1) % 18446744073709551616) (drew any_step m) p (d + 1) s log homes views (words_of p d s log) (record m.0 { tickets = d ∷ [] })
+      (ap (λ (n : ℕ). p ∷ n ∷ (s % 18446744073709551616) ∷ length log ∷ []) (mod-add-mod d 18446744073709551616 1)) (stands.drawn entries state reply after start p d s log homes views id m.0 at none idle some rule) (d, refl, refl))
 
   pub looks : (slots id : ℕ) (m : M) (t : ℕ) → m.1 ≡ [] → m.0.tickets ≡ t ∷ [] → m.0.come ≡ false → Allows Holds slots id m 2 (λ n. n) (looked entries state reply after any_step m)
   looks slots id m t empty ticket idle = moves slots id m 2 (λ n. n) (looked entries state reply after any_step m) (λ p d s log homes views rule len at.
@@ -103,18 +94,12 @@ module _ {X H S O R : Type 0} (entries : H → List (Entry O R)) (state : X → 
             slot = ap (λ (c : List (ℕ × Slot)). (0, Some h.held) ∷ c) empty;
             view = refl;
             claims = subst (Claims m.0.numbers m.0.seen) (sym h.history) k.seen;
-            legal = λ x is. legal_here x h.held log (k.begins x is) h.history rule.legal h.object rule.bounded;
+            legal = λ x is. rw (k.begins x is, h.history) (rule.legal, h.object, rule.bounded);
           }),
           (λ other. absurd (other same)),
         ),
       ))
-      (λ other. (
-        m.0,
-        keeps,
-        tt,
-        holds_at p d s log homes (set views id m.0) _ refl (subst (Rule p d s log homes) (sym (set_again views id m.0 at)) rule),
-        ((λ same. absurd (other same)), (λ _. refl)),
-      )))
+      (λ other. stays id m 2 (λ n. n) (looked entries state reply after any_step m) p d s log homes views (words_of p d s log) m.0 refl (subst (Rule p d s log homes) (sym (set_again views id m.0 at)) rule) ((λ same. absurd (other same)), (λ _. refl))))
 
   pub serves : (slots id : ℕ) (m : M) (held : Held X H) → slots ≡ 1 → m.0.come ≡ true → m.1 ≡ (0, Some held) ∷ [] → entries held.history ≡ m.0.seen → state held.object ≡ replay reply after start.state m.0.seen
       → Allows Holds slots id m 2 (λ n. (n + 1) % 18446744073709551616) (left any_step m)
@@ -134,83 +119,41 @@ module _ {X H S O R : Type 0} (entries : H → List (Entry O R)) (state : X → 
   notes slots id m said e old n turn past history own right room was is = moves slots id m 3 (λ k. either (eqb k old) n k) (noted entries (step 0 0 old n (maybe.some said)) m) (λ p d s log homes views rule len at.
       let k = rule.each id m.0 at in
       let mine : m.0.seen ≡ log = (k.come turn).1 in
-      let found : length log ≡ old = ap length (sym mine) ∙ sym was in (
-        record m.0 { seen = items_of entries said },
-        keeps,
-        tt,
-        holds_at p d s (log ++ e ∷ []) homes (set views id (record m.0 { seen = items_of entries said })) _
-            (ap (λ (c : ℕ). p ∷ (d % 18446744073709551616) ∷ (s % 18446744073709551616) ∷ c ∷ []) (ap (λ (b : Bool). either b n (length log)) (eq-eqb (length log) old found) ∙ (is ∙ ap length (history ∙ ap (λ (l : Log). l ++ e ∷ []) mine))))
-            (stands.note entries state reply after start p d s log homes views id m.0 e (items_of entries said) at turn past history own right room rule),
-        refl,
-      ))
+      let found : length log ≡ old = ap length (sym mine) ∙ sym was in
+      stays id m 3 (λ k. either (eqb k old) n k) (noted entries (step 0 0 old n (maybe.some said)) m) p d s (log ++ e ∷ []) homes views (words_of p d s log) (record m.0 { seen = items_of entries said })
+      (ap (λ (c : ℕ). p ∷ (d % 18446744073709551616) ∷ (s % 18446744073709551616) ∷ c ∷ []) (ap (λ (b : Bool). either b n (length log)) (eq-eqb (length log) old found) ∙ (is ∙ ap length (history ∙ ap (λ (l : Log). l ++ e ∷ []) mine))))
+      (stands.note entries state reply after start p d s log homes views id m.0 e (items_of entries said) at turn past history own right room rule) refl)
 
   pub counts : (slots id : ℕ) (m : M) → m.0.come ≡ false → Allows Holds slots id m 0 (λ n. n) (counted any_step m)
-  counts slots id m idle = moves slots id m 0 (λ n. n) (counted any_step m) (λ p d s log homes views rule len at. (
-    record m.0 { made = p },
-    keeps,
-    tt,
-    holds_at p d s log homes (set views id (record m.0 { made = p })) _ refl (members.count entries state reply after start p d s log homes views id m.0 at idle rule),
-    (refl, (rule.each id m.0 at).made),
-  ))
+  counts slots id m idle = moves slots id m 0 (λ n. n) (counted any_step m) (λ p d s log homes views rule len at.
+      stays id m 0 (λ n. n) (counted any_step m) p d s log homes views (words_of p d s log) (record m.0 { made = p }) refl (stands.count entries state reply after start p d s log homes views id m.0 at idle rule) (refl, (rule.each id m.0 at).made))
 
   pub tells : (slots id : ℕ) (m : M) → m.0.come ≡ false → Allows Holds slots id m 0 (λ n. n) (told any_step m)
-  tells slots id m idle = moves slots id m 0 (λ n. n) (told any_step m) (λ p d s log homes views rule len at. (
-    record m.0 { past = [] },
-    keeps,
-    tt,
-    holds_at p d s log homes (set views id (record m.0 { past = [] })) _ refl (members.tell entries state reply after start p d s log homes views id m.0 at idle rule),
-    (refl, members.tells entries state reply after start p d s log homes views id m.0 at rule),
-  ))
-
-  pub draws_number : (slots id : ℕ) (m : M) (old : ℕ) → m.0.numbers ≡ [] → m.0.tickets ≡ [] → m.0.past ≡ [] → m.0.come ≡ false → m.0.made ≡ old → old < 4294967296
-      → Allows Holds slots id m 0 (λ n. either (eqb n old) (old + 1) n) (numbered (step 0 0 old 0 maybe.none) m)
-  draws_number slots id m old none free past idle made few = moves slots id m 0 (λ n. either (eqb n old) (old + 1) n) (numbered (step 0 0 old 0 maybe.none) m) (λ p d s log homes views rule len at.
-      dite (ℕ_discrete p old)
-      (λ same. (
-        record m.0 { numbers = p ∷ []; made = p + 1 },
-        keeps,
-        tt,
-        holds_at (p + 1) d s log homes (set views id (record m.0 { numbers = p ∷ []; made = p + 1 })) _
-            (ap (λ (n : ℕ). n ∷ (d % 18446744073709551616) ∷ (s % 18446744073709551616) ∷ length log ∷ []) (ap (λ (b : Bool). either b (old + 1) p) (eq-eqb p old same) ∙ ap (λ (n : ℕ). n + 1) (sym same)))
-            (members.number entries state reply after start p d s log homes views id m.0 at none free past idle (omega (arith, same, few)) rule),
-        ((λ _. (refl, members.unseen entries state reply after start p d s log homes views id m.0 at rule)), (λ other. absurd (other same))),
-      ))
-      (λ other. (
-        record m.0 { made = p },
-        keeps,
-        tt,
-        holds_at p d s log homes (set views id (record m.0 { made = p })) _
-            (ap (λ (n : ℕ). n ∷ (d % 18446744073709551616) ∷ (s % 18446744073709551616) ∷ length log ∷ []) (ap (λ (b : Bool). either b (old + 1) p) (ne_eqb p old other)))
-            (members.count entries state reply after start p d s log homes views id m.0 at idle rule),
-        ((λ same. absurd (other same)), (λ _. (refl, (let le : m.0.made ≤ p = (rule.each id m.0 at).made in omega (arith, le, made, other))))),
-      )))
+  tells slots id m idle = moves slots id m 0 (λ n. n) (told any_step m) (λ p d s log homes views rule len at.
+      stays id m 0 (λ n. n) (told any_step m) p d s log homes views (words_of p d s log) (record m.0 { past = [] }) refl (stands.tell entries state reply after start p d s log homes views id m.0 at idle rule)
+      (refl, stands.tells entries state reply after start p d s log homes views id m.0 at rule))
 
   -- a seat that was split off has no number yet
   pub draws_first : (slots id : ℕ) (m : M) (v : View S O R) (old : ℕ) → m ≡ (record (unnumbered v) { made = old }, []) → old < 4294967296
       → Allows Holds slots id m 0 (λ n. either (eqb n old) (old + 1) n) (numbered (step 0 0 old 0 maybe.none) m)
-  draws_first slots id m v old is few =
-      draws_number slots id m old (ap (λ (n : M). n.0.numbers) is) (ap (λ (n : M). n.0.tickets) is) (ap (λ (n : M). n.0.past) is) (ap (λ (n : M). n.0.come) is) (ap (λ (n : M). n.0.made) is) few
+  draws_first slots id m v old is few = moves slots id m 0 (λ n. either (eqb n old) (old + 1) n) (numbered (step 0 0 old 0 maybe.none) m) (λ p d s log homes views rule len at.
+      let idle : m.0.come ≡ false = ap (λ (n : M). n.0.come) is in
+      dite (ℕ_discrete p old)
+      (λ same. stays id m 0 (λ n. either (eqb n old) (old + 1) n) (numbered (step 0 0 old 0 maybe.none) m) (p + 1) d s log homes views (words_of p d s log) (record m.0 { numbers = p ∷ []; made = p + 1 })
+      (ap (λ (n : ℕ). n ∷ (d % 18446744073709551616) ∷ (s % 18446744073709551616) ∷ length log ∷ []) (ap (λ (b : Bool). either b (old + 1) p) (eq-eqb p old same) ∙ ap (λ (n : ℕ). n + 1) (sym same)))
+      (stands.number entries state reply after start p d s log homes views id m.0 at (ap (λ (n : M). n.0.numbers) is) (ap (λ (n : M). n.0.tickets) is) (ap (λ (n : M). n.0.past) is) idle (omega (arith, same, few)) rule)
+      ((λ _. (refl, stands.unseen entries state reply after start p d s log homes views id m.0 at rule)), (λ other. absurd (other same))))
+      (λ other. stays id m 0 (λ n. either (eqb n old) (old + 1) n) (numbered (step 0 0 old 0 maybe.none) m) p d s log homes views (words_of p d s log) (record m.0 { made = p })
+      (ap (λ (n : ℕ). n ∷ (d % 18446744073709551616) ∷ (s % 18446744073709551616) ∷ length log ∷ []) (ap (λ (b : Bool). either b (old + 1) p) (ne_eqb p old other)))
+      (stands.count entries state reply after start p d s log homes views id m.0 at idle rule)
+      ((λ same. absurd (other same)), (λ _. (refl, omega (arith, (rule.each id m.0 at).made, ap (λ (n : M). n.0.made) is, other))))))
 
   pub splits : (id : ℕ) (v : View S O R) → v.come ≡ false → Splits Holds id v v (unnumbered v)
-  splits id v idle s h at = record {
-    passes = h.passes;
-    drawn = h.drawn;
-    serving = h.serving;
-    log = h.log;
-    words = h.words;
-    stands = subst (λ (vs : Views). Rule h.passes h.drawn h.serving h.log s.homes (vs ++ unnumbered v ∷ [])) (sym (set_again s.views id v at))
-        (members.split entries state reply after start h.passes h.drawn h.serving h.log s.homes s.views id v at idle h.stands);
-  }
+  splits id v idle s h at = holds_at h.passes h.drawn h.serving h.log s.homes _ s.words h.words (rw (set_again s.views id v at) (stands.split entries state reply after start h.passes h.drawn h.serving h.log s.homes s.views id v at idle h.stands))
 
   pub joins : (id other : ℕ) (v w : View S O R) → v.come ≡ false → w.tickets ≡ [] → w.come ≡ false → Joins Holds id v other w (joined v w) spent_view
-  joins id other v w idle free not_come s h at apart there = record {
-    passes = h.passes;
-    drawn = h.drawn;
-    serving = h.serving;
-    log = h.log;
-    words = h.words;
-    stands = members.join entries state reply after start h.passes h.drawn h.serving h.log s.homes s.views id other v w at apart there idle free not_come h.stands;
-  }
+  joins id other v w idle free not_come s h at apart there =
+      holds_at h.passes h.drawn h.serving h.log s.homes _ s.words h.words (stands.join entries state reply after start h.passes h.drawn h.serving h.log s.homes s.views id other v w at apart there idle free not_come h.stands)
 
   -- one that has drawn none comes back
   pub joins_back : (id other : ℕ) (v : View S O R) (m : M) (u : View S O R) (old : ℕ) → v.come ≡ false → m ≡ (record (unnumbered u) { made = old }, []) → Joins Holds id v other m.0 (joined v m.0) spent_view
@@ -230,20 +173,17 @@ module _ {X H S O R : Type 0} (entries : H → List (Entry O R)) (state : X → 
       → get_elem? ws 0 ≡ maybe.some all → get_elem? xs 0 ≡ maybe.some (Some held) → v.tickets ≡ [] → all ≤ length v.numbers → Shows v held
   shows id v ws xs all held final first here idle few =
       let h = final.1.0 in
-      let words : ws ≡ words_of h.passes h.drawn h.serving h.log = sym final.2 ∙ h.words in
-      let p_is : h.passes ≡ all = some-injective h.passes all (sym (ap (λ (l : List ℕ). get_elem? l 0) words) ∙ first) in
-      let e = ended entries state reply after start h.passes h.drawn h.serving h.log final.0.homes final.0.views id v final.1.1 idle (omega (arith, p_is, few)) h.stands in
+      let p_is : h.passes ≡ all = some-injective h.passes all (sym (ap (λ (l : List ℕ). get_elem? l 0) (sym final.2 ∙ h.words)) ∙ first) in
+      let e = stands.ended entries state reply after start h.passes h.drawn h.serving h.log final.0.homes final.0.views id v final.1.1 idle (omega (arith, p_is, few)) h.stands in
       let home : AtHome entries state reply after start final.0.homes h.log = e.home in
-      let is : Some home.held ≡ Some held = some-injective (Some home.held) (Some held) (sym (final.4 0 (Some home.held) (ap (λ (hs : Homes). get_elem? hs 0) home.is)) ∙ here) in
-      let same_held : home.held ≡ held = same_Some home.held held is in
-      let history : entries held.history ≡ h.log = ap (λ (z : Held X H). entries z.history) (sym same_held) ∙ home.history in
-      let made : v.made ≤ h.passes = (h.stands.each id v final.1.1).made in
+      let same : home.held ≡ held = same_Some home.held held (some-injective (Some home.held) (Some held) (sym (final.4 0 (Some home.held) (ap (λ (hs : Homes). get_elem? hs 0) home.is)) ∙ here)) in
+      let history : entries held.history ≡ h.log = ap (λ (z : Held X H). entries z.history) (sym same) ∙ home.history in
       record {
         whole = history ∙ sym e.whole;
         legal = subst (IsLegal reply after start.state) (sym history) e.legal;
-        object = ap (λ (z : Held X H). state z.object) (sym same_held) ∙ (home.object ∙ ap (replay reply after start.state) (sym history));
+        object = ap (λ (z : Held X H). state z.object) (sym same) ∙ (home.object ∙ ap (replay reply after start.state) (sym history));
         bounded = subst (λ (l : Log). length l ≤ start.limit) (sym history) e.bounded;
         own = subst (Own v.numbers) (sym history) e.own;
         differ = e.differ;
-        most = omega (arith, made, p_is, few);
+        most = omega (arith, (h.stands.each id v final.1.1).made, p_is, few);
       }

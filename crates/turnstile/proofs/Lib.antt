@@ -1,11 +1,9 @@
 pub mod Answering
-pub mod Ending
 pub mod Gathering
 pub mod Handles
 pub mod Histories
 pub mod Joining
 pub mod Keeps
-pub mod Members
 pub mod Phases
 pub mod Rolls
 pub mod Stands

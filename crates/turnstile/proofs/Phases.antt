@@ -1,6 +1,5 @@
 -- The phases of a call, over the bare seat: what each asks of the one before, and what they come to.
 use Rattle.std.proofs.Common.{◌≡◌, ◌≢◌, ℕ, ◌+◌, ◌%◌, ◌<◌, ◌≤◌, Bool, true, false, if◌then◌else◌, List, [], ◌∷◌, ◌++◌, length, drop, Option, Some, None, refl, sym, ap, ◌∙◌, subst, arith, length-append}
-use Rattle.std.proofs.lemmas.Bool.{false≢true}
 use Rattle.std.proofs.lemmas.Option.{none-some, same_Some}
 use Rattle.std.specs.Option.{IsSome}
 use Rattle.atomic_table.specs.Seated.{TableId}
@@ -11,26 +10,18 @@ use Rattle.turnstile.specs.declared.view.Start.{Start}
 use Rattle.turnstile.specs.declared.view.View.{View}
 use Rattle.turnstile.specs.Calls.{IsOf, IsTurn}
 use Rattle.turnstile.specs.Closing.{IsTrace}
-use Rattle.turnstile.specs.History.{times, replay, IsLegal, Own, entry}
-use Rattle.turnstile.specs.Plays.{Sat, items_of, state_in, first_of, looked, Turn, left, Begun, MayLeave, MayNote, Applied, gone}
-use Rattle.turnstile.specs.Passes.{Origin, PassView, TurnView, opened, origin, pass_view, turn_view}
+use Rattle.turnstile.specs.History.{times, replay, Own, entry}
+use Rattle.turnstile.specs.Plays.{Sat, first_of, looked, Turn, left, Begun, MayLeave, MayNote, Applied, gone}
+use Rattle.turnstile.specs.Passes.{Origin, PassView, opened, origin, pass_view, turn_view}
 use Rattle.turnstile.specs.Turns.{Turning}
 use Rattle.turnstile.proofs.Histories.{legal_snoc, replay_snoc}
 use Rattle.turnstile.proofs.Keeps.{any_step, looks, serves, Shows}
 use Rattle.turnstile.proofs.Totals.{times_same}
 
 module _ {S : Type 0} where
-  abbrev table_or : TableId → Option (Origin S) → TableId
-  table_or z (Some t) = t.table
-  table_or z None = z
-
-  abbrev start_in : Option (Origin S) → Option (Start S)
-  start_in (Some t) = Some t.start
-  start_in None = None
-
   -- the seat of a pass of a turnstile is of its table, and knows how it began
   pub is_of : (z w : TableId) (x : Option (Start S)) (y : Start S) → origin z x ≡ Some (opened w y) → (z ≡ w) × (x ≡ Some y)
-  is_of z w (Some x) y e = (ap (table_or w) e, ap start_in e)
+  is_of z w (Some x) y e = let same : opened z x ≡ opened w y = same_Some (opened z x) (opened w y) e in (ap (λ (t : Origin S). t.table) same, ap (λ (t : Origin S). Some t.start) same)
   is_of z w None y e = absurd (none-some (opened w y) e)
 
   -- and it has no turn
@@ -47,9 +38,6 @@ module _ {S O R : Type 0} where
   -- the same, of what contracts see
   pub seated : (q : PassView O R S) (t : Origin S) (z w : TableId) (v : View S O R) (k : ℕ) (x : Start S) → pass_view z v k ≡ q → opened w x ≡ t → IsOf t q → (z ≡ w) × (v.start ≡ Some x) × (v.come ≡ false)
   seated q t z w v k x pass turnstile of = at_rest z w v.come v.start x (ap (λ (p : PassView O R S). p.turnstile) pass ∙ (of ∙ ap (λ (s : Origin S). Some s) (sym turnstile)))
-
-  pub in_turn : (q : PassView O R S) (t : Origin S) (z w : TableId) (v : View S O R) (k : ℕ) (x : Start S) → pass_view z v k ≡ q → opened w x ≡ t → q.turn ≡ Some t → (z ≡ w) × (v.start ≡ Some x) × (v.come ≡ true)
-  in_turn q t z w v k x pass turnstile of = at_turn z w v.come v.start x (ap (λ (p : PassView O R S). p.turn) pass ∙ (of ∙ ap (λ (s : Origin S). Some s) (sym turnstile)))
 
   -- what holds of the fields holds of what contracts see
   pub shown : (P : Start S → PassView O R S → Type 0) (q : PassView O R S) (t : Origin S) (z w : TableId) (v : View S O R) (k : ℕ) (x : Start S) → pass_view z v k ≡ q → opened w x ≡ t → P x (pass_view z v k) → P t.start q
@@ -72,23 +60,18 @@ module _ {X H S O R : Type 0} (entries : H → List (Entry O R)) (state : X → 
   abbrev ticketed : M → ℕ → M
   ticketed m t = (record m.0 { tickets = t ∷ [] }, m.1)
 
-  -- it may look once it has a ticket: m is the seat before it drew, k once it had, and m' the same in the loop
-  pub may_look : (slots id : ℕ) (m k m' : M) (t : ℕ) → m' ≡ k → k ≡ ticketed m t → m.1 ≡ [] → m.0.come ≡ false → Allows Holds slots id m' 2 (λ n. n) (looked entries state reply after (any_step entries state reply after start) m')
-  may_look slots id m k m' t same drew empty idle =
-      let is : m' ≡ ticketed m t = same ∙ drew in
-      looks entries state reply after start slots id m' t (ap (λ (n : M). n.1) is ∙ empty) (ap (λ (n : M). n.0.tickets) is) (ap (λ (n : M). n.0.come) is ∙ idle)
+  -- it may look once it has a ticket: m is the seat before it drew, and m' the same in the loop
+  pub may_look : (slots id : ℕ) (m m' : M) (t : ℕ) → m' ≡ ticketed m t → m.1 ≡ [] → m.0.come ≡ false → Allows Holds slots id m' 2 (λ n. n) (looked entries state reply after (any_step entries state reply after start) m')
+  may_look slots id m m' t is empty idle = looks entries state reply after start slots id m' t (ap (λ (n : M). n.1) is ∙ empty) (ap (λ (n : M). n.0.tickets) is) (ap (λ (n : M). n.0.come) is ∙ idle)
 
   -- its turn has come where the ticket is served
-  pub its_turn : (m k m' n : M) (t found ticket : ℕ) → m' ≡ k → k ≡ ticketed m t → ticket ≡ t % 18446744073709551616 → looked entries state reply after (any_step entries state reply after start) m' found n → found ≡ ticket
+  pub its_turn : (m m' n : M) (t found ticket : ℕ) → m' ≡ ticketed m t → ticket ≡ t % 18446744073709551616 → looked entries state reply after (any_step entries state reply after start) m' found n → found ≡ ticket
       → Turn entries state reply after (record m.0 { tickets = t ∷ [] }) n
-  its_turn m k m' n t found ticket same drew drawn look equal =
-      let is : m' ≡ ticketed m t = same ∙ drew in
+  its_turn m m' n t found ticket is drawn look equal =
       subst (λ (z : M). Turn entries state reply after z.0 n) is (look.0 (equal ∙ (drawn ∙ ap (λ (z : M). first_of z.0.tickets % 18446744073709551616) (sym is))))
 
-  pub not_yet : (m k m' n : M) (t found ticket : ℕ) → m' ≡ k → k ≡ ticketed m t → ticket ≡ t % 18446744073709551616 → looked entries state reply after (any_step entries state reply after start) m' found n → found ≢ ticket → n ≡ k
-  not_yet m k m' n t found ticket same drew drawn look other =
-      let is : m' ≡ ticketed m t = same ∙ drew in
-      look.1 (λ equal. other (equal ∙ (ap (λ (z : M). first_of z.0.tickets % 18446744073709551616) is ∙ sym drawn))) ∙ same
+  pub not_yet : (m m' n : M) (t found ticket : ℕ) → m' ≡ ticketed m t → ticket ≡ t % 18446744073709551616 → looked entries state reply after (any_step entries state reply after start) m' found n → found ≢ ticket → n ≡ m'
+  not_yet m m' n t found ticket is drawn look other = look.1 (λ equal. other (equal ∙ (ap (λ (z : M). first_of z.0.tickets % 18446744073709551616) is ∙ sym drawn)))
 
   -- the slot that it then has
   pub slot_here : (v : View S O R) (m : M) → (turn : Turn entries state reply after v m) → m.1 ≡ (0, Some turn.held) ∷ rest m.1
@@ -103,15 +86,14 @@ module _ {X H S O R : Type 0} (entries : H → List (Entry O R)) (state : X → 
   begun v t m n r held begins turn here is out =
       let same : turn.held ≡ held = same_Some turn.held held (ap first_slot (sym turn.slot ∙ here) ∙ out) in
       let facts = turn.legal start begins in
-      let mine : Begun entries state reply after start v turn.held n = record {
+      rw (← same) record {
         ticket = t;
         seat = is ∙ (λ i. (turn.view i, (0, None) ∷ rest (turn.slot i)));
         claims = turn.claims;
         legal = facts.0;
         object = facts.1;
         bounded = facts.2;
-      } in
-      subst (λ (h : Held X H). Begun entries state reply after start v h n) same mine
+      }
 
   abbrev putting : M → Held X H → M
   putting m held = (m.0, (0, Some held) ∷ rest m.1)
@@ -128,26 +110,18 @@ module _ {X H S O R : Type 0} (entries : H → List (Entry O R)) (state : X → 
   has_left m m' n held may is went =
       went ∙ (ap (λ (k : M). (record k.0 { tickets = []; come = false }, rest k.1)) is ∙ (λ i. (record m.0 { seen = sym may.history i; tickets = []; come = false }, rest (may.slot i))))
 
-  some_state : (slot : Option (Held X H)) (s : S) (held : Held X H) → slot ≡ Some held → state_in state slot ≡ Some s → state held.object ≡ s
-  some_state slot s held is e = same_Some (state held.object) s (sym (ap (state_in state) is) ∙ e)
-
   -- what a call did in a turn lets it note the entry
-  pub applied : (q : PassView O R S) (t : Origin S) (h : TurnView O R S) (z w : TableId) (m : M) (slot : Option (Held X H)) (held held' : Held X H) (k : ℕ) (op : O) (r : R) → pass_view z m.0 k ≡ q → opened w start ≡ t → turn_view entries state slot ≡ h → slot ≡ Some held
-      → IsTurn reply after t q h → m.0.past ≡ [] → m.0.numbers ≡ k ∷ drop 1 m.0.numbers → Applied entries state reply after held k op r held' → length (entries held.history) < start.limit → MayNote entries reply after start (Some held') m
-  applied q t h z w m slot held held' k op r pass origin view is turn past named did room =
-      let shown : m.0.seen ≡ q.seen = ap (λ (u : PassView O R S). u.seen) pass in
-      let seen : entries held.history ≡ m.0.seen = sym (ap (items_of entries) is) ∙ (ap (λ (u : TurnView O R S). u.history) view ∙ (turn.whole ∙ sym shown)) in
-      let whole : replay reply after t.start.state q.seen ≡ replay reply after start.state m.0.seen = λ i. replay reply after (sym origin i).start.state (sym shown i) in
-      let now : state held.object ≡ replay reply after start.state m.0.seen = some_state slot (replay reply after start.state m.0.seen) held is (ap (λ (u : TurnView O R S). u.state) view ∙ (turn.object ∙ ap (λ (s : S). Some s) whole)) in
-      record {
-        come = (in_turn q t z w m.0 k start pass origin turn.turn).2;
-        past = past;
-        entry = entry k op r;
-        history = did.0 ∙ ap (λ (l : List (Entry O R)). l ++ entry k op r ∷ []) seen;
-        own = let h : times k m.0.numbers ≡ 1 + times k (drop 1 m.0.numbers) = ap (times k) named ∙ times_same k k (drop 1 m.0.numbers) refl in omega (arith, h);
-        right = did.1 ∙ ap (λ (s : S). reply s op) now;
-        room = subst (λ (l : List (Entry O R)). length l < start.limit) seen room;
-      }
+  pub applied : (z w : TableId) (m : M) (held held' : Held X H) (k : ℕ) (op : O) (r : R) → IsTurn reply after (opened w start) (pass_view z m.0 k) (turn_view entries state (Some held))
+      → m.0.past ≡ [] → m.0.numbers ≡ k ∷ drop 1 m.0.numbers → Applied entries state reply after held k op r held' → length (entries held.history) < start.limit → MayNote entries reply after start (Some held') m
+  applied z w m held held' k op r turn past named did room = record {
+    come = (at_turn z w m.0.come m.0.start start turn.turn).2;
+    past = past;
+    entry = entry k op r;
+    history = did.0 ∙ ap (λ (l : List (Entry O R)). l ++ entry k op r ∷ []) turn.whole;
+    own = omega (arith, ap (times k) named ∙ times_same k k (drop 1 m.0.numbers) refl);
+    right = did.1 ∙ ap (λ (s : S). reply s op) (same_Some (state held.object) (replay reply after start.state m.0.seen) turn.object);
+    room = subst (λ (l : List (Entry O R)). length l < start.limit) turn.whole room;
+  }
 
   -- what contracts see of a pass once its entry is noted
   pub noted_view : (p q : PassView O R S) (z z' : TableId) (m n : M) (k : ℕ) (es : List (Entry O R)) → pass_view z m.0 k ≡ p → q ≡ pass_view z' n.0 k → z' ≡ z → n ≡ (record m.0 { seen = es }, m.1) → q ≡ record p { seen = es }
@@ -155,21 +129,17 @@ module _ {X H S O R : Type 0} (entries : H → List (Entry O R)) (state : X → 
       new ∙ ((λ i. pass_view (table i) (noted i).0 k) ∙ ap (λ (u : PassView O R S). record u { seen = es }) old)
 
   -- the turn once the entry is noted
-  pub turn_noted : (t : Origin S) (w : TableId) (p q : PassView O R S) (h : TurnView O R S) (slot : Option (Held X H)) (held held' : Held X H) (k : ℕ) (op : O) (r : R) → IsTurn reply after t p h → opened w start ≡ t → turn_view entries state slot ≡ h → slot ≡ Some held
-      → Applied entries state reply after held k op r held' → length (entries held.history) < start.limit → q ≡ record p { seen = entries held'.history } → IsTurn reply after t q (turn_view entries state (Some held'))
-  turn_noted t w p q h slot held held' k op r turn origin view is did room same =
-      let history : entries held.history ≡ p.seen = sym (ap (items_of entries) is) ∙ (ap (λ (u : TurnView O R S). u.history) view ∙ turn.whole) in
-      let object : state held.object ≡ replay reply after t.start.state p.seen = some_state slot (replay reply after t.start.state p.seen) held is (ap (λ (u : TurnView O R S). u.state) view ∙ turn.object) in
-      let seen : q.seen ≡ entries held'.history = ap (λ (u : PassView O R S). u.seen) same in
-      let longer : q.seen ≡ p.seen ++ entry k op r ∷ [] = seen ∙ (did.0 ∙ ap (λ (l : List (Entry O R)). l ++ entry k op r ∷ []) history) in
-      let long : length (p.seen ++ entry k op r ∷ []) ≡ length p.seen + 1 = length-append p.seen (entry k op r ∷ []) in
-      let few : length p.seen < t.start.limit = subst (λ (o : Origin S). length p.seen < o.start.limit) origin (subst (λ (l : List (Entry O R)). length l < start.limit) history room) in
-      record {
-        turn = ap (λ (u : PassView O R S). u.turn) same ∙ turn.turn;
-        whole = sym seen;
-        legal = subst (IsLegal reply after t.start.state) (sym longer) (legal_snoc reply after t.start.state p.seen (entry k op r) turn.legal (did.1 ∙ ap (λ (s : S). reply s op) object));
+  pub turn_noted : (t : Origin S) (p q : PassView O R S) (held held' : Held X H) (k : ℕ) (op : O) (r : R) → IsTurn reply after t p (turn_view entries state (Some held))
+      → Applied entries state reply after held k op r held' → length (entries held.history) < t.start.limit → q ≡ record p { seen = entries held'.history } → IsTurn reply after t q (turn_view entries state (Some held'))
+  turn_noted t p q held held' k op r turn did room same =
+      let object : state held.object ≡ replay reply after t.start.state p.seen = same_Some (state held.object) (replay reply after t.start.state p.seen) turn.object in
+      let longer : entries held'.history ≡ p.seen ++ entry k op r ∷ [] = did.0 ∙ ap (λ (l : List (Entry O R)). l ++ entry k op r ∷ []) turn.whole in
+      rw same record {
+        turn = turn.turn;
+        whole = refl;
+        legal = rw longer (legal_snoc reply after t.start.state p.seen (entry k op r) turn.legal (did.1 ∙ ap (λ (s : S). reply s op) object));
         object = ap (λ (s : S). Some s) (did.2 ∙ (ap (λ (s : S). after s op) object ∙ (sym (replay_snoc reply after t.start.state p.seen (entry k op r)) ∙ ap (replay reply after t.start.state) (sym longer))));
-        bounded = subst (λ (l : List (Entry O R)). length l ≤ t.start.limit) (sym longer) (omega (arith, long, few));
+        bounded = omega (arith, ap length longer ∙ length-append p.seen (entry k op r ∷ []), ap length turn.whole, room);
       }
 
   -- what the last look at a table shows of a pass

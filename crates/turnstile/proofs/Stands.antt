@@ -1,22 +1,23 @@
--- What stands after each kind of step, over plain numbers, the history, the homes and the views.
-use Rattle.std.proofs.Common.{◌≡◌, ◌≢◌, ℕ, zero, suc, ◌+◌, ◌%◌, ◌^◌, ◌<◌, ◌≤◌, ⊎_elim, Bool, true, false, List, [], ◌∷◌, ◌++◌, length, set, Option, Some, refl, sym, ap, ◌∙◌, subst, arith, length-append}
-use Rattle.std.proofs.lemmas.Option.{same_Some}
+-- What stands after each kind of step, and at the end, over plain numbers, the history, the homes and the views.
+use Rattle.std.proofs.Common.{◌≡◌, ◌≢◌, ℕ, zero, suc, ◌+◌, ◌%◌, ◌^◌, ◌<◌, ◌≤◌, ⊎_elim, Bool, true, false, List, [], ◌∷◌, ◌++◌, length, set, Option, Some, refl, sym, ap, ◌∙◌, subst, arith, length-append, append-nil}
+use Rattle.std.proofs.lemmas.Option.{none-some, same_Some}
 use Rattle.std.proofs.lemmas.Bool.{false≢true, false_from_ne_true}
 use mathlib.Core.Logic.{dite}
 use mathlib.Core.Option as maybe
 use mathlib.Core.Option.{some-injective}
 use native.Mathlib.Decide.{ℕ_discrete, dec_le}
 use lib.ListN.{get_elem?}
-use Rattle.atomic_table.proofs.Lists.{at_set, set_else, one_turn}
+use Rattle.atomic_table.proofs.Lists.{at_set, at_snoc, at_longer, set_else, one_turn}
 use Rattle.turnstile.specs.declared.history.Entry.{Entry}
 use Rattle.turnstile.specs.declared.view.Held.{Held}
 use Rattle.turnstile.specs.declared.view.Start.{Start}
 use Rattle.turnstile.specs.declared.view.View.{View}
-use Rattle.turnstile.specs.History.{times, total, replay}
-use Rattle.turnstile.specs.Turns.{AllClaim, opening_view, Knows, Roll, AtHome, Stands}
-use Rattle.turnstile.proofs.Histories.{legal_snoc, drawn_snoc, claims_same, claims_extend, all_claim_extend}
-use Rattle.turnstile.proofs.Rolls.{number_times, ticket_times, number_count, ticket_count, roll_same, roll_draw, roll_serve}
-use Rattle.turnstile.proofs.Totals.{absent-times, times_same, times_else, total_at, total_two, total_below, set_at}
+use Rattle.turnstile.specs.History.{times, total, replay, IsLegal, Foreign, Own}
+use Rattle.turnstile.specs.Plays.{Told}
+use Rattle.turnstile.specs.Turns.{AllClaim, opening_view, spent_view, unnumbered, joined, Knows, Out, AtHome, Stands}
+use Rattle.turnstile.proofs.Histories.{legal_snoc, drawn_snoc, drawn_more, foreign_none, foreign_fresh, foreign_front, foreign_tail, own_drawn, own_foreign, claims_same, claims_extend, claims_longer, all_claim_extend}
+use Rattle.turnstile.proofs.Rolls.{often, many, out_single, out_same, out_none, out_more, out_less, out_snoc, out_join}
+use Rattle.turnstile.proofs.Totals.{absent-times, times_same, times-append, times_length, total_set, total_at, total_two, total_below, set_at}
 
 pub both_ways : (b : Bool) → b ≡ false → b ≡ true → ⊥
 both_ways b idle turn = false≢true (sym idle ∙ turn)
@@ -39,17 +40,16 @@ module _ {S O R : Type 0} where
       (λ e. let same : u ≡ v = some-injective u v (sym there ∙ (ap (get_elem? views) e ∙ at)) in ap (λ (z : View S O R). z.come) same ∙ idle)
       (λ ne. none j u (set_else views id j w ne ∙ there))
 
-  pub numbers_single : (p d s : ℕ) (views : List (View S O R)) → Roll p d s views → (k : ℕ) → total (number_times k) views ≤ 1
-  numbers_single p d s views r k = dite (dec_le p k) (λ l. let h : total (number_times k) views ≡ 0 = r.fresh k l in omega (arith, h)) (λ n. let h : total (number_times k) views ≡ 1 = r.once k (omega (arith, n)) in omega (arith, h))
+  abbrev numbers_in : View S O R → List ℕ
+  numbers_in v = v.numbers
+
+  abbrev tickets_in : View S O R → List ℕ
+  tickets_in v = v.tickets
 
   -- two seats can't have the same ticket
-  only_one : (p d s : ℕ) (views : List (View S O R)) (i j : ℕ) (v u : View S O R) → Roll p d s views → i ≢ j → get_elem? views i ≡ maybe.some v → get_elem? views j ≡ maybe.some u → v.tickets ≡ s ∷ [] → u.tickets ≡ s ∷ [] → ⊥
-  only_one p d s views i j v u r other at there mine same =
-      let h : times s v.tickets + times s u.tickets ≤ total (ticket_times s) views = total_two (ticket_times s) views i j v u other at there in
-      let a : times s v.tickets ≡ 1 + times s [] = ap (times s) mine ∙ times_same s s [] refl in
-      let b : times s u.tickets ≡ 1 + times s [] = ap (times s) same ∙ times_same s s [] refl in
-      let c : total (ticket_times s) views ≤ 1 = r.single s in
-      omega (arith, h, a, b, c)
+  only_one : (s d : ℕ) (views : List (View S O R)) (i j : ℕ) (v u : View S O R) → Out tickets_in s d views → i ≢ j → get_elem? views i ≡ maybe.some v → get_elem? views j ≡ maybe.some u → v.tickets ≡ s ∷ [] → u.tickets ≡ s ∷ [] → ⊥
+  only_one s d views i j v u out other at there mine same =
+      omega (arith, total_two (often tickets_in s) views i j v u spent_view refl other at there, ap (times s) mine ∙ times_same s s [] refl, ap (times s) same ∙ times_same s s [] refl, out_single tickets_in s d views out s)
 
 module _ {X H S O R : Type 0} (entries : H → List (Entry O R)) (state : X → S) (reply : S → O → R) (after : S → O → S) (start : Start S) where
   abbrev Homes : Type 0
@@ -67,25 +67,32 @@ module _ {X H S O R : Type 0} (entries : H → List (Entry O R)) (state : X → 
   abbrev Knower : ℕ → ℕ → Log → View S O R → Type 0
   Knower = Knows start
 
-  pub few_tickets : (p d s : ℕ) (log : Log) (homes : Homes) (views : Views) → Rule p d s log homes views → total ticket_count views ≤ 2 ^ 32
-  few_tickets p d s log homes views st =
-      let h : total ticket_count views ≤ total number_count views = total_below ticket_count number_count views (λ j v at. (st.each j v at).fits) in
-      let a : total number_count views ≡ p = st.roll.counted in
-      let b : p ≤ 2 ^ 32 = st.few in
-      omega (arith, h, a, b)
-
-  -- a view changes that has not its turn, and keeps its numbers and tickets
-  pub quiet : (p d s : ℕ) (log : Log) (homes : Homes) (views : Views) (id : ℕ) (v w : View S O R) → get_elem? views id ≡ maybe.some v → w.numbers ≡ v.numbers → w.tickets ≡ v.tickets → v.come ≡ false
-      → Knower p s log w → Rule p d s log homes views → Rule p d s log homes (set views id w)
-  quiet p d s log homes views id v w at numbers tickets idle knows st = record {
-    few = st.few;
+  -- a view changes that has not its turn; with it a number or a ticket may be drawn
+  changes : (p q d e s : ℕ) (log : Log) (homes : Homes) (views : Views) (id : ℕ) (v w : View S O R) → get_elem? views id ≡ maybe.some v → v.come ≡ false → p ≤ q → q ≤ 2 ^ 32
+      → Out numbers_in 0 q (set views id w) → Out tickets_in s e (set views id w) → Knower q s log w → Rule p d s log homes views → Rule q e s log homes (set views id w)
+  changes p q d e s log homes views id v w at idle le few numbers tickets knows st = record {
+    few = few;
     legal = st.legal;
-    known = st.known;
+    known = drawn_more p q log le st.known;
     bounded = st.bounded;
-    roll = roll_same p d s views id v w at numbers tickets st.roll;
-    each = each_set (Knower p s log) views id w knows (λ j u _ there. st.each j u there);
+    numbers = numbers;
+    tickets = tickets;
+    each = each_set (Knower q s log) views id w knows (λ j u _ there. let o = st.each j u there in record {
+      begins = o.begins;
+      made = omega (arith, o.made, le);
+      fits = o.fits;
+      seen = o.seen;
+      past = o.past;
+      come = o.come;
+    });
     home = λ none. st.home (home_back views id v w at idle none);
   }
+
+  -- it changes, and keeps its numbers and tickets
+  quiet : (p d s : ℕ) (log : Log) (homes : Homes) (views : Views) (id : ℕ) (v w : View S O R) → get_elem? views id ≡ maybe.some v → w.numbers ≡ v.numbers → w.tickets ≡ v.tickets → v.come ≡ false
+      → Knower p s log w → Rule p d s log homes views → Rule p d s log homes (set views id w)
+  quiet p d s log homes views id v w at numbers tickets idle knows st =
+      changes p p d d s log homes views id v w at idle (omega arith) st.few (out_same numbers_in 0 p views id v w at numbers st.numbers) (out_same tickets_in s d views id v w at tickets st.tickets) knows st
 
   first_knows : (j : ℕ) (v : View S O R) → get_elem? (opening_view start ∷ []) j ≡ maybe.some v → Knower 1 0 [] v
   first_knows zero v e = subst (Knower 1 0 []) (some-injective (opening_view start) v e) record {
@@ -104,15 +111,8 @@ module _ {X H S O R : Type 0} (entries : H → List (Entry O R)) (state : X → 
     legal = tt;
     known = tt;
     bounded = omega arith;
-    roll = record {
-      once = λ k l. let z : 0 ≡ k = omega (arith, l) in let h : times k (0 ∷ []) ≡ 1 + times k [] = times_same k 0 [] z in omega (arith, h);
-      fresh = λ k l. let h : times k (0 ∷ []) ≡ times k [] = times_else k 0 [] (λ e. omega (arith, e, l)) in omega (arith, h);
-      counted = refl;
-      single = λ t. omega arith;
-      served = λ t l. refl;
-      undrawn = λ t l. refl;
-      tickets = refl;
-    };
+    numbers = out_more numbers_in 0 0 (spent_view ∷ []) 0 spent_view (opening_view start) refl refl refl (out_none numbers_in spent_view refl);
+    tickets = out_none tickets_in (opening_view start) refl;
     each = first_knows;
     home = λ _. record { held = held; is = refl; history = none; object = same };
   }
@@ -120,63 +120,54 @@ module _ {X H S O R : Type 0} (entries : H → List (Entry O R)) (state : X → 
   pub drawn : (p d s : ℕ) (log : Log) (homes : Homes) (views : Views) (id : ℕ) (v : View S O R) → get_elem? views id ≡ maybe.some v → v.tickets ≡ [] → v.come ≡ false → 0 < length v.numbers
       → Rule p d s log homes views → Rule p (d + 1) s log homes (set views id (record v { tickets = d ∷ [] }))
   drawn p d s log homes views id v at none idle some st =
+      let w : View S O R = record v { tickets = d ∷ [] } in
       let k = st.each id v at in
-      record {
-        few = st.few;
-        legal = st.legal;
-        known = st.known;
-        bounded = st.bounded;
-        roll = roll_draw p d s views id v (record v { tickets = d ∷ [] }) at refl none refl st.roll;
-        each = each_set (Knower p s log) views id (record v { tickets = d ∷ [] }) record {
-          begins = k.begins;
-          made = k.made;
-          fits = omega (arith, some);
-          seen = k.seen;
-          past = k.past;
-          come = λ turn. absurd (both_ways v.come idle turn);
-        } (λ j u _ there. st.each j u there);
-        home = λ nobody. st.home (home_back views id v (record v { tickets = d ∷ [] }) at idle nobody);
-      }
+      changes p p d (d + 1) s log homes views id v w at idle (omega arith) st.few (out_same numbers_in 0 p views id v w at refl st.numbers) (out_more tickets_in s d views id v w at none refl st.tickets) record {
+        begins = k.begins;
+        made = k.made;
+        fits = omega (arith, some);
+        seen = k.seen;
+        past = k.past;
+        come = λ turn. absurd (both_ways v.come idle turn);
+      } st
 
   -- where this ticket is served, nobody has its turn
   nobody : (p d s : ℕ) (log : Log) (homes : Homes) (views : Views) (id : ℕ) (v : View S O R) → get_elem? views id ≡ maybe.some v → v.tickets ≡ s ∷ [] → v.come ≡ false → Rule p d s log homes views
       → (j : ℕ) (u : View S O R) → get_elem? views j ≡ maybe.some u → u.come ≡ false
   nobody p d s log homes views id v at ticket idle st j u there = false_from_ne_true u.come (λ turn. dite (ℕ_discrete id j)
       (λ e. let same : u ≡ v = some-injective u v (sym there ∙ (ap (get_elem? views) (sym e) ∙ at)) in both_ways v.come idle (sym (ap (λ (z : View S O R). z.come) same) ∙ turn))
-      (λ ne. only_one p d s views id j v u st.roll ne at there ticket ((st.each j u there).come turn).0))
+      (λ ne. only_one s d views id j v u st.tickets ne at there ticket ((st.each j u there).come turn).0))
 
   -- where the turn of one has come, that of no other has
   others_wait : (p d s : ℕ) (log : Log) (homes : Homes) (views : Views) (id : ℕ) (v : View S O R) → get_elem? views id ≡ maybe.some v → v.come ≡ true → Rule p d s log homes views
       → (j : ℕ) (u : View S O R) → j ≢ id → get_elem? views j ≡ maybe.some u → u.come ≡ false
-  others_wait p d s log homes views id v at turn st j u other there = false_from_ne_true u.come (λ too. only_one p d s views j id u v st.roll other there at ((st.each j u there).come too).0 ((st.each id v at).come turn).0)
+  others_wait p d s log homes views id v at turn st j u other there = false_from_ne_true u.come (λ too. only_one s d views j id u v st.tickets other there at ((st.each j u there).come too).0 ((st.each id v at).come turn).0)
 
   -- a ticket that is out, and is this one modulo 2^64, is this one
   pub is_served : (p d s t : ℕ) (log : Log) (homes : Homes) (views : Views) (id : ℕ) (v : View S O R) → get_elem? views id ≡ maybe.some v → v.tickets ≡ t ∷ [] → s % 18446744073709551616 ≡ t % 18446744073709551616
       → Rule p d s log homes views → t ≡ s
   is_served p d s t log homes views id v at ticket same st =
-      let mine : times t v.tickets ≤ total (ticket_times t) views = total_at (ticket_times t) views id v at in
+      let mine = total_at (often tickets_in t) views id v at in
       let one : times t v.tickets ≡ 1 + times t [] = ap (times t) ticket ∙ times_same t t [] refl in
-      let low : s ≤ t = dite (dec_le s t) (λ l. l) (λ n. let z : total (ticket_times t) views ≡ 0 = st.roll.served t (omega (arith, n)) in absurd (omega (arith, mine, one, z))) in
-      let high : t < d = dite (dec_le d t) (λ l. let z : total (ticket_times t) views ≡ 0 = st.roll.undrawn t l in absurd (omega (arith, mine, one, z))) (λ n. omega (arith, n)) in
-      let few = few_tickets p d s log homes views st in
-      let sums : total ticket_count views + s ≡ d = st.roll.tickets in
-      sym (one_turn s t 18446744073709551616 low (omega (arith, high, few, sums)) same)
-
-  abbrev taken : View S O R → Held X H → View S O R
-  taken v held = record v { seen = entries held.history; come = true }
+      let low : s ≤ t = dite (dec_le s t) (λ l. l) (λ n. absurd (omega (arith, mine, one, st.tickets.below t (omega (arith, n))))) in
+      let high : t < d = dite (dec_le d t) (λ l. absurd (omega (arith, mine, one, st.tickets.above t l))) (λ n. omega (arith, n)) in
+      let fits = total_below (many tickets_in) (many numbers_in) views (λ j u there. (st.each j u there).fits) in
+      sym (one_turn s t 18446744073709551616 low (omega (arith, high, fits, st.numbers.counted, st.tickets.counted, st.few)) same)
 
   -- the turn of a seat comes, and it takes the value
   pub came : (p d s : ℕ) (log : Log) (homes homes' : Homes) (views : Views) (id : ℕ) (v : View S O R) (held : Held X H) → get_elem? views id ≡ maybe.some v → v.tickets ≡ s ∷ [] → entries held.history ≡ log
-      → Rule p d s log homes views → Rule p d s log homes' (set views id (taken v held))
+      → Rule p d s log homes views → Rule p d s log homes' (set views id (record v { seen = entries held.history; come = true }))
   came p d s log homes homes' views id v held at ticket history st =
+      let w : View S O R = record v { seen = entries held.history; come = true } in
       let k = st.each id v at in
       record {
         few = st.few;
         legal = st.legal;
         known = st.known;
         bounded = st.bounded;
-        roll = roll_same p d s views id v (taken v held) at refl refl st.roll;
-        each = each_set (Knower p s log) views id (taken v held) record {
+        numbers = out_same numbers_in 0 p views id v w at refl st.numbers;
+        tickets = out_same tickets_in s d views id v w at refl st.tickets;
+        each = each_set (Knower p s log) views id w record {
           begins = k.begins;
           made = k.made;
           fits = k.fits;
@@ -184,7 +175,7 @@ module _ {X H S O R : Type 0} (entries : H → List (Entry O R)) (state : X → 
           past = k.past;
           come = λ _. (ticket, history);
         } (λ j u _ there. st.each j u there);
-        home = λ none. absurd (false≢true (sym (none id (taken v held) (set_at views id v (taken v held) at))));
+        home = λ none. absurd (false≢true (sym (none id w (set_at views id v w at))));
       }
 
   -- the value at home, where nobody has its turn
@@ -192,14 +183,12 @@ module _ {X H S O R : Type 0} (entries : H → List (Entry O R)) (state : X → 
       → AtHome entries state reply after start homes log
   home_of p d s log homes views id v at ticket idle st = st.home (nobody p d s log homes views id v at ticket idle st)
 
-  abbrev served : View S O R → View S O R
-  served v = record v { tickets = []; come = false }
-
   -- the value comes home, and the next ticket is served
   pub serve : (p d s : ℕ) (log : Log) (homes : Homes) (views : Views) (id : ℕ) (v : View S O R) (held : Held X H) → get_elem? views id ≡ maybe.some v → v.come ≡ true → length homes ≡ 1
       → entries held.history ≡ v.seen → state held.object ≡ replay reply after start.state v.seen
-      → Rule p d s log homes views → Rule p d (s + 1) log (set homes 0 (maybe.some (Some held))) (set views id (served v))
+      → Rule p d s log homes views → Rule p d (s + 1) log (set homes 0 (maybe.some (Some held))) (set views id (record v { tickets = []; come = false }))
   serve p d s log homes views id v held at turn one history object st =
+      let w : View S O R = record v { tickets = []; come = false } in
       let k = st.each id v at in
       let mine = k.come turn in
       record {
@@ -207,8 +196,9 @@ module _ {X H S O R : Type 0} (entries : H → List (Entry O R)) (state : X → 
         legal = st.legal;
         known = st.known;
         bounded = st.bounded;
-        roll = roll_serve p d s views id v (served v) at refl mine.0 refl st.roll;
-        each = each_set (Knower p (s + 1) log) views id (served v) record {
+        numbers = out_same numbers_in 0 p views id v w at refl st.numbers;
+        tickets = out_less tickets_in s d views id v w at mine.0 refl st.tickets;
+        each = each_set (Knower p (s + 1) log) views id w record {
           begins = k.begins;
           made = k.made;
           fits = omega arith;
@@ -231,27 +221,25 @@ module _ {X H S O R : Type 0} (entries : H → List (Entry O R)) (state : X → 
         };
       }
 
-  abbrev noted_as : View S O R → Log → View S O R
-  noted_as v es = record v { seen = es }
-
   -- an entry is added by the seat whose turn it is
   pub note : (p d s : ℕ) (log : Log) (homes : Homes) (views : Views) (id : ℕ) (v : View S O R) (e : Entry O R) (es : Log) → get_elem? views id ≡ maybe.some v → v.come ≡ true → v.past ≡ []
       → es ≡ v.seen ++ e ∷ [] → 0 < times e.number v.numbers → e.reply ≡ reply (replay reply after start.state v.seen) e.op → length v.seen < start.limit
-      → Rule p d s log homes views → Rule p d s (log ++ e ∷ []) homes (set views id (noted_as v es))
+      → Rule p d s log homes views → Rule p d s (log ++ e ∷ []) homes (set views id (record v { seen = es }))
   note p d s log homes views id v e es at turn past history own right room st =
+      let w : View S O R = record v { seen = es } in
       let k = st.each id v at in
       let mine = k.come turn in
       let whole : es ≡ log ++ e ∷ [] = history ∙ ap (λ (l : Log). l ++ e ∷ []) mine.1 in
-      let single : total (number_times e.number) views ≤ 1 = numbers_single p d s views st.roll e.number in
       record {
         few = st.few;
         legal = legal_snoc reply after start.state log e st.legal (right ∙ ap (λ (l : Log). reply (replay reply after start.state l) e.op) mine.1);
         known = drawn_snoc p log e st.known (dite (dec_le p e.number)
-            (λ l. let z : total (number_times e.number) views ≡ 0 = st.roll.fresh e.number l in let h : times e.number v.numbers ≤ total (number_times e.number) views = total_at (number_times e.number) views id v at in absurd (omega (arith, z, h, own)))
+            (λ l. absurd (omega (arith, st.numbers.above e.number l, total_at (often numbers_in e.number) views id v at, own)))
             (λ n. omega (arith, n)));
-        bounded = let a : length (log ++ e ∷ []) ≡ length log + 1 = length-append log (e ∷ []) in let b : length v.seen ≡ length log = ap length mine.1 in omega (arith, a, b, room);
-        roll = roll_same p d s views id v (noted_as v es) at refl refl st.roll;
-        each = each_set (Knower p s (log ++ e ∷ [])) views id (noted_as v es) record {
+        bounded = omega (arith, length-append log (e ∷ []), ap length mine.1, room);
+        numbers = out_same numbers_in 0 p views id v w at refl st.numbers;
+        tickets = out_same tickets_in s d views id v w at refl st.tickets;
+        each = each_set (Knower p s (log ++ e ∷ [])) views id w record {
           begins = k.begins;
           made = k.made;
           fits = k.fits;
@@ -260,8 +248,8 @@ module _ {X H S O R : Type 0} (entries : H → List (Entry O R)) (state : X → 
           come = λ _. (mine.0, whole);
         } (λ j u other there.
             let o = st.each j u there in
-            let h : times e.number v.numbers + times e.number u.numbers ≤ total (number_times e.number) views = total_two (number_times e.number) views id j v u (λ same. other (sym same)) at there in
-            let alien : times e.number u.numbers ≡ 0 = omega (arith, h, single, own) in
+            let alien : times e.number u.numbers ≡ 0 =
+            omega (arith, total_two (often numbers_in e.number) views id j v u spent_view refl (λ same. other (sym same)) at there, out_single numbers_in 0 p views st.numbers e.number, own) in
             record {
               begins = o.begins;
               made = o.made;
@@ -270,5 +258,156 @@ module _ {X H S O R : Type 0} (entries : H → List (Entry O R)) (state : X → 
               past = all_claim_extend u.numbers u.past log (e ∷ []) (absent-times u.numbers e.number alien, tt) o.past;
               come = λ too. absurd (both_ways u.come (others_wait p d s log homes views id v at turn st j u other there) too);
             });
-        home = λ none. absurd (both_ways v.come (none id (noted_as v es) (set_at views id v (noted_as v es) at)) turn);
+        home = λ none. absurd (both_ways v.come (none id w (set_at views id v w at)) turn);
+      }
+
+  -- the passes that were made are counted
+  pub count : (p d s : ℕ) (log : Log) (homes : Homes) (views : Views) (id : ℕ) (v : View S O R) → get_elem? views id ≡ maybe.some v → v.come ≡ false
+      → Rule p d s log homes views → Rule p d s log homes (set views id (record v { made = p }))
+  count p d s log homes views id v at idle st =
+      let k = st.each id v at in
+      quiet p d s log homes views id v (record v { made = p }) at refl refl idle record {
+        begins = k.begins;
+        made = omega arith;
+        fits = k.fits;
+        seen = k.seen;
+        past = k.past;
+        come = λ turn. absurd (both_ways v.come idle turn);
+      } st
+
+  pub tell : (p d s : ℕ) (log : Log) (homes : Homes) (views : Views) (id : ℕ) (v : View S O R) → get_elem? views id ≡ maybe.some v → v.come ≡ false
+      → Rule p d s log homes views → Rule p d s log homes (set views id (record v { past = [] }))
+  tell p d s log homes views id v at idle st =
+      let k = st.each id v at in
+      quiet p d s log homes views id v (record v { past = [] }) at refl refl idle record {
+        begins = k.begins;
+        made = k.made;
+        fits = k.fits;
+        seen = k.seen;
+        past = tt;
+        come = λ turn. absurd (both_ways v.come idle turn);
+      } st
+
+  pub tells : (p d s : ℕ) (log : Log) (homes : Homes) (views : Views) (id : ℕ) (v : View S O R) → get_elem? views id ≡ maybe.some v → Rule p d s log homes views → Told v
+  tells p d s log homes views id v at st =
+      let k = st.each id v at in
+      record {
+        log = log;
+        past = k.past;
+        seen = k.seen;
+        once = λ n. omega (arith, total_at (often numbers_in n) views id v at, out_single numbers_in 0 p views st.numbers n);
+        few = omega (arith, total_at (many numbers_in) views id v at, st.numbers.counted, st.few);
+      }
+
+  -- a seat is split off
+  pub split : (p d s : ℕ) (log : Log) (homes : Homes) (views : Views) (id : ℕ) (v : View S O R) → get_elem? views id ≡ maybe.some v → v.come ≡ false
+      → Rule p d s log homes views → Rule p d s log homes (views ++ unnumbered v ∷ [])
+  split p d s log homes views id v at idle st =
+      let k = st.each id v at in
+      record {
+        few = st.few;
+        legal = st.legal;
+        known = st.known;
+        bounded = st.bounded;
+        numbers = out_snoc numbers_in 0 p views (unnumbered v) refl st.numbers;
+        tickets = out_snoc tickets_in s d views (unnumbered v) refl st.tickets;
+        each = λ j u there. ⊎_elim (λ here. st.each j u here) (λ (e : unnumbered v ≡ u). subst (Knower p s log) e record {
+          begins = k.begins;
+          made = k.made;
+          fits = omega arith;
+          seen = record { rest = k.seen.rest; is = k.seen.is; foreign = foreign_none k.seen.rest };
+          past = tt;
+          come = λ turn. absurd (false≢true turn);
+        }) (at_snoc views (unnumbered v) u j there);
+        home = λ none. st.home (λ j u there. none j u (at_longer views (unnumbered v ∷ []) j u there));
+      }
+
+  -- a seat without a number draws one
+  pub number : (p d s : ℕ) (log : Log) (homes : Homes) (views : Views) (id : ℕ) (v : View S O R) → get_elem? views id ≡ maybe.some v → v.numbers ≡ [] → v.tickets ≡ [] → v.past ≡ [] → v.come ≡ false → p < 2 ^ 32
+      → Rule p d s log homes views → Rule (p + 1) d s log homes (set views id (record v { numbers = p ∷ []; made = p + 1 }))
+  number p d s log homes views id v at none free past idle few st =
+      let w : View S O R = record v { numbers = p ∷ []; made = p + 1 } in
+      let k = st.each id v at in
+      changes p (p + 1) d d s log homes views id v w at idle (omega arith) (omega (arith, few)) (out_more numbers_in 0 p views id v w at none refl st.numbers) (out_same tickets_in s d views id v w at refl st.tickets) record {
+        begins = k.begins;
+        made = omega arith;
+        fits = omega (arith, ap length free);
+        seen = record { rest = k.seen.rest; is = k.seen.is; foreign = foreign_tail (p ∷ []) v.seen k.seen.rest (subst (Foreign (p ∷ [])) k.seen.is (foreign_fresh p log st.known)) };
+        past = subst (λ cs. AllClaim (p ∷ []) cs log) (sym past) tt;
+        come = λ turn. absurd (both_ways v.come idle turn);
+      } st
+
+  -- no entry that a seat has seen has a number that is not drawn yet
+  pub unseen : (p d s : ℕ) (log : Log) (homes : Homes) (views : Views) (id : ℕ) (v : View S O R) → get_elem? views id ≡ maybe.some v → Rule p d s log homes views → Foreign (p ∷ []) v.seen
+  unseen p d s log homes views id v at st = let c = (st.each id v at).seen in foreign_front (p ∷ []) v.seen c.rest (subst (Foreign (p ∷ [])) c.is (foreign_fresh p log st.known))
+
+  -- one seat takes in another
+  pub join : (p d s : ℕ) (log : Log) (homes : Homes) (views : Views) (id other : ℕ) (v w : View S O R) → get_elem? views id ≡ maybe.some v → other ≢ id → get_elem? (set views id (joined v w)) other ≡ maybe.some w
+      → v.come ≡ false → w.tickets ≡ [] → w.come ≡ false
+      → Rule p d s log homes views → Rule p d s log homes (set (set views id (joined v w)) other spent_view)
+  join p d s log homes views id other v w at apart there idle free not_come st =
+      let before : get_elem? views other ≡ maybe.some w = sym (set_else views id other (joined v w) apart) ∙ there in
+      let k = st.each id v at in
+      let o = st.each other w before in
+      let knows : Knower p s log (joined v w) = record {
+        begins = k.begins;
+        made = omega (arith, k.made, o.made);
+        fits = omega (arith, k.fits, length-append v.numbers w.numbers);
+        seen = claims_longer v.numbers w.numbers v.seen w.seen log k.seen o.seen;
+        past = ((λ n. omega (arith, times-append n v.numbers w.numbers)), k.seen, ((λ n. omega (arith, times-append n v.numbers w.numbers)), o.seen, tt));
+        come = λ turn. absurd (both_ways v.come idle turn);
+      } in
+      let spent : Knower p s log spent_view = record {
+        begins = λ x is. absurd (none-some x is);
+        made = omega arith;
+        fits = omega arith;
+        seen = record { rest = log; is = refl; foreign = foreign_none log };
+        past = tt;
+        come = λ turn. absurd (false≢true turn);
+      } in
+      record {
+        few = st.few;
+        legal = st.legal;
+        known = st.known;
+        bounded = st.bounded;
+        numbers = out_join numbers_in 0 p views id other v w (joined v w) spent_view at there refl refl st.numbers;
+        tickets = out_join tickets_in s d views id other v w (joined v w) spent_view at there (sym (append-nil v.tickets) ∙ ap (λ ts. v.tickets ++ ts) (sym free)) refl st.tickets;
+        each = each_set (Knower p s log) (set views id (joined v w)) other spent_view spent (λ j u _ here. each_set (Knower p s log) views id (joined v w) knows (λ j u _ here. st.each j u here) j u here);
+        home = λ none. st.home (home_back views id v (joined v w) at idle (home_back (set views id (joined v w)) other w spent_view there not_come none));
+      }
+
+  -- where one seat has all numbers, no other has a ticket. If it has none either, it has seen all, and the value is at home
+  pub record Ended (log : Log) (homes : Homes) (v : View S O R) : Type 0 where
+    pub home : AtHome entries state reply after start homes log
+    pub whole : v.seen ≡ log
+    pub own : Own v.numbers log
+    pub differ : (k : ℕ) → times k v.numbers ≤ 1
+    pub legal : IsLegal reply after start.state log
+    pub bounded : length log ≤ start.limit
+
+  pub ended : (p d s : ℕ) (log : Log) (homes : Homes) (views : Views) (id : ℕ) (v : View S O R) → get_elem? views id ≡ maybe.some v → v.tickets ≡ [] → p ≤ length v.numbers
+      → Rule p d s log homes views → Ended log homes v
+  ended p d s log homes views id v at idle all st =
+      let rest = set views id spent_view in
+      let none : total (many numbers_in) rest ≡ 0 = omega (arith, st.numbers.counted, total_set (many numbers_in) views id v spent_view at, all) in
+      let mine : (k : ℕ) → total (often numbers_in k) views ≡ times k v.numbers =
+      λ k. omega (arith, none, total_set (often numbers_in k) views id v spent_view at, total_below (often numbers_in k) (many numbers_in) rest (λ j u _. times_length k u.numbers)) in
+      let no_ticket : total (many tickets_in) views ≡ 0 =
+      omega (
+        arith,
+        none,
+        ap length idle,
+        total_set (many tickets_in) views id v spent_view at,
+        total_below (many tickets_in) (many numbers_in) rest
+            (each_set (λ u. length u.tickets ≤ length u.numbers) views id spent_view (omega arith) (λ j u _ there. (st.each j u there).fits)),
+      ) in
+      let own : Own v.numbers log = own_drawn v.numbers p log (λ k l. omega (arith, st.numbers.once k (omega arith) l, mine k)) st.known in
+      let c = (st.each id v at).seen in
+      record {
+        home = st.home (λ j u here. false_from_ne_true u.come (λ turn. omega (arith, total_at (many tickets_in) views j u here, ap length ((st.each j u here).come turn).0, no_ticket)));
+        whole = sym (c.is ∙ (ap (λ (l : Log). v.seen ++ l) (own_foreign v.numbers v.seen c.rest (subst (Own v.numbers) c.is own) c.foreign) ∙ append-nil v.seen));
+        own = own;
+        differ = λ k. omega (arith, out_single numbers_in 0 p views st.numbers k, mine k);
+        legal = st.legal;
+        bounded = st.bounded;
       }

@@ -46,15 +46,12 @@ module _ {S O R : Type 0} where
     pub past : AllClaim v.numbers v.past log
     pub come : v.come ≡ true → (v.tickets ≡ serving ∷ []) × (v.seen ≡ log)
 
-  -- each number that was drawn is one view's. The tickets that are out differ, and lie from `serving` up to `drawn`
-  pub record Roll (passes drawn serving : ℕ) (views : List (View S O R)) : Type 0 where
-    pub once : (k : ℕ) → k < passes → total (λ v. times k v.numbers) views ≡ 1
-    pub fresh : (k : ℕ) → passes ≤ k → total (λ v. times k v.numbers) views ≡ 0
-    pub counted : total (λ v. length v.numbers) views ≡ passes
-    pub single : (t : ℕ) → total (λ v. times t v.tickets) views ≤ 1
-    pub served : (t : ℕ) → t < serving → total (λ v. times t v.tickets) views ≡ 0
-    pub undrawn : (t : ℕ) → drawn ≤ t → total (λ v. times t v.tickets) views ≡ 0
-    pub tickets : total (λ v. length v.tickets) views + serving ≡ drawn
+-- the numbers from low up to high are out, each with one member, and no others
+pub record Out {V : Type 0} (of : V → List ℕ) (low high : ℕ) (views : List V) : Type 0 where
+  pub once : (k : ℕ) → low ≤ k → k < high → total (λ v. times k (of v)) views ≡ 1
+  pub below : (k : ℕ) → k < low → total (λ v. times k (of v)) views ≡ 0
+  pub above : (k : ℕ) → high ≤ k → total (λ v. times k (of v)) views ≡ 0
+  pub counted : total (λ v. length (of v)) views + low ≡ high
 
 module _ {X H S O R : Type 0} (entries : H → List (Entry O R)) (state : X → S) (reply : S → O → R) (after : S → O → S) (start : Start S) where
   -- the value is at home, with this history
@@ -69,7 +66,8 @@ module _ {X H S O R : Type 0} (entries : H → List (Entry O R)) (state : X → 
     pub legal : IsLegal reply after start.state log
     pub known : Drawn passes log
     pub bounded : length log ≤ start.limit
-    pub roll : Roll passes drawn serving views
+    pub numbers : Out (λ v. v.numbers) 0 passes views
+    pub tickets : Out (λ v. v.tickets) serving drawn views
     pub each : (j : ℕ) (v : View S O R) → get_elem? views j ≡ maybe.some v → Knows start passes serving log v
     pub home : ((j : ℕ) (v : View S O R) → get_elem? views j ≡ maybe.some v → v.come ≡ false) → AtHome homes log
 

@@ -1,6 +1,5 @@
 use Rattle.std.proofs.Common.{subst, ap, ◌∙◌}
 use Rattle.turnstile.specs.Calls.{outside, Agree}
-use Rattle.turnstile.specs.Passes.{PassView}
 use Rattle.turnstile.proofs.handle.Handle.join.Goals as goal
 
 pub returns-clause-agree : goal.returns-clause-agree

@@ -9,9 +9,8 @@ note-requires-clause-held g c =
     let pass = c.pass.inside in
     let held = c.unwrap-held.result.now in
     let is : c.turn.inside.slot ≡ Some held = search rules in
-    let did : Applied g.T.History.StoredHistory.entries g.T.Replays.state_of g.T.Replays.replied g.T.Replays.after held pass.number c.in-Some.call.op c.in-Ok.reply record { history = c.push.new.self; object = c.apply.new.self } = search rules in
-    let room : length (g.T.History.StoredHistory.entries held.history) < c.self.inside.lock.table.shared.key.limit = search rules in
-    applied _ g.T.Replays.state_of _ _ _ _ _ _ _ _ pass.seat.me c.turn.inside.slot held _ pass.number c.in-Some.call.op c.in-Ok.reply c.pass.view_is c.self.view_is c.turn.view_is is c.requires.turn c.pass.invariant.past c.pass.invariant.numbers did room
+    let turn = rw (← c.self.view_is, ← c.pass.view_is, ← c.turn.view_is, is) at c.requires.turn in
+    applied _ g.T.Replays.state_of _ _ _ _ _ pass.seat.me held record { history = c.push.new.self; object = c.apply.new.self } pass.number c.in-Some.call.op c.in-Ok.reply turn c.pass.invariant.past c.pass.invariant.numbers (search rules) (search rules)
 
 pub returns-clause-turn : goal.returns-clause-turn
 returns-clause-turn g c =
@@ -21,5 +20,5 @@ returns-clause-turn g c =
     let is : c.turn.inside.slot ≡ Some held = search rules in
     let did : Applied g.T.History.StoredHistory.entries g.T.Replays.state_of g.T.Replays.replied g.T.Replays.after held pass.number c.in-Some.call.op c.in-Ok.reply record { history = c.push.new.self; object = c.apply.new.self } = search rules in
     let room : length (g.T.History.StoredHistory.entries held.history) < start.limit = search rules in
-    turn_noted g.T.History.StoredHistory.entries g.T.Replays.state_of g.T.Replays.replied g.T.Replays.after start c.args.self.now _ c.args.pass.now _ c.args.turn.now c.turn.inside.slot held _ pass.number c.in-Some.call.op c.in-Ok.reply c.requires.turn c.self.view_is c.turn.view_is is did room
+    turn_noted g.T.History.StoredHistory.entries g.T.Replays.state_of g.T.Replays.replied g.T.Replays.after start c.args.self.now c.args.pass.now _ held _ pass.number c.in-Some.call.op c.in-Ok.reply (rw (← c.turn.view_is, is) at c.requires.turn) did (rw (← c.self.view_is) room)
     (noted_view g.T.History.StoredHistory.entries g.T.Replays.state_of g.T.Replays.replied g.T.Replays.after start _ _ pass.seat.table_id c.note.new.seat.table_id pass.seat.me c.note.new.seat.me pass.number _ c.pass.view_is refl c.note.ensures.same.0 c.note.ensures.noted)

@@ -6,16 +6,14 @@ use Rattle.turnstile.proofs.turnstile.Turnstile.join.Goals as goal
 
 pub join_seat-requires : goal.join_seat-requires
 join_seat-requires g c =
-    let shape = c.self.inside.lock.shape in
     let one = seated _ _ _ _ c.pass.inside.seat.me.0 c.pass.inside.number _ c.pass.view_is c.self.view_is c.requires.pass in
     let other = seated _ _ _ _ c.other.inside.seat.me.0 c.other.inside.number _ c.other.view_is c.self.view_is c.requires.other in
-    (one.0, other.0, (c.other.invariant.rests other.2).0, omega (arith, shape), joins _ _ _ _ _ _ _ _ _ one.2 (c.other.invariant.rests other.2).1 other.2)
+    (one.0, other.0, (c.other.invariant.rests other.2).0, omega (arith, c.self.inside.lock.shape), joins _ _ _ _ _ _ _ _ _ one.2 (c.other.invariant.rests other.2).1 other.2)
 
 pub load-pass-inside-requires : goal.load-pass-inside-requires
 load-pass-inside-requires g c =
-    let shape = c.self.inside.lock.shape in
     let here = seated _ _ _ _ c.pass.inside.seat.me.0 c.pass.inside.number _ c.pass.view_is c.self.view_is c.requires.pass in
-    (c.join_seat.ensures.0 ∙ here.0, omega (arith, shape), tells _ _ _ _ _ _ _ _ (search rules))
+    (c.join_seat.ensures.0 ∙ here.0, omega (arith, c.self.inside.lock.shape), tells _ _ _ _ _ _ _ _ (search rules))
 
 pub returns-clause-agree : goal.returns-clause-agree
 returns-clause-agree g c =
