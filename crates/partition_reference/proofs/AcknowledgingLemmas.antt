@@ -1,17 +1,7 @@
 -- What an agent's retry and ack leave and answer, case by case.
-use Rattle.std.proofs.Common.{◌≡◌, ℕ, suc, ◌+◌, max, true, false, not, List, [], ◌∷◌, Option, Some, None, refl, sym, ap, ◌∙◌, arith}
-use Rattle.std.specs.List.{slice_get}
-use Rattle.std.specs.Prelude.{if◌then◌else◌}
-use Rattle.stream_ident.specs.declared.ident.SubName.{SubName}
-use Rattle.stream_ident.specs.declared.token.Token.{Token}
-use Rattle.stream_ident.specs.SubName.{same_sub}
-use Rattle.stream_model.specs.declared.plain.PlainPartition.{PlainPartition}
-use Rattle.stream_model.specs.declared.plain.Subscription.{Subscription}
-use Rattle.stream_model.specs.Replies.{Reply}
+use Rattle.partition_reference.proofs.Prelude.{◌≡◌, ℕ, suc, ◌+◌, max, true, false, not, List, [], ◌∷◌, Option, Some, None, refl, sym, ap, ◌∙◌, arith, slice_get, if◌then◌else◌, same_sub, with_value, SubName, Token, sub_at, with_sub, acknowledged, handled_at, is_stale, rewound, Reply, PlainPartition, Subscription}
 use Rattle.stream_model.specs.declared.reply.Reply.TheVariants as reply
-use Rattle.stream_model.specs.Positions.{sub_at, with_sub}
-use Rattle.stream_model.specs.Pulling.{ack, ack_of, ack_position, acknowledged, handled_at, is_stale, retry, retry_of, rewound}
-use Rattle.stream_ident.specs.Words.{with_value}
+use Rattle.stream_model.specs.Pulling.{ack, ack_of, ack_position, retry, retry_of}
 
 -- the subscription's record decides
 retry-current : (p : PlainPartition) (generation : ℕ) (s : SubName) (found : Option Subscription) → is_stale p generation ≡ false → sub_at p s ≡ found → retry p generation s ≡ retry_of p s found

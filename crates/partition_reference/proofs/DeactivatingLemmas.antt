@@ -1,17 +1,8 @@
 -- What a deactivation leaves and answers, case by case.
-use Rattle.std.proofs.Common.{◌≡◌, ℕ, ◌+◌, ◌&&◌, true, false, not, List, [], None, if◌then◌else◌, length, sym, ap, ◌∙◌}
-use Rattle.stream_ident.specs.declared.ident.GrainId.{GrainId}
-use Rattle.stream_ident.specs.declared.ident.SubName.{SubName}
-use Rattle.stream_ident.specs.Name.{same_grain}
-use Rattle.stream_model.specs.declared.plain.Grain.{Grain}
-use Rattle.stream_model.specs.declared.plain.PlainPartition.{PlainPartition}
-use Rattle.stream_model.specs.declared.plain.Subscription.{Subscription}
-use Rattle.stream_model.specs.Replies.{Reply}
+use Rattle.partition_reference.proofs.Prelude.{◌≡◌, ℕ, ◌+◌, ◌&&◌, true, false, not, List, [], None, length, sym, ap, ◌∙◌, same_grain, each_value, with_value, GrainId, SubName, grain_at, rewound_where, Reply, deactivated, running_count, Grain, PlainPartition, Subscription}
+use Rattle.std.proofs.Common.{if◌then◌else◌}
 use Rattle.stream_model.specs.declared.reply.Reply.TheVariants as reply
-use Rattle.stream_model.specs.Pulling.{rewound_where}
-use Rattle.stream_model.specs.Turns.{deactivate, deactivate_in, deactivated, running_count}
-use Rattle.stream_ident.specs.Words.{each_value, with_value}
-use Rattle.stream_model.specs.Positions.{grain_at}
+use Rattle.stream_model.specs.Turns.{deactivate, deactivate_in}
 
 -- the grain's record decides
 deactivate-at : (p : PlainPartition) (g : GrainId) (st : Grain) → grain_at p g ≡ st → deactivate p g ≡ (if not st.active then (p, reply.NotActive) else (deactivated p g st, reply.Deactivated (length st.mailbox + running_count st.running)))

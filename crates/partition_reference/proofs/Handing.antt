@@ -1,30 +1,9 @@
 -- What an agent's deliver leaves and answers, case by case.
-use Rattle.std.proofs.Common.{◌≡◌, ℕ, suc, ◌+◌, ◌-◌, ◌<◌, ◌≤◌, Bool, true, false, ◌&&◌, ◌||◌, not, List, ◌∷◌, length, get_or, take, drop, max, Option, Some, None, sym, ap, subst, ◌∙◌, nat_lt, arith}
-use Rattle.std.proofs.lemmas.Bool.{eq-eqb, le-leb, lt-leb}
-use Rattle.std.proofs.lemmas.List.{drop_more}
-use Rattle.std.proofs.lemmas.Option.{same_Some}
+use Rattle.partition_reference.proofs.Prelude.{◌≡◌, ℕ, suc, ◌+◌, ◌-◌, ◌<◌, ◌≤◌, Bool, true, false, ◌&&◌, ◌||◌, not, List, ◌∷◌, length, get_or, take, drop, max, Option, Some, None, sym, ap, subst, ◌∙◌, nat_lt, arith, eq-eqb, le-leb, lt-leb, drop_more, same_Some, AllByRecursion, if◌then◌else◌, same_grain, same_sub, first_at, with_value, Event, GrainId, SubName, MAILBOX_PLACES, Token, grain_at-new, place_of, between, grain_at, is_outstanding, is_spent, is_unacknowledged, next_position, running_in, sub_at, token_at, waiting_in, with_grain, with_sub, caught_up, delivered, woken, Reply, takes_memory, Grain, PlainPartition, Subscription}
 use Rattle.std.specs.Int.{from_bool}
-use Rattle.std.specs.List.{AllByRecursion}
-use Rattle.std.specs.Prelude.{if◌then◌else◌}
-use Rattle.stream_ident.specs.declared.event.Event.{Event}
-use Rattle.stream_ident.specs.declared.ident.GrainId.{GrainId}
-use Rattle.stream_ident.specs.declared.ident.SubName.{SubName}
-use Rattle.stream_ident.specs.declared.token.Token.{Token}
-use Rattle.stream_ident.specs.Name.{same_grain}
-use Rattle.stream_ident.specs.SubName.{same_sub}
-use Rattle.stream_model.specs.declared.plain.Grain.{Grain}
-use Rattle.stream_model.specs.declared.plain.PlainPartition.{PlainPartition}
-use Rattle.stream_model.specs.declared.plain.Subscription.{Subscription}
-use Rattle.stream_model.specs.Replies.{Reply}
 use Rattle.stream_model.specs.declared.reply.Reply.TheVariants as reply
 use Rattle.stream_model.specs.Bounds.{IsWithinLimits}
-use Rattle.stream_model.specs.Places.{place_of}
-use Rattle.stream_model.specs.Positions.{between, grain_at, is_outstanding, is_spent, is_unacknowledged, next_position, running_in, sub_at, token_at, waiting_in, with_grain, with_sub}
-use Rattle.stream_model.specs.Pulling.{caught_up, deliver, deliver_to, deliver_position, delivered, woken}
-use Rattle.stream_model.specs.Step.{takes_memory}
-use Rattle.stream_ident.specs.Words.{first_at, with_value}
-use Rattle.stream_ident.specs.declared.limits.TheConstants.{MAILBOX_PLACES}
-use Rattle.stream_model.proofs.Beginning.{grain_at-new}
+use Rattle.stream_model.specs.Pulling.{deliver, deliver_to, deliver_position}
 use Rattle.stream_ident.proofs.EachOf.{All-weaken}
 
 -- what the cache has from a position on, by its first event

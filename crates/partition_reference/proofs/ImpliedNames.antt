@@ -1,19 +1,7 @@
 -- Which of the names that rules make come to be in a list of subscriptions.
-use Rattle.std.proofs.Common.{◌≡◌, ◌∙◌, ap, sym, refl, ℕ, ◌+◌, ◌<◌, ◌&&◌, ◌||◌, not, Bool, true, false, List, ◌∷◌, length, drop, get_or, fold, arith}
-use Rattle.std.proofs.lemmas.Bool.{not-true, not-false}
-use Rattle.std.proofs.lemmas.List.{at_drop_more, length_push}
-use Rattle.std.specs.List.{flat_map}
-use Rattle.stream_ident.specs.declared.event.Event.{Event}
-use Rattle.stream_ident.specs.declared.ident.SubName.{SubName}
+use Rattle.partition_reference.proofs.Prelude.{◌≡◌, ◌∙◌, ap, sym, refl, ℕ, ◌+◌, ◌<◌, ◌&&◌, ◌||◌, not, Bool, true, false, List, ◌∷◌, length, drop, get_or, fold, arith, not-true, not-false, at_drop_more, length_push, flat_map, has, has-append, has-fold, batch_token, added, same_name, token_lt, Event, SubName, implied, Subscription}
 use Rattle.stream_ident.specs.declared.ident.SubName.TheVariants.{Implicit}
-use Rattle.stream_ident.specs.Name.{same_name}
-use Rattle.stream_ident.specs.Token.{token_lt}
-use Rattle.stream_model.specs.declared.plain.Subscription.{Subscription}
 use Rattle.stream_ident.specs.declared.rule.Rule.{Rule}
-use Rattle.stream_ident.specs.Event.{batch_token}
-use Rattle.stream_ident.specs.Implying.{added}
-use Rattle.stream_model.specs.Pulling.{implied}
-use Rattle.stream_ident.proofs.NewNames.{has, has-append, has-fold}
 
 -- ---- loops over what is made of each item
 

@@ -8,3 +8,4 @@ pub mod RulesLemmas
 pub mod SlowestName
 pub mod SlowestResume
 pub mod UnsubscribingLemmas
+pub mod Prelude

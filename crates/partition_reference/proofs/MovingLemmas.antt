@@ -1,15 +1,7 @@
 -- What a move of the queue leaves and answers, case by case.
-use Rattle.std.proofs.Common.{◌≡◌, ℕ, suc, min, false, List, [], ◌∷◌, sym, ap, ◌∙◌, arith}
-use Rattle.std.specs.Prelude.{if◌then◌else◌}
-use Rattle.stream_ident.specs.declared.ident.SubName.{SubName}
-use Rattle.stream_ident.specs.declared.token.Token.{Token}
-use Rattle.stream_model.specs.declared.plain.PlainPartition.{PlainPartition}
-use Rattle.stream_model.specs.declared.plain.Subscription.{Subscription}
-use Rattle.stream_model.specs.Replies.{Reply}
+use Rattle.partition_reference.proofs.Prelude.{◌≡◌, ℕ, suc, min, false, List, [], ◌∷◌, sym, ap, ◌∙◌, arith, if◌then◌else◌, each_value, least_with, SubName, Token, is_spent, least_or, open_resumes, slowest, token_at, rewound_where, Reply, PlainPartition, Subscription}
 use Rattle.stream_model.specs.declared.reply.Reply.TheVariants as reply
-use Rattle.stream_model.specs.Positions.{is_spent, least_or, open_resumes, slowest, token_at}
-use Rattle.stream_model.specs.Pulling.{move, move_to, rewound_where}
-use Rattle.stream_ident.specs.Words.{each_value, least_with}
+use Rattle.stream_model.specs.Pulling.{move, move_to}
 
 -- the least of some numbers and one more, by the least of them
 least_with-or : (n : ℕ) (xs : List ℕ) → min n (least_or n xs) ≡ least_with n xs

@@ -1,14 +1,8 @@
 -- What an added rule leaves and answers, case by case.
-use Rattle.std.proofs.Common.{◌≡◌, ℕ, ◌<◌, ◌≤◌, ◌&&◌, Bool, true, false, List, [], ◌∷◌, ◌++◌, length, refl, sym, ap, ◌∙◌}
-use Rattle.std.proofs.lemmas.Bool.{le-leb, lt-leb}
-use Rattle.std.specs.List.{list_any}
-use Rattle.stream_ident.specs.Name.{same_name}
-use Rattle.stream_model.specs.declared.plain.PlainPartition.{PlainPartition}
+use Rattle.partition_reference.proofs.Prelude.{◌≡◌, ℕ, ◌<◌, ◌≤◌, ◌&&◌, Bool, true, false, List, [], ◌∷◌, ◌++◌, length, refl, sym, ap, ◌∙◌, le-leb, lt-leb, list_any, same_name, Reply, takes_memory, PlainPartition}
 use Rattle.stream_ident.specs.declared.rule.Rule.{Rule}
-use Rattle.stream_model.specs.Replies.{Reply}
 use Rattle.stream_model.specs.declared.reply.Reply.TheVariants as reply
 use Rattle.stream_model.specs.Publishing.{add_rule}
-use Rattle.stream_model.specs.Step.{takes_memory}
 
 -- one of the rules is of this kind and namespace
 abbrev pub is_among : List ℕ → List ℕ → List Rule → Bool

@@ -1,12 +1,5 @@
 -- The least name of an open subscription with a resume, found from the last to the first.
-use Rattle.std.proofs.Common.{◌≡◌, ℕ, ◌-◌, ◌<◌, ◌==◌, ◌&&◌, true, false, List, Option, Some, None, length, drop, get_or}
-use Rattle.stream_ident.specs.declared.ident.SubName.{SubName}
-use Rattle.stream_ident.specs.SubName.{sub_lt}
-use Rattle.stream_model.specs.declared.plain.Subscription.{Subscription}
-use Rattle.stream_model.specs.Least.{least_key}
-use Rattle.stream_ident.specs.Words.{lesser}
-use Rattle.stream_model.proofs.LeastKey.{least_key-there, least_key-not, of-all}
-use Rattle.stream_model.specs.Positions.{is_open_at}
+use Rattle.partition_reference.proofs.Prelude.{◌≡◌, ℕ, ◌-◌, ◌<◌, ◌==◌, ◌&&◌, true, false, List, Option, Some, None, length, drop, get_or, sub_lt, lesser, SubName, least_key-there, least_key-not, of-all, least_key, is_open_at, Subscription}
 
 -- the least of the names of the open ones with this resume
 abbrev pub least_at : ℕ → List (SubName × Subscription) → Option SubName

@@ -1,10 +1,5 @@
 -- The least resume of open subscriptions, found from the first to the last.
-use Rattle.std.proofs.Common.{◌≡◌, ◌∙◌, ap, sym, refl, ℕ, min, true, false, List, [], ◌∷◌, Option, Some, None, unwrap_or, ◌+◌, ◌<◌, length, drop, get_or, arith}
-use Rattle.std.proofs.lemmas.List.{at_drop_more}
-use Rattle.stream_ident.specs.declared.ident.SubName.{SubName}
-use Rattle.stream_model.specs.declared.plain.Subscription.{Subscription}
-use Rattle.stream_model.specs.Positions.{least_or, resumes_of}
-use Rattle.stream_ident.specs.Words.{least_with}
+use Rattle.partition_reference.proofs.Prelude.{◌≡◌, ◌∙◌, ap, sym, refl, ℕ, min, true, false, List, [], ◌∷◌, Option, Some, None, unwrap_or, ◌+◌, ◌<◌, length, drop, get_or, arith, at_drop_more, least_with, SubName, least_or, resumes_of, Subscription}
 
 -- the least of the rest, where this is the least of those before
 abbrev pub least_after : ℕ → Option ℕ → List ℕ → ℕ

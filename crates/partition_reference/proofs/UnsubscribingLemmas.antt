@@ -1,17 +1,8 @@
 -- What an unsubscribe leaves and answers, case by case.
-use Rattle.std.proofs.Common.{◌≡◌, ℕ, true, false, not, List, Option, Some, if◌then◌else◌, length, sym, ap, ◌∙◌}
-use Rattle.stream_ident.specs.declared.ident.GrainId.{GrainId}
-use Rattle.stream_ident.specs.declared.ident.SubName.{SubName}
-use Rattle.stream_ident.specs.Name.{same_grain}
-use Rattle.stream_ident.specs.SubName.{same_sub}
-use Rattle.stream_model.specs.declared.plain.Grain.{Grain}
-use Rattle.stream_model.specs.declared.plain.PlainPartition.{PlainPartition}
-use Rattle.stream_model.specs.declared.plain.Subscription.{Subscription}
-use Rattle.stream_model.specs.Replies.{Reply}
+use Rattle.partition_reference.proofs.Prelude.{◌≡◌, ℕ, true, false, not, List, Option, Some, length, sym, ap, ◌∙◌, same_grain, same_sub, changed_value, with_value, GrainId, SubName, sub_at, unsubscribed, without, Reply, Grain, PlainPartition, Subscription}
+use Rattle.std.proofs.Common.{if◌then◌else◌}
 use Rattle.stream_model.specs.declared.reply.Reply.TheVariants as reply
-use Rattle.stream_model.specs.Positions.{sub_at}
-use Rattle.stream_model.specs.Publishing.{unsubscribe, unsubscribe_from, unsubscribed, without}
-use Rattle.stream_ident.specs.Words.{changed_value, with_value}
+use Rattle.stream_model.specs.Publishing.{unsubscribe, unsubscribe_from}
 use Rattle.stream_ident.specs.declared.ident.SubName.TheVariants.{Explicit}
 
 -- the name's record decides

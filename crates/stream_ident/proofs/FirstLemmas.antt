@@ -1,10 +1,11 @@
 -- The first element that passes, by its place.
-use Rattle.std.proofs.Common.{◌≡◌, ◌∙◌, ◌+◌, ◌<◌, ◌≤◌, ◌∷◌, ap, subst, refl, ℕ, zero, suc, Bool, true, false, not, List, [], length, get_or, Option, Some, None, arith}
-use Rattle.std.proofs.lemmas.Bool.{lt-ltb, le-ltb, ltb-true, ltb-false}
+use Rattle.std.proofs.Common.{◌≡◌, ◌∙◌, ◌+◌, ◌<◌, ◌∷◌, ap, subst, refl, ℕ, zero, suc, Bool, true, false, List, [], length, get_or, Option, Some, None, arith}
+use Rattle.std.proofs.lemmas.Bool.Decides.{nat_tests}
 use Rattle.std.specs.List.{position_or_len}
 use Rattle.std.specs.Map.{keys_of}
 use Rattle.std.specs.Prelude.{if◌then◌else◌, nat_lt, position}
 use Rattle.stream_ident.specs.Words.{first_at, place_of}
+use Rattle.stream_ident.proofs.WordLemmas.{cond_none}
 
 -- the place of the first element that passes
 pub first_at-there : {A : Type 0} (passes : A → Bool) (n : ℕ) (xs : List A) (d : A) (i : ℕ) → i < length xs → passes (get_or xs i d) ≡ true → ((j : ℕ) → j < i → passes (get_or xs j d) ≡ false) → first_at passes n xs ≡ Some (n + i)
@@ -50,13 +51,8 @@ first_at-Some {A} passes n (x ∷ xs) d found e = by (passes x) refl e (λ later
 -- where none is found, no element passes
 pub first_at-None : {A : Type 0} (passes : A → Bool) (n : ℕ) (xs : List A) (d : A) → first_at passes n xs ≡ None → (j : ℕ) → j < length xs → passes (get_or xs j d) ≡ false
 first_at-None passes n [] d e j within = absurd (omega arith)
-first_at-None {A} passes n (x ∷ xs) d e j within = by (passes x) refl e (λ later. first_at-None passes (suc n) xs d later) j within
-  where
-    by : (b : Bool) → passes x ≡ b → (if b then Some n else first_at passes (suc n) xs) ≡ None → (first_at passes (suc n) xs ≡ None → (j : ℕ) → j < length xs → passes (get_or xs j d) ≡ false)
-        → (j : ℕ) → j < length (x ∷ xs) → passes (get_or (x ∷ xs) j d) ≡ false
-    by true is e rest j within = absurd (cc)
-    by false is e rest zero within = is
-    by false is e rest (suc j) within = rest e j (omega arith)
+first_at-None passes n (x ∷ xs) d e zero within = (cond_none _ _ _ e).0
+first_at-None passes n (x ∷ xs) d e (suc j) within = first_at-None passes (suc n) xs d (cond_none _ _ _ e).1 j (omega arith)
 
 -- the entry at the place of a key has the key
 pub place_of-key : {K V : Type 0} (same : K → K → Bool) (key : K) (entries : List (K × V)) (d : K × V) (i : ℕ) → place_of same key entries ≡ Some i → same key (get_or entries i d).0 ≡ true
@@ -68,24 +64,7 @@ place_of-key {K} {V} same key entries d i found =
 -- the first place of a key that passes, among the keys of entries that begin at a number
 keys_from : {K V : Type 0} (passes : K → Bool) (n : ℕ) (entries : List (K × V)) → (if nat_lt (position_or_len passes (keys_of entries)) (length (keys_of entries)) then Some (n + position_or_len passes (keys_of entries)) else None) ≡ first_at (λ (entry : K × V). passes entry.0) n entries
 keys_from passes n [] = refl
-keys_from {K} {V} passes n (entry ∷ entries) = by (passes entry.0) (keys_from passes (suc n) entries)
-  where
-    place : ℕ
-    place = position_or_len passes (keys_of entries)
-
-    by : (b : Bool) → (if nat_lt place (length (keys_of entries)) then Some (suc n + place) else None) ≡ first_at (λ (entry : K × V). passes entry.0) (suc n) entries
-        → (if nat_lt (if not b then 1 + place else 0) (suc (length (keys_of entries))) then Some (n + (if not b then 1 + place else 0)) else None) ≡ (if b then Some n else first_at (λ (entry : K × V). passes entry.0) (suc n) entries)
-    by true rest = rw (lt-ltb 0 (suc (length (keys_of entries))) (omega arith)) (ap Some (omega arith))
-    by false rest = count (nat_lt place (length (keys_of entries))) refl ∙ rest
-      where
-        count : (b : Bool) → nat_lt place (length (keys_of entries)) ≡ b
-            → (if nat_lt (1 + place) (suc (length (keys_of entries))) then Some (n + (1 + place)) else None) ≡ (if nat_lt place (length (keys_of entries)) then Some (suc n + place) else None)
-        count true is =
-            let within : place < length (keys_of entries) = ltb-true _ _ is in
-            rw (is, lt-ltb (1 + place) (suc (length (keys_of entries))) (omega arith)) (ap Some (omega arith))
-        count false is =
-            let past : length (keys_of entries) ≤ place = ltb-false _ _ is in
-            rw (is, le-ltb (1 + place) (suc (length (keys_of entries))) (omega arith)) refl
+keys_from passes n (entry ∷ entries) = let rest = keys_from passes (suc n) entries in grind (arith, nat_tests, rest)
 
 -- the place of a key among the keys is that of its entry among the entries
 pub position-key : {K V : Type 0} (passes : K → Bool) (entries : List (K × V)) → position passes (keys_of entries) ≡ first_at (λ (entry : K × V). passes entry.0) 0 entries

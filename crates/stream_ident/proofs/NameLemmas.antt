@@ -1,19 +1,14 @@
--- Texts that have no wrong place, rows that hold a text, and texts that are ASCII.
-use Rattle.std.specs.Prelude.{◌≡◌, ◌≢◌, ℕ, ◌-◌, zero, suc, ◌<◌, ◌≤◌, Bool, true, false, not, ◌||◌, ◌&&◌, ◌==◌, List, [], ◌∷◌, ◌++◌, length, Option, Some, None, position, take, replicate, nat_lt, nat_le, cond, refl}
+-- Texts that have no wrong place, and rows that hold a text.
+use Rattle.std.specs.Prelude.{◌≡◌, ◌≢◌, ℕ, ◌-◌, ◌<◌, ◌≤◌, Bool, true, not, List, [], ◌∷◌, ◌++◌, length, Some, None, position, take, replicate, nat_lt, cond, refl}
 use Rattle.std.specs.List.{list_all, position_or_len}
-use Rattle.std.specs.Str.{IsAscii}
 use Rattle.std.proofs.Common.{ap, ◌∙◌, arith}
-use Rattle.std.proofs.lemmas.Bool.{not-false, le-ltb, ltb-false, ne_eqb, eqb-false, eqb-true, leb-true, and_parts}
+use Rattle.std.proofs.lemmas.Bool.{not-false, le-ltb, ltb-false, ne_eqb, eqb-false, and_parts}
 use Rattle.std.proofs.lemmas.List.{take_all, take_at, length-append, length-replicate}
 use Rattle.std.proofs.lemmas.List.Sums.{list_all-from_AllPass, fails_before_first}
 use Rattle.stream_ident.specs.Text.{wrong_place, IsPadded}
 use Rattle.stream_ident.specs.Alphabet.{is_name_byte, IsName, wrong_in_name, IsPayload, wrong_in_payload, is_printable}
 use Rattle.stream_ident.specs.declared.limits.TheConstants.{NAME_BYTES, PAYLOAD_BYTES}
-use Rattle.stream_ident.proofs.WordLemmas.{one-add, or_else-none, or_else-parts}
-
-cond_none : {A : Type 0} (b : Bool) (x : A) (other : Option A) → cond b (Some x) other ≡ None → (b ≡ false) × (other ≡ None)
-cond_none true x other e = cc
-cond_none false x other e = (refl, e)
+use Rattle.stream_ident.proofs.WordLemmas.{cond_none, one-add, or_else-none, or_else-parts}
 
 -- where no place is wrong each byte is good
 pub good_from_position : (good : ℕ → Bool) (bytes : List ℕ) → position (λ byte. not (good byte)) bytes ≡ None → list_all good bytes ≡ true
@@ -77,37 +72,3 @@ IsPadded-from_row room text row fits e =
       },
       front,
     )
-
-IsAscii-from_all : (good : ℕ → Bool) → ((byte : ℕ) → good byte ≡ true → byte < 128) → (bytes : List ℕ) → list_all good bytes ≡ true → IsAscii bytes
-IsAscii-from_all good small [] e zero = omega arith
-IsAscii-from_all good small [] e (suc i) = omega arith
-IsAscii-from_all good small (byte ∷ bytes) e zero = small byte (and_parts _ _ e).0
-IsAscii-from_all good small (byte ∷ bytes) e (suc i) = IsAscii-from_all good small bytes (and_parts _ _ e).1 i
-
-small_printable : (byte : ℕ) → is_printable byte ≡ true → byte < 128
-small_printable byte e = omega (arith, leb-true byte 126 (and_parts _ _ e).1)
-
--- a byte of one of two ranges is below 128 where the bytes of both are
-small_in_range : (low high byte : ℕ) → high < 128 → (nat_le low byte && nat_le byte high) ≡ true → byte < 128
-small_in_range low high byte small e = omega (arith, small, leb-true byte high (and_parts _ _ e).1)
-
-small_or : (a b : Bool) (byte : ℕ) → (a ≡ true → byte < 128) → (b ≡ true → byte < 128) → (a || b) ≡ true → byte < 128
-small_or true b byte of_a of_b e = of_a refl
-small_or false b byte of_a of_b e = of_b e
-
-small_equal : (n byte : ℕ) → n < 128 → (byte == n) ≡ true → byte < 128
-small_equal n byte small e = omega (arith, small, eqb-true byte n e)
-
-small_name_byte : (byte : ℕ) → is_name_byte byte ≡ true → byte < 128
-small_name_byte byte e =
-    small_or _ _ byte (small_in_range 65 90 byte (omega arith))
-    (small_or _ _ byte (small_in_range 97 122 byte (omega arith))
-    (small_or _ _ byte (small_in_range 48 57 byte (omega arith))
-    (small_or _ _ byte (small_equal 95 byte (omega arith))
-    (small_or _ _ byte (small_equal 46 byte (omega arith)) (small_equal 45 byte (omega arith)))))) e
-
-pub IsAscii-IsName : (bytes : List ℕ) → IsName bytes → IsAscii bytes
-IsAscii-IsName bytes name = IsAscii-from_all is_name_byte small_name_byte bytes name.good
-
-pub IsAscii-IsPayload : (bytes : List ℕ) → IsPayload bytes → IsAscii bytes
-IsAscii-IsPayload bytes payload = IsAscii-from_all is_printable small_printable bytes payload.good

@@ -1,7 +1,8 @@
 -- Which names are in a list of names with their values, and which come to be in it.
-use Rattle.std.proofs.Common.{◌≡◌, ◌∙◌, ◌+◌, ◌<◌, ◌≤◌, ◌||◌, ◌∷◌, ◌++◌, if◌then◌else◌, ℕ, Bool, true, false, List, [], length, take, get_or, Some, is_some, fold, refl, sym, ap, arith}
+use Rattle.std.proofs.Common.{◌≡◌, ◌∙◌, ◌+◌, ◌<◌, ◌≤◌, ◌||◌, ◌∷◌, ◌++◌, ℕ, Bool, true, List, [], length, take, get_or, inl, inr, is_some, fold, refl, sym, ap, arith}
 use Rattle.std.proofs.Math.Bool.{or-false, or_assoc}
 use Rattle.std.proofs.Math.Seq.{take-length, take-append_seam}
+use Rattle.std.proofs.lemmas.Bool.{cases_Bool, cond_both}
 use Rattle.std.proofs.lemmas.List.{append-nil, length-take, take_more}
 use Rattle.std.proofs.lemmas.List.Concat.{flat_map-append}
 use Rattle.std.proofs.lemmas.List.Sums.{fold-append}
@@ -18,11 +19,7 @@ abbrev pub has : {V : Type 0} → SubName → List (SubName × V) → Bool
 has s entries = is_some (value_at same_sub s entries)
 
 pub has-cons : {V : Type 0} (s : SubName) (entry : SubName × V) (entries : List (SubName × V)) → has s (entry ∷ entries) ≡ same_sub s entry.0 || has s entries
-has-cons s entry entries = by (same_sub s entry.0)
-  where
-    by : (same : Bool) → is_some (if same then Some entry.1 else value_at same_sub s entries) ≡ same || has s entries
-    by true = refl
-    by false = refl
+has-cons s entry entries = grind arith
 
 pub has-append : {V : Type 0} (s : SubName) (xs ys : List (SubName × V)) → has s (xs ++ ys) ≡ has s xs || has s ys
 has-append s [] ys = refl
@@ -32,18 +29,16 @@ has-append s (x ∷ xs) ys =
 
 -- a name is there after one is added where it was, or is that one
 has-added : {V : Type 0} (s : SubName) (entries : List (SubName × V)) (entry : SubName × V) → has s (added entries entry) ≡ has s entries || same_sub s entry.0
-has-added s entries entry = by (has entry.0 entries) refl
+has-added s entries entry =
+    cond_both (has entry.0 entries) _ _ (λ now. has s now ≡ has s entries || same_sub s entry.0) there
+    (λ _. has-append s entries (entry ∷ []) ∙ ap (λ last. has s entries || last) (has-cons s entry [] ∙ or-false (same_sub s entry.0)))
   where
-    same-there : has entry.0 entries ≡ true → (same : Bool) → same_sub s entry.0 ≡ same → has s entries ≡ has s entries || same
-    same-there there true same =
-        let is : has s entries ≡ true = ap (λ name. has name entries) (same_sub-equal s entry.0 same) ∙ there in
-        is ∙ sym (ap (λ b. b || true) is)
-    same-there there false apart = sym (or-false (has s entries))
-
-    by : (there : Bool) → has entry.0 entries ≡ there → has s (if there then entries else entries ++ entry ∷ []) ≡ has s entries || same_sub s entry.0
-    by true there = same-there there (same_sub s entry.0) refl
-    by false absent =
-        has-append s entries (entry ∷ []) ∙ ap (λ last. has s entries || last) (has-cons s entry [] ∙ or-false (same_sub s entry.0))
+    there : has entry.0 entries ≡ true → has s entries ≡ has s entries || same_sub s entry.0
+    there found =
+        elim (cases_Bool (same_sub s entry.0)) [
+          | inl same ↦ let is : has s entries ≡ true = ap (λ name. has name entries) (same_sub-equal s entry.0 same) ∙ found in rw is refl
+          | inr apart ↦ rw (apart, or-false) refl
+        ]
 
 -- a name is there after these are added where it was, or is one of them
 pub has-fold : {V : Type 0} (s : SubName) (entries more : List (SubName × V)) → has s (fold added entries more) ≡ has s entries || has s more
@@ -70,11 +65,8 @@ added-more made entries xs i x within is =
 -- ---- the front
 
 added-front : {V : Type 0} (entries : List (SubName × V)) (entry : SubName × V) → take (length entries) (added entries entry) ≡ entries
-added-front entries entry = by (has entry.0 entries)
-  where
-    by : (there : Bool) → take (length entries) (if there then entries else entries ++ entry ∷ []) ≡ entries
-    by true = take-length entries
-    by false = take-append_seam entries (entry ∷ [])
+added-front entries entry =
+    cond_both (has entry.0 entries) _ _ (λ now. take (length entries) now ≡ entries) (λ _. take-length entries) (λ _. take-append_seam entries (entry ∷ []))
 
 -- the names stay where they are, and the new ones follow
 pub fold-front : {V : Type 0} (entries more : List (SubName × V)) → take (length entries) (fold added entries more) ≡ entries

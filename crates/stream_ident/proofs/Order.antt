@@ -1,5 +1,5 @@
 -- An order of names by two tests: what comes before what, and what is the same.
-use Rattle.std.proofs.Common.{◌≡◌, ◌∙◌, ap, sym, refl, Bool, true, false, Ordering, Less, Equal, Greater}
+use Rattle.std.proofs.Common.{◌≡◌, ◌∙◌, ap, sym, Bool, true, false, Ordering, Less, arith}
 use Rattle.std.specs.Cmp.{IsTotalOrder}
 use Rattle.std.specs.Ordering.{is_eq, is_lt, ordering_reverse}
 
@@ -10,24 +10,16 @@ pub record IsOrder {N : Type 0} (lt same : N → N → Bool) : Type 0 where
   pub apart : (a b : N) → same a b ≡ true → (lt a b ≡ false) × (lt b a ≡ false)
 
 is_less : (r : Ordering) → is_lt r ≡ true → r ≡ Less
-is_less Less less = refl
-is_less Equal less = absurd (cc)
-is_less Greater less = absurd (cc)
+is_less r less = grind arith
 
 not_back : (r s : Ordering) → s ≡ ordering_reverse r → is_lt r ≡ true → is_lt s ≡ false
-not_back Less s is less = ap is_lt is
-not_back Equal s is less = absurd (cc)
-not_back Greater s is less = absurd (cc)
+not_back r s is less = grind arith
 
 else_back : (r s : Ordering) → s ≡ ordering_reverse r → is_lt r ≡ false → is_eq r ≡ false → is_lt s ≡ true
-else_back Less s is more other = absurd (cc)
-else_back Equal s is more other = absurd (cc)
-else_back Greater s is more other = ap is_lt is
+else_back r s is more other = grind arith
 
 same_not : (r s : Ordering) → s ≡ ordering_reverse r → is_eq r ≡ true → (is_lt r ≡ false) × (is_lt s ≡ false)
-same_not Less s is same = absurd (cc)
-same_not Equal s is same = (refl, ap is_lt is)
-same_not Greater s is same = absurd (cc)
+same_not r s is same = (grind arith, grind arith)
 
 -- the tests of a total order
 pub order_of : {N : Type 0} (lt same : N → N → Bool) (cmp : N → N → Ordering) → IsTotalOrder cmp → ((a b : N) → is_lt (cmp a b) ≡ lt a b) → ((a b : N) → is_eq (cmp a b) ≡ same a b) → IsOrder lt same

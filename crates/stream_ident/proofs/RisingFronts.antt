@@ -43,27 +43,21 @@ module _ {D K : Type 0} (same : K → K → Bool) (sub_of : D → K) (position_o
       let n : ℕ = most - suc (length done) in
       let left : most - length (done ++ position_of d ∷ []) ≡ n = omega (arith, length_push done (position_of d)) in
       let left' : most - length done ≡ suc n = omega arith in
-      append_assoc done (position_of d ∷ []) (rising_front same sub_of position_of (most - length (done ++ position_of d ∷ [])) s (suc (position_of d)) (drop (i + 1) ds))
-      ∙ ap (λ xs. done ++ xs) (
-      ap (λ m. position_of d ∷ rising_front same sub_of position_of m s (suc (position_of d)) (drop (i + 1) ds)) left
-      ∙ (sym (front-cons n s from d (drop (i + 1) ds) passes)
-      ∙ (ap (λ m. rising_front same sub_of position_of m s from (d ∷ drop (i + 1) ds)) (sym left')
-      ∙ ap (rising_front same sub_of position_of (most - length done) s from) (sym (drop-read ds i d within read)))))
+      rw (drop-read ds i d within read, left, left', passes, append_assoc) refl
 
   -- what is done is the front: all that it may have
   pub front-full : (done : List ℕ) (most : ℕ) (s : K) (from : ℕ) (ds : List D) → length done ≡ most → done ++ rising_front same sub_of position_of (most - length done) s from ds ≡ done
   front-full done most s from ds full =
       let left : most - length done ≡ 0 = omega arith in
-      ap (λ m. done ++ rising_front same sub_of position_of m s from ds) left ∙ append-nil done
+      rw (left, append-nil) refl
 
   -- or all that there is
   pub front-end : (done : List ℕ) (n : ℕ) (s : K) (from : ℕ) (ds : List D) (i : ℕ) → length ds ≤ i → done ++ rising_front same sub_of position_of n s from (drop i ds) ≡ done
   front-end done n s from ds i past =
-      ap (λ rest. done ++ rising_front same sub_of position_of n s from rest) (drop_all i ds past) ∙ (ap (λ xs. done ++ xs) (front-nil n s from) ∙ append-nil done)
+      rw (drop_all i ds past, front-nil n s from, append-nil) refl
 
   -- or the next isn't of the turn
   pub front-stop : (done : List ℕ) (n : ℕ) (s : K) (from : ℕ) (ds : List D) (i : ℕ) (d : D) → i < length ds → d ≡ get_or ds i d → (same s (sub_of d) && nat_le from (position_of d)) ≡ false
       → done ++ rising_front same sub_of position_of n s from (drop i ds) ≡ done
   front-stop done n s from ds i d within read fails =
-      ap (λ rest. done ++ rising_front same sub_of position_of n s from rest) (drop-read ds i d within read)
-      ∙ (ap (λ xs. done ++ xs) (front-cut n s from d (drop (i + 1) ds) fails) ∙ append-nil done)
+      rw (drop-read ds i d within read, front-cut n s from d (drop (i + 1) ds) fails, append-nil) refl

@@ -10,6 +10,11 @@ use Rattle.stream_ident.specs.Words.{change_at, or_else, past_from, changed_valu
 pub one-add : (n : ℕ) → 1 + n ≡ suc n
 one-add n = omega arith
 
+-- where a choice is none, its test fails
+pub cond_none : {A : Type 0} (b : Bool) (x : A) (other : Option A) → (if b then Some x else other) ≡ None → (b ≡ false) × (other ≡ None)
+cond_none true x other e = cc
+cond_none false x other e = (refl, e)
+
 pub or_else-none : {A : Type 0} (o : Option A) → or_else o None ≡ o
 or_else-none None = refl
 or_else-none (Some x) = refl
@@ -82,7 +87,5 @@ drop-read xs i x within read = drop_more xs i x within ∙ ap (λ y. y ∷ drop 
 pub changed_value-none : {K V : Type 0} (same : K → K → Bool) (key : K) (change : V → V) (entries : List (K × V)) → value_at same key entries ≡ None → changed_value same key change entries ≡ entries
 changed_value-none same key change [] e = refl
 changed_value-none same key change (entry ∷ entries) e =
-    (elim (same key entry.0) as (λ b. (if b then Some entry.1 else value_at same key entries) ≡ None → (if b then (entry.0, change entry.1) ∷ entries else entry ∷ changed_value same key change entries) ≡ entry ∷ entries) [
-      | true ↦ λ e. absurd (cc)
-      | false ↦ λ e. ap (λ rest. entry ∷ rest) (changed_value-none same key change entries e)
-    ]) e
+    let apart = cond_none (same key entry.0) entry.1 (value_at same key entries) e in
+    rw apart.0 (ap (λ rest. entry ∷ rest) (changed_value-none same key change entries apart.1))

@@ -1,15 +1,5 @@
 -- The front delivery of an idle grain: a repeat of it is dropped.
-use Rattle.std.proofs.Common.{◌≡◌, ◌∙◌, ap, sym, subst, refl, ◌<◌, true, List, [], ◌∷◌, Some, None, arith}
-use Rattle.std.proofs.lemmas.Bool.{true≢false}
-use Rattle.std.specs.List.{AllByRecursion}
-use Rattle.stream_ident.specs.declared.ident.GrainId.{GrainId}
-use Rattle.stream_model.specs.declared.plain.Delivery.{Delivery}
-use Rattle.stream_model.specs.declared.plain.PlainPartition.{PlainPartition}
-use Rattle.stream_model.specs.declared.plain.RunningTurn.{RunningTurn}
-use Rattle.stream_model.specs.declared.plain.Subscription.{Subscription}
-use Rattle.stream_model.specs.Positions.{grain_at, running_in, sub_at, waiting_in}
-use Rattle.stream_model.specs.Turns.{dropped}
-use Rattle.stream_ident.specs.Words.{past}
+use Rattle.stream_laws.proofs.Prelude.{◌≡◌, ◌∙◌, ap, sym, subst, refl, ◌<◌, true, List, [], ◌∷◌, Some, None, arith, true≢false, AllByRecursion, same_sub-refl, past, GrainId, grain_at, running_in, sub_at, waiting_in, dropped, Delivery, PlainPartition, RunningTurn, Subscription}
 use Rattle.stream_laws.proofs.Deliveries.{waiting-other, waiting-own}
 use Rattle.stream_laws.proofs.FitsOne.{Fits-grain, IsToldOf-refl}
 use Rattle.stream_laws.proofs.Invariant.{Fits, GrainsFit, IsBoxed, SubFits, marks_of}
@@ -17,7 +7,6 @@ use Rattle.stream_laws.proofs.Marks.{IsServed}
 use Rattle.stream_laws.proofs.OneChanged.{FitsHere, IsTurnAlike-refl}
 use Rattle.stream_laws.proofs.ServedLemmas.{served-repeat}
 use Rattle.stream_laws.proofs.Summary.{Summary}
-use Rattle.stream_ident.proofs.SameValues.{same_sub-refl}
 
 -- a grain is active, no turn of it runs, and this delivery is at the front of its mailbox
 pub record IsFront (t : Summary) (p : PlainPartition) (g : GrainId) (d : Delivery) (deliveries : List Delivery) (r : Subscription) : Type 0 where

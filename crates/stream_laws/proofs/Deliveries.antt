@@ -1,15 +1,6 @@
 -- The positions of a subscription among the deliveries of a mailbox.
-use Rattle.std.proofs.Common.{◌≡◌, ◌∙◌, ap, sym, subst, refl, ℕ, zero, suc, ◌≤◌, max, nat_le, Bool, true, false, ◌&&◌, List, [], ◌∷◌, ◌++◌, length, map, drop, filter, arith}
-use Rattle.std.proofs.lemmas.Bool.{and_parts, and_from, cond_both, cond-true, cond-false, false≢true, leb-true, le-leb}
-use Rattle.std.proofs.lemmas.List.{append-nil, map-append}
-use Rattle.std.proofs.lemmas.List.Elements.{filter-append}
-use Rattle.stream_ident.specs.declared.ident.SubName.{SubName}
-use Rattle.stream_ident.specs.SubName.{same_sub}
-use Rattle.stream_model.specs.declared.plain.Delivery.{Delivery}
-use Rattle.stream_model.specs.Positions.{waiting_in}
-use Rattle.stream_model.specs.Turns.{front_of}
+use Rattle.stream_laws.proofs.Prelude.{◌≡◌, ◌∙◌, ap, sym, subst, refl, ℕ, zero, suc, ◌≤◌, max, nat_le, Bool, true, false, ◌&&◌, List, [], ◌∷◌, ◌++◌, length, map, drop, filter, arith, and_parts, and_from, cond_both, cond-true, cond-false, false≢true, leb-true, le-leb, append-nil, map-append, filter-append, same_sub-equal, same_sub-refl, same_sub, SubName, waiting_in, front_of, Delivery}
 use Rattle.stream_laws.proofs.Marks.{IsCovering, IsNext}
-use Rattle.stream_ident.proofs.SameValues.{same_sub-equal, same_sub-refl}
 
 pub waiting-append : (x : SubName) (first second : List Delivery) → waiting_in x (first ++ second) ≡ waiting_in x first ++ waiting_in x second
 waiting-append x first second =

@@ -1,21 +1,10 @@
 -- A drain acknowledges what a subscription has handled, and delivers once more: its resume then stands at
 -- or past the cache's end.
-use Rattle.std.proofs.Common.{◌≡◌, ℕ, suc, pred, ◌≤◌, max, not, nat_lt, true, false, List, [], ◌∷◌, length, Option, Some, None, if◌then◌else◌, refl, sym, ap, subst, arith, ◌∙◌}
-use Rattle.std.proofs.lemmas.Bool.{eq-eqb, le-ltb, lt-ltb, or_from}
-use Rattle.stream_ident.specs.declared.ident.SubName.{SubName}
-use Rattle.stream_ident.specs.declared.token.Token.{Token}
-use Rattle.stream_model.specs.declared.op.Op.TheVariants.{Ack, Deliver}
-use Rattle.stream_model.specs.declared.plain.Delivery.{Delivery}
-use Rattle.stream_model.specs.declared.plain.PlainPartition.{PlainPartition}
-use Rattle.stream_model.specs.declared.plain.RunningTurn.{RunningTurn}
-use Rattle.stream_model.specs.declared.plain.Subscription.{Subscription}
-use Rattle.stream_model.specs.Replies.{Reply}
+use Rattle.stream_laws.proofs.Prelude.{◌≡◌, ℕ, suc, pred, ◌≤◌, max, not, nat_lt, true, false, List, [], ◌∷◌, length, Option, Some, None, if◌then◌else◌, refl, sym, ap, subst, arith, ◌∙◌, eq-eqb, le-ltb, lt-ltb, or_from, past, SubName, Token, after_ack, after_last_deliver, last_handled, grain_at, is_outstanding, is_unacknowledged, running_in, sub_at, token_at, waiting_in, with_sub, acknowledged, caught_up, handled_at, Reply, Ack, Deliver, Delivery, PlainPartition, RunningTurn, Subscription}
 use Rattle.stream_model.specs.declared.reply.Reply.TheVariants as reply
-use Rattle.stream_model.specs.Draining.{acknowledge, after_ack, after_last_deliver, deliver_once_more, last_handled}
-use Rattle.stream_model.specs.Positions.{grain_at, is_outstanding, is_unacknowledged, running_in, sub_at, token_at, waiting_in, with_sub}
-use Rattle.stream_model.specs.Pulling.{ack, ack_of, ack_position, acknowledged, caught_up, handled_at}
+use Rattle.stream_model.specs.Draining.{acknowledge, deliver_once_more}
+use Rattle.stream_model.specs.Pulling.{ack, ack_of, ack_position}
 use Rattle.stream_model.specs.Step.{step}
-use Rattle.stream_ident.specs.Words.{past}
 use Rattle.stream_laws.proofs.DrainBase.{IsSound, handled_since, told-step}
 use Rattle.stream_laws.proofs.DrainDeliver.{deliver-nothing, next-none, set-sound}
 use Rattle.stream_laws.proofs.DrainRule.{Meets, Tally, meets-ask, tally_after}

@@ -1,11 +1,6 @@
 -- What holds at each step of a drain: the invariant, and how many turns there were since the drain began.
-use Rattle.std.proofs.Common.{◌≡◌, ℕ, ◌-◌, ◌≤◌, length, subst, arith, ◌∙◌}
-use Rattle.stream_ident.specs.declared.ident.SubName.{SubName}
-use Rattle.stream_model.specs.declared.op.Op.{Op}
-use Rattle.stream_model.specs.declared.plain.PlainPartition.{PlainPartition}
-use Rattle.stream_model.specs.Replies.{Reply}
+use Rattle.stream_laws.proofs.Prelude.{◌≡◌, ℕ, ◌-◌, ◌≤◌, length, subst, arith, ◌∙◌, SubName, binding_after, handled_after, published_after, Reply, Op, PlainPartition}
 use Rattle.stream_laws.specs.DrainLaws.{sum_open}
-use Rattle.stream_model.specs.NewestFirst.{binding_after, handled_after, published_after}
 use Rattle.stream_model.specs.Step.{step}
 use Rattle.stream_laws.proofs.DrainRule.{Tally, tally_after, turns_after}
 use Rattle.stream_laws.proofs.IdleGrains.{IsIdle}

@@ -1,21 +1,9 @@
 -- Begin and Commit of a turn of one event, as a drain asks for them.
-use Rattle.std.proofs.Common.{◌≡◌, ℕ, suc, pred, ◌==◌, not, nat_lt, nat_le, Bool, true, false, List, [], ◌∷◌, Some, None, if◌then◌else◌, refl, ap, ◌∙◌, le-leb, arith}
-use Rattle.std.proofs.lemmas.Bool.{and_from, eq-eqb}
-use Rattle.stream_ident.specs.declared.ident.GrainId.{GrainId}
-use Rattle.stream_ident.specs.SubName.{same_sub}
-use Rattle.stream_model.specs.declared.op.Op.TheVariants.{Begin, Commit}
-use Rattle.stream_model.specs.declared.plain.Delivery.{Delivery}
-use Rattle.stream_model.specs.declared.plain.Grain.{Grain}
-use Rattle.stream_model.specs.declared.plain.PlainPartition.{PlainPartition}
-use Rattle.stream_model.specs.declared.plain.RunningTurn.{RunningTurn}
-use Rattle.stream_model.specs.declared.plain.Subscription.{Subscription}
-use Rattle.stream_model.specs.Replies.{Reply}
+use Rattle.stream_laws.proofs.Prelude.{◌≡◌, ℕ, suc, pred, ◌==◌, not, nat_lt, nat_le, Bool, true, false, List, [], ◌∷◌, Some, None, if◌then◌else◌, refl, ap, ◌∙◌, arith, and_from, eq-eqb, same_sub-refl, same_sub, past, GrainId, events_at, grain_at, is_spent, sub_at, token_at, Reply, begun, committed, dropped, ended, front_of, Begin, Commit, Delivery, Grain, PlainPartition, RunningTurn, Subscription}
+use Rattle.std.proofs.Common.{le-leb}
 use Rattle.stream_model.specs.declared.reply.Reply.TheVariants as reply
-use Rattle.stream_model.specs.Positions.{events_at, grain_at, is_spent, sub_at, token_at}
 use Rattle.stream_model.specs.Step.{step}
-use Rattle.stream_model.specs.Turns.{begin, begin_for, begin_front, begin_in, begin_turn, begun, commit, commit_for, commit_running, committed, dropped, ended, front_of}
-use Rattle.stream_ident.specs.Words.{past}
-use Rattle.stream_ident.proofs.SameValues.{same_sub-refl}
+use Rattle.stream_model.specs.Turns.{begin, begin_for, begin_front, begin_in, begin_turn, commit, commit_for, commit_running}
 
 -- a grain with a delivery, and no turn that runs
 abbrev pub ready_grain : ℕ → Delivery → List Delivery → Grain

@@ -1,22 +1,8 @@
 -- Deliver, as a drain asks for it, and what it leaves.
-use Rattle.std.proofs.Common.{◌≡◌, ℕ, suc, ◌+◌, ◌-◌, ◌<◌, ◌≤◌, ◌&&◌, not, nat_le, Bool, true, false, List, [], ◌∷◌, ◌++◌, length, take, drop, Option, Some, None, if◌then◌else◌, refl, ap, arith, length-take, ◌∙◌}
-use Rattle.std.proofs.lemmas.Bool.{eq-eqb}
-use Rattle.stream_ident.specs.declared.event.Event.{Event}
-use Rattle.stream_ident.specs.declared.ident.SubName.{SubName}
-use Rattle.stream_ident.specs.Name.{same_grain}
-use Rattle.stream_model.specs.declared.op.Op.TheVariants.{Deliver}
-use Rattle.stream_model.specs.declared.plain.Delivery.{Delivery}
-use Rattle.stream_model.specs.declared.plain.Grain.{Grain}
-use Rattle.stream_model.specs.declared.plain.PlainPartition.{PlainPartition}
-use Rattle.stream_model.specs.declared.plain.Subscription.{Subscription}
-use Rattle.stream_model.specs.Replies.{Reply}
+use Rattle.stream_laws.proofs.Prelude.{◌≡◌, ℕ, suc, ◌+◌, ◌-◌, ◌<◌, ◌≤◌, ◌&&◌, not, nat_le, Bool, true, false, List, [], ◌∷◌, ◌++◌, length, take, drop, Option, Some, None, if◌then◌else◌, refl, ap, arith, length-take, ◌∙◌, eq-eqb, grain_equality, is_owed, same_grain, first_at, value_at, Event, SubName, MAILBOX_PLACES, with_value-at, between, grain_at, is_spent, next_position, sub_at, token_at, with_sub, caught_up, delivered, woken, Reply, Deliver, Delivery, Grain, PlainPartition, Subscription}
 use Rattle.stream_model.specs.declared.reply.Reply.TheVariants as reply
-use Rattle.stream_ident.specs.Event.{is_owed}
-use Rattle.stream_model.specs.Positions.{between, grain_at, is_spent, next_position, sub_at, token_at, with_sub}
-use Rattle.stream_model.specs.Pulling.{caught_up, deliver, deliver_position, deliver_to, delivered, woken}
+use Rattle.stream_model.specs.Pulling.{deliver, deliver_position, deliver_to}
 use Rattle.stream_model.specs.Step.{step}
-use Rattle.stream_ident.specs.Words.{first_at, value_at}
-use Rattle.stream_ident.specs.declared.limits.TheConstants.{MAILBOX_PLACES}
 use Rattle.stream_laws.proofs.DrainBase.{IsSound, handled_since, told-step}
 use Rattle.stream_laws.proofs.DrainBegin.{ready_grain}
 use Rattle.stream_laws.proofs.DrainRule.{Tally, tally_after}
@@ -24,8 +10,6 @@ use Rattle.stream_laws.proofs.DrainSums.{sum_open-set}
 use Rattle.stream_laws.proofs.IdleGrains.{each-grain}
 use Rattle.stream_model.proofs.Lookups.{first_at-le, first_at-within}
 use Rattle.stream_laws.proofs.Summary.{Summary}
-use Rattle.stream_model.proofs.Values.{with_value-at}
-use Rattle.stream_ident.proofs.SameValues.{grain_equality}
 
 -- ---- the next position
 

@@ -1,22 +1,10 @@
 -- What a drain does is a run of steps, each entry with the reply of its step.
-use Rattle.std.proofs.Common.{ℕ, zero, suc, ◌-◌, List, [], ◌∷◌, length, Option, Some, None, refl}
-use Rattle.stream_ident.specs.declared.ident.GrainId.{GrainId}
-use Rattle.stream_ident.specs.declared.ident.SubName.{SubName}
-use Rattle.stream_ident.specs.declared.token.Token.{Token}
-use Rattle.stream_ident.specs.Name.{grain_lt}
-use Rattle.stream_model.specs.declared.op.Op.{Op}
-use Rattle.stream_model.specs.declared.op.Op.TheVariants.{Pull, Deliver, Ack, Begin, Commit}
-use Rattle.stream_model.specs.declared.plain.PlainPartition.{PlainPartition}
-use Rattle.stream_model.specs.declared.plain.Subscription.{Subscription}
-use Rattle.stream_model.specs.Replies.{Reply}
+use Rattle.stream_laws.proofs.Prelude.{ℕ, zero, suc, ◌-◌, List, [], ◌∷◌, length, Option, Some, None, refl, grain_lt, keys_where, least, GrainId, SubName, Token, Progress, Stop, after_ack, after_begin, after_commit, after_last_deliver, all_waiting, and_then, ask, drain_round, drain_where, empty_mailboxes, go_on, last_handled, least_waiting, next_note, open_names, is_running, empty, sub_at, Reply, Leads, Op, Pull, Deliver, Ack, Begin, Commit, PlainPartition, Subscription}
 use Rattle.stream_model.specs.declared.reply.Reply.TheVariants as reply
-use Rattle.stream_model.specs.Draining.{Progress, Stop, acknowledge, after_ack, after_begin, after_commit, after_deliver, after_last_deliver, after_pull, all_waiting, and_then, ask, deliver_all, deliver_once_more, drain, drain_all, drain_round, drain_where, empty_mailboxes, go_on, last_handled, least_waiting, next_note, open_names, serve, serve_each, take_turn, take_turns}
+use Rattle.stream_model.specs.Draining.{acknowledge, after_deliver, after_pull, deliver_all, deliver_once_more, drain, drain_all, serve, serve_each, take_turn, take_turns}
 use Rattle.stream_laws.specs.DrainLaws.{DrainStands}
 use Rattle.stream_model.specs.History.{Entry}
-use Rattle.stream_model.specs.Looks.{is_running}
-use Rattle.stream_model.specs.Positions.{empty, sub_at}
-use Rattle.stream_model.specs.Step.{Leads, step}
-use Rattle.stream_ident.specs.Words.{keys_where, least}
+use Rattle.stream_model.specs.Step.{step}
 use Rattle.stream_model.proofs.Reaching.{leads-append}
 
 -- the entries of what was done lead from p to the partition after it

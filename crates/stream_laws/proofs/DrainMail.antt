@@ -1,15 +1,6 @@
 -- The first part of a round empties the mailboxes.
-use Rattle.std.proofs.Common.{◌≡◌, ℕ, zero, suc, ◌≤◌, nat_lt, true, List, [], ◌∷◌, length, Option, Some, None, unwrap_or, refl, sym, ap, arith, ◌∙◌}
-use Rattle.std.proofs.lemmas.Bool.{both_ways, true_from_ne_false}
-use Rattle.stream_ident.specs.declared.ident.GrainId.{GrainId}
-use Rattle.stream_ident.specs.Name.{grain_lt, same_grain}
-use Rattle.stream_model.specs.declared.plain.Delivery.{Delivery}
-use Rattle.stream_model.specs.declared.plain.Grain.{Grain}
-use Rattle.stream_model.specs.declared.plain.PlainPartition.{PlainPartition}
-use Rattle.stream_model.specs.Draining.{all_waiting, empty_mailboxes, least_waiting, take_turn, take_turns}
-use Rattle.stream_model.specs.Looks.{is_waiting}
-use Rattle.stream_model.specs.Positions.{grain_at, new_grain}
-use Rattle.stream_ident.specs.Words.{keys_where, value_at}
+use Rattle.stream_laws.proofs.Prelude.{◌≡◌, ℕ, zero, suc, ◌≤◌, nat_lt, true, List, [], ◌∷◌, length, Option, Some, None, unwrap_or, refl, sym, ap, arith, ◌∙◌, both_ways, true_from_ne_false, grain_equality, grain_lt, same_grain, keys_where, value_at, GrainId, all_waiting, empty_mailboxes, least_waiting, is_waiting, grain_at, new_grain, Delivery, Grain, PlainPartition}
+use Rattle.stream_model.specs.Draining.{take_turn, take_turns}
 use Rattle.stream_laws.proofs.DrainBase.{IsSound}
 use Rattle.stream_laws.proofs.DrainBegin.{ready_grain}
 use Rattle.stream_laws.proofs.IdleGrains.{IsEmptied, emptied-of}
@@ -18,7 +9,6 @@ use Rattle.stream_laws.proofs.DrainRule.{Meets, Tally, meets-and_then, meets-wea
 use Rattle.stream_laws.proofs.DrainSums.{waiting-set}
 use Rattle.stream_laws.proofs.DrainTurn.{TurnedSound, meets-take_turn}
 use Rattle.stream_laws.proofs.Summary.{Summary}
-use Rattle.stream_ident.proofs.SameValues.{grain_equality}
 
 -- a grain of the list for which something waits
 abbrev WaitsIn : PlainPartition → GrainId → Type 0

@@ -1,22 +1,11 @@
 -- A drain pulls after each round. A pull is never pressed there, since each open subscription's resume
 -- stands at or past the cache's end, so that blocks can be dropped.
-use Rattle.std.proofs.Common.{◌≡◌, ℕ, zero, suc, ◌+◌, ◌-◌, ◌*◌, ◌/◌, ◌≤◌, ◌==◌, min, not, nat_lt, Bool, true, false, List, [], ◌∷◌, length, map, filter, None, unwrap_or, if◌then◌else◌, refl, ap, arith, ◌∙◌}
-use Rattle.std.proofs.lemmas.Bool.{eq-eqb, eqb-false, eqb-true, ne_eqb}
-use Rattle.std.specs.List.{AllByRecursion}
-use Rattle.stream_ident.specs.declared.ident.SubName.{SubName}
+use Rattle.stream_laws.proofs.Prelude.{◌≡◌, ℕ, zero, suc, ◌+◌, ◌-◌, ◌*◌, ◌/◌, ◌≤◌, ◌==◌, min, not, nat_lt, Bool, true, false, List, [], ◌∷◌, length, map, filter, None, unwrap_or, if◌then◌else◌, refl, ap, arith, ◌∙◌, eq-eqb, eqb-false, eqb-true, ne_eqb, AllByRecursion, sub_equality, same_sub, least_with, value_at, SubName, BLOCK_EVENTS, Progress, ask, drain_round, between, least_or, open_resumes, slowest, slowest_name, token_at, all_implied, drops, room, subs_with, Reply, Pull, PlainPartition, Subscription}
 use Rattle.stream_ident.specs.declared.ident.SubName.TheVariants as name
-use Rattle.stream_ident.specs.SubName.{same_sub}
-use Rattle.stream_model.specs.declared.op.Op.TheVariants.{Pull}
-use Rattle.stream_model.specs.declared.plain.PlainPartition.{PlainPartition}
-use Rattle.stream_model.specs.declared.plain.Subscription.{Subscription}
-use Rattle.stream_model.specs.Replies.{Reply}
 use Rattle.stream_model.specs.declared.reply.Reply.TheVariants as reply
-use Rattle.stream_model.specs.Draining.{Progress, after_pull, ask, drain_all, drain_round}
-use Rattle.stream_model.specs.Positions.{between, least_or, open_resumes, slowest, slowest_name, token_at}
-use Rattle.stream_model.specs.Pulling.{all_implied, drops, pull, pull_count, pull_events, pull_want, room, subs_with}
+use Rattle.stream_model.specs.Draining.{after_pull, drain_all}
+use Rattle.stream_model.specs.Pulling.{pull, pull_count, pull_events, pull_want}
 use Rattle.stream_model.specs.Step.{step}
-use Rattle.stream_ident.specs.Words.{least_with, value_at}
-use Rattle.stream_ident.specs.declared.limits.TheConstants.{BLOCK_EVENTS}
 use Rattle.stream_laws.proofs.DrainBase.{IsSound, handled_since, told-step}
 use Rattle.stream_laws.proofs.IdleGrains.{IsEmptied}
 use Rattle.stream_laws.proofs.KeyLists.{each-entry}
@@ -24,7 +13,6 @@ use Rattle.stream_laws.proofs.DrainRule.{Meets, Tally, meets-and_then, meets-ask
 use Rattle.stream_laws.proofs.DrainServe.{AllSettled, RoundSound, meets-drain_round}
 use Rattle.stream_laws.proofs.DrainSums.{sum_open-added}
 use Rattle.stream_laws.proofs.Summary.{Summary}
-use Rattle.stream_ident.proofs.SameValues.{sub_equality}
 
 -- ---- the slowest resume
 

@@ -1,10 +1,6 @@
 -- What holds where a part of a drain has ended well. Nothing is said where it stopped at a limit, and it
 -- never goes astray.
-use Rattle.std.proofs.Common.{◌≡◌, ℕ, suc, ◌+◌, true, false, List, [], ◌∷◌, ◌++◌, length, filter, Option, Some, None, if◌then◌else◌, refl, sym, subst, arith}
-use Rattle.stream_model.specs.declared.op.Op.{Op}
-use Rattle.stream_model.specs.declared.plain.PlainPartition.{PlainPartition}
-use Rattle.stream_model.specs.Replies.{Reply}
-use Rattle.stream_model.specs.Draining.{Progress, Stop, AtTooMany, AtSpent, Astray, and_then, ask, commits, go_on, is_commit}
+use Rattle.stream_laws.proofs.Prelude.{◌≡◌, ℕ, suc, ◌+◌, true, false, List, [], ◌∷◌, ◌++◌, length, filter, Option, Some, None, if◌then◌else◌, refl, sym, subst, arith, Progress, Stop, AtTooMany, AtSpent, Astray, and_then, ask, commits, go_on, is_commit, Reply, Op, PlainPartition}
 use Rattle.stream_model.specs.History.{Entry}
 use Rattle.stream_model.specs.Step.{step}
 use Rattle.stream_laws.proofs.Summary.{Summary, after}

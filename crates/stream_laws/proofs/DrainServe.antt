@@ -1,14 +1,6 @@
 -- A round of a drain: the mailboxes emptied, and each open subscription served.
-use Rattle.std.proofs.Common.{◌≡◌, ℕ, ◌≤◌, true, false, List, [], ◌∷◌, Option, Some, refl, sym, subst, arith, ◌∙◌}
-use Rattle.std.proofs.lemmas.Bool.{both_ways, or_from}
-use Rattle.std.specs.List.{AllByRecursion, list_any}
-use Rattle.stream_ident.specs.declared.ident.SubName.{SubName}
-use Rattle.stream_ident.specs.SubName.{same_sub, sub_lt}
-use Rattle.stream_model.specs.declared.plain.PlainPartition.{PlainPartition}
-use Rattle.stream_model.specs.declared.plain.Subscription.{Subscription}
-use Rattle.stream_model.specs.Draining.{acknowledge, and_then, deliver_all, deliver_once_more, drain_round, empty_mailboxes, last_handled, open_names, serve, serve_each}
-use Rattle.stream_model.specs.Positions.{sub_at}
-use Rattle.stream_ident.specs.Words.{keys_where}
+use Rattle.stream_laws.proofs.Prelude.{◌≡◌, ℕ, ◌≤◌, true, false, List, [], ◌∷◌, Option, Some, refl, sym, subst, arith, ◌∙◌, both_ways, or_from, AllByRecursion, list_any, All-weaken, same_sub-equal, sub_equality, same_sub, sub_lt, keys_where, SubName, and_then, drain_round, empty_mailboxes, last_handled, open_names, sub_at, PlainPartition, Subscription}
+use Rattle.stream_model.specs.Draining.{acknowledge, deliver_all, deliver_once_more, serve, serve_each}
 use Rattle.stream_laws.proofs.DrainAck.{IsAcked, IsSettled, meets-acknowledge, meets-deliver_once_more}
 use Rattle.stream_laws.proofs.DrainBase.{IsSound}
 use Rattle.stream_laws.proofs.IdleGrains.{IsEmptied}
@@ -16,10 +8,8 @@ use Rattle.stream_laws.proofs.KeyLists.{All-in_order, All-keys_where, any-in_ord
 use Rattle.stream_laws.proofs.DrainMail.{EmptiedSound, meets-empty_mailboxes}
 use Rattle.stream_laws.proofs.DrainRule.{Meets, Tally, meets-and_then, meets-weaken}
 use Rattle.stream_laws.proofs.DrainServing.{IsSeen, IsServing, ServingSound, meets-deliver_all, serving-later}
-use Rattle.stream_ident.proofs.EachOf.{All-weaken}
 use Rattle.stream_laws.proofs.Summary.{Summary}
 use Rattle.stream_laws.proofs.Unique.{AreUnique}
-use Rattle.stream_ident.proofs.SameValues.{same_sub-equal, sub_equality}
 
 -- one open subscription
 meets-serve : (cache : ℕ) (t0 : Summary) (s : SubName) (t : Tally) (p : PlainPartition) (r : Subscription) → IsSound cache t0 t p → IsEmptied p → sub_at p s ≡ Some r → r.is_open ≡ true

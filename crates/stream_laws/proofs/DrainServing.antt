@@ -1,26 +1,13 @@
 -- A drain delivers all that the cache has for a subscription, each event with its turn.
-use Rattle.std.proofs.Common.{◌≡◌, ℕ, zero, suc, ◌-◌, ◌≤◌, ◌&&◌, not, Bool, true, false, [], Option, Some, None, refl, sym, ap, subst, arith, ◌∙◌}
-use Rattle.stream_ident.specs.declared.ident.GrainId.{GrainId}
-use Rattle.stream_ident.specs.declared.ident.SubName.{SubName}
-use Rattle.stream_ident.specs.Name.{same_grain}
-use Rattle.stream_ident.specs.SubName.{same_sub}
-use Rattle.stream_model.specs.declared.op.Op.TheVariants.{Deliver}
-use Rattle.stream_model.specs.declared.plain.Delivery.{Delivery}
-use Rattle.stream_model.specs.declared.plain.Grain.{Grain}
-use Rattle.stream_model.specs.declared.plain.PlainPartition.{PlainPartition}
-use Rattle.stream_model.specs.declared.plain.Subscription.{Subscription}
+use Rattle.stream_laws.proofs.Prelude.{◌≡◌, ℕ, zero, suc, ◌-◌, ◌≤◌, ◌&&◌, not, Bool, true, false, [], Option, Some, None, refl, sym, ap, subst, arith, ◌∙◌, same_grain-equal, sub_equality, same_grain, same_sub, GrainId, SubName, with_value-at, with_value-other, deliver_up_to, grain_at, is_spent, next_position, sub_at, token_at, with_sub, caught_up, delivered, woken, Deliver, Delivery, Grain, PlainPartition, Subscription}
 use Rattle.stream_model.specs.declared.reply.Reply.TheVariants as reply
-use Rattle.stream_model.specs.Draining.{after_deliver, deliver_all, take_turn, deliver_up_to}
-use Rattle.stream_model.specs.Positions.{grain_at, is_spent, next_position, sub_at, token_at, with_sub}
-use Rattle.stream_model.specs.Pulling.{caught_up, delivered, woken}
+use Rattle.stream_model.specs.Draining.{after_deliver, deliver_all, take_turn}
 use Rattle.stream_laws.proofs.DrainBase.{IsSound}
 use Rattle.stream_laws.proofs.DrainDeliver.{deliver-delivered, deliver-nothing, deliver-spent, delivered-ready, delivered-sound, next-bounds, set-sound}
 use Rattle.stream_laws.proofs.DrainRule.{Meets, Tally, meets-and_then, meets-ask, meets-weaken, tally_after}
 use Rattle.stream_laws.proofs.DrainTurn.{IsTurned, TurnedSound, meets-take_turn}
 use Rattle.stream_laws.proofs.IdleGrains.{IsEmptied, grain-other}
 use Rattle.stream_laws.proofs.Summary.{Summary}
-use Rattle.stream_model.proofs.Values.{with_value-at, with_value-other}
-use Rattle.stream_ident.proofs.SameValues.{same_grain-equal, sub_equality}
 
 -- what the service of a subscription leaves: its record has P, and the others are as they were
 pub record IsServing (P : PlainPartition → Subscription → Type 0) (p q : PlainPartition) (s : SubName) : Type 0 where

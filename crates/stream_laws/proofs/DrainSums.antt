@@ -1,20 +1,8 @@
 -- Sums over the open subscriptions, and how many deliveries wait.
-use Rattle.std.proofs.Common.{◌≡◌, ℕ, suc, ◌+◌, true, false, List, [], ◌∷◌, ◌++◌, length, fold, Option, Some, None, is_some, if◌then◌else◌, refl, sym, ap, ap₂, subst, arith, length-append, ◌∙◌}
-use Rattle.std.proofs.lemmas.Bool.{cond_both}
-use Rattle.std.specs.List.{AllByRecursion, flat_map}
-use Rattle.stream_ident.specs.declared.ident.GrainId.{GrainId}
-use Rattle.stream_ident.specs.declared.ident.SubName.{SubName}
-use Rattle.stream_ident.specs.Name.{same_grain}
-use Rattle.stream_ident.specs.SubName.{same_sub}
-use Rattle.stream_model.specs.declared.plain.Grain.{Grain}
-use Rattle.stream_model.specs.declared.plain.Subscription.{Subscription}
-use Rattle.stream_ident.proofs.WordLemmas.{or_else-parts}
-use Rattle.stream_ident.specs.Implying.{added}
+use Rattle.stream_laws.proofs.Prelude.{◌≡◌, ℕ, suc, ◌+◌, true, false, List, [], ◌∷◌, ◌++◌, length, fold, Option, Some, None, is_some, if◌then◌else◌, refl, sym, ap, ap₂, subst, arith, ◌∙◌, cond_both, AllByRecursion, flat_map, sub_equality, same_sub-equal, or_else-parts, added, same_grain, same_sub, or_else, value_at, with_value, GrainId, SubName, append-at, Grain, Subscription}
+use Rattle.std.proofs.Common.{length-append}
 use Rattle.stream_laws.specs.DrainLaws.{sum_open}
-use Rattle.stream_ident.specs.Words.{or_else, value_at, with_value}
 use Rattle.stream_laws.proofs.Unique.{AreUnique, same-swap}
-use Rattle.stream_model.proofs.Values.{append-at}
-use Rattle.stream_ident.proofs.SameValues.{sub_equality, same_sub-equal}
 
 -- one term
 abbrev term : (SubName → ℕ) → SubName × Subscription → ℕ

@@ -1,24 +1,10 @@
 -- A turn of a grain for which something waits: the first delivery leaves the mailbox, and either it was a
 -- repeat or one more event is handled.
-use Rattle.std.proofs.Common.{◌≡◌, ℕ, suc, ◌-◌, ◌≤◌, ◌==◌, nat_lt, Bool, true, false, List, [], ◌∷◌, ◌++◌, length, Option, Some, None, if◌then◌else◌, unwrap_or, refl, ap, subst, arith, length-append, ◌∙◌}
-use Rattle.std.proofs.lemmas.Bool.{eq-eqb}
-use Rattle.std.specs.List.{AllByRecursion}
-use Rattle.stream_ident.specs.declared.event.Event.{Event}
-use Rattle.stream_ident.specs.declared.ident.GrainId.{GrainId}
-use Rattle.stream_ident.specs.declared.ident.SubName.{SubName}
-use Rattle.stream_ident.specs.Name.{same_grain}
-use Rattle.stream_ident.specs.SubName.{same_sub}
-use Rattle.stream_model.specs.declared.op.Op.TheVariants.{Begin, Commit}
-use Rattle.stream_model.specs.declared.plain.Delivery.{Delivery}
-use Rattle.stream_model.specs.declared.plain.Grain.{Grain}
-use Rattle.stream_model.specs.declared.plain.PlainPartition.{PlainPartition}
-use Rattle.stream_model.specs.declared.plain.Subscription.{Subscription}
+use Rattle.stream_laws.proofs.Prelude.{◌≡◌, ℕ, suc, ◌-◌, ◌≤◌, ◌==◌, nat_lt, Bool, true, false, List, [], ◌∷◌, ◌++◌, length, Option, Some, None, if◌then◌else◌, unwrap_or, refl, ap, subst, arith, ◌∙◌, eq-eqb, AllByRecursion, grain_equality, same_sub-refl, sub_equality, same_grain, same_sub, past, value_at, Event, GrainId, SubName, with_value-at, with_value-other, after_begin, after_commit, all_waiting, next_note, events_at, grain_at, is_spent, new_grain, sub_at, token_at, begun, committed, dropped, Begin, Commit, Delivery, Grain, PlainPartition, Subscription}
+use Rattle.std.proofs.Common.{length-append}
 use Rattle.stream_model.specs.declared.reply.Reply.TheVariants as reply
-use Rattle.stream_model.specs.Draining.{after_begin, after_commit, all_waiting, next_note, take_turn}
-use Rattle.stream_model.specs.Positions.{events_at, grain_at, is_spent, new_grain, sub_at, token_at}
+use Rattle.stream_model.specs.Draining.{take_turn}
 use Rattle.stream_model.specs.Step.{step}
-use Rattle.stream_model.specs.Turns.{begun, committed, dropped}
-use Rattle.stream_ident.specs.Words.{past, value_at}
 use Rattle.stream_laws.proofs.DrainBase.{IsSound, IsTold, handled_since, told-step}
 use Rattle.stream_laws.proofs.DrainBegin.{begin-dropped, begin-spent, begin-turn, busy_grain, commit-turn, ready_grain, turn_of}
 use Rattle.stream_laws.proofs.DrainRule.{Meets, Tally, meets-ask, tally_after}
@@ -26,8 +12,6 @@ use Rattle.stream_laws.proofs.DrainSums.{sum_open-more, waiting-set}
 use Rattle.stream_laws.proofs.IdleGrains.{IsIdle, each-grain, grain-other, grain-set}
 use Rattle.stream_laws.proofs.Invariant.{IsBoxed}
 use Rattle.stream_laws.proofs.Summary.{Summary, after}
-use Rattle.stream_model.proofs.Values.{with_value-at, with_value-other}
-use Rattle.stream_ident.proofs.SameValues.{grain_equality, same_sub-refl, sub_equality}
 
 -- the record of a subscription that is open as this one is, of the same grain and with the same cursor
 pub record IsLike (p : PlainPartition) (s : SubName) (r : Subscription) : Type 0 where

@@ -1,18 +1,9 @@
 -- A drain commits each turn that it begins: the number of the last turn rises by its commits.
-use Rattle.std.proofs.Common.{length-append, ◌≡◌, ◌∙◌, ap, sym, refl, ℕ, zero, suc, ◌+◌, ◌-◌, Bool, false, List, [], ◌∷◌, ◌++◌, length, filter, Option, Some, None, if◌then◌else◌, arith}
-use Rattle.std.proofs.lemmas.List.Elements.{filter-append}
-use Rattle.stream_ident.specs.declared.ident.GrainId.{GrainId}
-use Rattle.stream_ident.specs.declared.ident.SubName.{SubName}
-use Rattle.stream_ident.specs.declared.token.Token.{Token}
-use Rattle.stream_model.specs.declared.op.Op.{Op}
-use Rattle.stream_model.specs.declared.op.Op.TheVariants.{Pull, Deliver, Ack, Begin, Commit}
-use Rattle.stream_model.specs.declared.plain.PlainPartition.{PlainPartition}
-use Rattle.stream_model.specs.declared.plain.Subscription.{Subscription}
-use Rattle.stream_model.specs.Replies.{Reply}
+use Rattle.stream_laws.proofs.Prelude.{◌≡◌, ◌∙◌, ap, sym, refl, ℕ, zero, suc, ◌+◌, ◌-◌, Bool, false, List, [], ◌∷◌, ◌++◌, length, filter, Option, Some, None, if◌then◌else◌, arith, filter-append, GrainId, SubName, Token, Progress, Stop, after_ack, after_begin, after_commit, after_last_deliver, all_waiting, and_then, ask, commits, drain_round, empty_mailboxes, go_on, is_commit, last_handled, least_waiting, next_note, open_names, sub_at, Reply, Op, Pull, Deliver, Ack, Begin, Commit, PlainPartition, Subscription}
+use Rattle.std.proofs.Common.{length-append}
 use Rattle.stream_model.specs.declared.reply.Reply.TheVariants as reply
-use Rattle.stream_model.specs.Draining.{Progress, Stop, acknowledge, after_ack, after_begin, after_commit, after_deliver, after_last_deliver, after_pull, all_waiting, and_then, ask, commits, deliver_all, deliver_once_more, drain_all, drain_round, empty_mailboxes, go_on, is_commit, last_handled, least_waiting, next_note, open_names, serve, serve_each, take_turn, take_turns}
+use Rattle.stream_model.specs.Draining.{acknowledge, after_deliver, after_pull, deliver_all, deliver_once_more, drain_all, serve, serve_each, take_turn, take_turns}
 use Rattle.stream_model.specs.History.{Entry}
-use Rattle.stream_model.specs.Positions.{sub_at}
 use Rattle.stream_model.specs.Step.{step}
 use Rattle.stream_laws.proofs.TurnNumbers.{Stays, handed_out, rises-begin, stays-ack, stays-commit, stays-deliver, stays-pull}
 

@@ -1,29 +1,11 @@
 -- Where a drain begins, and what holds where it has ended well.
-use Rattle.std.proofs.Common.{◌≡◌, ◌≢◌, ℕ, ◌-◌, ◌≤◌, ◌&&◌, nat_lt, Bool, true, false, List, [], ◌++◌, length, reverse, Option, Some, None, is_some, if◌then◌else◌, map, refl, sym, ap, ap₂, arith, append-nil, ◌∙◌}
-use Rattle.std.proofs.lemmas.Bool.{le-ltb}
-use Rattle.stream_ident.specs.declared.event.Event.{Event}
-use Rattle.stream_ident.specs.declared.ident.GrainId.{GrainId}
-use Rattle.stream_ident.specs.declared.ident.SubName.{SubName}
-use Rattle.stream_ident.specs.Name.{grain_lt}
-use Rattle.stream_ident.specs.SubName.{same_sub, sub_lt}
+use Rattle.stream_laws.proofs.Prelude.{◌≡◌, ◌≢◌, ℕ, ◌-◌, ◌≤◌, ◌&&◌, nat_lt, Bool, true, false, List, [], ◌++◌, length, reverse, Option, Some, None, is_some, if◌then◌else◌, map, refl, sym, ap, ap₂, arith, ◌∙◌, le-ltb, sub_equality, is_owed, grain_lt, same_sub, sub_lt, keys_where, least, or_else, past, Event, GrainId, SubName, Stop, AtTooMany, AtSpent, Astray, commits, drain_end, drain_where, behind, deliverable, is_running, is_waiting, quiet_reply, running, waiting, Entry, owed_of, next_position, sub_at, Stands, Limits, Delivery, Grain, PlainPartition, RunningTurn, Subscription, Pending, IsQuiet}
+use Rattle.std.proofs.Common.{append-nil}
 use Rattle.stream_model.specs.declared.drain_end.DrainEnd.TheVariants as ending
-use Rattle.stream_model.specs.declared.limits.Limits.{Limits}
-use Rattle.stream_model.specs.declared.plain.Delivery.{Delivery}
-use Rattle.stream_model.specs.declared.plain.Grain.{Grain}
-use Rattle.stream_model.specs.declared.plain.PlainPartition.{PlainPartition}
-use Rattle.stream_model.specs.declared.plain.RunningTurn.{RunningTurn}
-use Rattle.stream_model.specs.declared.plain.Subscription.{Subscription}
-use Rattle.stream_model.specs.declared.reply.Pending.{Pending}
 use Rattle.stream_model.specs.declared.reply.Pending.TheVariants as pending
-use Rattle.stream_model.specs.declared.reply.Reply.TheVariants.{IsQuiet}
-use Rattle.stream_model.specs.Draining.{Stop, AtTooMany, AtSpent, Astray, commits, drain, drain_all, drain_end, drain_where}
+use Rattle.stream_model.specs.Draining.{drain, drain_all}
 use Rattle.stream_laws.specs.DrainLaws.{DrainEnds, DrainedIsQuiet, DrainedTurns, left, sum_open}
-use Rattle.stream_ident.specs.Event.{is_owed}
-use Rattle.stream_model.specs.NewestFirst.{Entry, owed_of}
-use Rattle.stream_model.specs.Looks.{behind, deliverable, is_running, is_waiting, quiet, quiet_reply, running, waiting}
-use Rattle.stream_model.specs.Positions.{next_position, sub_at}
-use Rattle.stream_model.specs.Step.{Stands}
-use Rattle.stream_ident.specs.Words.{keys_where, least, or_else, past}
+use Rattle.stream_model.specs.Looks.{quiet}
 use Rattle.stream_laws.proofs.DrainBase.{IsSound, handled_since}
 use Rattle.stream_laws.proofs.DrainDeliver.{next-none}
 use Rattle.stream_laws.proofs.IdleGrains.{IsIdle, each-found, idle-of}
@@ -39,7 +21,6 @@ use Rattle.stream_laws.proofs.Legal.{fits-stands}
 use Rattle.stream_laws.proofs.Marks.{IsClear}
 use Rattle.stream_laws.proofs.Summary.{Summary, owed, summary}
 use Rattle.stream_laws.proofs.UniqueSteps.{IsSteady, steady-legal, steady-own}
-use Rattle.stream_ident.proofs.SameValues.{sub_equality}
 
 -- ---- the beginning
 

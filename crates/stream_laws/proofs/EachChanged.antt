@@ -1,22 +1,12 @@
 -- Each record rewound where a test holds of it, and another low position told.
-use Rattle.std.proofs.Common.{◌≡◌, ℕ, ◌≤◌, Bool, true, false, List, [], Some, None, refl, sym, ap, subst, ◌∙◌, arith, if◌then◌else◌}
-use Rattle.stream_ident.specs.declared.ident.GrainId.{GrainId}
-use Rattle.stream_ident.specs.declared.ident.SubName.{SubName}
+use Rattle.stream_laws.proofs.Prelude.{◌≡◌, ℕ, ◌≤◌, Bool, true, false, List, [], Some, None, refl, sym, ap, subst, ◌∙◌, arith, if◌then◌else◌, same_sub, each_value, value_at, GrainId, SubName, Token, changed_option, each_value-at, grain_at, sub_at, rewound_where, PlainPartition, Subscription}
 use Rattle.stream_ident.specs.declared.ident.SubName.TheVariants as name
-use Rattle.stream_ident.specs.declared.token.Token.{Token}
-use Rattle.stream_ident.specs.SubName.{same_sub}
-use Rattle.stream_model.specs.declared.plain.PlainPartition.{PlainPartition}
-use Rattle.stream_model.specs.declared.plain.Subscription.{Subscription}
-use Rattle.stream_model.specs.Positions.{grain_at, sub_at}
-use Rattle.stream_model.specs.Pulling.{rewound_where}
-use Rattle.stream_ident.specs.Words.{each_value, value_at}
 use Rattle.stream_laws.proofs.Invariant.{GrainsFit, NamesFit, NumbersFit, RulesDiffer, UnmadeFit, bound_by_rules, marks_of}
 use Rattle.stream_laws.proofs.MarkLemmas.{IsClear-within}
 use Rattle.stream_laws.proofs.Marks.{IsClear, IsServed}
 use Rattle.stream_laws.proofs.OneChanged.{GrainFits-carried, IsCarried}
 use Rattle.stream_laws.proofs.ServedLemmas.{served-rewound}
 use Rattle.stream_laws.proofs.Summary.{Summary}
-use Rattle.stream_model.proofs.Values.{changed_option, each_value-at}
 
 -- the same history but for the low token
 abbrev pub told_low : Summary → Token → Summary

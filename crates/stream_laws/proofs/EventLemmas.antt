@@ -1,13 +1,6 @@
 -- From positions of a log to its events: those at the marked positions are the events that pass.
-use Rattle.std.proofs.Common.{◌≡◌, ℕ, zero, suc, ◌+◌, ◌-◌, ◌<◌, ◌≤◌, Bool, true, false, List, [], ◌∷◌, ◌++◌, length, map, get_or, take, drop, filter, refl, sym, ap, ◌∙◌, arith, if◌then◌else◌, inl, inr}
+use Rattle.stream_laws.proofs.Prelude.{◌≡◌, ℕ, zero, suc, ◌+◌, ◌-◌, ◌<◌, ◌≤◌, Bool, true, false, List, [], ◌∷◌, ◌++◌, length, map, get_or, take, drop, filter, refl, sym, ap, ◌∙◌, arith, if◌then◌else◌, inl, inr, cases_lt, cond-false, cond-true, append-nil, drop_all, drop_at, get_or-map, get_or_past, length-map, map-append, take-append-drop, take_all, take_at, filter-append, AllByRecursion, past, past_from, Event, events_at, no_event}
 use Rattle.std.proofs.Math.Seq.{take-suc, drop-cons}
-use Rattle.std.proofs.lemmas.Bool.{cases_lt, cond-false, cond-true}
-use Rattle.std.proofs.lemmas.List.{append-nil, drop_all, drop_at, get_or-map, get_or_past, length-map, map-append, take-append-drop, take_all, take_at}
-use Rattle.std.proofs.lemmas.List.Elements.{filter-append}
-use Rattle.std.specs.List.{AllByRecursion}
-use Rattle.stream_ident.specs.declared.event.Event.{Event}
-use Rattle.stream_model.specs.Positions.{events_at, no_event}
-use Rattle.stream_ident.specs.Words.{past, past_from}
 use Rattle.stream_laws.proofs.MarkLemmas.{marked-within}
 use Rattle.stream_laws.proofs.Marks.{IsClear, IsInTurn, IsNext, marked_below}
 

@@ -1,20 +1,9 @@
 -- The whole invariant after one record, or one record and its grain, was set.
-use Rattle.std.proofs.Common.{◌≡◌, ℕ, ◌≤◌, Bool, true, false, List, [], ◌∷◌, Some, if◌then◌else◌, refl, sym, ap, subst, ◌∙◌, arith}
-use Rattle.stream_ident.specs.declared.ident.GrainId.{GrainId}
-use Rattle.stream_ident.specs.declared.ident.SubName.{SubName}
-use Rattle.stream_ident.specs.Name.{same_grain}
-use Rattle.stream_ident.specs.SubName.{same_sub}
-use Rattle.stream_model.specs.declared.plain.Grain.{Grain}
-use Rattle.stream_model.specs.declared.plain.PlainPartition.{PlainPartition}
-use Rattle.stream_model.specs.declared.plain.Subscription.{Subscription}
-use Rattle.stream_model.specs.Positions.{grain_at, new_grain, running_in, sub_at, waiting_in, with_sub}
-use Rattle.stream_ident.specs.Words.{value_at, with_value}
+use Rattle.stream_laws.proofs.Prelude.{◌≡◌, ℕ, ◌≤◌, Bool, true, false, List, [], ◌∷◌, Some, if◌then◌else◌, refl, sym, ap, subst, ◌∙◌, arith, grain_equality, sub_equality, same_grain, same_sub, value_at, with_value, GrainId, SubName, with_value-at, with_value-other, grain_at, new_grain, running_in, sub_at, waiting_in, with_sub, Grain, PlainPartition, Subscription}
 use Rattle.std.specs.Prelude.{unwrap_or}
 use Rattle.stream_laws.proofs.Invariant.{Fits, LogFits, NumbersFit, SubFits, running_of, waiting_of}
 use Rattle.stream_laws.proofs.OneChanged.{FitsHere, GrainsFit-carried_to, GrainsFit-one, IsCarried, IsCarried-one, IsGrainChanged, IsOneChanged, IsSeenAlike, IsSeenAlike-grain, IsToldAlike, IsToldAlike-refl, IsTurnAlike-refl, NamesFit-one, SubsFit-one, UnmadeFit-one}
 use Rattle.stream_laws.proofs.Summary.{Summary}
-use Rattle.stream_model.proofs.Values.{with_value-at, with_value-other}
-use Rattle.stream_ident.proofs.SameValues.{grain_equality, sub_equality}
 
 -- of no other name is anything else said, and the log and the bindings are as before
 pub record IsToldOf (t t' : Summary) (s : SubName) : Type 0 where

@@ -1,20 +1,7 @@
 -- Grains for which nothing waits, and grains of which no turn runs.
-use Rattle.std.proofs.Common.{◌≡◌, suc, nat_lt, true, false, List, [], ◌∷◌, length, Option, Some, None, is_some, unwrap_or, refl, sym, ap, subst, arith, ◌∙◌}
-use Rattle.std.proofs.lemmas.Bool.{ltb-false}
-use Rattle.std.specs.List.{AllByRecursion}
-use Rattle.stream_ident.specs.declared.ident.GrainId.{GrainId}
-use Rattle.stream_ident.specs.Name.{same_grain}
-use Rattle.stream_model.specs.declared.plain.Delivery.{Delivery}
-use Rattle.stream_model.specs.declared.plain.Grain.{Grain}
-use Rattle.stream_model.specs.declared.plain.PlainPartition.{PlainPartition}
-use Rattle.stream_model.specs.Looks.{is_running, is_waiting}
-use Rattle.stream_model.specs.Positions.{grain_at, new_grain}
-use Rattle.stream_ident.specs.Words.{keys_where, value_at, with_value}
-use Rattle.stream_ident.proofs.WordLemmas.{nil_from_nat_lt, none_from_is_some}
+use Rattle.stream_laws.proofs.Prelude.{◌≡◌, suc, nat_lt, true, false, List, [], ◌∷◌, length, Option, Some, None, is_some, unwrap_or, refl, sym, ap, subst, arith, ◌∙◌, ltb-false, AllByRecursion, grain_equality, same_grain-equal, nil_from_nat_lt, none_from_is_some, same_grain, keys_where, value_at, with_value, GrainId, with_value-at, with_value-other, is_running, is_waiting, grain_at, new_grain, Delivery, Grain, PlainPartition}
 use Rattle.stream_laws.proofs.KeyLists.{each-entry, entry-found, keys_where-none}
 use Rattle.stream_laws.proofs.Unique.{AreUnique}
-use Rattle.stream_model.proofs.Values.{with_value-at, with_value-other}
-use Rattle.stream_ident.proofs.SameValues.{grain_equality, same_grain-equal}
 
 -- no turn runs
 abbrev pub IsIdle : PlainPartition → Type 0

@@ -1,28 +1,7 @@
 -- The records that rules make of events: whose they are, and which names have none.
-use Rattle.std.proofs.Common.{◌≡◌, ◌∙◌, ap, sym, subst, refl, ℕ, zero, suc, ◌<◌, ◌&&◌, not, Bool, true, false, List, [], ◌∷◌, ◌++◌, length, get_or, Option, Some, None, is_some, fold, if◌then◌else◌, arith}
-use Rattle.std.proofs.lemmas.Bool.{and_parts, cond_both}
-use Rattle.std.specs.List.{AllByRecursion, flat_map}
-use Rattle.stream_ident.specs.declared.event.Event.{Event}
-use Rattle.stream_ident.specs.declared.ident.GrainId.{GrainId}
-use Rattle.stream_ident.specs.declared.ident.StreamId.{StreamId}
-use Rattle.stream_ident.specs.declared.ident.SubName.{SubName}
-use Rattle.stream_ident.specs.declared.ident.SubName.TheVariants.{Implicit}
-use Rattle.stream_ident.specs.Name.{same_name}
-use Rattle.stream_ident.specs.SubName.{same_sub}
-use Rattle.stream_ident.specs.Token.{token_lt}
-use Rattle.stream_ident.specs.declared.rule.Rule.{Rule}
-use Rattle.stream_model.specs.declared.plain.Subscription.{Subscription}
-use Rattle.stream_ident.specs.Event.{batch_token}
-use Rattle.stream_model.specs.Positions.{new_subscription, no_event}
-use Rattle.stream_ident.specs.Words.{or_else, value_at}
-use Rattle.stream_ident.proofs.EachOf.{All-append}
-use Rattle.stream_ident.specs.Implying.{added}
-use Rattle.stream_model.specs.Pulling.{all_implied, implied}
+use Rattle.stream_laws.proofs.Prelude.{◌≡◌, ◌∙◌, ap, sym, subst, refl, ℕ, zero, suc, ◌<◌, ◌&&◌, not, Bool, true, false, List, [], ◌∷◌, ◌++◌, length, get_or, Option, Some, None, is_some, fold, if◌then◌else◌, arith, and_parts, cond_both, AllByRecursion, flat_map, All-append, same_sub-equal, or_else-none, batch_token, added, same_name, same_sub, token_lt, or_else, value_at, Event, GrainId, StreamId, SubName, Implicit, Rule, append-at, new_subscription, no_event, all_implied, implied, Subscription}
 use Rattle.stream_laws.proofs.Invariant.{RulesDiffer, bound_by_rules}
 use Rattle.stream_laws.proofs.RuleLemmas.{IsFirstRule, RulesDiffer-first, or_else-assoc}
-use Rattle.stream_ident.proofs.WordLemmas.{or_else-none}
-use Rattle.stream_model.proofs.Values.{append-at}
-use Rattle.stream_ident.proofs.SameValues.{same_sub-equal}
 
 -- ---- records added
 

@@ -1,26 +1,6 @@
 -- What holds of a history and the partition that it leaves.
-use Rattle.std.proofs.Common.{◌≡◌, ℕ, ◌<◌, ◌≤◌, Bool, true, false, ◌&&◌, not, List, [], ◌∷◌, ◌++◌, length, map, get_or, Option, Some, None}
-use Rattle.std.specs.List.{AllByRecursion}
-use Rattle.stream_ident.specs.declared.event.Event.{Event}
-use Rattle.stream_ident.specs.declared.ident.GrainId.{GrainId}
-use Rattle.stream_ident.specs.declared.ident.StreamId.{StreamId}
-use Rattle.stream_ident.specs.declared.ident.SubName.{SubName}
+use Rattle.stream_laws.proofs.Prelude.{◌≡◌, ℕ, ◌<◌, ◌≤◌, Bool, true, false, ◌&&◌, not, List, [], ◌∷◌, ◌++◌, length, map, get_or, Option, Some, None, AllByRecursion, batch_token, is_owed, same_name, token_lt, or_else, Event, GrainId, StreamId, SubName, TURN_EVENTS, Rule, Token, Binding, bound_by_rule, events_at, grain_at, low_token, no_event, running_in, sub_at, waiting_in, Reply, Op, Delivery, PlainPartition, RunningTurn, Subscription}
 use Rattle.stream_ident.specs.declared.ident.SubName.TheVariants as name
-use Rattle.stream_ident.specs.declared.token.Token.{Token}
-use Rattle.stream_ident.specs.Name.{same_name}
-use Rattle.stream_ident.specs.Token.{token_lt}
-use Rattle.stream_model.specs.declared.op.Op.{Op}
-use Rattle.stream_model.specs.declared.plain.Delivery.{Delivery}
-use Rattle.stream_model.specs.declared.plain.PlainPartition.{PlainPartition}
-use Rattle.stream_ident.specs.declared.rule.Rule.{Rule}
-use Rattle.stream_model.specs.declared.plain.RunningTurn.{RunningTurn}
-use Rattle.stream_model.specs.declared.plain.Subscription.{Subscription}
-use Rattle.stream_model.specs.Replies.{Reply}
-use Rattle.stream_ident.specs.Event.{batch_token, is_owed}
-use Rattle.stream_model.specs.NewestFirst.{Binding, bound_by_rule}
-use Rattle.stream_model.specs.Positions.{events_at, grain_at, low_token, no_event, running_in, sub_at, waiting_in}
-use Rattle.stream_ident.specs.Words.{or_else}
-use Rattle.stream_ident.specs.declared.limits.TheConstants.{TURN_EVENTS}
 use Rattle.stream_laws.proofs.Marks.{IsClear, IsInTurn, IsServed}
 use Rattle.stream_laws.proofs.Summary.{Promise, Summary, after}
 

@@ -1,17 +1,7 @@
 -- Ack keeps the invariant.
-use Rattle.std.proofs.Common.{◌≡◌, ℕ, ◌<◌, Bool, true, false, not, List, [], ◌∷◌, ◌++◌, get_or, Option, Some, None, refl, sym, subst}
-use Rattle.std.proofs.lemmas.Bool.{cond_both}
-use Rattle.std.specs.List.{AllByRecursion}
-use Rattle.stream_ident.specs.declared.ident.SubName.{SubName}
-use Rattle.stream_ident.specs.declared.token.Token.{Token}
-use Rattle.stream_ident.specs.Token.{same_token}
+use Rattle.stream_laws.proofs.Prelude.{◌≡◌, ℕ, ◌<◌, Bool, true, false, not, List, [], ◌∷◌, ◌++◌, get_or, Option, Some, None, refl, sym, subst, cond_both, AllByRecursion, All-filter, same_token, past, SubName, Token, sub_at, token_at, acknowledged, handled_at, is_stale, PlainPartition, Subscription}
 use Rattle.stream_model.specs.declared.op.Op.TheVariants as op
-use Rattle.stream_model.specs.declared.plain.PlainPartition.{PlainPartition}
-use Rattle.stream_model.specs.declared.plain.Subscription.{Subscription}
-use Rattle.stream_model.specs.Positions.{sub_at, token_at}
-use Rattle.stream_model.specs.Pulling.{ack, ack_of, ack_position, acknowledged, handled_at, is_stale}
-use Rattle.stream_ident.specs.Words.{past}
-use Rattle.stream_ident.proofs.EachOf.{All-filter}
+use Rattle.stream_model.specs.Pulling.{ack, ack_of, ack_position}
 use Rattle.stream_laws.proofs.FitsOne.{Fits-sub}
 use Rattle.stream_laws.proofs.Invariant.{Fits, Kept, SubFits, marks_of, running_of, waiting_of}
 use Rattle.stream_laws.proofs.MarkLemmas.{marked_below-all, marked_below-within}

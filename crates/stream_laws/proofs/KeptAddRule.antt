@@ -1,20 +1,9 @@
 -- AddRule keeps what holds of a history and its partition.
-use Rattle.std.proofs.Common.{◌≡◌, ◌∙◌, ap, sym, subst, refl, ℕ, ◌&&◌, nat_le, false, List, [], ◌∷◌, ◌++◌, length, Option, Some, None, get_or, true, arith}
-use Rattle.std.proofs.lemmas.Bool.{cond_both}
-use Rattle.std.specs.List.{list_any}
-use Rattle.stream_ident.specs.declared.ident.SubName.{SubName}
+use Rattle.stream_laws.proofs.Prelude.{◌≡◌, ◌∙◌, ap, sym, subst, refl, ℕ, ◌&&◌, nat_le, false, List, [], ◌∷◌, ◌++◌, length, Option, Some, None, get_or, true, arith, cond_both, list_any, batch_token, same_name, token_lt, or_else, SubName, Rule, Binding, bound_by_rule, no_event, PlainPartition}
 use Rattle.stream_ident.specs.declared.ident.SubName.TheVariants as name
-use Rattle.stream_ident.specs.Name.{same_name}
-use Rattle.stream_ident.specs.Token.{token_lt}
 use Rattle.stream_model.specs.declared.op.Op.TheVariants as op
-use Rattle.stream_model.specs.declared.plain.PlainPartition.{PlainPartition}
-use Rattle.stream_ident.specs.declared.rule.Rule.{Rule}
 use Rattle.stream_model.specs.declared.reply.Reply.TheVariants as reply
-use Rattle.stream_ident.specs.Event.{batch_token}
-use Rattle.stream_model.specs.NewestFirst.{Binding, bound_by_rule}
-use Rattle.stream_model.specs.Positions.{no_event}
 use Rattle.stream_model.specs.Publishing.{add_rule}
-use Rattle.stream_ident.specs.Words.{or_else}
 use Rattle.stream_laws.proofs.Invariant.{Fits, GrainsFit, Kept, LogFits, NamesFit, NumbersFit, SubsFit, UnmadeFit, marks_of}
 use Rattle.stream_laws.proofs.LogLemmas.{clear-before}
 use Rattle.stream_laws.proofs.Marks.{IsClear}

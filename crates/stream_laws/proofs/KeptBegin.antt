@@ -1,27 +1,9 @@
 -- Begin keeps the invariant, and its turn goes on where what was handled ends.
-use Rattle.std.proofs.Common.{◌≡◌, ◌∙◌, ap, sym, subst, refl, ℕ, suc, ◌≤◌, nat_lt, ◌==◌, true, not, List, [], ◌∷◌, length, take, drop, filter, Option, Some, None, is_some, arith}
-use Rattle.std.proofs.lemmas.Bool.{cond_both, cond-true, cond-false, eq-eqb, eqb-true, ltb-true, ltb-false, ne_eqb, not-false, true≢false}
-use Rattle.stream_ident.specs.declared.event.Event.{Event}
-use Rattle.stream_ident.specs.declared.ident.GrainId.{GrainId}
-use Rattle.stream_ident.specs.declared.ident.SubName.{SubName}
-use Rattle.stream_ident.specs.SubName.{same_sub}
+use Rattle.stream_laws.proofs.Prelude.{◌≡◌, ◌∙◌, ap, sym, subst, refl, ℕ, suc, ◌≤◌, nat_lt, ◌==◌, true, not, List, [], ◌∷◌, length, take, drop, filter, Option, Some, None, is_some, arith, cond_both, cond-true, cond-false, eq-eqb, eqb-true, ltb-true, ltb-false, ne_eqb, not-false, true≢false, All-drop, same_sub-refl, none_from_is_some, turn_size, is_owed, same_sub, past, Event, GrainId, SubName, TURN_EVENTS, owed_of, events_at, grain_at, is_spent, running_in, sub_at, waiting_in, begun, front_of, Delivery, Grain, PlainPartition, RunningTurn, Subscription}
 use Rattle.stream_model.specs.declared.op.Op.TheVariants as op
-use Rattle.stream_model.specs.declared.plain.Delivery.{Delivery}
-use Rattle.stream_model.specs.declared.plain.Grain.{Grain}
-use Rattle.stream_model.specs.declared.plain.PlainPartition.{PlainPartition}
-use Rattle.stream_model.specs.declared.plain.RunningTurn.{RunningTurn}
-use Rattle.stream_model.specs.declared.plain.Subscription.{Subscription}
 use Rattle.stream_model.specs.declared.reply.Reply.TheVariants as reply
-use Rattle.stream_ident.specs.Event.{is_owed}
-use Rattle.stream_model.specs.NewestFirst.{owed_of}
-use Rattle.stream_model.specs.Positions.{events_at, grain_at, is_spent, running_in, sub_at, waiting_in}
-use Rattle.stream_model.specs.Turns.{begin, begin_for, begin_front, begin_in, begin_turn, begun, front_of}
-use Rattle.stream_ident.specs.Blocks.{turn_size}
-use Rattle.stream_ident.specs.Words.{past}
-use Rattle.stream_ident.specs.declared.limits.TheConstants.{TURN_EVENTS}
-use Rattle.stream_ident.proofs.WordLemmas.{none_from_is_some}
+use Rattle.stream_model.specs.Turns.{begin, begin_for, begin_front, begin_in, begin_turn}
 use Rattle.stream_laws.proofs.BeginFront.{Fits-dropped, IsFront, is_front}
-use Rattle.stream_ident.proofs.EachOf.{All-drop}
 use Rattle.stream_laws.proofs.Deliveries.{front-length, front-next, front-other, front-rest, front-some}
 use Rattle.stream_laws.proofs.EventLemmas.{length-events_at, owed-next}
 use Rattle.stream_laws.proofs.FitsOne.{Fits-grain}
@@ -29,7 +11,6 @@ use Rattle.stream_laws.proofs.Invariant.{Fits, IsBoxed, IsRunning, Kept, Numbers
 use Rattle.stream_laws.proofs.Marks.{IsInTurn, IsServed}
 use Rattle.stream_laws.proofs.OneChanged.{FitsHere, IsCarried, IsTurnAlike}
 use Rattle.stream_laws.proofs.Summary.{Promise, Summary, after, owed}
-use Rattle.stream_ident.proofs.SameValues.{same_sub-refl}
 
 -- what is said after a turn was handed out
 abbrev with_turn : Summary → GrainId → ℕ → SubName → ℕ → ℕ → List Event → ℕ → Summary

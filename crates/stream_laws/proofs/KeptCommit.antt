@@ -1,26 +1,14 @@
 -- Commit keeps the invariant, and what it commits was begun once.
-use Rattle.std.proofs.Common.{◌≡◌, ◌∙◌, ap, sym, subst, refl, ℕ, suc, pred, ◌≤◌, ◌==◌, ◌&&◌, false, not, [], ◌++◌, Option, Some, None, arith}
-use Rattle.std.proofs.lemmas.Bool.{and_parts, cond_both, cond-true, cond-false, eqb-true, ne_eqb, not-true, true≢false}
-use Rattle.stream_ident.specs.declared.ident.GrainId.{GrainId}
-use Rattle.stream_ident.specs.declared.ident.SubName.{SubName}
-use Rattle.stream_ident.specs.declared.token.Token.{Token}
-use Rattle.stream_ident.specs.SubName.{same_sub}
+use Rattle.stream_laws.proofs.Prelude.{◌≡◌, ◌∙◌, ap, sym, subst, refl, ℕ, suc, pred, ◌≤◌, ◌==◌, ◌&&◌, false, not, [], ◌++◌, Option, Some, None, arith, and_parts, cond_both, cond-true, cond-false, eqb-true, ne_eqb, not-true, true≢false, same_sub-refl, same_sub, past, GrainId, SubName, Token, events_at, grain_at, running_in, sub_at, token_at, waiting_in, committed, ended, Grain, PlainPartition, RunningTurn, Subscription}
 use Rattle.stream_model.specs.declared.op.Op.TheVariants as op
-use Rattle.stream_model.specs.declared.plain.Grain.{Grain}
-use Rattle.stream_model.specs.declared.plain.PlainPartition.{PlainPartition}
-use Rattle.stream_model.specs.declared.plain.RunningTurn.{RunningTurn}
-use Rattle.stream_model.specs.declared.plain.Subscription.{Subscription}
 use Rattle.stream_model.specs.declared.reply.Reply.TheVariants as reply
-use Rattle.stream_model.specs.Positions.{events_at, grain_at, running_in, sub_at, token_at, waiting_in}
-use Rattle.stream_model.specs.Turns.{commit, commit_for, commit_running, committed, ended}
-use Rattle.stream_ident.specs.Words.{past}
+use Rattle.stream_model.specs.Turns.{commit, commit_for, commit_running}
 use Rattle.stream_laws.proofs.EventLemmas.{events_at-append}
 use Rattle.stream_laws.proofs.FitsOne.{Fits-both, Fits-grain, IsToldOf, IsToldOf-refl}
 use Rattle.stream_laws.proofs.Invariant.{Fits, IsRunning, Kept, NumbersFit, SubFits, marks_of}
 use Rattle.stream_laws.proofs.OneChanged.{apart-others, IsTurnAlike, IsTurnAlike-refl}
 use Rattle.stream_laws.proofs.ServedLemmas.{in_turn-handled, served-handled}
 use Rattle.stream_laws.proofs.Summary.{Summary, after}
-use Rattle.stream_ident.proofs.SameValues.{same_sub-refl}
 
 -- a turn runs in a grain, and this is the record of its subscription
 module _ (t : Summary) (p : PlainPartition) (g : GrainId) (activation note : ℕ) (run : RunningTurn) (r : Subscription)

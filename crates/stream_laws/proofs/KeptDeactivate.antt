@@ -1,23 +1,12 @@
 -- A deactivation keeps what holds: what was on its way to the grain is lost, and the cursors of its
 -- subscriptions go back.
-use Rattle.std.proofs.Common.{◌≡◌, Bool, true, false, ◌&&◌, not, [], Some, None, unwrap_or, refl, sym, ap, subst, ◌∙◌, arith, if◌then◌else◌}
-use Rattle.std.proofs.lemmas.Bool.{and_from, cond_both}
-use Rattle.stream_ident.specs.declared.ident.GrainId.{GrainId}
-use Rattle.stream_ident.specs.declared.ident.SubName.{SubName}
-use Rattle.stream_ident.specs.Name.{same_grain}
-use Rattle.stream_model.specs.declared.op.Op.TheVariants.{Deactivate}
-use Rattle.stream_model.specs.declared.plain.Grain.{Grain}
-use Rattle.stream_model.specs.declared.plain.PlainPartition.{PlainPartition}
-use Rattle.stream_model.specs.declared.plain.Subscription.{Subscription}
-use Rattle.stream_model.specs.Positions.{grain_at, new_grain, running_in, sub_at, waiting_in}
-use Rattle.stream_model.specs.Turns.{deactivate, deactivate_in, deactivated, is_open_of}
+use Rattle.stream_laws.proofs.Prelude.{◌≡◌, Bool, true, false, ◌&&◌, not, [], Some, None, unwrap_or, refl, sym, ap, subst, ◌∙◌, arith, if◌then◌else◌, and_from, cond_both, grain_equality, same_grain-equal, same_grain-refl, same_grain, GrainId, SubName, with_value-at, with_value-other, grain_at, new_grain, running_in, sub_at, waiting_in, deactivated, is_open_of, Deactivate, Grain, PlainPartition, Subscription}
+use Rattle.stream_model.specs.Turns.{deactivate, deactivate_in}
 use Rattle.stream_laws.proofs.EachChanged.{IsEachRewound, NamesFit-each, NumbersFit-each, UnmadeFit-each, each-carried, each-was, rewound_if, served-lost, served-rewound_where}
 use Rattle.stream_laws.proofs.Invariant.{Fits, GrainsFit, Kept, SubFits, SubsFit, marks_of, running_of, waiting_of}
 use Rattle.stream_laws.proofs.Marks.{IsServed}
 use Rattle.stream_laws.proofs.OneChanged.{GrainsFit-one, IsGrainChanged, IsTurnAlike-refl}
 use Rattle.stream_laws.proofs.Summary.{Summary}
-use Rattle.stream_model.proofs.Values.{with_value-at, with_value-other}
-use Rattle.stream_ident.proofs.SameValues.{grain_equality, same_grain-equal, same_grain-refl}
 
 -- the grain out of memory
 abbrev asleep : Grain → Grain

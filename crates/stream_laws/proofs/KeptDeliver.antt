@@ -1,16 +1,8 @@
 -- Deliver keeps the invariant.
-use Rattle.std.proofs.Common.{◌≡◌, ◌∙◌, ap, sym, subst, refl, ℕ, suc, ◌≤◌, max, nat_lt, nat_le, true, false, ◌&&◌, ◌||◌, not, [], ◌∷◌, ◌++◌, length, get_or, Option, Some, None, if◌then◌else◌, append_assoc, arith}
-use Rattle.std.proofs.lemmas.Bool.{cond_both, not-false, or_parts, true≢false}
-use Rattle.stream_ident.specs.declared.ident.SubName.{SubName}
-use Rattle.stream_ident.specs.declared.limits.TheConstants.{MAILBOX_PLACES}
+use Rattle.stream_laws.proofs.Prelude.{◌≡◌, ◌∙◌, ap, sym, subst, refl, ℕ, suc, ◌≤◌, max, nat_lt, nat_le, true, false, ◌&&◌, ◌||◌, not, [], ◌∷◌, ◌++◌, length, get_or, Option, Some, None, if◌then◌else◌, append_assoc, arith, cond_both, not-false, or_parts, true≢false, All-append, nil_from_nat_lt, SubName, MAILBOX_PLACES, grain_at, is_outstanding, is_spent, is_unacknowledged, next_position, sub_at, waiting_in, caught_up, is_stale, woken, PlainPartition, Subscription}
 use Rattle.stream_model.specs.declared.op.Op.TheVariants as op
-use Rattle.stream_model.specs.declared.plain.PlainPartition.{PlainPartition}
-use Rattle.stream_model.specs.declared.plain.Subscription.{Subscription}
-use Rattle.stream_model.specs.Positions.{grain_at, is_outstanding, is_spent, is_unacknowledged, next_position, sub_at, waiting_in}
-use Rattle.stream_model.specs.Pulling.{caught_up, deliver, deliver_position, deliver_to, is_stale, woken}
-use Rattle.stream_ident.proofs.WordLemmas.{nil_from_nat_lt}
+use Rattle.stream_model.specs.Pulling.{deliver, deliver_position, deliver_to}
 use Rattle.stream_laws.proofs.Deliveries.{waiting-push, waiting-push_other}
-use Rattle.stream_ident.proofs.EachOf.{All-append}
 use Rattle.stream_laws.proofs.FitsOne.{Fits-both, Fits-sub, IsToldOf-refl, with_both}
 use Rattle.stream_laws.proofs.Invariant.{Fits, GrainsFit, IsBoxed, Kept, SubFits, marks_of, running_of, waiting_of}
 use Rattle.stream_laws.proofs.LogLemmas.{length-marks_of, next_found, next_none}

@@ -1,11 +1,6 @@
 -- What is asked without changing anything keeps what holds.
-use Rattle.std.proofs.Common.{Option, Some, None}
-use Rattle.stream_ident.specs.declared.ident.GrainId.{GrainId}
-use Rattle.stream_ident.specs.declared.ident.SubName.{SubName}
-use Rattle.stream_model.specs.declared.op.Op.TheVariants.{Ready, Due, Quiet}
-use Rattle.stream_model.specs.declared.plain.PlainPartition.{PlainPartition}
-use Rattle.stream_model.specs.declared.reply.Pending.{Pending}
-use Rattle.stream_model.specs.Looks.{due, due_reply, pending_in, quiet, quiet_reply, ready, ready_reply}
+use Rattle.stream_laws.proofs.Prelude.{Option, Some, None, GrainId, SubName, due_reply, pending_in, quiet_reply, ready_reply, Ready, Due, Quiet, PlainPartition, Pending}
+use Rattle.stream_model.specs.Looks.{due, quiet, ready}
 use Rattle.stream_laws.proofs.Invariant.{Fits, Kept}
 use Rattle.stream_laws.proofs.Summary.{Summary}
 

@@ -1,13 +1,6 @@
 -- A move keeps what holds: the new cache begins and ends at the least resume, and every cursor goes back.
-use Rattle.std.proofs.Common.{◌≡◌, ℕ, suc, Some, refl, subst, arith}
-use Rattle.std.proofs.lemmas.Bool.{cond_both}
-use Rattle.stream_ident.specs.declared.ident.SubName.{SubName}
-use Rattle.stream_model.specs.declared.op.Op.TheVariants.{Move}
-use Rattle.stream_model.specs.declared.plain.PlainPartition.{PlainPartition}
-use Rattle.stream_model.specs.declared.plain.Subscription.{Subscription}
-use Rattle.stream_model.specs.Positions.{is_spent, open_resumes, sub_at, token_at}
-use Rattle.stream_model.specs.Pulling.{move, move_to, rewound_where}
-use Rattle.stream_ident.specs.Words.{each_value, least_with}
+use Rattle.stream_laws.proofs.Prelude.{◌≡◌, ℕ, suc, Some, refl, subst, arith, cond_both, each_value, least_with, SubName, is_spent, open_resumes, sub_at, token_at, rewound_where, Move, PlainPartition, Subscription}
+use Rattle.stream_model.specs.Pulling.{move, move_to}
 use Rattle.stream_laws.proofs.EachChanged.{GrainsFit-each, IsEachRewound, NamesFit-each, NumbersFit-each, UnmadeFit-each, each-was, rewound_if, served-low, served-rewound_where, told_low}
 use Rattle.stream_laws.proofs.Invariant.{Fits, Kept, SubFits, SubsFit, marks_of, running_of, waiting_of}
 use Rattle.stream_laws.proofs.PassedPositions.{IsPassed, passed-least}

@@ -1,24 +1,12 @@
 -- Publish keeps what holds of a history and its partition.
-use Rattle.std.proofs.Common.{◌≡◌, ◌∙◌, ap, sym, subst, ℕ, suc, ◌+◌, ◌<◌, ◌≤◌, ◌==◌, ◌||◌, nat_lt, Bool, List, ◌++◌, length, Some, arith}
-use Rattle.std.proofs.lemmas.Bool.{cond_both, eqb-false, or_parts}
-use Rattle.std.proofs.lemmas.List.{length-append}
-use Rattle.stream_ident.specs.declared.event.Event.{Event}
-use Rattle.stream_ident.specs.declared.ident.GrainId.{GrainId}
-use Rattle.stream_ident.specs.declared.ident.StreamId.{StreamId}
+use Rattle.stream_laws.proofs.Prelude.{◌≡◌, ◌∙◌, ap, sym, subst, ℕ, suc, ◌+◌, ◌<◌, ◌≤◌, ◌==◌, ◌||◌, nat_lt, Bool, List, ◌++◌, length, Some, arith, cond_both, eqb-false, or_parts, length-append, All-weaken, events_of, Event, GrainId, StreamId, BATCH_EVENTS, grain_at, Delivery, PlainPartition, RunningTurn}
 use Rattle.stream_model.specs.declared.op.Op.TheVariants as op
-use Rattle.stream_model.specs.declared.plain.Delivery.{Delivery}
-use Rattle.stream_model.specs.declared.plain.PlainPartition.{PlainPartition}
-use Rattle.stream_model.specs.declared.plain.RunningTurn.{RunningTurn}
 use Rattle.stream_model.specs.declared.reply.Reply.TheVariants as reply
-use Rattle.stream_ident.specs.Event.{events_of}
-use Rattle.stream_ident.specs.declared.limits.TheConstants.{BATCH_EVENTS}
-use Rattle.stream_model.specs.Positions.{grain_at}
 use Rattle.stream_model.specs.Publishing.{publish}
 use Rattle.stream_laws.proofs.BatchTokens.{IsRising-grown, token_at-grown}
 use Rattle.stream_laws.proofs.Invariant.{Fits, GrainsFit, IsBoxed, IsRunning, Kept, LogFits, NamesFit, NumbersFit, SubsFit, UnmadeFit, marks_of, running_of, waiting_of}
 use Rattle.stream_laws.proofs.LogGrown.{IsInTurn-marks, IsServed-marks, events_at-grown, marks_of-append}
 use Rattle.stream_laws.proofs.RunningTurns.{handled-in_log, turn-in_log}
-use Rattle.stream_ident.proofs.EachOf.{All-weaken}
 use Rattle.stream_laws.proofs.LogLemmas.{length-marks_of}
 use Rattle.stream_laws.proofs.MarkLemmas.{IsClear-marks}
 use Rattle.stream_laws.proofs.Marks.{IsClear, IsInTurn, IsServed}

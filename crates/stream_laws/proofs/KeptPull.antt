@@ -1,22 +1,9 @@
 -- Pull keeps what holds of a history and its partition.
-use Rattle.std.proofs.Common.{◌≡◌, ◌∙◌, ap, sym, subst, refl, ℕ, ◌+◌, ◌-◌, ◌*◌, ◌≤◌, ◌==◌, min, nat_lt, Bool, true, false, List, ◌++◌, length, get_or, Option, Some, None, is_some, arith}
-use Rattle.std.proofs.lemmas.Bool.{cond_both, false≢true}
-use Rattle.std.specs.List.{flat_map}
-use Rattle.stream_ident.specs.declared.event.Event.{Event}
-use Rattle.stream_ident.specs.declared.ident.SubName.{SubName}
+use Rattle.stream_laws.proofs.Prelude.{◌≡◌, ◌∙◌, ap, sym, subst, refl, ℕ, ◌+◌, ◌-◌, ◌*◌, ◌≤◌, ◌==◌, min, nat_lt, Bool, true, false, List, ◌++◌, length, get_or, Option, Some, None, is_some, arith, cond_both, false≢true, flat_map, or_else-parts, pull_size, batch_token, is_owed, same_sub, or_else, value_at, Event, SubName, BLOCK_EVENTS, Binding, between, new_subscription, no_event, sub_at, token_at, all_implied, drops, implied, is_stale, room, subs_with, PlainPartition, Subscription}
 use Rattle.stream_ident.specs.declared.ident.SubName.TheVariants as name
-use Rattle.stream_ident.specs.SubName.{same_sub}
 use Rattle.stream_model.specs.declared.op.Op.TheVariants as op
-use Rattle.stream_model.specs.declared.plain.PlainPartition.{PlainPartition}
-use Rattle.stream_model.specs.declared.plain.Subscription.{Subscription}
 use Rattle.stream_model.specs.declared.reply.Reply.TheVariants as reply
-use Rattle.stream_ident.specs.Event.{batch_token, is_owed}
-use Rattle.stream_model.specs.NewestFirst.{Binding}
-use Rattle.stream_model.specs.Positions.{between, new_subscription, no_event, sub_at, token_at}
-use Rattle.stream_model.specs.Pulling.{all_implied, drops, implied, is_stale, pull, pull_count, pull_events, pull_want, room, subs_with}
-use Rattle.stream_ident.specs.Blocks.{pull_size}
-use Rattle.stream_ident.specs.Words.{or_else, value_at}
-use Rattle.stream_ident.specs.declared.limits.TheConstants.{BLOCK_EVENTS}
+use Rattle.stream_model.specs.Pulling.{pull, pull_count, pull_events, pull_want}
 use Rattle.stream_laws.proofs.EachChanged.{served-low}
 use Rattle.stream_laws.proofs.EventLemmas.{mark-at}
 use Rattle.stream_laws.proofs.ImpliedRecords.{All-made, IsMade, fold-added-at, found-of-all, none-made-at}
@@ -28,7 +15,6 @@ use Rattle.stream_laws.proofs.PassedPositions.{IsPassed, passed-free}
 use Rattle.stream_laws.proofs.NewRecords.{SubFits-new, running-unmade, waiting-unmade}
 use Rattle.stream_laws.proofs.OneChanged.{GrainsFit-carried_to}
 use Rattle.stream_laws.proofs.RuleLemmas.{implied-owed}
-use Rattle.stream_ident.proofs.WordLemmas.{or_else-parts}
 use Rattle.stream_laws.proofs.Summary.{Summary, after}
 
 -- the new ends of the cache

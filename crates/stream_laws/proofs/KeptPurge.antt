@@ -1,11 +1,6 @@
 -- A purge keeps what holds: low moves up to at most high and each open resume.
-use Rattle.std.proofs.Common.{ℕ, ◌+◌, ◌*◌, refl, arith}
-use Rattle.std.proofs.lemmas.Bool.{cond_both}
-use Rattle.stream_ident.specs.declared.limits.TheConstants.{BLOCK_EVENTS}
-use Rattle.stream_model.specs.declared.op.Op.TheVariants.{Purge}
-use Rattle.stream_model.specs.declared.plain.PlainPartition.{PlainPartition}
-use Rattle.stream_model.specs.Positions.{token_at}
-use Rattle.stream_model.specs.Pulling.{is_stale, purge, purge_to, purges}
+use Rattle.stream_laws.proofs.Prelude.{ℕ, ◌+◌, ◌*◌, refl, arith, cond_both, BLOCK_EVENTS, token_at, is_stale, purges, Purge, PlainPartition}
+use Rattle.stream_model.specs.Pulling.{purge, purge_to}
 use Rattle.stream_laws.proofs.EachChanged.{served-low, told_low}
 use Rattle.stream_laws.proofs.Invariant.{Fits, Kept, SubsFit, marks_of}
 use Rattle.stream_laws.proofs.OneChanged.{GrainFits-carried, IsCarried}

@@ -1,12 +1,7 @@
 -- Retry keeps the invariant.
-use Rattle.std.proofs.Common.{◌≡◌, ℕ, not, ◌++◌, Option, Some, None, refl}
-use Rattle.std.proofs.lemmas.Bool.{cond_both}
-use Rattle.stream_ident.specs.declared.ident.SubName.{SubName}
+use Rattle.stream_laws.proofs.Prelude.{◌≡◌, ℕ, not, ◌++◌, Option, Some, None, refl, cond_both, SubName, sub_at, is_stale, rewound, PlainPartition, Subscription}
 use Rattle.stream_model.specs.declared.op.Op.TheVariants as op
-use Rattle.stream_model.specs.declared.plain.PlainPartition.{PlainPartition}
-use Rattle.stream_model.specs.declared.plain.Subscription.{Subscription}
-use Rattle.stream_model.specs.Positions.{sub_at}
-use Rattle.stream_model.specs.Pulling.{is_stale, retry, retry_of, rewound}
+use Rattle.stream_model.specs.Pulling.{retry, retry_of}
 use Rattle.stream_laws.proofs.FitsOne.{Fits-sub}
 use Rattle.stream_laws.proofs.Invariant.{Fits, Kept, SubFits, marks_of, running_of, waiting_of}
 use Rattle.stream_laws.proofs.ServedLemmas.{served-rewound}

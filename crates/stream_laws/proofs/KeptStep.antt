@@ -1,7 +1,6 @@
 -- Each operation keeps what holds.
-use Rattle.stream_model.specs.declared.op.Op.{Op}
+use Rattle.stream_laws.proofs.Prelude.{Op, PlainPartition}
 use Rattle.stream_model.specs.declared.op.Op.TheVariants as op
-use Rattle.stream_model.specs.declared.plain.PlainPartition.{PlainPartition}
 use Rattle.stream_model.specs.Step.{step}
 use Rattle.stream_laws.proofs.Invariant.{Fits, Kept}
 use Rattle.stream_laws.proofs.KeptAck.{kept-ack}

@@ -1,34 +1,16 @@
 -- Subscribe keeps what holds of a history and its partition.
-use Rattle.std.proofs.Common.{◌≡◌, ◌∙◌, ap, sym, refl, ℕ, suc, ◌≤◌, nat_le, Bool, true, false, length, Option, Some, None, if◌then◌else◌, arith}
-use Rattle.std.proofs.lemmas.Bool.{cond_both, cond-true, ne_eqb}
-use Rattle.stream_ident.specs.declared.ident.GrainId.{GrainId}
-use Rattle.stream_ident.specs.declared.ident.StreamId.{StreamId}
-use Rattle.stream_ident.specs.declared.ident.SubName.{SubName}
+use Rattle.stream_laws.proofs.Prelude.{◌≡◌, ◌∙◌, ap, sym, refl, ℕ, suc, ◌≤◌, nat_le, Bool, true, false, length, Option, Some, None, if◌then◌else◌, arith, cond_both, cond-true, ne_eqb, same_sub-equal, same_sub-refl, sub_equality, or_else-none, batch_token, same_sub, token_lt, or_else, GrainId, StreamId, SubName, Token, with_value-at, with_value-other, Binding, start_token, low_token, lower_bound, new_subscription, sub_at, with_sub, Start, Latest, At, PlainPartition, Subscription}
 use Rattle.stream_ident.specs.declared.ident.SubName.TheVariants as name
-use Rattle.stream_ident.specs.declared.token.Token.{Token}
-use Rattle.stream_ident.specs.SubName.{same_sub}
-use Rattle.stream_ident.specs.Token.{token_lt}
 use Rattle.stream_model.specs.declared.op.Op.TheVariants as op
-use Rattle.stream_model.specs.declared.op.Start.{Start}
-use Rattle.stream_model.specs.declared.op.Start.TheVariants.{Latest, At}
-use Rattle.stream_model.specs.declared.plain.PlainPartition.{PlainPartition}
-use Rattle.stream_model.specs.declared.plain.Subscription.{Subscription}
 use Rattle.stream_model.specs.declared.reply.Reply.TheVariants as reply
-use Rattle.stream_ident.specs.Event.{batch_token}
-use Rattle.stream_model.specs.NewestFirst.{Binding, start_token}
-use Rattle.stream_model.specs.Positions.{low_token, lower_bound, new_subscription, sub_at, with_sub}
 use Rattle.stream_model.specs.Publishing.{subscribe, subscribe_at}
-use Rattle.stream_ident.specs.Words.{or_else}
 use Rattle.stream_laws.proofs.Invariant.{Fits, GrainsFit, Kept, LogFits, NamesFit, NumbersFit, SubsFit, marks_of, running_of, waiting_of}
 use Rattle.stream_laws.proofs.LogLemmas.{clear-before}
 use Rattle.stream_laws.proofs.LowerBound.{lower_bound-clear, lower_bound-high, lower_bound-low}
 use Rattle.stream_laws.proofs.Marks.{IsClear}
 use Rattle.stream_laws.proofs.OneChanged.{GrainsFit-carried_to, IsCarried, IsOneChanged, SubsFit-one, UnmadeFit-one}
 use Rattle.stream_laws.proofs.NewRecords.{SubFits-new, running-unmade, waiting-unmade}
-use Rattle.stream_ident.proofs.WordLemmas.{or_else-none}
 use Rattle.stream_laws.proofs.Summary.{Summary, after}
-use Rattle.stream_model.proofs.Values.{with_value-at, with_value-other}
-use Rattle.stream_ident.proofs.SameValues.{same_sub-equal, same_sub-refl, sub_equality}
 
 -- where a new subscription is owed none of the events before its position
 record IsStart (t : Summary) (p : PlainPartition) (stream : StreamId) (start : Start) (token : Token) (position : ℕ) : Type 0 where

@@ -1,30 +1,14 @@
 -- Unsubscribe keeps what holds of a history and its partition.
-use Rattle.std.proofs.Common.{◌≡◌, ◌∙◌, ap, sym, subst, refl, ◌||◌, not, Bool, true, false, List, [], ◌∷◌, length, map, filter, Option, Some, None, unwrap_or, if◌then◌else◌}
+use Rattle.stream_laws.proofs.Prelude.{◌≡◌, ◌∙◌, ap, sym, subst, refl, ◌||◌, not, Bool, true, false, List, [], ◌∷◌, length, map, filter, Option, Some, None, unwrap_or, if◌then◌else◌, cond_both, false≢true, not-true, or_right, AllByRecursion, All-weaken, grain_equality, same_grain-equal, same_grain-refl, same_sub-equal, same_sub-refl, sub_equality, same_grain, same_sub, value_at, GrainId, SubName, changed_option, changed_value-at, changed_value-other, with_value-at, with_value-other, grain_at, new_grain, running_in, sub_at, waiting_in, unsubscribed, without, Delivery, Grain, PlainPartition, RunningTurn, Subscription}
 use Rattle.std.proofs.Math.Bool.{or-false}
-use Rattle.std.proofs.lemmas.Bool.{cond_both, false≢true, not-true, or_right}
-use Rattle.std.specs.List.{AllByRecursion}
-use Rattle.stream_ident.specs.declared.ident.GrainId.{GrainId}
-use Rattle.stream_ident.specs.declared.ident.SubName.{SubName}
 use Rattle.stream_ident.specs.declared.ident.SubName.TheVariants as name
-use Rattle.stream_ident.specs.Name.{same_grain}
-use Rattle.stream_ident.specs.SubName.{same_sub}
 use Rattle.stream_model.specs.declared.op.Op.TheVariants as op
-use Rattle.stream_model.specs.declared.plain.Delivery.{Delivery}
-use Rattle.stream_model.specs.declared.plain.Grain.{Grain}
-use Rattle.stream_model.specs.declared.plain.PlainPartition.{PlainPartition}
-use Rattle.stream_model.specs.declared.plain.RunningTurn.{RunningTurn}
-use Rattle.stream_model.specs.declared.plain.Subscription.{Subscription}
 use Rattle.stream_model.specs.declared.reply.Reply.TheVariants as reply
-use Rattle.stream_model.specs.Positions.{grain_at, new_grain, running_in, sub_at, waiting_in}
-use Rattle.stream_model.specs.Publishing.{unsubscribe, unsubscribe_from, unsubscribed, without}
-use Rattle.stream_ident.specs.Words.{value_at}
-use Rattle.stream_ident.proofs.EachOf.{All-weaken}
+use Rattle.stream_model.specs.Publishing.{unsubscribe, unsubscribe_from}
 use Rattle.stream_laws.proofs.Invariant.{Fits, GrainFits, GrainsFit, IsBoxed, IsRunning, Kept, LogFits, NumbersFit, SubFits, marks_of, running_of, waiting_of}
 use Rattle.stream_laws.proofs.Marks.{IsInTurn}
 use Rattle.stream_laws.proofs.OneChanged.{IsGrainChanged, IsOneChanged, IsSeenAlike-grain, NamesFit-one, SubsFit-one, UnmadeFit-one}
 use Rattle.stream_laws.proofs.Summary.{Summary, after}
-use Rattle.stream_model.proofs.Values.{changed_option, changed_value-at, changed_value-other, with_value-at, with_value-other}
-use Rattle.stream_ident.proofs.SameValues.{grain_equality, same_grain-equal, same_grain-refl, same_sub-equal, same_sub-refl, sub_equality}
 
 -- ---- a mailbox without the deliveries of a subscription
 

@@ -1,11 +1,6 @@
 -- The least of a list, its elements in order, and keys whose values pass.
-use Rattle.std.proofs.Common.{◌≡◌, Bool, true, false, ◌||◌, List, [], ◌∷◌, map, filter, Option, Some, None, if◌then◌else◌, refl, sym, ap, subst, ◌∙◌}
-use Rattle.std.proofs.lemmas.Bool.{cond_both}
-use Rattle.std.specs.List.{AllByRecursion, list_any}
-use Rattle.stream_model.specs.Draining.{in_order, insert_in_order}
-use Rattle.stream_ident.specs.Words.{keys_where, least, lesser, value_at}
+use Rattle.stream_laws.proofs.Prelude.{◌≡◌, Bool, true, false, ◌||◌, List, [], ◌∷◌, map, filter, Option, Some, None, if◌then◌else◌, refl, sym, ap, subst, ◌∙◌, cond_both, AllByRecursion, list_any, IsEquality, keys_where, least, lesser, value_at, in_order, insert_in_order}
 use Rattle.stream_laws.proofs.Unique.{AreUnique}
-use Rattle.stream_ident.proofs.SameValues.{IsEquality}
 
 -- what holds of each element holds of the least
 pub least-of : {A : Type 0} (P : A → Type 0) (lt : A → A → Bool) (xs : List A) (x : A) → AllByRecursion P xs → least lt xs ≡ Some x → P x

@@ -1,15 +1,5 @@
 -- The last handled position is the first of the handled ones with its token.
-use Rattle.std.proofs.Common.{◌≡◌, ℕ, suc, pred, ◌<◌, ◌≤◌, ◌==◌, nat_lt, Bool, true, false, List, [], ◌∷◌, ◌++◌, length, filter, get_or, if◌then◌else◌, refl, sym, ap, subst, arith, ◌∙◌}
-use Rattle.std.proofs.lemmas.Bool.{and_from, and_parts, both_ways, eqb-true, eq-eqb, ltb-false, ltb-true}
-use Rattle.std.specs.List.{AllByRecursion}
-use Rattle.stream_ident.specs.declared.token.Token.{Token}
-use Rattle.stream_ident.specs.Token.{same_token, token_lt}
-use Rattle.stream_model.specs.declared.plain.PlainPartition.{PlainPartition}
-use Rattle.stream_model.specs.declared.plain.Subscription.{Subscription}
-use Rattle.stream_model.specs.Positions.{no_event, token_at}
-use Rattle.stream_model.specs.Pulling.{handled_at}
-use Rattle.stream_ident.specs.Words.{past, past_from}
-use Rattle.stream_ident.proofs.EachOf.{All-weaken}
+use Rattle.stream_laws.proofs.Prelude.{◌≡◌, ℕ, suc, pred, ◌<◌, ◌≤◌, ◌==◌, nat_lt, Bool, true, false, List, [], ◌∷◌, ◌++◌, length, filter, get_or, if◌then◌else◌, refl, sym, ap, subst, arith, ◌∙◌, and_from, and_parts, both_ways, eqb-true, eq-eqb, ltb-false, ltb-true, AllByRecursion, All-weaken, same_token, token_lt, past, past_from, Token, no_event, token_at, handled_at, PlainPartition, Subscription}
 use Rattle.stream_laws.proofs.LowerBound.{token_at-within}
 use Rattle.stream_laws.proofs.Invariant.{LogFits, marks_of}
 use Rattle.stream_laws.proofs.LogLemmas.{length-marks_of, token_lt-same}

@@ -1,18 +1,6 @@
 -- The laws on what is published, owed and handled, from what holds of a legal history.
-use Rattle.std.proofs.Common.{◌≡◌, ℕ, ◌<◌, ◌≤◌, Bool, false, ◌++◌, length, drop, map, filter, get_or, Option, Some, None, refl, sym, ap, subst, ◌∙◌, arith, inl, inr}
-use Rattle.std.proofs.lemmas.Bool.{cases_eq, cases_lt, not-false, true≢false}
-use Rattle.std.proofs.lemmas.List.{get_or-map}
-use Rattle.std.specs.List.{AllByRecursion}
-use Rattle.stream_ident.specs.declared.event.Event.{Event}
-use Rattle.stream_ident.specs.declared.ident.SubName.{SubName}
-use Rattle.stream_ident.specs.Token.{token_lt}
-use Rattle.stream_model.specs.declared.plain.PlainPartition.{PlainPartition}
-use Rattle.stream_model.specs.declared.plain.Subscription.{Subscription}
-use Rattle.stream_ident.specs.Event.{batch_token, is_owed}
-use Rattle.stream_model.specs.NewestFirst.{Binding, owed_of}
+use Rattle.stream_laws.proofs.Prelude.{◌≡◌, ℕ, ◌<◌, ◌≤◌, Bool, false, ◌++◌, length, drop, map, filter, get_or, Option, Some, None, refl, sym, ap, subst, ◌∙◌, arith, inl, inr, cases_eq, cases_lt, not-false, true≢false, get_or-map, AllByRecursion, batch_token, is_owed, token_lt, IsPrefixOf, past, Event, SubName, Binding, owed_of, no_event, sub_at, PlainPartition, Subscription}
 use Rattle.stream_laws.specs.Laws.{HandledInOrder, LogIsPublished, OwedIsKept, RecordsAgree}
-use Rattle.stream_ident.specs.Words.{IsPrefixOf, past}
-use Rattle.stream_model.specs.Positions.{no_event, sub_at}
 use Rattle.stream_laws.proofs.EventLemmas.{All-owed, mark-at, owed-rest, owed-split}
 use Rattle.stream_laws.proofs.Invariant.{Fits, IsUnmade, LogFits, SubFits, running_of, waiting_of}
 use Rattle.stream_laws.proofs.Legal.{StepsKeep, fits-stands}

@@ -1,24 +1,7 @@
 -- The law on the front of a mailbox that a turn takes, from the definition of `begin`.
-use Rattle.std.proofs.Common.{◌≡◌, ℕ, zero, suc, ◌≤◌, ◌<◌, true, ◌&&◌, not, nat_le, nat_lt, List, [], ◌∷◌, length, map, take, All, AllPairs, Option, Some, None, is_some, refl, sym, ap, subst, ◌∙◌, arith}
-use Rattle.std.proofs.lemmas.Bool.{and_from, and_parts, cond_both, le-leb, leb-true}
-use Rattle.std.proofs.lemmas.List.Elements.{All-cons, All-head, All-nil, All-tail, All-weaker}
-use Rattle.std.proofs.lemmas.List.Kept.{AllPairs-cons}
-use Rattle.stream_ident.specs.declared.event.Event.{Event}
-use Rattle.stream_ident.specs.declared.ident.GrainId.{GrainId}
-use Rattle.stream_ident.specs.declared.ident.SubName.{SubName}
-use Rattle.stream_ident.specs.Blocks.{turn_size}
-use Rattle.stream_ident.specs.SubName.{same_sub}
-use Rattle.stream_ident.specs.Words.{past}
-use Rattle.stream_ident.proofs.SameValues.{same_sub-equal, same_sub-refl}
-use Rattle.stream_model.specs.declared.plain.Delivery.{Delivery}
-use Rattle.stream_model.specs.declared.plain.Grain.{Grain}
-use Rattle.stream_model.specs.declared.plain.PlainPartition.{PlainPartition}
-use Rattle.stream_model.specs.declared.plain.Subscription.{Subscription}
-use Rattle.stream_model.specs.Replies.{Reply}
-use Rattle.stream_model.specs.declared.reply.Reply.TheVariants.{Turn}
-use Rattle.stream_model.specs.Positions.{events_at, grain_at, is_spent, sub_at}
+use Rattle.stream_laws.proofs.Prelude.{◌≡◌, ℕ, zero, suc, ◌≤◌, ◌<◌, true, ◌&&◌, not, nat_le, nat_lt, List, [], ◌∷◌, length, map, take, All, AllPairs, Option, Some, None, is_some, refl, sym, ap, subst, ◌∙◌, arith, and_from, and_parts, cond_both, le-leb, leb-true, All-cons, All-head, All-nil, All-tail, All-weaker, AllPairs-cons, same_sub-equal, same_sub-refl, turn_size, same_sub, past, Event, GrainId, SubName, events_at, grain_at, is_spent, sub_at, Reply, front_of, Delivery, Grain, PlainPartition, Subscription, Turn}
 use Rattle.stream_model.specs.Step.{step}
-use Rattle.stream_model.specs.Turns.{begin, begin_for, begin_front, begin_in, begin_turn, front_of}
+use Rattle.stream_model.specs.Turns.{begin, begin_for, begin_front, begin_in, begin_turn}
 use Rattle.stream_laws.specs.Laws.{IsGreatest, IsTurnFront, TurnsAreLongest}
 use Rattle.stream_laws.proofs.EventLemmas.{length-events_at}
 

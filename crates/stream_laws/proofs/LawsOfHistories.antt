@@ -1,11 +1,7 @@
 -- The laws on histories as a whole: how they go on and come apart, and what each of them promises.
-use Rattle.std.proofs.Common.{List, [], ◌∷◌, refl, sym, ap, subst, ◌∙◌}
-use Rattle.stream_model.specs.declared.op.Op.{Op}
-use Rattle.stream_model.specs.declared.plain.PlainPartition.{PlainPartition}
-use Rattle.stream_model.specs.Bounds.{IsWithinLimits}
+use Rattle.stream_laws.proofs.Prelude.{List, [], ◌∷◌, refl, sym, ap, subst, ◌∙◌, IsWithinLimits, empty, Leads, Stands, after_steps, replies_of, Op, PlainPartition}
 use Rattle.stream_model.specs.History.{Entry, handled_events}
-use Rattle.stream_model.specs.Positions.{empty}
-use Rattle.stream_model.specs.Step.{Leads, Stands, after_steps, replies_of, step}
+use Rattle.stream_model.specs.Step.{step}
 use Rattle.stream_model.proofs.Reaching.{leads-append, within-empty}
 use Rattle.stream_model.proofs.StepBounds.{bounds-step}
 use Rattle.stream_laws.specs.Laws.{FrontsAreLegal, HistoriesGrow, LimitsAreKept, OneHistory, entries_of}

@@ -1,18 +1,6 @@
 -- The laws on refused starts, from what holds of a legal history.
-use Rattle.std.proofs.Common.{◌≡◌, ◌≢◌, ℕ, true, false, ◌∷◌, length, sym, ap, subst, ◌∙◌, nat_le}
-use Rattle.std.proofs.lemmas.Bool.{cond-false, cond-true, cond_both}
-use Rattle.stream_ident.specs.declared.ident.GrainId.{GrainId}
-use Rattle.stream_ident.specs.declared.ident.StreamId.{StreamId}
-use Rattle.stream_ident.specs.declared.token.Token.{Token}
-use Rattle.stream_ident.specs.Token.{token_lt}
-use Rattle.stream_model.specs.declared.op.Op.TheVariants.{Subscribe}
-use Rattle.stream_model.specs.declared.op.Start.TheVariants.{At, Latest}
-use Rattle.stream_model.specs.declared.plain.PlainPartition.{PlainPartition}
-use Rattle.stream_model.specs.Replies.{Reply}
-use Rattle.stream_model.specs.declared.reply.Reply.TheVariants.{Miss}
+use Rattle.stream_laws.proofs.Prelude.{◌≡◌, ◌≢◌, ℕ, true, false, ◌∷◌, length, sym, ap, subst, ◌∙◌, nat_le, cond-false, cond-true, cond_both, batch_token, token_lt, GrainId, StreamId, Token, high_token, low_token, lower_bound, Reply, Subscribe, At, Latest, PlainPartition, Miss}
 use Rattle.stream_laws.specs.Laws.{LatestIsNeverMissed, MissesBelowLow}
-use Rattle.stream_ident.specs.Event.{batch_token}
-use Rattle.stream_model.specs.Positions.{high_token, low_token, lower_bound}
 use Rattle.stream_model.specs.Publishing.{subscribe, subscribe_at}
 use Rattle.stream_model.specs.Step.{step}
 use Rattle.stream_laws.proofs.Legal.{StepsKeep, reaches-stands}

@@ -1,25 +1,9 @@
 -- The laws on a quiet partition, from what holds of a legal history.
-use Rattle.std.proofs.Common.{◌≡◌, ℕ, ◌≤◌, Bool, true, false, ◌&&◌, List, [], ◌∷◌, ◌++◌, length, map, filter, Option, Some, None, is_some, unwrap_or, refl, sym, ap, subst, ◌∙◌, arith, if◌then◌else◌, nat_lt}
-use Rattle.std.proofs.lemmas.Bool.{ltb-false, not-false, true≢false}
-use Rattle.std.proofs.lemmas.List.{append-nil}
-use Rattle.stream_ident.specs.declared.ident.GrainId.{GrainId}
-use Rattle.stream_ident.specs.declared.ident.SubName.{SubName}
+use Rattle.stream_laws.proofs.Prelude.{◌≡◌, ℕ, ◌≤◌, Bool, true, false, ◌&&◌, List, [], ◌∷◌, ◌++◌, length, map, filter, Option, Some, None, is_some, unwrap_or, refl, sym, ap, subst, ◌∙◌, arith, if◌then◌else◌, nat_lt, ltb-false, not-false, true≢false, append-nil, or_else-parts, nil_from_nat_lt, none_from_is_some, is_owed, grain_lt, same_grain, same_sub, sub_lt, keys_where, past, value_at, GrainId, SubName, behind, deliverable, is_running, is_waiting, pending_in, quiet_reply, running, waiting, owed_of, grain_at, new_grain, next_position, running_in, sub_at, waiting_in, Grain, PlainPartition, Subscription, Pending, IsQuiet}
 use Rattle.stream_ident.specs.declared.ident.SubName.TheVariants as name
-use Rattle.stream_ident.specs.Name.{grain_lt, same_grain}
-use Rattle.stream_ident.specs.SubName.{same_sub, sub_lt}
-use Rattle.stream_model.specs.declared.plain.Grain.{Grain}
-use Rattle.stream_model.specs.declared.plain.PlainPartition.{PlainPartition}
-use Rattle.stream_model.specs.declared.plain.Subscription.{Subscription}
-use Rattle.stream_model.specs.declared.reply.Pending.{Pending}
 use Rattle.stream_model.specs.declared.reply.Pending.TheVariants as pending
-use Rattle.stream_model.specs.declared.reply.Reply.TheVariants.{IsQuiet}
-use Rattle.stream_ident.specs.Event.{is_owed}
-use Rattle.stream_model.specs.NewestFirst.{owed_of}
-use Rattle.stream_ident.proofs.WordLemmas.{or_else-parts, nil_from_nat_lt, none_from_is_some}
 use Rattle.stream_laws.specs.Laws.{QuietIsDone, QuietOwesNoOther}
-use Rattle.stream_model.specs.Looks.{behind, deliverable, is_running, is_waiting, pending_in, quiet, quiet_reply, running, waiting}
-use Rattle.stream_model.specs.Positions.{grain_at, new_grain, next_position, running_in, sub_at, waiting_in}
-use Rattle.stream_ident.specs.Words.{keys_where, past, value_at}
+use Rattle.stream_model.specs.Looks.{quiet}
 use Rattle.stream_laws.proofs.EventLemmas.{filter-drop-none}
 use Rattle.stream_laws.proofs.KeyLists.{least-none}
 use Rattle.stream_laws.proofs.Invariant.{Fits, marks_of, running_of, waiting_of}

@@ -1,31 +1,7 @@
 -- The laws on the names, the records and the cache of a partition, from what holds of a legal history.
-use Rattle.std.proofs.Common.{◌≡◌, ◌≢◌, ℕ, suc, ◌≤◌, Bool, true, false, ◌||◌, not, ◌==◌, nat_le, List, [], ◌∷◌, length, reverse, All, AllPairs, Option, Some, None, is_some, if◌then◌else◌, refl, sym, ap, subst, ◌∙◌, arith}
+use Rattle.stream_laws.proofs.Prelude.{◌≡◌, ◌≢◌, ℕ, suc, ◌≤◌, Bool, true, false, ◌||◌, not, ◌==◌, nat_le, List, [], ◌∷◌, length, reverse, All, AllPairs, Option, Some, None, is_some, if◌then◌else◌, refl, sym, ap, subst, ◌∙◌, arith, both_ways, cond_both, or_right, All-cons, All-nil, AllPairs-cons, list_any, IsEquality, grain_equality, sub_equality, none_from_is_some, batch_token, same_grain, same_sub, token_lt, value_at, GrainId, StreamId, Explicit, Token, Binding, Entry, binding_after, binding_of, owed_of, low_token, lower_bound, sub_at, Reply, Op, AddRule, Subscribe, Start, At, Latest, PlainPartition, Subscription, RuleAdded, Subscribed}
 use Rattle.std.proofs.Math.Bool.{not-not}
-use Rattle.std.proofs.lemmas.Bool.{both_ways, cond_both, or_right}
-use Rattle.std.proofs.lemmas.List.Elements.{All-cons, All-nil}
-use Rattle.std.proofs.lemmas.List.Kept.{AllPairs-cons}
 use Rattle.std.proofs.lemmas.List.Sorted.{IsPermutation-reverse, list_any-IsPermutation}
-use Rattle.std.specs.List.{list_any}
-use Rattle.stream_ident.specs.declared.ident.GrainId.{GrainId}
-use Rattle.stream_ident.specs.declared.ident.StreamId.{StreamId}
-use Rattle.stream_ident.specs.declared.ident.SubName.TheVariants.{Explicit}
-use Rattle.stream_ident.specs.declared.token.Token.{Token}
-use Rattle.stream_ident.specs.Event.{batch_token}
-use Rattle.stream_ident.specs.Name.{same_grain}
-use Rattle.stream_ident.specs.SubName.{same_sub}
-use Rattle.stream_ident.specs.Token.{token_lt}
-use Rattle.stream_ident.specs.Words.{value_at}
-use Rattle.stream_ident.proofs.SameValues.{IsEquality, grain_equality, sub_equality}
-use Rattle.stream_model.specs.declared.op.Op.{Op}
-use Rattle.stream_model.specs.declared.op.Op.TheVariants.{AddRule, Subscribe}
-use Rattle.stream_model.specs.declared.op.Start.{Start}
-use Rattle.stream_model.specs.declared.op.Start.TheVariants.{At, Latest}
-use Rattle.stream_model.specs.declared.plain.PlainPartition.{PlainPartition}
-use Rattle.stream_model.specs.declared.plain.Subscription.{Subscription}
-use Rattle.stream_model.specs.Replies.{Reply}
-use Rattle.stream_model.specs.declared.reply.Reply.TheVariants.{RuleAdded, Subscribed}
-use Rattle.stream_model.specs.NewestFirst.{Binding, Entry, binding_after, binding_of, owed_of}
-use Rattle.stream_model.specs.Positions.{low_token, lower_bound, sub_at}
 use Rattle.stream_model.specs.Publishing.{subscribe, subscribe_at}
 use Rattle.stream_model.specs.Step.{step}
 use Rattle.stream_laws.specs.Laws.{CacheInBounds, NamesDiffer, NumbersAreNew, RecordsAreOpen, UnknownHasNoRecord, gives, is_given}
@@ -34,7 +10,6 @@ use Rattle.stream_laws.proofs.Legal.{StepsKeep, fits-stands, reaches-stands}
 use Rattle.stream_laws.proofs.Summary.{Summary, summary}
 use Rattle.stream_laws.proofs.Unique.{AreUnique}
 use Rattle.stream_laws.proofs.UniqueSteps.{steady-legal}
-use Rattle.stream_ident.proofs.WordLemmas.{none_from_is_some}
 
 pub cache_in_bounds-from : StepsKeep → CacheInBounds
 cache_in_bounds-from keep blocks limits history p stands =

@@ -1,12 +1,7 @@
 -- The law that one turn of a grain runs at a time, from the steps of a history.
-use Rattle.std.proofs.Common.{◌≡◌, ℕ, false, List, [], ◌∷◌, ◌++◌, Some, None, sym, ap, subst, ◌∙◌}
-use Rattle.std.proofs.lemmas.Bool.{or_parts, true_from_ne_false}
-use Rattle.std.specs.List.{list_any}
-use Rattle.stream_ident.specs.declared.ident.GrainId.{GrainId}
-use Rattle.stream_model.specs.declared.plain.PlainPartition.{PlainPartition}
+use Rattle.stream_laws.proofs.Prelude.{◌≡◌, ℕ, false, List, [], ◌∷◌, ◌++◌, Some, None, sym, ap, subst, ◌∙◌, or_parts, true_from_ne_false, list_any, GrainId, empty, grain_at, Leads, PlainPartition}
 use Rattle.stream_model.specs.History.{Entry}
-use Rattle.stream_model.specs.Positions.{empty, grain_at}
-use Rattle.stream_model.specs.Step.{Leads, step}
+use Rattle.stream_model.specs.Step.{step}
 use Rattle.stream_laws.specs.Laws.{OneTurnAtATime, begins, ends}
 use Rattle.stream_laws.proofs.Legal.{leads-split}
 use Rattle.stream_laws.proofs.RunningSteps.{Runs, begun-step, goes-step, turn_of}

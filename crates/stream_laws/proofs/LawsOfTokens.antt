@@ -1,17 +1,6 @@
 -- The laws on tokens, from what holds of a legal history.
-use Rattle.std.proofs.Common.{◌≡◌, ◌≢◌, true, List, ◌++◌, get_or, AllPairs, Option, Some, None, sym, ap, subst, ◌∙◌, arith}
+use Rattle.stream_laws.proofs.Prelude.{◌≡◌, ◌≢◌, true, List, ◌++◌, get_or, AllPairs, Option, Some, None, sym, ap, subst, ◌∙◌, arith, true≢false, get_or_append_left, get_or_default, length-append, AllPairs-filter, is_owed, token_lt, IsPrefixOf, Event, SubName, Binding, owed_of, no_event, PlainPartition}
 use Rattle.std.proofs.Math.Path.{subst₂}
-use Rattle.std.proofs.lemmas.Bool.{true≢false}
-use Rattle.std.proofs.lemmas.List.{get_or_append_left, get_or_default, length-append}
-use Rattle.std.proofs.lemmas.List.Kept.{AllPairs-filter}
-use Rattle.stream_ident.specs.declared.event.Event.{Event}
-use Rattle.stream_ident.specs.declared.ident.SubName.{SubName}
-use Rattle.stream_ident.specs.Event.{is_owed}
-use Rattle.stream_ident.specs.Token.{token_lt}
-use Rattle.stream_ident.specs.Words.{IsPrefixOf}
-use Rattle.stream_model.specs.declared.plain.PlainPartition.{PlainPartition}
-use Rattle.stream_model.specs.NewestFirst.{Binding, owed_of}
-use Rattle.stream_model.specs.Positions.{no_event}
 use Rattle.stream_laws.specs.Laws.{NoneTwice, TokensRise, TokensRiseAlong}
 use Rattle.stream_laws.proofs.Invariant.{Fits, LogFits}
 use Rattle.stream_laws.proofs.LawsOfEvents.{handled_prefix}

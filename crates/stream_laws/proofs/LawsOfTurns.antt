@@ -1,21 +1,11 @@
 -- The laws on turns, commits and closed subscriptions, from what holds of a legal history.
-use Rattle.std.proofs.Common.{◌≡◌, Bool, true, false, List, [], ◌∷◌, ◌++◌, reverse, refl, sym, ap, subst, ◌∙◌}
+use Rattle.stream_laws.proofs.Prelude.{◌≡◌, Bool, true, false, List, [], ◌∷◌, ◌++◌, reverse, refl, sym, ap, subst, ◌∙◌, cond-false, false_from_ne_true, or_left, true≢false, same_sub-equal, same_sub, SubName, Entry, closed_after, handled_after, handled_events, Reply, Leads, Op, Commit, Unsubscribe, PlainPartition, Committed, Turn, Unsubscribed}
 use mathlib.Core.List.{reverse_aux}
-use Rattle.std.proofs.lemmas.Bool.{cond-false, false_from_ne_true, or_left, true≢false}
-use Rattle.stream_ident.specs.declared.ident.SubName.{SubName}
-use Rattle.stream_ident.specs.SubName.{same_sub}
-use Rattle.stream_model.specs.declared.op.Op.{Op}
-use Rattle.stream_model.specs.declared.op.Op.TheVariants.{Commit, Unsubscribe}
-use Rattle.stream_model.specs.declared.plain.PlainPartition.{PlainPartition}
-use Rattle.stream_model.specs.Replies.{Reply}
-use Rattle.stream_model.specs.declared.reply.Reply.TheVariants.{Committed, Turn, Unsubscribed}
-use Rattle.stream_model.specs.NewestFirst.{Entry, closed_after, handled_after, handled_events}
 use Rattle.stream_laws.specs.Laws.{CommitsBegun, CommittedOnce, NoneAfterClose, TurnsInOrder}
-use Rattle.stream_model.specs.Step.{Leads, step}
+use Rattle.stream_model.specs.Step.{step}
 use Rattle.stream_laws.proofs.Invariant.{Fits}
 use Rattle.stream_laws.proofs.Legal.{Reaches, StepsKeep, fits-stands, fits-step, reaches-stands}
 use Rattle.stream_laws.proofs.Summary.{Promise, Summary, summary}
-use Rattle.stream_ident.proofs.SameValues.{same_sub-equal}
 
 -- what the reply of an entry of a legal history promises
 entry-promise : StepsKeep → (before : List Entry) (e : Entry) (later : List Entry) (q : PlainPartition) → Reaches (reverse before) (e ∷ later) q → Promise (summary (reverse before)) e.op e.reply

@@ -1,12 +1,8 @@
 -- What holds of a history and the partition that it leaves, along a legal history.
-use Rattle.std.proofs.Common.{◌≡◌, ℕ, List, [], ◌∷◌, ◌++◌, reverse, refl, sym, subst, arith}
+use Rattle.stream_laws.proofs.Prelude.{◌≡◌, ℕ, List, [], ◌∷◌, ◌++◌, reverse, refl, sym, subst, arith, empty, Leads, Stands, Limits, Op, PlainPartition}
 use mathlib.Core.List.{reverse_aux}
-use Rattle.stream_model.specs.declared.limits.Limits.{Limits}
-use Rattle.stream_model.specs.declared.op.Op.{Op}
-use Rattle.stream_model.specs.declared.plain.PlainPartition.{PlainPartition}
 use Rattle.stream_model.specs.History.{Entry}
-use Rattle.stream_model.specs.Positions.{empty}
-use Rattle.stream_model.specs.Step.{Leads, Stands, step}
+use Rattle.stream_model.specs.Step.{step}
 use Rattle.stream_laws.proofs.Invariant.{Fits, Kept}
 use Rattle.stream_laws.proofs.Summary.{Summary, after, summary}
 

@@ -67,3 +67,4 @@ pub mod TurnNumbers
 pub mod Unique
 pub mod UniqueSteps
 pub mod WorkedExamples
+pub mod Prelude

@@ -1,17 +1,5 @@
 -- A log that grows at its end: what was marked stays so.
-use Rattle.std.proofs.Common.{◌≡◌, ◌∙◌, sym, subst, refl, ℕ, zero, suc, ◌<◌, ◌≤◌, Bool, false, List, [], ◌∷◌, ◌++◌, length, get_or, arith}
-use Rattle.std.proofs.lemmas.Bool.{cond_both}
-use Rattle.std.proofs.lemmas.List.{get_or_append_left, length-append, map-append}
-use Rattle.std.specs.List.{AllByRecursion}
-use Rattle.stream_ident.specs.declared.event.Event.{Event}
-use Rattle.stream_ident.specs.declared.ident.StreamId.{StreamId}
-use Rattle.stream_ident.specs.declared.token.Token.{Token}
-use Rattle.stream_model.specs.Bounds.{AreIn}
-use Rattle.stream_ident.specs.Event.{is_owed}
-use Rattle.stream_model.specs.Positions.{events_at, no_event}
-use Rattle.stream_ident.specs.Words.{past}
-use Rattle.stream_ident.proofs.EachOf.{All-append}
-use Rattle.stream_ident.proofs.WordLemmas.{past_from-within}
+use Rattle.stream_laws.proofs.Prelude.{◌≡◌, ◌∙◌, sym, subst, refl, ℕ, zero, suc, ◌<◌, ◌≤◌, Bool, false, List, [], ◌∷◌, ◌++◌, length, get_or, arith, cond_both, get_or_append_left, length-append, map-append, AllByRecursion, All-append, past_from-within, is_owed, past, Event, StreamId, Token, AreIn, events_at, no_event}
 use Rattle.stream_laws.proofs.Invariant.{marks_of}
 use Rattle.stream_laws.proofs.MarkLemmas.{IsClear-marks, IsCovering-marks, IsNext-marks, marked-within, marked_below-marks}
 use Rattle.stream_laws.proofs.Marks.{IsInTurn, IsNext, IsServed, marked_below, reach}

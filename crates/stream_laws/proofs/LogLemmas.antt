@@ -1,16 +1,7 @@
 -- Events on the log: their marks, their tokens, and stretches of it.
-use Rattle.std.proofs.Common.{◌≡◌, ◌∙◌, ap, sym, refl, ℕ, zero, suc, ◌+◌, ◌-◌, ◌<◌, ◌≤◌, not, Bool, true, false, List, [], ◌∷◌, length, get_or, drop, Some, None, if◌then◌else◌, ⊎_elim, arith}
-use Rattle.std.proofs.lemmas.Bool.{cases_lt, and_right}
+use Rattle.stream_laws.proofs.Prelude.{◌≡◌, ◌∙◌, ap, sym, refl, ℕ, zero, suc, ◌+◌, ◌-◌, ◌<◌, ◌≤◌, not, Bool, true, false, List, [], ◌∷◌, length, get_or, drop, Some, None, if◌then◌else◌, ⊎_elim, arith, cases_lt, and_right, get_or_past, get_or-take, get_or-drop, length-map, length-drop, is_owed, same_stream, token_lt, first_at, Event, StreamId, Token, between, no_event}
 use Rattle.std.proofs.lemmas.Bool.Decides.{nat_tests}
-use Rattle.std.proofs.lemmas.List.{get_or_past, get_or-take, get_or-drop, length-map, length-take, length-drop}
-use Rattle.stream_ident.specs.declared.event.Event.{Event}
-use Rattle.stream_ident.specs.declared.ident.StreamId.{StreamId}
-use Rattle.stream_ident.specs.declared.token.Token.{Token}
-use Rattle.stream_ident.specs.Token.{token_lt}
-use Rattle.stream_ident.specs.Name.{same_stream}
-use Rattle.stream_ident.specs.Event.{is_owed}
-use Rattle.stream_model.specs.Positions.{between, no_event}
-use Rattle.stream_ident.specs.Words.{first_at}
+use Rattle.std.proofs.lemmas.List.{length-take}
 use Rattle.stream_ident.proofs.FirstLemmas.{first_at-None, first_at-Some}
 use Rattle.stream_laws.proofs.EventLemmas.{mark-at}
 use Rattle.stream_laws.proofs.Invariant.{marks_of}

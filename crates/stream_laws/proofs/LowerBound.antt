@@ -1,15 +1,5 @@
 -- The position of a start token: no event before it is owed from that token on.
-use Rattle.std.proofs.Common.{◌≡◌, ◌∙◌, ap, sym, refl, ℕ, ◌+◌, ◌-◌, ◌<◌, ◌≤◌, not, true, false, length, map, get_or, Option, Some, None, unwrap_or, ⊎_elim, arith}
-use Rattle.std.proofs.lemmas.Bool.{cases_lt, not-false}
-use Rattle.std.proofs.lemmas.List.{get_or-map, get_or_past, length-map}
-use Rattle.stream_ident.specs.declared.event.Event.{Event}
-use Rattle.stream_ident.specs.declared.ident.StreamId.{StreamId}
-use Rattle.stream_ident.specs.declared.token.Token.{Token}
-use Rattle.stream_ident.specs.Token.{token_lt}
-use Rattle.stream_model.specs.declared.plain.PlainPartition.{PlainPartition}
-use Rattle.stream_ident.specs.Event.{batch_token}
-use Rattle.stream_model.specs.Positions.{between, low_token, lower_bound, no_event, token_at}
-use Rattle.stream_ident.specs.Words.{first_at}
+use Rattle.stream_laws.proofs.Prelude.{◌≡◌, ◌∙◌, ap, sym, refl, ℕ, ◌+◌, ◌-◌, ◌<◌, ◌≤◌, not, true, false, length, map, get_or, Option, Some, None, unwrap_or, ⊎_elim, arith, cases_lt, not-false, get_or-map, get_or_past, length-map, batch_token, token_lt, first_at, Event, StreamId, Token, between, low_token, lower_bound, no_event, token_at, PlainPartition}
 use Rattle.stream_ident.proofs.FirstLemmas.{first_at-None, first_at-Some}
 use Rattle.stream_laws.proofs.Invariant.{LogFits, marks_of}
 use Rattle.stream_laws.proofs.LogLemmas.{between-at, clear-before, length-between, token_lt-before}

@@ -1,13 +1,7 @@
 -- Marks: which positions are passed over, which come next, and how far they reach.
-use Rattle.std.proofs.Common.{◌≡◌, ℕ, zero, suc, ◌+◌, ◌-◌, ◌<◌, ◌≤◌, max, Bool, true, false, List, [], ◌∷◌, ◌++◌, length, get_or, if◌then◌else◌, refl, sym, ap, subst, ◌∙◌, append_assoc, arith}
+use Rattle.stream_laws.proofs.Prelude.{◌≡◌, ℕ, zero, suc, ◌+◌, ◌-◌, ◌<◌, ◌≤◌, max, Bool, true, false, List, [], ◌∷◌, ◌++◌, length, get_or, if◌then◌else◌, refl, sym, ap, subst, ◌∙◌, append_assoc, arith, cond-true, cond-false, false≢true, append-nil, AllByRecursion, All-weaken, All-append, past_from-append, past, past_from}
 use Rattle.std.proofs.Math.ListN.{get_or-append}
-use Rattle.std.proofs.lemmas.List.{append-nil}
-use Rattle.std.proofs.lemmas.Bool.{cond-true, cond-false, false≢true}
-use Rattle.std.specs.List.{AllByRecursion}
-use Rattle.stream_ident.specs.Words.{past, past_from}
-use Rattle.stream_ident.proofs.EachOf.{All-weaken, All-append}
 use Rattle.stream_laws.proofs.Marks.{IsClear, IsCovering, IsNext, marked_below, reach}
-use Rattle.stream_ident.proofs.WordLemmas.{past_from-append}
 
 -- nothing is between a position and one at or before it
 pub IsClear-none : (marks : List Bool) (a b : ℕ) → b ≤ a → IsClear marks a b

@@ -1,6 +1,5 @@
 -- Positions of a log judged by a list of tests: a position is marked where its event passes.
-use Rattle.std.proofs.Common.{◌≡◌, ℕ, zero, suc, ◌<◌, ◌≤◌, max, Bool, true, false, List, [], ◌∷◌, ◌++◌, length, get_or, if◌then◌else◌}
-use Rattle.stream_ident.specs.Words.{past}
+use Rattle.stream_laws.proofs.Prelude.{◌≡◌, ℕ, zero, suc, ◌<◌, ◌≤◌, max, Bool, true, false, List, [], ◌∷◌, ◌++◌, length, get_or, if◌then◌else◌, past}
 
 -- no position from a up to b is marked
 abbrev pub IsClear : List Bool → ℕ → ℕ → Type 0

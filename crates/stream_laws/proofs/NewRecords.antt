@@ -1,23 +1,9 @@
 -- Records that are made: nothing of them runs or waits, and they agree with the history.
-use Rattle.std.proofs.Common.{◌≡◌, ◌∙◌, ap, sym, subst, refl, ℕ, ◌≤◌, true, false, List, [], ◌∷◌, length, map, filter, Option, Some, None, arith}
-use Rattle.std.proofs.lemmas.Bool.{cond_both}
-use Rattle.std.specs.List.{AllByRecursion}
-use Rattle.stream_ident.specs.declared.event.Event.{Event}
-use Rattle.stream_ident.specs.declared.ident.GrainId.{GrainId}
-use Rattle.stream_ident.specs.declared.ident.StreamId.{StreamId}
-use Rattle.stream_ident.specs.declared.ident.SubName.{SubName}
-use Rattle.stream_ident.specs.declared.token.Token.{Token}
-use Rattle.stream_ident.specs.SubName.{same_sub}
-use Rattle.stream_model.specs.declared.plain.Delivery.{Delivery}
-use Rattle.stream_model.specs.declared.plain.PlainPartition.{PlainPartition}
-use Rattle.stream_model.specs.declared.plain.RunningTurn.{RunningTurn}
-use Rattle.stream_model.specs.declared.plain.Subscription.{Subscription}
-use Rattle.stream_model.specs.Positions.{grain_at, new_subscription, running_in, sub_at, waiting_in}
+use Rattle.stream_laws.proofs.Prelude.{◌≡◌, ◌∙◌, ap, sym, subst, refl, ℕ, ◌≤◌, true, false, List, [], ◌∷◌, length, map, filter, Option, Some, None, arith, cond_both, AllByRecursion, same_sub-equal, same_sub, Event, GrainId, StreamId, SubName, Token, grain_at, new_subscription, running_in, sub_at, waiting_in, Delivery, PlainPartition, RunningTurn, Subscription}
 use Rattle.stream_laws.proofs.Invariant.{GrainsFit, IsBoxed, IsRunning, SubFits, marks_of}
 use Rattle.stream_laws.proofs.LogLemmas.{length-marks_of}
 use Rattle.stream_laws.proofs.Marks.{IsClear}
 use Rattle.stream_laws.proofs.Summary.{Summary}
-use Rattle.stream_ident.proofs.SameValues.{same_sub-equal}
 
 module _ (t : Summary) (p : PlainPartition) (s : SubName) (none : sub_at p s ≡ None) where
   -- the name isn't one that has a record

@@ -1,25 +1,9 @@
 -- One record and one grain changed: the others see what they saw.
-use Rattle.std.proofs.Common.{◌≡◌, ℕ, ◌<◌, ◌≤◌, true, false, List, [], Some, None, refl, sym, ap, subst, ◌∙◌, arith}
-use Rattle.std.proofs.lemmas.Bool.{true≢false}
-use Rattle.std.specs.List.{AllByRecursion}
-use Rattle.stream_ident.specs.declared.event.Event.{Event}
-use Rattle.stream_ident.specs.declared.ident.GrainId.{GrainId}
-use Rattle.stream_ident.specs.declared.ident.SubName.{SubName}
+use Rattle.stream_laws.proofs.Prelude.{◌≡◌, ℕ, ◌<◌, ◌≤◌, true, false, List, [], Some, None, refl, sym, ap, subst, ◌∙◌, arith, true≢false, AllByRecursion, All-weaken, same_grain-equal, same_grain-refl, same_sub-equal, same_grain, same_sub, Event, GrainId, SubName, Binding, events_at, grain_at, running_in, sub_at, waiting_in, Delivery, Grain, PlainPartition, RunningTurn, Subscription}
 use Rattle.stream_ident.specs.declared.ident.SubName.TheVariants as name
-use Rattle.stream_ident.specs.Name.{same_grain}
-use Rattle.stream_ident.specs.SubName.{same_sub}
-use Rattle.stream_model.specs.declared.plain.Delivery.{Delivery}
-use Rattle.stream_model.specs.declared.plain.Grain.{Grain}
-use Rattle.stream_model.specs.declared.plain.PlainPartition.{PlainPartition}
-use Rattle.stream_model.specs.declared.plain.RunningTurn.{RunningTurn}
-use Rattle.stream_model.specs.declared.plain.Subscription.{Subscription}
-use Rattle.stream_model.specs.NewestFirst.{Binding}
-use Rattle.stream_model.specs.Positions.{events_at, grain_at, running_in, sub_at, waiting_in}
-use Rattle.stream_ident.proofs.EachOf.{All-weaken}
 use Rattle.stream_laws.proofs.Invariant.{GrainFits, GrainsFit, IsBoxed, IsRunning, IsUnmade, NamesFit, RulesDiffer, SubFits, SubsFit, UnmadeFit, bound_by_rules, marks_of, running_of, waiting_of}
 use Rattle.stream_laws.proofs.Marks.{IsClear}
 use Rattle.stream_laws.proofs.Summary.{Summary}
-use Rattle.stream_ident.proofs.SameValues.{same_grain-equal, same_grain-refl, same_sub-equal}
 
 -- of a name the same is said
 pub record IsToldAlike (t t' : Summary) (x : SubName) : Type 0 where

@@ -1,14 +1,5 @@
 -- The resumes of the open subscriptions, and the blocks that all of them have passed.
-use Rattle.std.proofs.Common.{◌≡◌, ℕ, ◌+◌, ◌-◌, ◌*◌, ◌/◌, ◌≤◌, min, true, false, List, [], ◌∷◌, map, Some, sym, ap, ◌∙◌, arith, if◌then◌else◌}
-use Rattle.std.proofs.lemmas.Bool.{cond_both, true≢false}
-use Rattle.stream_ident.specs.declared.ident.SubName.{SubName}
-use Rattle.stream_ident.specs.SubName.{same_sub}
-use Rattle.stream_model.specs.declared.plain.PlainPartition.{PlainPartition}
-use Rattle.stream_model.specs.declared.plain.Subscription.{Subscription}
-use Rattle.stream_model.specs.Positions.{least_or, open_resumes, slowest, sub_at, resumes_of}
-use Rattle.stream_model.specs.Pulling.{free_blocks}
-use Rattle.stream_ident.specs.Words.{least_with, value_at}
-use Rattle.stream_ident.specs.declared.limits.TheConstants.{BLOCK_EVENTS}
+use Rattle.stream_laws.proofs.Prelude.{◌≡◌, ℕ, ◌+◌, ◌-◌, ◌*◌, ◌/◌, ◌≤◌, min, true, false, List, [], ◌∷◌, map, Some, sym, ap, ◌∙◌, arith, if◌then◌else◌, cond_both, true≢false, same_sub, least_with, value_at, SubName, BLOCK_EVENTS, least_or, open_resumes, slowest, sub_at, resumes_of, free_blocks, PlainPartition, Subscription}
 
 -- the least isn't more than the number that it is compared with
 pub least_with-first : (n : ℕ) (xs : List ℕ) → least_with n xs ≤ n

@@ -1,12 +1,5 @@
 -- Positions that every open subscription has passed.
-use Rattle.std.proofs.Common.{◌≡◌, ℕ, ◌+◌, ◌*◌, ◌≤◌, true, Some, arith}
-use Rattle.stream_ident.specs.declared.ident.SubName.{SubName}
-use Rattle.stream_model.specs.declared.plain.PlainPartition.{PlainPartition}
-use Rattle.stream_model.specs.declared.plain.Subscription.{Subscription}
-use Rattle.stream_model.specs.Positions.{open_resumes, sub_at}
-use Rattle.stream_model.specs.Pulling.{free_blocks}
-use Rattle.stream_ident.specs.Words.{least_with}
-use Rattle.stream_ident.specs.declared.limits.TheConstants.{BLOCK_EVENTS}
+use Rattle.stream_laws.proofs.Prelude.{◌≡◌, ℕ, ◌+◌, ◌*◌, ◌≤◌, true, Some, arith, least_with, SubName, BLOCK_EVENTS, open_resumes, sub_at, free_blocks, PlainPartition, Subscription}
 use Rattle.stream_laws.proofs.Invariant.{Fits}
 use Rattle.stream_laws.proofs.OpenResumes.{least-resume-le, least_with-first, low-moved-le, slowest-le}
 use Rattle.stream_laws.proofs.Summary.{Summary}

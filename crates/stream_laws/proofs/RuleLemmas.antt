@@ -1,23 +1,6 @@
 -- What rules bind a name to, and what they make of an event.
-use Rattle.std.proofs.Common.{◌≡◌, ◌∙◌, ap, sym, refl, ℕ, Bool, true, false, ◌&&◌, not, List, [], ◌∷◌, ◌++◌, Option, Some, None, is_some, if◌then◌else◌}
-use Rattle.std.proofs.lemmas.Bool.{and_from, and_parts, false≢true, or_parts}
-use Rattle.std.specs.List.{AllByRecursion, flat_map, list_any}
-use Rattle.stream_ident.specs.declared.event.Event.{Event}
-use Rattle.stream_ident.specs.declared.ident.StreamId.{StreamId}
-use Rattle.stream_ident.specs.declared.ident.SubName.{SubName}
-use Rattle.stream_ident.specs.declared.ident.SubName.TheVariants.{Explicit, Implicit}
-use Rattle.stream_ident.specs.Name.{same_name, same_stream}
-use Rattle.stream_ident.specs.SubName.{same_sub}
-use Rattle.stream_ident.specs.Token.{token_lt}
-use Rattle.stream_ident.specs.declared.rule.Rule.{Rule}
-use Rattle.stream_ident.specs.Event.{batch_token, is_owed}
-use Rattle.stream_model.specs.NewestFirst.{Binding, bound_by_rule}
-use Rattle.stream_model.specs.Pulling.{implied}
-use Rattle.stream_ident.specs.Words.{or_else, value_at}
+use Rattle.stream_laws.proofs.Prelude.{◌≡◌, ◌∙◌, ap, sym, refl, ℕ, Bool, true, false, ◌&&◌, not, List, [], ◌∷◌, ◌++◌, Option, Some, None, is_some, if◌then◌else◌, and_from, and_parts, false≢true, or_parts, AllByRecursion, flat_map, list_any, same_name-equal, same_name-refl, same_stream-equal, or_else-none, batch_token, is_owed, same_name, same_stream, same_sub, token_lt, or_else, value_at, Event, StreamId, SubName, Explicit, Implicit, Rule, append-at, Binding, bound_by_rule, implied}
 use Rattle.stream_laws.proofs.Invariant.{IsOtherRule, RulesDiffer, bound_by_rules}
-use Rattle.stream_model.proofs.Values.{append-at}
-use Rattle.stream_ident.proofs.SameValues.{same_name-equal, same_name-refl, same_stream-equal}
-use Rattle.stream_ident.proofs.WordLemmas.{or_else-none}
 
 -- ---- the first of options
 

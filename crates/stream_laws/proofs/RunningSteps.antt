@@ -1,38 +1,12 @@
 -- The turn of a grain that runs goes on running, step by step, until it is ended.
-use Rattle.std.proofs.Common.{◌≡◌, ℕ, suc, ◌+◌, ◌==◌, ◌&&◌, ◌||◌, not, nat_lt, nat_le, true, false, List, [], ◌∷◌, length, Option, Some, None, is_some, unwrap_or, refl, sym, ap, subst, ◌∙◌}
-use Rattle.std.proofs.lemmas.Bool.{and_from, and_parts, both_ways, cond_both, eq-eqb, eqb-true, false_from_ne_true}
-use Rattle.std.specs.List.{list_any}
-use Rattle.stream_ident.specs.declared.ident.GrainId.{GrainId}
-use Rattle.stream_ident.specs.declared.ident.StreamId.{StreamId}
-use Rattle.stream_ident.specs.declared.ident.SubName.{SubName}
+use Rattle.stream_laws.proofs.Prelude.{◌≡◌, ℕ, suc, ◌+◌, ◌==◌, ◌&&◌, ◌||◌, not, nat_lt, nat_le, true, false, List, [], ◌∷◌, length, Option, Some, None, is_some, unwrap_or, refl, sym, ap, subst, ◌∙◌, and_from, and_parts, both_ways, cond_both, eq-eqb, eqb-true, false_from_ne_true, list_any, grain_equality, same_grain-equal, none_from_is_some, turn_size, batch_token, same_grain, same_name, token_lt, changed_value, past, value_at, with_value, GrainId, StreamId, SubName, BATCH_EVENTS, MAILBOX_PLACES, Rule, Token, changed_option, changed_value-at, changed_value-other, with_value-at, with_value-other, between, grain_at, is_spent, low_token, lower_bound, new_grain, next_position, sub_at, without, handled_at, is_stale, subs_with, woken, Reply, Op, Start, Latest, At, Delivery, Grain, PlainPartition, RunningTurn, Subscription}
 use Rattle.stream_ident.specs.declared.ident.SubName.TheVariants as name
-use Rattle.stream_ident.specs.declared.rule.Rule.{Rule}
-use Rattle.stream_ident.specs.declared.token.Token.{Token}
-use Rattle.stream_ident.specs.Blocks.{turn_size}
-use Rattle.stream_ident.specs.Event.{batch_token}
-use Rattle.stream_ident.specs.Name.{same_grain, same_name}
-use Rattle.stream_ident.specs.Token.{token_lt}
-use Rattle.stream_ident.specs.Words.{changed_value, past, value_at, with_value}
-use Rattle.stream_ident.specs.declared.limits.TheConstants.{BATCH_EVENTS, MAILBOX_PLACES}
-use Rattle.stream_ident.proofs.SameValues.{grain_equality, same_grain-equal}
-use Rattle.stream_model.specs.declared.op.Op.{Op}
 use Rattle.stream_model.specs.declared.op.Op.TheVariants as op
-use Rattle.stream_model.specs.declared.op.Start.{Start}
-use Rattle.stream_model.specs.declared.op.Start.TheVariants.{Latest, At}
-use Rattle.stream_model.specs.declared.plain.Delivery.{Delivery}
-use Rattle.stream_model.specs.declared.plain.Grain.{Grain}
-use Rattle.stream_model.specs.declared.plain.PlainPartition.{PlainPartition}
-use Rattle.stream_model.specs.declared.plain.RunningTurn.{RunningTurn}
-use Rattle.stream_model.specs.declared.plain.Subscription.{Subscription}
-use Rattle.stream_model.specs.Replies.{Reply}
-use Rattle.stream_model.specs.Positions.{between, grain_at, is_spent, low_token, lower_bound, new_grain, next_position, sub_at}
-use Rattle.stream_model.specs.Publishing.{add_rule, publish, subscribe, subscribe_at, unsubscribe, unsubscribe_from, without}
-use Rattle.stream_model.specs.Pulling.{ack, ack_of, ack_position, deliver, deliver_position, deliver_to, handled_at, is_stale, move, move_to, pull, pull_count, pull_events, pull_want, purge, purge_to, retry, retry_of, subs_with, woken}
+use Rattle.stream_model.specs.Publishing.{add_rule, publish, subscribe, subscribe_at, unsubscribe, unsubscribe_from}
+use Rattle.stream_model.specs.Pulling.{ack, ack_of, ack_position, deliver, deliver_position, deliver_to, move, move_to, pull, pull_count, pull_events, pull_want, purge, purge_to, retry, retry_of}
 use Rattle.stream_model.specs.Step.{step}
 use Rattle.stream_model.specs.Turns.{begin, begin_for, begin_front, begin_in, begin_turn, commit, commit_for, commit_running, deactivate, deactivate_in}
-use Rattle.stream_model.proofs.Values.{changed_option, changed_value-at, changed_value-other, with_value-at, with_value-other}
 use Rattle.stream_laws.specs.Laws.{begins, ends}
-use Rattle.stream_ident.proofs.WordLemmas.{none_from_is_some}
 
 -- the number of the turn that runs
 abbrev pub turn_of : Option RunningTurn → Option ℕ

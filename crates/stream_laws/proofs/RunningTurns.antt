@@ -1,23 +1,10 @@
 -- The positions of the turns that run, and of what is handled, are in the log.
-use Rattle.std.proofs.Common.{◌≡◌, ◌∙◌, ap, subst, ℕ, ◌<◌, List, Some}
-use Rattle.std.proofs.lemmas.Bool.{cond-true}
-use Rattle.std.specs.List.{AllByRecursion}
-use Rattle.stream_ident.specs.declared.event.Event.{Event}
-use Rattle.stream_ident.specs.declared.ident.GrainId.{GrainId}
-use Rattle.stream_ident.specs.declared.ident.StreamId.{StreamId}
-use Rattle.stream_ident.specs.declared.token.Token.{Token}
-use Rattle.stream_ident.specs.SubName.{same_sub}
-use Rattle.stream_model.specs.declared.plain.PlainPartition.{PlainPartition}
-use Rattle.stream_model.specs.declared.plain.RunningTurn.{RunningTurn}
-use Rattle.stream_model.specs.Bounds.{AreIn}
-use Rattle.stream_model.specs.Positions.{grain_at, running_in}
-use Rattle.stream_ident.specs.Words.{past}
+use Rattle.stream_laws.proofs.Prelude.{◌≡◌, ◌∙◌, ap, subst, ℕ, ◌<◌, List, Some, cond-true, AllByRecursion, same_sub-refl, same_sub, past, Event, GrainId, StreamId, Token, AreIn, grain_at, running_in, PlainPartition, RunningTurn}
 use Rattle.stream_laws.proofs.Invariant.{IsRunning, SubsFit, marks_of, running_of}
 use Rattle.stream_laws.proofs.LogGrown.{within-handled, within-next}
 use Rattle.stream_laws.proofs.LogLemmas.{length-marks_of}
 use Rattle.stream_laws.proofs.Marks.{IsInTurn}
 use Rattle.stream_laws.proofs.Summary.{Summary}
-use Rattle.stream_ident.proofs.SameValues.{same_sub-refl}
 
 module _ (stream : StreamId) (start : Token) (log : List Event) (handled running : List ℕ) (in_turn : IsInTurn (marks_of stream start log) handled running) where
   pub handled-in_log : AreIn log handled

@@ -1,6 +1,5 @@
 -- A subscription is in turn, and served while it is open, after each change of its record or its grain.
-use Rattle.std.proofs.Common.{◌≡◌, ℕ, suc, ◌<◌, ◌≤◌, max, Bool, true, false, List, [], ◌∷◌, ◌++◌, length, get_or, sym, ap, subst, ◌∙◌, arith}
-use Rattle.stream_ident.specs.Words.{past}
+use Rattle.stream_laws.proofs.Prelude.{◌≡◌, ℕ, suc, ◌<◌, ◌≤◌, max, Bool, true, false, List, [], ◌∷◌, ◌++◌, length, get_or, sym, ap, subst, ◌∙◌, arith, past}
 use Rattle.stream_laws.proofs.MarkLemmas.{IsClear-join, IsClear-max, IsClear-none, IsClear-within, IsCovering-push, IsCovering-repeat, IsCovering-second, IsNext-reach, marked-within, marked_below-next, past-append, past_from-le, reach-append, reach-le, reach-push, reach-repeat}
 use Rattle.stream_laws.proofs.Marks.{IsClear, IsCovering, IsInTurn, IsNext, IsServed, marked_below, reach}
 

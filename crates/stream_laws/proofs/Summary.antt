@@ -1,14 +1,5 @@
 -- All that a history says, as one value that each entry changes.
-use Rattle.std.proofs.Common.{◌≡◌, ℕ, Bool, false, List, ◌∷◌, length, take, drop, ◌≤◌, Option, refl}
-use Rattle.stream_ident.specs.declared.event.Event.{Event}
-use Rattle.stream_ident.specs.declared.ident.SubName.{SubName}
-use Rattle.stream_ident.specs.declared.token.Token.{Token}
-use Rattle.stream_ident.specs.declared.limits.TheConstants.{TURN_EVENTS}
-use Rattle.stream_model.specs.declared.op.Op.{Op}
-use Rattle.stream_model.specs.declared.op.Op.TheVariants.{Commit}
-use Rattle.stream_model.specs.Replies.{Reply}
-use Rattle.stream_model.specs.declared.reply.Reply.TheVariants.{Turn, Committed}
-use Rattle.stream_model.specs.NewestFirst.{Binding, Entry, batch_count, batches_after, begun_after, binding_after, binding_of, closed_after, committed_after, handled_after, handled_events, is_closed, last_note, low_after, low_told, note_after, owed_of, published_after, published_events, times_begun, times_committed, turn_after, turn_events}
+use Rattle.stream_laws.proofs.Prelude.{◌≡◌, ℕ, Bool, false, List, ◌∷◌, length, take, drop, ◌≤◌, Option, refl, Event, SubName, TURN_EVENTS, Token, Binding, Entry, batch_count, batches_after, begun_after, binding_after, binding_of, closed_after, committed_after, handled_after, handled_events, is_closed, last_note, low_after, low_told, note_after, owed_of, published_after, published_events, times_begun, times_committed, turn_after, turn_events, Reply, Op, Commit, Turn, Committed}
 
 pub record Summary : Type 0 where
   pub events : List Event

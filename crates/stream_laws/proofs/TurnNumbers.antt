@@ -1,22 +1,8 @@
 -- The number of the last turn: it rises by one with each turn that is handed out, and with nothing else.
-use Rattle.std.proofs.Common.{◌≡◌, refl, ℕ, ◌+◌, ◌-◌, ◌*◌, min, ◌==◌, ◌&&◌, not, nat_lt, nat_le, List, [], ◌∷◌, length, Option, Some, None, is_some, arith}
-use Rattle.std.proofs.lemmas.Bool.{cond_both}
-use Rattle.stream_ident.specs.declared.ident.GrainId.{GrainId}
-use Rattle.stream_ident.specs.declared.ident.SubName.{SubName}
-use Rattle.stream_ident.specs.declared.token.Token.{Token}
-use Rattle.stream_model.specs.declared.plain.Delivery.{Delivery}
-use Rattle.stream_model.specs.declared.plain.Grain.{Grain}
-use Rattle.stream_model.specs.declared.plain.PlainPartition.{PlainPartition}
-use Rattle.stream_model.specs.declared.plain.RunningTurn.{RunningTurn}
-use Rattle.stream_model.specs.declared.plain.Subscription.{Subscription}
-use Rattle.stream_model.specs.Replies.{Reply}
+use Rattle.stream_laws.proofs.Prelude.{◌≡◌, refl, ℕ, ◌+◌, ◌-◌, ◌*◌, min, ◌==◌, ◌&&◌, not, nat_lt, nat_le, List, [], ◌∷◌, length, Option, Some, None, is_some, arith, cond_both, pull_size, turn_size, past, GrainId, SubName, BLOCK_EVENTS, MAILBOX_PLACES, Token, between, grain_at, is_spent, next_position, sub_at, drops, handled_at, is_stale, room, subs_with, Reply, Delivery, Grain, PlainPartition, RunningTurn, Subscription}
 use Rattle.stream_model.specs.declared.reply.Reply.TheVariants as reply
-use Rattle.stream_model.specs.Positions.{between, grain_at, is_spent, next_position, sub_at}
-use Rattle.stream_model.specs.Pulling.{ack, ack_of, ack_position, deliver, deliver_position, deliver_to, drops, handled_at, is_stale, pull, pull_count, pull_events, pull_want, room, subs_with}
-use Rattle.stream_ident.specs.Blocks.{pull_size, turn_size}
+use Rattle.stream_model.specs.Pulling.{ack, ack_of, ack_position, deliver, deliver_position, deliver_to, pull, pull_count, pull_events, pull_want}
 use Rattle.stream_model.specs.Turns.{begin, begin_for, begin_front, begin_in, begin_turn, commit, commit_for, commit_running}
-use Rattle.stream_ident.specs.Words.{past}
-use Rattle.stream_ident.specs.declared.limits.TheConstants.{BLOCK_EVENTS, MAILBOX_PLACES}
 
 -- how many turns a reply hands out
 abbrev pub handed_out : Reply → ℕ

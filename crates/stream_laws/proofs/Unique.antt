@@ -1,9 +1,5 @@
 -- In the lists of subscriptions and of grains no key stands twice.
-use Rattle.std.proofs.Common.{◌≡◌, Bool, true, false, List, [], ◌∷◌, ◌++◌, Some, None, if◌then◌else◌, refl, sym, ap, subst, ◌∙◌}
-use Rattle.std.proofs.lemmas.Bool.{cond_both, both_ways, false_from_ne_true}
-use Rattle.stream_ident.specs.Words.{value_at, with_value, changed_value, each_value}
-use Rattle.stream_model.proofs.Values.{append-at, changed_option, each_value-at, with_value-other}
-use Rattle.stream_ident.proofs.SameValues.{IsEquality}
+use Rattle.stream_laws.proofs.Prelude.{◌≡◌, Bool, true, false, List, [], ◌∷◌, ◌++◌, Some, None, if◌then◌else◌, refl, sym, ap, subst, ◌∙◌, cond_both, both_ways, false_from_ne_true, IsEquality, value_at, with_value, changed_value, each_value, append-at, changed_option, each_value-at, with_value-other}
 
 -- no key stands twice
 abbrev pub AreUnique : {K V : Type 0} → (K → K → Bool) → List (K × V) → Type 0

@@ -1,41 +1,13 @@
 -- Every step leaves the keys of subscriptions and grains unique, the number of blocks and the limits as they
 -- are, and no more in the cache than the blocks hold.
-use Rattle.std.proofs.Common.{◌≡◌, ℕ, suc, ◌+◌, ◌-◌, ◌*◌, ◌≤◌, min, ◌==◌, ◌&&◌, ◌||◌, not, nat_lt, nat_le, false, List, [], ◌∷◌, ◌++◌, length, fold, Option, Some, None, is_some, if◌then◌else◌, refl, sym, subst, arith}
-use Rattle.std.proofs.lemmas.Bool.{cond_both}
-use Rattle.std.specs.List.{list_any}
-use Rattle.stream_ident.specs.declared.ident.GrainId.{GrainId}
-use Rattle.stream_ident.specs.declared.ident.StreamId.{StreamId}
-use Rattle.stream_ident.specs.declared.ident.SubName.{SubName}
+use Rattle.stream_laws.proofs.Prelude.{◌≡◌, ℕ, suc, ◌+◌, ◌-◌, ◌*◌, ◌≤◌, min, ◌==◌, ◌&&◌, ◌||◌, not, nat_lt, nat_le, false, List, [], ◌∷◌, ◌++◌, length, fold, Option, Some, None, is_some, if◌then◌else◌, refl, sym, subst, arith, cond_both, list_any, grain_equality, sub_equality, turn_size, batch_token, added, same_grain, same_name, same_sub, token_lt, past, value_at, with_value, GrainId, StreamId, SubName, BATCH_EVENTS, BLOCK_EVENTS, MAILBOX_PLACES, Rule, Token, Entry, between, empty, grain_at, is_spent, low_token, lower_bound, new_subscription, next_position, sub_at, with_sub, without, acknowledged, all_implied, drops, purges, room, caught_up, handled_at, is_stale, rewound, rewound_where, subs_with, woken, Reply, Leads, Stands, ended, Limits, Op, Start, Latest, At, Delivery, Grain, PlainPartition, RunningTurn, Subscription}
 use Rattle.stream_ident.specs.declared.ident.SubName.TheVariants as name
-use Rattle.stream_ident.specs.declared.token.Token.{Token}
-use Rattle.stream_ident.specs.Name.{same_grain, same_name}
-use Rattle.stream_ident.specs.SubName.{same_sub}
-use Rattle.stream_ident.specs.Token.{token_lt}
-use Rattle.stream_model.specs.declared.limits.Limits.{Limits}
-use Rattle.stream_model.specs.declared.op.Op.{Op}
 use Rattle.stream_model.specs.declared.op.Op.TheVariants as op
-use Rattle.stream_model.specs.declared.op.Start.{Start}
-use Rattle.stream_model.specs.declared.op.Start.TheVariants.{Latest, At}
-use Rattle.stream_model.specs.declared.plain.Delivery.{Delivery}
-use Rattle.stream_model.specs.declared.plain.Grain.{Grain}
-use Rattle.stream_model.specs.declared.plain.PlainPartition.{PlainPartition}
-use Rattle.stream_ident.specs.declared.rule.Rule.{Rule}
-use Rattle.stream_model.specs.declared.plain.RunningTurn.{RunningTurn}
-use Rattle.stream_model.specs.declared.plain.Subscription.{Subscription}
-use Rattle.stream_model.specs.Replies.{Reply}
-use Rattle.stream_ident.specs.Event.{batch_token}
-use Rattle.stream_model.specs.NewestFirst.{Entry}
-use Rattle.stream_model.specs.Positions.{between, empty, grain_at, is_spent, low_token, lower_bound, new_subscription, next_position, sub_at, with_sub}
-use Rattle.stream_model.specs.Publishing.{add_rule, publish, subscribe, subscribe_at, unsubscribe, unsubscribe_from, without}
-use Rattle.stream_model.specs.Step.{Leads, Stands, step}
-use Rattle.stream_model.specs.Turns.{begin, begin_for, begin_front, begin_in, begin_turn, commit, commit_for, commit_running, deactivate, deactivate_in, ended}
-use Rattle.stream_ident.specs.Blocks.{turn_size}
-use Rattle.stream_ident.specs.Words.{past, value_at, with_value}
-use Rattle.stream_ident.specs.Implying.{added}
-use Rattle.stream_ident.specs.declared.limits.TheConstants.{BATCH_EVENTS, BLOCK_EVENTS, MAILBOX_PLACES}
-use Rattle.stream_model.specs.Pulling.{ack, ack_of, ack_position, acknowledged, all_implied, drops, purges, room, caught_up, deliver, deliver_position, deliver_to, handled_at, is_stale, move, move_to, pull, pull_count, pull_events, pull_want, purge, purge_to, retry, retry_of, rewound, rewound_where, subs_with, woken}
+use Rattle.stream_model.specs.Publishing.{add_rule, publish, subscribe, subscribe_at, unsubscribe, unsubscribe_from}
+use Rattle.stream_model.specs.Step.{step}
+use Rattle.stream_model.specs.Turns.{begin, begin_for, begin_front, begin_in, begin_turn, commit, commit_for, commit_running, deactivate, deactivate_in}
+use Rattle.stream_model.specs.Pulling.{ack, ack_of, ack_position, deliver, deliver_position, deliver_to, move, move_to, pull, pull_count, pull_events, pull_want, purge, purge_to, retry, retry_of}
 use Rattle.stream_laws.proofs.Unique.{AreUnique, unique-changed_value, unique-each_value, unique-push, unique-with_value}
-use Rattle.stream_ident.proofs.SameValues.{grain_equality, sub_equality}
 
 pub record IsSteady (n : ℕ × Limits) (p : PlainPartition) : Type 0 where
   pub subs : AreUnique same_sub p.subs

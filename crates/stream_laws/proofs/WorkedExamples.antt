@@ -1,28 +1,12 @@
 -- Worked examples: what a new partition replies to a few operations, by computation.
-use Rattle.std.proofs.Common.{◌≡◌, ℕ, ◌-◌, Bool, true, false, List, [], ◌∷◌, ◌++◌, length, map, Option, Some, None, option_map, refl}
-use Rattle.std.specs.List.{range_with_len}
+use Rattle.stream_laws.proofs.Prelude.{◌≡◌, ℕ, ◌-◌, Bool, true, false, List, [], ◌∷◌, ◌++◌, length, map, Option, Some, None, option_map, refl, range_with_len, Event, GrainId, StreamId, SubName, Explicit, Implicit, Token, Entry, handled_events, is_closed, last_note, owed_events, published_events, empty, sub_at, Reply, after_steps, replies_of, Limits, Op, Publish, Subscribe, Unsubscribe, AddRule, Pull, Deliver, Retry, Begin, Commit, Deactivate, Move, Latest, At, PlainPartition, Subscription}
 use Rattle.std.specs.Prelude.{codes, reverse}
-use Rattle.stream_ident.specs.declared.event.Event.{Event}
-use Rattle.stream_ident.specs.declared.ident.GrainId.{GrainId}
-use Rattle.stream_ident.specs.declared.ident.StreamId.{StreamId}
-use Rattle.stream_ident.specs.declared.ident.SubName.{SubName}
-use Rattle.stream_ident.specs.declared.ident.SubName.TheVariants.{Explicit, Implicit}
-use Rattle.stream_ident.specs.declared.token.Token.{Token}
 use Rattle.stream_model.specs.declared.drain_end.DrainEnd.TheVariants.{Drained}
-use Rattle.stream_model.specs.declared.limits.Limits.{Limits}
-use Rattle.stream_model.specs.declared.op.Op.{Op}
-use Rattle.stream_model.specs.declared.op.Op.TheVariants.{Publish, Subscribe, Unsubscribe, AddRule, Pull, Deliver, Retry, Begin, Commit, Deactivate, Move}
-use Rattle.stream_model.specs.declared.op.Start.TheVariants.{Latest, At}
-use Rattle.stream_model.specs.declared.plain.PlainPartition.{PlainPartition}
-use Rattle.stream_model.specs.declared.plain.Subscription.{Subscription}
-use Rattle.stream_model.specs.Replies.{Reply}
 use Rattle.stream_model.specs.declared.reply.Reply.TheVariants as reply
 use Rattle.stream_model.specs.Draining.{drain, drain_all, after_pull, serve_each, serve, deliver_all, after_deliver, acknowledge, deliver_once_more, take_turn, take_turns}
-use Rattle.stream_model.specs.NewestFirst.{Entry, handled_events, is_closed, last_note, owed_events, published_events}
-use Rattle.stream_model.specs.Positions.{empty, sub_at}
 use Rattle.stream_model.specs.Publishing.{publish, subscribe, subscribe_at, unsubscribe, unsubscribe_from, add_rule}
 use Rattle.stream_model.specs.Pulling.{pull, pull_want, pull_count, pull_events, deliver, deliver_to, deliver_position, retry, retry_of, ack, ack_of, ack_position, move, move_to}
-use Rattle.stream_model.specs.Step.{step, after_steps, replies_of}
+use Rattle.stream_model.specs.Step.{step}
 use Rattle.stream_model.specs.Turns.{begin, begin_in, begin_front, begin_for, begin_turn, commit, commit_running, commit_for, deactivate, deactivate_in}
 use Rattle.stream_laws.specs.Laws.{entries_of, is_given}
 use Prim.Native.String.{String}

@@ -1,11 +1,10 @@
 -- What an operation owes, by that which it calls.
-use Rattle.std.proofs.Common.{◌≡◌, ap, sym, subst, true, Result, Ok, Err, OnErr}
+use Rattle.stream_model.proofs.Prelude.{◌≡◌, ap, sym, subst, true, Result, Ok, Err, OnErr, Performs}
 use Rattle.std.specs.declared.alloc.AllocError.{AllocError}
 use Rattle.stream_model.specs.declared.plain.PlainPartition.{PlainPartition}
 use Rattle.stream_model.specs.Replies.{Reply}
 use Rattle.stream_model.specs.Bounds.{IsWithinLimits}
 use Rattle.stream_model.specs.Step.{takes_memory}
-use Rattle.stream_ident.specs.Words.{Performs}
 
 -- what holds is so of an error
 pub on-error : {T E P : Type 0} (r : Result T E) → P → OnErr r P

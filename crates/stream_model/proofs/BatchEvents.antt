@@ -1,9 +1,5 @@
 -- The events of a batch, added one after another.
-use Rattle.std.proofs.Common.{◌≡◌, ◌∙◌, ap, sym, ℕ, suc, ◌+◌, ◌<◌, List, [], ◌∷◌, ◌++◌, length, take, get_or, arith}
-use Rattle.std.proofs.lemmas.List.{append_assoc, length-take-le, take_more}
-use Rattle.stream_ident.specs.declared.event.Event.{Event}
-use Rattle.stream_ident.specs.declared.ident.StreamId.{StreamId}
-use Rattle.stream_ident.specs.Event.{events_of}
+use Rattle.stream_model.proofs.Prelude.{◌≡◌, refl, ◌∙◌, ap, ℕ, suc, ◌+◌, ◌<◌, List, [], ◌∷◌, ◌++◌, length, take, get_or, arith, append_assoc, length-take-le, take_more, events_of, Event, StreamId}
 
 -- the event of a payload at a place in its batch
 abbrev pub event_at : StreamId → ℕ → ℕ → List ℕ → Event
@@ -21,9 +17,5 @@ events_of-push stream seq idx (first ∷ payloads) payload =
 pub event-more : (log : List Event) (stream : StreamId) (seq : ℕ) (payloads : List (List ℕ)) (i : ℕ) (payload : List ℕ) → i < length payloads → payload ≡ get_or payloads i payload → (log ++ events_of stream seq 0 (take i payloads)) ++ event_at stream seq i payload ∷ [] ≡ log ++ events_of stream seq 0 (take (i + 1) payloads)
 event-more log stream seq payloads i payload within is =
     let short : length (take i payloads) ≡ i = length-take-le i payloads (omega arith) in
-    let place : 0 + length (take i payloads) ≡ i = omega arith in
-    let more : take (i + 1) payloads ≡ take i payloads ++ payload ∷ [] =
-    take_more payloads i payload within ∙ ap (λ last. take i payloads ++ last ∷ []) (sym is)
-    in
-    append_assoc log (events_of stream seq 0 (take i payloads)) (event_at stream seq i payload ∷ [])
-    ∙ ap (λ events. log ++ events) (sym (ap (events_of stream seq 0) more ∙ events_of-push stream seq 0 (take i payloads) payload ∙ ap (λ n. events_of stream seq 0 (take i payloads) ++ event_at stream seq n payload ∷ []) place))
+    let place : 0 + i ≡ i = omega arith in
+    rw (take_more payloads i payload within, ← is, events_of-push stream seq 0 (take i payloads) payload, short, place, append_assoc) refl

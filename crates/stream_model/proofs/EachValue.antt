@@ -1,8 +1,6 @@
 -- Each value of a list of keys with their values changed, from the first to the last.
-use Rattle.std.proofs.Common.{◌≡◌, ℕ, zero, suc, ◌+◌, List, [], ◌∷◌, length, refl, ap, ◌∙◌, arith}
-use Rattle.std.specs.List.{AllByRecursion}
+use Rattle.stream_model.proofs.Prelude.{◌≡◌, ℕ, zero, suc, ◌+◌, List, [], ◌∷◌, length, refl, ap, ◌∙◌, add-one, AllByRecursion, each_value}
 use Rattle.stream_model.specs.Places.{change_at}
-use Rattle.stream_ident.specs.Words.{each_value}
 
 -- so many values changed
 abbrev pub changed_front : {K V : Type 0} → (V → V) → ℕ → List (K × V) → List (K × V)
@@ -24,8 +22,7 @@ changed_front-suc {K} {V} change (suc n) (entry ∷ entries) = ap {B = List (K �
 -- one value more
 pub changed_front-more : {K V : Type 0} (change : V → V) (n : ℕ) (entries now : List (K × V)) → now ≡ changed_front change n entries → change_at change n now ≡ changed_front change (n + 1) entries
 changed_front-more change n entries now was =
-    let next : suc n ≡ n + 1 = omega arith in
-    ap (change_at change n) was ∙ (changed_front-suc change n entries ∙ ap (λ n. changed_front change n entries) next)
+    rw (was, add-one n) (changed_front-suc change n entries)
 
 -- all of them
 changed_front-length : {K V : Type 0} (change : V → V) (entries : List (K × V)) → changed_front change (length entries) entries ≡ each_value change entries
@@ -36,6 +33,6 @@ pub changed_front-all : {K V : Type 0} (change : V → V) (n : ℕ) (entries : L
 changed_front-all change n entries is_n = ap (λ n. changed_front change n entries) is_n ∙ changed_front-length change entries
 
 -- what holds of each entry
-pub All-each_value : {K V : Type 0} (P Q : K × V → Type 0) (change : V → V) → ((entry : K × V) → P entry → Q (entry.0, change entry.1)) → (entries : List (K × V)) → AllByRecursion P entries → AllByRecursion Q (each_value change entries)
-All-each_value P Q change each [] all = tt
-All-each_value P Q change each (entry ∷ entries) all = (each entry all.0, All-each_value P Q change each entries all.1)
+pub All-each_value : {K V : Type 0} (P : K × V → Type 0) (change : V → V) → ((entry : K × V) → P entry → P (entry.0, change entry.1)) → (entries : List (K × V)) → AllByRecursion P entries → AllByRecursion P (each_value change entries)
+All-each_value P change each [] all = tt
+All-each_value P change each (entry ∷ entries) all = (each entry all.0, All-each_value P change each entries all.1)

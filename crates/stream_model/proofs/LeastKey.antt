@@ -1,8 +1,5 @@
 -- The least key of a list whose value passes, found from the last to the first.
-use Rattle.std.proofs.Common.{◌≡◌, ◌∙◌, ap, sym, refl, ℕ, ◌+◌, ◌-◌, ◌<◌, ◌≤◌, ◌&&◌, Bool, true, false, List, [], ◌∷◌, Option, Some, None, length, map, filter, drop, get_or, arith}
-use Rattle.std.specs.Prelude.{if◌then◌else◌}
-use Rattle.std.proofs.lemmas.List.{drop_all, drop_more}
-use Rattle.stream_ident.specs.Words.{above, keys_where, least, lesser, is_above}
+use Rattle.stream_model.proofs.Prelude.{◌≡◌, ◌∙◌, ap, sym, refl, ℕ, ◌+◌, ◌-◌, ◌<◌, ◌≤◌, ◌&&◌, Bool, true, false, List, ◌∷◌, Option, Some, None, length, drop, get_or, inl, inr, arith, and_parts, cases_Bool, drop_all, drop_more, above, keys_where, lesser, is_above}
 use Rattle.stream_model.specs.Least.{least_key}
 
 -- a key that is above the given one, and one that isn't
@@ -14,25 +11,18 @@ above-not : {K : Type 0} (lt : K → K → Bool) (after : Option K) (key : K) (k
 above-not lt None key keys is_not = absurd (cc)
 above-not lt (Some a) key keys is_not = rw is_not refl
 
--- the keys that pass, by whether the first does
-abbrev keys_by : {K V : Type 0} → (V → Bool) → K × V → List (K × V) → Bool → List K
-keys_by passes entry rest b =
-    map (λ entry. entry.0) (if b then entry ∷ filter (λ entry. passes entry.1) rest else filter (λ entry. passes entry.1) rest)
-
 -- a key that passes, and one that doesn't
 there : {K V : Type 0} (lt : K → K → Bool) (after : Option K) (passes : V → Bool) (entry : K × V) (rest : List (K × V)) → (passes entry.1 && is_above lt after entry.0) ≡ true → least_key lt after passes (entry ∷ rest) ≡ Some (lesser lt entry.0 (least_key lt after passes rest))
 there lt after passes entry rest is_there =
-    (elim (passes entry.1) as (λ b. (b && is_above lt after entry.0) ≡ true → least lt (above lt after (keys_by passes entry rest b)) ≡ Some (lesser lt entry.0 (least_key lt after passes rest))) [
-      | true ↦ λ is_there. ap (least lt) (above-there lt after entry.0 (keys_where passes rest) is_there)
-      | false ↦ λ is_there. absurd (cc)
-    ]) is_there
+    let parts = and_parts (passes entry.1) (is_above lt after entry.0) is_there in
+    rw (parts.0, above-there lt after entry.0 (keys_where passes rest) parts.1) refl
 
 not-there : {K V : Type 0} (lt : K → K → Bool) (after : Option K) (passes : V → Bool) (entry : K × V) (rest : List (K × V)) → (passes entry.1 && is_above lt after entry.0) ≡ false → least_key lt after passes (entry ∷ rest) ≡ least_key lt after passes rest
 not-there lt after passes entry rest is_not =
-    (elim (passes entry.1) as (λ b. (b && is_above lt after entry.0) ≡ false → least lt (above lt after (keys_by passes entry rest b)) ≡ least_key lt after passes rest) [
-      | true ↦ λ is_not. ap (least lt) (above-not lt after entry.0 (keys_where passes rest) is_not)
-      | false ↦ λ is_not. refl
-    ]) is_not
+    elim (cases_Bool (passes entry.1)) [
+      | inl is ↦ rw (is, above-not lt after entry.0 (keys_where passes rest) (rw is at is_not)) refl
+      | inr fails ↦ rw fails refl
+    ]
 
 -- where none is given each key is above
 pub of-all : (passes is : Bool) → passes ≡ is → (passes && true) ≡ is
@@ -46,12 +36,9 @@ split entries i entry some within is =
     drop_more entries (i - 1) entry within ∙ ap (λ first. first ∷ drop (i - 1 + 1) entries) (sym is) ∙ ap (λ n. entry ∷ drop n entries) next
 
 -- past the end there is none
-least_key-nil : {K V : Type 0} (lt : K → K → Bool) (after : Option K) (passes : V → Bool) (entries : List (K × V)) → entries ≡ [] → None ≡ least_key lt after passes entries
-least_key-nil lt None passes entries none = sym (ap (least_key lt None passes) none)
-least_key-nil lt (Some a) passes entries none = sym (ap (least_key lt (Some a) passes) none)
-
 pub least_key-end : {K V : Type 0} (lt : K → K → Bool) (after : Option K) (passes : V → Bool) (entries : List (K × V)) (n : ℕ) → length entries ≤ n → None ≡ least_key lt after passes (drop n entries)
-least_key-end lt after passes entries n past = least_key-nil lt after passes (drop n entries) (drop_all n entries past)
+least_key-end lt None passes entries n past = rw (drop_all n entries past) refl
+least_key-end lt (Some a) passes entries n past = rw (drop_all n entries past) refl
 
 -- one place down, at such a key
 pub least_key-there : {K V : Type 0} (lt : K → K → Bool) (after : Option K) (passes : V → Bool) (entries : List (K × V)) (i : ℕ) (entry : K × V) (found : Option K) → 0 < i → i - 1 < length entries → entry ≡ get_or entries (i - 1) entry → (passes entry.1 && is_above lt after entry.0) ≡ true → found ≡ least_key lt after passes (drop i entries) → Some (lesser lt entry.0 found) ≡ least_key lt after passes (drop (i - 1) entries)

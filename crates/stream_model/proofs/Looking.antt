@@ -1,11 +1,6 @@
 -- What the looks answer, by what the code finds.
-use Rattle.std.proofs.Common.{◌≡◌, ◌∙◌, ap, refl, Bool, ◌&&◌, not, List, Option, Some, None}
+use Rattle.stream_model.proofs.Prelude.{◌≡◌, ◌∙◌, ap, refl, Bool, ◌&&◌, not, List, Option, Some, None, grain_lt, sub_lt, keys_where, next_after, or_else, GrainId, SubName, Token}
 use Rattle.std.specs.Option.{option_or}
-use Rattle.stream_ident.specs.declared.ident.GrainId.{GrainId}
-use Rattle.stream_ident.specs.declared.ident.SubName.{SubName}
-use Rattle.stream_ident.specs.declared.token.Token.{Token}
-use Rattle.stream_ident.specs.Name.{grain_lt}
-use Rattle.stream_ident.specs.SubName.{sub_lt}
 use Rattle.stream_model.specs.declared.plain.Grain.{Grain}
 use Rattle.stream_model.specs.declared.plain.PlainPartition.{PlainPartition}
 use Rattle.stream_model.specs.declared.reply.Pending.{Pending}
@@ -13,7 +8,6 @@ use Rattle.stream_model.specs.declared.reply.Reply.TheVariants as reply
 use Rattle.stream_model.specs.Least.{least_key}
 use Rattle.stream_model.specs.Looks.{due, due_reply, is_due, is_running, is_waiting, pending_in, quiet, quiet_reply, ready, ready_reply, to_acknowledge}
 use Rattle.stream_model.specs.Positions.{sub_at}
-use Rattle.stream_ident.specs.Words.{keys_where, next_after, or_else}
 
 or-else : {A : Type 0} (first second : Option A) → option_or first second ≡ or_else first second
 or-else None second = refl
@@ -22,10 +16,7 @@ or-else (Some x) second = refl
 -- the first after the given one, else the first of all
 pub next-found : {K V : Type 0} (lt : K → K → Bool) (after : Option K) (passes : V → Bool) (entries read : List (K × V)) (found above all : Option K) → read ≡ entries → found ≡ option_or above all → above ≡ least_key lt after passes read → all ≡ least_key lt None passes read → found ≡ next_after lt after (keys_where passes entries)
 next-found lt after passes entries read found above all is_read is_found is_above is_all =
-    is_found ∙ (or-else above all
-    ∙ (ap (λ above. or_else above all) is_above
-    ∙ (ap (or_else (least_key lt after passes read)) is_all
-    ∙ ap (λ read. next_after lt after (keys_where passes read)) is_read)))
+    rw (is_found, or-else above all, is_above, is_all, is_read) refl
 
 pub ready-told : (p : PlainPartition) (after next : Option GrainId) → next ≡ next_after grain_lt after (keys_where (λ (st : Grain). is_waiting st && not (is_running st)) p.grains) → ready_reply next ≡ ready p after
 unfolding ready

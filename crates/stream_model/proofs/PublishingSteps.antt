@@ -1,22 +1,12 @@
 -- Publish and Subscribe, at each outcome of their tests.
-use Rattle.std.proofs.Common.{◌≡◌, ◌∙◌, ap, sym, refl, ℕ, suc, ◌+◌, ◌<◌, ◌≤◌, ◌==◌, nat_lt, Bool, true, false, ◌||◌, List, [], ◌∷◌, ◌++◌, length, add-one}
-use Rattle.std.proofs.lemmas.Bool.{le-ltb, le-leb, lt-leb}
-use Rattle.std.specs.List.{AllByRecursion}
-use Rattle.stream_ident.specs.declared.event.Event.{Event}
-use Rattle.stream_ident.specs.declared.ident.GrainId.{GrainId}
-use Rattle.stream_ident.specs.declared.ident.StreamId.{StreamId}
-use Rattle.stream_ident.specs.declared.ident.SubName.{SubName}
+use Rattle.stream_model.proofs.Prelude.{◌≡◌, ◌∙◌, ap, sym, refl, ℕ, suc, ◌+◌, ◌<◌, ◌≤◌, ◌==◌, nat_lt, Bool, true, false, ◌||◌, List, [], ◌∷◌, ◌++◌, length, add-one, le-ltb, le-leb, lt-leb, AllByRecursion, batch_token, events_of, token_lt, Event, GrainId, StreamId, SubName, BATCH_EVENTS, Token}
 use Rattle.stream_ident.specs.declared.ident.SubName.TheVariants as name
-use Rattle.stream_ident.specs.declared.token.Token.{Token}
-use Rattle.stream_ident.specs.Token.{token_lt}
 use Rattle.stream_model.specs.declared.op.Start.{Start}
 use Rattle.stream_model.specs.declared.op.Start.TheVariants.{Latest, At}
 use Rattle.stream_model.specs.declared.plain.Subscription.{Subscription}
 use Rattle.stream_model.specs.Bounds.{IsGiven}
 use Rattle.stream_model.specs.declared.plain.PlainPartition.{PlainPartition}
 use Rattle.stream_model.specs.declared.reply.Reply.TheVariants as reply
-use Rattle.stream_ident.specs.Event.{batch_token, events_of}
-use Rattle.stream_ident.specs.declared.limits.TheConstants.{BATCH_EVENTS}
 use Rattle.stream_model.specs.Positions.{high_token, low_token, lower_bound, new_subscription}
 use Rattle.stream_model.specs.Publishing.{publish, subscribe, subscribe_at}
 use Rattle.stream_model.proofs.SubNames.{with_value-new}
@@ -41,15 +31,11 @@ publish-done p stream payloads good fits = rw (good, fits) refl
 -- what is left where the batch fits, with the sum as the program writes it
 pub publish-made : (p : PlainPartition) (stream : StreamId) (payloads : List (List ℕ)) (log : List Event) → is_bad payloads ≡ false → length p.log + length payloads ≤ p.limits.events → log ≡ p.log ++ events_of stream p.batches 0 payloads → (record p { log = log; batches = p.batches + 1 }, reply.Published p.batches) ≡ publish p stream payloads
 publish-made p stream payloads log good fits is =
-    let next : p.batches + 1 ≡ suc p.batches = add-one p.batches in
-    ap (λ log. (record p { log = log; batches = p.batches + 1 }, reply.Published p.batches)) is
-    ∙ ap (λ n. (record p { log = p.log ++ events_of stream p.batches 0 payloads; batches = n }, reply.Published p.batches)) next
-    ∙ sym (publish-done p stream payloads good (le-ltb _ _ fits))
+    rw (is, add-one p.batches) (sym (publish-done p stream payloads good (le-ltb _ _ fits)))
 
 -- a batch that fits wants memory
 pub publish-takes_memory : (p : PlainPartition) (stream : StreamId) (payloads : List (List ℕ)) → is_bad payloads ≡ false → length p.log + length payloads ≤ p.limits.events → takes_memory (publish p stream payloads).1 ≡ true
-publish-takes_memory p stream payloads good fits =
-    ap (λ done. takes_memory done.1) (publish-done p stream payloads good (le-ltb _ _ fits))
+publish-takes_memory p stream payloads good fits = rw (publish-done p stream payloads good (le-ltb _ _ fits)) refl
 
 pub subscribe-latest : (p : PlainPartition) (stream : StreamId) (grain : GrainId) (start : Start) (token : Token) → start ≡ Latest → token ≡ batch_token p.batches → subscribe_at p stream grain token p.high ≡ subscribe p stream grain start
 unfolding subscribe
@@ -67,22 +53,15 @@ subscribe-miss p stream grain start token is missed = ap (subscribe p stream gra
 
 pub subscribe-full : (p : PlainPartition) (stream : StreamId) (grain : GrainId) (start : Token) (position : ℕ) → p.limits.subs ≤ length p.subs → subscribe_at p stream grain start position ≡ (p, reply.TooMany)
 unfolding subscribe_at
-subscribe-full p stream grain start position full =
-    let test = le-leb p.limits.subs (length p.subs) full in rw test refl
+subscribe-full p stream grain start position full = rw (le-leb p.limits.subs (length p.subs) full) refl
 
 -- the program counts and adds at the end
 pub subscribe-made : (p : PlainPartition) (stream : StreamId) (grain : GrainId) (start : Token) (position : ℕ) (subs : List (SubName × Subscription)) → length p.subs < p.limits.subs → AllByRecursion (λ entry. IsGiven p.explicit entry.0) p.subs → subs ≡ p.subs ++ (name.Explicit (p.explicit + 1), new_subscription stream grain start position) ∷ [] → (record p { subs = subs; explicit = p.explicit + 1 }, reply.Subscribed (p.explicit + 1)) ≡ subscribe_at p stream grain start position
 unfolding subscribe_at
 subscribe-made p stream grain start position subs fits given is =
-    let test = lt-leb p.limits.subs (length p.subs) fits in
-    let next : p.explicit + 1 ≡ suc p.explicit = add-one p.explicit in
     let sub = new_subscription stream grain start position in
-    rw test
-    (ap (λ subs. (record p { subs = subs; explicit = p.explicit + 1 }, reply.Subscribed (p.explicit + 1))) is
-    ∙ ap (λ n. (record p { subs = p.subs ++ (name.Explicit n, sub) ∷ []; explicit = n }, reply.Subscribed n)) next
-    ∙ ap (λ subs. (record p { subs = subs; explicit = suc p.explicit }, reply.Subscribed (suc p.explicit))) (sym (with_value-new p.explicit sub p.subs given)))
+    rw (lt-leb p.limits.subs (length p.subs) fits, is, add-one p.explicit, with_value-new p.explicit sub p.subs given) refl
 
 pub subscribe-takes_memory : (p : PlainPartition) (stream : StreamId) (grain : GrainId) (start : Token) (position : ℕ) → length p.subs < p.limits.subs → takes_memory (subscribe_at p stream grain start position).1 ≡ true
 unfolding subscribe_at
-subscribe-takes_memory p stream grain start position fits =
-    let test = lt-leb p.limits.subs (length p.subs) fits in rw test refl
+subscribe-takes_memory p stream grain start position fits = rw (lt-leb p.limits.subs (length p.subs) fits) refl

@@ -1,32 +1,18 @@
--- Pull keeps the limits.
-use Rattle.std.proofs.Common.{◌≡◌, ℕ, ◌+◌, ◌-◌, ◌*◌, ◌≤◌, ◌==◌, ◌&&◌, min, not, nat_lt, false, List, [], ◌∷◌, length, fold, is_some, arith}
-use Rattle.std.proofs.lemmas.Bool.{cond_both, ltb-false}
-use Rattle.std.specs.List.{AllByRecursion, flat_map}
-use Rattle.stream_ident.specs.declared.event.Event.{Event}
-use Rattle.stream_ident.specs.declared.ident.GrainId.{GrainId}
-use Rattle.stream_ident.specs.declared.ident.StreamId.{StreamId}
-use Rattle.stream_ident.specs.declared.ident.SubName.{SubName}
-use Rattle.stream_ident.specs.declared.ident.SubName.TheVariants as name
-use Rattle.stream_ident.specs.declared.token.Token.{Token}
-use Rattle.stream_ident.specs.Name.{same_name}
-use Rattle.stream_ident.specs.SubName.{same_sub}
-use Rattle.stream_ident.specs.Token.{token_lt}
+-- Pull, Deliver, Retry, Ack, Purge and Move keep the limits.
+use Rattle.stream_model.proofs.Prelude.{◌≡◌, ℕ, ◌+◌, ◌-◌, ◌*◌, ◌≤◌, ◌==◌, ◌&&◌, min, not, nat_lt, false, List, [], ◌∷◌, length, fold, is_some, arith, suc, ◌<◌, Bool, true, nat_le, Option, Some, None, if◌then◌else◌, refl, cond_both, ltb-false, leb-false, AllByRecursion, flat_map, All-append, All-flat_map, All-push, pull_size, batch_token, is_owed, same_name, same_sub, token_lt, value_at, least_with, Event, GrainId, StreamId, SubName, BLOCK_EVENTS, MAILBOX_PLACES, Rule, Token}
 use Rattle.stream_ident.specs.Implying.{added}
-use Rattle.stream_ident.proofs.NewNames.{length-fold}
+use Rattle.stream_ident.specs.declared.ident.SubName.TheVariants as name
 use Rattle.stream_model.specs.declared.plain.PlainPartition.{PlainPartition}
-use Rattle.stream_ident.specs.declared.rule.Rule.{Rule}
 use Rattle.stream_model.specs.declared.plain.Subscription.{Subscription}
 use Rattle.stream_model.specs.Bounds.{AreIn, IsGiven, IsWithinLimits}
-use Rattle.stream_ident.specs.Event.{batch_token}
-use Rattle.stream_model.specs.Positions.{between, new_subscription}
-use Rattle.stream_model.specs.Pulling.{all_implied, drops, implied, is_stale, pull, pull_count, pull_events, pull_want, room}
-use Rattle.stream_ident.specs.Blocks.{pull_size}
-use Rattle.stream_ident.specs.Words.{value_at}
-use Rattle.stream_ident.specs.declared.limits.TheConstants.{BLOCK_EVENTS}
+use Rattle.stream_model.specs.Positions.{between, new_subscription, grain_at, is_spent, next_position, sub_at, with_sub, open_resumes}
+use Rattle.stream_model.specs.Pulling.{all_implied, drops, implied, is_stale, pull, pull_count, pull_events, pull_want, room, caught_up, deliver, deliver_position, deliver_to, delivered, ack, ack_of, ack_position, acknowledged, handled_at, retry, retry_of, rewound, purge, purge_to, purges, move, move_to, woken}
+use Rattle.stream_model.specs.declared.plain.Delivery.{Delivery}
+use Rattle.stream_model.specs.declared.plain.Grain.{Grain}
+use Rattle.stream_ident.proofs.NewNames.{length-fold}
 use Rattle.stream_model.proofs.PullingSteps.{subs_up_to}
 use Rattle.stream_model.proofs.SubNames.{AreGiven}
-use Rattle.stream_ident.proofs.EachOf.{All-append, All-flat_map}
-use Rattle.stream_model.proofs.RecordBounds.{KeepsLimits}
+use Rattle.stream_model.proofs.RecordBounds.{KeepsLimits, GrainFits, found-in-log, grain-fits, grain-set, handled-in, sub-set, rewound-set}
 
 -- what holds of each subscription that a rule makes
 abbrev HoldsOfNew : (SubName × Subscription → Type 0) → Type 0
@@ -53,25 +39,9 @@ All-fold Q subs (entry ∷ entries) all more = All-fold Q (added subs entry) ent
 
 bounds-pulled : (p : PlainPartition) (low high : ℕ) (subs : List (SubName × Subscription)) → IsWithinLimits p → length p.subs ≤ length subs → AreGiven p.explicit subs → AllByRecursion (λ entry. AreIn p.log entry.1.handled) subs → nat_lt p.limits.subs (length subs) ≡ false → IsWithinLimits (record p { low = low; high = high; subs = subs })
 bounds-pulled p low high subs within longer given handled fits =
-    let room = ltb-false p.limits.subs (length subs) fits in
-    let count = within.explicit in
-    record {
-      limits = within.limits;
-      events = within.events;
-      batches = within.batches;
-      subs = omega arith;
-      explicit = omega arith;
-      names = given;
-      handled = handled;
-      blocks = within.blocks;
-      rules = within.rules;
-      rises = within.rises;
-      turns = within.turns;
-      generation = within.generation;
-      activations = within.activations;
-      waiting = within.waiting;
-      running = within.running;
-    }
+    let fewer : length subs ≤ p.limits.subs = ltb-false p.limits.subs (length subs) fits in
+    let numbered : p.explicit ≤ length subs = omega (arith, within.explicit) in
+    assumption
 
 bounds-pull_events : (p : PlainPartition) (low high : ℕ) (subs : List (SubName × Subscription)) → IsWithinLimits p → length p.subs ≤ length subs → AreGiven p.explicit subs → AllByRecursion (λ entry. AreIn p.log entry.1.handled) subs → IsWithinLimits (pull_events p low high subs).0
 unfolding pull_events
@@ -95,3 +65,89 @@ bounds-pull p generation max_events within =
     cond_both (is_stale p generation) _ _ KeepsLimits (λ _. within)
     (λ _. cond_both (p.high == length p.log) _ _ KeepsLimits (λ _. within)
     (λ _. bounds-pull_count p (drops p (min (pull_size max_events) (length p.log - p.high))) (min (min (pull_size max_events) (length p.log - p.high)) (room p + BLOCK_EVENTS * drops p (min (pull_size max_events) (length p.log - p.high)))) within))
+
+-- an activation costs a rise
+rise-fits : (active : Bool) (activation rises limit : ℕ) → activation ≤ rises → rises ≤ limit → (not active && nat_le limit rises) ≡ false
+    → ((if active then activation else suc activation) ≤ (if active then rises else suc rises)) × (rises ≤ (if active then rises else suc rises)) × ((if active then rises else suc rises) ≤ limit)
+rise-fits true activation rises limit fits bound left = (fits, omega arith, bound)
+rise-fits false activation rises limit fits bound left = let room = leb-false limit rises left in (omega arith, omega arith, omega arith)
+
+bounds-delivered : (p : PlainPartition) (s : SubName) (r : Subscription) (st : Grain) (position : ℕ) → IsWithinLimits p → sub_at p s ≡ Some r → GrainFits p.log p.rises st → position < length p.log
+    → (not st.active && is_spent p) ≡ false → IsWithinLimits (delivered p s r st position)
+bounds-delivered p s r st position within there fits here left =
+    let rise = rise-fits st.active st.activation p.rises p.limits.rises fits.0 within.rises left in
+    let after = sub-set p s r (record r { cursor = suc position }) within there (handled-in p s r within there) in
+    grain-set (with_sub p s (record r { cursor = suc position })) r.grain (woken st s position) (if st.active then p.rises else suc p.rises) p.turns after
+    rise.1 rise.2 (omega (arith, within.turns, rise.1))
+    (rise.0, All-push (λ (d : Delivery). d.position < length p.log) st.mailbox (record { sub = s; position = position }) fits.1 here, fits.2)
+
+bounds-deliver_position : (p : PlainPartition) (s : SubName) (r : Subscription) (st : Grain) (next : Option ℕ) → IsWithinLimits p → sub_at p s ≡ Some r → GrainFits p.log p.rises st → next_position p r ≡ next → IsWithinLimits (deliver_position p s r st next).0
+unfolding deliver_position
+bounds-deliver_position p s r st None within there fits is_next = sub-set p s r (caught_up p s r) within there (handled-in p s r within there)
+bounds-deliver_position p s r st (Some position) within there fits is_next =
+    cond_both (nat_le MAILBOX_PLACES (length st.mailbox)) _ _ KeepsLimits (λ _. within)
+    (λ _. cond_both (not st.active && is_spent p) _ _ KeepsLimits (λ _. within)
+    (λ left. bounds-delivered p s r st position within there fits (found-in-log (λ event. is_owed r.stream r.start event) p.log r.cursor p.high position is_next) left))
+
+bounds-deliver_to : (p : PlainPartition) (s : SubName) (found : Option Subscription) → IsWithinLimits p → sub_at p s ≡ found → IsWithinLimits (deliver_to p s found).0
+unfolding deliver_to
+bounds-deliver_to p s None within is_found = within
+bounds-deliver_to p s (Some r) within is_found =
+    cond_both (not r.is_open) _ _ KeepsLimits (λ _. within)
+    (λ _. bounds-deliver_position p s r (grain_at p r.grain) (next_position p r) within is_found (grain-fits p r.grain within) refl)
+
+pub bounds-deliver : (p : PlainPartition) (generation : ℕ) (s : SubName) → IsWithinLimits p → IsWithinLimits (deliver p generation s).0
+unfolding deliver
+bounds-deliver p generation s within =
+    cond_both (is_stale p generation) _ _ KeepsLimits (λ _. within) (λ _. bounds-deliver_to p s (sub_at p s) within refl)
+
+bounds-retry_of : (p : PlainPartition) (s : SubName) (found : Option Subscription) → IsWithinLimits p → sub_at p s ≡ found → IsWithinLimits (retry_of p s found).0
+unfolding retry_of
+bounds-retry_of p s None within is_found = within
+bounds-retry_of p s (Some r) within is_found =
+    cond_both (not r.is_open) _ _ KeepsLimits (λ _. within)
+    (λ _. sub-set p s r (rewound r) within is_found (handled-in p s r within is_found))
+
+pub bounds-retry : (p : PlainPartition) (generation : ℕ) (s : SubName) → IsWithinLimits p → IsWithinLimits (retry p generation s).0
+unfolding retry
+bounds-retry p generation s within =
+    cond_both (is_stale p generation) _ _ KeepsLimits (λ _. within) (λ _. bounds-retry_of p s (sub_at p s) within refl)
+
+bounds-ack_position : (p : PlainPartition) (s : SubName) (r : Subscription) (positions : List ℕ) → IsWithinLimits p → sub_at p s ≡ Some r → IsWithinLimits (ack_position p s r positions).0
+unfolding ack_position
+bounds-ack_position p s r [] within is_r = within
+bounds-ack_position p s r (position ∷ positions) within is_r = sub-set p s r (acknowledged r position) within is_r (handled-in p s r within is_r)
+
+bounds-ack_of : (p : PlainPartition) (s : SubName) (token : Token) (found : Option Subscription) → IsWithinLimits p → sub_at p s ≡ found → IsWithinLimits (ack_of p s token found).0
+unfolding ack_of
+bounds-ack_of p s token None within is_found = within
+bounds-ack_of p s token (Some r) within is_found =
+    cond_both (not r.is_open) _ _ KeepsLimits (λ _. within)
+    (λ _. bounds-ack_position p s r (handled_at p r token) within is_found)
+
+pub bounds-ack : (p : PlainPartition) (generation : ℕ) (s : SubName) (token : Token) → IsWithinLimits p → IsWithinLimits (ack p generation s token).0
+unfolding ack
+bounds-ack p generation s token within =
+    cond_both (is_stale p generation) _ _ KeepsLimits (λ _. within) (λ _. bounds-ack_of p s token (sub_at p s) within refl)
+
+bounds-purge_to : (p : PlainPartition) (low : ℕ) → IsWithinLimits p → IsWithinLimits (purge_to p low).0
+unfolding purge_to
+bounds-purge_to p low within = assumption
+
+pub bounds-purge : (p : PlainPartition) (generation keep : ℕ) → IsWithinLimits p → IsWithinLimits (purge p generation keep).0
+unfolding purge
+bounds-purge p generation keep within =
+    cond_both (is_stale p generation) _ _ KeepsLimits (λ _. within) (λ _. bounds-purge_to p (p.low + BLOCK_EVENTS * purges p keep) within)
+
+bounds-move_to : (p : PlainPartition) (silo position : ℕ) → IsWithinLimits p → is_spent p ≡ false → IsWithinLimits (move_to p silo position).0
+unfolding move_to
+bounds-move_to p silo position within left =
+    let room = leb-false p.limits.rises p.rises left in
+    let after = rewound-set p (λ r. r.is_open) (suc p.rises) within (omega arith) (omega arith) in
+    let generation : suc p.generation ≤ suc p.rises = omega (arith, within.generation) in
+    assumption
+
+pub bounds-move : (p : PlainPartition) (silo : ℕ) → IsWithinLimits p → IsWithinLimits (move p silo).0
+unfolding move
+bounds-move p silo within =
+    cond_both (is_spent p) _ _ KeepsLimits (λ _. within) (bounds-move_to p silo (least_with p.high (open_resumes p)) within)

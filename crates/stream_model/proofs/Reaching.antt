@@ -1,22 +1,16 @@
 -- A legal history and what it leads to, one step further.
-use Rattle.std.proofs.Common.{◌≡◌, ℕ, ◌≤◌, List, [], ◌∷◌, ◌++◌, Result, Ok, Err, refl, sym, ap, subst, ◌∙◌, arith}
+use Rattle.stream_model.proofs.Prelude.{◌≡◌, ℕ, ◌≤◌, List, [], ◌∷◌, ◌++◌, Result, Ok, Err, refl, sym, ap, subst, ◌∙◌, arith, Performs, Event, GrainId, SubName, MOST_BLOCKS, Rule}
 use Rattle.std.specs.declared.alloc.AllocError.{AllocError}
-use Rattle.stream_ident.specs.declared.event.Event.{Event}
-use Rattle.stream_ident.specs.declared.ident.GrainId.{GrainId}
-use Rattle.stream_ident.specs.declared.ident.SubName.{SubName}
 use Rattle.stream_model.specs.declared.limits.Limits.{Limits}
 use Rattle.stream_model.specs.declared.op.Op.{Op}
 use Rattle.stream_model.specs.declared.plain.Grain.{Grain}
 use Rattle.stream_model.specs.declared.plain.PlainPartition.{PlainPartition}
-use Rattle.stream_ident.specs.declared.rule.Rule.{Rule}
 use Rattle.stream_model.specs.declared.plain.Subscription.{Subscription}
 use Rattle.stream_model.specs.Replies.{Reply}
 use Rattle.stream_model.specs.Bounds.{AreLimits, IsWithinLimits}
 use Rattle.stream_model.specs.History.{Entry}
 use Rattle.stream_model.specs.Positions.{empty}
 use Rattle.stream_model.specs.Step.{step, Leads, IsReached}
-use Rattle.stream_ident.specs.Words.{Performs}
-use Rattle.stream_ident.specs.declared.limits.TheConstants.{MOST_BLOCKS}
 
 -- one run after another
 pub leads-append : (p q r : PlainPartition) (first second : List Entry) → Leads p first q → Leads q second r → Leads p (first ++ second) r
@@ -27,23 +21,7 @@ reached-empty : (blocks : ℕ) (limits : Limits) → 1 ≤ blocks → IsReached 
 reached-empty blocks limits some = record { blocks = blocks; limits = limits; history = []; some_blocks = some; stands = refl }
 
 pub within-empty : (blocks : ℕ) (limits : Limits) → blocks ≤ MOST_BLOCKS → AreLimits limits → IsWithinLimits (empty blocks limits)
-within-empty blocks limits bound are = record {
-  limits = are;
-  events = omega arith;
-  batches = omega arith;
-  subs = omega arith;
-  explicit = omega arith;
-  names = tt;
-  handled = tt;
-  blocks = bound;
-  rules = omega arith;
-  rises = omega arith;
-  turns = omega arith;
-  generation = omega arith;
-  activations = tt;
-  waiting = tt;
-  running = tt;
-}
+within-empty blocks limits bound are = search arith
 
 -- a new partition, whose lists are empty
 pub new-partition : (blocks : ℕ) (limits : Limits) (log : List Event) (subs : List (SubName × Subscription)) (rules : List Rule) (grains : List (GrainId × Grain))

@@ -1,10 +1,5 @@
 -- What calls that are refused leave and answer.
-use Rattle.std.proofs.Common.{◌≡◌, ◌∙◌, ℕ, true, false, sym, ap, List, None, Some, refl}
-use Rattle.stream_ident.specs.declared.ident.GrainId.{GrainId}
-use Rattle.stream_ident.specs.declared.ident.StreamId.{StreamId}
-use Rattle.stream_ident.specs.declared.ident.SubName.{SubName}
-use Rattle.stream_ident.specs.declared.ident.SubName.TheVariants.{Explicit, Implicit}
-use Rattle.stream_ident.specs.declared.token.Token.{Token}
+use Rattle.stream_model.proofs.Prelude.{◌≡◌, ◌∙◌, ℕ, true, false, sym, ap, List, None, Some, refl, GrainId, StreamId, SubName, Explicit, Implicit, Token}
 use Rattle.stream_model.specs.declared.plain.Grain.{Grain}
 use Rattle.stream_model.specs.declared.plain.PlainPartition.{PlainPartition}
 use Rattle.stream_model.specs.declared.plain.Subscription.{Subscription}

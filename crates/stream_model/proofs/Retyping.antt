@@ -1,5 +1,5 @@
 -- Replies whose turns have something else of the events.
-use Rattle.std.proofs.Common.{◌≡◌, refl}
+use Rattle.stream_model.proofs.Prelude.{◌≡◌, refl}
 use Rattle.stream_model.specs.declared.reply.Reply as declared
 use Rattle.stream_model.specs.declared.reply.Reply.TheVariants as reply
 use Rattle.stream_model.specs.Replies.{with_events, IsNoTurn}

@@ -4,16 +4,9 @@ use Rattle.stream_model.specs.declared.op.Op.TheVariants.{Publish, Subscribe, Un
 use Rattle.stream_model.specs.declared.plain.PlainPartition.{PlainPartition}
 use Rattle.stream_model.specs.Bounds.{IsWithinLimits}
 use Rattle.stream_model.specs.Step.{step}
-use Rattle.stream_model.proofs.AcknowledgingBounds.{bounds-retry, bounds-ack}
-use Rattle.stream_model.proofs.DeactivatingBounds.{bounds-deactivate}
-use Rattle.stream_model.proofs.DeliveringBounds.{bounds-deliver}
-use Rattle.stream_model.proofs.MovingBounds.{bounds-move}
-use Rattle.stream_model.proofs.PublishingBounds.{bounds-publish, bounds-subscribe}
-use Rattle.stream_model.proofs.PullingBounds.{bounds-pull}
-use Rattle.stream_model.proofs.PurgingBounds.{bounds-purge}
-use Rattle.stream_model.proofs.RulesBounds.{bounds-add_rule}
-use Rattle.stream_model.proofs.TurnsBounds.{bounds-begin, bounds-commit}
-use Rattle.stream_model.proofs.UnsubscribingBounds.{bounds-unsubscribe}
+use Rattle.stream_model.proofs.PublishingBounds.{bounds-publish, bounds-subscribe, bounds-unsubscribe, bounds-add_rule}
+use Rattle.stream_model.proofs.PullingBounds.{bounds-pull, bounds-deliver, bounds-retry, bounds-ack, bounds-purge, bounds-move}
+use Rattle.stream_model.proofs.TurnsBounds.{bounds-begin, bounds-commit, bounds-deactivate}
 
 pub bounds-step : (p : PlainPartition) (op : Op) → IsWithinLimits p → IsWithinLimits (step p op).0
 unfolding step

@@ -1,22 +1,15 @@
--- Begin and Commit keep the limits.
-use Rattle.std.proofs.Common.{◌≡◌, ℕ, suc, ◌<◌, ◌==◌, ◌&&◌, false, not, nat_lt, List, [], ◌∷◌, ◌++◌, length, drop, Option, Some, None, is_some, refl, subst, arith}
-use Rattle.std.proofs.lemmas.Bool.{cond_both, leb-false}
-use Rattle.std.specs.List.{AllByRecursion}
-use Rattle.stream_ident.specs.declared.ident.GrainId.{GrainId}
-use Rattle.stream_ident.specs.declared.ident.SubName.{SubName}
+-- Begin, Commit and Deactivate keep the limits.
+use Rattle.stream_model.proofs.Prelude.{◌≡◌, ℕ, suc, ◌<◌, ◌==◌, ◌&&◌, false, not, nat_lt, List, [], ◌∷◌, ◌++◌, length, drop, Option, Some, None, is_some, refl, subst, arith, cond_both, leb-false, AllByRecursion, All-append, All-drop, turn_size, past, GrainId, SubName}
 use Rattle.stream_model.specs.declared.plain.Delivery.{Delivery}
 use Rattle.stream_model.specs.declared.plain.Grain.{Grain}
 use Rattle.stream_model.specs.declared.plain.PlainPartition.{PlainPartition}
 use Rattle.stream_model.specs.declared.plain.RunningTurn.{RunningTurn}
 use Rattle.stream_model.specs.declared.plain.Subscription.{Subscription}
 use Rattle.stream_model.specs.Bounds.{AreIn, IsWithinLimits, running_positions}
-use Rattle.stream_model.specs.Positions.{grain_at, is_spent, sub_at}
-use Rattle.stream_model.specs.Turns.{begin, begin_for, begin_front, begin_in, begin_turn, commit, commit_for, commit_running, ended, front_of}
-use Rattle.stream_ident.specs.Blocks.{turn_size}
-use Rattle.stream_ident.specs.Words.{past}
+use Rattle.stream_model.specs.Positions.{grain_at, is_spent, sub_at, with_grain}
+use Rattle.stream_model.specs.Turns.{begin, begin_for, begin_front, begin_in, begin_turn, commit, commit_for, commit_running, ended, front_of, deactivate, deactivate_in, deactivated, is_open_of}
 use Rattle.stream_model.proofs.Beginning.{All-front_of}
-use Rattle.stream_ident.proofs.EachOf.{All-append, All-drop}
-use Rattle.stream_model.proofs.RecordBounds.{GrainFits, grain-fits, grain-set, handled-in, sub-set, KeepsLimits}
+use Rattle.stream_model.proofs.RecordBounds.{GrainFits, grain-fits, grain-set, handled-in, sub-set, KeepsLimits, rewound-set}
 
 bounds-begin_turn : (p : PlainPartition) (g : GrainId) (st : Grain) (s : SubName) (note : ℕ) (positions : List ℕ) → IsWithinLimits p → GrainFits p.log p.rises st → AreIn p.log positions → is_spent p ≡ false → IsWithinLimits (begin_turn p g st s note positions).0
 unfolding begin_turn
@@ -73,3 +66,15 @@ pub bounds-commit : (p : PlainPartition) (g : GrainId) (activation turn note : �
 unfolding commit
 bounds-commit p g activation turn note within =
     bounds-commit_running p g (grain_at p g) activation turn note (grain_at p g).running within (grain-fits p g within) refl
+
+bounds-deactivated : (p : PlainPartition) (g : GrainId) (st : Grain) → IsWithinLimits p → GrainFits p.log p.rises st → IsWithinLimits (deactivated p g st)
+bounds-deactivated p g st within fits =
+    let left : Grain = record st { active = false; mailbox = []; running = None } in
+    let after = grain-set p g left p.rises p.turns within (omega arith) within.rises within.turns (fits.0, tt, tt) in
+    rewound-set (with_grain p g left) (is_open_of g) p.rises after (omega arith) within.rises
+
+pub bounds-deactivate : (p : PlainPartition) (g : GrainId) → IsWithinLimits p → IsWithinLimits (deactivate p g).0
+unfolding deactivate deactivate_in
+bounds-deactivate p g within =
+    let st = grain_at p g in
+    cond_both (not st.active) _ _ KeepsLimits (λ _. within) (λ _. bounds-deactivated p g st within (grain-fits p g within))

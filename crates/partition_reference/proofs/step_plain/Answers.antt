@@ -1,8 +1,5 @@
-use Rattle.std.proofs.Common.{sym, ap, ◌∙◌}
-use Rattle.stream_model.specs.declared.plain.PlainPartition.{PlainPartition}
-use Rattle.stream_model.specs.Replies.{Reply}
+use Rattle.partition_reference.proofs.Prelude.{sym, ap, ◌∙◌, performs-along, memory-along, Reply, PlainPartition}
 use Rattle.stream_model.specs.Step.{step}
-use Rattle.stream_model.proofs.Answering.{performs-along, memory-along}
 use Rattle.partition_reference.proofs.step_plain.Goals as goal
 
 pub returns-in-Publish-clause-performs : goal.returns-in-Publish-clause-performs

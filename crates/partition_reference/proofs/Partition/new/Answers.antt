@@ -1,4 +1,4 @@
-use Rattle.std.proofs.Common.{refl}
+use Rattle.partition_reference.proofs.Prelude.{refl}
 use Rattle.stream_model.proofs.Reaching.{new-partition}
 use Rattle.partition_reference.proofs.Partition.new.Goals as goal
 

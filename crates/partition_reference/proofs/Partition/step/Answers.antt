@@ -1,4 +1,4 @@
-use Rattle.stream_model.proofs.Answering.{within-after}
+use Rattle.partition_reference.proofs.Prelude.{within-after}
 use Rattle.stream_model.proofs.Reaching.{reached-after}
 use Rattle.stream_model.proofs.StepBounds.{bounds-step}
 use Rattle.partition_reference.proofs.Partition.step.Goals as goal

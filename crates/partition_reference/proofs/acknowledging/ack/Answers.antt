@@ -1,9 +1,4 @@
-use Rattle.std.proofs.Common.{sym, ap, ◌∙◌}
-use Rattle.stream_ident.specs.SubName.{same_sub}
-use Rattle.stream_model.specs.declared.plain.Subscription.{Subscription}
-use Rattle.stream_ident.specs.Words.{with_value}
-use Rattle.stream_model.proofs.Refusals.{ack-stale, ack-unknown}
-use Rattle.stream_model.proofs.Lookups.{place_of-within, place_of-change, place_of-none}
+use Rattle.partition_reference.proofs.Prelude.{sym, ap, ◌∙◌, same_sub, with_value, place_of-within, place_of-change, place_of-none, ack-stale, ack-unknown, Subscription}
 use Rattle.partition_reference.proofs.AcknowledgingLemmas.{ack-closed, ack-nothing, ack-done, acknowledged-marks}
 use Rattle.stream_model.proofs.RecordBounds.{handled-in}
 use Rattle.partition_reference.proofs.acknowledging.ack.Goals as goal

@@ -1,8 +1,4 @@
-use Rattle.std.proofs.Common.{◌≡◌, ◌<◌, drop, filter, length}
-use Rattle.std.specs.List.{slice_get, AllByRecursion}
-use Rattle.stream_ident.specs.Token.{same_token}
-use Rattle.stream_model.specs.Positions.{token_at}
-use Rattle.stream_model.specs.Pulling.{handled_at}
+use Rattle.partition_reference.proofs.Prelude.{◌≡◌, ◌<◌, drop, filter, length, slice_get, AllByRecursion, same_token, token_at, handled_at}
 use Rattle.partition_reference.proofs.acknowledging.first_handled.Given as goal
 
 abbrev pub invariant-loop-position : goal.invariant-loop-position

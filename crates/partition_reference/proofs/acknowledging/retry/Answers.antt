@@ -1,8 +1,4 @@
-use Rattle.std.proofs.Common.{sym, ◌∙◌}
-use Rattle.stream_ident.specs.SubName.{same_sub}
-use Rattle.stream_model.specs.declared.plain.Subscription.{Subscription}
-use Rattle.stream_model.proofs.Refusals.{retry-stale, retry-unknown}
-use Rattle.stream_model.proofs.Lookups.{place_of-within, place_of-change, place_of-none}
+use Rattle.partition_reference.proofs.Prelude.{sym, ◌∙◌, same_sub, place_of-within, place_of-change, place_of-none, retry-stale, retry-unknown, Subscription}
 use Rattle.partition_reference.proofs.AcknowledgingLemmas.{retry-closed, retry-done}
 use Rattle.partition_reference.proofs.acknowledging.retry.Goals as goal
 

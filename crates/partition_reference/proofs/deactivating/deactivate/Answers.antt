@@ -1,11 +1,5 @@
-use Rattle.std.proofs.Common.{◌+◌, [], None, false, length, sym, ap, ◌∙◌, refl}
-use Rattle.stream_ident.specs.Name.{same_grain}
-use Rattle.stream_model.specs.declared.plain.Grain.{Grain}
-use Rattle.stream_model.specs.Positions.{new_grain}
-use Rattle.stream_model.proofs.Refusals.{deactivate-idle}
-use Rattle.stream_model.proofs.Beginning.{grain_at-is, grain_at-new}
+use Rattle.partition_reference.proofs.Prelude.{◌+◌, [], None, false, length, sym, ap, ◌∙◌, refl, same_grain, grain_at-is, grain_at-new, place_of-change, place_of-within, deactivate-idle, new_grain, Grain}
 use Rattle.partition_reference.proofs.DeactivatingLemmas.{deactivate-done}
-use Rattle.stream_model.proofs.Lookups.{place_of-change, place_of-within}
 use Rattle.partition_reference.proofs.deactivating.deactivate.Goals as goal
 
 pub returns-in_default : goal.returns-in_default

@@ -1,6 +1,4 @@
-use Rattle.std.proofs.Common.{[], None, ap, false}
-use Rattle.stream_model.specs.declared.plain.Grain.{Grain}
-use Rattle.stream_model.proofs.Lookups.{change_at-written}
+use Rattle.partition_reference.proofs.Prelude.{[], None, ap, false, change_at-written, Grain}
 use Rattle.partition_reference.proofs.deactivating.leave.Goals as goal
 
 pub returns : goal.returns

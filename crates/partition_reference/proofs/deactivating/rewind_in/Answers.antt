@@ -1,9 +1,5 @@
-use Rattle.std.proofs.Common.{◌&&◌, ap, sym, ◌∙◌, get_or, set}
+use Rattle.partition_reference.proofs.Prelude.{◌&&◌, ap, sym, ◌∙◌, get_or, set, same_grain, SubName, rewound_where, Subscription}
 use Rattle.std.proofs.lemmas.List.Edits.{map_over_more}
-use Rattle.stream_ident.specs.declared.ident.SubName.{SubName}
-use Rattle.stream_ident.specs.Name.{same_grain}
-use Rattle.stream_model.specs.declared.plain.Subscription.{Subscription}
-use Rattle.stream_model.specs.Pulling.{rewound_where}
 use Rattle.partition_reference.proofs.deactivating.rewind_in.Goals as goal
 
 pub loop-entry-preserved : goal.loop-entry-preserved

@@ -1,7 +1,4 @@
-use Rattle.std.proofs.Common.{◌≡◌, ◌++◌, ◌&&◌, drop, take}
-use Rattle.stream_ident.specs.Name.{same_grain}
-use Rattle.stream_model.specs.Pulling.{rewound_where}
-use Rattle.stream_ident.specs.Words.{each_value}
+use Rattle.partition_reference.proofs.Prelude.{◌≡◌, ◌++◌, ◌&&◌, drop, take, same_grain, each_value, rewound_where}
 use Rattle.partition_reference.proofs.deactivating.rewind_in.Given as goal
 
 abbrev pub invariant-loop-entry : goal.invariant-loop-entry

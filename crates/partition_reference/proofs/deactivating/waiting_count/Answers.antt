@@ -1,4 +1,4 @@
-use Rattle.std.proofs.Common.{ap, length, arith, ◌∙◌}
+use Rattle.partition_reference.proofs.Prelude.{ap, length, arith, ◌∙◌}
 use Rattle.partition_reference.proofs.deactivating.waiting_count.Goals as goal
 
 pub returns-clause-count : goal.returns-clause-count

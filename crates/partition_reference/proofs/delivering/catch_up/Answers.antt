@@ -1,10 +1,5 @@
-use Rattle.std.proofs.Common.{◌≡◌, ◌∙◌}
-use Rattle.stream_ident.specs.SubName.{same_sub}
-use Rattle.stream_model.specs.declared.plain.Subscription.{Subscription}
-use Rattle.stream_model.specs.Positions.{with_sub}
-use Rattle.stream_model.specs.Pulling.{caught_up}
+use Rattle.partition_reference.proofs.Prelude.{◌≡◌, ◌∙◌, same_sub, place_of-within, place_of-change, with_sub, caught_up, Subscription}
 use Rattle.partition_reference.proofs.Handing.{at-found, caught_up-done}
-use Rattle.stream_model.proofs.Lookups.{place_of-within, place_of-change}
 use Rattle.partition_reference.proofs.delivering.catch_up.Goals as goal
 
 pub set_marks-requires : goal.set_marks-requires

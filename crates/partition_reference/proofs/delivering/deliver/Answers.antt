@@ -1,13 +1,4 @@
-use Rattle.std.proofs.lemmas.Bool.{eq-eqb, ne_eqb}
-use Rattle.std.proofs.Common.{◌≡◌, true, sym, subst, ◌∙◌, ap, not}
-use Rattle.std.specs.Prelude.{OnErr}
-use Rattle.stream_model.specs.declared.plain.PlainPartition.{PlainPartition}
-use Rattle.stream_model.specs.Replies.{Reply}
-use Rattle.stream_model.specs.Step.{takes_memory}
-use Rattle.stream_ident.specs.Words.{Performs}
-use Rattle.stream_ident.specs.SubName.{same_sub}
-use Rattle.stream_model.proofs.Lookups.{place_of-none}
-use Rattle.stream_model.proofs.Refusals.{deliver-stale, deliver-unknown}
+use Rattle.partition_reference.proofs.Prelude.{◌≡◌, true, sym, subst, ◌∙◌, ap, not, eq-eqb, ne_eqb, OnErr, same_sub, Performs, place_of-none, deliver-stale, deliver-unknown, Reply, takes_memory, PlainPartition}
 use Rattle.partition_reference.proofs.Handing.{deliver-closed, deliver-nothing, deliver-found}
 use Rattle.partition_reference.proofs.delivering.deliver.Goals as goal
 

@@ -1,13 +1,5 @@
-use Rattle.std.proofs.Common.{◌≡◌, ◌+◌, suc, sym, ap, ◌∙◌, arith}
-use Rattle.stream_ident.specs.Name.{same_grain}
-use Rattle.stream_ident.specs.SubName.{same_sub}
-use Rattle.stream_model.specs.declared.plain.Subscription.{Subscription}
-use Rattle.stream_model.specs.Positions.{new_grain}
-use Rattle.stream_model.specs.Pulling.{woken}
-use Rattle.stream_ident.specs.Words.{with_value}
-use Rattle.stream_model.proofs.Answering.{on-error}
+use Rattle.partition_reference.proofs.Prelude.{◌≡◌, ◌+◌, suc, sym, ap, ◌∙◌, arith, same_grain, same_sub, with_value, on-error, place_of-within, place_of-change, place_of-added, new_grain, woken, Subscription}
 use Rattle.partition_reference.proofs.Handing.{deliver_position-spent, deliver_position-done, deliver_position-takes}
-use Rattle.stream_model.proofs.Lookups.{place_of-within, place_of-change, place_of-added}
 use Rattle.partition_reference.proofs.delivering.deliver_first.Goals as goal
 
 pub set_cursor-requires : goal.set_cursor-requires

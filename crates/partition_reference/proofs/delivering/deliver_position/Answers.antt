@@ -1,18 +1,7 @@
-use Rattle.std.proofs.Common.{◌≡◌, ◌+◌, ◌<◌, ◌≤◌, suc, length, true, Some, refl, sym, ap, subst, ◌∙◌, arith}
-use Rattle.std.specs.Prelude.{OnErr}
-use Rattle.stream_ident.specs.Name.{same_grain}
-use Rattle.stream_ident.specs.SubName.{same_sub}
-use Rattle.stream_model.specs.declared.plain.Subscription.{Subscription}
+use Rattle.partition_reference.proofs.Prelude.{◌≡◌, ◌+◌, ◌<◌, ◌≤◌, suc, length, true, Some, refl, sym, ap, subst, ◌∙◌, arith, OnErr, same_grain, same_sub, Performs, with_value, MAILBOX_PLACES, on-error, grain_at-is, grain_at-new, place_of-within, place_of-change, grain_at, woken, takes_memory, Subscription}
 use Rattle.stream_model.specs.declared.reply.Reply.TheVariants as reply
-use Rattle.stream_model.specs.Positions.{grain_at}
-use Rattle.stream_model.specs.Pulling.{deliver_position, woken}
-use Rattle.stream_model.specs.Step.{takes_memory}
-use Rattle.stream_ident.specs.Words.{Performs, with_value}
-use Rattle.stream_ident.specs.declared.limits.TheConstants.{MAILBOX_PLACES}
-use Rattle.stream_model.proofs.Beginning.{grain_at-is, grain_at-new}
-use Rattle.stream_model.proofs.Answering.{on-error}
+use Rattle.stream_model.specs.Pulling.{deliver_position}
 use Rattle.partition_reference.proofs.Handing.{activations-fit, at-found, deliver_position-full, deliver_position-spent, deliver_position-done, deliver_position-takes, rises-woken}
-use Rattle.stream_model.proofs.Lookups.{place_of-within, place_of-change}
 use Rattle.partition_reference.proofs.delivering.deliver_position.Goals as goal
 
 pub wake-requires-clause-within : goal.wake-requires-clause-within

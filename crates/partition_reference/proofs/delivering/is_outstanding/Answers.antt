@@ -1,4 +1,4 @@
-use Rattle.std.proofs.Common.{sym, ◌∙◌}
+use Rattle.partition_reference.proofs.Prelude.{sym, ◌∙◌}
 use Rattle.partition_reference.proofs.Handing.{is_outstanding-new}
 use Rattle.partition_reference.proofs.delivering.is_outstanding.Goals as goal
 

@@ -1,5 +1,4 @@
-use Rattle.std.proofs.Common.{◌<◌, length, get_or, sym, ap, ◌∙◌, arith}
-use Rattle.stream_ident.specs.Event.{is_owed}
+use Rattle.partition_reference.proofs.Prelude.{◌<◌, length, get_or, sym, ap, ◌∙◌, arith, is_owed}
 use Rattle.partition_reference.proofs.Handing.{first_between-found, first_between-more}
 use Rattle.partition_reference.proofs.delivering.next_position.Goals as goal
 

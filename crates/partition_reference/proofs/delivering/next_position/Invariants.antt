@@ -1,7 +1,4 @@
-use Rattle.std.proofs.Common.{◌≡◌}
-use Rattle.stream_ident.specs.Event.{is_owed}
-use Rattle.stream_model.specs.Positions.{between}
-use Rattle.stream_ident.specs.Words.{first_at}
+use Rattle.partition_reference.proofs.Prelude.{◌≡◌, is_owed, first_at, between}
 use Rattle.partition_reference.proofs.delivering.next_position.Given as goal
 
 abbrev pub invariant-loop-position : goal.invariant-loop-position

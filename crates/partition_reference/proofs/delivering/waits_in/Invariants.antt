@@ -1,5 +1,4 @@
-use Rattle.std.proofs.Common.{◌≡◌, drop}
-use Rattle.stream_model.specs.Positions.{waiting_in}
+use Rattle.partition_reference.proofs.Prelude.{◌≡◌, drop, waiting_in}
 use Rattle.partition_reference.proofs.delivering.waits_in.Given as goal
 
 abbrev pub invariant-loop-delivery : goal.invariant-loop-delivery

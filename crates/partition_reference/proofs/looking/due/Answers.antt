@@ -1,7 +1,4 @@
-use Rattle.std.proofs.Common.{refl, sym, ◌∙◌}
-use Rattle.stream_ident.specs.SubName.{sub_lt}
-use Rattle.stream_model.specs.Looks.{is_due}
-use Rattle.stream_model.proofs.Looking.{next-found, due-none, due-told}
+use Rattle.partition_reference.proofs.Prelude.{refl, sym, ◌∙◌, sub_lt, next-found, due-none, due-told, is_due}
 use Rattle.partition_reference.proofs.looking.due.Goals as goal
 
 pub returns-in-Some : goal.returns-in-Some

@@ -1,9 +1,4 @@
-use Rattle.std.proofs.Common.{◌≡◌, ◌∙◌, ◌-◌, ◌<◌, ◌&&◌, None, is_some, ap, sym, length, drop, Some, arith}
-use Rattle.stream_ident.specs.SubName.{sub_lt}
-use Rattle.stream_model.specs.declared.plain.Subscription.{Subscription}
-use Rattle.stream_model.specs.Positions.{next_position}
-use Rattle.stream_model.specs.Least.{least_key}
-use Rattle.stream_model.proofs.LeastKey.{least_key-end, least_key-there, least_key-not, of-all}
+use Rattle.partition_reference.proofs.Prelude.{◌≡◌, ◌∙◌, ◌-◌, ◌<◌, ◌&&◌, None, is_some, ap, sym, length, drop, Some, arith, sub_lt, least_key-end, least_key-there, least_key-not, of-all, least_key, next_position, Subscription}
 use Rattle.partition_reference.proofs.looking.least_deliverable.Goals as goal
 
 pub loop-index-init : goal.loop-index-init

@@ -1,8 +1,4 @@
-use Rattle.std.proofs.Common.{◌≡◌, ◌∙◌, ◌-◌, ◌<◌, ap, sym, length, drop, Some, arith}
-use Rattle.stream_ident.specs.SubName.{sub_lt}
-use Rattle.stream_model.specs.Looks.{is_due}
-use Rattle.stream_model.specs.Least.{least_key}
-use Rattle.stream_model.proofs.LeastKey.{least_key-end, least_key-there, least_key-not}
+use Rattle.partition_reference.proofs.Prelude.{◌≡◌, ◌∙◌, ◌-◌, ◌<◌, ap, sym, length, drop, Some, arith, sub_lt, least_key-end, least_key-there, least_key-not, least_key, is_due}
 use Rattle.partition_reference.proofs.looking.least_due.Goals as goal
 
 pub loop-index-init : goal.loop-index-init

@@ -1,7 +1,4 @@
-use Rattle.std.proofs.Common.{◌≡◌, drop}
-use Rattle.stream_ident.specs.SubName.{sub_lt}
-use Rattle.stream_model.specs.Looks.{is_due}
-use Rattle.stream_model.specs.Least.{least_key}
+use Rattle.partition_reference.proofs.Prelude.{◌≡◌, drop, sub_lt, least_key, is_due}
 use Rattle.partition_reference.proofs.looking.least_due.Given as goal
 
 abbrev pub invariant-loop-index : goal.invariant-loop-index

@@ -1,9 +1,4 @@
-use Rattle.std.proofs.Common.{◌≡◌, ◌∙◌, ◌-◌, ◌<◌, ◌&&◌, not, ap, sym, length, drop, Some, arith}
-use Rattle.stream_ident.specs.Name.{grain_lt}
-use Rattle.stream_model.specs.declared.plain.Grain.{Grain}
-use Rattle.stream_model.specs.Looks.{is_running, is_waiting}
-use Rattle.stream_model.specs.Least.{least_key}
-use Rattle.stream_model.proofs.LeastKey.{least_key-end, least_key-there, least_key-not}
+use Rattle.partition_reference.proofs.Prelude.{◌≡◌, ◌∙◌, ◌-◌, ◌<◌, ◌&&◌, not, ap, sym, length, drop, Some, arith, grain_lt, least_key-end, least_key-there, least_key-not, least_key, is_running, is_waiting, Grain}
 use Rattle.partition_reference.proofs.looking.least_ready.Goals as goal
 
 pub loop-index-init : goal.loop-index-init

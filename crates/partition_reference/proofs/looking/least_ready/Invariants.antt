@@ -1,8 +1,4 @@
-use Rattle.std.proofs.Common.{◌≡◌, drop, ◌&&◌, not}
-use Rattle.stream_ident.specs.Name.{grain_lt}
-use Rattle.stream_model.specs.declared.plain.Grain.{Grain}
-use Rattle.stream_model.specs.Looks.{is_running, is_waiting}
-use Rattle.stream_model.specs.Least.{least_key}
+use Rattle.partition_reference.proofs.Prelude.{◌≡◌, drop, ◌&&◌, not, grain_lt, least_key, is_running, is_waiting, Grain}
 use Rattle.partition_reference.proofs.looking.least_ready.Given as goal
 
 abbrev pub invariant-loop-index : goal.invariant-loop-index

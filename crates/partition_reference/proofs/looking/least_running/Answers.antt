@@ -1,8 +1,4 @@
-use Rattle.std.proofs.Common.{◌≡◌, ◌∙◌, ◌-◌, ◌<◌, None, ap, sym, length, drop, Some, arith}
-use Rattle.stream_ident.specs.Name.{grain_lt}
-use Rattle.stream_model.specs.Looks.{is_running}
-use Rattle.stream_model.specs.Least.{least_key}
-use Rattle.stream_model.proofs.LeastKey.{least_key-end, least_key-there, least_key-not, of-all}
+use Rattle.partition_reference.proofs.Prelude.{◌≡◌, ◌∙◌, ◌-◌, ◌<◌, None, ap, sym, length, drop, Some, arith, grain_lt, least_key-end, least_key-there, least_key-not, of-all, least_key, is_running}
 use Rattle.partition_reference.proofs.looking.least_running.Goals as goal
 
 pub loop-index-init : goal.loop-index-init

@@ -1,7 +1,4 @@
-use Rattle.std.proofs.Common.{◌≡◌, drop, None}
-use Rattle.stream_ident.specs.Name.{grain_lt}
-use Rattle.stream_model.specs.Looks.{is_running}
-use Rattle.stream_model.specs.Least.{least_key}
+use Rattle.partition_reference.proofs.Prelude.{◌≡◌, drop, None, grain_lt, least_key, is_running}
 use Rattle.partition_reference.proofs.looking.least_running.Given as goal
 
 abbrev pub invariant-loop-index : goal.invariant-loop-index

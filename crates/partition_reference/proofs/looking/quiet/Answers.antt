@@ -1,5 +1,4 @@
-use Rattle.std.proofs.Common.{Some, None, sym, ◌∙◌}
-use Rattle.stream_model.proofs.Looking.{quiet-told}
+use Rattle.partition_reference.proofs.Prelude.{Some, None, sym, ◌∙◌, quiet-told}
 use Rattle.partition_reference.proofs.looking.quiet.Goals as goal
 
 pub returns-in-Some : goal.returns-in-Some

@@ -1,8 +1,4 @@
-use Rattle.std.proofs.Common.{◌&&◌, not, Some, None, sym, ◌∙◌}
-use Rattle.stream_ident.specs.Name.{grain_lt}
-use Rattle.stream_model.specs.declared.plain.Grain.{Grain}
-use Rattle.stream_model.specs.Looks.{is_running, is_waiting}
-use Rattle.stream_model.proofs.Looking.{next-found, ready-told}
+use Rattle.partition_reference.proofs.Prelude.{◌&&◌, not, Some, None, sym, ◌∙◌, grain_lt, next-found, ready-told, is_running, is_waiting, Grain}
 use Rattle.partition_reference.proofs.looking.ready.Goals as goal
 
 pub returns-in-Some : goal.returns-in-Some

@@ -1,7 +1,4 @@
-use Rattle.std.proofs.Common.{sym, ap, ◌∙◌}
-use Rattle.stream_ident.specs.SubName.{same_sub}
-use Rattle.stream_model.specs.Looks.{to_acknowledge}
-use Rattle.stream_model.proofs.Lookups.{place_of-none}
+use Rattle.partition_reference.proofs.Prelude.{sym, ap, ◌∙◌, same_sub, place_of-none, to_acknowledge}
 use Rattle.partition_reference.proofs.looking.to_acknowledge.Goals as goal
 
 pub returns-in_default : goal.returns-in_default

@@ -1,5 +1,4 @@
-use Rattle.std.proofs.Common.{◌≡◌, ◌+◌, min, suc, sym, ap, ◌∙◌, arith}
-use Rattle.stream_model.proofs.Refusals.{move-spent}
+use Rattle.partition_reference.proofs.Prelude.{◌≡◌, ◌+◌, min, suc, sym, ap, ◌∙◌, arith, move-spent}
 use Rattle.partition_reference.proofs.MovingLemmas.{move-done}
 use Rattle.partition_reference.proofs.moving.move_queue.Goals as goal
 

@@ -1,7 +1,4 @@
-use Rattle.std.proofs.Common.{ap}
-use Rattle.stream_model.specs.declared.plain.Subscription.{Subscription}
-use Rattle.stream_model.specs.Pulling.{rewound_where}
-use Rattle.stream_model.proofs.Lookups.{change_at-written}
+use Rattle.partition_reference.proofs.Prelude.{ap, change_at-written, rewound_where, Subscription}
 use Rattle.partition_reference.proofs.moving.rewind_at.Goals as goal
 
 pub returns : goal.returns

@@ -1,6 +1,4 @@
-use Rattle.std.proofs.Common.{◌≡◌, ◌∙◌, ap, length, arith}
-use Rattle.stream_model.specs.declared.plain.Subscription.{Subscription}
-use Rattle.stream_model.specs.Pulling.{rewound_where}
+use Rattle.partition_reference.proofs.Prelude.{◌≡◌, ◌∙◌, ap, length, arith, rewound_where, Subscription}
 use Rattle.stream_model.proofs.EachValue.{length-changed_front, changed_front-more, changed_front-all}
 use Rattle.partition_reference.proofs.moving.rewind_open.Goals as goal
 

@@ -1,6 +1,4 @@
-use Rattle.std.proofs.Common.{◌≡◌}
-use Rattle.stream_model.specs.declared.plain.Subscription.{Subscription}
-use Rattle.stream_model.specs.Pulling.{rewound_where}
+use Rattle.partition_reference.proofs.Prelude.{◌≡◌, rewound_where, Subscription}
 use Rattle.stream_model.proofs.EachValue.{changed_front}
 use Rattle.partition_reference.proofs.moving.rewind_open.Given as goal
 

@@ -1,4 +1,4 @@
-use Rattle.std.proofs.Common.{◌∙◌}
+use Rattle.partition_reference.proofs.Prelude.{◌∙◌}
 use Rattle.stream_ident.proofs.OrderLemmas.{sub_before}
 use Rattle.partition_reference.proofs.positions.is_sub_before.Goals as goal
 

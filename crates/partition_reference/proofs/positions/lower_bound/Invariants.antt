@@ -1,6 +1,4 @@
-use Rattle.std.proofs.Common.{◌≡◌, ◌+◌, drop, not}
-use Rattle.stream_ident.specs.Token.{token_lt}
-use Rattle.stream_ident.specs.Words.{first_at}
+use Rattle.partition_reference.proofs.Prelude.{◌≡◌, ◌+◌, drop, not, token_lt, first_at}
 use Rattle.partition_reference.proofs.positions.lower_bound.Given as goal
 
 abbrev pub invariant-loop-index : goal.invariant-loop-index

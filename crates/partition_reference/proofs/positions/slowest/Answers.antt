@@ -1,6 +1,4 @@
-use Rattle.std.proofs.Common.{◌∙◌, ◌+◌, ap, sym, drop, Some, arith}
-use Rattle.std.proofs.lemmas.List.{at_drop_all}
-use Rattle.stream_model.specs.Positions.{least_or, resumes_of}
+use Rattle.partition_reference.proofs.Prelude.{◌∙◌, ◌+◌, ap, sym, drop, Some, arith, at_drop_all, least_or, resumes_of}
 use Rattle.partition_reference.proofs.SlowestResume.{least_after, after-open, after-closed, after-all, after-item}
 use Rattle.partition_reference.proofs.positions.slowest.Goals as goal
 use Rattle.partition_reference.proofs.positions.slowest.Goals.{then-sub, else-sub}

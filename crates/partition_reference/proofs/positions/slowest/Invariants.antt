@@ -1,5 +1,4 @@
-use Rattle.std.proofs.Common.{◌≡◌, drop}
-use Rattle.stream_model.specs.Positions.{slowest, resumes_of}
+use Rattle.partition_reference.proofs.Prelude.{◌≡◌, drop, slowest, resumes_of}
 use Rattle.partition_reference.proofs.SlowestResume.{least_after}
 use Rattle.partition_reference.proofs.positions.slowest.Given as goal
 

@@ -1,5 +1,4 @@
-use Rattle.std.proofs.Common.{◌≡◌, ◌∙◌, ◌-◌, ◌<◌, ap, sym, length, drop, Some, arith}
-use Rattle.std.proofs.lemmas.List.{drop_all}
+use Rattle.partition_reference.proofs.Prelude.{◌≡◌, ◌∙◌, ◌-◌, ◌<◌, ap, sym, length, drop, Some, arith, drop_all}
 use Rattle.partition_reference.proofs.SlowestName.{least_at, least_at-there, least_at-not}
 use Rattle.partition_reference.proofs.positions.slowest_name.Goals as goal
 

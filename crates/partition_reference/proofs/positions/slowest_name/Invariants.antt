@@ -1,4 +1,4 @@
-use Rattle.std.proofs.Common.{◌≡◌, drop}
+use Rattle.partition_reference.proofs.Prelude.{◌≡◌, drop}
 use Rattle.partition_reference.proofs.SlowestName.{least_at}
 use Rattle.partition_reference.proofs.positions.slowest_name.Given as goal
 

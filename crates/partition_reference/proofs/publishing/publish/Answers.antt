@@ -1,8 +1,4 @@
-use Rattle.std.proofs.Common.{◌≡◌, ◌∙◌, ◌++◌, length, false, ap, sym, arith}
-use Rattle.std.proofs.lemmas.Bool.{lt-ltb}
-use Rattle.stream_ident.specs.Event.{events_of}
-use Rattle.stream_model.proofs.Answering.{on-error}
-use Rattle.stream_model.proofs.PublishingSteps.{is_bad, publish-bad, publish-full, publish-made, publish-takes_memory}
+use Rattle.partition_reference.proofs.Prelude.{◌≡◌, ◌∙◌, ◌++◌, length, false, ap, sym, arith, lt-ltb, events_of, on-error, is_bad, publish-bad, publish-full, publish-made, publish-takes_memory}
 use Rattle.partition_reference.proofs.publishing.publish.Goals as goal
 
 pub returns-then-is_bad_batch-clause-performs : goal.returns-then-is_bad_batch-clause-performs

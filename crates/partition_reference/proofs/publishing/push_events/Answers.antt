@@ -1,4 +1,4 @@
-use Rattle.std.proofs.Common.{◌∙◌, ◌∷◌, [], ◌++◌, ap}
+use Rattle.partition_reference.proofs.Prelude.{◌∙◌, ◌∷◌, [], ◌++◌, ap}
 use Rattle.stream_model.proofs.BatchEvents.{event_at, event-more}
 use Rattle.partition_reference.proofs.publishing.push_events.Goals as goal
 

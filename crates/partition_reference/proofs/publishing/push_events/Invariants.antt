@@ -1,5 +1,4 @@
-use Rattle.std.proofs.Common.{◌≡◌, ◌++◌, take}
-use Rattle.stream_ident.specs.Event.{events_of}
+use Rattle.partition_reference.proofs.Prelude.{◌≡◌, ◌++◌, take, events_of}
 use Rattle.partition_reference.proofs.publishing.push_events.Given as goal
 
 abbrev pub invariant-loop-idx : goal.invariant-loop-idx

@@ -1,9 +1,5 @@
-use Rattle.std.proofs.Common.{◌≡◌, ◌∙◌, ap, sym, true, false}
-use Rattle.stream_ident.specs.Token.{token_lt}
+use Rattle.partition_reference.proofs.Prelude.{◌≡◌, ◌∙◌, ap, sym, true, false, token_lt, performs-along, memory-along, subscribe-latest, subscribe-at, subscribe-miss, low_token}
 use Rattle.stream_model.specs.declared.reply.Reply.TheVariants as reply
-use Rattle.stream_model.specs.Positions.{low_token}
-use Rattle.stream_model.proofs.Answering.{performs-along, memory-along}
-use Rattle.stream_model.proofs.PublishingSteps.{subscribe-latest, subscribe-at, subscribe-miss}
 use Rattle.partition_reference.proofs.publishing.subscribe.Goals as goal
 
 pub returns-then-is_token_before-clause-performs : goal.returns-then-is_token_before-clause-performs

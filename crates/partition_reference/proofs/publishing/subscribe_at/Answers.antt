@@ -1,7 +1,5 @@
-use Rattle.std.proofs.Common.{◌∙◌, ◌+◌, ◌++◌, ◌∷◌, [], length, ap, sym, arith}
+use Rattle.partition_reference.proofs.Prelude.{◌∙◌, ◌+◌, ◌++◌, ◌∷◌, [], length, ap, sym, arith, on-error, subscribe-full, subscribe-made, subscribe-takes_memory}
 use Rattle.stream_ident.specs.declared.ident.SubName.TheVariants as name
-use Rattle.stream_model.proofs.Answering.{on-error}
-use Rattle.stream_model.proofs.PublishingSteps.{subscribe-full, subscribe-made, subscribe-takes_memory}
 use Rattle.partition_reference.proofs.publishing.subscribe_at.Goals as goal
 
 pub returns-then-as_slice-p-clause-performs : goal.returns-then-as_slice-p-clause-performs

@@ -1,9 +1,4 @@
-use Rattle.std.proofs.Common.{◌+◌, ◌∙◌, ap, sym, not, length, take, fold, arith}
-use Rattle.std.specs.List.{flat_map}
-use Rattle.std.proofs.lemmas.List.{take_all}
-use Rattle.stream_ident.specs.Implying.{added}
-use Rattle.stream_model.specs.Pulling.{implied, subs_with}
-use Rattle.stream_ident.proofs.NewNames.{has, added-more}
+use Rattle.partition_reference.proofs.Prelude.{◌+◌, ◌∙◌, ap, sym, not, length, take, fold, arith, take_all, flat_map, has, added-more, added, implied, subs_with}
 use Rattle.partition_reference.proofs.ImpliedNames.{one-more, none-known, none-made, one-further}
 use Rattle.partition_reference.proofs.pulling.count_for_event.Goals as goal
 use Rattle.partition_reference.proofs.pulling.count_for_event.Goals.{then-is_implied+then-is_new, else-is_implied, else-is_implied-via-then-is_implied+else-is_new, else-is_implied-via-else-is_implied}

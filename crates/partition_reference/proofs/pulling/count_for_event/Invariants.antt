@@ -1,7 +1,4 @@
-use Rattle.std.proofs.Common.{◌≡◌, ◌≤◌, ◌+◌, ℕ, fold, length, take}
-use Rattle.std.specs.List.{flat_map}
-use Rattle.stream_ident.specs.Implying.{added}
-use Rattle.stream_model.specs.Pulling.{implied, subs_with}
+use Rattle.partition_reference.proofs.Prelude.{◌≡◌, ◌≤◌, ◌+◌, ℕ, fold, length, take, flat_map, added, implied, subs_with}
 use Rattle.partition_reference.proofs.pulling.count_for_event.Given as goal
 
 abbrev pub invariant-loop-index : goal.invariant-loop-index

@@ -1,10 +1,4 @@
-use Rattle.std.proofs.Common.{◌≡◌, ◌+◌, ℕ, List, ap, length, take, arith}
-use Rattle.std.specs.List.{flat_map}
-use Rattle.stream_ident.specs.declared.event.Event.{Event}
-use Rattle.stream_ident.specs.declared.ident.SubName.{SubName}
-use Rattle.stream_ident.proofs.NewNames.{added-more}
-use Rattle.stream_model.specs.declared.plain.Subscription.{Subscription}
-use Rattle.stream_model.specs.Pulling.{implied, subs_with}
+use Rattle.partition_reference.proofs.Prelude.{◌≡◌, ◌+◌, ℕ, List, ap, length, take, arith, flat_map, added-more, Event, SubName, implied, subs_with, Subscription}
 use Rattle.partition_reference.proofs.pulling.count_new.Goals as goal
 
 pub loop-index-preserved : goal.loop-index-preserved

@@ -1,6 +1,4 @@
-use Rattle.std.proofs.Common.{◌≡◌, ◌≤◌, ◌+◌, ◌*◌, ℕ, length, take}
-use Rattle.stream_ident.specs.declared.limits.TheConstants.{MOST_RULES}
-use Rattle.stream_model.specs.Pulling.{subs_with}
+use Rattle.partition_reference.proofs.Prelude.{◌≡◌, ◌≤◌, ◌+◌, ◌*◌, ℕ, length, take, MOST_RULES, subs_with}
 use Rattle.partition_reference.proofs.pulling.count_new.Given as goal
 
 abbrev pub invariant-loop-index : goal.invariant-loop-index

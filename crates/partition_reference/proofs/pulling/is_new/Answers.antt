@@ -1,7 +1,4 @@
-use Rattle.std.proofs.Common.{◌∙◌, ap, sym, not}
-use Rattle.std.proofs.lemmas.Bool.{both_ways, not-true, not-false}
-use Rattle.std.specs.List.{flat_map}
-use Rattle.stream_model.specs.Pulling.{all_implied, implied}
+use Rattle.partition_reference.proofs.Prelude.{◌∙◌, ap, sym, not, both_ways, not-true, not-false, flat_map, all_implied, implied}
 use Rattle.partition_reference.proofs.ImpliedNames.{new-at-last, known-there, known-made}
 use Rattle.partition_reference.proofs.pulling.is_new.Goals as goal
 use Rattle.partition_reference.proofs.pulling.is_new.Goals.{then-not-is_there, else-not-is_there}

@@ -1,5 +1,4 @@
-use Rattle.std.proofs.Common.{◌≡◌, drop}
-use Rattle.stream_ident.proofs.NewNames.{has}
+use Rattle.partition_reference.proofs.Prelude.{◌≡◌, drop, has}
 use Rattle.partition_reference.proofs.pulling.is_there.Given as goal
 
 abbrev pub invariant-loop-other : goal.invariant-loop-other

@@ -1,9 +1,4 @@
-use Rattle.std.proofs.Common.{◌∙◌, sym, List}
-use Rattle.std.specs.List.{flat_map}
-use Rattle.stream_ident.specs.declared.event.Event.{Event}
-use Rattle.stream_ident.specs.declared.ident.SubName.{SubName}
-use Rattle.stream_model.specs.declared.plain.Subscription.{Subscription}
-use Rattle.stream_model.specs.Pulling.{implied}
+use Rattle.partition_reference.proofs.Prelude.{◌∙◌, sym, List, flat_map, Event, SubName, implied, Subscription}
 use Rattle.partition_reference.proofs.ImpliedNames.{has-here, has-later}
 use Rattle.partition_reference.proofs.pulling.makes.Goals as goal
 

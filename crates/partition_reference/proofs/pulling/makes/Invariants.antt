@@ -1,6 +1,4 @@
-use Rattle.std.proofs.Common.{◌≡◌, ℕ, drop}
-use Rattle.stream_model.specs.Pulling.{all_implied}
-use Rattle.stream_ident.proofs.NewNames.{has}
+use Rattle.partition_reference.proofs.Prelude.{◌≡◌, ℕ, drop, has, all_implied}
 use Rattle.partition_reference.proofs.pulling.makes.Given as goal
 
 abbrev pub invariant-loop-event : goal.invariant-loop-event

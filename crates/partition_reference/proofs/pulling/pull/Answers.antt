@@ -1,8 +1,5 @@
-use Rattle.std.proofs.Common.{◌≡◌, ◌-◌, ◌∙◌, min, ap, sym, length}
+use Rattle.partition_reference.proofs.Prelude.{◌≡◌, ◌-◌, ◌∙◌, min, ap, sym, length, performs-along, memory-along, pull-dry, pull-some, pull-stale}
 use Rattle.stream_ident.specs.Blocks.{pull_size}
-use Rattle.stream_model.proofs.Answering.{performs-along, memory-along}
-use Rattle.stream_model.proofs.Refusals.{pull-stale}
-use Rattle.stream_model.proofs.PullingSteps.{pull-dry, pull-some}
 use Rattle.partition_reference.proofs.pulling.pull.Goals as goal
 
 pub returns-then-is_stale-clause-performs : goal.returns-then-is_stale-clause-performs

@@ -1,8 +1,4 @@
-use Rattle.std.proofs.Common.{◌∙◌, ap, sym, length, arith}
-use Rattle.stream_model.specs.Positions.{between}
-use Rattle.stream_model.specs.Pulling.{subs_with}
-use Rattle.stream_model.proofs.Answering.{on-error}
-use Rattle.stream_model.proofs.PullingSteps.{subs_up_to, counted-up_to, events-full, events-made, events-take_memory}
+use Rattle.partition_reference.proofs.Prelude.{◌∙◌, ap, sym, length, arith, on-error, subs_up_to, counted-up_to, events-full, events-made, events-take_memory, between, subs_with}
 use Rattle.partition_reference.proofs.pulling.pull_events.Goals as goal
 
 pub returns-then-as_slice-count-clause-performs : goal.returns-then-as_slice-count-clause-performs

@@ -1,9 +1,5 @@
-use Rattle.std.proofs.Common.{◌≡◌, ◌+◌, ◌*◌, ◌∙◌, min, ap, unwrap_or}
+use Rattle.partition_reference.proofs.Prelude.{◌≡◌, ◌+◌, ◌*◌, ◌∙◌, min, ap, unwrap_or, BLOCK_EVENTS, performs-along, memory-along, want-pressed, want-events, drops, room}
 use Rattle.stream_ident.specs.declared.ident.SubName.TheVariants as name
-use Rattle.stream_ident.specs.declared.limits.TheConstants.{BLOCK_EVENTS}
-use Rattle.stream_model.specs.Pulling.{drops, room}
-use Rattle.stream_model.proofs.Answering.{performs-along, memory-along}
-use Rattle.stream_model.proofs.PullingSteps.{want-pressed, want-events}
 use Rattle.partition_reference.proofs.pulling.pull_want.Goals as goal
 
 pub returns-then-count-eq0-clause-performs : goal.returns-then-count-eq0-clause-performs

@@ -1,8 +1,4 @@
-use Rattle.std.proofs.Common.{◌∙◌, ap, sym, fold}
-use Rattle.stream_ident.proofs.WordLemmas.{front-of-front}
-use Rattle.stream_ident.specs.Implying.{added}
-use Rattle.stream_model.specs.Pulling.{implied}
-use Rattle.stream_ident.proofs.NewNames.{added-more}
+use Rattle.partition_reference.proofs.Prelude.{◌∙◌, ap, sym, fold, added-more, front-of-front, added, implied}
 use Rattle.partition_reference.proofs.pulling.push_for_event.Goals as goal
 
 pub returns-in_err-push_by_rule-clause-front : goal.returns-in_err-push_by_rule-clause-front

@@ -1,7 +1,4 @@
-use Rattle.std.proofs.Common.{◌≡◌, fold, length, take}
-use Rattle.std.specs.List.{flat_map}
-use Rattle.stream_ident.specs.Implying.{added}
-use Rattle.stream_model.specs.Pulling.{implied}
+use Rattle.partition_reference.proofs.Prelude.{◌≡◌, fold, length, take, flat_map, added, implied}
 use Rattle.partition_reference.proofs.pulling.push_for_event.Given as goal
 
 abbrev pub invariant-loop-rule : goal.invariant-loop-rule

@@ -1,12 +1,4 @@
-use Rattle.std.proofs.Common.{◌∙◌, ap, sym, List, fold}
-use Rattle.std.specs.List.{flat_map}
-use Rattle.stream_ident.specs.declared.event.Event.{Event}
-use Rattle.stream_ident.specs.declared.ident.SubName.{SubName}
-use Rattle.stream_model.specs.declared.plain.Subscription.{Subscription}
-use Rattle.stream_ident.proofs.WordLemmas.{front-of-front}
-use Rattle.stream_ident.specs.Implying.{added}
-use Rattle.stream_model.specs.Pulling.{implied}
-use Rattle.stream_ident.proofs.NewNames.{added-more}
+use Rattle.partition_reference.proofs.Prelude.{◌∙◌, ap, sym, List, fold, flat_map, added-more, front-of-front, added, Event, SubName, implied, Subscription}
 use Rattle.partition_reference.proofs.pulling.push_implied.Goals as goal
 
 pub returns-in_err-push_for_event-clause-front : goal.returns-in_err-push_for_event-clause-front

@@ -1,5 +1,4 @@
-use Rattle.std.proofs.Common.{◌≡◌, length, take}
-use Rattle.stream_model.specs.Pulling.{subs_with}
+use Rattle.partition_reference.proofs.Prelude.{◌≡◌, length, take, subs_with}
 use Rattle.partition_reference.proofs.pulling.push_implied.Given as goal
 
 abbrev pub invariant-loop-event : goal.invariant-loop-event

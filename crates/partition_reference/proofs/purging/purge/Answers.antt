@@ -1,5 +1,4 @@
-use Rattle.std.proofs.Common.{sym, ◌∙◌}
-use Rattle.stream_model.proofs.Refusals.{purge-stale}
+use Rattle.partition_reference.proofs.Prelude.{sym, ◌∙◌, purge-stale}
 use Rattle.partition_reference.proofs.PurgingLemmas.{purge-done}
 use Rattle.partition_reference.proofs.purging.purge.Goals as goal
 

@@ -1,6 +1,4 @@
-use Rattle.std.proofs.Common.{drop}
-use Rattle.stream_model.specs.declared.plain.Grain.{Grain}
-use Rattle.stream_model.proofs.Lookups.{change_at-written}
+use Rattle.partition_reference.proofs.Prelude.{drop, change_at-written, Grain}
 use Rattle.partition_reference.proofs.records.drop_delivery.Goals as goal
 
 pub returns : goal.returns

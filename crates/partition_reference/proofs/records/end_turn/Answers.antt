@@ -1,6 +1,4 @@
-use Rattle.std.proofs.Common.{refl, None}
-use Rattle.stream_model.specs.declared.plain.Grain.{Grain}
-use Rattle.stream_model.proofs.Lookups.{change_at-written}
+use Rattle.partition_reference.proofs.Prelude.{refl, None, change_at-written, Grain}
 use Rattle.partition_reference.proofs.records.end_turn.Goals as goal
 
 pub returns : goal.returns

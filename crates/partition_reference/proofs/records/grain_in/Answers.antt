@@ -1,6 +1,4 @@
-use Rattle.std.proofs.Common.{length, arith, ap}
-use Rattle.stream_ident.specs.Name.{same_grain}
-use Rattle.stream_model.proofs.Lookups.{place_of-within, place_of-read}
+use Rattle.partition_reference.proofs.Prelude.{length, arith, ap, same_grain, place_of-within, place_of-read}
 use Rattle.partition_reference.proofs.records.grain_in.Goals as goal
 
 pub index-requires : goal.index-requires

@@ -1,7 +1,4 @@
-use Rattle.std.proofs.Common.{◌++◌, ap, ◌∙◌}
-use Rattle.stream_model.specs.declared.plain.Subscription.{Subscription}
-use Rattle.stream_model.specs.Places.{handled_also}
-use Rattle.stream_model.proofs.Lookups.{change_at-written}
+use Rattle.partition_reference.proofs.Prelude.{◌++◌, ap, ◌∙◌, change_at-written, handled_also, Subscription}
 use Rattle.partition_reference.proofs.records.handle.Goals as goal
 
 pub returns : goal.returns

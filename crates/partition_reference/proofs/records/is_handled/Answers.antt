@@ -1,9 +1,5 @@
-use Rattle.std.proofs.Common.{◌≡◌, ◌-◌, length, Some, sym, ap, ◌∙◌, nat_lt, arith, ℕ, nat_le, suc}
+use Rattle.partition_reference.proofs.Prelude.{◌≡◌, ◌-◌, length, Some, sym, ap, ◌∙◌, nat_lt, arith, ℕ, nat_le, suc, slice_get_within, same_Some, slice_get-get_or, slice_get, past-last, past}
 use Rattle.std.proofs.lemmas.Bool.Decides.{nat_tests}
-use Rattle.std.proofs.lemmas.Option.{slice_get_within, same_Some, slice_get-get_or}
-use Rattle.std.specs.List.{slice_get}
-use Rattle.stream_ident.specs.Words.{past}
-use Rattle.stream_ident.proofs.WordLemmas.{past-last}
 use Rattle.partition_reference.proofs.records.is_handled.Goals as goal
 
 -- a position is below one more where it isn't past it

@@ -1,8 +1,4 @@
-use Rattle.std.proofs.Common.{◌≡◌, ◌-◌, length, pred, Some, sym, ap, ◌∙◌, arith, suc}
-use Rattle.std.proofs.lemmas.Option.{slice_get_within, same_Some, slice_get-get_or}
-use Rattle.std.specs.List.{slice_get}
-use Rattle.stream_ident.specs.Words.{past}
-use Rattle.stream_ident.proofs.WordLemmas.{past-last}
+use Rattle.partition_reference.proofs.Prelude.{◌≡◌, ◌-◌, length, pred, Some, sym, ap, ◌∙◌, arith, suc, slice_get_within, same_Some, slice_get-get_or, slice_get, past-last, past}
 use Rattle.partition_reference.proofs.records.last_handled.Goals as goal
 
 pub returns-in-Some : goal.returns-in-Some

@@ -1,7 +1,4 @@
-use Rattle.std.proofs.Common.{◌≡◌, drop}
-use Rattle.stream_ident.specs.SubName.{same_sub}
-use Rattle.stream_ident.specs.Words.{first_at}
-use Rattle.stream_model.specs.Places.{place_of}
+use Rattle.partition_reference.proofs.Prelude.{◌≡◌, drop, same_sub, first_at, place_of}
 use Rattle.partition_reference.proofs.records.place_of_sub.Given as goal
 
 abbrev pub invariant-loop-place : goal.invariant-loop-place

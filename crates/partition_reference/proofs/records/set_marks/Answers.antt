@@ -1,6 +1,4 @@
-use Rattle.std.proofs.Common.{refl}
-use Rattle.stream_model.specs.declared.plain.Subscription.{Subscription}
-use Rattle.stream_model.proofs.Lookups.{change_at-written}
+use Rattle.partition_reference.proofs.Prelude.{refl, change_at-written, Subscription}
 use Rattle.partition_reference.proofs.records.set_marks.Goals as goal
 
 pub returns : goal.returns

@@ -1,5 +1,4 @@
-use Rattle.stream_model.specs.Places.{started}
-use Rattle.stream_model.proofs.Lookups.{change_at-written}
+use Rattle.partition_reference.proofs.Prelude.{change_at-written, started}
 use Rattle.partition_reference.proofs.records.start_turn.Goals as goal
 
 pub returns : goal.returns

@@ -1,6 +1,4 @@
-use Rattle.std.specs.Prelude.{is_ok}
-use Rattle.stream_model.specs.Pulling.{woken}
-use Rattle.stream_model.proofs.Lookups.{change_at-tried}
+use Rattle.partition_reference.proofs.Prelude.{is_ok, change_at-tried, woken}
 use Rattle.partition_reference.proofs.records.wake.Goals as goal
 
 pub returns : goal.returns

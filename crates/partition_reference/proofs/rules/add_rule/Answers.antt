@@ -1,5 +1,4 @@
-use Rattle.std.proofs.Common.{◌≡◌, ◌<◌, ◌≤◌, true, false, length, sym, ap, arith, ◌∙◌}
-use Rattle.stream_model.proofs.Answering.{on-error}
+use Rattle.partition_reference.proofs.Prelude.{◌≡◌, ◌<◌, ◌≤◌, true, false, length, sym, ap, arith, ◌∙◌, on-error}
 use Rattle.partition_reference.proofs.RulesLemmas.{is_among, add_rule-there, add_rule-full, add_rule-done, add_rule-takes_memory}
 use Rattle.partition_reference.proofs.rules.add_rule.Goals as goal
 

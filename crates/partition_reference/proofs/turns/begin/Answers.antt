@@ -1,7 +1,4 @@
-use Rattle.std.proofs.Common.{sym, ap, ◌∙◌}
-use Rattle.stream_model.specs.Positions.{grain_at}
-use Rattle.stream_model.specs.Turns.{begin_in}
-use Rattle.stream_model.proofs.Beginning.{begin-unknown, begin-known}
+use Rattle.partition_reference.proofs.Prelude.{sym, ap, ◌∙◌, begin-unknown, begin-known, grain_at, begin_in}
 use Rattle.partition_reference.proofs.turns.begin.Goals as goal
 
 pub returns-in_default : goal.returns-in_default

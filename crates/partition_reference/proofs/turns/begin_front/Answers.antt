@@ -1,12 +1,5 @@
-use Rattle.std.proofs.Common.{drop, sym, ap, ◌∙◌}
-use Rattle.stream_ident.specs.Name.{same_grain}
-use Rattle.stream_model.specs.declared.plain.Grain.{Grain}
-use Rattle.stream_model.specs.declared.plain.PlainPartition.{PlainPartition}
-use Rattle.stream_model.specs.Replies.{Reply}
+use Rattle.partition_reference.proofs.Prelude.{drop, sym, ap, ◌∙◌, same_grain, begin_front-unknown, begin_front-handled, begin_front-spent, begin_front-turn, grain_at-place, place_of-within, place_of-change, grain_at, Reply, Grain, PlainPartition}
 use Rattle.stream_model.specs.declared.reply.Reply.TheVariants as reply
-use Rattle.stream_model.specs.Positions.{grain_at}
-use Rattle.stream_model.proofs.Beginning.{begin_front-unknown, begin_front-handled, begin_front-spent, begin_front-turn, grain_at-place}
-use Rattle.stream_model.proofs.Lookups.{place_of-within, place_of-change}
 use Rattle.partition_reference.proofs.turns.begin_front.Goals as goal
 
 pub returns-in_default : goal.returns-in_default

@@ -1,7 +1,4 @@
-use Rattle.std.proofs.Common.{◌≡◌, ◌∷◌, drop, sym, ap, subst, ◌∙◌}
-use Rattle.stream_model.specs.declared.plain.Grain.{Grain}
-use Rattle.stream_model.specs.Turns.{begin_front, begin_in}
-use Rattle.stream_model.proofs.Beginning.{begin_in-busy, begin_in-idle, begin_in-nothing, begin_in-front, grain_at-is, none-first, some-first}
+use Rattle.partition_reference.proofs.Prelude.{◌≡◌, ◌∷◌, drop, sym, ap, subst, ◌∙◌, begin_in-busy, begin_in-idle, begin_in-nothing, begin_in-front, grain_at-is, none-first, some-first, begin_front, begin_in, Grain}
 use Rattle.partition_reference.proofs.turns.begin_in.Goals as goal
 
 pub returns-then-is_some : goal.returns-then-is_some

@@ -1,11 +1,4 @@
-use Rattle.std.proofs.Common.{◌≡◌, ◌+◌, ◌<◌, suc, ◌∷◌, drop, length, sym, ap, subst, ◌∙◌, arith}
-use Rattle.std.specs.List.{AllByRecursion}
-use Rattle.stream_ident.specs.Name.{same_grain}
-use Rattle.stream_model.specs.declared.plain.Grain.{Grain}
-use Rattle.stream_model.specs.Places.{started}
-use Rattle.stream_model.specs.Turns.{begin_turn, front_of}
-use Rattle.stream_model.proofs.Beginning.{begin_turn-done, grain_at-is, turn-within}
-use Rattle.stream_model.proofs.Lookups.{place_of-within, place_of-change}
+use Rattle.partition_reference.proofs.Prelude.{◌≡◌, ◌+◌, ◌<◌, suc, ◌∷◌, drop, length, sym, ap, subst, ◌∙◌, arith, AllByRecursion, same_grain, begin_turn-done, grain_at-is, turn-within, place_of-within, place_of-change, started, begin_turn, front_of, Grain}
 use Rattle.partition_reference.proofs.turns.begin_turn.Goals as goal
 
 pub start_turn-requires : goal.start_turn-requires

@@ -1,13 +1,5 @@
-use Rattle.std.proofs.Common.{◌≡◌, true, sym, ap, subst, ◌∙◌}
-use Rattle.std.specs.Prelude.{OnErr}
-use Rattle.stream_model.specs.declared.plain.PlainPartition.{PlainPartition}
+use Rattle.partition_reference.proofs.Prelude.{◌≡◌, true, sym, ap, subst, ◌∙◌, OnErr, Performs, grain_at-is, grain_at, sub_at, Reply, takes_memory, commit_for, PlainPartition}
 use Rattle.stream_model.specs.declared.plain.RunningTurn.{RunningTurn}
-use Rattle.stream_model.specs.Replies.{Reply}
-use Rattle.stream_model.specs.Positions.{grain_at, sub_at}
-use Rattle.stream_model.specs.Step.{takes_memory}
-use Rattle.stream_ident.specs.Words.{Performs}
-use Rattle.stream_model.specs.Turns.{commit_for}
-use Rattle.stream_model.proofs.Beginning.{grain_at-is}
 use Rattle.stream_model.proofs.Committing.{commit-unknown, commit-none, commit-other, commit-current}
 use Rattle.partition_reference.proofs.turns.commit.Goals as goal
 

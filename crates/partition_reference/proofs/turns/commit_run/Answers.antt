@@ -1,12 +1,4 @@
-use Rattle.std.proofs.Common.{None, sym, ap, ◌∙◌}
-use Rattle.stream_ident.specs.Name.{same_grain}
-use Rattle.stream_ident.specs.SubName.{same_sub}
-use Rattle.stream_model.specs.declared.plain.Grain.{Grain}
-use Rattle.stream_model.specs.Places.{change_at, handled_also}
-use Rattle.stream_model.specs.Positions.{grain_at, token_at}
-use Rattle.stream_model.proofs.Beginning.{grain_at-place}
-use Rattle.stream_model.proofs.Lookups.{place_of-within, place_of-change}
-use Rattle.stream_model.proofs.Answering.{on-error}
+use Rattle.partition_reference.proofs.Prelude.{None, sym, ap, ◌∙◌, same_grain, same_sub, on-error, grain_at-place, place_of-within, place_of-change, change_at, handled_also, grain_at, token_at, Grain}
 use Rattle.stream_model.proofs.Committing.{commit_for-unknown, commit_for-closed, commit_for-done, commit_for-takes}
 use Rattle.partition_reference.proofs.turns.commit_run.Goals as goal
 

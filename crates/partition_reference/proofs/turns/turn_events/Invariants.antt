@@ -1,5 +1,4 @@
-use Rattle.std.proofs.Common.{◌≡◌, ◌+◌, ◌++◌, drop, length}
-use Rattle.stream_model.specs.Positions.{events_at}
+use Rattle.partition_reference.proofs.Prelude.{◌≡◌, ◌+◌, ◌++◌, drop, length, events_at}
 use Rattle.partition_reference.proofs.turns.turn_events.Given as goal
 
 abbrev pub invariant-loop-position : goal.invariant-loop-position

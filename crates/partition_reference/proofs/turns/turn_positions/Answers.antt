@@ -1,7 +1,4 @@
-use Rattle.std.proofs.Common.{◌<◌, ◌-◌, ◌+◌, ◌++◌, length, suc, take, drop, sym, ap, ◌∙◌, arith}
-use Rattle.std.proofs.lemmas.List.{length_push}
-use Rattle.stream_model.specs.Turns.{front_of}
-use Rattle.stream_ident.specs.SubName.{same_sub}
+use Rattle.partition_reference.proofs.Prelude.{◌<◌, ◌-◌, ◌+◌, ◌++◌, length, suc, take, drop, sym, ap, ◌∙◌, arith, length_push, same_sub, front_of}
 use Rattle.stream_ident.proofs.RisingFronts.{front-start, front-more, front-full, front-end, front-stop}
 use Rattle.stream_ident.proofs.SameValues.{same_sub-refl}
 use Rattle.stream_model.specs.declared.plain.Delivery.{Delivery}

@@ -1,5 +1,4 @@
-use Rattle.std.proofs.Common.{◌≡◌, ◌-◌, ◌≤◌, ◌++◌, suc, drop, length}
-use Rattle.stream_model.specs.Turns.{front_of}
+use Rattle.partition_reference.proofs.Prelude.{◌≡◌, ◌-◌, ◌≤◌, ◌++◌, suc, drop, length, front_of}
 use Rattle.partition_reference.proofs.turns.turn_positions.Given as goal
 
 abbrev pub invariant-loop-delivery : goal.invariant-loop-delivery

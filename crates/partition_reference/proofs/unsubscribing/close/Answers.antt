@@ -1,6 +1,4 @@
-use Rattle.std.proofs.Common.{refl, false}
-use Rattle.stream_model.specs.declared.plain.Subscription.{Subscription}
-use Rattle.stream_model.proofs.Lookups.{change_at-written}
+use Rattle.partition_reference.proofs.Prelude.{refl, false, change_at-written, Subscription}
 use Rattle.partition_reference.proofs.unsubscribing.close.Goals as goal
 
 pub returns : goal.returns

@@ -1,8 +1,5 @@
-use Rattle.std.proofs.Common.{sym, ◌∙◌}
-use Rattle.stream_ident.specs.Name.{same_grain}
-use Rattle.stream_model.specs.Publishing.{without}
+use Rattle.partition_reference.proofs.Prelude.{sym, ◌∙◌, same_grain, place_of-within, without}
 use Rattle.stream_model.proofs.ChangedValues.{place_of-changed, place_of-unchanged}
-use Rattle.stream_model.proofs.Lookups.{place_of-within}
 use Rattle.partition_reference.proofs.unsubscribing.drop_deliveries.Goals as goal
 
 pub returns-in_default : goal.returns-in_default

@@ -1,8 +1,4 @@
-use Rattle.std.proofs.Common.{ap, filter, not, ◌∙◌}
-use Rattle.stream_ident.specs.SubName.{same_sub}
-use Rattle.stream_model.specs.declared.plain.Grain.{Grain}
-use Rattle.stream_model.specs.Publishing.{without}
-use Rattle.stream_model.proofs.Lookups.{change_at-written}
+use Rattle.partition_reference.proofs.Prelude.{ap, filter, not, ◌∙◌, same_sub, change_at-written, without, Grain}
 use Rattle.partition_reference.proofs.unsubscribing.drop_deliveries_at.Goals as goal
 
 pub returns : goal.returns

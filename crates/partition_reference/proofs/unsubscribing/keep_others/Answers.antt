@@ -1,4 +1,4 @@
-use Rattle.std.proofs.Common.{rules}
+use Rattle.partition_reference.proofs.Prelude.{rules}
 use Rattle.std.proofs.lemmas.Fn.{filter_same}
 use Rattle.partition_reference.proofs.unsubscribing.keep_others.Goals as goal
 

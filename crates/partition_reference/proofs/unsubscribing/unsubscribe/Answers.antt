@@ -1,8 +1,4 @@
-use Rattle.std.proofs.Common.{sym, ap, length, ◌∙◌, false}
-use Rattle.stream_ident.specs.SubName.{same_sub}
-use Rattle.stream_model.specs.declared.plain.Subscription.{Subscription}
-use Rattle.stream_model.proofs.Refusals.{unsubscribe-implicit, unsubscribe-unknown}
-use Rattle.stream_model.proofs.Lookups.{place_of-change, place_of-within, place_of-none}
+use Rattle.partition_reference.proofs.Prelude.{sym, ap, length, ◌∙◌, false, same_sub, place_of-change, place_of-within, place_of-none, unsubscribe-implicit, unsubscribe-unknown, Subscription}
 use Rattle.partition_reference.proofs.UnsubscribingLemmas.{unsubscribe-closed, unsubscribe-done}
 use Rattle.partition_reference.proofs.unsubscribing.unsubscribe.Goals as goal
 
