@@ -1,19 +1,16 @@
--- How many permits a history gives.
-use Rattle.std.proofs.Common.{◌≡◌, ◌∙◌, ℕ, ◌+◌, ◌≤◌, true, false, List, [], ◌∷◌, length, filter, Option, Some, None, is_some, refl, sym, ap, subst, arith}
-use Rattle.std.specs.Prelude.{nat_lt, ◌==◌, if◌then◌else◌}
+-- How many permits a history gives, and their numbers.
+use Rattle.std.proofs.Common.{◌≡◌, ◌∙◌, ℕ, suc, ◌+◌, ◌≤◌, Bool, true, false, List, [], ◌∷◌, length, filter, Option, refl, sym, ap, subst, arith}
+use Rattle.std.specs.Prelude.{if◌then◌else◌}
 use Rattle.std.proofs.lemmas.Bool.{ltb-true, ltb-false}
 use Rattle.stream_ident.specs.declared.ident.GrainId.{GrainId}
-use Rattle.stream_ident.specs.Words.{has_number}
 use Rattle.activation_directory.specs.declared.op.DirectoryOp.{DirectoryOp}
-use Rattle.activation_directory.specs.declared.op.DirectoryOp.TheVariants.{Enter, Leave, Unplace, Down}
 use Rattle.activation_directory.specs.declared.place.Place.{Place}
 use Rattle.activation_directory.specs.declared.reply.DirectoryReply.{DirectoryReply}
-use Rattle.activation_directory.specs.declared.reply.DirectoryReply.TheVariants.{Elsewhere, Busy, Spent, NotYours, NotPlaced, NoneLeft}
+use Rattle.activation_directory.specs.declared.reply.DirectoryReply.TheVariants.{Entered, Spent}
 use Rattle.activation_directory.specs.Laws.{is_permit, permits_given}
-use Rattle.activation_directory.specs.Placed.{place_in, least_on}
 use Rattle.activation_directory.specs.Plain.{PlainDirectory, empty}
-use Rattle.activation_directory.specs.Step.{Entry, Leads, Stands, admit, enter, leave, unplace, down, step}
-use Rattle.activation_directory.proofs.Cases.{if-cases}
+use Rattle.activation_directory.specs.Step.{Entry, Leads, Stands, enter, step}
+use Rattle.activation_directory.proofs.Cases.{enter-cases, step-cases}
 
 -- one, where a permit is given
 abbrev pub one : DirectoryReply → ℕ
@@ -23,39 +20,13 @@ one reply = if is_permit reply then 1 else 0
 abbrev Counts : PlainDirectory → PlainDirectory × DirectoryReply → Type 0
 Counts d stepped = (stepped.0.given ≡ one stepped.1 + d.given) × (stepped.0.permits ≡ d.permits) × (d.given ≤ d.permits → stepped.0.given ≤ d.permits)
 
-stays : (d : PlainDirectory) (reply : DirectoryReply) → one reply ≡ 0 → Counts d (d, reply)
-stays d reply none = (omega (arith, none), refl, λ fits. fits)
-
-counts-admit : (d : PlainDirectory) (grain : GrainId) (silo : ℕ) → Counts d (admit d grain silo)
-counts-admit d grain silo =
-    if-cases (Counts d) (nat_lt d.given d.permits) _ _
-    (λ more. (omega arith, refl, λ fits. ltb-true d.given d.permits more)) (λ spent. stays d Spent refl)
-
-counts-enter : (d : PlainDirectory) (grain : GrainId) (silo : ℕ) (found : Option Place) → Counts d (enter d grain silo found)
-counts-enter d grain silo None = counts-admit d grain silo
-counts-enter d grain silo (Some place) =
-    if-cases (Counts d) (place.silo == silo) _ _
-    (λ here. if-cases (Counts d) (is_some place.permit) _ _ (λ busy. stays d Busy refl) (λ free. counts-admit d grain silo)) (λ elsewhere. stays d (Elsewhere place.silo) refl)
-
-counts-leave : (d : PlainDirectory) (grain : GrainId) (permit : ℕ) (found : Option Place) → Counts d (leave d grain permit found)
-counts-leave d grain permit None = stays d NotYours refl
-counts-leave d grain permit (Some place) =
-    if-cases (Counts d) (has_number permit place.permit) _ _ (λ is. (omega arith, refl, λ fits. fits)) (λ isnt. stays d NotYours refl)
-
-counts-unplace : (d : PlainDirectory) (grain : GrainId) (found : Option Place) → Counts d (unplace d grain found)
-counts-unplace d grain None = stays d NotPlaced refl
-counts-unplace d grain (Some place) =
-    if-cases (Counts d) (is_some place.permit) _ _ (λ busy. stays d Busy refl) (λ free. (omega arith, refl, λ fits. fits))
-
-counts-down : (d : PlainDirectory) (silo : ℕ) (found : Option GrainId) → Counts d (down d silo found)
-counts-down d silo None = stays d NoneLeft refl
-counts-down d silo (Some grain) = (omega arith, refl, λ fits. fits)
+gives-none : (reply : DirectoryReply) → is_permit reply ≡ false → one reply ≡ 0
+gives-none reply none = ap (λ (b : Bool). if b then 1 else 0) none
 
 counts-step : (d : PlainDirectory) (op : DirectoryOp) → Counts d (step d op)
-counts-step d (Enter grain silo) = counts-enter d grain silo (place_in d.placed grain)
-counts-step d (Leave grain permit) = counts-leave d grain permit (place_in d.placed grain)
-counts-step d (Unplace grain) = counts-unplace d grain (place_in d.placed grain)
-counts-step d (Down silo) = counts-down d silo (least_on silo d.placed)
+counts-step d op = step-cases (Counts d) d op
+    (λ reply none. (omega (arith, gives-none reply none), refl, λ fits. fits)) (λ grain place more. (omega arith, refl, λ fits. ltb-true d.given d.permits more))
+    (λ grain place. (omega arith, refl, λ fits. fits)) (λ grain reply none. (omega (arith, gives-none reply none), refl, λ fits. fits))
 
 given-first : (x : Entry) (xs : List Entry) → permits_given (x ∷ xs) ≡ one x.reply + permits_given xs
 given-first x xs =
@@ -86,17 +57,17 @@ counts-history permits history d stands =
     let given : d.given ≡ permits_given history + 0 = all.0 in
     (omega arith, all.1, all.2)
 
+pub grows-leads : (d : PlainDirectory) (entries : List Entry) (e : PlainDirectory) → Leads d entries e → d.given ≤ e.given
+grows-leads d [] e same = omega (arith, ap (λ (x : PlainDirectory). x.given) same)
+grows-leads d (x ∷ xs) e leads = omega (arith, (counts-step d x.op).0, grows-leads (step d x.op).0 xs e leads.1)
+
 -- a refusal as spent comes where no more may be given
-abbrev IsLast : PlainDirectory → PlainDirectory × DirectoryReply → Type 0
-IsLast d stepped = stepped.1 ≡ Spent → d.permits ≤ d.given
+pub last-enter : (d : PlainDirectory) (grain : GrainId) (silo : ℕ) (found : Option Place) → (enter d grain silo found).1 ≡ Spent → d.permits ≤ d.given
+last-enter d grain silo found =
+    enter-cases (λ stepped. stepped.1 ≡ Spent → d.permits ≤ d.given) d grain silo found (λ more told. absurd (cc)) (λ spent told. ltb-false d.given d.permits spent) (λ told. absurd (cc)) (λ other away told. absurd (cc))
 
-last-admit : (d : PlainDirectory) (grain : GrainId) (silo : ℕ) → IsLast d (admit d grain silo)
-last-admit d grain silo =
-    if-cases (IsLast d) (nat_lt d.given d.permits) _ _ (λ more told. absurd (cc)) (λ spent told. ltb-false d.given d.permits spent)
-
-pub last-enter : (d : PlainDirectory) (grain : GrainId) (silo : ℕ) (found : Option Place) → IsLast d (enter d grain silo found)
-last-enter d grain silo None = last-admit d grain silo
-last-enter d grain silo (Some place) =
-    if-cases (IsLast d) (place.silo == silo) _ _
-    (λ here. if-cases (IsLast d) (is_some place.permit) _ _ (λ busy told. absurd (cc)) (λ free. last-admit d grain silo))
-    (λ elsewhere told. absurd (cc))
+-- the permit that is given is the next one
+pub numbered-enter : (d : PlainDirectory) (grain : GrainId) (silo permit : ℕ) (found : Option Place) → (enter d grain silo found).1 ≡ Entered permit → (permit ≡ suc d.given) × ((enter d grain silo found).0.given ≡ permit)
+numbered-enter d grain silo permit found =
+    enter-cases (λ stepped. stepped.1 ≡ Entered permit → (permit ≡ suc d.given) × (stepped.0.given ≡ permit)) d grain silo found
+    (λ more told. let same : suc d.given ≡ permit = cc in (sym same, same)) (λ spent told. absurd (cc)) (λ told. absurd (cc)) (λ other away told. absurd (cc))

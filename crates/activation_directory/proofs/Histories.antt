@@ -1,5 +1,5 @@
 -- A legal history in two parts, and what an entry of it adds to what is found in it.
-use Rattle.std.proofs.Common.{◌≡◌, ℕ, List, [], ◌∷◌, ◌++◌, refl, arith}
+use Rattle.std.proofs.Common.{ℕ, List, [], ◌∷◌, ◌++◌, refl}
 use Rattle.std.proofs.lemmas.List.Elements.{Contains-append_right}
 use Rattle.stream_ident.specs.declared.ident.GrainId.{GrainId}
 use Rattle.activation_directory.specs.Laws.{IsFreed, left, released}
@@ -13,12 +13,6 @@ Leads-split d [] later e leads = (d, refl, leads)
 Leads-split d (x ∷ xs) later e leads =
     let rest = Leads-split (step d x.op).0 xs later e leads.1 in
     (rest.0, (leads.0, rest.1), rest.2)
-
-pub IsFreed-left : (x : Entry) (xs : List Entry) (grain : GrainId) (silo permit : ℕ) → x ≡ left grain permit → IsFreed (x ∷ xs) grain silo permit
-IsFreed-left x xs grain silo permit same = inl (0, omega arith, same)
-
-pub IsFreed-released : (x : Entry) (xs : List Entry) (grain : GrainId) (silo permit count : ℕ) → x ≡ released grain silo count → IsFreed (x ∷ xs) grain silo permit
-IsFreed-released x xs grain silo permit count same = inr (count, (0, omega arith, same))
 
 pub IsFreed-later : (x : Entry) (xs : List Entry) (grain : GrainId) (silo permit : ℕ) → IsFreed xs grain silo permit → IsFreed (x ∷ xs) grain silo permit
 IsFreed-later x xs grain silo permit (inl there) = inl (Contains-append_right (x ∷ []) xs (left grain permit) there)

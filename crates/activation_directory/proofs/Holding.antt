@@ -1,11 +1,10 @@
 -- A permit that is out stays out until it is given back or the grain is taken from the silo that had it.
-use Rattle.std.proofs.Common.{◌≡◌, ◌∙◌, ℕ, suc, true, false, List, [], ◌∷◌, ◌++◌, Option, Some, None, is_some, refl, sym, ap, subst}
-use Rattle.std.specs.Prelude.{◌⊎◌, nat_lt, ◌==◌}
+use Rattle.std.proofs.Common.{◌≡◌, ◌∙◌, ℕ, suc, true, false, List, [], ◌∷◌, ◌++◌, Option, Some, None, refl, sym, ap, subst, arith}
+use Rattle.std.specs.Prelude.{◌⊎◌, ◌==◌}
 use Rattle.std.proofs.lemmas.Bool.{eqb-true}
 use mathlib.Core.Logic.{inl, inr}
 use Rattle.stream_ident.specs.declared.ident.GrainId.{GrainId}
 use Rattle.stream_ident.specs.Name.{same_grain}
-use Rattle.stream_ident.specs.Words.{has_number}
 use Rattle.activation_directory.specs.declared.op.DirectoryOp.{DirectoryOp}
 use Rattle.activation_directory.specs.declared.op.DirectoryOp.TheVariants.{Enter, Leave, Unplace, Down}
 use Rattle.activation_directory.specs.declared.place.Place.{Place}
@@ -14,10 +13,10 @@ use Rattle.activation_directory.specs.declared.reply.DirectoryReply.TheVariants.
 use Rattle.activation_directory.specs.Laws.{IsFreed, entered}
 use Rattle.activation_directory.specs.Placed.{place_in, without, least_on, count_on}
 use Rattle.activation_directory.specs.Plain.{PlainDirectory}
-use Rattle.activation_directory.specs.Step.{Entry, Leads, admit, enter, leave, unplace, down, step}
-use Rattle.activation_directory.proofs.Cases.{if-cases}
+use Rattle.activation_directory.specs.Step.{Entry, Leads, enter, leave, unplace, down, step}
+use Rattle.activation_directory.proofs.Cases.{if-cases, enter-cases, leave-cases, unplace-cases}
 use Rattle.stream_ident.proofs.SameValues.{same_grain-equal}
-use Rattle.activation_directory.proofs.Histories.{IsFreed-left, IsFreed-released, IsFreed-later}
+use Rattle.activation_directory.proofs.Histories.{IsFreed-later}
 use Rattle.activation_directory.proofs.PlacedLemmas.{place_in-here, place_in-other, place_in-without}
 use Rattle.activation_directory.proofs.Unique.{IsPlacedOn, IsUnique, least_on-placed, unique-step}
 
@@ -32,31 +31,6 @@ Frees grain silo permit op reply =
 
 abbrev Goes : GrainId → ℕ → ℕ → DirectoryOp → PlainDirectory × DirectoryReply → Type 0
 Goes grain silo permit op stepped = Holds grain silo permit stepped.0 ⊎ Frees grain silo permit op stepped.1
-
--- the grain's place is what it was
-abbrev Rests : GrainId → PlainDirectory → PlainDirectory × DirectoryReply → Type 0
-Rests grain d stepped = place_in stepped.0.placed grain ≡ place_in d.placed grain
-
--- operations on another grain
-admit-other : (d : PlainDirectory) (grain other : GrainId) (silo : ℕ) → same_grain grain other ≡ false → Rests grain d (admit d other silo)
-admit-other d grain other silo apart =
-    if-cases (Rests grain d) (nat_lt d.given d.permits) _ _ (λ more. place_in-other d.placed grain other _ apart) (λ spent. refl)
-
-enter-other : (d : PlainDirectory) (grain other : GrainId) (silo : ℕ) (found : Option Place) → same_grain grain other ≡ false → Rests grain d (enter d other silo found)
-enter-other d grain other silo None apart = admit-other d grain other silo apart
-enter-other d grain other silo (Some place) apart =
-    if-cases (Rests grain d) (place.silo == silo) _ _
-    (λ here. if-cases (Rests grain d) (is_some place.permit) _ _ (λ busy. refl) (λ free. admit-other d grain other silo apart)) (λ elsewhere. refl)
-
-leave-other : (d : PlainDirectory) (grain other : GrainId) (permit : ℕ) (found : Option Place) → same_grain grain other ≡ false → Rests grain d (leave d other permit found)
-leave-other d grain other permit None apart = refl
-leave-other d grain other permit (Some place) apart =
-    if-cases (Rests grain d) (has_number permit place.permit) _ _ (λ is. place_in-other d.placed grain other _ apart) (λ isnt. refl)
-
-unplace-other : (d : PlainDirectory) (grain other : GrainId) (found : Option Place) → same_grain grain other ≡ false → Rests grain d (unplace d other found)
-unplace-other d grain other None apart = refl
-unplace-other d grain other (Some place) apart =
-    if-cases (Rests grain d) (is_some place.permit) _ _ (λ busy. refl) (λ free. place_in-without d.placed grain other apart)
 
 -- operations on the grain itself
 module _ (d : PlainDirectory) (grain : GrainId) (silo permit : ℕ) (holds : Holds grain silo permit d) (unique : IsUnique d.placed) where
@@ -91,23 +65,23 @@ module _ (d : PlainDirectory) (grain : GrainId) (silo permit : ℕ) (holds : Hol
         | false ↦ λ apart. inl (place_in-without d.placed grain other apart ∙ holds)
       ]) refl
 
-  -- one step
+  -- one step: on this grain, or on another, whose place is not this one's
+  either : (op : GrainId → DirectoryOp) (other : GrainId) → Goes grain silo permit (op grain) (step d (op grain)) → (same_grain grain other ≡ false → place_in (step d (op other)).0.placed grain ≡ place_in d.placed grain)
+      → Goes grain silo permit (op other) (step d (op other))
+  either op other on off =
+      (elim (same_grain grain other) as (λ b. same_grain grain other ≡ b → Goes grain silo permit (op other) (step d (op other))) [
+        | true ↦ λ same. subst (λ g. Goes grain silo permit (op g) (step d (op g))) (same_grain-equal grain other same) on
+        | false ↦ λ apart. inl (off apart ∙ holds)
+      ]) refl
+
+  abbrev Rests : PlainDirectory × DirectoryReply → Type 0
+  Rests stepped = place_in stepped.0.placed grain ≡ place_in d.placed grain
+
   keeps : (op : DirectoryOp) → Goes grain silo permit op (step d op)
-  keeps (Enter other asked) =
-      (elim (same_grain grain other) as (λ b. same_grain grain other ≡ b → Goes grain silo permit (Enter other asked) (step d (Enter other asked))) [
-        | true ↦ λ same. subst (λ g. Goes grain silo permit (Enter g asked) (step d (Enter g asked))) (same_grain-equal grain other same) (enter-same asked)
-        | false ↦ λ apart. inl (enter-other d grain other asked (place_in d.placed other) apart ∙ holds)
-      ]) refl
-  keeps (Leave other given) =
-      (elim (same_grain grain other) as (λ b. same_grain grain other ≡ b → Goes grain silo permit (Leave other given) (step d (Leave other given))) [
-        | true ↦ λ same. subst (λ g. Goes grain silo permit (Leave g given) (step d (Leave g given))) (same_grain-equal grain other same) (leave-same given)
-        | false ↦ λ apart. inl (leave-other d grain other given (place_in d.placed other) apart ∙ holds)
-      ]) refl
-  keeps (Unplace other) =
-      (elim (same_grain grain other) as (λ b. same_grain grain other ≡ b → Goes grain silo permit (Unplace other) (step d (Unplace other))) [
-        | true ↦ λ same. subst (λ g. Goes grain silo permit (Unplace g) (step d (Unplace g))) (same_grain-equal grain other same) unplace-same
-        | false ↦ λ apart. inl (unplace-other d grain other (place_in d.placed other) apart ∙ holds)
-      ]) refl
+  keeps (Enter other asked) = either (λ g. Enter g asked) other (enter-same asked)
+      (λ apart. enter-cases Rests d other asked (place_in d.placed other) (λ more. place_in-other d.placed grain other _ apart) (λ spent. refl) refl (λ away there. refl))
+  keeps (Leave other given) = either (λ g. Leave g given) other (leave-same given) (λ apart. leave-cases Rests d other given (place_in d.placed other) refl (λ place. place_in-other d.placed grain other place apart))
+  keeps (Unplace other) = either Unplace other unplace-same (λ apart. unplace-cases Rests d other (place_in d.placed other) refl refl (place_in-without d.placed grain other apart))
   keeps (Down gone) = down-any gone (least_on gone d.placed) refl
 
   -- no second permit
@@ -118,8 +92,8 @@ module _ (d : PlainDirectory) (grain : GrainId) (silo permit : ℕ) (holds : Hol
 
 -- an entry whose operation and reply free the permit
 freed : (x : Entry) (xs : List Entry) (grain : GrainId) (silo permit : ℕ) → Frees grain silo permit x.op x.reply → IsFreed (x ∷ xs) grain silo permit
-freed x xs grain silo permit (inl gave) = IsFreed-left x xs grain silo permit (λ i. record { op = gave.0 i; reply = gave.1 i })
-freed x xs grain silo permit (inr fell) = IsFreed-released x xs grain silo permit fell.0 (λ i. record { op = fell.1 i; reply = fell.2 i })
+freed x xs grain silo permit (inl gave) = inl (0, omega arith, λ i. record { op = gave.0 i; reply = gave.1 i })
+freed x xs grain silo permit (inr fell) = inr (fell.0, (0, omega arith, λ i. record { op = fell.1 i; reply = fell.2 i }))
 
 -- until the grain is entered again
 pub until : (d : PlainDirectory) (grain : GrainId) (silo permit : ℕ) → Holds grain silo permit d → IsUnique d.placed
@@ -134,19 +108,8 @@ until d grain silo permit holds unique (x ∷ xs) later e asked other leads =
     by (inr frees) rest = freed x xs grain silo permit (subst (λ reply. Frees grain silo permit x.op reply) leads.0 frees)
 
 -- a grain that was entered holds its permit
-abbrev IsHeld : GrainId → ℕ → ℕ → PlainDirectory × DirectoryReply → Type 0
-IsHeld grain silo permit stepped = stepped.1 ≡ Entered permit → Holds grain silo permit stepped.0
-
-held-admit : (d : PlainDirectory) (grain : GrainId) (silo permit : ℕ) → IsHeld grain silo permit (admit d grain silo)
-held-admit d grain silo permit =
-    if-cases (IsHeld grain silo permit) (nat_lt d.given d.permits) _ _
-    (λ more told. let same : suc d.given ≡ permit = cc in
-    place_in-here d.placed grain _ ∙ ap {B = Option Place} (λ n. Some (record { silo = silo; permit = Some n })) same)
-    (λ spent told. absurd (cc))
-
-pub held-enter : (d : PlainDirectory) (grain : GrainId) (silo permit : ℕ) (found : Option Place) → IsHeld grain silo permit (enter d grain silo found)
-held-enter d grain silo permit None = held-admit d grain silo permit
-held-enter d grain silo permit (Some place) =
-    if-cases (IsHeld grain silo permit) (place.silo == silo) _ _
-    (λ here. if-cases (IsHeld grain silo permit) (is_some place.permit) _ _ (λ busy told. absurd (cc)) (λ free. held-admit d grain silo permit))
-    (λ elsewhere told. absurd (cc))
+pub held-enter : (d : PlainDirectory) (grain : GrainId) (silo permit : ℕ) (found : Option Place) → (enter d grain silo found).1 ≡ Entered permit → Holds grain silo permit (enter d grain silo found).0
+held-enter d grain silo permit found =
+    enter-cases (λ stepped. stepped.1 ≡ Entered permit → Holds grain silo permit stepped.0) d grain silo found
+    (λ more told. let same : suc d.given ≡ permit = cc in place_in-here d.placed grain _ ∙ ap {B = Option Place} (λ n. Some (record { silo = silo; permit = Some n })) same)
+    (λ spent told. absurd (cc)) (λ told. absurd (cc)) (λ other away told. absurd (cc))

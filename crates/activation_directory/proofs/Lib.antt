@@ -2,7 +2,6 @@ mod Cases
 mod Counting
 mod Histories
 mod Holding
-mod Numbers
 pub mod OnePermit
 mod Others
 mod PlacedLemmas

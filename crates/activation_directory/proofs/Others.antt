@@ -1,5 +1,5 @@
 -- How many grains are left on a silo where one of them is taken out.
-use Rattle.std.proofs.Common.{◌≡◌, ◌∙◌, ℕ, suc, ◌+◌, true, false, [], ◌∷◌, Option, Some, None, refl, sym, ap, arith}
+use Rattle.std.proofs.Common.{◌≡◌, ◌∙◌, ℕ, ◌+◌, true, false, [], ◌∷◌, Option, Some, None, refl, sym, ap, arith}
 use Rattle.std.specs.Prelude.{IfSome, ◌==◌, if◌then◌else◌}
 use Rattle.std.specs.List.{AllByRecursion, IsDistinct}
 use Rattle.std.specs.Map.{keys_of}
@@ -8,7 +8,6 @@ use Rattle.stream_ident.specs.Name.{same_grain}
 use Rattle.activation_directory.specs.declared.place.Place.{Place}
 use Rattle.activation_directory.specs.Placed.{Placed, place_in, without, least_on, count_on}
 use Rattle.activation_directory.proofs.Unique.{IsPlacedOn, IsUnique, least_on-placed}
-use Rattle.activation_directory.proofs.Walk.{count_on-yes, count_on-no}
 
 -- a map has no second entry of a grain
 none-apart : (grain : GrainId) (entries : Placed) → AllByRecursion (λ other. same_grain grain other ≡ false) (keys_of entries) → place_in entries grain ≡ None
@@ -25,17 +24,12 @@ count-without : (silo : ℕ) (placed : Placed) (grain : GrainId) → IsPlacedOn 
 count-without silo [] grain on = absurd (let none : None ≡ Some on.0 = on.1 in cc)
 count-without silo (entry ∷ entries) grain on =
     (elim (same_grain grain entry.0) as (λ b. (if b then Some entry.1 else place_in entries grain) ≡ Some on.0 → count_on silo (entry ∷ entries) ≡ count_on silo (if b then entries else entry ∷ without entries grain) + 1) [
-      | true ↦ λ found.
-          let same : entry.1 ≡ on.0 = cc in
-          let more : suc (count_on silo entries) ≡ count_on silo entries + 1 = omega arith in
-          sym (count_on-yes silo entry entries (ap (λ (place : Place). place.silo == silo) same ∙ on.2)) ∙ more
+      | true ↦ λ found. let same : entry.1 ≡ on.0 = cc in rw (ap (λ (place : Place). place.silo == silo) same ∙ on.2) (omega arith)
       | false ↦ λ found.
           let rest : count_on silo entries ≡ count_on silo (without entries grain) + 1 = count-without silo entries grain (on.0, found, on.2) in
           (elim (entry.1.silo == silo) as (λ c. (entry.1.silo == silo) ≡ c → count_on silo (entry ∷ entries) ≡ count_on silo (entry ∷ without entries grain) + 1) [
-            | true ↦ λ here.
-                let more : suc (count_on silo entries) ≡ suc (count_on silo (without entries grain)) + 1 = omega (arith, rest) in
-                sym (count_on-yes silo entry entries here) ∙ more ∙ ap (λ n. n + 1) (count_on-yes silo entry (without entries grain) here)
-            | false ↦ λ there. sym (count_on-no silo entry entries there) ∙ rest ∙ ap (λ n. n + 1) (count_on-no silo entry (without entries grain) there)
+            | true ↦ λ here. rw here (omega (arith, rest))
+            | false ↦ λ there. rw there rest
           ]) refl
     ]) on.1
 

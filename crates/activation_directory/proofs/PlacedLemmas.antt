@@ -20,9 +20,7 @@ pub place_in-other : (placed : Placed) (other grain : GrainId) (place : Place) �
 place_in-other [] other grain place apart = rw apart refl
 place_in-other (entry ∷ entries) other grain place apart =
     (elim (same_grain grain entry.0) as (λ b. same_grain grain entry.0 ≡ b → place_in (if b then (entry.0, place) ∷ entries else entry ∷ with_place entries grain place) other ≡ place_in (entry ∷ entries) other) [
-      | true ↦ λ here.
-          let away : same_grain other entry.0 ≡ false = subst (λ x. same_grain other x ≡ false) (same_grain-equal grain entry.0 here) apart in
-          rw away refl
+      | true ↦ λ here. rw (subst (λ x. same_grain other x ≡ false) (same_grain-equal grain entry.0 here) apart) refl
       | false ↦ λ there.
           (elim (same_grain other entry.0) as (λ c. (if c then Some entry.1 else place_in (with_place entries grain place) other) ≡ (if c then Some entry.1 else place_in entries other)) [
             | true ↦ refl
@@ -35,9 +33,7 @@ pub place_in-without : (placed : Placed) (other grain : GrainId) → same_grain 
 place_in-without [] other grain apart = refl
 place_in-without (entry ∷ entries) other grain apart =
     (elim (same_grain grain entry.0) as (λ b. same_grain grain entry.0 ≡ b → place_in (if b then entries else entry ∷ without entries grain) other ≡ place_in (entry ∷ entries) other) [
-      | true ↦ λ here.
-          let away : same_grain other entry.0 ≡ false = subst (λ x. same_grain other x ≡ false) (same_grain-equal grain entry.0 here) apart in
-          rw away refl
+      | true ↦ λ here. rw (subst (λ x. same_grain other x ≡ false) (same_grain-equal grain entry.0 here) apart) refl
       | false ↦ λ there.
           (elim (same_grain other entry.0) as (λ c. (if c then Some entry.1 else place_in (without entries grain) other) ≡ (if c then Some entry.1 else place_in entries other)) [
             | true ↦ refl

@@ -1,22 +1,18 @@
 -- In each directory that a legal history leaves, a grain is placed once. So the least grain of a silo is
 -- placed on that silo.
-use Rattle.std.proofs.Common.{◌≡◌, ◌∙◌, ℕ, true, false, List, [], ◌∷◌, Option, Some, None, is_some, refl, sym, ap, subst, true≢false}
-use Rattle.std.specs.Prelude.{nat_lt, ◌==◌, if◌then◌else◌}
+use Rattle.std.proofs.Common.{◌≡◌, ◌∙◌, ℕ, true, false, List, [], ◌∷◌, Option, Some, None, refl, sym, ap, subst, true≢false}
+use Rattle.std.specs.Prelude.{◌==◌, if◌then◌else◌}
 use Rattle.stream_ident.specs.declared.ident.GrainId.{GrainId}
 use Rattle.stream_ident.specs.Name.{grain_lt, same_grain}
-use Rattle.stream_ident.specs.Words.{has_number}
 use Rattle.activation_directory.specs.declared.op.DirectoryOp.{DirectoryOp}
-use Rattle.activation_directory.specs.declared.op.DirectoryOp.TheVariants.{Enter, Leave, Unplace, Down}
 use Rattle.activation_directory.specs.declared.place.Place.{Place}
-use Rattle.activation_directory.specs.declared.reply.DirectoryReply.{DirectoryReply}
 use Rattle.stream_ident.specs.Words.{lesser}
 use Rattle.activation_directory.specs.Placed.{Placed, place_in, with_place, without, least_on}
 use Rattle.activation_directory.specs.Plain.{PlainDirectory}
-use Rattle.activation_directory.specs.Step.{Entry, Leads, admit, enter, leave, unplace, down, step}
-use Rattle.activation_directory.proofs.Cases.{if-cases}
+use Rattle.activation_directory.specs.Step.{Entry, Leads, step}
+use Rattle.activation_directory.proofs.Cases.{step-cases}
 use Rattle.stream_ident.proofs.SameValues.{same_grain-equal, same_grain-refl}
 use Rattle.activation_directory.proofs.PlacedLemmas.{place_in-other, place_in-without}
-use Rattle.activation_directory.proofs.Walk.{least_on-yes, least_on-no}
 
 -- no grain has a second entry
 abbrev pub IsUnique : Placed → Type 0
@@ -46,38 +42,9 @@ unique-without (entry ∷ entries) grain unique =
       | false ↦ λ there. (place_in-without entries entry.0 grain (apart-sym grain entry.0 there) ∙ unique.0, unique-without entries grain unique.1)
     ]) refl
 
-abbrev KeepsUnique : PlainDirectory × DirectoryReply → Type 0
-KeepsUnique stepped = IsUnique stepped.0.placed
-
-module _ (d : PlainDirectory) (unique : IsUnique d.placed) where
-  unique-admit : (grain : GrainId) (silo : ℕ) → KeepsUnique (admit d grain silo)
-  unique-admit grain silo = if-cases KeepsUnique (nat_lt d.given d.permits) _ _ (λ more. unique-with d.placed grain _ unique) (λ spent. unique)
-
-  unique-enter : (grain : GrainId) (silo : ℕ) (found : Option Place) → KeepsUnique (enter d grain silo found)
-  unique-enter grain silo None = unique-admit grain silo
-  unique-enter grain silo (Some place) =
-      if-cases KeepsUnique (place.silo == silo) _ _
-      (λ here. if-cases KeepsUnique (is_some place.permit) _ _ (λ busy. unique) (λ free. unique-admit grain silo)) (λ elsewhere. unique)
-
-  unique-leave : (grain : GrainId) (permit : ℕ) (found : Option Place) → KeepsUnique (leave d grain permit found)
-  unique-leave grain permit None = unique
-  unique-leave grain permit (Some place) =
-      if-cases KeepsUnique (has_number permit place.permit) _ _ (λ is. unique-with d.placed grain _ unique) (λ isnt. unique)
-
-  unique-unplace : (grain : GrainId) (found : Option Place) → KeepsUnique (unplace d grain found)
-  unique-unplace grain None = unique
-  unique-unplace grain (Some place) =
-      if-cases KeepsUnique (is_some place.permit) _ _ (λ busy. unique) (λ free. unique-without d.placed grain unique)
-
-  unique-down : (silo : ℕ) (found : Option GrainId) → KeepsUnique (down d silo found)
-  unique-down silo None = unique
-  unique-down silo (Some grain) = unique-without d.placed grain unique
-
-  pub unique-step : (op : DirectoryOp) → KeepsUnique (step d op)
-  unique-step (Enter grain silo) = unique-enter grain silo (place_in d.placed grain)
-  unique-step (Leave grain permit) = unique-leave grain permit (place_in d.placed grain)
-  unique-step (Unplace grain) = unique-unplace grain (place_in d.placed grain)
-  unique-step (Down silo) = unique-down silo (least_on silo d.placed)
+pub unique-step : (d : PlainDirectory) → IsUnique d.placed → (op : DirectoryOp) → IsUnique (step d op).0.placed
+unique-step d unique op = step-cases (λ stepped. IsUnique stepped.0.placed) d op
+    (λ reply none. unique) (λ grain place more. unique-with d.placed grain place unique) (λ grain place. unique-with d.placed grain place unique) (λ grain reply none. unique-without d.placed grain unique)
 
 -- along a history
 pub unique-leads : (d : PlainDirectory) (entries : List Entry) (e : PlainDirectory) → IsUnique d.placed → Leads d entries e → IsUnique e.placed
@@ -112,6 +79,6 @@ pub least_on-placed : (silo : ℕ) (placed : Placed) (grain : GrainId) → IsUni
 least_on-placed silo [] grain unique is = absurd (cc)
 least_on-placed silo (entry ∷ entries) grain unique is =
     (elim (entry.1.silo == silo) as (λ b. (entry.1.silo == silo) ≡ b → IsPlacedOn silo (entry ∷ entries) grain) [
-      | true ↦ λ here. lesser-on silo entry entries (least_on silo entries) grain unique.0 here (λ other found. least_on-placed silo entries other unique.1 found) (least_on-yes silo entry entries here ∙ is)
-      | false ↦ λ there. placed-later silo entry entries grain unique.0 (least_on-placed silo entries grain unique.1 (least_on-no silo entry entries there ∙ is))
+      | true ↦ λ here. lesser-on silo entry entries (least_on silo entries) grain unique.0 here (λ other found. least_on-placed silo entries other unique.1 found) (rw here at is)
+      | false ↦ λ there. placed-later silo entry entries grain unique.0 (least_on-placed silo entries grain unique.1 (rw there at is))
     ]) refl

@@ -2,7 +2,7 @@
 use Rattle.std.proofs.Common.{◌≡◌, ◌∙◌, ap, sym, refl, ℕ, suc, ◌+◌, ◌-◌, ◌<◌, ◌≤◌, inl, inr, true, List, ◌++◌, length, get_or, map, drop, take, length-append, arith}
 use Rattle.std.proofs.lemmas.Bool.{cases_lt, le-ltb, ne_eqb}
 use Rattle.std.proofs.lemmas.Bool.Decides.{nat_tests}
-use Rattle.std.proofs.lemmas.List.{get_or_append_left, get_or-append_right, get_or-drop, get_or-map, get_or-take, length-drop, length-take, take-map, take-take}
+use Rattle.std.proofs.lemmas.List.{get_or_append_left, get_or-append_right, get_or-drop, get_or-map, get_or-take, length-drop, length-map, length-take, take-map, take-take}
 use Rattle.stream_ident.specs.declared.event.Event.{Event}
 use Rattle.stream_ident.specs.declared.ident.StreamId.{StreamId}
 use Rattle.stream_ident.specs.declared.token.Token.{Token}
@@ -81,15 +81,18 @@ accepts q stream payloads some few fits =
 pub length-between : (q : PlainQueue) (from to : ℕ) → to ≤ length q.events → length (between q from to) ≡ to - from
 length-between q from to within = omega (arith, length-take (to - from) (drop from q.events), length-drop from q.events)
 
--- an event of a part of the log, without its payload
-pub between_at : (q : PlainQueue) (from to index : ℕ) → to ≤ length q.events → index < to - from → get_or (map bare (between q from to)) index no_event ≡ bare (event_at q (from + index))
+-- the events of a part, without their payloads
+pub length-bare : (q : PlainQueue) (from to : ℕ) → to ≤ length q.events → length (map bare (between q from to)) ≡ to - from
+length-bare q from to within = length-map (between q from to) bare ∙ length-between q from to within
+
+pub between_at : (q : PlainQueue) (from to index : ℕ) → to ≤ length q.events → index < length (map bare (between q from to)) → get_or (map bare (between q from to)) index no_event ≡ bare (event_at q (from + index))
 between_at q from to index within inside =
-    get_or-map bare (between q from to) index no_event no_event (omega (arith, inside, length-between q from to within))
-    ∙ ap bare (get_or-take (to - from) (drop from q.events) index no_event inside ∙ get_or-drop from q.events index no_event)
+    get_or-map bare (between q from to) index no_event no_event (omega (arith, inside, length-map (between q from to) bare))
+    ∙ ap bare (get_or-take (to - from) (drop from q.events) index no_event (omega (arith, inside, length-bare q from to within)) ∙ get_or-drop from q.events index no_event)
 
 -- the first events of a part
-pub between_first : (q : PlainQueue) (from to count : ℕ) → count ≤ to - from → map bare (between q from (from + count)) ≡ take count (map bare (between q from to))
-between_first q from to count inside =
+pub between_first : (q : PlainQueue) (from to count : ℕ) → to ≤ length q.events → count ≤ length (map bare (between q from to)) → map bare (between q from (from + count)) ≡ take count (map bare (between q from to))
+between_first q from to count within inside =
     ap (λ n. map bare (take n (drop from q.events))) {x = from + count - from} {y = count} (omega arith)
-    ∙ ap (map bare) (sym (take-take count (to - from) (drop from q.events) inside))
+    ∙ ap (map bare) (sym (take-take count (to - from) (drop from q.events) (omega (arith, inside, length-bare q from to within))))
     ∙ sym (take-map bare count (between q from to))

@@ -1,13 +1,8 @@
 -- Rows of names from the least to the greatest, with a name put in and with numbers of names taken out.
-use Rattle.std.proofs.Common.{◌≡◌, ℕ, zero, suc, ◌≤◌, Bool, true, false, List, [], ◌∷◌, ◌++◌, length, take, drop, get_or, filter, insert, map, if◌then◌else◌, refl, sym, ap, subst, arith, All, Contains}
-use Rattle.std.proofs.lemmas.List.Elements.{All-nil, All-cons, All-head, All-tail, All-append, All-take, All-drop, Contains-get_or}
-use Rattle.std.proofs.lemmas.Bool.{false_from_ne_true}
-use Rattle.stream_ident.specs.SubName.{same_sub, sub_lt}
-use Rattle.stream_ident.specs.declared.ident.SubName.{SubName}
+use Rattle.pubsub_registry.proofs.Prelude.{◌≡◌, ℕ, zero, suc, ◌≤◌, Bool, true, false, List, [], ◌∷◌, ◌++◌, length, take, drop, get_or, filter, insert, map, if◌then◌else◌, refl, sym, ap, subst, arith, All, Contains, false_from_ne_true, All-nil, All-cons, All-head, All-tail, All-append, All-take, All-drop, Contains-get_or, same_sub-equal, same_sub, sub_lt, SubName}
 use Rattle.pubsub_registry.specs.Ascending.{IsAscending, IsPlaceOf}
 use Rattle.pubsub_registry.specs.Registry.{Rises}
 use Rattle.stream_ident.proofs.NameOrders.{sub_order}
-use Rattle.stream_ident.proofs.SameValues.{same_sub-equal}
 
 All-insert : (P : SubName → Type 0) (names : List SubName) (at : ℕ) (s : SubName) → All P names → P s → All P (insert names at s)
 All-insert P names at s all here =

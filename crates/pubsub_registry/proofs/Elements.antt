@@ -1,10 +1,5 @@
 -- The elements of a list with one put in, or with some taken out, and their places with one put behind.
-use Rattle.std.proofs.Common.{◌≡◌, ◌∙◌, ℕ, zero, suc, ◌<◌, Bool, true, false, List, [], ◌∷◌, ◌++◌, length, take, drop, get_or, filter, insert, map, Some, if◌then◌else◌, refl, sym, ap, subst, arith, Contains, true≢false}
-use Rattle.std.specs.Prelude.{◌⊎◌, slice_get}
-use Rattle.std.proofs.lemmas.List.{get_or-map, length-map, take-append-drop}
-use Rattle.std.proofs.lemmas.List.Elements.{Contains-append_left, Contains-append_right, Contains-append_cases}
-use Rattle.std.proofs.lemmas.Option.{none-some, same_Some}
-use mathlib.Core.Logic.{inl, inr}
+use Rattle.pubsub_registry.proofs.Prelude.{◌≡◌, ◌∙◌, ℕ, zero, suc, ◌<◌, Bool, true, false, List, [], ◌∷◌, ◌++◌, length, take, drop, get_or, filter, insert, map, Some, if◌then◌else◌, refl, sym, ap, subst, arith, Contains, true≢false, get_or-map, length-map, take-append-drop, Contains-append_left, Contains-append_right, Contains-append_cases, none-some, same_Some, ◌⊎◌, slice_get, inl, inr}
 
 module _ {X : Type 0} where
   pub Contains-here : (x : X) (xs : List X) (y : X) → x ≡ y → Contains (x ∷ xs) y

@@ -1,19 +1,10 @@
 -- Subscriptions by name: their look-up, and their streams after a change.
-use Rattle.std.proofs.Common.{◌≡◌, ◌∙◌, ◌<◌, ℕ, zero, suc, Bool, true, false, List, [], ◌∷◌, length, get_or, map, Option, Some, None, is_some, if◌then◌else◌, refl, sym, ap, subst, arith, Contains, true≢false}
-use Rattle.std.specs.Prelude.{◌⊎◌}
-use Rattle.std.specs.Map.{lookup}
-use mathlib.Core.Logic.{inl, inr}
-use Rattle.stream_ident.specs.SubName.{same_sub}
-use Rattle.stream_ident.specs.Words.{change_at, changed_value, first_at}
-use Rattle.stream_ident.specs.declared.ident.StreamId.{StreamId}
-use Rattle.stream_ident.specs.declared.ident.SubName.{SubName}
+use Rattle.pubsub_registry.proofs.Prelude.{◌≡◌, ◌∙◌, ◌<◌, ℕ, zero, suc, Bool, true, false, List, [], ◌∷◌, length, get_or, map, Option, Some, None, is_some, if◌then◌else◌, refl, sym, ap, subst, arith, Contains, true≢false, lookup, ◌⊎◌, same_sub-equal, same_sub-refl, changed_value-none, none_from_is_some, same_sub, change_at, changed_value, first_at, StreamId, SubName, inl, inr}
 use Rattle.stream_ident.proofs.FirstLemmas.{first_at-Some}
-use Rattle.stream_ident.proofs.WordLemmas.{changed_value-none, none_from_is_some}
 use Rattle.pubsub_registry.specs.Index.{streams_of}
 use Rattle.pubsub_registry.specs.Registry.{closed_registration, no_entry}
 use Rattle.pubsub_registry.specs.declared.registration.Registration.{Registration}
 use Rattle.pubsub_registry.proofs.Elements.{Contains-here, Contains-later, Contains-cases, Contains-none}
-use Rattle.stream_ident.proofs.SameValues.{same_sub-equal, same_sub-refl}
 
 abbrev pub Names : Type 0
 Names = List (SubName × Registration)

@@ -1,18 +1,7 @@
 -- The names with those that the rules make of events: their front, and how many they are.
-use Rattle.std.proofs.Common.{◌≡◌, ◌∙◌, ℕ, zero, suc, ◌+◌, ◌*◌, ◌<◌, ◌≤◌, not, Bool, true, false, List, [], ◌∷◌, ◌++◌, length, take, get_or, fold, if◌then◌else◌, refl, ap, arith, length-append}
-use Rattle.std.proofs.lemmas.Bool.{le-ltb}
+use Rattle.pubsub_registry.proofs.Prelude.{◌≡◌, ◌∙◌, ℕ, zero, suc, ◌+◌, ◌*◌, ◌<◌, ◌≤◌, not, Bool, true, false, List, [], ◌∷◌, ◌++◌, length, take, get_or, fold, if◌then◌else◌, refl, ap, arith, length-append, le-ltb, fold-append, sum_by-cons, flat_map, added-more, has, length-fold, batch_token, added, same_name, token_lt, Event, SubName, Rule}
 use Rattle.std.proofs.lemmas.List.Filters.{length-filter_both}
-use Rattle.std.proofs.lemmas.List.Sums.{fold-append, sum_by-cons}
-use Rattle.std.specs.List.{flat_map}
-use Rattle.stream_ident.specs.declared.event.Event.{Event}
-use Rattle.stream_ident.specs.declared.ident.SubName.{SubName}
-use Rattle.stream_ident.specs.declared.rule.Rule.{Rule}
-use Rattle.stream_ident.specs.Event.{batch_token}
-use Rattle.stream_ident.specs.Name.{same_name}
-use Rattle.stream_ident.specs.Token.{token_lt}
-use Rattle.stream_ident.specs.Implying.{added}
 use Rattle.stream_ident.specs.declared.limits.TheConstants.{MOST_RULES}
-use Rattle.stream_ident.proofs.NewNames.{added-more, has, length-fold}
 use Rattle.pubsub_registry.specs.Implying.{all_implied, implied, imply, made, names_with, rule_count}
 use Rattle.pubsub_registry.specs.Registry.{PlainRegistry}
 use Rattle.pubsub_registry.specs.declared.told.Implied.{Implied}

@@ -1,18 +1,6 @@
 -- Which names the rules make of events.
+use Rattle.pubsub_registry.proofs.Prelude.{◌≡◌, ◌∙◌, ℕ, ◌&&◌, ◌||◌, not, Bool, true, false, List, [], ◌∷◌, ◌++◌, fold, if◌then◌else◌, refl, sym, ap, flat_map, list_any, has, has-append, has-cons, has-fold, same_stream-equal, same_stream-refl, batch_token, added, same_name, same_stream, token_lt, Event, StreamId, SubName, Implicit, Rule}
 use Rattle.std.proofs.Math.Bool.{or-false}
-use Rattle.std.proofs.Common.{◌≡◌, ◌∙◌, ℕ, ◌&&◌, ◌||◌, not, Bool, true, false, List, [], ◌∷◌, ◌++◌, fold, if◌then◌else◌, refl, sym, ap}
-use Rattle.std.specs.List.{flat_map, list_any}
-use Rattle.stream_ident.specs.declared.event.Event.{Event}
-use Rattle.stream_ident.specs.declared.ident.StreamId.{StreamId}
-use Rattle.stream_ident.specs.declared.ident.SubName.{SubName}
-use Rattle.stream_ident.specs.declared.ident.SubName.TheVariants.{Implicit}
-use Rattle.stream_ident.specs.declared.rule.Rule.{Rule}
-use Rattle.stream_ident.specs.Event.{batch_token}
-use Rattle.stream_ident.specs.Name.{same_name, same_stream}
-use Rattle.stream_ident.specs.Token.{token_lt}
-use Rattle.stream_ident.specs.Implying.{added}
-use Rattle.stream_ident.proofs.NewNames.{has, has-append, has-cons, has-fold}
-use Rattle.stream_ident.proofs.SameValues.{same_stream-equal, same_stream-refl}
 use Rattle.pubsub_registry.specs.Implying.{all_implied, implied, made, makes_any, names_with}
 use Rattle.pubsub_registry.specs.Registry.{registered}
 use Rattle.pubsub_registry.specs.declared.registration.Registration.{Registration}

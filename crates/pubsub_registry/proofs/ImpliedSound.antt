@@ -1,16 +1,7 @@
 -- Registries that are sound with what the rules make of events.
-use Rattle.std.proofs.Common.{◌≡◌, ℕ, ◌≤◌, ◌&&◌, not, Bool, true, false, List, [], ◌∷◌, ◌++◌, fold, length, if◌then◌else◌, sym, subst, arith}
-use Rattle.std.specs.List.{AllByRecursion, flat_map}
-use Rattle.stream_ident.specs.declared.event.Event.{Event}
-use Rattle.stream_ident.specs.declared.ident.SubName.{SubName}
+use Rattle.pubsub_registry.proofs.Prelude.{◌≡◌, ℕ, ◌≤◌, ◌&&◌, not, Bool, true, false, List, [], ◌∷◌, ◌++◌, fold, length, if◌then◌else◌, sym, subst, arith, AllByRecursion, flat_map, has, batch_token, added, same_name, token_lt, Event, SubName, Rule}
 use Rattle.stream_ident.specs.declared.ident.SubName.TheVariants as name
-use Rattle.stream_ident.specs.declared.rule.Rule.{Rule}
-use Rattle.stream_ident.specs.Event.{batch_token}
-use Rattle.stream_ident.specs.Implying.{added}
-use Rattle.stream_ident.specs.Name.{same_name}
-use Rattle.stream_ident.specs.Token.{token_lt}
 use Rattle.stream_ident.proofs.EachOf.{All-flat_map}
-use Rattle.stream_ident.proofs.NewNames.{has}
 use Rattle.pubsub_registry.specs.Implying.{all_implied, implied, names_with}
 use Rattle.pubsub_registry.specs.Registry.{PlainRegistry}
 use Rattle.pubsub_registry.specs.Sound.{IsSound}

@@ -1,14 +1,5 @@
 -- What one more rule, or one more event, adds to the names.
-use Rattle.std.proofs.Common.{◌≡◌, ◌∙◌, ℕ, ◌+◌, ◌<◌, ◌&&◌, ◌||◌, not, Bool, true, false, List, [], ◌∷◌, ◌++◌, length, take, get_or, fold, if◌then◌else◌, refl, sym, ap, arith, length-append}
-use Rattle.std.specs.List.{flat_map, list_any}
-use Rattle.stream_ident.specs.declared.event.Event.{Event}
-use Rattle.stream_ident.specs.declared.ident.SubName.TheVariants.{Implicit}
-use Rattle.stream_ident.specs.declared.rule.Rule.{Rule}
-use Rattle.stream_ident.specs.Event.{batch_token}
-use Rattle.stream_ident.specs.Name.{same_stream}
-use Rattle.stream_ident.specs.Token.{token_lt}
-use Rattle.stream_ident.specs.Implying.{added}
-use Rattle.stream_ident.proofs.NewNames.{added-last, added-more, has}
+use Rattle.pubsub_registry.proofs.Prelude.{◌≡◌, ◌∙◌, ℕ, ◌+◌, ◌<◌, ◌&&◌, ◌||◌, not, Bool, true, false, List, [], ◌∷◌, ◌++◌, length, take, get_or, fold, if◌then◌else◌, refl, sym, ap, arith, length-append, flat_map, list_any, added-last, added-more, has, batch_token, added, same_stream, token_lt, Event, Implicit, Rule}
 use Rattle.pubsub_registry.specs.Implying.{implied, made, makes_any, names_with}
 use Rattle.pubsub_registry.proofs.Entries.{Names}
 use Rattle.pubsub_registry.proofs.ImpliedNames.{entry, has-so_far, implied-on}

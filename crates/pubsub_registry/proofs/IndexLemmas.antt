@@ -1,18 +1,6 @@
 -- The index of numbers by stream after a change of the subscriptions.
-use Rattle.std.proofs.Common.{◌≡◌, ◌∙◌, ℕ, ◌<◌, Bool, true, false, not, List, [], ◌∷◌, ◌++◌, length, take, drop, get_or, map, Some, filter, insert, nat_eq, if◌then◌else◌, refl, sym, ap, subst, arith, All, Contains, true≢false}
-use Rattle.std.specs.Prelude.{◌⊎◌, slice_get}
-use Rattle.std.specs.List.{take-map}
-use Rattle.std.specs.Map.{keys_of}
+use Rattle.pubsub_registry.proofs.Prelude.{◌≡◌, ◌∙◌, ℕ, ◌<◌, Bool, true, false, not, List, [], ◌∷◌, ◌++◌, length, take, drop, get_or, map, Some, filter, insert, nat_eq, if◌then◌else◌, refl, sym, ap, subst, arith, All, Contains, true≢false, drop-map, get_or_append_left, get_or_push, length-map, map-append, All-contains_itself, All-head, All-tail, All-weaker, slice_get_within, take-map, keys_of, ◌⊎◌, slice_get, same_stream-equal, same_stream-refl, same_stream, same_sub, changed_value, StreamId, SubName, inl, inr}
 use Rattle.std.proofs.lemmas.Bool.Decides.{nat_tests}
-use Rattle.std.proofs.lemmas.List.{drop-map, get_or_append_left, get_or_push, length-map, map-append}
-use Rattle.std.proofs.lemmas.List.Elements.{All-contains_itself, All-head, All-tail, All-weaker}
-use Rattle.std.proofs.lemmas.Option.{slice_get_within}
-use mathlib.Core.Logic.{inl, inr}
-use Rattle.stream_ident.specs.Name.{same_stream}
-use Rattle.stream_ident.specs.SubName.{same_sub}
-use Rattle.stream_ident.specs.Words.{changed_value}
-use Rattle.stream_ident.specs.declared.ident.StreamId.{StreamId}
-use Rattle.stream_ident.specs.declared.ident.SubName.{SubName}
 use Rattle.stream_ident.specs.declared.ident.SubName.TheVariants as name
 use Rattle.pubsub_registry.specs.Ascending.{IsAscending, IsPlaceOf}
 use Rattle.pubsub_registry.specs.Index.{names_at, AreNumbersOf, IsIndexed, IsRowOf}
@@ -21,7 +9,6 @@ use Rattle.pubsub_registry.specs.declared.registration.Registration.{Registratio
 use Rattle.pubsub_registry.proofs.Ascending.{ascending-insert, ascending-left}
 use Rattle.pubsub_registry.proofs.Elements.{Contains-insert_here, Contains-insert, Contains-insert_cases, Contains-filter, Contains-filter_parts, slice_get-cases, slice_get-last, slice_get-left}
 use Rattle.pubsub_registry.proofs.Entries.{Names, map-closed}
-use Rattle.stream_ident.proofs.SameValues.{same_stream-equal, same_stream-refl}
 
 -- the numbers of a row are places
 pub row-within : (streams : List StreamId) (stream : StreamId) (row : List ℕ) (most : ℕ) → length streams ≡ most → ((n : ℕ) → Contains row n → slice_get streams n ≡ Some stream) → All (λ n. n < most) row

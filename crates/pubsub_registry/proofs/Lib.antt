@@ -11,3 +11,4 @@ pub mod RowLemmas
 pub mod RuleLemmas
 pub mod SoundLemmas
 pub mod SubsLemmas
+pub mod Prelude

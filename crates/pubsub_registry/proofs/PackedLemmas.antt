@@ -1,28 +1,15 @@
 -- What is kept of subscriptions gives their names and registrations: those that were there, one more, one closed, and a front.
-use Rattle.std.proofs.Common.{◌≡◌, ◌∙◌, ℕ, zero, suc, ◌<◌, ◌≤◌, ◌^◌, Bool, true, false, ◌==◌, List, [], ◌∷◌, ◌++◌, length, take, get_or, map, Option, Some, None, if◌then◌else◌, insert, refl, sym, ap, subst, arith, true≢false}
-use Rattle.std.specs.List.{AllByRecursion, IsDistinct, position_or_len}
-use Rattle.std.specs.Map.{keys_of, lookup, values_of}
-use Rattle.std.specs.Prelude.{◌⊎◌, slice_get, position, nat_lt, Result, Ok, Err, IfNone, OnErr, OnOk}
+use Rattle.pubsub_registry.proofs.Prelude.{◌≡◌, ◌∙◌, ℕ, zero, suc, ◌<◌, ◌≤◌, ◌^◌, Bool, true, false, ◌==◌, List, [], ◌∷◌, ◌++◌, length, take, get_or, map, Option, Some, None, if◌then◌else◌, insert, refl, sym, ap, subst, arith, true≢false, and_from, and_parts, cases_order, eqb-true, eq-eqb, false_from_ne_true, ltb-false, append-nil, get_or_append_left, length-map, map-append, fails_before_first, get_or_from_slice_get, slice_get-get_or, slice_get-map, slice_get_within, AllByRecursion, position_or_len, keys_of, lookup, values_of, option_map, ◌⊎◌, slice_get, position, nat_lt, Result, Ok, Err, IfNone, OnErr, OnOk, same_grain-refl, same_stream-refl, same_sub-equal, same_sub-refl, same_grain, same_stream, same_sub, change_at, first_at, StreamId, SubName, inl, inr}
+use Rattle.std.specs.List.{IsDistinct}
 use Rattle.std.specs.declared.vec.Vec.{Vec}
-use Rattle.std.proofs.lemmas.Bool.{and_from, and_parts, cases_order, eqb-true, eq-eqb, false_from_ne_true, ltb-false}
-use Rattle.std.proofs.lemmas.List.{append-nil, get_or_append_left, length-append, length-map, map-append}
+use Rattle.std.proofs.lemmas.List.{length-append}
 use Rattle.std.proofs.lemmas.Map.Entries.{length-keys_of}
 use Rattle.std.proofs.lemmas.Map.Keys.{apart_from_distinct}
-use mathlib.Core.Logic.{inl, inr}
-use Rattle.std.proofs.lemmas.Option.{get_or_from_slice_get, slice_get-get_or, slice_get-map, slice_get_within}
-use Rattle.std.specs.Option.{option_map}
 use Rattle.std.proofs.lemmas.List.Quantifiers.{position-Some}
-use Rattle.std.proofs.lemmas.List.Sums.{fails_before_first}
 use Rattle.indexmap.specs.IndexMap.{IndexMap, set_value_at}
-use Rattle.stream_ident.specs.Name.{same_grain, same_stream}
-use Rattle.stream_ident.specs.SubName.{same_sub}
-use Rattle.stream_ident.specs.Words.{change_at, first_at}
 use Rattle.stream_ident.specs.declared.ident.GrainId.{GrainId}
-use Rattle.stream_ident.specs.declared.ident.StreamId.{StreamId}
-use Rattle.stream_ident.specs.declared.ident.SubName.{SubName}
 use Rattle.stream_ident.specs.declared.ident.SubName.TheVariants as name
 use Rattle.stream_ident.proofs.EachOf.{All-push}
-use Rattle.stream_ident.proofs.SameValues.{same_grain-refl, same_stream-refl, same_sub-equal, same_sub-refl}
 use Rattle.pubsub_registry.specs.Ascending.{IsPlaceOf}
 use Rattle.pubsub_registry.specs.Index.{names_at, AreUnique, IsIndexed}
 use Rattle.pubsub_registry.specs.Packed.{entries_by, entry_by, grain_at, ids_in, key_of, name_by, registration_by, same_key, stream_at, Ids, IsEntryWithin, IsGrown, IsKeyWithin, IsNameOf, IsPacked, IsRowWithin}

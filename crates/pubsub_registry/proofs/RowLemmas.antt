@@ -1,17 +1,10 @@
 -- The rows of the streams after the row of a number was changed.
-use Rattle.std.proofs.Common.{◌≡◌, ◌∙◌, ℕ, zero, suc, Bool, true, false, cond, List, [], ◌∷◌, Some, if◌then◌else◌, refl, sym, ap, subst}
+use Rattle.pubsub_registry.proofs.Prelude.{keys-with_value_at, updates-with_value_at, ◌≡◌, ◌∙◌, ℕ, zero, suc, Bool, true, false, cond, List, [], ◌∷◌, Some, if◌then◌else◌, refl, sym, ap, subst, none-some, same_Some, keys_of, values_of, slice_get, same_stream-equal, same_stream-refl, same_stream, StreamId}
 use Rattle.std.specs.Cmp.{IsEquivalence, decided}
 use Rattle.std.specs.List.{IsDistinct}
-use Rattle.std.specs.Map.{keys_of, values_of}
-use Rattle.std.specs.Prelude.{slice_get}
 use Rattle.std.specs.declared.vec.Vec.{Vec}
 use Rattle.std.proofs.lemmas.Map.Entries.{lookup_from_place}
-use Rattle.std.proofs.lemmas.Option.{none-some, same_Some}
 use Rattle.indexmap.specs.IndexMap.{IndexMap, get, with_value_at}
-use Rattle.indexmap.proofs.CallerLemmas.{keys-with_value_at, updates-with_value_at}
-use Rattle.stream_ident.specs.Name.{same_stream}
-use Rattle.stream_ident.specs.declared.ident.StreamId.{StreamId}
-use Rattle.stream_ident.proofs.SameValues.{same_stream-equal, same_stream-refl}
 use Rattle.pubsub_registry.specs.Rows.{row_of, values_in, ChangesRow, KeepsRows}
 
 stream_laws : IsEquivalence same_stream

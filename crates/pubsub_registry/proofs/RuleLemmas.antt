@@ -1,11 +1,5 @@
 -- The rows of rules by namespace, with a rule put in.
-use Rattle.std.proofs.Common.{◌≡◌, ◌∙◌, ℕ, Bool, true, false, List, [], ◌∷◌, ◌++◌, filter, if◌then◌else◌, refl, sym, ap, true≢false}
-use Rattle.std.proofs.lemmas.Bool.{false_from_ne_true}
-use Rattle.std.proofs.lemmas.List.{append-nil}
-use Rattle.std.proofs.lemmas.List.Elements.{filter-append}
-use Rattle.stream_ident.specs.Name.{same_name}
-use Rattle.stream_ident.specs.declared.rule.Rule.{Rule}
-use Rattle.stream_ident.proofs.SameValues.{same_name-equal, same_name-refl}
+use Rattle.pubsub_registry.proofs.Prelude.{◌≡◌, ◌∙◌, ℕ, Bool, true, false, List, [], ◌∷◌, ◌++◌, filter, if◌then◌else◌, refl, sym, ap, true≢false, false_from_ne_true, append-nil, filter-append, same_name-equal, same_name-refl, same_name, Rule}
 
 abbrev pub on : List ℕ → List Rule → List Rule
 on namespace rules = filter (λ (rule : Rule). same_name namespace rule.namespace) rules

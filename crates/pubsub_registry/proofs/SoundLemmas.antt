@@ -1,16 +1,5 @@
 -- Registries that are sound after a change of the subscriptions.
-use Rattle.std.proofs.Common.{◌≡◌, ◌∙◌, ℕ, suc, ◌+◌, ◌^◌, ◌≤◌, ◌<◌, Bool, true, false, ◌||◌, nat_le, if◌then◌else◌, [], ◌∷◌, ◌++◌, length, take, drop, Option, Some, None, refl, sym, ap, subst, arith, Contains, length-append, length-take}
-use Rattle.std.specs.Prelude.{◌⊎◌}
-use Rattle.std.specs.List.{take-map}
-use Rattle.std.specs.Map.{lookup}
-use Rattle.std.proofs.lemmas.Bool.{leb-false}
-use Rattle.std.proofs.lemmas.List.{map-append, take-append-drop}
-use Rattle.std.proofs.lemmas.List.Elements.{Contains-append_left, Contains-push_cases}
-use mathlib.Core.Logic.{inl, inr}
-use Rattle.stream_ident.specs.SubName.{same_sub}
-use Rattle.stream_ident.specs.Words.{changed_value, value_at}
-use Rattle.stream_ident.specs.declared.ident.StreamId.{StreamId}
-use Rattle.stream_ident.specs.declared.ident.SubName.{SubName}
+use Rattle.pubsub_registry.proofs.Prelude.{◌≡◌, ◌∙◌, ℕ, suc, ◌+◌, ◌^◌, ◌≤◌, ◌<◌, Bool, true, false, ◌||◌, nat_le, if◌then◌else◌, [], ◌∷◌, ◌++◌, length, take, drop, Option, Some, None, refl, sym, ap, subst, arith, Contains, length-append, length-take, leb-false, map-append, take-append-drop, Contains-append_left, Contains-push_cases, take-map, lookup, ◌⊎◌, same_sub, changed_value, value_at, StreamId, SubName, inl, inr}
 use Rattle.stream_ident.specs.declared.ident.SubName.TheVariants as name
 use Rattle.pubsub_registry.specs.Index.{streams_of}
 use Rattle.pubsub_registry.specs.Registry.{PlainRegistry, is_full, next_number, closed_registration}

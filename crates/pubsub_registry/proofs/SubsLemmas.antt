@@ -1,15 +1,5 @@
 -- The names of a stream's numbers are those of its subscriptions.
-use Rattle.std.proofs.Common.{◌≡◌, ◌∙◌, ℕ, ◌<◌, List, length, get_or, map, Option, Some, None, refl, sym, ap, subst, arith, All, Contains}
-use Rattle.std.specs.Prelude.{slice_get}
-use Rattle.std.specs.Map.{keys_of, lookup}
-use Rattle.std.specs.Option.{option_map}
-use Rattle.std.proofs.lemmas.List.{get_or-map, length-map}
-use Rattle.std.proofs.lemmas.List.Elements.{Contains-get_or}
-use Rattle.std.proofs.lemmas.Option.{get_or_from_slice_get, none-some, same_Some, slice_get-get_or, slice_get-map, slice_get_within}
-use Rattle.stream_ident.specs.Name.{same_stream}
-use Rattle.stream_ident.specs.SubName.{same_sub}
-use Rattle.stream_ident.specs.declared.ident.StreamId.{StreamId}
-use Rattle.stream_ident.specs.declared.ident.SubName.{SubName}
+use Rattle.pubsub_registry.proofs.Prelude.{◌≡◌, ◌∙◌, ℕ, ◌<◌, List, length, get_or, map, Option, Some, None, refl, sym, ap, subst, arith, All, Contains, get_or-map, length-map, Contains-get_or, get_or_from_slice_get, none-some, same_Some, slice_get-get_or, slice_get-map, slice_get_within, keys_of, lookup, option_map, slice_get, same_stream-equal, same_stream-refl, same_stream, same_sub, StreamId, SubName}
 use Rattle.stream_ident.specs.declared.ident.SubName.TheVariants as name
 use Rattle.pubsub_registry.specs.Index.{names_at, AreNumbersOf}
 use Rattle.pubsub_registry.specs.Registry.{PlainRegistry, AreSubsOf}
@@ -19,7 +9,6 @@ use Rattle.pubsub_registry.proofs.Elements.{Contains-map}
 use Rattle.pubsub_registry.proofs.Entries.{Names, streams_of-none}
 use Rattle.pubsub_registry.proofs.IndexLemmas.{row-within, stream_in}
 use Rattle.pubsub_registry.proofs.PackedLemmas.{key-slice}
-use Rattle.stream_ident.proofs.SameValues.{same_stream-equal, same_stream-refl}
 
 -- a subscription of the stream under this name
 abbrev HasEntry : Names → SubName → StreamId → Type 0

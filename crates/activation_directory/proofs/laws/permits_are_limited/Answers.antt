@@ -4,9 +4,8 @@ use Rattle.activation_directory.specs.Placed.{place_in}
 use Rattle.activation_directory.specs.Plain.{empty}
 use Rattle.activation_directory.specs.Step.{step}
 use Rattle.activation_directory.specs.declared.op.DirectoryOp.TheVariants.{Enter}
-use Rattle.activation_directory.proofs.Counting.{counts-history, counts-leads, last-enter}
+use Rattle.activation_directory.proofs.Counting.{counts-history, counts-leads, last-enter, numbered-enter}
 use Rattle.activation_directory.proofs.Histories.{Leads-split}
-use Rattle.activation_directory.proofs.Numbers.{numbered-enter}
 use Rattle.activation_directory.proofs.laws.permits_are_limited.Goals as goal
 
 pub returns-clause-limited : goal.returns-clause-limited

@@ -5,7 +5,7 @@ use Rattle.activation_directory.specs.Plain.{empty}
 use Rattle.activation_directory.specs.Step.{step}
 use Rattle.activation_directory.specs.declared.op.DirectoryOp.TheVariants.{Enter}
 use Rattle.activation_directory.proofs.Histories.{Leads-split}
-use Rattle.activation_directory.proofs.Numbers.{grows-leads, numbered-enter}
+use Rattle.activation_directory.proofs.Counting.{grows-leads, numbered-enter}
 use Rattle.activation_directory.proofs.laws.permits_rise.Goals as goal
 
 pub returns : goal.returns

@@ -1,7 +1,4 @@
-use Rattle.std.proofs.Common.{◌≡◌, ◌∙◌, true, sym, ap, length, fold, arith}
-use Rattle.std.proofs.lemmas.List.{take_all}
-use Rattle.std.specs.List.{flat_map}
-use Rattle.stream_ident.specs.Implying.{added}
+use Rattle.pubsub_registry.proofs.Prelude.{◌≡◌, ◌∙◌, true, sym, ap, length, fold, arith, take_all, flat_map, added}
 use Rattle.pubsub_registry.specs.Implying.{made, names_with}
 use Rattle.pubsub_registry.proofs.ImpliedLists.{length-on}
 use Rattle.pubsub_registry.proofs.ImpliedSteps.{event-last, one_if, step-counts}

@@ -1,6 +1,4 @@
-use Rattle.std.proofs.Common.{◌≡◌, ◌≤◌, ◌+◌, fold, length, take}
-use Rattle.std.specs.List.{flat_map}
-use Rattle.stream_ident.specs.Implying.{added}
+use Rattle.pubsub_registry.proofs.Prelude.{◌≡◌, ◌≤◌, ◌+◌, fold, length, take, flat_map, added}
 use Rattle.pubsub_registry.specs.Implying.{made, names_with}
 use Rattle.pubsub_registry.proofs.implying.count_for_event.Given as goal
 

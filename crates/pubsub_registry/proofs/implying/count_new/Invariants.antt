@@ -1,4 +1,4 @@
-use Rattle.std.proofs.Common.{◌≡◌, ◌≤◌, ◌+◌, ◌*◌, length, take}
+use Rattle.pubsub_registry.proofs.Prelude.{◌≡◌, ◌≤◌, ◌+◌, ◌*◌, length, take}
 use Rattle.stream_ident.specs.declared.limits.TheConstants.{MOST_RULES}
 use Rattle.pubsub_registry.specs.Implying.{names_with}
 use Rattle.pubsub_registry.proofs.implying.count_new.Given as goal

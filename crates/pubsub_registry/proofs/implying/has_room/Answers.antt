@@ -1,5 +1,4 @@
-use Rattle.std.proofs.Common.{arith}
-use Rattle.std.proofs.lemmas.Bool.{le-leb}
+use Rattle.pubsub_registry.proofs.Prelude.{arith, le-leb}
 use Rattle.pubsub_registry.proofs.ImpliedLists.{few-rule_count, most-names_with}
 use Rattle.pubsub_registry.proofs.implying.has_room.Goals as goal
 

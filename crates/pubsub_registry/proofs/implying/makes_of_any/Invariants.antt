@@ -1,7 +1,4 @@
-use Rattle.std.proofs.Common.{◌≡◌, ◌&&◌, false, take}
-use Rattle.std.specs.List.{list_any}
-use Rattle.stream_ident.specs.declared.event.Event.{Event}
-use Rattle.stream_ident.specs.Name.{same_stream}
+use Rattle.pubsub_registry.proofs.Prelude.{◌≡◌, ◌&&◌, false, take, list_any, same_stream, Event}
 use Rattle.pubsub_registry.specs.Implying.{makes_any}
 use Rattle.pubsub_registry.proofs.implying.makes_of_any.Given as goal
 

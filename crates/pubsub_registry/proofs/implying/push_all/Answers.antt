@@ -1,10 +1,5 @@
-use Rattle.std.proofs.Common.{◌≡◌, ◌+◌, ◌<◌, ◌∙◌, ap, sym, subst, length, fold, rules, arith}
-use Rattle.std.proofs.lemmas.List.{get_or_default}
-use Rattle.std.specs.List.{flat_map}
-use Rattle.stream_ident.specs.Event.{no_event}
-use Rattle.stream_ident.specs.Implying.{added}
+use Rattle.pubsub_registry.proofs.Prelude.{◌≡◌, ◌+◌, ◌<◌, ◌∙◌, ap, sym, subst, length, fold, rules, arith, get_or_default, flat_map, front-of-front, no_event, added}
 use Rattle.pubsub_registry.specs.Implying.{implied, made, names_with}
-use Rattle.stream_ident.proofs.WordLemmas.{front-of-front}
 use Rattle.pubsub_registry.proofs.ImpliedLists.{length-front, more-at}
 use Rattle.pubsub_registry.proofs.ImpliedNames.{implied-on}
 use Rattle.pubsub_registry.proofs.ImpliedSteps.{event-more}

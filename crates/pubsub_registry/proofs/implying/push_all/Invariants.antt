@@ -1,4 +1,4 @@
-use Rattle.std.proofs.Common.{◌≡◌, length, take}
+use Rattle.pubsub_registry.proofs.Prelude.{◌≡◌, length, take}
 use Rattle.pubsub_registry.specs.Implying.{names_with}
 use Rattle.pubsub_registry.proofs.implying.push_all.Given as goal
 

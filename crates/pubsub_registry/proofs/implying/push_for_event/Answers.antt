@@ -1,6 +1,4 @@
-use Rattle.std.proofs.Common.{◌<◌, ap, length, fold, rules, arith}
-use Rattle.std.specs.List.{flat_map}
-use Rattle.stream_ident.specs.Implying.{added}
+use Rattle.pubsub_registry.proofs.Prelude.{◌<◌, ap, length, fold, rules, arith, flat_map, added}
 use Rattle.pubsub_registry.specs.Implying.{made}
 use Rattle.pubsub_registry.proofs.ImpliedLists.{length-front, more-at}
 use Rattle.pubsub_registry.proofs.implying.push_for_event.Goals as goal

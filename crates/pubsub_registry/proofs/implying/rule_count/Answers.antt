@@ -1,7 +1,4 @@
-use Rattle.std.proofs.Common.{◌≡◌, ◌<◌, ◌∙◌, ap, length, get_or, arith}
-use Rattle.std.proofs.lemmas.List.Sums.{sum_by_more, sum_by_more_le}
-use Rattle.stream_ident.specs.declared.event.Event.{Event}
-use Rattle.stream_ident.specs.Event.{no_event}
+use Rattle.pubsub_registry.proofs.Prelude.{◌≡◌, ◌<◌, ◌∙◌, ap, length, get_or, arith, sum_by_more, sum_by_more_le, no_event, Event}
 use Rattle.pubsub_registry.proofs.RuleLemmas.{on}
 use Rattle.pubsub_registry.proofs.implying.rule_count.Goals as goal
 

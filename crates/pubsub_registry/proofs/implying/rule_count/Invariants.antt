@@ -1,4 +1,4 @@
-use Rattle.std.proofs.Common.{◌≡◌, take}
+use Rattle.pubsub_registry.proofs.Prelude.{◌≡◌, take}
 use Rattle.pubsub_registry.specs.Implying.{rule_count}
 use Rattle.pubsub_registry.proofs.implying.rule_count.Given as goal
 

@@ -1,8 +1,4 @@
-use Rattle.std.proofs.Common.{◌≡◌, ◌∙◌, ◌+◌, ◌-◌, ◌∷◌, true, false, get_or, drop, subst, sym, ap, arith}
-use Rattle.std.proofs.lemmas.List.Elements.{All-cons, All-same}
-use Rattle.std.proofs.lemmas.Option.{get_or_from_slice_get}
-use Rattle.stream_ident.specs.SubName.{sub_lt}
-use Rattle.stream_ident.proofs.WordLemmas.{drop-read}
+use Rattle.pubsub_registry.proofs.Prelude.{◌≡◌, ◌∙◌, ◌+◌, ◌-◌, ◌∷◌, true, false, get_or, drop, subst, sym, ap, arith, All-cons, All-same, get_or_from_slice_get, drop-read, sub_lt}
 use Rattle.pubsub_registry.proofs.Ascending.{place-from}
 use Rattle.pubsub_registry.proofs.indexed.place_of.Goals as goal
 

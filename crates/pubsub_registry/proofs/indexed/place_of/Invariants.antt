@@ -1,5 +1,4 @@
-use Rattle.std.proofs.Common.{◌≡◌, ◌≤◌, true, length, drop, All}
-use Rattle.stream_ident.specs.SubName.{sub_lt}
+use Rattle.pubsub_registry.proofs.Prelude.{◌≡◌, ◌≤◌, true, length, drop, All, sub_lt}
 use Rattle.pubsub_registry.proofs.indexed.place_of.Given as goal
 
 abbrev pub invariant-loop-at : goal.invariant-loop-at

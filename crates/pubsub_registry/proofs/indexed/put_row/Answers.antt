@@ -1,9 +1,6 @@
-use Rattle.std.proofs.Common.{◌≡◌, ◌∙◌, [], ◌∷◌, ◌++◌, Bool, None, Some, get_or, insert, length, slice_get, take, sym, ap, subst, arith}
+use Rattle.pubsub_registry.proofs.Prelude.{insert_entry-new, ◌≡◌, ◌∙◌, [], ◌∷◌, ◌++◌, Bool, None, Some, get_or, insert, length, take, sym, ap, subst, arith, slice_get-get_or, keys_of, lookup, values_of, option_copied_mut}
+use Rattle.std.proofs.Common.{slice_get}
 use Rattle.std.proofs.Math.Seq.{take-append_seam}
-use Rattle.std.specs.Map.{keys_of, lookup, values_of}
-use Rattle.std.specs.Option.{option_copied_mut}
-use Rattle.std.proofs.lemmas.Option.{slice_get-get_or}
-use Rattle.indexmap.proofs.CallerLemmas.{insert_entry-new}
 use Rattle.pubsub_registry.specs.Registry.{no_entry}
 use Rattle.pubsub_registry.specs.declared.packed.Key.{Key}
 use Rattle.pubsub_registry.proofs.PackedLemmas.{key_equal, key_equal-is}

@@ -1,7 +1,6 @@
-use Rattle.std.proofs.Common.{◌≡◌, ◌∙◌, Some, filter, nat_eq, not, slice_get, sym, ap, rules}
+use Rattle.pubsub_registry.proofs.Prelude.{◌≡◌, ◌∙◌, Some, filter, nat_eq, not, sym, ap, rules, values_of, option_copied_mut}
+use Rattle.std.proofs.Common.{slice_get}
 use Rattle.std.proofs.lemmas.Fn.{filter_same}
-use Rattle.std.specs.Map.{values_of}
-use Rattle.std.specs.Option.{option_copied_mut}
 use Rattle.pubsub_registry.proofs.RowLemmas.{changes-row}
 use Rattle.pubsub_registry.proofs.indexed.take_out.Goals as goal
 

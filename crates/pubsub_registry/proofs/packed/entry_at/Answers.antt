@@ -1,6 +1,4 @@
-use Rattle.std.proofs.Common.{◌∙◌, sym, ap}
-use Rattle.std.specs.Option.{option_map}
-use Rattle.std.proofs.lemmas.Option.{slice_get-map}
+use Rattle.pubsub_registry.proofs.Prelude.{◌∙◌, sym, ap, slice_get-map, option_map}
 use Rattle.pubsub_registry.specs.Packed.{entry_by}
 use Rattle.pubsub_registry.proofs.PackedLemmas.{within-at}
 use Rattle.pubsub_registry.proofs.packed.entry_at.Goals as goal

@@ -1,7 +1,5 @@
-use Rattle.std.proofs.Common.{◌≡◌, ◌∙◌, Some, slice_get, sym, ap}
-use Rattle.std.specs.Map.{keys_of}
-use Rattle.std.specs.Option.{option_map}
-use Rattle.std.proofs.lemmas.Option.{get_or_from_slice_get}
+use Rattle.pubsub_registry.proofs.Prelude.{◌≡◌, ◌∙◌, Some, sym, ap, get_or_from_slice_get, keys_of, option_map}
+use Rattle.std.proofs.Common.{slice_get}
 use Rattle.pubsub_registry.proofs.PackedLemmas.{key-slice}
 use Rattle.pubsub_registry.proofs.packed.key_at.Goals as goal
 

@@ -1,8 +1,6 @@
-use Rattle.std.proofs.Common.{◌≡◌, ◌∙◌, None, Some, position, sym, ap, subst}
-use Rattle.std.specs.Map.{keys_of}
-use Rattle.stream_ident.specs.Name.{same_grain, same_stream}
+use Rattle.pubsub_registry.proofs.Prelude.{◌≡◌, ◌∙◌, None, Some, sym, ap, subst, keys_of, same_grain-equal, same_stream-equal, same_grain, same_stream}
+use Rattle.std.proofs.Common.{position}
 use Rattle.stream_ident.specs.declared.ident.GrainId.{GrainId}
-use Rattle.stream_ident.proofs.SameValues.{same_grain-equal, same_stream-equal}
 use Rattle.pubsub_registry.specs.Packed.{ids_in}
 use Rattle.pubsub_registry.proofs.PackedLemmas.{if-none, key-found, name-made, no-grain, no-stream}
 use Rattle.pubsub_registry.proofs.packed.known_key.Goals as goal

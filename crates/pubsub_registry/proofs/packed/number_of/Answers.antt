@@ -1,7 +1,5 @@
-use Rattle.std.proofs.Common.{◌≡◌, ◌∙◌, ◌∷◌, [], Some, slice_get, sym, subst}
-use Rattle.std.specs.Map.{keys_of}
-use Rattle.indexmap.proofs.CallerLemmas.{insert_entry-new}
-use Rattle.stream_ident.proofs.WordLemmas.{none_from_is_some}
+use Rattle.pubsub_registry.proofs.Prelude.{insert_entry-new, ◌≡◌, ◌∙◌, ◌∷◌, [], Some, sym, subst, keys_of, none_from_is_some}
+use Rattle.std.proofs.Common.{slice_get}
 use Rattle.pubsub_registry.proofs.PackedLemmas.{grown-same, key-found, last-key}
 use Rattle.pubsub_registry.proofs.packed.number_of.Goals as goal
 

@@ -1,5 +1,4 @@
-use Rattle.std.proofs.Common.{refl}
-use Rattle.stream_ident.specs.Name.{same_stream}
+use Rattle.pubsub_registry.proofs.Prelude.{refl, same_stream}
 use Rattle.pubsub_registry.specs.Packed.{ids_in}
 use Rattle.pubsub_registry.proofs.PackedLemmas.{grown-same, packed-grown, row-made, values-grown}
 use Rattle.pubsub_registry.proofs.packed.row_for.Goals as goal

@@ -1,25 +1,14 @@
-use Rattle.std.proofs.Common.{◌-◌, ◌∙◌, ◌<◌, length, arith, ap, sym}
-use Rattle.std.proofs.lemmas.List.{length-map}
-use Rattle.queue_mapper.specs.Place.{bare}
-use Rattle.partition_queue.specs.Queue.{between}
-use Rattle.partition_queue.proofs.EventLemmas.{between_at, length-between}
+use Rattle.std.proofs.Common.{◌∙◌, length, arith, ap, sym}
+use Rattle.partition_queue.proofs.EventLemmas.{between_at, length-bare}
 use Rattle.partition_queue.proofs.span.Span.at.Goals as goal
 
 pub overflow_add-self-inside : goal.overflow_add-self-inside
 overflow_add-self-inside c =
     let span = c.self.inside in
-    omega (
-      arith,
-      c.requires,
-      ap length c.self.view_is,
-      length-map (between span.queue.now span.from span.to) bare,
-      length-between span.queue.now span.from span.to c.self.invariant.1,
-      c.self.invariant.2,
-    )
+    omega (arith, c.requires, ap length c.self.view_is, length-bare span.queue.now span.from span.to c.self.invariant.1, c.self.invariant.2)
 
 pub returns : goal.returns
 returns c =
     let span = c.self.inside in
-    let inside : c.args.index < span.to - span.from =
-    omega (arith, c.requires, ap length c.self.view_is, length-map (between span.queue.now span.from span.to) bare, length-between span.queue.now span.from span.to c.self.invariant.1) in
+    let inside = rw (← c.self.view_is) at c.requires in
     rw (← c.self.view_is) (c.header_at.ensures ∙ sym (between_at span.queue.now span.from span.to c.args.index c.self.invariant.1 inside))

@@ -1,6 +1,4 @@
-use Rattle.std.proofs.Common.{◌∙◌, List, ap, filter}
-use Rattle.stream_ident.specs.Name.{same_name}
-use Rattle.stream_ident.specs.declared.rule.Rule.{Rule}
+use Rattle.pubsub_registry.proofs.Prelude.{◌∙◌, List, ap, filter, same_name, Rule}
 use Rattle.pubsub_registry.proofs.indexed.Rules.on_namespace.Goals as goal
 
 pub returns : goal.returns

@@ -1,6 +1,4 @@
-use Rattle.std.proofs.Common.{◌≡◌, ◌∙◌, List, [], ◌∷◌, ◌++◌, sym, ap, filter}
-use Rattle.stream_ident.specs.Name.{same_name}
-use Rattle.stream_ident.specs.declared.rule.Rule.{Rule}
+use Rattle.pubsub_registry.proofs.Prelude.{◌≡◌, ◌∙◌, List, [], ◌∷◌, ◌++◌, sym, ap, filter, same_name, Rule}
 use Rattle.pubsub_registry.proofs.RuleLemmas.{ruled-push}
 use Rattle.pubsub_registry.proofs.indexed.Rules.push.Goals as goal
 

@@ -1,4 +1,5 @@
-use Rattle.std.proofs.Common.{◌∙◌, Some, slice_get, sym, ap}
+use Rattle.pubsub_registry.proofs.Prelude.{◌∙◌, Some, sym, ap}
+use Rattle.std.proofs.Common.{slice_get}
 use Rattle.pubsub_registry.specs.Registry.{no_entry}
 use Rattle.pubsub_registry.proofs.Entries.{Names}
 use Rattle.pubsub_registry.proofs.indexed.Subscriptions.at.Goals as goal

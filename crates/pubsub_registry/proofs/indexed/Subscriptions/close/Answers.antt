@@ -1,8 +1,5 @@
-use Rattle.std.proofs.Common.{◌≡◌, ◌∙◌, Some, slice_get, refl, sym, ap}
-use Rattle.std.specs.Map.{values_of}
-use Rattle.std.specs.Option.{option_copied_mut}
-use Rattle.stream_ident.specs.SubName.{same_sub}
-use Rattle.stream_ident.specs.Words.{changed_value}
+use Rattle.pubsub_registry.proofs.Prelude.{◌≡◌, ◌∙◌, Some, refl, sym, ap, values_of, option_copied_mut, same_sub, changed_value}
+use Rattle.std.proofs.Common.{slice_get}
 use Rattle.pubsub_registry.specs.Packed.{entries_by, ids_in}
 use Rattle.pubsub_registry.specs.Registry.{closed_registration}
 use Rattle.pubsub_registry.proofs.Entries.{Names, closed-unplaced, place_in, stands-placed}

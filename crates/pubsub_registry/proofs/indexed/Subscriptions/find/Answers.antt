@@ -1,7 +1,4 @@
-use Rattle.std.proofs.Common.{◌≡◌, ◌∙◌, ◌<◌, Bool, None, length, is_some, sym, ap, subst}
-use Rattle.std.specs.Map.{keys_of}
-use Rattle.std.specs.Prelude.{position, IfSome}
-use Rattle.std.proofs.lemmas.List.{length-map}
+use Rattle.pubsub_registry.proofs.Prelude.{◌≡◌, ◌∙◌, ◌<◌, Bool, None, length, is_some, sym, ap, subst, length-map, keys_of, position, IfSome}
 use Rattle.stream_ident.proofs.FirstLemmas.{position-key}
 use Rattle.pubsub_registry.specs.Packed.{entry_by, ids_in, same_key}
 use Rattle.pubsub_registry.specs.declared.packed.Key.{Key}

@@ -1,6 +1,5 @@
-use Rattle.std.proofs.Common.{Bool, subst}
+use Rattle.pubsub_registry.proofs.Prelude.{Bool, subst, keys_of}
 use Rattle.std.specs.List.{IsDistinct}
-use Rattle.std.specs.Map.{keys_of}
 use Rattle.pubsub_registry.specs.Index.{AreUnique}
 use Rattle.pubsub_registry.specs.Packed.{ids_in}
 use Rattle.pubsub_registry.specs.declared.packed.Key.{Key}

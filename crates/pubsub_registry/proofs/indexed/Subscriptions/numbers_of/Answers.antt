@@ -1,4 +1,4 @@
-use Rattle.std.proofs.Common.{sym}
+use Rattle.pubsub_registry.proofs.Prelude.{sym}
 use Rattle.pubsub_registry.proofs.IndexLemmas.{indexed-row}
 use Rattle.pubsub_registry.proofs.indexed.Subscriptions.numbers_of.Goals as goal
 

@@ -1,10 +1,5 @@
-use Rattle.std.proofs.Common.{◌≡◌, ◌∙◌, ◌-◌, ◌++◌, ◌∷◌, [], ◌<◌, List, Some, ap, sym, subst, take, length, length-take, arith}
-use Rattle.std.specs.List.{take-map}
-use Rattle.std.specs.Map.{keys_of}
-use Rattle.std.specs.Prelude.{slice_get}
-use Rattle.std.proofs.lemmas.Option.{slice_get-get_or}
+use Rattle.pubsub_registry.proofs.Prelude.{◌≡◌, ◌∙◌, ◌-◌, ◌++◌, ◌∷◌, [], ◌<◌, List, Some, ap, sym, subst, take, length, length-take, arith, slice_get-get_or, take-map, keys_of, slice_get, same_stream}
 use Rattle.indexmap.proofs.MapLemmas.{split_last}
-use Rattle.stream_ident.specs.Name.{same_stream}
 use Rattle.pubsub_registry.specs.Index.{IsIndexed}
 use Rattle.pubsub_registry.specs.Packed.{entries_by, entry_by, ids_in, IsPacked}
 use Rattle.pubsub_registry.specs.Registry.{no_entry}

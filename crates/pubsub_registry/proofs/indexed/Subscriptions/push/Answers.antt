@@ -1,10 +1,5 @@
-use Rattle.std.proofs.Common.{◌≡◌, ◌∙◌, ◌∷◌, ◌++◌, [], ℕ, None, Contains, get_or, length, sym, ap, subst, arith}
-use Rattle.std.proofs.lemmas.List.{length-map}
-use Rattle.std.proofs.lemmas.Option.{same_Some}
+use Rattle.pubsub_registry.proofs.Prelude.{◌≡◌, ◌∙◌, ◌∷◌, ◌++◌, [], ℕ, None, Contains, get_or, length, sym, ap, subst, arith, length-map, same_Some, keys_of, lookup, same_stream, same_sub}
 use Rattle.std.proofs.lemmas.Result.{on_err_weaker, on_ok_weaker}
-use Rattle.std.specs.Map.{keys_of, lookup}
-use Rattle.stream_ident.specs.SubName.{same_sub}
-use Rattle.stream_ident.specs.Name.{same_stream}
 use Rattle.stream_ident.specs.declared.ident.SubName.TheVariants as name
 use Rattle.pubsub_registry.specs.Ascending.{IsAscending, IsPlaceOf}
 use Rattle.pubsub_registry.specs.Index.{names_at}

@@ -1,4 +1,4 @@
-use Rattle.std.proofs.Common.{◌≡◌, length, take}
+use Rattle.pubsub_registry.proofs.Prelude.{◌≡◌, length, take}
 use Rattle.pubsub_registry.proofs.indexed.Subscriptions.truncate.Given as goal
 
 abbrev pub invariant-loop-self : goal.invariant-loop-self

@@ -1,5 +1,4 @@
-use Rattle.std.proofs.Common.{◌≡◌, ◌∙◌, Some, sym, subst, arith}
-use Rattle.stream_ident.specs.declared.ident.SubName.TheVariants.{Explicit}
+use Rattle.pubsub_registry.proofs.Prelude.{◌≡◌, ◌∙◌, Some, sym, subst, arith, Explicit}
 use Rattle.pubsub_registry.specs.Registry.{PlainRegistry, next_number, registered}
 use Rattle.pubsub_registry.proofs.SoundLemmas.{given-number, sound-push}
 use Rattle.pubsub_registry.proofs.registry.Registry.add.Goals as goal

@@ -1,5 +1,4 @@
-use Rattle.std.proofs.Common.{◌≡◌, ◌∙◌, false, sym, subst, arith}
-use Rattle.stream_ident.specs.declared.ident.SubName.TheVariants.{Implicit}
+use Rattle.pubsub_registry.proofs.Prelude.{◌≡◌, ◌∙◌, false, sym, subst, arith, Implicit}
 use Rattle.pubsub_registry.specs.Registry.{PlainRegistry, is_full}
 use Rattle.pubsub_registry.proofs.SoundLemmas.{sound-push}
 use Rattle.pubsub_registry.proofs.registry.Registry.add_implied.Goals as goal

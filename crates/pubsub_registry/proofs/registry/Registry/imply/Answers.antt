@@ -1,5 +1,4 @@
-use Rattle.std.proofs.Common.{◌≡◌, ◌∙◌, ◌≤◌, [], length, sym, ap, subst, arith, rules}
-use Rattle.std.proofs.lemmas.List.{nil_from_length}
+use Rattle.pubsub_registry.proofs.Prelude.{◌≡◌, ◌∙◌, ◌≤◌, [], length, sym, ap, subst, arith, rules, nil_from_length}
 use Rattle.pubsub_registry.specs.Registry.{PlainRegistry}
 use Rattle.pubsub_registry.proofs.ImpliedLists.{nothing-implied}
 use Rattle.pubsub_registry.proofs.ImpliedSound.{sound-implied}

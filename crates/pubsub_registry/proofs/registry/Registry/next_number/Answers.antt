@@ -1,5 +1,5 @@
-use Rattle.std.proofs.Common.{◌≡◌, ◌+◌, ◌^◌, ◌<◌, ℕ, Option, Some, None, IfSome, SomeIff, subst, arith}
-use Rattle.stream_ident.specs.declared.ident.SubName.TheVariants.{Explicit}
+use Rattle.pubsub_registry.proofs.Prelude.{◌≡◌, ◌+◌, ◌^◌, ◌<◌, ℕ, Option, Some, None, SomeIff, subst, arith, Explicit}
+use Rattle.std.proofs.Common.{IfSome}
 use Rattle.pubsub_registry.specs.Registry.{PlainRegistry, registration_of}
 use Rattle.pubsub_registry.specs.Sound.{IsSound}
 use Rattle.pubsub_registry.proofs.SoundLemmas.{new-number}

@@ -1,5 +1,4 @@
-use Rattle.std.proofs.Common.{◌∙◌, sym, ap, subst}
-use Rattle.std.specs.Map.{keys_of}
+use Rattle.pubsub_registry.proofs.Prelude.{◌∙◌, sym, ap, subst, keys_of}
 use Rattle.pubsub_registry.specs.Index.{AreNumbersOf, names_at}
 use Rattle.pubsub_registry.specs.Registry.{PlainRegistry, AreSubsOf}
 use Rattle.pubsub_registry.proofs.Entries.{Names}

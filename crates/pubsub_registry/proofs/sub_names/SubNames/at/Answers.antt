@@ -1,10 +1,4 @@
-use Rattle.std.proofs.Common.{◌∙◌, ◌<◌, ℕ, Some, length, get_or, sym, ap, arith}
-use Rattle.std.specs.Prelude.{slice_get}
-use Rattle.std.specs.Map.{keys_of}
-use Rattle.std.specs.Option.{option_map}
-use Rattle.std.proofs.lemmas.List.{length-map}
-use Rattle.std.proofs.lemmas.Option.{slice_get-get_or, slice_get-map}
-use Rattle.stream_ident.specs.declared.ident.SubName.{SubName}
+use Rattle.pubsub_registry.proofs.Prelude.{◌∙◌, ◌<◌, ℕ, Some, length, get_or, sym, ap, arith, length-map, slice_get-get_or, slice_get-map, keys_of, option_map, slice_get, SubName}
 use Rattle.stream_ident.specs.declared.ident.SubName.TheVariants as name
 use Rattle.pubsub_registry.specs.Registry.{no_entry}
 use Rattle.pubsub_registry.proofs.SubsLemmas.{name-is}
