@@ -1,16 +1,5 @@
 -- What the trees answer is what the named leaves do.
-use Rattle.std.proofs.Common.{◌≡◌, ◌∙◌, ℕ, ◌+◌, ◌<◌, ◌≤◌, inl, inr, Bool, true, false, ◌&&◌, ◌||◌, List, length, get_or, Option, Some, None, refl, sym, ap, arith}
-use Rattle.std.proofs.lemmas.Bool.{cases_lt, leb-true, leb-false, le-leb, lt-leb, lt-ltb, le-ltb, eq-eqb, ne_eqb}
-use Rattle.std.proofs.lemmas.Option.{same_Some}
-use Rattle.std.specs.Option.{option_map, is_some}
-use Rattle.std.specs.Prelude.{slice_index}
-use Rattle.stream_ident.specs.declared.ident.SubName.{SubName}
-use Rattle.stream_ident.specs.SubName.{same_sub, sub_lt}
-use Rattle.stream_ident.specs.Words.{or_else, has_number}
-use Rattle.stream_ident.proofs.NameOrders.{sub_order}
-use Rattle.ranked_index.specs.Keys.{first_at_most, is_at_most, least_key, least_place, place_of_least}
-use Rattle.ranked_index.specs.Ranked.{AreKeys, AreRanked, IsFirstPast}
-use Rattle.ranked_index.specs.Ranks.{due_at}
+use Rattle.subscription_table.proofs.Prelude.{first_at_most, is_at_most, least_key, least_place, place_of_least, AreKeys, AreRanked, IsFirstPast, due_at, ◌≡◌, ◌∙◌, ℕ, ◌+◌, ◌<◌, ◌≤◌, inl, inr, Bool, true, false, ◌&&◌, ◌||◌, List, length, get_or, Option, Some, None, refl, sym, ap, arith, cases_lt, leb-true, leb-false, le-leb, lt-leb, lt-ltb, le-ltb, eq-eqb, ne_eqb, same_Some, option_map, is_some, slice_index, sub_order, same_sub, sub_lt, or_else, has_number, SubName}
 use Rattle.ranked_index.proofs.LeastKeys.{least_key-is}
 use Rattle.ranked_index.proofs.LeastLemmas.{first_at_most-met, first_at_most-missed, least_by_rank, least_key-ranked, next_by_rank, IsFirstKey}
 use Rattle.subscription_table.specs.Leaves.{due_after, is_due, resumes_below, slowest, slowest_at, NamedLeaf}

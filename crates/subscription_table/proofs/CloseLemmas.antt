@@ -1,61 +1,38 @@
 -- A table with one subscription closed.
-use Rattle.std.proofs.Common.{◌≡◌, ◌∙◌, ℕ, zero, suc, ◌+◌, ◌^◌, ◌<◌, ◌⊎◌, inl, inr, Bool, true, false, List, [], ◌∷◌, length, get_or, set, Option, Some, None, if◌then◌else◌, refl, sym, ap, subst, arith, length-set, get_or-set_same, get_or-set_other}
-use Rattle.std.specs.Prelude.{slice_get}
+use Rattle.subscription_table.proofs.Prelude.{closed, SubState, AreUnique, PlainRegistry, close_found, registration_of, closed_registration, Registration, tag_of, ranked-set, with_leaf, PlainResumes, Leaf, ◌≡◌, ◌∙◌, ℕ, zero, suc, ◌+◌, ◌^◌, ◌<◌, ◌⊎◌, inl, inr, Bool, true, false, List, [], ◌∷◌, length, get_or, set, Option, Some, None, if◌then◌else◌, refl, sym, ap, ap₂, subst, arith, length-set, get_or-set_same, get_or-set_other, cases_eq, false_from_ne_true, get_or_default, map-set, get_or_from_slice_get, slice_get-get_or, slice_get, same_sub, sub_lt, changed_value, SubName}
 use Rattle.std.proofs.Math.Seq.{map-set_same}
-use Rattle.std.proofs.lemmas.Bool.{cases_eq, false_from_ne_true}
-use Rattle.std.proofs.lemmas.List.{get_or_default}
-use Rattle.std.proofs.lemmas.Option.{get_or_from_slice_get, slice_get-get_or}
-use Rattle.stream_ident.specs.SubName.{same_sub, sub_lt}
-use Rattle.stream_ident.specs.Words.{changed_value}
-use Rattle.stream_ident.specs.declared.ident.SubName.{SubName}
 use Rattle.stream_ident.specs.declared.ident.SubName.TheVariants as name
-use Rattle.queue_mapper.specs.Place.{tag_of}
-use Rattle.consumer_grain.specs.Subscriptions.{closed}
-use Rattle.consumer_grain.specs.declared.sub_state.SubState.{SubState}
-use Rattle.pubsub_registry.specs.Index.{AreUnique}
 use Rattle.pubsub_registry.specs.Registry as registry
-use Rattle.pubsub_registry.specs.declared.registration.Registration.{Registration}
 use Rattle.pubsub_registry.specs.declared.told.Closing.{Closing}
 use Rattle.pubsub_registry.specs.declared.told.Closing.TheVariants.{Done, NoSuch, Implicit, Closed}
 use Rattle.stream_ident.proofs.SameValues.{same_sub-refl}
-use Rattle.ranked_index.specs.Leaves.{with_leaf, PlainResumes}
-use Rattle.ranked_index.specs.Ranked.{AreRanked}
-use Rattle.ranked_index.proofs.EntryLemmas.{ranked-set}
-use Rattle.pubsub_registry.specs.Registry.{PlainRegistry, close_found, registration_of, closed_registration}
 use Rattle.subscription_table.specs.Standing.{kept_of, name_of, tags_of, AreRecords, IsTable}
 use Rattle.subscription_table.specs.Table.{PlainTable, close, closed_by, no_entry, no_state, state_at}
-use Rattle.subscription_table.proofs.LeafLemmas.{Entry, Names, kept-changed}
+use Rattle.subscription_table.proofs.LeafLemmas.{Entry, Names}
 
 -- what a registry told, and what it is then
 abbrev Told : Type 0
 Told = PlainRegistry × Closing
 
--- the registry that told that it is closed
-pub close-done : (r new : PlainRegistry) (s : SubName) (told : Closing) → told ≡ Done → ◌≡◌ {A = Told} (new, told) (registry.close r s) → new.names ≡ changed_value same_sub s closed_registration r.names
-close-done r new s told done is = by s (registration_of r s) (ap {B = Told} (λ (t : Closing). (new, t)) (sym done) ∙ is)
+-- a registry that told that it closed a name, or anything else and is as it was
+record Answers (r new : PlainRegistry) (s : SubName) (told : Closing) : Type 0 where
+  pub done : told ≡ Done → new.names ≡ changed_value same_sub s closed_registration r.names
+  pub other : (told ≡ Done → ⊥) → new ≡ r
+
+answers : (r new : PlainRegistry) (s : SubName) (told : Closing) → ◌≡◌ {A = Told} (new, told) (registry.close r s) → Answers r new s told
+answers r new s told is = by s (registration_of r s) is
   where
-    if-open : (number : ℕ) (b : Bool) → ◌≡◌ {A = Told} (new, Done) (if b then (record r { names = changed_value same_sub (name.Explicit number) closed_registration r.names }, Done) else (r, Closed))
-        → new.names ≡ changed_value same_sub (name.Explicit number) closed_registration r.names
-    if-open number true is = ap (λ (t : Told). t.0.names) is
-    if-open number false is = let apart : Done ≡ Closed = ap (λ (t : Told). t.1) is in absurd (cc)
+    kept : (s : SubName) (refusal : Closing) → (refusal ≡ Done → ⊥) → ◌≡◌ {A = Told} (new, told) (r, refusal) → Answers r new s told
+    kept s refusal not_done is = record { done = λ done. absurd (not_done (sym (ap (λ (t : Told). t.1) is) ∙ done)); other = λ not_told. ap (λ (t : Told). t.0) is }
 
-    by : (s : SubName) (found : Option Registration) → ◌≡◌ {A = Told} (new, Done) (close_found r s found) → new.names ≡ changed_value same_sub s closed_registration r.names
-    by s None is = let apart : Done ≡ NoSuch = ap (λ (t : Told). t.1) is in absurd (cc)
-    by (name.Implicit kind stream) (Some registration) is = let apart : Done ≡ Implicit = ap (λ (t : Told). t.1) is in absurd (cc)
-    by (name.Explicit number) (Some registration) is = if-open number registration.is_open is
+    if-open : (s : SubName) (b : Bool) → ◌≡◌ {A = Told} (new, told) (if b then (record r { names = changed_value same_sub s closed_registration r.names }, Done) else (r, Closed)) → Answers r new s told
+    if-open s true is = record { done = λ done. ap (λ (t : Told). t.0.names) is; other = λ other. absurd (other (ap (λ (t : Told). t.1) is)) }
+    if-open s false is = kept s Closed (λ apart. cc) is
 
--- a registry that told anything else is as it was
-pub close-other : (r new : PlainRegistry) (s : SubName) (told : Closing) → (told ≡ Done → ⊥) → ◌≡◌ {A = Told} (new, told) (registry.close r s) → new ≡ r
-close-other r new s told other is = by s (registration_of r s) is
-  where
-    if-open : (names : Names) (b : Bool) → ◌≡◌ {A = Told} (new, told) (if b then (record r { names = names }, Done) else (r, Closed)) → new ≡ r
-    if-open names true is = absurd (other (ap (λ (t : Told). t.1) is))
-    if-open names false is = ap (λ (t : Told). t.0) is
-
-    by : (s : SubName) (found : Option Registration) → ◌≡◌ {A = Told} (new, told) (close_found r s found) → new ≡ r
-    by s None is = ap (λ (t : Told). t.0) is
-    by (name.Implicit kind stream) (Some registration) is = ap (λ (t : Told). t.0) is
-    by (name.Explicit number) (Some registration) is = if-open (changed_value same_sub (name.Explicit number) closed_registration r.names) registration.is_open is
+    by : (s : SubName) (found : Option Registration) → ◌≡◌ {A = Told} (new, told) (close_found r s found) → Answers r new s told
+    by s None is = kept s NoSuch (λ apart. cc) is
+    by (name.Implicit kind stream) (Some registration) is = kept (name.Implicit kind stream) Implicit (λ apart. cc) is
+    by (name.Explicit number) (Some registration) is = if-open (name.Explicit number) registration.is_open is
 
 unique-rest : (entry : Entry) (entries : Names) → AreUnique (entry ∷ entries) → AreUnique entries
 unique-rest entry entries unique i j a b at-i at-j same =
@@ -95,7 +72,7 @@ at-both P names states number entry state long here each i within =
         subst (λ (e : Entry). P e (get_or (set states number state) i no_state)) (sym (get_or-set_other names number i entry no_entry other))
         (subst (P (get_or names i no_entry)) (sym (get_or-set_other states number i state no_state other)) (each i old))
 
-module _ (t : PlainTable) (tags : List ℕ) (r : PlainResumes) (is : IsTable t tags r) (number : ℕ) (within : number < length t.registry.names) (unique : AreUnique t.registry.names)
+module _ {t : PlainTable} {tags : List ℕ} {r : PlainResumes} (is : IsTable t tags r) (number : ℕ) (within : number < length t.registry.names) (unique : AreUnique t.registry.names)
     (new_registry : PlainRegistry) (names-closed : new_registry.names ≡ changed_value same_sub (get_or t.registry.names number no_entry).0 closed_registration t.registry.names) where
   abbrev entry : Entry
   entry = get_or t.registry.names number no_entry
@@ -120,41 +97,36 @@ module _ (t : PlainTable) (tags : List ℕ) (r : PlainResumes) (is : IsTable t t
         resumes = at-both (λ e s. s.resume + 2 < 2 ^ 64) t.registry.names t.states number closed_entry state is.records.long (is.records.resumes number there) is.records.resumes;
       }
 
-  pub table-closed : (now seen : SubState) → now ≡ closed (state_at t number) → seen ≡ get_or (set t.states number now) number seen → (new : PlainResumes) → new ≡ with_leaf number (kept_of seen) r
-      → IsTable (record { registry = new_registry; states = set t.states number now }) tags new
-  table-closed now seen closes look new set_to =
-      let there : number < length t.states = omega (arith, is.records.long) in
-      let same : seen ≡ now = look ∙ get_or-set_same t.states number now seen there in
+  pub table-closed : {now : SubState} → now ≡ closed (state_at t number) → {new : PlainResumes} → new ≡ with_leaf number (kept_of now) r → IsTable (record { registry = new_registry; states = set t.states number now }) tags new
+  table-closed {now} closes {new} set_to =
       let renamed = ranked-set t.registry.names r.order number closed_entry within name_of sub_lt (λ d. ap name_of (get_or_default t.registry.names number no_entry d within)) is.ranked in
       record {
         records = subst (λ (s : SubState). AreRecords (record { registry = new_registry; states = set t.states number s })) (sym closes) records-closed;
         tagged = is.tagged ∙ sym (ap tags_of names ∙ map-set_same (λ (e : Entry). tag_of e.1.stream) t.registry.names number closed_entry no_entry refl);
-        leaved = ap (λ (r : PlainResumes). r.leaves) set_to ∙ ap (λ (s : SubState). set r.leaves number (kept_of s)) same ∙ kept-changed t.states r.leaves number now is.leaved;
-        ranked = subst (λ (order : List ℕ). AreRanked name_of sub_lt new_registry.names order) (sym (ap (λ (r : PlainResumes). r.order) set_to))
-            (subst (λ (all : Names). AreRanked name_of sub_lt all r.order) (sym names) renamed);
+        leaved = ap (λ (r : PlainResumes). r.leaves) set_to ∙ ap (λ (all : List Leaf). set all number (kept_of now)) is.leaved ∙ sym (map-set kept_of t.states number now);
+        ranked = rw (set_to, names) renamed;
       }
 
 -- what a close told, by what the registry told
-module _ (t old : PlainTable) (same : t ≡ old) (number : ℕ) (r : PlainRegistry) (told : Closing) (entry : Entry) (there : slice_get t.registry.names number ≡ Some entry)
+module _ {t old : PlainTable} (same : t ≡ old) (number : ℕ) {r : PlainRegistry} {told : Closing} {entry : Entry} (there : slice_get t.registry.names number ≡ Some entry)
     (is : ◌≡◌ {A = Told} (r, told) (registry.close t.registry entry.0)) where
-  pub named : entry.0 ≡ (get_or t.registry.names number no_entry).0
+  named : entry.0 ≡ (get_or t.registry.names number no_entry).0
   named = sym (ap (λ (e : Entry). e.0) (get_or_from_slice_get t.registry.names number entry no_entry there))
 
   by-registry : closed_by t number (r, told) ≡ close old number
   by-registry = ap (closed_by t number) (is ∙ ap (registry.close t.registry) named) ∙ ap (λ (t : PlainTable). close t number) same
 
   pub names-closed : told ≡ Done → r.names ≡ changed_value same_sub (get_or t.registry.names number no_entry).0 closed_registration t.registry.names
-  names-closed done = close-done t.registry r entry.0 told done is ∙ ap (λ (s : SubName). changed_value same_sub s closed_registration t.registry.names) named
+  names-closed done = (answers t.registry r entry.0 told is).done done ∙ ap (λ (s : SubName). changed_value same_sub s closed_registration t.registry.names) named
 
-  pub close-is : told ≡ Done → (now : SubState) → now ≡ closed (state_at t number) → ◌≡◌ {A = PlainTable × Closing} (record { registry = r; states = set t.states number now }, told) (close old number)
-  close-is done now closes =
-      ap {B = PlainTable × Closing} (λ (s : SubState). (record { registry = r; states = set t.states number s }, told)) closes
-      ∙ ap {B = PlainTable × Closing} (λ (c : Closing). (record { registry = r; states = set t.states number (closed (state_at t number)) }, c)) done
+  pub close-is : told ≡ Done → {now : SubState} → now ≡ closed (state_at t number) → ◌≡◌ {A = PlainTable × Closing} (record { registry = r; states = set t.states number now }, told) (close old number)
+  close-is done closes =
+      ap₂ {C = PlainTable × Closing} (λ (s : SubState) (c : Closing). (record { registry = r; states = set t.states number s }, c)) closes done
       ∙ ap (λ (c : Closing). closed_by t number (r, c)) (sym done) ∙ by-registry
 
   pub refused-is : (told ≡ Done → ⊥) → ◌≡◌ {A = PlainTable × Closing} (record { registry = r; states = t.states }, told) (close old number)
   refused-is other =
-      ap {B = PlainTable × Closing} (λ (r : PlainRegistry). (record { registry = r; states = t.states }, told)) (close-other t.registry r entry.0 told other is)
+      ap {B = PlainTable × Closing} (λ (r : PlainRegistry). (record { registry = r; states = t.states }, told)) ((answers t.registry r entry.0 told is).other other)
       ∙ by told other ∙ by-registry
     where
       by : (c : Closing) → (c ≡ Done → ⊥) → ◌≡◌ {A = PlainTable × Closing} (t, c) (closed_by t number (r, c))

@@ -1,35 +1,19 @@
 -- A table with more subscriptions, which have handled nothing.
-use Rattle.std.proofs.Common.{◌≡◌, ◌∙◌, ℕ, ◌+◌, ◌-◌, ◌^◌, ◌<◌, ◌≤◌, ◌⊎◌, inl, inr, Bool, true, false, List, [], ◌∷◌, ◌++◌, length, get_or, map, take, drop, None, Some, if◌then◌else◌, refl, sym, ap, subst, arith, All, length-append}
-use Rattle.std.specs.Prelude.{fold, is_some, nat_lt, ◌&&◌, not}
-use Rattle.std.specs.List.{flat_map, insert}
-use Rattle.std.proofs.lemmas.Bool.{cases_lt}
-use Rattle.std.proofs.lemmas.List.{append-nil, append_assoc, drop_at, get_or-append_right, get_or-map, get_or_append_left, length-map, map-append, take-append-le, take_all, take_at}
+use Rattle.subscription_table.proofs.Prelude.{new_state, SubState, PlainRegistry, add, add_with, next_number, registered, truncated, tag_of, ranked-insert, open_leaf, pushed, PlainResumes, AreRanked, IsFirstPast, Leaf, ◌≡◌, ◌∙◌, ℕ, ◌+◌, ◌-◌, ◌^◌, ◌<◌, ◌≤◌, ◌⊎◌, inl, inr, Bool, true, false, List, [], ◌∷◌, ◌++◌, length, get_or, map, take, drop, None, Some, if◌then◌else◌, refl, sym, ap, subst, arith, All, length-append, cases_lt, append-nil, append_assoc, drop_at, get_or-append_right, get_or-map, get_or_append_left, length-map, map-append, take-append-le, take_at, fold, sub_order, same_sub, sub_lt, value_at, StreamId, SubName, Token}
+use Rattle.std.specs.Prelude.{is_some, nat_lt, ◌&&◌, not}
+use Rattle.std.specs.List.{flat_map}
 use Rattle.std.proofs.lemmas.List.Elements.{All-append, All-cons, All-from_recursion, All-head, All-nil, All-tail}
 use Rattle.std.proofs.lemmas.Map.{none_passes_from_lookup}
 use Rattle.stream_ident.specs.Event.{batch_token}
 use Rattle.stream_ident.specs.Name.{same_name}
-use Rattle.stream_ident.specs.SubName.{same_sub, sub_lt}
-use Rattle.stream_ident.proofs.NameOrders.{sub_order}
 use Rattle.stream_ident.specs.Token.{token_lt}
-use Rattle.stream_ident.specs.Words.{value_at}
 use Rattle.stream_ident.specs.declared.event.Event.{Event}
 use Rattle.stream_ident.specs.declared.ident.GrainId.{GrainId}
-use Rattle.stream_ident.specs.declared.ident.StreamId.{StreamId}
-use Rattle.stream_ident.specs.declared.ident.SubName.{SubName}
 use Rattle.stream_ident.specs.declared.ident.SubName.TheVariants as name
 use Rattle.stream_ident.specs.declared.rule.Rule.{Rule}
-use Rattle.stream_ident.specs.declared.token.Token.{Token}
-use Rattle.queue_mapper.specs.Place.{tag_of}
-use Rattle.consumer_grain.specs.Subscriptions.{new_state}
-use Rattle.consumer_grain.specs.declared.sub_state.SubState.{SubState}
-use Rattle.pubsub_registry.specs.Registry.{PlainRegistry, add, add_with, next_number, registered, truncated}
 use Rattle.pubsub_registry.specs.declared.told.Added.{Added}
 use Rattle.pubsub_registry.specs.declared.told.Implied.{Implied}
 use Rattle.pubsub_registry.specs.declared.told.Implied.TheVariants as implied_told
-use Rattle.ranked_index.specs.Leaves.{open_leaf, pushed, PlainResumes}
-use Rattle.ranked_index.specs.Ranked.{AreRanked, IsFirstPast}
-use Rattle.ranked_index.proofs.EntryLemmas.{ranked-insert}
-use Rattle.ranked_index.specs.declared.resumes.Leaf.{Leaf}
 use Rattle.stream_ident.specs.Implying.{added}
 use Rattle.pubsub_registry.specs.Implying.{all_implied, implied, imply, names_with}
 use Rattle.subscription_table.specs.Rows.{new_leaves, AreAllNamed, AreNamed}
@@ -37,8 +21,11 @@ use Rattle.subscription_table.specs.Standing.{kept_of, name_of, tags_of, AreReco
 use Rattle.subscription_table.specs.Table.{PlainTable, new_states, no_entry, no_state}
 use Rattle.subscription_table.proofs.LeafLemmas.{Entry, Names, kept-new_states}
 
+abbrev pub IsOpen : Entry → Type 0
+IsOpen entry = entry.1.is_open ≡ true
+
 abbrev pub AreOpen : Names → Type 0
-AreOpen names = All (λ (entry : Entry). entry.1.is_open ≡ true) names
+AreOpen names = All IsOpen names
 
 -- what holds of each name and its state, with those of more names
 each-grown : (P : Entry → SubState → Type 0) (names more : Names) (states : List SubState) (position : ℕ) → length states ≡ length names
@@ -67,55 +54,53 @@ each-grown P names more states position long old new i within = by (cases_lt i (
         subst (λ (e : Entry). P e (get_or (states ++ new_states position more) i no_state)) (sym (entry-right right))
         (subst (P (get_or more (i - length states) no_entry)) (sym (state-right right there)) (new (i - length states) there))
 
-module _ (t : PlainTable) (r : PlainRegistry) (more : Names) (names : r.names ≡ t.registry.names ++ more) (opened : AreOpen more) (position : ℕ) (room : position + 2 < 2 ^ 64) where
-  abbrev grown : PlainTable
-  grown = record { registry = r; states = t.states ++ new_states position more }
-
-  records-grown : AreRecords t → AreRecords grown
-  records-grown is = record {
-    long = length-append t.states (new_states position more) ∙ (let many = length-map more (λ (entry : Entry). new_state entry.1.start position) in
-        let all : length r.names ≡ length t.registry.names + length more = ap length names ∙ length-append t.registry.names more in
-        let old = is.long in omega (arith, many, all, old));
-    starts = λ i within. subst (λ (all : Names). (get_or grown.states i no_state).start ≡ (get_or all i no_entry).1.start) (sym names)
-        (each-grown (λ entry state. state.start ≡ entry.1.start) t.registry.names more t.states position is.long is.starts (λ j there. refl) i within);
-    openness = λ i within. subst (λ (all : Names). (get_or grown.states i no_state).live ≡ (get_or all i no_entry).1.is_open) (sym names)
-        (each-grown (λ entry state. state.live ≡ entry.1.is_open) t.registry.names more t.states position is.long is.openness (λ j there. sym (opened j no_entry there)) i within);
-    cursors = each-grown (λ entry state. state.cursor + 2 < 2 ^ 64) t.registry.names more t.states position is.long is.cursors (λ j there. room);
-    resumes = each-grown (λ entry state. state.resume + 2 < 2 ^ 64) t.registry.names more t.states position is.long is.resumes (λ j there. room);
-  }
-
-  -- the rows with those of the new names
-  pub table-grown : (tags new_tags : List ℕ) (kept new : PlainResumes) → IsTable t tags kept → new_tags ≡ tags ++ tags_of more → new.leaves ≡ kept.leaves ++ new_leaves position more → AreRanked name_of sub_lt r.names new.order
-      → IsTable grown new_tags new
-  table-grown tags new_tags kept new is tagged leaved ranked = record {
-    records = records-grown is.records;
-    tagged = tagged ∙ ap (λ (old : List ℕ). old ++ tags_of more) is.tagged
-        ∙ sym (ap tags_of names ∙ map-append (λ (entry : Entry). _) t.registry.names more);
-    leaved = leaved ∙ ap (λ (old : List Leaf). old ++ new_leaves position more) is.leaved
-        ∙ ap (λ (new : List Leaf). map kept_of t.states ++ new) (sym (kept-new_states position more))
-        ∙ sym (map-append kept_of t.states (new_states position more));
-    ranked = ranked;
-  }
-
 -- names with open ones behind them
 pub record IsGrown (old new : Names) : Type 0 where
   pub more : Names
   pub is : new ≡ old ++ more
   pub opened : AreOpen more
 
+module _ {t : PlainTable} {tags : List ℕ} {kept : PlainResumes} (is : IsTable t tags kept) (r : PlainRegistry) (more : Names) (names : r.names ≡ t.registry.names ++ more) (opened : AreOpen more) (position : ℕ) (room : position + 2 < 2 ^ 64) where
+  records-grown : AreRecords (record { registry = r; states = t.states ++ new_states position more })
+  records-grown = record {
+    long = omega (arith, length-append t.states (new_states position more), length-map more (λ (entry : Entry). new_state entry.1.start position), ap length names, length-append t.registry.names more, is.records.long);
+    starts = λ i low. subst (λ (all : Names). (get_or (t.states ++ new_states position more) i no_state).start ≡ (get_or all i no_entry).1.start) (sym names)
+        (each-grown (λ entry state. state.start ≡ entry.1.start) t.registry.names more t.states position is.records.long is.records.starts (λ j there. refl) i low);
+    openness = λ i low. subst (λ (all : Names). (get_or (t.states ++ new_states position more) i no_state).live ≡ (get_or all i no_entry).1.is_open) (sym names)
+        (each-grown (λ entry state. state.live ≡ entry.1.is_open) t.registry.names more t.states position is.records.long is.records.openness (λ j there. sym (opened j no_entry there)) i low);
+    cursors = each-grown (λ entry state. state.cursor + 2 < 2 ^ 64) t.registry.names more t.states position is.records.long is.records.cursors (λ j there. room);
+    resumes = each-grown (λ entry state. state.resume + 2 < 2 ^ 64) t.registry.names more t.states position is.records.long is.records.resumes (λ j there. room);
+  }
+
+  -- the rows with those of the new names
+  table-grown : {states : List SubState} {new_tags : List ℕ} {new : PlainResumes} → states ≡ t.states ++ new_states position more → new_tags ≡ tags ++ tags_of more → new.leaves ≡ kept.leaves ++ new_leaves position more
+      → AreRanked name_of sub_lt r.names new.order → IsTable (record { registry = r; states = states }) new_tags new
+  table-grown stated tagged leaved ranked = record {
+    records = subst (λ (all : List SubState). AreRecords (record { registry = r; states = all })) (sym stated) records-grown;
+    tagged = tagged ∙ ap (λ (old : List ℕ). old ++ tags_of more) is.tagged
+        ∙ sym (ap tags_of names ∙ map-append (λ (entry : Entry). _) t.registry.names more);
+    leaved = leaved ∙ ap (λ (old : List Leaf). old ++ new_leaves position more) is.leaved
+        ∙ ap (λ (new : List Leaf). map kept_of t.states ++ new) (sym (kept-new_states position more))
+        ∙ sym (ap (map kept_of) stated ∙ map-append kept_of t.states (new_states position more));
+    ranked = ranked;
+  }
+
+nothing-grown : (names : Names) → IsGrown names names
+nothing-grown names = record { more = []; is = sym (append-nil names); opened = All-nil IsOpen }
+
 one-grown : (entry : Entry) (old new : Names) → entry.1.is_open ≡ true → IsGrown (old ++ entry ∷ []) new → IsGrown old new
 one-grown entry old new first rest = record {
   more = entry ∷ rest.more;
   is = rest.is ∙ append_assoc old (entry ∷ []) rest.more;
-  opened = All-cons (λ (entry : Entry). entry.1.is_open ≡ true) entry rest.more first rest.opened;
+  opened = All-cons IsOpen entry rest.more first rest.opened;
 }
 
 names-grown : (entries old : Names) → AreOpen entries → IsGrown old (fold added old entries)
-names-grown [] old opened = record { more = []; is = sym (append-nil old); opened = All-nil (λ (entry : Entry). entry.1.is_open ≡ true) }
+names-grown [] old opened = nothing-grown old
 names-grown (entry ∷ entries) old opened =
-    let rest = All-tail (λ (entry : Entry). entry.1.is_open ≡ true) entry entries opened in
+    let rest = All-tail IsOpen entry entries opened in
     by (is_some (value_at same_sub entry.0 old)) (names-grown entries old rest)
-    (one-grown entry old (fold added (old ++ entry ∷ []) entries) (All-head (λ (entry : Entry). entry.1.is_open ≡ true) entry entries opened) (names-grown entries (old ++ entry ∷ []) rest))
+    (one-grown entry old (fold added (old ++ entry ∷ []) entries) (All-head IsOpen entry entries opened) (names-grown entries (old ++ entry ∷ []) rest))
   where
     by : (b : Bool) → IsGrown old (fold added old entries) → IsGrown old (fold added (old ++ entry ∷ []) entries) → IsGrown old (fold added (if b then old else old ++ entry ∷ []) entries)
     by true there new = there
@@ -128,12 +113,12 @@ implied-open event rule =
     (name.Implicit rule.kind event.stream, registered event.stream (record { kind = rule.kind; key = event.stream.key }) (batch_token rule.from)) refl
   where
     by : (b : Bool) (entry : Entry) → entry.1.is_open ≡ true → AreOpen (if b then entry ∷ [] else [])
-    by true entry opened = All-cons (λ (entry : Entry). entry.1.is_open ≡ true) entry [] opened (All-nil (λ (entry : Entry). entry.1.is_open ≡ true))
-    by false entry opened = All-nil (λ (entry : Entry). entry.1.is_open ≡ true)
+    by true entry opened = All-cons IsOpen entry [] opened (All-nil IsOpen)
+    by false entry opened = All-nil IsOpen
 
 each-open : {A : Type 0} (make : A → Names) → ((x : A) → AreOpen (make x)) → (xs : List A) → AreOpen (flat_map make xs)
-each-open make opened [] = All-nil (λ (entry : Entry). entry.1.is_open ≡ true)
-each-open make opened (x ∷ xs) = All-append (λ (entry : Entry). entry.1.is_open ≡ true) (make x) (flat_map make xs) (opened x) (each-open make opened xs)
+each-open make opened [] = All-nil IsOpen
+each-open make opened (x ∷ xs) = All-append IsOpen (make x) (flat_map make xs) (opened x) (each-open make opened xs)
 
 pub implied-grown : (rules : List Rule) (names : Names) (events : List Event) → IsGrown names (names_with rules names events)
 implied-grown rules names events =
@@ -148,17 +133,13 @@ pub record Implies (old new : PlainRegistry) : Type 0 where
 pub implies : (old new : PlainRegistry) (events : List Event) (told : Implied) → ◌≡◌ {A = PlainRegistry × Implied} (new, told) (imply old events) → Implies old new
 implies old new events told is = by (nat_lt old.most_names (length (names_with old.rules old.names events))) is
   where
+    back : (names : Names) → IsGrown old.names names → new ≡ record old { names = names } → Implies old new
+    back names grown same = subst (Implies old) (sym same)
+        (record { grown = grown; back = ap (λ (names : Names). record old { names = names }) (ap (take (length old.names)) grown.is ∙ take_at old.names grown.more (length old.names) refl) })
+
     by : (b : Bool) → ◌≡◌ {A = PlainRegistry × Implied} (new, told) (if b then (old, implied_told.TooMany) else (record old { names = names_with old.rules old.names events }, implied_told.Implied)) → Implies old new
-    by true is = subst (Implies old) (sym (ap (λ (r : PlainRegistry × Implied). r.0) is)) (record {
-      grown = record { more = []; is = sym (append-nil old.names); opened = All-nil (λ (entry : Entry). entry.1.is_open ≡ true) };
-      back = ap (λ (names : Names). record old { names = names }) (take_all (length old.names) old.names (omega arith));
-    })
-    by false is = subst (Implies old) (sym (ap (λ (r : PlainRegistry × Implied). r.0) is)) (
-        let grown = implied-grown old.rules old.names events in
-        record {
-          grown = grown;
-          back = ap (λ (names : Names). record old { names = names }) (ap (take (length old.names)) grown.is ∙ take_at old.names grown.more (length old.names) refl);
-        })
+    by true is = back old.names (nothing-grown old.names) (ap (λ (r : PlainRegistry × Implied). r.0) is)
+    by false is = back _ (implied-grown old.rules old.names events) (ap (λ (r : PlainRegistry × Implied). r.0) is)
 
 -- what the first names are, also where more names stand behind
 pub named-grown : (r : PlainResumes) (old new : Names) → AreNamed r old → IsGrown old new → AreNamed r new
@@ -175,33 +156,26 @@ grown-rest old new grown len is = ap (drop len) grown.is ∙ drop_at old grown.m
 absent : (names : Names) (s : SubName) → value_at same_sub s names ≡ None → (d : Entry) (i : ℕ) → i < length names → same_sub s (get_or names i d).0 ≡ false
 absent names s none d i within = All-from_recursion (λ (e : Entry). same_sub s e.0 ≡ false) names (none_passes_from_lookup (same_sub s) names none) i d within
 
-module _ (t : PlainTable) (tags : List ℕ) (r : PlainResumes) (is : IsTable t tags r) (position : ℕ) (room : position + 2 < 2 ^ 64) where
+module _ {t : PlainTable} {tags : List ℕ} {r : PlainResumes} (is : IsTable t tags r) (position : ℕ) (room : position + 2 < 2 ^ 64) where
   -- all that the rules made
-  pub table-implied : (new : PlainRegistry) → Implies t.registry new → (states : List SubState) (new_tags : List ℕ) (new_r : PlainResumes)
+  pub table-implied : {new : PlainRegistry} → Implies t.registry new → {states : List SubState} {new_tags : List ℕ} {new_r : PlainResumes}
       → states ≡ t.states ++ new_states position (drop (length t.states) new.names) → new_tags ≡ tags ++ tags_of (drop (length t.states) new.names)
       → AreAllNamed position r new_r new.names → IsTable (record { registry = new; states = states }) new_tags new_r
-  table-implied new implies states new_tags new_r stated tagged named =
+  table-implied {new} implies stated tagged named =
       let more = implies.grown.more in
       let rest : drop (length t.states) new.names ≡ more = grown-rest t.registry.names new.names implies.grown (length t.states) is.records.long in
       let leaves : length r.leaves ≡ length t.registry.names = ap length is.leaved ∙ length-map t.states kept_of ∙ is.records.long in
-      subst (λ (all : List SubState). IsTable (record { registry = new; states = all }) new_tags new_r) (sym (stated ∙ ap (λ (names : Names). t.states ++ new_states position names) rest))
-      (table-grown t new more implies.grown.is implies.grown.opened position room tags new_tags r new_r is
-      (tagged ∙ ap (λ (names : Names). tags ++ tags_of names) rest)
-      (named.leaves ∙ ap (λ (names : Names). r.leaves ++ new_leaves position names) (grown-rest t.registry.names new.names implies.grown (length r.leaves) leaves))
-      named.ranked)
+      table-grown is new more implies.grown.is implies.grown.opened position room (stated ∙ ap (λ (names : Names). t.states ++ new_states position names) rest) (tagged ∙ ap (λ (names : Names). tags ++ tags_of names) rest)
+      (named.leaves ∙ ap (λ (names : Names). r.leaves ++ new_leaves position names) (grown-rest t.registry.names new.names implies.grown (length r.leaves) leaves)) named.ranked
 
   -- one that a grain made
   pub table-subscribed : (new : PlainRegistry) (stream : StreamId) (grain : GrainId) (start : Token) (told : Added) (number rank : ℕ) → next_number t.registry ≡ Some number → ◌≡◌ {A = PlainRegistry × Added} (new, told) (add t.registry stream grain start)
       → value_at same_sub (name.Explicit number) t.registry.names ≡ None → IsFirstPast name_of sub_lt (Some (name.Explicit number)) t.registry.names r.order rank
-      → (states : List SubState) (new_tags : List ℕ) (new_r : PlainResumes) → states ≡ t.states ++ new_state start position ∷ [] → new_tags ≡ tags ++ tag_of stream ∷ []
+      → {states : List SubState} {new_tags : List ℕ} {new_r : PlainResumes} → states ≡ t.states ++ new_state start position ∷ [] → new_tags ≡ tags ++ tag_of stream ∷ []
       → new_r ≡ pushed rank (open_leaf position) r → IsTable (record { registry = new; states = states }) new_tags new_r
-  table-subscribed new stream grain start told number rank given adds none first states new_tags new_r stated tagged pushes =
+  table-subscribed new stream grain start told number rank given adds none first stated tagged pushes =
       let entry : Entry = (name.Explicit number, registered stream grain start) in
       let names : new.names ≡ t.registry.names ++ entry ∷ [] =
       ap (λ (out : PlainRegistry × Added). out.0.names) (adds ∙ ap {B = PlainRegistry × Added} (add_with t.registry stream grain start) given) in
-      subst (λ (all : List SubState). IsTable (record { registry = new; states = all }) new_tags new_r) (sym stated)
-      (subst (λ (new_r : PlainResumes). IsTable (record { registry = new; states = t.states ++ new_state start position ∷ [] }) new_tags new_r) (sym pushes)
-      (table-grown t new (entry ∷ []) names (All-cons (λ (entry : Entry). entry.1.is_open ≡ true) _ [] refl (All-nil (λ (entry : Entry). entry.1.is_open ≡ true)))
-      position room tags new_tags r (pushed rank (open_leaf position) r) is tagged refl
-      (subst (λ (all : Names). AreRanked name_of sub_lt all (insert r.order rank (length r.order))) (sym names)
-      (ranked-insert t.registry.names r.order rank entry is.ranked.long is.ranked.ranking first.within name_of sub_lt same_sub sub_order is.ranked first (absent t.registry.names entry.0 none)))))
+      table-grown is new (entry ∷ []) names (All-cons IsOpen entry [] refl (All-nil IsOpen)) position room stated tagged (ap (λ (r : PlainResumes). r.leaves) pushes)
+      (rw (pushes, names) (ranked-insert t.registry.names r.order rank entry is.ranked.long is.ranked.ranking first.within name_of sub_lt same_sub sub_order is.ranked first (absent t.registry.names entry.0 none)))

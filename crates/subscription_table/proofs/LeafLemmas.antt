@@ -1,16 +1,5 @@
--- The leaves of names and states, and what is kept of states after a change.
-use Rattle.std.proofs.Common.{◌≡◌, ◌∙◌, ℕ, zero, suc, ◌<◌, List, [], ◌∷◌, length, get_or, map, set, Option, refl, sym, ap, arith}
-use Rattle.std.proofs.Math.Seq.{map-set_same}
-use Rattle.std.proofs.lemmas.Bool.{le-ltb}
-use Rattle.std.proofs.lemmas.List.{map-set}
-use Rattle.stream_ident.specs.declared.ident.SubName.{SubName}
-use Rattle.stream_ident.specs.declared.token.Token.{Token}
-use Rattle.consumer_grain.specs.Subscriptions.{new_state}
-use Rattle.consumer_grain.specs.declared.sub_state.SubState.{SubState}
-use Rattle.pubsub_registry.specs.declared.registration.Registration.{Registration}
-use Rattle.ranked_index.specs.declared.resumes.Leaf.{Leaf}
-use Rattle.ranked_index.specs.Leaves.{leaf_with, open_leaf}
-use Rattle.ranked_index.specs.Ranks.{resume_key}
+-- The leaves of names and states, and what is kept of new states.
+use Rattle.subscription_table.proofs.Prelude.{new_state, SubState, Registration, leaf_with, open_leaf, resume_key, ◌≡◌, ℕ, zero, suc, ◌<◌, List, [], ◌∷◌, length, get_or, map, Option, refl, ap, arith, le-ltb, SubName, Token}
 use Rattle.subscription_table.specs.Leaves.{NamedLeaf}
 use Rattle.subscription_table.specs.LeavesOf.{leaf_of, leaves_of, open_resume}
 use Rattle.subscription_table.specs.Rows.{new_leaves}
@@ -52,11 +41,3 @@ kept-new start position = ap (λ b. leaf_with (open_resume (new_state start posi
 pub kept-new_states : (position : ℕ) (entries : Names) → map kept_of (new_states position entries) ≡ new_leaves position entries
 kept-new_states position [] = refl
 kept-new_states position (entry ∷ entries) = λ i. kept-new entry.1.start position i ∷ kept-new_states position entries i
-
--- what is kept of one state in the place of another's
-pub kept-changed : (states : List SubState) (leaves : List Leaf) (number : ℕ) (state : SubState) → leaves ≡ map kept_of states → set leaves number (kept_of state) ≡ map kept_of (set states number state)
-kept-changed states leaves number state leaved = ap (λ (all : List Leaf). set all number (kept_of state)) leaved ∙ sym (map-set kept_of states number state)
-
--- a state of which the same is kept
-pub kept-same : (states : List SubState) (number : ℕ) (state : SubState) → kept_of state ≡ kept_of (get_or states number no_state) → map kept_of (set states number state) ≡ map kept_of states
-kept-same states number state same = map-set_same kept_of states number state no_state same

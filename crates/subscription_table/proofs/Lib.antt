@@ -8,3 +8,4 @@ pub mod RewindLemmas
 pub mod RowLemmas
 pub mod StateLemmas
 pub mod TableLemmas
+pub mod Prelude

@@ -1,40 +1,25 @@
 -- What a table tells, by its parts.
-use Rattle.std.proofs.Common.{◌≡◌, ◌∙◌, ℕ, ◌+◌, ◌<◌, List, length, get_or, map, nat_lt, None, Some, Option, refl, sym, subst, ap, ap₂, arith}
-use Rattle.std.specs.Option.{option_map}
-use Rattle.std.specs.Prelude.{slice_index, IfNone, IfSome}
-use Rattle.std.proofs.lemmas.List.{get_or_read, get_or-map, length-map, take_all}
-use Rattle.stream_ident.specs.SubName.{same_sub, sub_lt}
-use Rattle.stream_ident.specs.Words.{is_above}
-use Rattle.stream_ident.specs.declared.ident.SubName.{SubName}
-use Rattle.stream_ident.proofs.NameOrders.{sub_order}
-use Rattle.consumer_grain.specs.Subscriptions.{is_unacknowledged}
-use Rattle.consumer_grain.specs.declared.sub_state.SubState.{SubState}
-use Rattle.ranked_index.specs.Keys.{least_key}
+use Rattle.subscription_table.proofs.Prelude.{is_unacknowledged, SubState, first_past-rank, rank-before, least_key, due_from, keys_by_rank, no_leaf, top, PlainResumes, entry_at, AreKeys, AreRanked, IsFirstPast, due_key, resume_key, Leaf, ◌≡◌, ◌∙◌, ℕ, ◌+◌, ◌<◌, List, length, get_or, map, nat_lt, None, Some, Option, refl, sym, subst, ap, ap₂, arith, get_or-map, length-map, take_all, option_map, slice_index, IfNone, IfSome, sub_order, same_sub, sub_lt, is_above, SubName}
 use Rattle.ranked_index.specs.Leaves as index
-use Rattle.ranked_index.specs.Leaves.{due_from, keys_by_rank, no_leaf, top, PlainResumes}
-use Rattle.ranked_index.specs.Ranked.{entry_at, AreKeys, AreRanked, IsFirstPast}
-use Rattle.ranked_index.specs.Ranks.{due_key, resume_key}
-use Rattle.ranked_index.specs.declared.resumes.Leaf.{Leaf}
-use Rattle.ranked_index.proofs.EntryLemmas.{first_past-rank, rank-before}
 use Rattle.ranked_index.proofs.LeafRows.{due-with}
 use Rattle.subscription_table.specs.Leaves.{due_after, least_resume, slowest, NamedLeaf}
 use Rattle.subscription_table.specs.LeavesOf.{leaf_of, leaves_of, open_resume}
 use Rattle.subscription_table.specs.Rows.{AreNamed}
 use Rattle.subscription_table.specs.Standing.{kept_of, name_of, IsTable}
-use Rattle.subscription_table.specs.Table.{PlainTable, name_at, no_entry, no_state, state_at}
+use Rattle.subscription_table.specs.Table.{PlainTable, name_at, no_entry, no_state}
 use Rattle.subscription_table.proofs.Answering.{due-is, due_of, resume_of, slowest-is, AreKeyed}
 use Rattle.subscription_table.proofs.LeafLemmas.{Entry, Names, leaf_at, length-leaves_of, same-resumes}
 
 -- what a number that was found names
-pub none-given : (found : Option ℕ) (at : ℕ → SubName) (name : Option SubName) → option_map at found ≡ name → IfNone found (name ≡ None)
-none-given None at name is = sym is
-none-given (Some number) at name is = tt
+pub record IsGiven (found : Option ℕ) (at : ℕ → SubName) (name : Option SubName) : Type 0 where
+  pub none : IfNone found (name ≡ None)
+  pub some : IfSome found (λ number. name ≡ Some (at number))
 
-pub some-given : (found : Option ℕ) (at : ℕ → SubName) (name : Option SubName) → option_map at found ≡ name → IfSome found (λ number. name ≡ Some (at number))
-some-given None at name is = tt
-some-given (Some number) at name is = sym is
+given : (found : Option ℕ) (at : ℕ → SubName) (name : Option SubName) → option_map at found ≡ name → IsGiven found at name
+given None at name is = record { none = sym is; some = tt }
+given (Some number) at name is = record { none = tt; some = sym is }
 
-module _ (t old : PlainTable) (tags : List ℕ) (r : PlainResumes) (is : IsTable t tags r) (same : t ≡ old) where
+module _ {t old : PlainTable} {tags : List ℕ} {r : PlainResumes} (is : IsTable t tags r) (same : t ≡ old) where
   abbrev names : Names
   names = t.registry.names
 
@@ -86,6 +71,10 @@ module _ (t old : PlainTable) (tags : List ℕ) (r : PlainResumes) (is : IsTable
     due_are = keys-are due_key due_of (λ entry state. sym (due-with (open_resume state.live state.resume) (is_unacknowledged state)));
   }
 
+  -- when the one at a rank is due
+  pub due_key-at : (rank : ℕ) → rank < length r.order → get_or (keys_by_rank due_key r) rank None ≡ due_of (leaf_of no_entry (get_or t.states (slice_index r.order rank) no_state))
+  due_key-at rank within = keyed.due_are.key_at some_leaf rank within ∙ ap due_of (ranked-leaf some_leaf rank within)
+
   -- the name of a number is that of its leaf
   named : (found : Option ℕ) → IfSome found (λ number. number < length r.leaves) → option_map (name_at old) found ≡ option_map (λ number. (get_or leaves number some_leaf).name) found
   named None within = refl
@@ -109,6 +98,11 @@ module _ (t old : PlainTable) (tags : List ℕ) (r : PlainResumes) (is : IsTable
       }) some_leaf
       ∙ ap (λ (t : PlainTable). due_after high after (leaves_of t.registry.names t.states)) same
 
+  pub due-given : (high : ℕ) (after : Option SubName) (from : ℕ) {order : List ℕ} → order ≡ r.order → IsFirstPast name_of sub_lt after names order from → (found : Option ℕ) → found ≡ due_from from high r → IfSome found (λ number. number < length r.leaves)
+      → IsGiven found (name_at old) (due_after high after (leaves_of old.registry.names old.states))
+  due-given high after from ordered first found is within =
+      given found (name_at old) _ (due-found high after from (subst (λ (order : List ℕ). IsFirstPast name_of sub_lt after names order from) ordered first) found is within)
+
   pub least-found : index.least_resume r ≡ least_resume (leaves_of old.registry.names old.states)
   least-found =
       ap (λ (all : List Leaf). least_key (map resume_key all)) is.leaved ∙ ap least_key (same-resumes names t.states is.records.long)
@@ -124,9 +118,3 @@ module _ (t old : PlainTable) (tags : List ℕ) (r : PlainResumes) (is : IsTable
   before-rank m n i j within at inside there =
       rank-before name_of sub_lt same_sub sub_order names r.order is.ranked no_entry m n i j within at inside there
       ∙ ap (λ (t : PlainTable). sub_lt (name_at t m) (name_at t n)) same
-
-  -- a state that was read
-  pub state-read : (number : ℕ) → number < length old.registry.names → (was : SubState) → was ≡ get_or t.states number was → was ≡ state_at old number
-  state-read number within was read =
-      let there : number < length t.states = omega (arith, is.records.long, ap (λ (t : PlainTable). length t.registry.names) same) in
-      get_or_read t.states number was there read no_state ∙ ap (λ (t : PlainTable). state_at t number) same

@@ -1,8 +1,5 @@
 -- A table with cursors back at their resumes.
-use Rattle.std.proofs.Common.{◌≡◌, ◌∙◌, ℕ, ◌+◌, ◌^◌, ◌<◌, Bool, true, false, List, length, get_or, map, if◌then◌else◌, refl, sym, ap, subst, arith}
-use Rattle.std.proofs.lemmas.List.{get_or-map, length-map, same_lists}
-use Rattle.consumer_grain.specs.declared.sub_state.SubState.{SubState}
-use Rattle.ranked_index.specs.Leaves.{PlainResumes}
+use Rattle.subscription_table.proofs.Prelude.{SubState, PlainResumes, ◌≡◌, ◌∙◌, ℕ, ◌+◌, ◌^◌, ◌<◌, Bool, true, false, List, length, get_or, map, if◌then◌else◌, refl, sym, ap, subst, arith, get_or-map, length-map, same_lists}
 use Rattle.subscription_table.specs.Rows.{AreRewoundAt}
 use Rattle.subscription_table.specs.Standing.{kept_of, IsTable}
 use Rattle.subscription_table.specs.Table.{PlainTable, is_in, no_state, rewound_open, state_at}
@@ -12,9 +9,6 @@ use Rattle.subscription_table.proofs.TableLemmas.{Fits}
 record Follows (old new : SubState) : Type 0 where
   fits : Fits old new
   leaf : kept_of new ≡ kept_of old
-
-follows-itself : (s : SubState) → Fits s s → Follows s s
-follows-itself s stands = record { fits = stands; leaf = refl }
 
 follows-rewound : (s : SubState) → Fits s s → Follows s (rewound_open s)
 follows-rewound s stands = record {
@@ -28,17 +22,17 @@ follows-rewound s stands = record {
 
 follows-if : (b : Bool) (s : SubState) → Fits s s → Follows s (if b then rewound_open s else s)
 follows-if true s stands = follows-rewound s stands
-follows-if false s stands = follows-itself s stands
+follows-if false s stands = record { fits = stands; leaf = refl }
 
-module _ (t : PlainTable) (tags : List ℕ) (r : PlainResumes) (is : IsTable t tags r) (new : List SubState) where
-  table-followed : length new ≡ length t.states → ((i : ℕ) → i < length t.states → Follows (state_at t i) (get_or new i no_state)) → IsTable (record t { states = new }) tags r
-  table-followed same follows = record {
+module _ {t : PlainTable} {tags : List ℕ} {r : PlainResumes} (is : IsTable t tags r) (new : List SubState) where
+  table-followed : length new ≡ length t.states → ((i : ℕ) → i < length t.states → Fits (state_at t i) (state_at t i) → Follows (state_at t i) (get_or new i no_state)) → IsTable (record t { states = new }) tags r
+  table-followed same each = record {
     records = record {
       long = same ∙ is.records.long;
-      starts = λ i within. let there : i < length t.states = omega (arith, same) in (follows i there).fits.start ∙ is.records.starts i there;
-      openness = λ i within. let there : i < length t.states = omega (arith, same) in (follows i there).fits.openness ∙ is.records.openness i there;
-      cursors = λ i within. let there : i < length t.states = omega (arith, same) in (follows i there).fits.cursor;
-      resumes = λ i within. let there : i < length t.states = omega (arith, same) in (follows i there).fits.resume;
+      starts = λ i within. (follows i (omega (arith, same))).fits.start ∙ is.records.starts i (omega (arith, same));
+      openness = λ i within. (follows i (omega (arith, same))).fits.openness ∙ is.records.openness i (omega (arith, same));
+      cursors = λ i within. (follows i (omega (arith, same))).fits.cursor;
+      resumes = λ i within. (follows i (omega (arith, same))).fits.resume;
     };
     tagged = is.tagged;
     leaved = is.leaved ∙ same_lists (map kept_of t.states) (map kept_of new) (old_long ∙ sym (length-map new kept_of ∙ same))
@@ -51,18 +45,18 @@ module _ (t : PlainTable) (tags : List ℕ) (r : PlainResumes) (is : IsTable t t
       old_long : length (map kept_of t.states) ≡ length t.states
       old_long = length-map t.states kept_of
 
-  stands : (i : ℕ) → i < length t.states → Fits (state_at t i) (state_at t i)
-  stands i within = record { start = refl; openness = refl; cursor = is.records.cursors i within; resume = is.records.resumes i within }
+      follows : (i : ℕ) → i < length t.states → Follows (state_at t i) (get_or new i no_state)
+      follows i within = each i within (record { start = refl; openness = refl; cursor = is.records.cursors i within; resume = is.records.resumes i within })
 
   -- all of them
   pub table-rewound : new ≡ map rewound_open t.states → IsTable (record t { states = new }) tags r
   table-rewound rewinds =
       table-followed (ap length rewinds ∙ length-map t.states rewound_open)
-      (λ i within. subst (Follows (state_at t i)) (sym (ap (λ (states : List SubState). get_or states i no_state) rewinds ∙ get_or-map rewound_open t.states i no_state no_state within))
-      (follows-rewound (state_at t i) (stands i within)))
+      (λ i within stands. subst (Follows (state_at t i)) (sym (ap (λ (states : List SubState). get_or states i no_state) rewinds ∙ get_or-map rewound_open t.states i no_state no_state within))
+      (follows-rewound (state_at t i) stands))
 
   -- those with these numbers
   pub table-rewound_at : (numbers : List ℕ) → AreRewoundAt numbers t.states new → IsTable (record t { states = new }) tags r
   table-rewound_at numbers rewinds =
       table-followed rewinds.long
-      (λ i within. subst (Follows (state_at t i)) (sym (rewinds.each i within)) (follows-if (is_in numbers i) (state_at t i) (stands i within)))
+      (λ i within stands. subst (Follows (state_at t i)) (sym (rewinds.each i within)) (follows-if (is_in numbers i) (state_at t i) stands))

@@ -1,21 +1,11 @@
 -- The rows beside the names while those of more names are written.
-use Rattle.std.proofs.Common.{◌≡◌, ◌∙◌, ℕ, ◌+◌, ◌-◌, ◌<◌, ◌≤◌, false, List, [], ◌∷◌, ◌++◌, length, get_or, take, drop, map, Some, sym, subst, ap, ap₂, arith, length-drop}
+use Rattle.subscription_table.proofs.Prelude.{AreUnique, ranked-insert, numbers_below, open_leaf, pushed, PlainResumes, entry_at, AreRanked, IsFirstPast, Leaf, ◌≡◌, ◌∙◌, ℕ, ◌+◌, ◌-◌, ◌<◌, ◌≤◌, false, List, [], ◌∷◌, ◌++◌, length, get_or, take, drop, map, Some, sym, subst, ap, ap₂, arith, false_from_ne_true, append_assoc, get_or-drop, get_or-take, length_push, length-take-le, map-append, take_at, take_more, get_or_from_slice_get, slice_get-get_or, slice_get_within, slice_get, slice_index, sub_order, same_sub, sub_lt, is_above}
+use Rattle.std.proofs.Common.{length-drop}
 use Rattle.std.specs.List.{insert}
-use Rattle.std.specs.Prelude.{slice_get, slice_index}
-use Rattle.std.proofs.lemmas.Bool.{false_from_ne_true}
-use Rattle.std.proofs.lemmas.List.{append_assoc, get_or-drop, get_or-take, length_push, length-take-le, map-append, take_at, take_more}
-use Rattle.std.proofs.lemmas.Option.{get_or_from_slice_get, slice_get-get_or, slice_get_within}
-use Rattle.stream_ident.proofs.NameOrders.{sub_order}
-use Rattle.stream_ident.specs.SubName.{same_sub, sub_lt}
-use Rattle.stream_ident.specs.Words.{is_above}
-use Rattle.pubsub_registry.specs.Index.{AreUnique}
-use Rattle.ranked_index.specs.Leaves.{numbers_below, open_leaf, pushed, truncated, PlainResumes}
-use Rattle.ranked_index.specs.declared.resumes.Leaf.{Leaf}
+use Rattle.ranked_index.specs.Leaves.{truncated}
 use Rattle.ranked_index.specs.Ranking.{IsRanking}
 use Rattle.ranked_index.proofs.BelowLemmas.{below-all, below-insert}
 use Rattle.ranked_index.specs.Listed.{AreRising}
-use Rattle.ranked_index.specs.Ranked.{entry_at, AreRanked, IsFirstPast}
-use Rattle.ranked_index.proofs.EntryLemmas.{ranked-insert}
 use Rattle.subscription_table.specs.Rows.{AreNamed}
 use Rattle.subscription_table.specs.Standing.{name_of}
 use Rattle.subscription_table.proofs.LeafLemmas.{Entry, Names}

@@ -1,17 +1,10 @@
 -- What each call leaves of one state.
-use Rattle.std.proofs.Common.{◌≡◌, ℕ, max, ◌+◌, ◌^◌, ◌<◌, ◌≤◌, ◌==◌, Bool, true, false, not, List, [], ◌∷◌, length, Option, Some, None, if◌then◌else◌, refl, ap, sym, subst, arith, All}
-use Rattle.std.specs.Prelude.{Result, Ok, Err}
+use Rattle.subscription_table.proofs.Prelude.{acknowledged, advanced, caught_up, committed, rewound, SubState, ack, ack_at, handled_at, next_at, next_event, retry, PlainCache, high, ◌≡◌, ℕ, max, ◌+◌, ◌^◌, ◌<◌, ◌≤◌, ◌==◌, Bool, true, false, not, List, [], ◌∷◌, length, Option, Some, None, if◌then◌else◌, refl, ap, sym, subst, arith, All, Result, Ok, Err, StreamId, Token}
 use Rattle.std.proofs.lemmas.List.Elements.{All-filter, All-head}
-use Rattle.stream_ident.specs.declared.ident.StreamId.{StreamId}
-use Rattle.stream_ident.specs.declared.token.Token.{Token}
 use Rattle.stream_ident.specs.Token.{same_token}
 use Rattle.partition_queue.specs.Queue.{PlainQueue, token_at}
-use Rattle.queue_cache.specs.Cache.{PlainCache, high}
-use Rattle.consumer_grain.specs.Subscriptions.{acknowledged, advanced, caught_up, committed, rewound}
-use Rattle.consumer_grain.specs.declared.sub_state.SubState.{SubState}
 use Rattle.pulling_agent.specs.Agent.{PlainAgent, if_current}
 use Rattle.pulling_agent.specs.declared.agent.StaleAgent.{StaleAgent}
-use Rattle.pulling_agent.specs.Progress.{ack, ack_at, handled_at, next_at, next_event, retry}
 use Rattle.subscription_table.specs.Standing.{kept_of}
 use Rattle.pulling_agent.specs.declared.told.Acked.TheVariants as ack_told
 use Rattle.pulling_agent.specs.declared.told.Retried.TheVariants as retry_told

@@ -1,14 +1,8 @@
 -- A table with one state changed.
-use Rattle.std.proofs.Common.{◌≡◌, ◌∙◌, ℕ, ◌+◌, ◌^◌, ◌<◌, ◌⊎◌, inl, inr, List, length, get_or, set, refl, sym, ap, subst, arith, length-set, get_or-set_same, get_or-set_other}
-use Rattle.std.proofs.lemmas.Bool.{cases_eq}
-use Rattle.std.proofs.lemmas.List.{get_or_read}
-use Rattle.stream_ident.specs.SubName.{sub_lt}
-use Rattle.consumer_grain.specs.declared.sub_state.SubState.{SubState}
-use Rattle.ranked_index.specs.Leaves.{with_leaf, PlainResumes}
-use Rattle.ranked_index.specs.Ranked.{AreRanked}
+use Rattle.subscription_table.proofs.Prelude.{SubState, PlainRegistry, with_leaf, PlainResumes, AreRanked, Leaf, ◌≡◌, ◌∙◌, ℕ, ◌+◌, ◌^◌, ◌<◌, ◌⊎◌, inl, inr, List, length, get_or, map, set, refl, sym, ap, subst, arith, length-set, get_or-set_same, get_or-set_other, cases_eq, get_or_read, map-set, sub_lt}
+use Rattle.std.proofs.Math.Seq.{map-set_same}
 use Rattle.subscription_table.specs.Standing.{kept_of, name_of, AreRecords, IsTable}
 use Rattle.subscription_table.specs.Table.{PlainTable, no_entry, no_state, state_at, with_state}
-use Rattle.subscription_table.proofs.LeafLemmas.{kept-changed, kept-same}
 
 -- a state that agrees with the registration of another, and leaves room for two more positions
 pub record Fits (old new : SubState) : Type 0 where
@@ -43,60 +37,36 @@ module _ (t : PlainTable) (r : AreRecords t) (number : ℕ) (within : number < l
     resumes = at-each (λ i s. s.resume + 2 < 2 ^ 64) t.states number state fits.resume r.resumes;
   }
 
-module _ (t : PlainTable) (tags : List ℕ) (r : PlainResumes) (is : IsTable t tags r) (number : ℕ) (within : number < length t.registry.names) (state : SubState) (fits : Fits (state_at t number) state) where
-  -- a state changed, and its leaf with it
-  pub table-changed : (new : PlainResumes) → new ≡ with_leaf number (kept_of state) r → IsTable (with_state t number state) tags new
-  table-changed new set_to = record {
-    records = records-with t is.records number within state fits;
-    tagged = is.tagged;
-    leaved = ap (λ (r : PlainResumes). r.leaves) set_to ∙ kept-changed t.states r.leaves number state is.leaved;
-    ranked = subst (λ (order : List ℕ). AreRanked name_of sub_lt t.registry.names order) (sym (ap (λ (r : PlainResumes). r.order) set_to)) is.ranked;
-  }
-
-  -- a state changed to one with the same leaf
-  pub table-kept : kept_of state ≡ kept_of (state_at t number) → IsTable (with_state t number state) tags r
-  table-kept same = record {
-    records = records-with t is.records number within state fits;
-    tagged = is.tagged;
-    leaved = is.leaved ∙ sym (kept-same t.states number state same);
-    ranked = is.ranked;
-  }
-
--- a state that was read and written: what it was, what it is now, and what is seen of it then
-module _ (t old : PlainTable) (tags : List ℕ) (r : PlainResumes) (is : IsTable t tags r) (same : t ≡ old) (number : ℕ) (within : number < length old.registry.names)
-    (was now : SubState) (read : was ≡ get_or t.states number was) (fits : Fits was was → Fits was now) where
-  named : number < length t.registry.names
-  named = omega (arith, ap (λ (t : PlainTable). length t.registry.names) same)
-
+-- a state that was read and written: what it was, and what it is now
+module _ {t old : PlainTable} {tags : List ℕ} {r : PlainResumes} (is : IsTable t tags r) (same : t ≡ old) (number : ℕ) (within : number < length old.registry.names)
+    (was now : SubState) (read : was ≡ get_or t.states number was) (fits : was ≡ state_at old number → Fits was was → Fits was now) where
   stated : number < length t.states
-  stated = let more = named in omega (arith, is.records.long)
+  stated = omega (arith, is.records.long, ap (λ (t : PlainTable). length t.registry.names) same)
 
   was-is : was ≡ state_at t number
   was-is = get_or_read t.states number was stated read no_state
 
   pub now-fits : Fits was now
-  now-fits = fits (subst (λ (s : SubState). Fits s s) (sym was-is)
+  now-fits = fits (was-is ∙ ap (λ (t : PlainTable). state_at t number) same) (subst (λ (s : SubState). Fits s s) (sym was-is)
       (record { start = refl; openness = refl; cursor = is.records.cursors number stated; resume = is.records.resumes number stated }))
 
-  here-fits : Fits (state_at t number) now
-  here-fits = subst (λ (s : SubState). Fits s now) was-is now-fits
+  written : (new : PlainResumes) → new.leaves ≡ map kept_of (set t.states number now) → new.order ≡ r.order → IsTable (with_state t number now) tags new
+  written new leaved ordered = record {
+    records = records-with t is.records number (omega (arith, stated, is.records.long)) now (subst (λ (s : SubState). Fits s now) was-is now-fits);
+    tagged = is.tagged;
+    leaved = leaved;
+    ranked = subst (λ (order : List ℕ). AreRanked name_of sub_lt t.registry.names order) (sym ordered) is.ranked;
+  }
 
   pub kept : kept_of now ≡ kept_of was → IsTable (with_state t number now) tags r
-  kept leaf = table-kept t tags r is number named now here-fits (leaf ∙ ap kept_of was-is)
+  kept leaf = written r (is.leaved ∙ sym (map-set_same kept_of t.states number now no_state (leaf ∙ ap kept_of was-is))) refl
 
-  module _ (seen : SubState) (look : seen ≡ get_or (set t.states number now) number seen) where
-    seen-is : seen ≡ now
-    seen-is = look ∙ get_or-set_same t.states number now seen stated
-
-    pub seen-below : seen.resume + 2 < 2 ^ 64
-    seen-below = subst (λ (s : SubState). s.resume + 2 < 2 ^ 64) (sym seen-is) now-fits.resume
-
-    pub refreshed : (new : PlainResumes) → new ≡ with_leaf number (kept_of seen) r → IsTable (with_state t number now) tags new
-    refreshed new set_to =
-        table-changed t tags r is number named now here-fits new (set_to ∙ ap (λ (s : SubState). with_leaf number (kept_of s) r) seen-is)
+  pub refreshed : {new : PlainResumes} → new ≡ with_leaf number (kept_of now) r → IsTable (with_state t number now) tags new
+  refreshed {new} set_to =
+      written new (ap (λ (r : PlainResumes). r.leaves) set_to ∙ ap (λ (all : List Leaf). set all number (kept_of now)) is.leaved ∙ sym (map-set kept_of t.states number now))
+      (ap (λ (r : PlainResumes). r.order) set_to)
 
 -- equal parts
-pub same-table : (t new : PlainTable) (tags new_tags : List ℕ) (r new_r : PlainResumes) → new ≡ t → new_tags ≡ tags → new_r ≡ r → IsTable t tags r → IsTable new new_tags new_r
-same-table t new tags new_tags r new_r same tagged kept is =
-    subst (λ (t : PlainTable). IsTable t new_tags new_r) (sym same)
-    (subst (λ (tags : List ℕ). IsTable t tags new_r) (sym tagged) (subst (λ (r : PlainResumes). IsTable t tags r) (sym kept) is))
+pub same-table : {t : PlainTable} {tags new_tags : List ℕ} {r new_r : PlainResumes} {registry : PlainRegistry} {states : List SubState} → IsTable t tags r
+    → registry ≡ t.registry → states ≡ t.states → new_tags ≡ tags → new_r ≡ r → IsTable (record { registry = registry; states = states }) new_tags new_r
+same-table is named stated tagged kept = rw (named, stated, tagged, kept) is

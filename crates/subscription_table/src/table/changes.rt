@@ -132,8 +132,9 @@ impl SubscriptionTable {
         let sub = self.registry.at(number).0;
         let closing = self.registry.close(&sub);
         if let Closing::Done = closing {
-            self.states[number].close();
-            refresh(&mut self.resumes, number, &self.states[number]);
+            let state = &mut self.states[number];
+            state.close();
+            refresh(&mut self.resumes, number, state);
         }
         closing
     }
@@ -154,8 +155,9 @@ impl SubscriptionTable {
         requires room { past positions.now < 2 ^ 64 }
         ensures { self.new ≡ (if is_ok result then with_state self.old number (committed positions.now note (state_at self.old number)) else self.old) }
     {
-        self.states[number].commit(alloc, positions, note)?;
-        refresh(&mut self.resumes, number, &self.states[number]);
+        let state = &mut self.states[number];
+        state.commit(alloc, positions, note)?;
+        refresh(&mut self.resumes, number, state);
         Ok(())
     }
 
@@ -184,7 +186,7 @@ impl SubscriptionTable {
         let state = &mut self.states[number];
         let sought = agent.deliver(generation, state, stream, tag, outstanding)?;
         if let Sought::Nothing = sought {
-            refresh(&mut self.resumes, number, &self.states[number]);
+            refresh(&mut self.resumes, number, state);
         }
         Ok(sought)
     }
@@ -233,9 +235,10 @@ impl SubscriptionTable {
         requires few { length queue.now.events ≤ MOST_EVENTS }
         ensures { (self.new, result) ≡ if_current agent.now generation self.old (stepped self.old number (ack (state_at self.old number) queue.now token.now)) }
     {
-        let acked = agent.ack(generation, &mut self.states[number], queue, token)?;
+        let state = &mut self.states[number];
+        let acked = agent.ack(generation, state, queue, token)?;
         if let Acked::Acked = acked {
-            refresh(&mut self.resumes, number, &self.states[number]);
+            refresh(&mut self.resumes, number, state);
         }
         Ok(acked)
     }

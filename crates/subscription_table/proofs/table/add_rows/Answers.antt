@@ -1,10 +1,4 @@
-use Rattle.std.proofs.Common.{◌≡◌, ◌<◌, ◌∙◌, ◌++◌, ◌∷◌, [], ℕ, get_or, length, ap, arith}
-use Rattle.std.proofs.lemmas.Option.{slice_get-get_or}
-use Rattle.stream_ident.specs.declared.ident.StreamId.{StreamId}
-use Rattle.stream_ident.specs.declared.token.Token.{Token}
-use Rattle.queue_mapper.specs.Place.{tag_of}
-use Rattle.consumer_grain.specs.Subscriptions.{new_state}
-use Rattle.consumer_grain.specs.declared.sub_state.SubState.{SubState}
+use Rattle.subscription_table.proofs.Prelude.{new_state, SubState, tag_of, ◌≡◌, ◌<◌, ◌∙◌, ◌++◌, ◌∷◌, [], ℕ, get_or, length, ap, arith, slice_get-get_or, StreamId, Token}
 use Rattle.subscription_table.specs.Table.{no_entry}
 use Rattle.subscription_table.proofs.LeafLemmas.{Entry}
 use Rattle.subscription_table.proofs.RowLemmas.{row-more}

@@ -1,5 +1,4 @@
-use Rattle.std.proofs.Common.{◌≡◌, ◌-◌, ◌≤◌, ◌++◌, drop, take}
-use Rattle.std.specs.Prelude.{vec_capacity}
+use Rattle.subscription_table.proofs.Prelude.{◌≡◌, ◌-◌, ◌≤◌, ◌++◌, drop, take, vec_capacity}
 use Rattle.subscription_table.specs.Standing.{tags_of}
 use Rattle.subscription_table.specs.Table.{new_states}
 use Rattle.subscription_table.proofs.table.add_rows.Given as goal

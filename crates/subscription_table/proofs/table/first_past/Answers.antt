@@ -1,10 +1,5 @@
-use Rattle.std.proofs.Common.{ap, rules}
+use Rattle.subscription_table.proofs.Prelude.{first_past-from, is_up_to, ap, rules, option_copied, sub_order, same_sub, sub_lt}
 use Rattle.std.proofs.lemmas.List.Sorted.{IsPartitionPoint-from_clause}
-use Rattle.std.specs.Option.{option_copied}
-use Rattle.stream_ident.specs.SubName.{same_sub, sub_lt}
-use Rattle.stream_ident.proofs.NameOrders.{sub_order}
-use Rattle.ranked_index.specs.Ranked.{is_up_to}
-use Rattle.ranked_index.proofs.EntryLemmas.{first_past-from}
 use Rattle.subscription_table.specs.Standing.{name_of}
 use Rattle.subscription_table.proofs.table.first_past.Goals as goal
 

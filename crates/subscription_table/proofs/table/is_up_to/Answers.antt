@@ -1,7 +1,4 @@
-use Rattle.std.proofs.Common.{◌∙◌, ◌<◌, length, not, sym, ap, arith}
-use Rattle.std.proofs.lemmas.Option.{slice_get-get_or}
-use Rattle.stream_ident.specs.SubName.{sub_lt}
-use Rattle.ranked_index.specs.Ranked.{some_up_to}
+use Rattle.subscription_table.proofs.Prelude.{some_up_to, ◌∙◌, ◌<◌, length, not, sym, ap, arith, slice_get-get_or, sub_lt}
 use Rattle.subscription_table.specs.Standing.{name_of}
 use Rattle.subscription_table.specs.Table.{no_entry}
 use Rattle.subscription_table.proofs.table.is_up_to.Goals as goal

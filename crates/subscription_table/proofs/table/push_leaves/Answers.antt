@@ -1,12 +1,5 @@
-use Rattle.std.proofs.Common.{◌≡◌, ◌<◌, ◌≤◌, ◌+◌, ◌-◌, ◌∙◌, ◌++◌, ℕ, List, Some, get_or, length, take, drop, ap, sym, subst, arith}
-use Rattle.std.specs.Prelude.{slice_get}
-use Rattle.std.proofs.lemmas.List.{append-nil, length_push, length-take-le}
-use Rattle.std.proofs.lemmas.Option.{slice_get-get_or}
-use Rattle.stream_ident.specs.SubName.{sub_lt}
-use Rattle.stream_ident.specs.declared.ident.SubName.{SubName}
-use Rattle.ranked_index.specs.Leaves.{numbers_below, open_leaf, pushed, PlainResumes}
+use Rattle.subscription_table.proofs.Prelude.{numbers_below, open_leaf, pushed, PlainResumes, IsFirstPast, ◌≡◌, ◌<◌, ◌≤◌, ◌+◌, ◌-◌, ◌∙◌, ◌++◌, ℕ, List, Some, get_or, length, take, drop, ap, sym, subst, arith, append-nil, length_push, length-take-le, slice_get-get_or, slice_get, sub_lt, SubName}
 use Rattle.ranked_index.specs.Listed.{AreRising}
-use Rattle.ranked_index.specs.Ranked.{IsFirstPast}
 use Rattle.ranked_index.proofs.BelowLemmas.{below-all, below-insert}
 use Rattle.subscription_table.specs.Rows.{new_leaves, AreNamed}
 use Rattle.subscription_table.specs.Standing.{name_of}

@@ -1,5 +1,4 @@
-use Rattle.std.proofs.Common.{◌≡◌, ◌-◌, ◌++◌, drop, length, take}
-use Rattle.ranked_index.specs.Leaves.{numbers_below}
+use Rattle.subscription_table.proofs.Prelude.{numbers_below, ◌≡◌, ◌-◌, ◌++◌, drop, length, take}
 use Rattle.subscription_table.specs.Rows.{new_leaves, AreNamed}
 use Rattle.subscription_table.proofs.table.push_leaves.Given as goal
 

@@ -1,4 +1,4 @@
-use Rattle.std.proofs.Common.{◌∙◌, sym, ap, set}
+use Rattle.subscription_table.proofs.Prelude.{◌∙◌, sym, ap, set}
 use Rattle.std.proofs.lemmas.List.Edits.{map_over_more}
 use Rattle.subscription_table.specs.Table.{rewound_open}
 use Rattle.subscription_table.proofs.table.rewind_each.Goals as goal

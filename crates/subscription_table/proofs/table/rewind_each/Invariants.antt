@@ -1,4 +1,4 @@
-use Rattle.std.proofs.Common.{◌≡◌, ◌++◌, drop, map, take}
+use Rattle.subscription_table.proofs.Prelude.{◌≡◌, ◌++◌, drop, map, take}
 use Rattle.subscription_table.specs.Table.{rewound_open}
 use Rattle.subscription_table.proofs.table.rewind_each.Given as goal
 

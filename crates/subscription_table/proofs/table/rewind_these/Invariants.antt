@@ -1,4 +1,4 @@
-use Rattle.std.proofs.Common.{take}
+use Rattle.subscription_table.proofs.Prelude.{take}
 use Rattle.subscription_table.specs.Rows.{AreRewoundAt}
 use Rattle.subscription_table.proofs.table.rewind_these.Given as goal
 

@@ -1,9 +1,5 @@
-use Rattle.std.proofs.Common.{◌≡◌, ◌∙◌, ℕ, List, map, get_or, sym, ap}
-use Rattle.std.specs.Option.{option_map}
+use Rattle.subscription_table.proofs.Prelude.{tag_of, ◌≡◌, ◌∙◌, ℕ, List, map, get_or, sym, ap, get_or_from_slice_get, slice_get-map, option_map, StreamId}
 use Rattle.std.proofs.lemmas.Simd.{map-map}
-use Rattle.std.proofs.lemmas.Option.{get_or_from_slice_get, slice_get-map}
-use Rattle.stream_ident.specs.declared.ident.StreamId.{StreamId}
-use Rattle.queue_mapper.specs.Place.{tag_of}
 use Rattle.subscription_table.proofs.LeafLemmas.{Entry}
 use Rattle.subscription_table.proofs.table.stream_tag.Goals as goal
 

@@ -1,6 +1,4 @@
-use Rattle.std.proofs.Common.{ℕ, List, sym, subst}
-use Rattle.stream_ident.specs.SubName.{sub_lt}
-use Rattle.ranked_index.specs.Ranked.{AreRanked}
+use Rattle.subscription_table.proofs.Prelude.{AreRanked, ℕ, List, sym, subst, sub_lt}
 use Rattle.subscription_table.specs.Standing.{name_of}
 use Rattle.subscription_table.specs.Table.{PlainTable}
 use Rattle.subscription_table.proofs.table.SubscriptionTable.by_name.Goals as goal

@@ -1,9 +1,5 @@
-use Rattle.std.proofs.Common.{◌≡◌, ◌∙◌, ◌-◌, ℕ, List, ap, sym, subst, arith}
-use Rattle.std.proofs.lemmas.List.{with_items_is}
-use Rattle.std.specs.Prelude.{slice_index}
+use Rattle.subscription_table.proofs.Prelude.{SubState, PlainResumes, ◌≡◌, ◌∙◌, ◌-◌, ℕ, List, ap, sym, subst, arith, with_items_is, slice_index}
 use Rattle.std.specs.Vec.{with_items}
-use Rattle.consumer_grain.specs.declared.sub_state.SubState.{SubState}
-use Rattle.ranked_index.specs.Leaves.{PlainResumes}
 use Rattle.subscription_table.specs.Idle.{CatchUp, CatchUpAt}
 use Rattle.subscription_table.specs.Table.{PlainTable}
 use Rattle.subscription_table.proofs.IdleLemmas.{catch-run}

@@ -1,30 +1,16 @@
-use Rattle.std.proofs.Common.{◌≡◌, ◌∙◌, ap, sym, subst, refl, ℕ, zero, suc, ◌<◌, Bool, true, false, List, [], ◌∷◌, length, get_or, Option, Some, arith}
-use Rattle.std.proofs.lemmas.Bool.{false_from_ne_true}
+use Rattle.subscription_table.proofs.Prelude.{AreUnique, Registration, ◌≡◌, ◌∙◌, ap, sym, subst, refl, ℕ, ◌<◌, Bool, true, false, List, length, get_or, Option, Some, arith, false_from_ne_true, slice_get-get_or, IfSome, sub_equal-is, same_sub, place_of, SubName}
 use Rattle.std.specs.Bool.{then_some}
-use Rattle.std.specs.List.{slice_get}
-use Rattle.std.specs.Prelude.{IfSome}
-use Rattle.stream_ident.specs.declared.ident.SubName.{SubName}
-use Rattle.stream_ident.specs.SubName.{same_sub}
-use Rattle.stream_ident.specs.Words.{place_of}
 use Rattle.stream_ident.proofs.FirstLemmas.{first_at-there}
-use Rattle.stream_ident.proofs.NameOrders.{sub_equal-is}
 use Rattle.stream_ident.proofs.SameValues.{same_sub-equal}
-use Rattle.pubsub_registry.specs.Index.{AreUnique}
-use Rattle.pubsub_registry.specs.declared.registration.Registration.{Registration}
 use Rattle.subscription_table.specs.Table.{no_entry, number_of}
 use Rattle.subscription_table.proofs.table.SubscriptionTable.find_last.Goals as goal
-
-get-slice : {A : Type 0} (xs : List A) (i : ℕ) (d : A) → i < length xs → slice_get xs i ≡ Some (get_or xs i d)
-get-slice [] i d within = absurd (omega (arith, within))
-get-slice (x ∷ xs) zero d within = refl
-get-slice (x ∷ xs) (suc i) d within = get-slice xs i d (omega (arith, within))
 
 -- no name stands twice, so that this one has this number
 number-there : (names : List (SubName × Registration)) (s : SubName) (number : ℕ) → AreUnique names → number < length names → same_sub s (get_or names number no_entry).0 ≡ true → Some number ≡ place_of same_sub s names
 number-there names s number unique within is =
     sym (first_at-there (λ entry. same_sub s entry.0) 0 names no_entry number within is
     (λ j less. false_from_ne_true (same_sub s (get_or names j no_entry).0) (λ also.
-    let equal = unique number j (get_or names number no_entry) (get_or names j no_entry) (get-slice names number no_entry within) (get-slice names j no_entry (omega (arith, less, within)))
+    let equal = unique number j (get_or names number no_entry) (get_or names j no_entry) (slice_get-get_or names number no_entry within) (slice_get-get_or names j no_entry (omega (arith, less, within)))
     (ap (λ (x : SubName). same_sub x (get_or names j no_entry).0) (sym (same_sub-equal s (get_or names number no_entry).0 is)) ∙ also) in
     absurd (omega (arith, less, equal))))
     ∙ ap {B = Option ℕ} Some (omega arith))

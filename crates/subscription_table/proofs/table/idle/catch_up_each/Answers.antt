@@ -1,8 +1,4 @@
-use Rattle.std.proofs.Common.{◌≡◌, ◌∙◌, ◌-◌, ◌<◌, ◌≤◌, ℕ, List, false, get_or, length, refl, ap, ap₂, sym, subst, arith}
-use Rattle.std.specs.Prelude.{slice_index}
-use Rattle.queue_cache.specs.Cache.{PlainCache, high}
-use Rattle.consumer_grain.specs.Subscriptions.{caught_up}
-use Rattle.consumer_grain.specs.declared.sub_state.SubState.{SubState}
+use Rattle.subscription_table.proofs.Prelude.{caught_up, SubState, PlainCache, high, ◌≡◌, ◌∙◌, ◌-◌, ◌<◌, ◌≤◌, ℕ, List, false, get_or, length, refl, ap, ap₂, sym, subst, arith, slice_index}
 use Rattle.subscription_table.specs.Idle.{IsIdle}
 use Rattle.subscription_table.specs.Table.{PlainTable, no_entry}
 use Rattle.subscription_table.proofs.IdleLemmas.{catch-step}

@@ -1,6 +1,4 @@
-use Rattle.std.proofs.Common.{◌-◌, length, ◌≡◌}
-use Rattle.queue_cache.specs.Cache.{high}
-use Rattle.ranked_index.specs.Leaves.{open_leaf, with_leaves}
+use Rattle.subscription_table.proofs.Prelude.{high, open_leaf, with_leaves, ◌-◌, length, ◌≡◌}
 use Rattle.subscription_table.specs.Idle.{CatchUpAt}
 use Rattle.subscription_table.specs.Standing.{IsTable}
 use Rattle.subscription_table.proofs.table.idle.catch_up_each.Given as goal
